@@ -1,4 +1,4 @@
--- A test that tells apart the atoms over the ids of a catalogue's provider.
+-- An exact test of whether two atoms over the ids of a catalogue's provider are the same.
 use Rattle.std.proofs.Common.{◌≡◌, Bool, true, false, ◌&&◌, refl, ap}
 use Rattle.std.specs.Prelude.{◌==◌}
 use Rattle.std.proofs.lemmas.Bool.{eqb-true, eq-eqb, and_parts, and_from, false≢true}

@@ -1,4 +1,5 @@
--- Each step of a report tells its rule by the first line that states it, and a barred wish is left out by the step that bars it.
+-- Each step of a report names the first line of its rule, and a forbidden wish is left out by the
+-- step that forbids it.
 use Rattle.std.proofs.Common.{◌≡◌, inl, inr, ℕ, zero, suc, ◌+◌, ◌<◌, ◌≤◌, ◌⊎◌, List, [], ◌∷◌, ◌++◌, length, Option, Some, None, refl, sym, ap, subst, ◌∙◌, append_assoc, arith}
 use Rattle.std.specs.Prelude.{Contains, MatchOption, slice_get}
 use Rattle.std.specs.List.{AllZip}
@@ -41,9 +42,9 @@ use Rattle.resolve_answer.proofs.TellLemmas.{steps_front}
 use Rattle.resolve_answer.proofs.UseLemmas.{left_out_listed, lt-or-ge}
 use Rattle.resolve_answer.proofs.WalkLemmas.{get_behind, nth_is}
 
--- ---- steps that tell those of a proof
+-- ---- steps that write those of a proof
 
--- a step that tells one of a proof does so by the first line that states its rule
+-- a step that writes one of a proof names the first line of its rule
 first_told : (catalogue request : List Line) (ids : Ids) (s : ProofStep NameId SolvableId) (t : Step) → IsToldBy catalogue ids request s t → TellsFirst catalogue request t
 first_told catalogue request ids (Rule (Needs parent r case)) t (line, k, is, first) = subst (λ (x : Step). TellsFirst catalogue request x) (sym is) (_, _, first)
 first_told catalogue request ids (Rule (GateOf s r)) t (line, is, first) = subst (λ (x : Step). TellsFirst catalogue request x) (sym is) (_, first)
@@ -65,9 +66,10 @@ all_first catalogue request ids (s ∷ steps) [] each k t e = absurd each
 all_first catalogue request ids (s ∷ steps) (y ∷ ys) each zero t e = subst (λ (x : Step). TellsFirst catalogue request x) (one_some e) (first_told catalogue request ids s y each.0)
 all_first catalogue request ids (s ∷ steps) (y ∷ ys) each (suc k) t e = all_first catalogue request ids steps ys each.1 k t e
 
--- ---- the steps of barred wishes
+-- ---- the steps of forbidden wishes
 
--- The wish of a version is left out by the step of this number, which bars it before a search; or nothing bars it so.
+-- The wish of a version is left out by the step of this number, which forbids it before a search;
+-- or nothing forbids it so.
 abbrev IsLeftOutRightly : List Line → List Step → ℕ × VersionNo → ℕ → Type 0
 IsLeftOutRightly catalogue after w n = (v : Version) × (slice_get (listed catalogue) w.1.0 ≡ Some v)
     × (IsFree catalogue v ⊎ ((k : ℕ) × (s : Step) × (n ≡ suc k) × (slice_get after k ≡ Some s) × IsBarredBefore catalogue v s))
@@ -112,11 +114,12 @@ left_rightly catalogue numbers turns places (x ∷ ws) m steps told after (u, re
         let place : slice_get after (length steps) ≡ Some (step_of step) = ap (λ (xs : List Step). slice_get xs (length steps)) (whole ∙ append_assoc steps (step_of step ∷ []) more) ∙ get_behind steps (step_of step) more in
         (v, ap (λ (y : ℕ × VersionNo). slice_get (listed catalogue) y.1.0) same ∙ there, inr (length steps, step_of step, number, place, bar.bars))
 
--- A turn leaves the wish of a version out by this step, from 0, which bars the version before a search.
+-- A turn leaves the wish of a version out by this step, from 0, which forbids the version before a
+-- search.
 abbrev IsBarringTurn : List Line → List Turn → ℕ → Step → Type 0
 IsBarringTurn catalogue told k s = (w : ℕ × VersionNo) × (v : Version) × Contains told (LeftOut w (suc k)) × (slice_get (listed catalogue) w.1.0 ≡ Some v) × IsBarredBefore catalogue v s
 
--- a step that comes behind the others is one by which a barred wish is left out
+-- a forbidden wish is left out by each step that follows the others
 barring_rightly : (catalogue : List Line) (numbers : List VersionNo) (turns : List Solved) (places : List ℕ) (ws : List Wish) (m : ℕ) (steps : List Step) (told : List Turn) (after : List Step) → AreTold numbers turns places ws m steps told after → AreListedWishes catalogue ws
     → (k : ℕ) (s : Step) → length steps ≤ k → slice_get after k ≡ Some s → IsBarringTurn catalogue told k s
 barring_rightly catalogue numbers turns places [] m steps told after (none, is) known k s behind at = absurd (let low : k < length after = slice_get_within after k s at in let same : length after ≡ length steps = ap length is in omega (arith, same, behind, low))
@@ -161,7 +164,7 @@ no_wish_left_out (Some w) entries v line step h = elim (cases_Bool (is_member w.
   | inr e ↦ (let entry : answer.LeftOut v line step ≡ answer.Entry w.1 (answer.Wished w.0) = contains_one _ _ (rw e at h) in absurd cc)
 ]
 
--- a line that leaves a wish out tells a turn that does
+-- a line that leaves a wish out is that of a turn that does
 left_out_turn : (catalogue request : List Line) (chosen entries : Set) (turns : List order.Turn) (answers : List Answer) → order.AreTurns catalogue request chosen entries turns answers → (v : Version) (line step : ℕ) → Contains answers (answer.LeftOut v line step)
     → (w : ℕ × Version) × Contains turns (order.LeavesOut w step) × (w.1 ≡ v) × (w.0 ≡ line)
 left_out_turn catalogue request chosen entries [] answers is v line step h = absurd (contains_none (answer.LeftOut v line step) (subst (λ (xs : List Answer). Contains xs (answer.LeftOut v line step)) is h))
@@ -185,7 +188,7 @@ left_out_turn catalogue request chosen entries (t ∷ turns) answers (first, res
 
 module _ (catalogue request : List Line) (ids : Ids) (kept : List (ProofStep NameId SolvableId)) (written : List Step) (each : AllZip (IsToldBy catalogue ids request) kept written) (numbers : List VersionNo) (turns : List Solved) (places : List ℕ) (wishes : List Wish)
     (known : AreListedWishes catalogue wishes) (needs : order.Turn) (set : Set) (needs_first : needs ≡ order.Chose None set) (rest : List Turn) (after : List Step) (told : AreTold numbers turns places wishes 0 written rest after) where
-  -- the turn that a line tells
+  -- the turn of a line
   turn_of_line : (answers : List Answer) → order.AreTurns catalogue request [] [] (needs ∷ turns_of (listed catalogue) rest) answers → (v : Version) (line number : ℕ) → Contains answers (answer.LeftOut v line number) → (w : ℕ × VersionNo) × Contains rest (LeftOut w number) × (nth (listed catalogue) w.1 ≡ v)
   turn_of_line answers are v line number h =
       let (u, there, version_is, line_is) = left_out_turn catalogue request [] [] (needs ∷ turns_of (listed catalogue) rest) answers are v line number h in

@@ -1,4 +1,4 @@
--- The SPECs of a condition's cases have forms, where a text says the condition.
+-- The SPECs of a condition's cases have forms, where a text spells the condition.
 use Rattle.std.proofs.Common.{◌≡◌, inl, inr, ℕ, List, [], ◌∷◌, ◌++◌, map, Option, Some, None, sym, subst}
 use Rattle.std.specs.Prelude.{Contains}
 use Rattle.resolvo_text.specs.Line.{Spec, Cond, Needs}

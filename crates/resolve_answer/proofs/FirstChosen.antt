@@ -1,4 +1,5 @@
--- What a solver chose in the order of tries is the first choices of the two texts, and of flat texts the newest that fit.
+-- The solver's choices in the order of tries are the first choices of the two texts, and of flat
+-- texts the newest that fit.
 use Rattle.std.proofs.Common.{◌≡◌, Bool, true, false, List, [], ◌∷◌, Some, None, refl, sym, subst, ◌∙◌, arith, inl, inr}
 use Rattle.std.specs.Prelude.{◌↔◌, Contains, slice_get}
 use Rattle.std.specs.List.{list_any}
@@ -75,7 +76,7 @@ module _ (catalogue : List Line) (said : ReadRequest) (p : Provider) (asked : Re
   entry_met : (alternatives : List Spec) → IsNeeded catalogue said.lines entries alternatives → (v : Version) × Contains entries v × (list_any (λ (s : Spec). matches s v) alternatives ≡ true)
   entry_met alternatives need = needed_met p catalogue over same apart said asked asks chosen entries stands keeps alternatives need
 
-  -- What is needed is one SPEC, and a member of the set matches it that no entry is sooner than.
+  -- A need has one SPEC, and a member of the set matches it that no entry precedes.
   record HasBest (set : Set) (alternatives : List Spec) : Type 0 where
     spec : Spec
     alone : alternatives ≡ spec ∷ []

@@ -112,7 +112,7 @@ module _ (catalogue request : List Line) (flat_listing : AllLines is_flat_listin
   pub nothing_favoured : (v : Version) → IsFavoured catalogue v → ⊥
   nothing_favoured v c = let at = at_from_contains catalogue (Favour v) c in false≢true (flat_listing (suc at.0) (Favour v) at.1)
 
-  -- what is needed is needed by a line of the request that needs one SPEC
+  -- each need is that of a line of the request with one SPEC
   pub needed_alone : (set : Set) (alternatives : List Spec) → IsNeeded catalogue request set alternatives → (s : Spec) × (alternatives ≡ s ∷ []) × Contains request (Needs (s ∷ []) None)
   needed_alone set alternatives need = go need.owner need.line
     where

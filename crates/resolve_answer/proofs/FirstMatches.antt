@@ -149,7 +149,7 @@ module _ (catalogue : List Line) (grammatical : AreCatalogueLines catalogue) whe
             ),
           )
 
--- ---- what is tried before another
+-- ---- candidates tried before another
 
 -- The one is tried before the other, where both match: the other isn't favoured, and the one is, or is newer.
 abbrev pub IsSooner : List Line → Version → Version → Type 0
@@ -183,7 +183,7 @@ module _ (set more : Set) (inside : (v : Version) → Contains set v → Contain
   member_grows None h = refl
   member_grows (Some v) h = member_to v more (inside v (member_from v set h))
 
-  -- what is needed in a set is needed in a larger one
+  -- a need in a set is one in a larger set
   pub needed_grows : (catalogue request : List Line) (alternatives : List Spec) → IsNeeded catalogue request set alternatives → IsNeeded catalogue request more alternatives
   needed_grows catalogue request alternatives need = record {
     owner = need.owner;

@@ -1,4 +1,5 @@
--- The needs of a provider's root and members are those of lines, and sets of versions stand for solvables.
+-- The needs of a provider's root and members are those of lines, and sets of versions represent
+-- solvables.
 use Rattle.std.proofs.Common.{◌≡◌, inl, inr, ℕ, zero, suc, Bool, true, false, List, [], ◌∷◌, Option, Some, None, refl, sym, ap, subst, ◌∙◌}
 use Rattle.std.specs.Prelude.{Contains, slice_get, ◌||◌, not, bytes_eq}
 use Rattle.std.specs.List.{list_any, flat_map}
@@ -68,7 +69,7 @@ module _ (p : Provider) (catalogue : List Line) (over : IsOver catalogue p) (sam
   meets_says : (need : ConditionalRequirement) (said : List Spec × Option Cond) (x : SolvableId) (v : Version) → IsNeed p.ids need said → slice_get (listed catalogue) x.raw ≡ Some v → meets same (packages_of p) need.requirement x ≡ list_any (λ (s : Spec). texts.matches s v) said.0
   meets_says need said x v is e = meets_same p (listed catalogue) over.versions over.once same apart chosen set stands over.once.below need.requirement said.0 x v is.0 e
 
-  -- what the root or a member needs, where it binds, a line needs
+  -- each binding need of the root or a member is that of a line
   pub needed_by : (parent : Option SolvableId) (need : ConditionalRequirement) → is_member same (packages_of p) (root_of asked) chosen parent ≡ true → Contains (rules_for same (packages_of p) (root_of asked) parent).requirements need → binds same (packages_of p) chosen need ≡ true
       → (alternatives : List Spec) × AreAlternatives p.ids need.requirement alternatives × IsNeeded catalogue said.lines set alternatives
   needed_by None need m c b =
@@ -112,7 +113,7 @@ module _ (p : Provider) (catalogue : List Line) (over : IsOver catalogue p) (sam
         let v = stands.each x.0 (found x.0 x.1) in
         (v.0, v.2, sym (meets_says need said x.0 v.0 is v.1) ∙ x.2)
 
-    -- a member matches what is needed
+    -- a member matches each need
     pub needed_met : (alternatives : List Spec) → IsNeeded catalogue said.lines set alternatives → (v : Version) × Contains set v × (list_any (λ (s : Spec). texts.matches s v) alternatives ≡ true)
     needed_met alternatives needed = go needed.owner needed.line needed.member
       where

@@ -1,4 +1,4 @@
--- What a catalogue's provider lets be tried before a match is favoured, or newer.
+-- A candidate that a catalogue's provider tries before a match is favoured, or newer.
 use Rattle.std.proofs.Common.{◌≡◌, inl, inr, Bool, true, false, cond, List, [], ◌∷◌, ◌++◌, Option, Some, None, refl, sym, ap, subst, ◌∙◌}
 use Rattle.std.specs.Prelude.{Contains, slice_get, filter}
 use Rattle.std.specs.List.{list_any, find}
@@ -65,7 +65,7 @@ remove_to {X} t (y ∷ ys) x c e = go (t y) refl (remove_to t ys x)
 heads : {X : Type 0} (x y : X) (xs ys : List X) → x ∷ xs ≡ y ∷ ys → x ≡ y
 heads x y xs ys e = cc (e)
 
--- nothing is tried before the one in front
+-- nothing is tried before the first
 none_before : {X : Type 0} (list rest : List X) (s f : X) → list ≡ f ∷ rest → IsTriedBefore list s f → ⊥
 none_before {X} list rest s f front before = go before.before before.unless (sym front ∙ before.splits)
   where
@@ -131,7 +131,7 @@ module _ (p : Provider) (catalogue : List Line) (over : IsOver catalogue p) (sam
     none_before_favoured list s f order m e before = none_before list (remove_key (λ x. same x f) order.0) s f (order.2 ∙ ap (λ (o : Option SolvableId). favoured_first same o order.0) e ∙ ap (λ (b : Bool). cond b (f ∷ remove_key (λ x. same x f) order.0) order.0) (any_to (λ x. same x f) order.0 f (in_sorted list f order m) ((apart f f).1 refl))) before
 
     module _ (spec : Spec) (is : IsSpec p.ids w spec) where
-      -- What is tried before a match is a match too, and sooner than it.
+      -- A candidate that is tried before a match is a match too, and precedes it.
       pub sooner_from : (list : List SolvableId) (s f : SolvableId) (v : Version) → IsOrder p same w list → slice_get (listed catalogue) f.raw ≡ Some v → texts.matches spec v ≡ true → IsTriedBefore list s f
           → (x : Version) × (slice_get (listed catalogue) s.raw ≡ Some x) × (texts.matches spec x ≡ true) × IsSooner catalogue x v
       sooner_from list s f v order at match before =

@@ -14,7 +14,7 @@ ends_line [] = true
 ends_line (b ∷ []) = is_newline b
 ends_line (b ∷ c ∷ bs) = ends_line (c ∷ bs)
 
--- so does one that does so behind another
+-- so does one that does so after another
 ends_behind : (xs : List ℕ) (b : ℕ) (bs : List ℕ) → ends_line (xs ++ b ∷ bs) ≡ ends_line (b ∷ bs)
 ends_behind [] b bs = refl
 ends_behind (x ∷ []) b bs = refl

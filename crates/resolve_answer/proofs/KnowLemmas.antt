@@ -1,4 +1,5 @@
--- What the steps of a search over a catalogue's provider name is known: versions, names, SPECs and alternatives that lines spell.
+-- The steps of a search over a catalogue's provider name known versions, names, SPECs and
+-- alternatives: those that lines spell.
 use Rattle.std.proofs.Common.{◌≡◌, inl, inr, ℕ, zero, suc, ◌<◌, Bool, true, ◌&&◌, List, [], ◌∷◌, ◌++◌, length, Option, Some, None, refl, sym, ap, subst, ◌∙◌, arith}
 use Rattle.std.specs.Prelude.{not, Contains, slice_get, slice_index_or, option_to_list, filter}
 use Rattle.std.specs.List.{flat_map}
@@ -54,7 +55,7 @@ use Rattle.resolve_answer.proofs.Atoms.{one_requirement}
 
 -- ---- places of a list
 
--- what holds of each element, and of what stands where there is none
+-- a property of each element and of the default
 or_all : {X : Type 0} (P : X → Type 0) (xs : List X) (d : X) → ((k : ℕ) (x : X) → slice_get xs k ≡ Some x → P x) → P d → (i : ℕ) → P (slice_index_or xs i d)
 or_all P [] d h own i = own
 or_all P (x ∷ xs) d h own zero = h 0 x refl
@@ -80,7 +81,7 @@ module _ (catalogue : List Line) (said : ReadRequest) (provider : Provider) (ove
 
   -- ---- lines have their forms
 
-  -- some text says each line
+  -- some text spells each line
   abbrev Fit : List Line → Type 0
   Fit lines = (l : Line) → Contains lines l → (text : List ℕ) × SaysLine text l
 
@@ -128,7 +129,7 @@ module _ (catalogue : List Line) (said : ReadRequest) (provider : Provider) (ove
       let f = flat_from limit_in lines x.0 x.1 in
       (x.0, x.2, subst HasForm (limit_from f.0 x.0 f.2) (fit f.0 f.1).1.form)
 
-  -- ---- what is told of a solvable
+  -- ---- the dependencies of a solvable
 
   needs_told : (s : SolvableId) (need : ConditionalRequirement) → Contains (told_at provider s).requirements need → IsSpelledNeed need
   needs_told s need = or_all (λ (t : VersionDependencies). Contains t.requirements need → IsSpelledNeed need) provider.told no_lines
@@ -140,7 +141,7 @@ module _ (catalogue : List Line) (said : ReadRequest) (provider : Provider) (ove
       (λ k t e. let tells = over.told.each k t e in limit_spelled (lines_at catalogue tells.0) (lines_fit tells.0) t.constrains tells.2.constrains v)
       (λ c. absurd (contains_none v c)) s.raw
 
-  -- ---- what a parent states
+  -- ---- the rules of a parent
 
   abbrev IsParentKnown : Option SolvableId → Type 0
   IsParentKnown parent = (s : SolvableId) → parent ≡ Some s → IsVersion catalogue provider.ids s
@@ -298,7 +299,7 @@ module _ (catalogue : List Line) (said : ReadRequest) (provider : Provider) (ove
     rule_step condition (Digit s place bit) is = tt
     rule_step condition (AtLeastOne n s) is = tt
 
-    -- what each step names is known
+    -- each step names known items
     pub known_step : (n : ℕ) (s : ProofStep NameId SolvableId) → slice_get steps n ≡ Some s → IsKnownStep catalogue provider.ids s
     known_step n (Rule r) e = (let is = proof n (Rule r) e in rule_step is.0 r is.1)
     known_step n (Derived literals causes) e = λ l h.

@@ -1,4 +1,4 @@
--- What a search over a catalogue's provider came to serves the request, told as turns of a report.
+-- The outcome of a search over a catalogue's provider serves the request, as turns of a report.
 use Rattle.std.proofs.Common.{◌≡◌, Bor, inl, inr, ℕ, zero, suc, ◌+◌, ◌<◌, ◌≤◌, Bool, true, false, List, [], ◌∷◌, ◌++◌, map, take, drop, length, Option, Some, None, refl, sym, ap, subst, ◌∙◌, arith}
 use Rattle.std.specs.Prelude.{Contains, MatchOption, slice_get}
 use Rattle.std.specs.Option.{option_map}
@@ -60,7 +60,8 @@ use Rattle.resolve_answer.proofs.WalkLemmas.{AreServing, AreSoFar, IsKnownWish, 
 
 -- ---- the steps
 
--- What holds of steps, and stays where a barring step comes behind them, holds of the steps of the report.
+-- A property of steps that survives the addition of a forbidding step holds of the steps of the
+-- report.
 pub steps_hold : (catalogue : List Line) (Q : List Step → Type 0) → ((steps : List Step) (x : Version) (s : Step) → IsBarringStep catalogue x s → suc (length steps) < 4294967296 → Q steps → Q (steps ++ s ∷ []))
     → (numbers : List VersionNo) (turns : List Solved) (places : List ℕ) (ws : List Wish) (m : ℕ) (steps : List Step) (told : List Turn) (after : List Step) → ((w : Wish) → Contains ws w → IsBarringStepOf catalogue w.version.0 (option_map step_of w.bar)) → Q steps
     → AreTold numbers turns places ws m steps told after → Q after
@@ -77,13 +78,13 @@ steps_hold catalogue Q more numbers turns places (w ∷ ws) m steps told after b
         let (x, at, barring) = subst (λ (o : Option code.Step). IsBarringStepOf catalogue w.version.0 (option_map step_of o)) is (bars w (contains_first w w ws refl)) in
         again m (steps ++ step_of step ∷ []) (more steps x (step_of step) barring few q) on
 
--- what steps of an install report are
+-- the steps of an install report
 pub record AreSteps (catalogue request : List Line) (steps : List Step) : Type 0 where
   pub proof : IsProof catalogue request every_line every_line steps
   pub texts : (s : Step) → Contains steps s → IsStep s
   pub few : length steps < 4294967296
 
--- those that tell a proof are such
+-- those that write a proof are such
 pub written_steps : (catalogue request : List Line) (ids : Ids) (kept : List (ProofStep NameId SolvableId)) (written : List Step) → AreInstallSteps catalogue request ids kept written → AreSteps catalogue request written
 written_steps catalogue request ids kept written install = record {
   proof = install.stand;
@@ -181,7 +182,7 @@ module _ (catalogue : List Line) (said : ReadRequest) (provider : Provider) (ove
         go [] = ap length numbers_are ∙ length-map v _
         go (s ∷ ts) = refl
 
-    -- what the turn of the needs chose are first choices
+    -- the choices of the turn of the needs are first choices
     pub first_entries : (numbers : List VersionNo) → numbers ≡ numbers_of v → (part : Bor (List VersionNo)) → IsBetween numbers 0 (first_end (length numbers) turns) part.now → ArePreferred same (packages_of provider) (orders_of same provider) (root_of ids) (take first v)
         → AreFirstChosen catalogue said.lines (members (listed catalogue) part.now)
     first_entries numbers numbers_are part between preferred =
@@ -221,11 +222,11 @@ module _ (catalogue : List Line) (said : ReadRequest) (provider : Provider) (ove
       each_serves : AreServing catalogue said provider over ids asked asks_rightly same apart exact v numbers numbers_are turns places after refuses [] (t ∷ rest)
       each_serves = serving_more catalogue said provider over ids asked asks_rightly same apart exact v numbers numbers_are turns places after refuses [] rest t first_serves all_serve.each
 
-      -- one turn behind those before it
+      -- one turn after those before it
       up_to : (k : ℕ) (u : Turn) → slice_get (t ∷ rest) k ≡ Some u → chosen_in (turns_of (listed catalogue) (take k (t ∷ rest) ++ u ∷ [])) ≡ chosen_in (turns_of (listed catalogue) (take (suc k) (t ∷ rest)))
       up_to k u e = ap (λ xs. chosen_in (turns_of (listed catalogue) xs)) (sym (take_next k (t ∷ rest) u e))
 
-      -- by the end of each turn what was chosen keeps the rules, and is reached
+      -- by the end of each turn the chosen versions keep the rules, and are reached
       pub kept_is : AreKept catalogue said.lines (turns_of (listed catalogue) (t ∷ rest))
       kept_is = record {
         keeping = λ k low. (
@@ -285,7 +286,7 @@ module _ (catalogue : List Line) (said : ReadRequest) (provider : Provider) (ove
         let (x, at, inside) = stand.each s h in
         subst (λ (y : Version). Contains (versions_of catalogue (take n v)) y) (sym (version_is s x at)) inside
 
-    -- the step by which a refused wish is left out bars it
+    -- the step by which a refused wish is left out forbids it
     pub refused_bars : (proof kept : List (ProofStep NameId SolvableId)) (wanted places : List ℕ) → ((t : Solved) → Contains turns t → HasProof proof v t) → AreWanted turns wanted → IsTrimmedWith (Contains wanted) proof kept places → (written others after : List Step)
         → AreInstallSteps catalogue said.lines provider.ids kept written → after ≡ written ++ others → (t : Solved) → Contains turns t → t.accepted ≡ false → (x : Version) → slice_get (listed catalogue) t.solvable.raw ≡ Some x
         → step_bars catalogue said.lines after (versions_of catalogue (take t.begin v)) x (number_at places t.step) ≡ true

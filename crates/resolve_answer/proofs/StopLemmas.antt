@@ -5,7 +5,7 @@ use Rattle.resolve_answer.specs.Stops.{IsStopOf}
 use Rattle.resolve_answer.specs.declared.stop.Stop.{Stop}
 use Rattle.resolve_answer.specs.declared.stop.Stop.TheVariants.{Lacks, GivenUp}
 
--- it stops so wherever what the budget is known by holds
+-- it stops so wherever the sign of the budget holds
 stops_by : {P Q : Type 0} (s : Stop) → (P → Q) → IsStopOf P s → IsStopOf Q s
 stops_by (Lacks w) f h = tt
 stops_by GivenUp f h = f h

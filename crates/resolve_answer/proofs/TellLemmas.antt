@@ -1,4 +1,5 @@
--- What is told of wishes, one after the other: it goes behind what was told, and each one's steps behind the steps that were there.
+-- The turns of wishes, one after the other: each is appended to the turns, and its steps to the
+-- steps.
 use Rattle.std.proofs.Common.{◌≡◌, ℕ, zero, suc, ◌<◌, List, [], ◌∷◌, ◌++◌, drop, length, Option, Some, None, refl, sym, ap, subst, ◌∙◌, append_assoc, arith}
 use Rattle.std.specs.Prelude.{MatchOption, slice_get}
 use Rattle.std.proofs.lemmas.Option.{same_Some}
@@ -16,7 +17,7 @@ use Rattle.resolve_answer.specs.declared.wishes.Wish.{Wish}
 
 -- ---- lists
 
--- what is left of a list from one of its items on
+-- the rest of a list from one of its items on
 pub drop_here : {X : Type 0} (n : ℕ) (xs : List X) (x : X) → slice_get xs n ≡ Some x → drop n xs ≡ x ∷ drop (suc n) xs
 drop_here n [] x e = absurd cc
 drop_here zero (y ∷ xs) x e = ap (λ z. z ∷ xs) (same_Some y x e)
@@ -31,7 +32,7 @@ drop_all (suc n) (x ∷ xs) e = drop_all n xs (omega arith)
 
 -- ---- the steps of a report
 
--- the steps that were there stand in front
+-- the earlier steps are a prefix
 pub steps_front : (numbers : List VersionNo) (turns : List Solved) (places : List ℕ) (ws : List Wish) (m : ℕ) (steps : List Step) (told : List Turn) (after : List Step) → AreTold numbers turns places ws m steps told after → (others : List Step) × (after ≡ steps ++ others)
 steps_front numbers turns places [] m steps told after (none, is) = ([], is ∙ sym (append-nil steps))
 steps_front numbers turns places (w ∷ ws) m steps told after (u, rest, are, next) = go (λ k before more. steps_front numbers turns places ws k before rest after more) w.bar next
@@ -43,7 +44,7 @@ steps_front numbers turns places (w ∷ ws) m steps told after (u, rest, are, ne
         let (others, is) = again m (steps ++ step_of step ∷ []) more in
         (step_of step ∷ others, is ∙ append_assoc steps (step_of step ∷ []) others)
 
--- ---- what is told goes on
+-- ---- one turn more
 
 module _ (o : Outcome) (all : List Wish) (first : List Step) (done : ℕ) (w : Wish) (here : drop done all ≡ w ∷ drop (suc done) all) (m : ℕ) where
   abbrev pub Goes : ℕ → ℕ → List Step → List Turn → Type 0
@@ -55,7 +56,7 @@ module _ (o : Outcome) (all : List Wish) (first : List Step) (done : ℕ) (w : W
       subst (λ (ts : List Turn). AreReportTurns o all first ts after) (sym (ap (λ ts. ts ++ rest) is ∙ append_assoc told (t ∷ []) rest))
       (goes (t ∷ rest) after (subst (λ (ws : List Wish). AreTold o.chosen.now o.turns.now o.places.now ws m old (t ∷ rest) after) (sym here) (tells rest after next)))
 
--- a wish that a step bars, told before others
+-- a wish that a step forbids, before others
 pub told_barred : (numbers : List VersionNo) (turns : List Solved) (places : List ℕ) (w : Wish) (ws : List Wish) (m : ℕ) (steps : List Step) (rest : List Turn) (after : List Step) (step : code.Step) → w.bar ≡ Some step → (n : ℕ) → n ≡ suc (length steps) → n < 4294967296
     → AreTold numbers turns places ws m (steps ++ step_of step ∷ []) rest after → AreTold numbers turns places (w ∷ ws) m steps (LeftOut (asked_by w) n ∷ rest) after
 told_barred numbers turns places w ws m steps rest after step is n number few more = (
@@ -67,7 +68,7 @@ told_barred numbers turns places w ws m steps rest after step is n number few mo
       (subst (λ (k : ℕ). k < 4294967296) number few, ap (LeftOut (asked_by w)) number, more),
 )
 
--- a wish that the solver was asked for, told before others
+-- a wish of the search, before others
 pub told_free : (numbers : List VersionNo) (turns : List Solved) (places : List ℕ) (w : Wish) (ws : List Wish) (m : ℕ) (steps : List Step) (t : Turn) (rest : List Turn) (after : List Step) → w.bar ≡ None → IsWishedTurn numbers places (asked_by w) (slice_get turns m) t
     → AreTold numbers turns places ws (suc m) steps rest after → AreTold numbers turns places (w ∷ ws) m steps (t ∷ rest) after
 told_free numbers turns places w ws m steps t rest after is wished more = (

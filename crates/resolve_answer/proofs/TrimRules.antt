@@ -21,7 +21,7 @@ same_tests true b f g = sym (f refl)
 same_tests false true f g = g refl
 same_tests false false f g = refl
 
--- ---- lists of places, each told by another one
+-- ---- lists of places, each numbered by another one
 
 module _ (h : ℕ → ℕ) (one : (a b : ℕ) → h a ≡ h b → a ≡ b) where
   same_place : (a b : ℕ) → nat_eq (h a) (h b) ≡ nat_eq a b
@@ -154,7 +154,7 @@ module _ {N S : Type 0} {Wanted : ℕ → Type 0} (steps kept : List (ProofStep 
       (subst (λ b. AllZip (λ cause number. rules_within steps m cause ≡ map (was trimmed.from (length steps)) (rules_within kept n number)) (c ∷ filter (is_earlier place) cs) (cond b (l ∷ filter (is_earlier k) ls) (filter (is_earlier k) ls))) (sym (lt-ltb l k back))
       (below l c there back less, named m n k place at below cs ls (λ x a. small x (contains_later x c cs a)) rest))
 
-  -- what a kept step rests on, by the places that it had, where earlier ones do so
+  -- the antecedents of a kept step, by their old places, where earlier steps have theirs
   rests : (m n k place : ℕ) → slice_get trimmed.from k ≡ Some place → ((l p : ℕ) → slice_get trimmed.from l ≡ Some p → l < k → p < place → rules_within steps m p ≡ map (was trimmed.from (length steps)) (rules_within kept n l))
       → (old step : ProofStep N S) → ((cause : ℕ) → Names old cause → cause < place) → IsRenumbered trimmed.from place old step → rests_on (rules_within steps m) place (Some old) ≡ map (was trimmed.from (length steps)) (rests_on (rules_within kept n) k (Some step))
   rests m n k place at below (Rule r) step causes is = ap (λ p. p ∷ []) (sym (item_or trimmed.from k (length steps + k) place at)) ∙ ap (λ (x : ProofStep N S). map (was trimmed.from (length steps)) (rests_on (rules_within kept n) k (Some x))) (sym is)
@@ -185,7 +185,7 @@ last_kept steps kept trimmed last k long here = go (order (suc k) (length trimme
         absurd (omega arith)
     go (inr most) = let within : k < length trimmed.from = slice_get_within trimmed.from k last here in let count : length kept ≡ length trimmed.from = trimmed.count in omega arith
 
--- what the last steps rest on
+-- the antecedents of the last steps
 ends_alike : {N S : Type 0} (steps kept : List (ProofStep N S)) (trimmed : IsTrimmed steps kept) (last k : ℕ) → AreEarlier steps → length steps ≡ suc last → slice_get trimmed.from k ≡ Some last
     → rules_under steps (length steps - 1) ≡ map (was trimmed.from (length steps)) (rules_under kept (length kept - 1))
 ends_alike steps kept trimmed last k earlier long here =

@@ -1,4 +1,4 @@
--- What the solver found, told as a report that the judge says yes to.
+-- The solver's answer, as a report that the judge accepts.
 use Rattle.std.proofs.Common.{◌≡◌, Bor, ℕ, ◌<◌, Bool, List, [], ◌∷◌, map, length, None, Some, Result, Ok, Err, Vec, Global, refl, sym, subst, ◌∙◌, arith}
 use Rattle.std.specs.Prelude.{Contains, IfOk}
 use Rattle.std.specs.List.{AllByRecursion, AllZip}
@@ -87,7 +87,7 @@ install_reported catalogue request part rest steps r i wished kept first used = 
 
 -- ---- refusals
 
--- steps that are told lead to the last one where those of the proof do
+-- written steps lead to the last one where those of the proof do
 told_named : (catalogue request : List Line) (ids : Ids) (steps : List (ProofStep NameId SolvableId)) (written : List Step) → AllZip (IsToldBy catalogue ids request) steps written → trimming.AreNamed steps → AreNamed written
 told_named catalogue request ids steps written each named k below =
     let long : length written ≡ length steps = zip_length (IsToldBy catalogue ids request) steps written each in
@@ -114,7 +114,7 @@ refusal_reported catalogue request ids steps r message i named plain tells =
       answer = (i.used, told_named catalogue request ids steps i.written i.each named, all_first catalogue request ids steps i.written i.each, tells i.written i.each);
     })
 
--- ---- what was found
+-- ---- an installed set
 
 module _ (catalogue : List Line) (said : ReadRequest) (provider : Provider) (wishes : List Wish) (asks_rightly : AreRequestLines catalogue said.lines) where
   module _ (chosen : List SolvableId) (turns : List (Solver.Turn SolvableId)) (proof : List (ProofStep NameId SolvableId)) (is : IsInstalledOver catalogue said provider wishes chosen turns proof) where
@@ -136,7 +136,7 @@ module _ (catalogue : List Line) (said : ReadRequest) (provider : Provider) (wis
           one_place = places is.steps.one_place;
         }
 
-    -- the install report of what was chosen
+    -- the install report of the chosen versions
     pub installed_reported : (wanted : List ℕ) → AreWanted turns wanted → (kept : List (ProofStep NameId SolvableId)) (places : List ℕ) → IsTrimmedWith (Contains wanted) proof kept places → StaysProof proof kept
         → (HaveOnePlace proof → HaveOnePlace kept) → (HaveOneSigns proof → HaveOneSigns kept) → (written : List Step) → (IsProofOver catalogue said provider kept → AreInstallSteps catalogue said.lines provider.ids kept written) → (numbers : List VersionNo) → numbers ≡ numbers_of chosen
         → (t : Turn) (rest : List Turn) (after : List Step) → IsFirstTurn numbers turns t → AreTold numbers turns places wishes 0 written rest after → (r : Report) → (Serve catalogue said.lines (t ∷ rest) after → IsInstallOf catalogue said.lines (t ∷ rest) after r)
@@ -159,7 +159,7 @@ module _ (catalogue : List Line) (said : ReadRequest) (provider : Provider) (wis
           steps_told_so catalogue said.lines provider.ids kept written install.each numbers turns places wishes listed_wishes (order.Chose None (members (listed catalogue) part.now)) (members (listed catalogue) part.now) refl rest after told answers are,
         ))
 
--- ---- what the solver keeps of a clash
+-- ---- the proof and the conflict that the solver keeps
 
 -- a derived step of a proof has earlier causes
 earlier_causes : (same : SolvableId → SolvableId → Bool) (p : Provider) (root : Rules) (steps : List (ProofStep NameId SolvableId)) → IsProof same_atom same (packages_of p) root steps → AreEarlier steps
@@ -239,9 +239,9 @@ module _ (catalogue : List Line) (said : ReadRequest) (same : SolvableId → Sol
       subst (λ (xs : List (ProofStep NameId SolvableId)). IsTrimmed xs kept → StaysProof xs kept → (EndsEmpty xs → EndsEmpty kept) → (HaveOnePlace xs → HaveOnePlace kept) → (HaveOneSigns xs → HaveOneSigns kept) → IsReportOf catalogue said.lines (with_message message r)) (sym taken)
       (λ t s e p o. clash_reported kept t named s e p o r reports same_name one_name l at message text) trimmed stays ends places signs
 
--- ---- what the solver answers
+-- ---- the solver's answer
 
--- what it says of these wishes, over a provider
+-- the answer for these wishes, over a provider
 abbrev pub Says : (SolvableId → SolvableId → Bool) → RequestIds → List SolvableId → Verdict → Kept Provider NameId SolvableId → Provider → Type 0
 Says same ids free verdict solver p = AreCandidates same (packages_of p) free → IsAnswer same (packages_of p) (root_of ids) (orders_of same p) free verdict solver
 
@@ -251,13 +251,13 @@ module _ (catalogue : List Line) (said : ReadRequest) (wishes : List Wish) (ids 
   are_wishes : AreWishes catalogue said.lines said.wishes
   are_wishes = record { lines = lines; versions = versions }
 
-  -- the same of the wishes that no step bars, over the provider that is kept
+  -- the same of the wishes that no step forbids, over the provider that is kept
   said_so : (free : List SolvableId) → free ≡ free_of wishes → (verdict : Verdict) → Says same ids free verdict solver old → IsAnswer same (packages_of solver.provider) (root_of ids) (orders_of same solver.provider) (free_of wishes) verdict solver
   said_so free free_is verdict says =
       subst (λ (xs : List SolvableId). Says same ids xs verdict solver solver.provider) free_is (subst (Says same ids free verdict solver) (sym stays) says)
       (subst (λ (q : Provider). AreCandidates same (packages_of q) (free_of wishes)) (sym stays) (free_candidates catalogue said old over ids asked asks_rightly same exact are_wishes wishes told))
 
-  -- what was chosen
+  -- the chosen versions
   pub answer_installed : (free : List SolvableId) → free ≡ free_of wishes → (chosen : Vec SolvableId Global) → Says same ids free (Ok chosen) solver old → IsInstalledOver catalogue said solver.provider wishes chosen.items solver.turns solver.proof
   answer_installed free free_is chosen says =
       let (wished, preferred, proofs, steps, counted) = said_so free free_is (Ok chosen) says in

@@ -1,4 +1,4 @@
--- The turns behind an install report are those of the request's wishes, and each of its steps is used.
+-- The turns of an install report are those of the request's wishes, and each of its steps is used.
 use Rattle.std.proofs.Common.{◌≡◌, inl, inr, ℕ, zero, suc, ◌+◌, ◌<◌, ◌≤◌, ◌⊎◌, false, List, [], ◌∷◌, ◌++◌, map, length, Option, Some, None, refl, sym, ap, subst, ◌∙◌, arith}
 use Rattle.std.specs.Prelude.{Contains, MatchOption, slice_get}
 use Rattle.std.specs.List.{AllZip}
@@ -47,7 +47,7 @@ lt-or-ge a b = elim (cases_Bool (ltb a b)) [ inl e ↦ inl (ltb-true a b e) | in
 
 -- ---- the turns are those of the wishes
 
--- the turns of versions wish the versions of what the turns of numbers wish
+-- the turns by version wish the versions whose numbers the turns by number wish
 wishes_at : (versions : List Version) (turns : List Turn) → map wish_of (turns_of versions turns) ≡ map (option_map (wish_at versions)) (map install.wish_of turns)
 wishes_at versions [] = refl
 wishes_at versions (Chose wish chosen ∷ turns) = ap (λ xs. option_map (wish_at versions) wish ∷ xs) (wishes_at versions turns)
@@ -80,9 +80,9 @@ wish_turns catalogue request t rest steps serve = record {
         tail_of [] = []
         tail_of (o ∷ os) = os
 
--- ---- the steps that bar wishes without a search
+-- ---- the steps that forbid wishes without a search
 
--- each step that comes behind the others is one by which a wish is left out
+-- a wish is left out by each step that follows the others
 barring_told : (numbers : List VersionNo) (turns : List Solved) (places : List ℕ) (ws : List Wish) (m : ℕ) (steps : List Step) (told : List Turn) (after : List Step) → AreTold numbers turns places ws m steps told after
     → (k : ℕ) → length steps ≤ k → k < length after → (w : ℕ × VersionNo) × Contains told (LeftOut w (suc k))
 barring_told numbers turns places [] m steps told after (none, is) k behind below = absurd (let same : length after ≡ length steps = ap length is in omega (arith, same, behind, below))
@@ -129,7 +129,7 @@ refused_told numbers turns places (w ∷ ws) m steps told after (u, rest, are, n
 
 -- ---- the lines
 
--- a turn that leaves a wish out is told by a line
+-- a turn that leaves a wish out has a line
 pub left_out_listed : (catalogue request : List Line) (chosen entries : Set) (turns : List order.Turn) (answers : List Answer) → order.AreTurns catalogue request chosen entries turns answers → (w : ℕ × Version) (step : ℕ) → Contains turns (order.LeavesOut w step) → Contains answers (answer.LeftOut w.1 w.0 step)
 left_out_listed catalogue request chosen entries [] answers is w step h = absurd (contains_none _ h)
 left_out_listed catalogue request chosen entries (t ∷ turns) answers (first, rest, is, one, more) w step h =
@@ -163,7 +163,7 @@ wanted_place Wanted steps kept numbers numbered k place from wanted =
     ] in
     number ∙ ap Some (let is : j ≡ k = omega (arith, not_less, not_more) in is)
 
--- ---- steps that are told
+-- ---- written steps
 
 pub zip_left : {X Y : Type 0} (R : X → Y → Type 0) (xs : List X) (ys : List Y) → AllZip R xs ys → (n : ℕ) (x : X) → slice_get xs n ≡ Some x → (y : Y) × (slice_get ys n ≡ Some y) × R x y
 zip_left R [] ys all n x e = absurd cc
@@ -177,7 +177,7 @@ zip_length R [] (y ∷ ys) all = absurd all
 zip_length R (z ∷ xs) [] all = absurd all
 zip_length R (z ∷ xs) (y ∷ ys) all = ap suc (zip_length R xs ys all.1)
 
--- a step is named later where the one of the proof is that it tells
+-- a step is named later where the proof's step that it writes is
 pub told_later : (catalogue request : List Line) (ids : Ids) (steps : List (ProofStep NameId SolvableId)) (written : List Step) → AllZip (IsToldBy catalogue ids request) steps written → (k : ℕ) → proof.IsNamedLater steps k → IsNamedLater written k
 told_later catalogue request ids steps written each k (later, step, after, at, names) = go later step after at names
   where
@@ -227,7 +227,7 @@ module _ (catalogue request : List Line) (ids : Ids) (turns : List Solved) (chos
           let (others, whole) = steps_front numbers turns places wishes 0 written rest after told in
           (later, literals, causes, past_it, subst (λ (xs : List Step). slice_get xs later ≡ Some (Derive literals causes)) (sym whole) (get_front written others later (Derive literals causes) at), names)
 
-  -- the lines tell it
+  -- it has a line
   pub steps_used : (answers : List Answer) → order.AreTurns catalogue request [] [] (turns_of (listed catalogue) (t ∷ rest)) answers → AreUsed answers after
   steps_used answers are k below = elim (each_used k below) [
     | inl (w, h) ↦ (

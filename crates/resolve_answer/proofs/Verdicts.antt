@@ -23,7 +23,7 @@ module _ (catalogue : List Line) (said : ReadRequest) (provider : Provider) (ver
   answer_is : (other : Verdict) → verdict ≡ other → IsAnswer given.same (packages_of provider) (root_of given.ids) (orders_of given.same provider) given.wishes other given.kept
   answer_is other is = subst (λ (v : Verdict). IsAnswer given.same (packages_of provider) (root_of given.ids) (orders_of given.same provider) given.wishes v given.kept) is given.answer
 
-  -- what was chosen for the needs keeps the rules of the lines
+  -- the versions chosen for the needs keep the rules of the lines
   pub chosen_keeps : IsChosen verdict → (set : Set) × texts.IsRuleKeeping catalogue said.lines set
   chosen_keeps (v, is) =
       let wished = (answer_is (Ok v) is).0 in (

@@ -1,5 +1,5 @@
--- The turns of a report, one after the other: what each chose is reached, and keeps the rules; and each wish that is left out is
--- barred.
+-- The turns of a report, one after the other: the choices of each are reached, and keep the rules;
+-- and each wish that is left out is forbidden.
 use Rattle.std.proofs.Common.{◌≡◌, Bor, inl, inr, ℕ, zero, suc, ◌+◌, ◌-◌, ◌<◌, ◌≤◌, Bool, true, false, cond, List, [], ◌∷◌, ◌++◌, take, drop, length, Option, Some, None, refl, sym, ap, subst, ◌∙◌, append_assoc, arith}
 use Rattle.std.specs.Prelude.{Contains, IsTrue, MatchOption, option_to_list, slice_get, slice_index_or, unwrap_or}
 use Rattle.std.specs.Option.{option_map}
@@ -67,12 +67,12 @@ take_up_to (suc n) zero xs low = absurd (omega arith)
 take_up_to (suc n) (suc e) [] low = take_empty (suc e - suc n) [] refl
 take_up_to (suc n) (suc e) (x ∷ xs) low = (let is : suc e - suc n ≡ e - n = omega arith in ap (λ k. x ∷ (take n xs ++ take k (drop n xs))) is ∙ ap (λ ys. x ∷ ys) (take_up_to n e xs (omega arith)))
 
--- what stands behind others
+-- the rest after others
 pub get_behind : {X : Type 0} (xs : List X) (y : X) (ys : List X) → slice_get (xs ++ y ∷ ys) (length xs) ≡ Some y
 get_behind [] y ys = refl
 get_behind (x ∷ xs) y ys = get_behind xs y ys
 
--- an item by its place, with one that stands where there is none
+-- an item by its place, with a default
 pub index_is : {X : Type 0} (xs : List X) (k : ℕ) (d x : X) → slice_get xs k ≡ Some x → slice_index_or xs k d ≡ x
 index_is xs k d x e = sym (unwrap_or-slice_get xs k d) ∙ ap (λ (o : Option _). unwrap_or o d) e
 
@@ -90,7 +90,7 @@ chosen_next catalogue turns t = ap chosen_in (map-append (turn_of (listed catalo
 pub wishes_next : (catalogue : List Line) (turns : List Turn) (t : Turn) → wishes_in (turns_of (listed catalogue) (turns ++ t ∷ [])) ≡ wishes_in (turns_of (listed catalogue) turns) ++ wishes_in (turn_of (listed catalogue) t ∷ [])
 wishes_next catalogue turns t = ap wishes_in (map-append (turn_of (listed catalogue)) turns (t ∷ [])) ∙ flat_map-append _ (turns_of (listed catalogue) turns) (turn_of (listed catalogue) t ∷ [])
 
--- ---- what was chosen
+-- ---- the chosen versions
 
 abbrev pub versions_of : List Line → List SolvableId → Set
 versions_of catalogue xs = members (listed catalogue) (numbers_of xs)
@@ -98,7 +98,7 @@ versions_of catalogue xs = members (listed catalogue) (numbers_of xs)
 versions_append : (catalogue : List Line) (xs ys : List SolvableId) → versions_of catalogue (xs ++ ys) ≡ versions_of catalogue xs ++ versions_of catalogue ys
 versions_append catalogue xs ys = ap (members (listed catalogue)) (map-append _ xs ys) ∙ flat_map-append _ (numbers_of xs) (numbers_of ys)
 
--- the part of a turn, behind those before it
+-- the part of a turn, after those before it
 pub part_is : (catalogue : List Line) (v : List SolvableId) (numbers : List VersionNo) → numbers ≡ numbers_of v → (begin end_ : ℕ) (part : List VersionNo) → begin ≤ end_ → end_ ≤ length v → IsBetween numbers begin end_ part
     → versions_of catalogue (take begin v) ++ members (listed catalogue) part ≡ versions_of catalogue (take end_ v)
 part_is catalogue v numbers numbers_are begin end_ part low within between =
@@ -106,7 +106,7 @@ part_is catalogue v numbers numbers_are begin end_ part low within between =
     let is : part ≡ numbers_of (take (end_ - begin) (drop begin v)) = between low (omega arith) ∙ ap (λ xs. take (end_ - begin) (drop begin xs)) numbers_are ∙ ap (take (end_ - begin)) (drop-map _ begin v) ∙ take-map _ (end_ - begin) (drop begin v) in
     ap (λ xs. versions_of catalogue (take begin v) ++ members (listed catalogue) xs) is ∙ sym (versions_append catalogue (take begin v) (take (end_ - begin) (drop begin v))) ∙ ap (versions_of catalogue) (take_up_to begin end_ v low)
 
--- What is known of a wish: its version is listed, and a step bars it, or nothing does.
+-- A wish's version is listed, and a step forbids it, or nothing does.
 pub record IsKnownWish (catalogue : List Line) (provider : Provider) (same : SolvableId → SolvableId → Bool) (w : Wish) : Type 0 where
   pub version : Version
   pub there : slice_get (listed catalogue) w.version.0 ≡ Some version
@@ -115,14 +115,15 @@ pub record IsKnownWish (catalogue : List Line) (provider : Provider) (same : Sol
 
 module _ (catalogue : List Line) (said : ReadRequest) (provider : Provider) (over : IsOver catalogue provider) (ids : RequestIds) (asked : AreAsked provider.ids said ids) (asks_rightly : AreRequestLines catalogue said.lines)
     (same : SolvableId → SolvableId → Bool) (apart : TellsApart same) (exact : IsExact same) (v : List SolvableId) where
-  -- The first so many chosen keep the rules, and are what the root and these wishes reach. The wishes are listed, and nothing bars them.
+  -- The first so many chosen keep the rules, and the root and these wishes reach them. The wishes
+  -- are listed, and nothing forbids them.
   pub record StandAt (n : ℕ) (wishes : List SolvableId) : Type 0 where
     pub keeping : IsRuleKeeping same (packages_of provider) (root_of ids) (take n v)
     pub reached : (s : SolvableId) → is_in same (packages_of provider) (take n v) s ≡ true → IsReached same (packages_of provider) (root_of ids) wishes (take n v) s
     pub free : (s : SolvableId) → Contains wishes s → is_barred same (packages_of provider) s ≡ false
     pub has : (s : SolvableId) → Contains wishes s → (x : Version) × (slice_get (listed catalogue) s.raw ≡ Some x)
 
-  -- a set that keeps the rules but for barred wishes keeps them where no wish is barred
+  -- a set that keeps the rules but for forbidden wishes keeps them where no wish is forbidden
   pub plain_keeping : (wishes chosen : List SolvableId) → ((s : SolvableId) → Contains wishes s → is_barred same (packages_of provider) s ≡ false) → IsExemptKeeping same (packages_of provider) (root_of ids) wishes chosen → IsRuleKeeping same (packages_of provider) (root_of ids) chosen
   plain_keeping wishes chosen free keeps = record {
     single = keeps.single;
@@ -145,7 +146,7 @@ module _ (catalogue : List Line) (said : ReadRequest) (provider : Provider) (ove
   pub keeps_lines : (n : ℕ) (wishes : List SolvableId) → StandAt n wishes → texts.IsRuleKeeping catalogue said.lines (versions_of catalogue (take n v))
   keeps_lines n wishes at = (kept_alike provider catalogue said.lines over asks_rightly (root_of ids) asked.requirements asked.constraints same apart (take n v) (versions_of catalogue (take n v)) (stand_for n wishes at)).0 at.keeping
 
-  -- what turns of a report chose, and their wishes
+  -- the choices of a report's turns, and their wishes
   pub record AreSoFar (turns : List Turn) (n : ℕ) (wishes : List SolvableId) : Type 0 where
     pub chosen : chosen_in (turns_of (listed catalogue) turns) ≡ versions_of catalogue (take n v)
     pub wished : wishes_in (turns_of (listed catalogue) turns) ≡ versions_of catalogue wishes
@@ -168,7 +169,7 @@ module _ (catalogue : List Line) (said : ReadRequest) (provider : Provider) (ove
 
   module _ (numbers : List VersionNo) (numbers_are : numbers ≡ numbers_of v) (turns : List Solved) (places : List ℕ) (after : List Step)
       (refuses : (t : Solved) → Contains turns t → t.accepted ≡ false → (x : Version) → slice_get (listed catalogue) t.solvable.raw ≡ Some x → step_bars catalogue said.lines after (versions_of catalogue (take t.begin v)) x (number_at places t.step) ≡ true) where
-    -- the turn serves, behind others
+    -- the turn serves, after others
     pub record IsServing (before : List Turn) (t : Turn) : Type 0 where
       pub accepted : (wish : ℕ × VersionNo) → accepted_of t ≡ Some wish → Contains (chosen_in (turns_of (listed catalogue) (before ++ t ∷ []))) (nth (listed catalogue) wish.1)
       pub keeping : texts.IsRuleKeeping catalogue said.lines (chosen_in (turns_of (listed catalogue) (before ++ t ∷ [])))
@@ -249,7 +250,7 @@ module _ (catalogue : List Line) (said : ReadRequest) (provider : Provider) (ove
 
     -- ---- all turns of the wishes
 
-    -- what the turns told come to
+    -- the turns serve, from here to the end
     pub record Serves (before told : List Turn) (n : ℕ) : Type 0 where
       pub each : AreServing before told
       pub wishes : List SolvableId
@@ -272,11 +273,11 @@ module _ (catalogue : List Line) (said : ReadRequest) (provider : Provider) (ove
     abbrev AreIn : ℕ → List SolvableId → List SolvableId → List Solved → Type 0
     AreIn n wishes asked_for ts = AreInTurn same (packages_of provider) (root_of ids) v n wishes asked_for ts
 
-    -- what is told of these wishes comes to, from wherever
+    -- the turns of these wishes serve, from wherever
     abbrev AreWalked : List Wish → List Turn → Type 0
     AreWalked ws rest = (m n : ℕ) (wishes : List SolvableId) (before : List Turn) (steps : List Step) (ts : List Solved) → AreSoFar before n wishes → AreFrom m ts → AreIn n wishes (free_of ws) ts → AreTold numbers turns places ws m steps rest after → Serves before rest (end_after n ts)
 
-    -- the step that bars a wish bars it in the whole report
+    -- the step that forbids a wish forbids it in the whole report
     bars_whole : (w : Wish) (step : code.Step) → w.bar ≡ Some step → IsKnownWish catalogue provider same w → (steps others : List Step) → after ≡ steps ++ step_of step ∷ others → (entries : Set) → step_bars catalogue said.lines after entries (nth (listed catalogue) w.version) (suc (length steps)) ≡ true
     bars_whole w step is known steps others whole entries =
         let (x, at, bars) = subst (λ (o : Option code.Step). IsBarringStepOf catalogue w.version.0 (option_map step_of o)) is known.bar in
@@ -299,7 +300,7 @@ module _ (catalogue : List Line) (said : ReadRequest) (provider : Provider) (ove
         this : IsKnownWish catalogue provider same w
         this = known w (contains_first w w ws refl)
 
-        -- a wish that a step bars
+        -- a wish that a step forbids
         barred : AreWalked ws rest → (step : code.Step) → w.bar ≡ Some step → u ≡ LeftOut (asked_by w) (suc (length steps)) → AreTold numbers turns places ws m (steps ++ step_of step ∷ []) rest after → Serves before (u ∷ rest) (end_after n ts)
         barred again step is out more =
             let (others, whole) = steps_front numbers turns places ws m (steps ++ step_of step ∷ []) rest after more in

@@ -76,11 +76,11 @@ abbrev pub favours_nothing : Line → Bool
 favours_nothing (Favour v) = false
 favours_nothing _ = true
 
--- The line states no rule and favours no version.
+-- The line is no rule and favours no version.
 abbrev pub is_flat_listing : Line → Bool
 is_flat_listing line = not (is_rule line) && favours_nothing line
 
--- The line states no rule but a need of one SPEC under no condition, and wishes no version.
+-- The line is no rule but a need of one SPEC under no condition, and wishes no version.
 abbrev pub is_flat_need : Line → Bool
 is_flat_need line = (not (is_rule line) || is_some (flat_need line)) && wishes_nothing line
 
@@ -96,7 +96,7 @@ FitsRequest request v = (m : ℕ) (s : Spec) → NeedsAt request m s → s.name 
 abbrev pub AreNewest : List Line → List Line → Set → Type 0
 AreNewest catalogue request entries = (v : Version) → Contains entries v → (w : Version) → Contains catalogue (Listed w) → w.name ≡ v.name → FitsRequest request w → w.number ≤ v.number
 
--- ---- what a report's entries are
+-- ---- the entries of a report
 
 pub record AreFirstChosen (catalogue request : List Line) (entries : Set) : Type 0 where
   -- where there are first choices, they are the entries

@@ -31,7 +31,8 @@ IsPlain line = IsTrue (list_all (λ b. not (is_newline b)) line)
 abbrev pub joined : List (List ℕ) → List ℕ
 joined lines = flat_map (λ line. line ++ codes "\n") lines
 
--- These are the lines of the text, up to its last newline; none has a newline, and neither has what is left.
+-- These are the lines of the text, up to its last newline; none has a newline, and neither has the
+-- rest.
 pub record AreLinesOf (text : List ℕ) (lines : List (List ℕ)) : Type 0 where
   pub rest : List ℕ
   pub parts : text ≡ joined lines ++ rest
@@ -43,7 +44,7 @@ abbrev pub with_message : List (List ℕ) → Report → Report
 with_message message (Install lines steps) = Install lines steps
 with_message message (Refused catalogue request steps old) = Refused catalogue request steps message
 
--- how a catalogue's provider writes what a message names
+-- the texts that a catalogue's provider gives to the ids of a message
 abbrev pub meaning_of : Provider → Meaning NameId SolvableId
 meaning_of p = record {
   name_of = λ v. (set_at p.ids v).0;
@@ -55,15 +56,17 @@ meaning_of p = record {
 }
 
 module _ (same_name : NameId → NameId → Bool) (same : SolvableId → SolvableId → Bool) where
-  -- The lines are the text of the graph that is drawn of the rules which the end of these steps rests on, with what was offered.
+  -- The lines are the text of the conflict graph: that of the rules on which the end of these steps
+  -- rests, with the offered candidates.
   pub record IsTextOf (p : Provider) (offered : Requirement → List SolvableId) (steps : List (ProofStep NameId SolvableId)) (message : List (List ℕ)) : Type 0 where
     pub lines : List (MessageLine SolvableId)
     pub tells : IsMessage same_name same (name_of p.ids) (conflict_drawing same_name same (name_of p.ids) offered (conflict_rules steps)) lines
     pub text : joined message ≡ text_of (meaning_of p) lines
     pub plain : AllByRecursion IsPlain message
 
--- The message is that of the steps' conflict: over a provider of the catalogue with what the request asks, the steps tell a proof,
--- the candidates of the requirements that its rules name are those that are offered, and the message is the text of its graph.
+-- The message is that of the steps' conflict. Over a provider of the catalogue with the request's
+-- ids, the steps write a proof. The offered candidates are those of the requirements in its rules.
+-- The message is the text of its graph.
 pub record IsMessageOf (catalogue request : List Line) (steps : List Step) (message : List (List ℕ)) : Type 0 where
   pub said : ReadRequest
   pub asks : said.lines ≡ request

@@ -38,7 +38,7 @@ first_end count (t ∷ later) = t.begin
 abbrev pub IsFirstTurn : List VersionNo → List Solved → Turn → Type 0
 IsFirstTurn chosen turns t = (part : _) × (t ≡ Chose None part) × IsBetween chosen 0 (first_end (length chosen) turns) part.now
 
--- one past the place, if there is one; 0 stands for none
+-- one past the place, if there is one; 0 is none
 abbrev pub past : Option ℕ → ℕ
 past None = 0
 past (Some place) = suc place
@@ -48,22 +48,22 @@ abbrev pub number_at : List ℕ → Option ℕ → ℕ
 number_at places None = 0
 number_at places (Some k) = past (slice_get places k)
 
--- The turn of a wish: what was chosen in it, where the solver accepted it; else it is left out by the turn's step. Without a turn it
--- is left out by none.
+-- The turn of a wish: the versions chosen in it, where the solver accepted it; else it is left out
+-- by the turn's step. Without a turn it is left out by none.
 abbrev pub IsWishedTurn : List VersionNo → List ℕ → ℕ × VersionNo → Option Solved → Turn → Type 0
 IsWishedTurn chosen places wish None t = t ≡ LeftOut wish 0
 IsWishedTurn chosen places wish (Some s) t = (s.accepted ≡ true → (part : _) × (t ≡ Chose (Some wish) part) × IsBetween chosen s.begin s.end part.now)
     × (s.accepted ≡ false → t ≡ LeftOut wish (number_at places s.step))
 
--- What is told of wishes, from this turn of the solver on and behind these steps: a barred one is left out by its step, which comes
--- behind the others; of another its turn is told.
+-- The report's turns of these wishes, from this turn of the solver and these steps on. A forbidden
+-- wish is left out by its step, which is appended. Any other has its turn of the solver.
 abbrev pub AreTold : List VersionNo → List Solved → List ℕ → List Wish → ℕ → List Step → List Turn → List Step → Type 0
 AreTold chosen turns places [] n steps told after = (told ≡ []) × (after ≡ steps)
 AreTold chosen turns places (w ∷ ws) n steps told after = (t : Turn) × (rest : List Turn) × (told ≡ t ∷ rest)
     × MatchOption w.bar (IsWishedTurn chosen places (asked_by w) (slice_get turns n) t × AreTold chosen turns places ws (suc n) steps rest after)
     (λ step. (suc (length steps) < 4294967296) × (t ≡ LeftOut (asked_by w) (suc (length steps))) × AreTold chosen turns places ws n (steps ++ step_of step ∷ []) rest after)
 
--- what all turns of a report are
+-- all turns of a report
 abbrev pub AreReportTurns : Outcome → List Wish → List Step → List Turn → List Step → Type 0
 AreReportTurns o wishes steps told after = (t : Turn) × (rest : List Turn) × (told ≡ t ∷ rest) × IsFirstTurn o.chosen.now o.turns.now t
     × AreTold o.chosen.now o.turns.now o.places.now wishes 0 steps rest after

@@ -1,4 +1,4 @@
--- What the report of the solver's answer says.
+-- The report of the solver's answer.
 use Rattle.std.specs.Prelude.{◌≡◌, ◌↔◌, ◌⊎◌, ℕ, suc, ◌<◌, List, [], ◌∷◌, map, length, take, slice_get, Option, None, Some, Contains}
 use Rattle.resolvo_text.specs.Line.{Version, Line, Wish}
 use Rattle.resolvo_text.specs.Matches.{Set}
@@ -29,13 +29,15 @@ pub record AreWishTurns (request : List Line) (turns : List Turn) : Type 0 where
   pub lines : AreAll (map (λ w. w.0) wishes) (λ n. LineIs request n IsWish)
   pub versions : (w : ℕ × Version) → Contains wishes w → line_at request w.0 ≡ Some (Wish w.1)
 
--- By the end of each turn what was chosen keeps the rules, and is reached from the lines and the wishes accepted by then.
+-- By the end of each turn the chosen versions keep the rules, and are reached from the lines and
+-- the wishes accepted by then.
 pub record AreKept (catalogue request : List Line) (turns : List Turn) : Type 0 where
   pub keeping : (k : ℕ) → k < length turns → IsRuleKeeping catalogue request (chosen_in (take (suc k) turns))
   pub reached : (k : ℕ) → k < length turns → AreReached catalogue request (chosen_in (take (suc k) turns)) (wishes_in (take (suc k) turns))
 
--- The report lists the turns of a search, in their order: one of the needs, then those of the wishes. What is chosen by the end of
--- each is a rule-keeping set; what the first one chose are first choices; what all of them chose are the entries.
+-- The report lists the turns of a search, in their order: one of the needs, then those of the
+-- wishes. The versions chosen by the end of each are a rule-keeping set. Those of the first turn
+-- are first choices; those of all turns are the entries.
 pub record AreListed (catalogue request : List Line) (answers : List Answer) : Type 0 where
   pub chosen : Set
   pub later : List Turn
@@ -61,32 +63,34 @@ LeavesOutBy answers number = (v : Version) × (line : ℕ) × Contains answers (
 abbrev pub AreUsed : List Answer → List Step → Type 0
 AreUsed answers steps = (k : ℕ) → k < length steps → LeavesOutBy answers (suc k) ⊎ IsNamedLater steps k
 
--- Each step tells its rule by the first line that states it, a need by the first of its cases too.
+-- Each step names the first line of its rule, a need the first of its cases too.
 abbrev pub AreFirstTold : List Line → List Line → List Step → Type 0
 AreFirstTold catalogue request steps = (k : ℕ) (s : Step) → slice_get steps k ≡ Some s → TellsFirst catalogue request s
 
--- The step of this number is one by which a wish is left out that a lock or an exclusion bars: that of the lock, else that of the
--- exclusion.
+-- A wish that a lock or an exclusion forbids is left out by the step of this number: that of the
+-- lock, else that of the exclusion.
 abbrev pub LeavesOutBarred : List Line → List Answer → ℕ → Step → Type 0
 LeavesOutBarred catalogue answers number s = (v : Version) × (line : ℕ) × Contains answers (LeftOut v line number) × IsBarredBefore catalogue v s
 
--- How the steps of an install report tell their rules, and which leave barred wishes out.
+-- Which lines the steps of an install report name, and which steps leave forbidden wishes out.
 pub record TellTheirRules (catalogue request : List Line) (answers : List Answer) (steps : List Step) : Type 0 where
-  -- each step tells its rule by the first line that states it, or a barred wish is left out by it
+  -- each step names the first line of its rule, or a forbidden wish is left out by it
   pub first : (k : ℕ) (s : Step) → slice_get steps k ≡ Some s → TellsFirst catalogue request s ⊎ LeavesOutBarred catalogue answers (suc k) s
-  -- a wish that a lock or an exclusion bars is left out by such a step
+  -- a wish that a lock or an exclusion forbids is left out by such a step
   pub barred : (v : Version) (line number : ℕ) → Contains answers (LeftOut v line number) → (m : ℕ) → Bars catalogue v m → (k : ℕ) × (s : Step) × (number ≡ suc k) × (slice_get steps k ≡ Some s) × IsBarredBefore catalogue v s
 
--- An install report lists the turns of a search, each of its steps is used, and tells its rule by the first line. A refused one names exactly the lines on which its
--- steps rest, each step leads to the last and tells its rule by the first line, and its message is that of their conflict.
+-- An install report lists the turns of a search. Each of its steps is used, and names the first
+-- line of its rule. A refused report names exactly the lines on which its steps rest. Each step
+-- leads to the last and names the first line of its rule, and the message is that of their
+-- conflict.
 abbrev pub IsAnswer : List Line → List Line → Report → Type 0
 IsAnswer catalogue request (Install lines steps) = AreListed catalogue request (map answer_of lines) × AreUsed (map answer_of lines) steps
     × TellTheirRules catalogue request (map answer_of lines) steps
 IsAnswer catalogue request (Refused catalogue_lines request_lines steps message) = AreUsedLines catalogue request catalogue_lines request_lines steps
     × AreNamed steps × AreFirstTold catalogue request steps × IsMessageOf catalogue request steps message
 
--- The report is one that the judge says yes to by its text, and its claim is true. So it installs exactly if some set keeps
--- the rules of both texts.
+-- The judge accepts the report by its text, and its claim is true. So it installs exactly if some
+-- set keeps the rules of both texts.
 pub record IsReportOf (catalogue request : List Line) (r : Report) : Type 0 where
   pub upheld : IsUpheld catalogue request (report_text r) r
   pub claim : IsClaimTrue catalogue request r

@@ -1,4 +1,4 @@
--- What a search over the provider of a catalogue came to, for what a request asks.
+-- The outcome of a search over the provider of a catalogue, for a request.
 use Rattle.std.specs.Prelude.{◌≡◌, ℕ, Bool, List, take, Some, Contains}
 use Rattle.resolvo_text.specs.Line.{Line}
 use Rattle.resolvo_catalogue_core.specs.Questions.{ReadRequest}
@@ -23,8 +23,8 @@ use Rattle.resolve_answer.specs.Message.{IsTextOf}
 use Rattle.resolve_answer.specs.Wishes.{AreWishesOf, free_of}
 use Rattle.resolve_answer.specs.declared.wishes.Wish.{Wish}
 
--- A solver over the provider keeps a proof that there is no solution, for what a request asks; and of the conflict, if it keeps one,
--- what was offered is right. The test tells solvables apart.
+-- A solver over the provider keeps a proof that there is no solution for the request. If it keeps a
+-- conflict, its offered candidates are right. The test distinguishes solvables.
 pub record IsRefutedOver (same : SolvableId → SolvableId → Bool) (catalogue : List Line) (said : ReadRequest) (solver : Kept Provider NameId SolvableId) : Type 0 where
   pub over : IsOver catalogue solver.provider
   pub ids : RequestIds
@@ -34,8 +34,8 @@ pub record IsRefutedOver (same : SolvableId → SolvableId → Bool) (catalogue 
   pub ends : EndsEmpty solver.proof
   pub offers : (l : Left SolvableId) → solver.conflict ≡ Some l → AreOffers same (packages_of solver.provider) (orders_of same solver.provider) solver.proof l.offers
 
--- What a search over the provider chose in its turns, for the wishes that no step bars, is right and was preferred; and its proof is
--- one, in which each refused wish has a step.
+-- The choices of a search over the provider, for the wishes that no step forbids, are right and
+-- were preferred. Its proof is one, in which each refused wish has a step.
 pub record IsInstalledOver (catalogue : List Line) (said : ReadRequest) (provider : Provider) (wishes : List Wish) (chosen : List SolvableId) (turns : List (Turn SolvableId)) (proof : List (ProofStep NameId SolvableId)) : Type 0 where
   pub over : IsOver catalogue provider
   pub ids : RequestIds

@@ -1,4 +1,4 @@
--- What a solver answers over the provider of a catalogue for what a request asks, and its verdict.
+-- A solver's answer to a request over the provider of a catalogue, and its verdict.
 use Rattle.std.specs.Prelude.{◌≡◌, Bool, List, Result, Ok, Err}
 use Rattle.std.specs.Global.{Vec}
 use Rattle.resolvo_text.specs.Line.{Line}
@@ -17,12 +17,13 @@ use Rattle.resolvo.specs.declared.solver.UnsolvableOrCancelled.{UnsolvableOrCanc
 use Rattle.resolvo.specs.declared.solver.UnsolvableOrCancelled.TheVariants.{Unsolvable}
 use Rattle.resolve_answer.specs.First.{orders_of}
 
--- What a call of a solver over a catalogue's provider gives. It is cancelled only where there is a budget.
+-- The result of a call of a solver over a catalogue's provider. It is cancelled only where there is
+-- a budget.
 abbrev pub Verdict : Type 0
 Verdict = Result (Vec SolvableId) (UnsolvableOrCancelled GivenUp)
 
--- A solver over the provider, which was made of the catalogue, gives this for what a request over the catalogue asks. Which
--- dependencies the provider says are at hand isn't asked.
+-- A solver over a provider of the catalogue gives this for a request over the catalogue. Which
+-- dependencies the provider declares as at hand is open.
 pub record IsGivenOver (catalogue : List Line) (said : ReadRequest) (provider : Provider) (verdict : Verdict) : Type 0 where
   pub over : IsOver catalogue provider
   pub asks : AreRequestLines catalogue said.lines

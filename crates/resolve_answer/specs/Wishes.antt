@@ -21,17 +21,17 @@ asked_by w = (w.line, w.version)
 abbrev pub AreWishesAt : List Line → ReadRequest → Type 0
 AreWishesAt catalogue said = (i : ℕ) (f : ℕ × VersionNo) → slice_get said.wishes i ≡ Some f → WishesAt (listed catalogue) said.lines f
 
--- The wishes are these, and each is barred by its step, or no lock and no exclusion bars it.
+-- The wishes are these, and each is forbidden by its step, or no lock and no exclusion forbids it.
 pub record AreWishesOf (catalogue : List Line) (wishes : List (ℕ × VersionNo)) (items : List Wish) : Type 0 where
   pub are : map asked_by items ≡ wishes
   pub bars : (w : Wish) → Contains items w → IsBarringStepOf catalogue w.version.0 (option_map step_of w.bar)
 
--- the solvable, where no step bars it
+-- the solvable, where no step forbids it
 abbrev pub unless_barred : Option Step → SolvableId → List SolvableId
 unless_barred None s = s ∷ []
 unless_barred (Some step) s = []
 
--- the solvables of the wishes that no step bars
+-- the solvables of the wishes that no step forbids
 abbrev pub free_of : List Wish → List SolvableId
 free_of items = flat_map (λ w. unless_barred w.bar (solvable_id w.version.0)) items
 

@@ -33,7 +33,7 @@ use std::alloc::Global;
 use std::marker::PhantomData;
 use std::vec::IntoIter;
 
-/// What the solver chose over the provider of a catalogue, as a report.
+/// The install report of the solver's choices over the provider of a catalogue.
 fn installed(
     alloc: Global,
     catalogue: &Catalogue,
@@ -84,7 +84,7 @@ fn with_message(report: Report, lines: Vec<Vec<u8>>) -> Report
     }
 }
 
-/// What the solver chose over the provider of a catalogue, as a report. It takes the proof from the solver.
+/// The install report of the solver's choices. It takes the proof from the solver.
 fn told(
     alloc: Global,
     catalogue: &Catalogue,
@@ -140,7 +140,7 @@ fn refused(
     Ok(with_message(report, lines))
 }
 
-/// What a request asks, with these wishes, as a problem.
+/// The problem of a request with these wishes.
 fn problem_of(asked: RequestIds, free: Vec<SolvableId>) -> Problem<SolvableId, IntoIter<SolvableId>>
     ensures root { root_of result ≡ asked_of asked }
     ensures wishes { GivesAll ⟦<IntoIter<SolvableId> as Iterator>⟧.next_gives result.soft_requirements
@@ -159,8 +159,8 @@ fn problem_of(asked: RequestIds, free: Vec<SolvableId>) -> Problem<SolvableId, I
     }
 }
 
-/// The report of the solver's answer to what a request asks of the provider of a catalogue. A wish that a lock or an exclusion bars is
-/// left out without a search.
+/// The report of the solver's answer to a request over the provider of a catalogue. A wish that a
+/// lock or an exclusion forbids is left out without a search.
 fn answered(
     alloc: Global,
     catalogue: &Catalogue,
@@ -223,8 +223,9 @@ fn provider_of(alloc: Global, catalogue: &Catalogue, budget: Option<u64>) -> R<C
     }
 }
 
-/// The report of a catalogue and a request over it: the solver's answer. `Memory` where it finds no room; `Ids` where there is more
-/// than numbers can tell. With a budget the search gives up where the solver asks so many times, and once more, whether to stop.
+/// The report of a catalogue and a request over it: the solver's answer. `Memory` where there is no
+/// room; `Ids` where a number is too great. With a budget the search gives up after so many
+/// questions of the solver whether to stop, and one more.
 pub fn report_for(
     alloc: Global,
     catalogue: &Catalogue,

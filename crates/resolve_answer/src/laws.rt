@@ -1,4 +1,5 @@
-//! What a solver's verdict over the provider of a catalogue shows, for those who rest on it. Each is a function that does nothing.
+//! Laws about a solver's verdict over the provider of a catalogue. Each is a function that does
+//! nothing.
 ghost use Rattle.std.specs.Prelude.{List};
 ghost use Rattle.resolvo_text.specs.Line.{Line};
 ghost use Rattle.resolvo_text.specs.Matches.{Set};
@@ -22,8 +23,8 @@ pub fn a_verdict_is_that_of_the_texts()
         → ⊥ }
 {}
 
-/// Two providers of one catalogue, whatever each says of dependencies that are at hand, come to one verdict for what one request
-/// asks: where solvables are chosen over one, the other isn't refused.
+/// Two providers of one catalogue give one verdict for one request, whichever dependencies each
+/// declares as at hand. Where solvables are chosen over one, the other isn't refused.
 pub fn either_hint_gives_one_verdict()
     ensures { (catalogue : List Line) (said : ReadRequest) (one other : Provider) (verdict another : Verdict)
         → IsGivenOver catalogue said one verdict

@@ -13,7 +13,7 @@ use resolvo_pool_core::id::{NameId, SolvableId};
 use resolvo_pool_core::want::R;
 use std::alloc::Global;
 
-/// The lines of a text, without their newlines. What stands behind the last newline is none.
+/// The lines of a text, without their newlines. Bytes after the last newline are dropped.
 fn lines_of(alloc: Global, text: &[u8]) -> R<Vec<Vec<u8>>>
     ensures { IfOk result (λ v. AreLinesOf text.now (messages_of v.items)) }
 {

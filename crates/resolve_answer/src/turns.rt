@@ -1,4 +1,4 @@
-//! The turns of a report: what the solver chose in each, and the wishes that are left out, each by its step.
+//! The turns of a report: the versions chosen in each, and the wishes left out, each with its step.
 
 ghost use Rattle.std.specs.Prelude.{◌≡◌, ◌<◌, ◌++◌, ◌∷◌, [], length, slice_get, IfOk, OnOk};
 ghost use Rattle.resolvo_report.specs.View.{steps_of};
@@ -13,8 +13,8 @@ use resolvo_pool_core::want::{R, Want};
 use resolvo_report::Step;
 use std::alloc::Global;
 
-/// What the solver found: the numbers of the chosen versions, its turns, and for each step of its proof the place that the step
-/// has among those that are written.
+/// The outcome of a search: the numbers of the chosen versions, the turns, and for each step of the
+/// proof its place among the written steps.
 #[derive(Clone, Copy)]
 pub struct Outcome<'a> {
     pub chosen: &'a [VersionNo],
@@ -44,7 +44,7 @@ fn want(wanted: &mut Vec<usize>, step: Option<usize>) -> R<()>
 }
 
 impl<'a> Outcome<'a> {
-    /// What was chosen from one count of versions to another.
+    /// The versions chosen from one count to another.
     fn between(self, begin: usize, end: usize) -> &'a [VersionNo]
         ensures { IsBetween self.entry.chosen.now begin end result.now }
     {
@@ -68,7 +68,7 @@ impl<'a> Outcome<'a> {
         }
     }
 
-    /// The number of a turn's step among those that are written; 0 stands for none. `Ids` where it is too great.
+    /// The number of a turn's step among the written steps; 0 is none. `Ids` where it is too great.
     fn number_of(self, turn: &Turn<SolvableId>) -> R<u32>
         ensures { IfOk result (λ n. n ≡ number_at self.entry.places.now turn.now.step) }
     {
@@ -109,7 +109,7 @@ impl<'a> Outcome<'a> {
     }
 }
 
-/// Puts a step behind the others, and gives its number. `Ids` where there are too many.
+/// Appends a step, and returns its number. `Ids` where there are too many.
 fn push_step(steps: &mut Vec<Step>, step: Step) -> R<u32>
     ensures pushed { OnOk result (steps.new.items ≡ steps.old.items ++ step ∷ []) }
     ensures number { IfOk result (λ n. n ≡ length steps.new.items) }
@@ -122,8 +122,9 @@ fn push_step(steps: &mut Vec<Step>, step: Step) -> R<u32>
     Ok(steps.len() as u32)
 }
 
-/// The turns of the report: that of the needs, then one for each wish. The steps that bar wishes without a search come behind the
-/// others. `Memory` where they find no room; `Ids` where a step's number is too great for a report.
+/// The turns of the report: that of the needs, then one for each wish. Steps that forbid a wish
+/// without a search are appended. `Memory` where there is no room; `Ids` where a step's number is
+/// too great.
 pub fn report_turns<'a>(
     alloc: Global,
     outcome: Outcome<'a>,

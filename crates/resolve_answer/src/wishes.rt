@@ -1,4 +1,5 @@
-//! The wishes of a request: those that a lock or an exclusion bars are left out without a search.
+//! The wishes of a request. Those that a lock or an exclusion forbids are left out without a
+//! search.
 
 ghost use Rattle.std.specs.Prelude.{◌≡◌, map, IfOk, OnOk};
 ghost use Rattle.resolvo_catalogue_core.specs.Questions.{AreAll, IsWish, LineIs};
@@ -14,7 +15,7 @@ use resolvo_pool_core::want::R;
 use resolvo_report::Step;
 use std::alloc::Global;
 
-/// A wish of a request, and the step that bars it without a search, if one does.
+/// A wish of a request, and the step that forbids it without a search, if there is one.
 #[derive(Debug, Drop)]
 pub struct Wish {
     pub line: u32,
@@ -35,7 +36,7 @@ pub fn wishes_of(alloc: Global, catalogue: &Catalogue, request: &Request) -> R<V
     Ok(wishes)
 }
 
-/// A wish, by its line and its version, with the step that bars it.
+/// A wish, by its line and its version, with the step that forbids it.
 fn wish_of(alloc: Global, catalogue: &Catalogue, wish: (u32, VersionNo)) -> R<Wish>
     ensures asked { IfOk result (λ w. asked_by w ≡ wish) }
     ensures barred { IfOk result (λ w. IsBarringStepOf catalogue.now w.version.0 (option_map step_of w.bar)) }
@@ -45,7 +46,7 @@ fn wish_of(alloc: Global, catalogue: &Catalogue, wish: (u32, VersionNo)) -> R<Wi
     Ok(Wish { line, version, bar })
 }
 
-/// The wishes that a search is asked for: those that no step bars. `Memory` where they find no room.
+/// The wishes of the search: those that no step forbids. `Memory` where there is no room.
 pub fn free_wishes(alloc: Global, wishes: &[Wish]) -> R<Vec<SolvableId>>
     ensures { IfOk result (λ v. v.items ≡ free_of wishes.now) }
 {

@@ -1,4 +1,4 @@
--- From what `run` and `check` do to devices to what a call leaves for bytes.
+-- From the effects of `run` and `check` on devices to the result of a call for bytes.
 use Rattle.std.proofs.Common.{◌≡◌, ℕ, ◌<◌, List, [], Option, Some, None, refl, sym, subst, ⊎_elim, arith}
 use Rattle.std.proofs.lemmas.Bool.{false≢true}
 use Rattle.std.specs.Io.KnownBytes.{Appends}

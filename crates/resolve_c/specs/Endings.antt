@@ -1,4 +1,4 @@
--- The numbers that say how a call ended.
+-- The numbers that encode how a call ended.
 use Rattle.std.specs.Prelude.{ℕ}
 use Rattle.resolve_check.specs.declared.outcome.Outcome.{Outcome}
 use Rattle.resolve_check.specs.declared.outcome.Outcome.TheVariants.{Installed, Refused, Faulty}

@@ -1,4 +1,5 @@
--- What a call from C leaves and returns: the front of a text in the caller's room, the ending, and the whole text's length.
+-- The result of a call from C: the prefix of a text in the caller's room, the ending, and the whole
+-- text's length.
 use Rattle.std.specs.Prelude.{◌≡◌, ℕ, List, [], ◌++◌, length, take, drop, Option, Some, IsSome}
 use Rattle.resolvo_text.specs.Device.{DeviceFailed}
 use Rattle.resolve_check.specs.declared.outcome.Outcome.{Outcome}
@@ -15,8 +16,8 @@ use Rattle.resolve_run.specs.declared.stop.RunStop.TheVariants.{Fault, GivenUp}
 use Rattle.resolve_c.specs.Endings.{ending_of, check_ending_of}
 use Rattle.resolve_c.specs.declared.told.Told.{Told}
 
--- The call returns this ending and the text's length, and the room has the front of the text that fits. Behind it the
--- room is unchanged.
+-- The call returns this ending and the text's length, and the room has the prefix of the text that
+-- fits. The rest of the room is unchanged.
 pub record Leaves (ending : ℕ) (text before after : List ℕ) (told : Told) : Type 0 where
   pub ended : told.ending ≡ ending
   pub length_told : told.length ≡ length text
@@ -40,21 +41,23 @@ abbrev pub StopsJudging : RunFault → List ℕ → List ℕ → List ℕ → Ty
 StopsJudging fault c r p = (c_left : Option (List ℕ)) × (r_left : Option (List ℕ)) × (p_left : Option (List ℕ))
     × StopsBeforeCheck fault (lent c c_left) (lent r r_left) (lent p p_left)
 
--- What solving the texts of a catalogue and a request leaves: their answer, with the ending 0 for `install`, 1 for `refused` and
--- 2 for a faulty line. Or no text, where one is too long, memory is lacking, or numbers are.
+-- The result of solving a catalogue and a request: their answer, with the ending 0 for `install`, 1
+-- for `refused` and 2 for a faulty line. Or no text, where one is too long, or memory or numbers
+-- are lacking.
 pub data Solves (c r before after : List ℕ) (told : Told) : Type 0 where
   answered : (outcome : Outcome) (text : List ℕ) → IsAnswer c r outcome text → Leaves (ending_of outcome) text before after told → Solves c r before after told
   too_long : StopsSolving TooLong c r → Leaves 4 [] before after told → Solves c r before after told
   no_memory : Leaves 5 [] before after told → Solves c r before after told
   no_ids : StopsSolving Ids c r → Leaves 6 [] before after told → Solves c r before after told
 
--- What solving them with a budget leaves: the same, or no text, where the search gave up.
+-- The result of solving them with a budget: the same, or no text, where the search gave up.
 pub data SolvesWithin (c r before after : List ℕ) (told : Told) : Type 0 where
   solved : Solves c r before after told → SolvesWithin c r before after told
   given_up : AreGrammatical c r → Leaves 8 [] before after told → SolvesWithin c r before after told
 
--- What judging the texts of a catalogue, a request and a report leaves: their check, with the ending 0 for `yes`, 1 for `no` and
--- 2 for a faulty line. Or no text, where one is too long or memory is lacking.
+-- The result of judging a catalogue, a request and a report: their check, with the ending 0 for
+-- `yes`, 1 for `no` and 2 for a faulty line. Or no text, where one is too long or memory is
+-- lacking.
 pub data Judges (c r p before after : List ℕ) (told : Told) : Type 0 where
   checked : (ended : Checked) (text : List ℕ) → IsCheck c r p ended text → Leaves (check_ending_of ended) text before after told → Judges c r p before after told
   too_long : StopsJudging TooLong c r p → Leaves 4 [] before after told → Judges c r p before after told

@@ -19,7 +19,7 @@ struct Judged {
     text: Vec<u8>,
 }
 
-/// What `check` writes for the three texts, or why it writes nothing.
+/// The text that `check` writes for the three texts, or why it writes nothing.
 fn verdict_of(
     alloc: Global,
     catalogue: &[u8],
@@ -46,7 +46,7 @@ fn verdict_of(
     }
 }
 
-/// Writes what `resolve judge` prints for the three texts, as much as fits.
+/// Writes the text of `resolve judge` for the three texts, as much as fits.
 #[unsafe(no_mangle)]
 pub extern "C" fn resolve_judge(
     alloc: Global,

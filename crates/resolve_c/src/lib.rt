@@ -1,4 +1,4 @@
-//! The solver and the judge for C and whatever calls C. They turn the bytes of texts into those of
+//! The solver and the judge for C and for callers of C. They turn the bytes of texts into those of
 //! a report or a verdict.
 //!
 //! No call keeps anything, and all memory that is passed to it is the caller's. docs/EMBEDDING.md

@@ -12,7 +12,7 @@ use resolve_run::{RunStop, run_within};
 use resolvo_text::GrowingSink;
 use std::alloc::Global;
 
-/// What `run` writes for the two texts, or why it writes nothing.
+/// The text that `run` writes for the two texts, or why it writes nothing.
 fn answer_of(
     alloc: Global,
     catalogue: &[u8],
@@ -38,7 +38,7 @@ fn answer_of(
     }
 }
 
-/// Writes what `resolve solve` prints for the two texts, as much as fits.
+/// Writes the text of `resolve solve` for the two texts, as much as fits.
 #[unsafe(no_mangle)]
 pub extern "C" fn resolve_solve(
     alloc: Global,

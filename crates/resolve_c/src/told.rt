@@ -1,4 +1,4 @@
-//! What a call returns beside the bytes in the caller's buffer.
+//! The result of a call beside the bytes in the caller's buffer.
 
 ghost use Rattle.resolve_c.specs.Told.{Leaves};
 

@@ -1,4 +1,4 @@
--- What a check writes is a check of its texts.
+-- The text of a check is a check of its texts.
 use Rattle.std.proofs.Common.{◌≡◌, ℕ, List, Option, Result, IfOk, IfErr, refl, sym, subst, inl}
 use Rattle.std.specs.Prelude.{codes}
 use Rattle.resolvo_text.specs.Line.{Line}
@@ -55,7 +55,7 @@ nothing_written Memory catalogue request report writer h same = (h, same)
 nothing_written Ids catalogue request report writer h same = absurd h
 nothing_written Writer catalogue request report writer h same = absurd h
 
--- ---- texts behind a faulty one
+-- ---- texts after a faulty one
 
 -- a catalogue that was read has no faulty line
 pub catalogue_good : (known : Option (List ℕ)) (lines : List Line) (P : Type 0) → IfKnown known (λ t. IsGrammatical IsCatalogueLine t lines) → IfCatalogueFaulty known P

@@ -14,7 +14,7 @@ count_more above count more next first rest all counted long is joined =
     let both : length all ≡ length first + length rest = sym (ap length joined) ∙ length-append first rest in
     omega (arith, counted, long, is, both)
 
--- of one text behind another
+-- of one text after another
 pub count_both : (above count next : ℕ) (first rest : List ℕ) → CountsOn above first count → CountsOn count rest next → CountsOn above (first ++ rest) next
 count_both above count next first rest counted more =
     let both : length (first ++ rest) ≡ length first + length rest = length-append first rest in

@@ -3,7 +3,7 @@ use Rattle.std.proofs.Common.{◌≡◌, ℕ, ◌≤◌, arith, List, [], ◌++�
 use Rattle.std.specs.Io.KnownBytes.{Consumes}
 use Rattle.std.proofs.lemmas.List.{length-append}
 
--- What a reader has left after one piece and the next.
+-- The rest of a reader's bytes after one piece and the next.
 pub consumes_both : (before mid after : Option (List ℕ)) (front more : List ℕ) → Consumes before mid front → Consumes mid after more → Consumes before after (front ++ more)
 consumes_both None mid after front more a b = tt
 consumes_both (Some xs) None after front more a b = absurd a

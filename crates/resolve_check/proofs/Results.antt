@@ -1,4 +1,4 @@
--- What holds of each result, and a fault that reading never has.
+-- A property of each result, and a fault that reading never has.
 use Rattle.std.specs.Prelude.{Result, Ok, Err, IfOk, IfErr}
 use Rattle.resolvo_text.specs.declared.lines.ReadFault.TheVariants as read
 use Rattle.resolve_check.specs.Devices.{Device, StopsReading, in_catalogue, in_request}

@@ -1,4 +1,4 @@
--- What a check may write for the texts of a catalogue, a request and a report, and what it does to its devices.
+-- The text of a check for a catalogue, a request and a report, and its effect on its devices.
 use Rattle.std.specs.Prelude.{◌≡◌, ℕ, ◌⊎◌, List, ◌++◌, Option, Result, Err, IfOk, IfErr, codes}
 use Rattle.std.specs.Fmt.{decimal}
 use Rattle.std.specs.Io.KnownBytes.{Appends}
@@ -32,8 +32,8 @@ abbrev pub TellsVerdict : Verdict → Checked → List ℕ → Type 0
 TellsVerdict verdict.Yes checked output = (checked ≡ Yes) × (output ≡ yes_text)
 TellsVerdict (verdict.No n) checked output = (checked ≡ No) × (output ≡ no_text n)
 
--- What is written for three texts: the catalogue's first faulty line, else that of the request; where there is none, the
--- judge's verdict on the report, whose claim is true after a yes.
+-- The text for three texts: the catalogue's first faulty line, else that of the request. Where
+-- there is none, it is the judge's verdict on the report, whose claim is true after a yes.
 pub data IsCheck (c r p : List ℕ) (checked : Checked) (output : List ℕ) : Type 0 where
   catalogue_fault : (n : ℕ) → IsFaultyAt IsCatalogueLine c n → checked ≡ Faulty → output ≡ fault_text (codes "catalogue") n → IsCheck c r p checked output
   request_fault : (catalogue : List Line) (n : ℕ) → IsGrammatical IsCatalogueLine c catalogue → IsFaultyAt (IsRequestLine catalogue) r n
@@ -69,7 +69,8 @@ StopsBeforeCheck Memory catalogue request report = Unit {0}
 StopsBeforeCheck Ids catalogue request report = ⊥
 StopsBeforeCheck Writer catalogue request report = ⊥
 
--- Why a check ends without its whole text, and what went out: nothing, or after a failed write a front of it.
+-- Why a check ends without its whole text, and the bytes that were written: none, or after a failed
+-- write a prefix of it.
 abbrev pub StopsCheck : RunFault → Device → Device → Device → Device → Type 0
 StopsCheck Writer catalogue request report writer = writer.Failed × ((checked : Checked) × (output : List ℕ) × ChecksTexts catalogue.before request.before report.before checked output × TakesFront writer.before writer.after output)
 StopsCheck e catalogue request report writer = StopsBeforeCheck e catalogue request report × (writer.after ≡ writer.before)

@@ -29,10 +29,10 @@ pub data StopsReading (fault : ReadFault) (catalogue request : Device) : Type 0 
   in_request : (lines : List Line) → IfKnown catalogue.before (λ text. IsGrammatical IsCatalogueLine text lines)
       → IsTextFault (IsRequestLine lines) fault request.before request.after text_limit request.Failed → StopsReading fault catalogue request
 
--- What holds where the catalogue has a faulty line.
+-- A property where the catalogue has a faulty line.
 abbrev pub IfCatalogueFaulty : Option (List ℕ) → Type 0 → Type 0
 IfCatalogueFaulty catalogue P = IfKnown catalogue (λ c. (n : ℕ) → IsFaultyAt IsCatalogueLine c n → P)
 
--- What holds where the catalogue has no faulty line, and the request over it has one.
+-- A property where the catalogue has no faulty line, and the request over it has one.
 abbrev pub IfRequestFaulty : Option (List ℕ) → Option (List ℕ) → Type 0 → Type 0
 IfRequestFaulty catalogue request P = IfKnown catalogue (λ c. IfKnown request (λ r. (lines : List Line) (n : ℕ) → IsGrammatical IsCatalogueLine c lines → IsFaultyAt (IsRequestLine lines) r n → P))

@@ -1,4 +1,4 @@
--- How the program ends: its status, and the line that it prints after what was written.
+-- How the program ends: its status, and the line that it prints last.
 use Rattle.std.specs.Prelude.{ℕ, List, [], Result, Ok, Err, codes}
 use Rattle.resolve_check.specs.declared.outcome.Outcome.{Outcome}
 use Rattle.resolve_check.specs.declared.outcome.Outcome.TheVariants.{Installed, Refused, Faulty}

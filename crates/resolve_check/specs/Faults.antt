@@ -1,4 +1,4 @@
--- What is reported of a text that was not read, and what a fault is called.
+-- The report of a text that was not read, and the name of a fault.
 use Rattle.std.specs.Prelude.{◌≡◌, ℕ, List, Result, Err, IfOk, IfErr}
 use Rattle.resolvo_text.specs.declared.lines.ReadFault.{ReadFault}
 use Rattle.resolvo_text.specs.declared.lines.ReadFault.TheVariants as read
@@ -10,7 +10,7 @@ use Rattle.resolve_check.specs.declared.outcome.RunFault.TheVariants.{Reader, To
 use Rattle.resolve_check.specs.declared.written.Written.{Written}
 use Rattle.resolve_check.specs.Texts.{fault_text}
 
--- the fault by the name of what was lacking
+-- the fault by the name of the lacking resource
 abbrev pub fault_of : Want → RunFault
 fault_of want.Memory = Memory
 fault_of want.Ids = Ids

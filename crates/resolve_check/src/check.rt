@@ -39,7 +39,7 @@ fn verdict_told(alloc: Global, verdict: Verdict) -> Result<Told, RunFault>
     }
 }
 
-/// What to write where a text was not read: its faulty line, or nothing.
+/// The outcome and the text where a text was not read: its faulty line, or nothing.
 fn fault_told(alloc: Global, which: &str, fault: ReadFault) -> Result<Told, RunFault>
     ensures { TellsFaulty fault which.now result }
 {
@@ -52,7 +52,7 @@ fn fault_told(alloc: Global, which: &str, fault: ReadFault) -> Result<Told, RunF
     }
 }
 
-/// What to write for three texts, which are read in this order.
+/// The outcome and the text for three texts, which are read in this order.
 fn answer<C: Source, R: Source, P: Source>(
     alloc: Global,
     catalogue: &mut C,

@@ -21,7 +21,7 @@ const MOST_INTERRUPTIONS: u32 = 1000;
 /// How many bytes the reader is asked for at once.
 const PIECE: usize = 4_096;
 
-/// Reads bytes into the front of the buffer, and returns how many: 0 only at the end.
+/// Reads bytes into the start of the buffer, and returns how many: 0 only at the end.
 fn read_some<S: Source>(source: &mut S, buffer: &mut [u8]) -> Result<usize, RunFault>
     requires { 0 < length buffer.old }
     ensures within { IfOk result (λ n. n ≤ length buffer.new) }

@@ -1,5 +1,5 @@
-//! What the program `resolve` does without the solver. It checks a report, splits standard input,
-//! names the faulty line of a text, and has the statuses and last lines of the program.
+//! The program `resolve` without the solver. It checks a report, splits standard input, names the
+//! faulty line of a text, and has the statuses and last lines of the program.
 #![tactic(auto)]
 
 pub mod check;

@@ -1,10 +1,10 @@
-//! The outcome of a run or a check: what was written, or why no whole text was.
+//! The outcome of a run or a check: the kind of text that was written, or why no whole text was.
 
 use resolvo_catalogue_core::WriteFault;
 use resolvo_pool_core::want::Want;
 use std::alloc::{AllocError, AllocFailed};
 
-/// What was written.
+/// The text that a run wrote.
 #[derive(Clone, Copy, Debug, PartialEq, Eq)]
 pub enum Outcome {
     /// A report `install`.
@@ -15,7 +15,7 @@ pub enum Outcome {
     Faulty,
 }
 
-/// What a check wrote.
+/// The text that a check wrote.
 #[derive(Clone, Copy, Debug, PartialEq, Eq)]
 pub enum Checked {
     /// The report holds.

@@ -1,4 +1,4 @@
-//! What to write where a text was not read. `run` and `check` call it.
+//! The outcome and the text where a text was not read. `run` and `check` call it.
 
 ghost use Rattle.std.specs.Prelude.{◌≡◌, IfOk, IfErr};
 ghost use Rattle.resolve_check.specs.Texts.{fault_text};
@@ -23,7 +23,7 @@ fn fault_text(alloc: Global, which: &str, line: u32) -> Result<Vec<u8>, AllocErr
     Ok(Vec::from_slice(alloc, text.as_bytes())?)
 }
 
-/// What to write for a faulty text.
+/// The outcome and the text for a faulty line.
 pub fn faulty(alloc: Global, which: &str, line: u32) -> Result<Written, RunFault>
     ensures ok { IfOk result
         (λ answer.
@@ -36,7 +36,7 @@ pub fn faulty(alloc: Global, which: &str, line: u32) -> Result<Written, RunFault
     })
 }
 
-/// What to write where a text was not read: its faulty line, or nothing.
+/// The outcome and the text where a text was not read: its faulty line, or nothing.
 pub fn not_read(alloc: Global, which: &str, fault: ReadFault) -> Result<Written, RunFault>
     ensures { TellsFault fault which.now result }
 {

@@ -27,7 +27,7 @@ use Rattle.resolve_install.proofs.FitLemmas.{AreRight, told_of, from_one, inside
 
 -- ---- places in two lists
 
--- An item of two lists is one of the first, with what is above it, or is behind it.
+-- An item of two lists is one of the first, with the part above it, or is in the second.
 get_parts : {X : Type 0} (xs ys : List X) (n : ℕ) (x : X) → slice_get (xs ++ ys) n ≡ Some x
     → ((slice_get xs n ≡ Some x) × (take n (xs ++ ys) ≡ take n xs)) ⊎ ((m : ℕ) × (slice_get ys m ≡ Some x) × (take n (xs ++ ys) ≡ xs ++ take m ys))
 get_parts [] ys n x e = inr (n, e, refl)
@@ -67,7 +67,7 @@ steps_told : (first : ℕ) (steps : List Step) → steps_in (numbered first step
 steps_told first [] = refl
 steps_told first (s ∷ steps) = ap (λ (ss : List Step). s ∷ ss) (steps_told (first + 1) steps)
 
--- what the lines of the report say
+-- the answers of the report's lines
 all_answers : (lines : List AnswerLine) (first : ℕ) (steps : List Step) → answers_in (map Answer lines ++ numbered first steps) ≡ lines
 all_answers lines first steps = flat_map-append answer_in (map Answer lines) (numbered first steps) ∙ (λ i. answers_told lines i ++ no_answers first steps i) ∙ append-nil lines
 

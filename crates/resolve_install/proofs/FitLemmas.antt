@@ -23,7 +23,7 @@ use Rattle.resolvo_checker.proofs.Sets.{same_own, is_contained}
 use Rattle.resolvo_checker.proofs.ListedLemmas.{listed_in}
 use Rattle.resolve_install.proofs.TurnLemmas.{IsRisingFrom}
 
--- ---- what is said of an entry
+-- ---- the reason of an entry
 
 pub record IsToldOf (catalogue request : List Line) (earlier : Set) (v : Version) (place : Place) (n : ℕ) : Type 0 where
   pub new : Contains earlier v → ⊥
@@ -87,8 +87,8 @@ left_out_parts (LeftOut w n step ∷ lines) v c = elim (element_cases w (left_ou
 
 -- ---- the lines
 
--- What is known of the lines: entries of the set, with their reasons; wishes in order, of which those that are left out
--- aren't in the set, and are barred by their steps.
+-- The lines are entries of the set, with their reasons, and wishes in order. Those that are left
+-- out aren't in the set, and are forbidden by their steps.
 pub record AreRight (catalogue request : List Line) (steps : List Step) (set : Set) (lines : List AnswerLine) : Type 0 where
   pub reasoned : IsReasoned catalogue request [] (map answer_of lines)
   pub within : (v : Version) → Contains (entries_of lines) v → Contains set v
@@ -108,7 +108,7 @@ module _ (catalogue request : List Line) (steps : List Step) (set : Set) (lines 
     pub inside_after : (v : Version) → Contains (entries_of (a ∷ below)) v → Contains set v
     inside_after v c = right.within v (subst (λ (xs : Set). Contains xs v) (sym entries_are) (Contains-append_right (entries_of before) (entries_of (a ∷ below)) v c))
 
-    -- what is reasoned of the rest
+    -- the reasons of the rest
     pub reasoned_here : IsReasoned catalogue request (entries_of before) (map answer_of (a ∷ below))
     reasoned_here =
         subst (λ (xs : Set). IsReasoned catalogue request xs (map answer_of (a ∷ below))) (same_entries before)
@@ -121,7 +121,7 @@ module _ (catalogue request : List Line) (steps : List Step) (set : Set) (lines 
         let one : v ≡ w.0 = single.one_each v w.0 inside (inside_before w.0 w.1) ((bytes_eq-Decides v.name w.0.name).0 w.2) in
         new (subst (λ (x : Version). Contains (entries_of before) x) (sym one) w.1))
 
-    -- what is chosen isn't left out above
+    -- a chosen version isn't left out above
     kept : (v : Version) → Contains set v → Contains (left_out before) v → ⊥
     kept v inside c =
         let p = left_out_parts before v c in

@@ -1,4 +1,4 @@
--- What is listed of turns that serve a request is the install report of them.
+-- The listing of turns that serve a request is the install report of them.
 use Rattle.std.proofs.Common.{◌≡◌, ◌⊎◌, inl, inr, ℕ, ◌≤◌, List, [], ◌∷◌, ◌++◌, map, length, Some, refl, sym, ap, subst, ◌∙◌, arith}
 use Rattle.std.specs.Prelude.{Contains}
 use Rattle.std.specs.List.{AllByRecursion, flat_map}
@@ -28,7 +28,7 @@ use Rattle.resolve_install.proofs.TurnLemmas.{IsRisingFrom, IsRightlyLeftOut, li
 use Rattle.resolve_install.proofs.FitLemmas.{AreRight, fits, ends_well}
 use Rattle.resolve_install.proofs.AcceptLemmas.{accepted, in_grammar}
 
--- the lines of wishes that a report's lines name are those of what they claim
+-- the lines of wishes in a report's lines are those of its claim
 same_lines : (lines : List AnswerLine) → flat_map answers.wish_line_of (map answer_of lines) ≡ wish_lines lines
 same_lines [] = refl
 same_lines (Entry v OfRequest n ∷ lines) = same_lines lines

@@ -1,4 +1,4 @@
--- What is reached over a provider is reached over the lines.
+-- A version that is reached over a provider is reached over the lines.
 use Rattle.std.proofs.Common.{◌≡◌, inl, inr, ℕ, suc, Bool, true, false, List, [], ◌∷◌, Option, Some, None, refl, sym, ap, subst, ◌∙◌, if◌then◌else◌}
 use Rattle.std.specs.Prelude.{Contains, slice_get, option_to_list}
 use Rattle.std.specs.List.{flat_map}
@@ -95,7 +95,7 @@ module _ (versions : List Version) (chosen : List SolvableId) (part : Set) where
     all = λ v c. let s = stands.all v (within v c) in (s.0, to_part s.0 v s.1 s.2 c, s.2);
   }
 
--- ---- what is reached
+-- ---- reached versions
 
 module _ (p : Provider) (catalogue request : List Line) (over : IsOver catalogue p) (same : SolvableId → SolvableId → Bool) (apart : TellsApart same) (root : Rules) where
   found : (xs : List SolvableId) (s : SolvableId) → is_in same (packages_of p) xs s ≡ true → Contains xs s
@@ -118,7 +118,7 @@ module _ (p : Provider) (catalogue request : List Line) (over : IsOver catalogue
       inner : StandsFor (listed catalogue) (part_of (listed catalogue) chosen part) part
       inner = part_stands (listed catalogue) chosen part set stands closed.within
 
-      -- what a need gives by its line is in the part
+      -- the version of a need by its line is in the part
       given_by : (reason : Reason) (need : ConditionalRequirement) (said : List Spec × Option Cond) (s : SolvableId) → IsAsked catalogue part reason → line_named catalogue request reason ≡ Some (Needs said.0 said.1) → IsNeed p.ids need said
           → binds same (packages_of p) (part_of (listed catalogue) chosen part) need ≡ true → meets same (packages_of p) need.requirement s ≡ true → is_in same (packages_of p) chosen s ≡ true → is_in same (packages_of p) (part_of (listed catalogue) chosen part) s ≡ true
       given_by reason need said s asked line is binding meeting inside =
@@ -129,7 +129,7 @@ module _ (p : Provider) (catalogue request : List Line) (over : IsOver catalogue
           let holding = sym (need_binds p (listed catalogue) over.versions over.once same apart xs part inner over.once.below need said is) ∙ binding in
           held xs s (to_part (listed catalogue) chosen part s v.0 c v.1 (closed.needed reason v.0 asked (said.0, said.1, line, matched, holding) v.2))
 
-      -- the line of a version that says a need
+      -- the line of a version that has a need
       line_at_need : (t : SolvableId) (w : Version) → slice_get (listed catalogue) t.raw ≡ Some w → (tells : TellsOf p.ids catalogue t.raw (told_at p t)) (said : List Spec × Option Cond) → (l : Line) × Contains (lines_at catalogue tells.0) l × Contains (need_in l) said
           → (n : ℕ) × (line_at catalogue n ≡ Some (Needs said.0 said.1)) × (owner_of catalogue n ≡ Some w)
       line_at_need t w e tells said f =

@@ -1,4 +1,4 @@
--- Sets with the same members keep the same rules, and a step bars a version with either.
+-- Sets with the same members keep the same rules, and a step forbids a version with either.
 use Rattle.std.proofs.Common.{◌≡◌, ◌↔◌, inl, inr, ℕ, zero, suc, Bool, true, false, List, [], ◌∷◌, Option, Some, None, refl, sym, ap, subst, ◌∙◌}
 use Rattle.std.specs.Prelude.{Contains, not, ◌&&◌, ◌||◌, ◌==◌, slice_get}
 use Rattle.std.specs.List.{list_any, list_all}
@@ -23,7 +23,7 @@ AreSame a b = (v : Version) → Contains a v ↔ Contains b v
 pub same_turned : (a b : Set) → AreSame a b → AreSame b a
 same_turned a b h v = ((h v).1, (h v).0)
 
--- what holds of each element
+-- a property of each element
 all_from : {X : Type 0} (p : X → Bool) (xs : List X) → ((x : X) → Contains xs x → p x ≡ true) → list_all p xs ≡ true
 all_from p [] h = refl
 all_from p (x ∷ xs) h = and_from _ _ (h x (first_element x xs)) (all_from p xs (λ y c. h y (later_element x xs y c)))
@@ -105,7 +105,7 @@ module _ (a b : Set) (same : AreSame a b) where
   clause_same wish None = refl
   clause_same wish (Some clause) = bars_same wish clause
 
-  -- and a step bars the version with both, or with none
+  -- and a step forbids the version with both, or with none
   pub step_bars_same : (catalogue request : List Line) (steps : List Step) (wish : Version) (step : ℕ) → step_bars catalogue request steps a wish step ≡ step_bars catalogue request steps b wish step
   step_bars_same catalogue request steps wish zero = refl
   step_bars_same catalogue request steps wish (suc k) = clause_same wish (option_and_then (clause_of catalogue request) (slice_get steps k))

@@ -1,4 +1,5 @@
--- What the turns that serve a request tell: wishes of the request, in order, each chosen or barred.
+-- The wishes in the turns that serve a request: wishes of the request, in order, each chosen or
+-- forbidden.
 use Rattle.std.proofs.Common.{◌≡◌, ◌⊎◌, inl, inr, ℕ, zero, suc, ◌+◌, ◌<◌, ◌≤◌, Bool, true, false, if◌then◌else◌, List, [], ◌∷◌, ◌++◌, map, length, take, drop, get_or, Option, Some, None, refl, sym, ap, subst, ◌∙◌, append_assoc, arith}
 use Rattle.std.specs.Prelude.{⊤, Contains, slice_get}
 use Rattle.std.specs.List.{flat_map}
@@ -53,7 +54,7 @@ at_some [] j x e = absurd cc
 at_some (y ∷ xs) zero x e = ap Some e
 at_some (y ∷ xs) (suc j) x e = at_some xs j x e
 
--- what a mapped list's element comes from
+-- the origin of a mapped list's element
 mapped_at : {X Y : Type 0} (f : X → Y) (xs : List X) (k : ℕ) (y : Y) → slice_get (map f xs) k ≡ Some y → (x : X) × (slice_get xs k ≡ Some x) × (f x ≡ y)
 mapped_at f [] k y e = absurd cc
 mapped_at f (x ∷ xs) zero y e = (x, refl, one_some e)
@@ -103,7 +104,7 @@ abbrev line_of_turn : order.Turn → List ℕ
 line_of_turn (order.Chose wish chosen) = line_of_wish wish
 line_of_turn (order.LeavesOut wish step) = wish.0 ∷ []
 
--- a wish is told of by its line, or isn't told of
+-- a wish is listed by its line, or isn't listed
 IsPart : List ℕ → List ℕ → Type 0
 IsPart told mine = (told ≡ []) ⊎ (told ≡ mine)
 
@@ -175,7 +176,7 @@ told_lines : (wishes : List (ℕ × VersionNo)) → flat_map line_told (map Some
 told_lines [] = refl
 told_lines (w ∷ wishes) = ap (λ (ns : List ℕ). w.0 ∷ ns) (told_lines wishes)
 
--- ---- a wish that is left out is told
+-- ---- a wish that is left out is listed
 
 leaves_told : (catalogue request : List Line) (chosen entries : Set) (turns : List order.Turn) (answers : List Answer) (k : ℕ) (w : ℕ × Version) (step : ℕ) → AreTurns catalogue request chosen entries turns answers → slice_get turns k ≡ Some (order.LeavesOut w step) → Contains answers (LeftOut w.1 w.0 step)
 leaves_told catalogue request chosen entries [] answers k w step h at = absurd cc
@@ -192,7 +193,7 @@ leaves_told catalogue request chosen entries (t ∷ turns) answers (suc k) w ste
 
 -- ---- the step of a wish
 
--- the step that bars a version
+-- the step that forbids a version
 pub record IsStepThat (catalogue request : List Line) (steps : List Step) (entries : Set) (v : Version) (step : ℕ) : Type 0 where
   pub k : ℕ
   pub number : step ≡ suc k
@@ -309,11 +310,12 @@ module _ (catalogue request : List Line) (turns : List Turn) (steps : List Step)
     all_told : AllAccepted request [] (turns_of (listed catalogue) turns)
     all_told = all_accepted (listed catalogue) request [] turns are_turns.wishes
 
-    -- The entries are what was chosen.
+    -- The entries are the chosen versions.
     pub entries_exact : AreSame (all_chosen catalogue turns) (entries_of answers)
     entries_exact = exact_entries catalogue request (turns_of (listed catalogue) turns) answers told all_told all_reached
 
-    -- A line of a wish that is left out: it is a wish of the request, its step bars it with the entries above, and it isn't chosen.
+    -- A line of a wish that is left out: it is a wish of the request, its step forbids it with the
+    -- entries above, and it isn't chosen.
     pub record IsRightlyLeftOut (above : List Answer) (v : Version) (n step : ℕ) : Type 0 where
       pub wished : line_at request n ≡ Some (Wish v)
       pub known : (k : ℕ) × (slice_get (listed catalogue) k ≡ Some v)
@@ -376,7 +378,7 @@ module _ (catalogue request : List Line) (turns : List Turn) (steps : List Step)
             (accepted_parted request [] (turns_of (listed catalogue) (take k turns)) (order.LeavesOut (n, v) step ∷ line.back)
             (subst (AllAccepted request []) (line.turn ∙ ap (λ (ts : List order.Turn). ts ++ order.LeavesOut (n, v) step ∷ line.back) (sym seam.3)) all_told)) reached
 
-    -- Each wish is chosen or is told of as left out.
+    -- Each wish is chosen or listed as left out.
     pub accounted : (n : ℕ) (v : Version) → line_at request n ≡ Some (Wish v) → Contains (all_chosen catalogue turns) v ⊎ ((step : ℕ) × Contains answers (LeftOut v n step))
     accounted n v e = go t.0 refl
       where

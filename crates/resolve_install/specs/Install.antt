@@ -1,4 +1,4 @@
--- What the install report of the turns of a search is.
+-- The install report of the turns of a search.
 use Rattle.std.specs.Prelude.{◌≡◌, ◌↔◌, ◌<◌, ℕ, suc, IsTrue, List, [], ◌∷◌, Option, None, Some, Contains, map, length, take, slice_get}
 use Rattle.std.specs.List.{AllByRecursion}
 use Rattle.resolvo_text.specs.Line.{Version, Line}
@@ -39,17 +39,17 @@ pub record AreWishes (catalogue request : List Line) (wishes : List (ℕ × Vers
   pub lines : AreAll (map (λ f. f.0) wishes) (λ n. LineIs request n IsWish)
   pub versions : (i : ℕ) (f : ℕ × VersionNo) → slice_get wishes i ≡ Some f → WishesAt (listed catalogue) request f
 
--- ---- what was chosen
+-- ---- the chosen versions
 
--- what the first k turns chose
+-- the choices of the first k turns
 abbrev pub chosen_before : List Line → List Turn → ℕ → Set
 chosen_before catalogue turns k = chosen_in (turns_of (listed catalogue) (take k turns))
 
--- what all turns chose
+-- the choices of all turns
 abbrev pub all_chosen : List Line → List Turn → Set
 all_chosen catalogue turns = chosen_in (turns_of (listed catalogue) turns)
 
--- The turns serve the request, and the steps bar the wishes that they leave out.
+-- The turns serve the request, and the steps forbid the wishes that they leave out.
 pub record Serve (catalogue request : List Line) (turns : List Turn) (steps : List Step) : Type 0 where
   -- all chosen versions together keep the rules of both texts
   pub keeping : IsRuleKeeping catalogue request (all_chosen catalogue turns)
@@ -57,11 +57,12 @@ pub record Serve (catalogue request : List Line) (turns : List Turn) (steps : Li
   pub wishes : List (ℕ × VersionNo)
   pub are_wishes : AreWishes catalogue request wishes
   pub in_turn : map wish_of turns ≡ None ∷ map Some wishes
-  -- an accepted wish is among what is chosen by the end of its turn
+  -- an accepted wish is among the choices by the end of its turn
   pub accepted : (k : ℕ) (t : Turn) (wish : ℕ × VersionNo) → slice_get turns k ≡ Some t → accepted_of t ≡ Some wish → Contains (chosen_before catalogue turns (suc k)) (nth (listed catalogue) wish.1)
-  -- what the first turns chose is reached from the request and their accepted wishes
+  -- the choices of the first turns are reached from the request and their accepted wishes
   pub reached : (k : ℕ) → k < length turns → AreReached catalogue request (chosen_before catalogue turns (suc k)) (wishes_in (turns_of (listed catalogue) (take (suc k) turns)))
-  -- the step of a wish that is left out bars it, with what the turns before it chose; so it isn't chosen
+  -- the step of a wish that is left out forbids it, with the choices of the turns before it; so it
+  -- isn't chosen
   pub barred : (k : ℕ) (wish : ℕ × VersionNo) (step : ℕ) → slice_get turns k ≡ Some (LeftOut wish step) → IsTrue (step_bars catalogue request steps (chosen_before catalogue turns k) (nth (listed catalogue) wish.1) step)
   -- each step is allowed after those before it, in a report that may rest on each line
   pub proof : IsProof catalogue request every_line every_line steps
@@ -77,16 +78,16 @@ line_of (says.Entry v place n) = n
 line_of (says.Wished v n) = n
 line_of (says.LeftOut v n step) = n
 
--- The report lists what the turns chose, each version with the line that asked for it, and the wishes that they leave
--- out, and the judge accepts it.
+-- The report lists the choices of the turns, each version with the line that asked for it, and the
+-- wishes that they leave out. The judge accepts it.
 pub record IsInstallOf (catalogue request : List Line) (turns : List Turn) (steps : List Step) (r : Report) : Type 0 where
   -- it is an install report with these steps
   pub lines : List AnswerLine
   pub installs : r ≡ Install lines steps
   pub report : IsReport r
-  -- the judge accepts it, so what it claims is true
+  -- the judge accepts it, so its claim is true
   pub accepted : IsAccepted catalogue request (report_lines r)
   pub claim : IsClaimTrue catalogue request r
-  -- its lines are in listing order, and its entries are what was chosen
+  -- its lines are in listing order, and its entries are the chosen versions
   pub order : AreTurns catalogue request [] [] (turns_of (listed catalogue) turns) (map answer_of lines)
   pub entries : (v : Version) → Contains (all_chosen catalogue turns) v ↔ Contains (entries_of (map answer_of lines)) v

@@ -86,7 +86,7 @@ turn_taken catalogue request chosen wish mine first begun after wished h complet
 pub turns_next : (versions : List Version) (turns : List Turn) (i : ℕ) (t : Turn) → i < length turns → t ≡ get_or turns i t → turns_of versions (take (i + 1) turns) ≡ turns_of versions (take i turns) ++ turn_of versions t ∷ []
 turns_next versions turns i t lt is = ap (turns_of versions) (take_more turns i t lt ∙ ap (λ (x : Turn). take i turns ++ x ∷ []) (sym is)) ∙ map-append (turn_of versions) (take i turns) (t ∷ [])
 
--- what the turns up to turn i choose
+-- the choices of the turns up to turn i
 pub chosen_more : (versions : List Version) (turns : List Turn) (i : ℕ) (t : Turn) → i < length turns → t ≡ get_or turns i t
     → chosen_in (turns_of versions (take (i + 1) turns)) ≡ chosen_in (turns_of versions (take i turns)) ++ chosen_by (turn_of versions t)
 chosen_more versions turns i t lt is =
@@ -131,7 +131,7 @@ all_accepted versions request chosen [] h = tt
 all_accepted versions request chosen (t ∷ turns) h =
     (turn_accepts versions request (chosen ++ chosen_by (turn_of versions t)) t h.0, all_accepted versions request (chosen ++ chosen_by (turn_of versions t)) turns h.1)
 
--- What the turns up to turn i list.
+-- The answers of the turns up to turn i.
 pub record ListsTurns (catalogue request : List Line) (turns : List Turn) (i : ℕ) (x : Listing) : Type 0 where
   pub listing : IsListing catalogue request x (chosen_in (turns_of (listed catalogue) (take i turns)))
   pub turns_listed : AreTurns catalogue request [] [] (turns_of (listed catalogue) (take i turns)) (answers_in catalogue x)
@@ -149,7 +149,7 @@ lists_more catalogue request turns i t before after lt is h took =
           (subst (λ (ts : List order.Turn). IsOneTurn catalogue request (chosen_in ts) (entries_in catalogue before) (turn_of vs t) took.others) next took.is_turn)));
     }
 
--- an element that is there, whatever the default
+-- an element in range, by any default
 pub any_default : {X : Type 0} (xs : List X) (i : ℕ) (d e : X) → i < length xs → get_or xs i d ≡ get_or xs i e
 any_default [] i d e lt = absurd (omega (arith, lt))
 any_default (x ∷ xs) zero d e lt = refl

@@ -34,7 +34,7 @@ pub ordered_weaker : {X : Type 0} (R S : X → X → Type 0) (xs : List X) → (
 ordered_weaker R S [] w h = tt
 ordered_weaker R S (x ∷ xs) w h = (λ y c. w x y (h.0 y c), ordered_weaker R S xs w h.1)
 
--- what stands below an element
+-- the part below an element
 pub ordered_below : {X : Type 0} (R : X → X → Type 0) (above : List X) (r : X) (below : List X) → AreOrdered R (above ++ r ∷ below) → (y : X) → Contains below y → R r y
 ordered_below R [] r below h y c = h.0 y c
 ordered_below R (x ∷ above) r below h y c = ordered_below R above r below h.1 y c
@@ -123,7 +123,7 @@ precedes_new catalogue entries v k (answers.ForRequest n) asked = tt
 precedes_new catalogue entries v k (answers.ForVersion u m) asked = inl (entries, v ∷ [], refl, asked.0, first_element v [])
 precedes_new catalogue entries v k (answers.Wished n) asked = absurd asked
 
--- the line stands in the catalogue, and is the version's
+-- the line is in the catalogue, and is the version's
 line_for : (catalogue : List Line) (n : VersionNo) (v : Version) (numbers : List ℕ) (r : Reason) → slice_get (listed catalogue) n.0 ≡ Some v → AreAll numbers (SaysOf (listed catalogue) catalogue n.0 BelongsTo)
     → Contains (lines_for n numbers) r → (k : ℕ) × (reason_of (listed catalogue) r ≡ answers.ForVersion v k) × (owner_of catalogue k ≡ Some v)
 line_for catalogue n v numbers r at all c =

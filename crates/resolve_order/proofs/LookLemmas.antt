@@ -1,4 +1,4 @@
--- What is left to look at, after a look at a line.
+-- The remaining lines, after a look at one.
 use Rattle.std.proofs.Common.{◌≡◌, inl, inr, ℕ, ◌≤◌, List, [], ◌∷◌, ◌++◌, length, drop, reverse, Some, sym, ap, subst, ◌∙◌, append_assoc, length-append, arith}
 use Rattle.std.specs.Prelude.{Contains}
 use Rattle.std.proofs.lemmas.List.{append-nil, drop-append-le}
@@ -20,7 +20,7 @@ use Rattle.resolve_order.proofs.Elements.{no_element}
 use Rattle.resolve_order.proofs.FollowLemmas.{next_found, nothing_found}
 use Rattle.resolve_order.proofs.RemainLemmas.{remains_less, remains_more, remains_split, remains_weaker}
 
--- The line was taken from what was left.
+-- The line was one of the remaining ones.
 pub record IsTaken (lines : List Reason) (before after : Places) (r : Reason) : Type 0 where
   pub waiting : after.waiting ≡ before.waiting
   pub left : left_of before lines ≡ r ∷ left_of after lines

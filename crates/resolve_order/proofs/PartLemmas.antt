@@ -1,4 +1,4 @@
--- What the first turns list, and what stands above a wish that is left out.
+-- The answers of the first turns, and the entries above a wish that is left out.
 use Rattle.std.proofs.Common.{◌≡◌, ◌↔◌, ℕ, Bool, true, false, if◌then◌else◌, List, [], ◌∷◌, ◌++◌, Option, Some, None, refl, sym, ap, subst, ◌∙◌, append_assoc}
 use Rattle.std.specs.Prelude.{Contains, ⊤}
 use Rattle.std.proofs.lemmas.List.{append-nil}
@@ -10,7 +10,7 @@ use Rattle.resolve_order.proofs.TurnLemmas.{AllAccepted, after_both, exact_entri
 
 -- ---- the first turns
 
--- What the first turns list, and then what the others do.
+-- The answers of the first turns, and then those of the others.
 pub record AreParts (catalogue request : List Line) (chosen entries : Set) (front back : List Turn) (answers : List Answer) : Type 0 where
   pub first : List Answer
   pub rest : List Answer
@@ -42,7 +42,8 @@ pub accepted_parted : (request : List Line) (chosen : Set) (front back : List Tu
 accepted_parted request chosen [] back h = tt
 accepted_parted request chosen (t ∷ front) back h = (h.0, accepted_parted request (chosen ++ chosen_by t) front back h.1)
 
--- Where what the first turns chose is reached by their wishes, what they list is exactly that.
+-- Where the choices of the first turns are reached by their wishes, their entries are exactly these
+-- choices.
 pub exact_before : (catalogue request : List Line) (front back : List Turn) (answers : List Answer) (h : AreTurns catalogue request [] [] (front ++ back) answers) → AllAccepted request [] (front ++ back) → AreReached catalogue request (chosen_in front) (wishes_in front)
     → (v : Version) → Contains (chosen_in front) v ↔ Contains (entries_of (turns_parted catalogue request [] [] front back answers h).first) v
 exact_before catalogue request front back answers h accepted reached =
@@ -78,7 +79,7 @@ turn_entries : (catalogue request : List Line) (chosen entries : Set) (wish : Op
 turn_entries catalogue request chosen entries wish answers turn =
     subst AreEntries (sym turn.wish_first) (both_entries (wish_entry wish entries) turn.others (wish_entries wish entries) (order_entries catalogue request chosen (entries ++ entries_of (wish_entry wish entries)) turn.others turn.in_order))
 
--- entries stand above a wish that is left out
+-- entries above a wish that is left out
 entries_above : (first rest above below : List Answer) (v : Version) (n step : ℕ) → AreEntries first → first ++ rest ≡ above ++ LeftOut v n step ∷ below → (more : List Answer) × (above ≡ first ++ more) × (rest ≡ more ++ LeftOut v n step ∷ below)
 entries_above [] rest above below v n step are is = (above, refl, is)
 entries_above (Entry w reason ∷ first) rest [] below v n step are is = absurd cc
@@ -89,7 +90,7 @@ entries_above (Entry w reason ∷ first) rest (a ∷ above) below v n step are i
     (r.0, ap (λ (x : Answer). x ∷ above) head ∙ ap (λ (xs : List Answer). Entry w reason ∷ xs) r.1, r.2)
 entries_above (LeftOut w m k ∷ first) rest above below v n step are is = absurd are
 
--- The line is that of a turn, and the turns before it list what stands above.
+-- The line is that of a turn, and the turns before it list the lines above.
 pub record IsTurnsLine (catalogue request : List Line) (chosen entries : Set) (turns : List Turn) (above : List Answer) (v : Version) (n step : ℕ) : Type 0 where
   pub front : List Turn
   pub back : List Turn

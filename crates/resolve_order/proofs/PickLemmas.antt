@@ -228,7 +228,7 @@ found_first versions chosen entries alternatives i s n lt is before here =
         ap specs_of (sym (take-append-drop i alternatives) ∙ ap (λ (ss : _). take i alternatives ++ ss) (drop_more alternatives i s lt ∙ ap (λ (x : code.Spec). x ∷ drop (i + 1) alternatives) (sym is)))
         ∙ map-append spec_of (take i alternatives) (s ∷ drop (i + 1) alternatives)
 
--- ---- what a need gives
+-- ---- the version of a need
 
 pub gives_need : (versions : List Version) (chosen entries : Set) (alternatives : List Spec) (condition : Option Cond) (n : VersionNo) → IsFirstMatch versions chosen entries alternatives (Some n) → condition_holds condition entries ≡ true
     → IsLook versions chosen entries (Some (Needs alternatives condition)) (look.Gives n)
@@ -256,6 +256,6 @@ spent_need versions chosen entries alternatives condition none = λ ss c w e any
 pub no_need : (chosen entries : Set) (line : Line) → ((ss : List Spec) (c : Option Cond) → line ≡ Needs ss c → ⊥) → IsSpent chosen entries (Some line)
 no_need chosen entries line none = λ ss c w e any in_chosen. absurd (none ss c (let is : line ≡ Needs ss c = cc in is))
 
--- a line that states no rule
+-- a line without a rule
 pub no_rule : (chosen entries : Set) (line : Option Line) → ((l : Line) → line ≡ Some l → is_rule l ≡ false) → IsSpent chosen entries line
 no_rule chosen entries line none = λ ss c w e any in_chosen. absurd (false≢true (sym (none (Needs ss c) e)))

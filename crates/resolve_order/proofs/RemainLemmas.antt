@@ -36,7 +36,7 @@ remains_less P (x ∷ xs) (w ∷ ws) r ts p (inl h) =
     inl (ws ++ ts, ap (λ (y : _). y ∷ (ws ++ ts)) same, remains_less P xs ws r ts p (subst (Remains P xs) rest h.2))
 remains_less P (x ∷ xs) ws r ts p (inr h) = inr (h.0, remains_less P xs ws r ts p h.1)
 
--- What stands before an element that remains was dropped, or remains before it.
+-- An element before one that remains was dropped, or remains before it.
 pub record Split {X : Type 0} (P : X → Type 0) (xs ws : List X) (r : X) : Type 0 where
   pub above : List X
   pub below : List X

@@ -1,4 +1,4 @@
--- What one turn after the other lists.
+-- The answers of one turn after the other.
 use Rattle.std.proofs.Common.{◌≡◌, ◌↔◌, inl, inr, ℕ, Bool, true, false, if◌then◌else◌, List, [], ◌∷◌, ◌++◌, Option, Some, None, refl, sym, ap, subst, ◌∙◌, append_assoc}
 use Rattle.std.specs.Prelude.{Contains, ⊤}
 use Rattle.std.proofs.lemmas.Bool.{cases_Bool}
@@ -167,7 +167,7 @@ turn_complete catalogue request chosen entries (Chose wish more) answers turn do
 turn_complete catalogue request chosen entries (LeavesOut wish step) answers is done =
     subst (λ (set : Set). IsComplete catalogue request set (entries ++ entries_of answers)) (sym (append-nil chosen)) (subst (IsComplete catalogue request chosen) (sym (after_left_out entries wish step answers is)) done)
 
--- What the turns list is chosen, has their wishes, and is complete.
+-- The entries of the turns are chosen, have their wishes, and are complete.
 pub record IsListed (catalogue request : List Line) (chosen entries : Set) (turns : List Turn) (answers : List Answer) : Type 0 where
   pub within : Within (entries ++ entries_of answers) (chosen ++ chosen_in turns)
   pub wishes : (v : Version) → Contains (wishes_in turns) v → Contains (entries ++ entries_of answers) v

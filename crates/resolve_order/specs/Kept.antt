@@ -1,4 +1,5 @@
--- What the lister keeps: the chosen versions by their packages, the lines in their order, and those left to look at.
+-- The state of the lister: the chosen versions by their packages, the lines in their order, and
+-- those left to look at.
 use Rattle.std.specs.Prelude.{◌≡◌, ℕ, zero, suc, ◌<◌, ◌≤◌, IsTrue, Bool, true, false, not, ⊤, ◌⊎◌, List, [], ◌∷◌, ◌++◌, length, map, reverse, drop, Option, Some, None, Contains, slice_get}
 use Rattle.std.specs.Option.{option_map_or}
 use Rattle.std.specs.BTreeMap.{get_by_text}
@@ -74,7 +75,7 @@ IsFirstMatch versions chosen entries alternatives (Some n) = (v : Version) × (s
 
 -- ---- one line
 
--- The rule is what the line states, or the line states none.
+-- The rule is that of the line, or the line has none.
 abbrev pub IsRuleAt : Option Line → Option Rule → Type 0
 IsRuleAt line None = (l : Line) → line ≡ Some l → is_rule l ≡ false
 IsRuleAt line (Some r) = (l : Line) × (line ≡ Some l) × ((versions : List Version) × (owner : Option Version) × States versions r owner l)
@@ -101,7 +102,7 @@ IfGives (look.Gives n) P = P n
 
 -- ---- all lines
 
--- Each stands before all after it.
+-- Each is before all after it.
 abbrev pub AreOrdered : {X : Type 0} → (X → X → Type 0) → List X → Type 0
 AreOrdered R [] = ⊤
 AreOrdered R (x ∷ xs) = ((y : _) → Contains xs y → R x y) × AreOrdered R xs
@@ -124,7 +125,7 @@ pub record IsListing (catalogue request : List Line) (x : Listing) (chosen : Set
   pub lines : AreLines catalogue request (entries_in catalogue x) x.lines.items
   pub numbered : AreNumbered (listed catalogue) x.answers.items
 
--- ---- what is left to look at
+-- ---- the lines left to look at
 
 -- the lines that weren't looked at since the last entry
 abbrev pub left_of : Places → List Reason → List Reason
@@ -155,7 +156,7 @@ IsFound catalogue request x chosen None = IsComplete catalogue request chosen (e
 IsFound catalogue request x chosen (Some e) = (e.version.0 < length (listed catalogue))
     × IsNext catalogue request chosen (entries_in catalogue x) (reason_of (listed catalogue) e.reason) (nth (listed catalogue) e.version)
 
--- ---- what a listing comes to
+-- ---- the result of a listing
 
 -- The second has these answers besides those of the first, each the next.
 pub record Extends (catalogue request : List Line) (chosen : Set) (before after : Listing) : Type 0 where
@@ -164,7 +165,7 @@ pub record Extends (catalogue request : List Line) (chosen : Set) (before after 
   pub more : answers_in catalogue after ≡ answers_in catalogue before ++ others
   pub in_order : AreInOrder catalogue request chosen (entries_in catalogue before) others
 
--- The second has what the turn lists besides the answers of the first.
+-- The second has the answers of the turn after those of the first.
 pub record TakesTurn (catalogue request : List Line) (chosen : Set) (t : Turn) (before after : Listing) : Type 0 where
   pub listing : IsListing catalogue request after chosen
   pub others : List answers.Answer

@@ -33,8 +33,8 @@ pub record MayGive (catalogue request : List Line) (chosen entries : Set) (reaso
 abbrev pub IsEarlier : Set → Version → Version → Type 0
 IsEarlier entries u w = (above : Set) × (below : Set) × (entries ≡ above ++ below) × Contains above u × Contains below w
 
--- The first line stands before the second: lines of the request by their numbers, then those of the entries in listing
--- order, those of one entry by their numbers.
+-- The first line is before the second: lines of the request by their numbers, then those of the
+-- entries in listing order, those of one entry by their numbers.
 abbrev pub Precedes : Set → Reason → Reason → Type 0
 Precedes entries (ForRequest m) (ForRequest n) = m < n
 Precedes entries (ForRequest m) (ForVersion w n) = ⊤
@@ -70,18 +70,19 @@ IsComplete catalogue request chosen entries = (reason : Reason) (v : Version) �
 
 -- ---- turns
 
--- A turn of a search. Chose has its accepted wish, by its line of the request, and the versions that it chose besides
--- those of the turns before it. LeavesOut has a wish that is left out, and the step of the report that bars it.
+-- A turn of a search. Chose has its accepted wish, by its line of the request, and the versions
+-- that it chose besides those of the turns before it. LeavesOut has a wish that is left out, and
+-- the step of the report that forbids it.
 pub data Turn : Type 0 where
   Chose : Option (ℕ × Version) → Set → Turn
   LeavesOut : ℕ × Version → ℕ → Turn
 
--- what a turn chose
+-- the choices of a turn
 abbrev pub chosen_by : Turn → Set
 chosen_by (Chose wish chosen) = chosen
 chosen_by (LeavesOut wish step) = []
 
--- what all turns chose
+-- the choices of all turns
 abbrev pub chosen_in : List Turn → Set
 chosen_in turns = flat_map chosen_by turns
 
@@ -90,20 +91,20 @@ abbrev pub wish_entry : Option (ℕ × Version) → Set → List Answer
 wish_entry None entries = []
 wish_entry (Some w) entries = if is_member w.1 entries then [] else Entry w.1 (Wished w.0) ∷ []
 
--- What a turn lists, where these versions are chosen by its end: its wish, then one after the other, until no line gives
--- anything more.
+-- The answers of a turn, where these versions are chosen by its end: its wish, then one after the
+-- other, until no line gives anything more.
 pub record IsTurn (catalogue request : List Line) (chosen entries : Set) (wish : Option (ℕ × Version)) (answers : List Answer) : Type 0 where
   pub others : List Answer
   pub wish_first : answers ≡ wish_entry wish entries ++ others
   pub in_order : AreInOrder catalogue request chosen (entries ++ entries_of (wish_entry wish entries)) others
   pub complete : IsComplete catalogue request chosen (entries ++ entries_of answers)
 
--- the same of each turn: one that leaves a wish out tells that alone
+-- the same of each turn: one that leaves a wish out lists that alone
 abbrev pub IsOneTurn : List Line → List Line → Set → Set → Turn → List Answer → Type 0
 IsOneTurn catalogue request chosen entries (Chose wish more) answers = IsTurn catalogue request chosen entries wish answers
 IsOneTurn catalogue request chosen entries (LeavesOut wish step) answers = answers ≡ LeftOut wish.1 wish.0 step ∷ []
 
--- what the turns list, one after the other
+-- the answers of the turns, one after the other
 abbrev pub AreTurns : List Line → List Line → Set → Set → List Turn → List Answer → Type 0
 AreTurns catalogue request chosen entries [] answers = answers ≡ []
 AreTurns catalogue request chosen entries (t ∷ turns) answers = (first : List Answer) × (rest : List Answer) × (answers ≡ first ++ rest)

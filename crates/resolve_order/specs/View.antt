@@ -1,4 +1,4 @@
--- What answers and turns say, without the numbers of versions.
+-- Answers and turns, without the numbers of versions.
 use Rattle.std.specs.Prelude.{◌≡◌, ◌<◌, ℕ, List, [], ◌∷◌, ◌++◌, map, length, ⊤, Option, Some, None, Contains, slice_get}
 use Rattle.std.specs.Option.{option_map}
 use Rattle.resolvo_text.specs.Line.{Version, Line}
@@ -45,7 +45,7 @@ abbrev pub IsAccepted : List Version → List Line → Set → Option (ℕ × Ve
 IsAccepted versions request chosen None = ⊤
 IsAccepted versions request chosen (Some w) = WishesAt versions request w × Contains chosen (nth versions w.1)
 
--- A wish that is accepted is among what is chosen by the turn's end, and one that is left out is a wish.
+-- An accepted wish is among the choices by the turn's end, and one that is left out is a wish.
 abbrev pub IsWishOf : List Version → List Line → Set → Turn → Type 0
 IsWishOf versions request chosen (turn.Chose wish more) = IsAccepted versions request chosen wish
 IsWishOf versions request chosen (turn.LeftOut wish step) = WishesAt versions request wish

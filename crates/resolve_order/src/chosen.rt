@@ -1,5 +1,6 @@
 //! The chosen versions by their packages, and which of them are entries.
-//! It holds two sets (`Holds` of specs/Kept.antt), and answers what a line gives. `install_order` keeps it.
+//! Two sets (`Holds` of specs/Kept.antt), with the version that a line gives. `install_order` keeps
+//! it.
 
 ghost use Rattle.std.specs.Prelude.{◌≡◌, ◌++◌, ◌∷◌, [], ◌+◌, true, Contains, slice_get, Some, List, Option, IfOk, OnOk, IfSome};
 ghost use Rattle.std.specs.BTreeMap.{get_by_text};
@@ -15,7 +16,7 @@ use resolvo_catalogue_core::{Catalogue, Cond, Rule, Spec, VersionNo};
 use std::alloc::{AllocError, Global};
 use std::collections::BTreeMap;
 
-/// What a line gives now.
+/// The result of a line.
 #[derive(Clone, Copy, Debug)]
 pub enum Look {
     /// Nothing: each chosen version that it matches is an entry.
@@ -207,7 +208,7 @@ impl Chosen {
         }
     }
 
-    /// What a need gives.
+    /// The result of a need.
     fn look_at_need(
         &self,
         catalogue: &Catalogue,
@@ -232,7 +233,7 @@ impl Chosen {
         }
     }
 
-    /// What the line of this rule gives. A rule that is no need gives nothing.
+    /// The result of the line of this rule. A rule that is no need gives nothing.
     fn look_at_rule(&self, catalogue: &Catalogue, rule: &Rule) -> Look
         ensures unlisted { IfGives result (λ n. is_unlisted self.now.listed.items n.0 ≡ true) }
         ensures looked { (chosen entries : Set) (versions : List says.Version)
@@ -252,7 +253,7 @@ impl Chosen {
         }
     }
 
-    /// What the line of this rule gives. A line without a rule gives nothing.
+    /// The result of the line of this rule. A line without a rule gives nothing.
     pub fn look(&self, catalogue: &Catalogue, rule: Option<&Rule>) -> Look
         ensures unlisted { IfGives result (λ n. is_unlisted self.now.listed.items n.0 ≡ true) }
         ensures looked { (chosen entries : Set) (line : Option says.Line)

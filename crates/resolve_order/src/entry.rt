@@ -21,7 +21,8 @@ pub struct Entry {
     pub reason: Reason,
 }
 
-/// A line of the report: an entry, or a wish of this line of the request that is left out, since the step bars it.
+/// A line of the report: an entry, or a wish of this line of the request that is left out, since
+/// the step forbids it.
 #[derive(Clone, Copy, Debug)]
 pub enum Answer {
     Entry(Entry),
@@ -40,7 +41,7 @@ pub enum Turn<'a> {
         wish: Option<(u32, VersionNo)>,
         chosen: &'a [VersionNo],
     },
-    /// A wish that is left out. The step of the report, from 1, bars it.
+    /// A wish that is left out. The step of the report, from 1, forbids it.
     LeftOut {
         wish: (u32, VersionNo),
         step: u32,

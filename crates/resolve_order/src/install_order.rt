@@ -1,7 +1,8 @@
 //! Lists the chosen versions in the order of the lines that ask for them, and the wishes that are left out in their turns.
 //!
-//! A turn looks at the lines in their order, and lists what a line gives before it goes on. Lines that wait for their
-//! condition are looked at again after each entry. Called by who writes the report of a search.
+//! A turn looks at the lines in their order, and lists the version that a line gives before it goes
+//! on. Lines that wait for their condition are looked at again after each entry. Called by the
+//! writer of the report of a search.
 
 ghost use Rattle.std.specs.Prelude.{◌≡◌, ◌↔◌, ◌++◌, ◌∷◌, [], ◌+◌, ◌<◌, length, true, List, Option, Contains, map, slice_get, Some, IfOk, IfSome, OnOk};
 ghost use Rattle.std.specs.Option.{option_copied, option_map};
@@ -58,7 +59,7 @@ fn push_lines(
     Ok(())
 }
 
-/// What the line states, if it states a rule.
+/// The rule of the line, if it has one.
 fn rule_at<'a>(catalogue: &'a Catalogue, request: &'a Request, reason: Reason) -> Option<&'a Rule>
     ensures { IsRuleAt
         (line_named catalogue.now request.now.lines (reason_of (listed catalogue.now) reason))
@@ -110,7 +111,7 @@ impl Listing {
         Ok(())
     }
 
-    /// The next entry: what the first line that may give a version gives.
+    /// The next entry: the version of the first line that gives one.
     fn next(
         &self,
         catalogue: &Catalogue,
@@ -225,7 +226,7 @@ impl Listing {
         Ok(())
     }
 
-    /// Lists what was chosen in a turn, its accepted wish first.
+    /// Lists the versions chosen in a turn, its accepted wish first.
     fn take_chosen(
         &mut self,
         alloc: Global,
@@ -251,7 +252,7 @@ impl Listing {
         Ok(())
     }
 
-    /// Lists what a turn lists.
+    /// Lists the entries of a turn, or its left-out wish.
     fn take_turn(
         &mut self,
         alloc: Global,
@@ -278,7 +279,7 @@ impl Listing {
     }
 }
 
-/// What the turns of a search list, in order: the entries, and the wishes that are left out.
+/// The answers of the turns of a search, in order: the entries, and the wishes that are left out.
 pub fn list(
     alloc: Global,
     catalogue: &Catalogue,

@@ -1,4 +1,4 @@
--- The judge accepts the refused report whose steps tell a proof, and its claim is true.
+-- The judge accepts the refused report whose steps write a proof, and its claim is true.
 use Rattle.std.proofs.Common.{◌≡◌, ◌⊎◌, inl, inr, ℕ, zero, suc, ◌+◌, ◌<◌, true, List, [], ◌∷◌, ◌++◌, map, take, length, Some, refl, sym, ap, subst, ◌∙◌}
 use Rattle.std.specs.Prelude.{◌==◌, Contains, slice_get}
 use Rattle.std.specs.List.{AllZip, flat_map}
@@ -31,7 +31,7 @@ use Rattle.resolve_refusal.proofs.FollowLemmas.{zip_right, rests, lines_in, line
 
 -- ---- lists, place by place
 
--- an item of two lists is one of the first, or is behind it
+-- an item of two lists is in the first or in the second
 get_parts : {X : Type 0} (xs ys : List X) (n : ℕ) (x : X) → slice_get (xs ++ ys) n ≡ Some x → Contains xs x ⊎ ((m : ℕ) × (slice_get ys m ≡ Some x) × (take n (xs ++ ys) ≡ xs ++ take m ys))
 get_parts [] ys n x e = inr (n, e, refl)
 get_parts (y ∷ xs) ys zero x e = (let same : y ≡ x = one_some e in inl (contains_from_at (y ∷ xs) x zero (ap (λ z. Some z) same)))
@@ -110,7 +110,7 @@ number_within lines (suc k) l e = (k, refl, slice_get_within lines k l e)
 module _ (catalogue : List Line) (said : ReadRequest) (provider : Provider) (steps : List (ProofStep NameId SolvableId)) (refuted : Refutes catalogue said provider steps)
     (in_catalogue in_request : List ℕ) (written : List Step) (each : AllZip (IsToldBy catalogue provider.ids said.lines) steps written)
     (named : AreAll in_catalogue (IsNamedBy text.Catalogue (length catalogue) written)) (asked : AreAll in_request (IsNamedBy text.Request (length said.lines) written)) where
-  -- a named line states a rule
+  -- a named line has a rule
   states : (of : Text) (numbers : List ℕ) (count n : ℕ) → AreAll numbers (IsNamedBy of count written) → Contains numbers n → states_rule (line_at (lines_in catalogue said.lines of) n) ≡ true
   states of numbers count n all h =
       let (k, is, below, (t, there, rests_on)) = (all.all n).0 h in
@@ -159,7 +159,7 @@ module _ (catalogue : List Line) (said : ReadRequest) (provider : Provider) (ste
   pub claimed : IsClaimTrue catalogue said.lines (Refused in_catalogue in_request written [])
   claimed = claim_true catalogue said.lines (Refused in_catalogue in_request written []) accepted
 
--- A refused report of the proof, whose steps tell the proof's, is a refusal that the judge accepts.
+-- A refused report whose steps write the proof's is a refusal that the judge accepts.
 pub refusal_of : (catalogue : List Line) (said : ReadRequest) (provider : Provider) (steps : List (ProofStep NameId SolvableId)) → Refutes catalogue said provider steps → (r : Report) (refused : IsRefusedBy catalogue said.lines provider.ids steps r)
     → AllZip (IsToldBy catalogue provider.ids said.lines) steps refused.written → IsReport r → IsRefusalOf catalogue said.lines provider.ids steps r
 refusal_of catalogue said provider steps refuted r refused each report = record {

@@ -1,4 +1,5 @@
--- The line by which a version is barred: it is there where a rule bars the version, and the step that names it says so.
+-- The line that forbids a version: it exists where a rule forbids the version, and the step that
+-- names it is right.
 use Rattle.std.proofs.Common.{◌≡◌, ◌==◌, ◌+◌, ◌<◌, ◌⊎◌, inl, inr, ℕ, zero, suc, Bool, true, false, List, [], ◌∷◌, length, Option, Some, None, refl, sym, ap, subst, ◌∙◌, arith}
 use Rattle.std.specs.Prelude.{◌||◌, not, ◌≢◌, unwrap_or, Contains, slice_get}
 use Rattle.std.specs.Bool.{Decides}
@@ -40,7 +41,7 @@ use Rattle.resolve_refusal.specs.declared.lines.BarringLine.{BarringLine}
 use Rattle.resolve_refusal.specs.declared.lines.BarringLine.TheVariants as barring
 use Rattle.resolve_refusal.specs.Refusal.{IsBarredAs, IsBarredBy, IsLockStep}
 
--- ---- what the lines say
+-- ---- the rules of the lines
 
 lock_is : (v : Version) (owner : Option Version) (l : Line) → LocksAnother v owner l → (w : Version) × (l ≡ Lock w) × (w.name ≡ v.name) × (w.number ≢ v.number)
 lock_is v owner (Lock w) h = (w, refl, h.0, h.1)
@@ -77,22 +78,22 @@ unknown_is v owner (Wish w) h = absurd h
 
 -- ---- the step
 
--- a lock bars
+-- a lock forbids
 pub lock_bars : (catalogue : List Line) (v : Version) (t : told.Step) → (line : ℕ) × IsLockStep catalogue v t line → IsBarredBy catalogue v t
 lock_bars catalogue v t (line, lock) = (line, inl lock)
 
--- what is barred with a word is barred
+-- a version that is forbidden with a word is forbidden
 pub word_bars : (catalogue : List Line) (v : Version) (word : List ℕ) (t : told.Step) → IsBarredAs catalogue v word t → IsBarredBy catalogue v t
 word_bars catalogue v word t (line, inl (is, at), first) = (line, inr (inl (is, (Exclude v word, at, refl))))
 word_bars catalogue v word t (line, inr (is, (at, own)), first) = (line, inr (inr (is, (Unknown word, at, own))))
 
--- what the step that bars names is a line that states a rule
+-- the step that forbids names a line with a rule
 pub bar_stated : (catalogue : List Line) (v : Version) (t : told.Step) → IsBarredBy catalogue v t → (line : ℕ) × (l : Line) × (line_at catalogue line ≡ Some l) × (is_rule l ≡ true) × ((of : Text) → line_in of t ≡ in_catalogue of line)
 bar_stated catalogue v t (line, inl (is, (l, at, other))) = (let (w, same, name, number) = lock_is v (owner_of catalogue line) l other in (line, l, at, ap is_rule same, λ of. ap (line_in of) is))
 bar_stated catalogue v t (line, inr (inl (is, (l, at, out)))) = (let (reason, same) = exclude_is v (owner_of catalogue line) l out in (line, l, at, ap is_rule same, λ of. ap (line_in of) is))
 bar_stated catalogue v t (line, inr (inr (is, (l, at, unknown)))) = (let (reason, same, own) = unknown_is v (owner_of catalogue line) l unknown in (line, l, at, ap is_rule same, λ of. ap (line_in of) is))
 
--- whatever is the same for the three steps that bar a version
+-- a value that is the same for the three steps that forbid a version
 pub by_bar : {X : Type 0} (catalogue : List Line) (v : Version) (t : told.Step) (f : told.Step → X) (x : X) → ((line : ℕ) → f (told.Lock line v) ≡ x) → ((line : ℕ) → f (told.Exclude line) ≡ x) → ((line : ℕ) → f (told.Unknown line) ≡ x) → IsBarredBy catalogue v t → f t ≡ x
 by_bar catalogue v t f x a b c (line, inl (is, other)) = ap f is ∙ a line
 by_bar catalogue v t f x a b c (line, inr (inl (is, out))) = ap f is ∙ b line
@@ -120,7 +121,7 @@ bar_clause catalogue request v t here (line, inr (inr (is, (l, at, unknown)))) =
     let (reason, same, own) = unknown_is v (owner_of catalogue line) l unknown in
     ap (judge.clause_of catalogue request) is ∙ (ap (judge.unknown_clause (owner_of catalogue line)) (at ∙ ap (λ (x : Line). Some x) same) ∙ ap (λ (o : Option Version). judge.unknown_clause o (Some (Unknown reason))) own)
 
--- ---- a rule that bars a version is stated by a line
+-- ---- a rule that forbids a version has a line
 
 module _ (catalogue : List Line) (p : Provider) (over : IsOver catalogue p) (same : SolvableId → SolvableId → Bool) (exact : IsExact same) where
   apart : TellsApart same
@@ -165,16 +166,16 @@ module _ (catalogue : List Line) (p : Provider) (over : IsOver catalogue p) (sam
     | inr (word, has) ↦ (let (k, at) = at_from_contains catalogue (Exclude v word) has in free (suc k) (inr (λ m lock. free m (inl lock), (Exclude v word, at, refl))))
   ]
 
-  -- a version that no line locks out or excludes isn't barred
+  -- a version that no line locks out or excludes isn't forbidden
   pub free_unbarred : (s : SolvableId) (v : Version) → slice_get (listed catalogue) s.raw ≡ Some v → IsFree catalogue v → is_barred same (packages_of p) s ≡ false
   free_unbarred s v e free = elim (cases_Bool (is_barred same (packages_of p) s)) [
     | inl barred ↦ absurd (free_bars s v e barred free)
     | inr none ↦ none
   ]
 
-  -- ---- what a rule bars is a version
+  -- ---- a forbidden solvable is a version
 
-  -- a solvable of which something is told is a version
+  -- a solvable with dependencies is a version
   pub told_version : (s : SolvableId) → (told_at p s ≡ no_lines → ⊥) → (v : Version) × (slice_get (listed catalogue) s.raw ≡ Some v)
   told_version s there = go (slice_get p.told s.raw) refl
     where
@@ -190,7 +191,7 @@ module _ (catalogue : List Line) (p : Provider) (over : IsOver catalogue p) (sam
   candidates_are [] = refl
   candidates_are (x ∷ xs) = refl
 
-  -- what is excluded is a candidate
+  -- an excluded solvable is a candidate
   excluded_in : (ss : List SolvableId) (e : SolvableId × StringId) → Contains (pool.listing_or_empty (listing_if_any p ss)).excluded e → Contains ss e.0
   excluded_in [] e h = absurd (contains_none e h)
   excluded_in (x ∷ xs) e h =
@@ -211,7 +212,7 @@ module _ (catalogue : List Line) (p : Provider) (over : IsOver catalogue p) (sam
       by_bar (Bar.word why) (inl c) = among (excluded_in ss (s, why) c)
       by_bar (Bar.word why) (inr lost) = told_version s (λ e. false≢true (sym (ap (λ (t : VersionDependencies). is_unknown (needs_of t t.unknown)) e) ∙ ap is_unknown lost))
 
-  -- ---- what a rule bars is barred by a line
+  -- ---- a version that a rule forbids is forbidden by a line
 
   -- the solvables of its package
   abbrev beside : SolvableId → List SolvableId
@@ -243,7 +244,7 @@ module _ (catalogue : List Line) (p : Provider) (over : IsOver catalogue p) (sam
   reason_said t None reasons why h e = absurd cc
   reason_said t (Some w) reasons why h e = (let same_word : w ≡ why = cc in (h.0, h.1, subst (λ (x : StringId). IsWord p.ids x h.0) same_word h.2))
 
-  -- what bars with a reason is a line that does with its word
+  -- a solvable forbidden with a reason has a line with the reason's word
   pub word_there : (why : StringId) (s : SolvableId) (v : Version) → slice_get (listed catalogue) s.raw ≡ Some v → KeepsOut same (packages_of p) (Bar.word why) s → (n : ℕ) × BarsAs catalogue v (word_text p.ids why) n
   word_there why s v e (inl c) =
       let there : Contains (flat_map (exclusion_of p) (beside s)) (s, why) = subst (λ (x : pool.Listing SolvableId). Contains x.excluded (s, why)) (listing_is p (beside s) s (among_them s v e)) c in
@@ -263,11 +264,11 @@ module _ (catalogue : List Line) (p : Provider) (over : IsOver catalogue p) (sam
 
 -- ---- the line that is found
 
--- the one line that bars the version does
+-- the one line that forbids the version does
 line_bars : (catalogue : List Line) (k : ℕ) (v : Version) (line : ℕ) → slice_get (listed catalogue) k ≡ Some v → IsOnly (Some line) (λ n. (w : Version) × (version_at catalogue k ≡ Some w) × Bars catalogue w n) → Bars catalogue v line
 line_bars catalogue k v line at only = (let (w, there, bars) = (only line).0 refl in let same : w ≡ v = one_some (sym there ∙ at) in subst (λ (x : Version). Bars catalogue x line) same bars)
 
--- a line that bars and locks is one that locks another version
+-- a line that forbids and locks is one that locks another version
 pub lock_found : (catalogue : List Line) (k : ℕ) (v : Version) (line : ℕ) (lock : Bool) → slice_get (listed catalogue) k ≡ Some v → IsOnly (Some line) (λ n. (w : Version) × (version_at catalogue k ≡ Some w) × Bars catalogue w n)
     → ((l : Line) → line_at catalogue line ≡ Some l → lock ≡ locks l) → lock ≡ true → LineIs catalogue line (LocksAnother v)
 lock_found catalogue k v line lock at only tells locked = elim (line_bars catalogue k v line at only) [
@@ -283,15 +284,15 @@ exclusion_found catalogue k v line lock at only tells free = elim (line_bars cat
   | inr (none, out) ↦ (none, out, λ m excludes. one_some (sym ((only m).1 (v, at, inr (none, excludes)))))
 ]
 
--- nothing bars where no such line is
+-- nothing forbids where no such line is
 pub none_found : (catalogue : List Line) (k : ℕ) (v : Version) → slice_get (listed catalogue) k ≡ Some v → IsOnly None (λ n. (w : Version) × (version_at catalogue k ≡ Some w) × Bars catalogue w n) → IsFree catalogue v
 none_found catalogue k v at only m bars = (let e : None ≡ Some m = (only m).1 (v, at, bars) in absurd cc)
 
--- the version that a line bars is listed
+-- the version that a line forbids is listed
 pub barred_listed : (catalogue : List Line) (k line : ℕ) → IsOnly (Some line) (λ n. (w : Version) × (version_at catalogue k ≡ Some w) × Bars catalogue w n) → (v : Version) × (slice_get (listed catalogue) k ≡ Some v)
 barred_listed catalogue k line only = (let (w, there, bars) = (only line).0 refl in (w, there))
 
--- a line that states no rule locks nothing
+-- a line without a rule locks nothing
 pub no_lock : (l : Line) → is_rule l ≡ false → false ≡ locks l
 no_lock (Lock v) e = sym e
 no_lock Skipped e = refl
@@ -305,11 +306,11 @@ no_lock (Wish w) e = refl
 
 -- ---- the line of a word
 
--- where the version isn't barred before a search, no line excludes it
+-- where the version isn't forbidden before a search, no line excludes it
 pub free_exclusions : (catalogue : List Line) (v : Version) (word : List ℕ) (m : ℕ) → IsFree catalogue v → ExcludesAt catalogue v word m → ⊥
 free_exclusions catalogue v word m free at = free m (inr (λ k lock. free k (inl lock), (Exclude v word, at, refl)))
 
--- what is known of the line that bars the version of a number is known of this version
+-- a property of the line that forbids the version of a number, for this version
 its_bar : (catalogue : List Line) (number : ℕ) (v : Version) (line : BarringLine) → slice_get (listed catalogue) number ≡ Some v → IsBarredLineOf catalogue number (Some line) → IsBarredLine catalogue v (Some line)
 its_bar catalogue number v line at (u, there, bars) = subst (λ (x : Version). IsBarredLine catalogue x (Some line)) (one_some (sym there ∙ at)) bars
 
@@ -333,12 +334,12 @@ no_exclusion catalogue number v word line has at barred tells e m says =
     let (none, out, alone) = its_bar catalogue number v (barring.Exclude line) at barred in
     false≢true (sym e ∙ tells.1 (subst (ExcludesAt catalogue v word) (alone m (Exclude v word, says, refl)) says))
 
--- an exclusion is behind so many lines
+-- an exclusion is after so many lines
 pub excluded_behind : (catalogue : List Line) (v : Version) (word : List ℕ) (m : ℕ) → ExcludesAt catalogue v word m → (k : ℕ) × (m ≡ k + 1) × (k < length catalogue)
 excluded_behind catalogue v word zero says = absurd cc
 excluded_behind catalogue v word (suc k) says = (k, omega arith, slice_get_within catalogue k (Exclude v word) says)
 
--- a line of the version says with this word that its needs are unknown, and none before it does
+-- a line of the version marks its needs as unknown with this word, and none before it does
 pub marks_least : (catalogue request : List Line) (version : VersionNo) (v : Version) (word : List ℕ) (found : Option ℕ) → slice_get (listed catalogue) version.0 ≡ Some v → IsLeast found (λ n. IsLineOf catalogue request (Some version) n × SaysAt catalogue (Unknown word) n) → IsLeast found (MarksUnknownAt catalogue v word)
 marks_least catalogue request version v word found there least = go found least
   where

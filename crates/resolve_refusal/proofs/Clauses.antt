@@ -1,4 +1,4 @@
--- The clause of each step of a proof, and that of the step in a report which tells it.
+-- The clause of each step of a proof, and that of the report's step that writes it.
 use Rattle.std.proofs.Common.{◌≡◌, ◌==◌, inl, inr, ℕ, zero, suc, ◌/◌, Bool, true, false, List, [], ◌∷◌, ◌++◌, map, length, Option, Some, None, refl, sym, ap, subst, ◌∙◌, arith}
 use Rattle.std.specs.Prelude.{◌&&◌, ◌<◌, not, filter, option_map, unwrap_or, Contains, slice_get, slice_index_or, nat_lt}
 use Rattle.std.specs.Int.{bit_at}
@@ -67,7 +67,7 @@ each_contained R (z ∷ xs) (y ∷ ys) each x h = elim (contains_cases x z xs h)
   | inr a ↦ each_contained R xs ys each.1 x a
 ]
 
--- what limits a version is told of it
+-- the limits of a version are among its dependencies
 pub told_limits : (told : List VersionDependencies) (k : ℕ) (v : VersionSetId) → Contains (slice_index_or told k no_lines).constrains v → slice_get told k ≡ Some (slice_index_or told k no_lines)
 told_limits [] k v h = absurd (contains_none v h)
 told_limits (t ∷ told) zero v h = refl
@@ -203,7 +203,7 @@ module _ (catalogue : List Line) (provider : Provider) (over : IsOver catalogue 
     candidates_spelled (v ∷ vs) [] h = absurd h
     candidates_spelled (v ∷ vs) (s ∷ ss) h = spelled_append _ _ _ _ (matches_spelled v s h.0) (candidates_spelled vs ss h.1)
 
-    -- what meets a requirement, and the listed matches of its alternatives
+    -- the candidates that meet a requirement, and the listed matches of its alternatives
     pub alternatives_spelled : (r : Requirement) → IsRequirement catalogue provider.ids r → Spells (candidate_literals same (packages_of provider) (alternatives_of (members_of provider.ids) r)) (judge.some_match catalogue (alternatives_at provider.ids r))
     alternatives_spelled r known =
         let (ss, each) = members_known catalogue provider over r known in
@@ -212,7 +212,7 @@ module _ (catalogue : List Line) (provider : Provider) (over : IsOver catalogue 
 
     -- ---- rules
 
-    -- a solvable that needs something is a listed version, and what it needs is known
+    -- a solvable with a need is a listed version, and the need is known
     pub needed : (s : SolvableId) (need : ConditionalRequirement) → Contains (rules_of (dependencies_of provider s)).requirements need → IsVersion catalogue provider.ids s × ((said : List Spec × Option Cond) × IsNeed provider.ids need said)
     needed s need h = go (slice_get provider.told s.raw) refl
       where
@@ -233,7 +233,7 @@ module _ (catalogue : List Line) (provider : Provider) (over : IsOver catalogue 
             let none : Version = record { name = []; number = 0 } in
             ((_, slice_get-get_or (listed catalogue) s.raw none (omega (arith, below, long))), (said, is))
 
-    -- so is what the root needs
+    -- so is a need of the root
     pub asked_for : (said : ReadRequest) (ids : RequestIds) → AreAsked provider.ids said ids → (parent : Option SolvableId) (need : ConditionalRequirement) → Contains (rules_for same (packages_of provider) (root_of ids) parent).requirements need
         → ((s : SolvableId) → parent ≡ Some s → IsVersion catalogue provider.ids s) × ((x : List Spec × Option Cond) × IsNeed provider.ids need x)
     asked_for said ids asked None need h = (λ s e. absurd cc, each_contained (IsNeed provider.ids) ids.requirements.items _ asked.requirements need h)
@@ -293,7 +293,7 @@ module _ (catalogue : List Line) (provider : Provider) (over : IsOver catalogue 
           spelled_more (minus (Atom.solvable s)) _ _ _ known refl (spelled_more _ _ [] [] (v.name, packaged) (λ i. record { atom = told.BitOf bit (text i); positive = sym (digit_bit place bit) i }) spelled_none),
         )
 
-    -- what limits a parent is known, and so is the parent
+    -- a limit of a parent is known, and so is the parent
     pub limited : (said : ReadRequest) (ids : RequestIds) → AreAsked provider.ids said ids → (parent : Option SolvableId) (v : VersionSetId) → Contains (rules_for same (packages_of provider) (root_of ids) parent).constraints v
         → ((s : SolvableId) → parent ≡ Some s → IsVersion catalogue provider.ids s) × ((spec : Spec) × IsSpec provider.ids v spec)
     limited said ids asked None v h = (let (spec, is) = each_contained (IsSpec provider.ids) ids.constraints.items _ asked.constraints v h in ((λ s e. absurd cc), (spec, is)))
@@ -307,7 +307,7 @@ module _ (catalogue : List Line) (provider : Provider) (over : IsOver catalogue 
         let none : Version = record { name = []; number = 0 } in
         ((λ t e. (let at : s ≡ t = one_some e in subst (λ (x : SolvableId). IsVersion catalogue provider.ids x) at (_, slice_get-get_or (listed catalogue) s.raw none (omega (arith, below, long))))), (spec, is))
 
-    -- what is outside a version set is a listed version, outside its SPEC
+    -- a solvable outside a version set is a listed version, outside its SPEC
     pub is_out : (v : VersionSetId) (spec : Spec) (s : SolvableId) → IsSpec provider.ids v spec → pool_rules.is_outside same (packages_of provider) v s ≡ true
         → IsVersion catalogue provider.ids s × (judge.is_outside (spec_at provider.ids v) (version_at catalogue s) ≡ true)
     is_out v spec s is out =

@@ -1,4 +1,4 @@
--- The lines of a place, and the first of them that states something.
+-- The lines of a place, and the first of them with a given content.
 use Rattle.std.proofs.Common.{◌≡◌, ◌<◌, ◌≤◌, ◌+◌, ◌-◌, ℕ, Bor, zero, suc, List, [], ◌∷◌, take, length, get_or, Option, Some, None, sym, ◌∙◌, ap, subst, arith, inl, inr}
 use Rattle.std.specs.Prelude.{IfSome, Contains, slice_get}
 use Rattle.std.specs.List.Sorted.{IsStrictlyIncreasing}
@@ -22,14 +22,14 @@ some_as None f h = h
 
 -- ---- elements so far
 
--- what holds of the places so far and of this one
+-- a property of the places so far and of this one
 pub below_more : (Q : ℕ → Type 0) (i : ℕ) → ((j : ℕ) → j < i → Q j) → Q i → (j : ℕ) → j < i + 1 → Q j
 below_more Q i before here j below = elim (cases_lt j i) [
   | inl earlier ↦ before j earlier
   | inr later ↦ subst Q (let e : i ≡ j = omega (arith, below, later) in e) here
 ]
 
--- what holds of the elements so far and of the next one
+-- a property of the elements so far and of the next one
 pub all_more : (Q : ℕ → Type 0) (xs : List ℕ) (i : ℕ) → i < length xs → ((m : ℕ) → Contains (take i xs) m → Q m) → Q (get_or xs i 0) → (m : ℕ) → Contains (take (i + 1) xs) m → Q m
 all_more Q xs i lt before here m has = elim (contains_parts m (take i xs) (get_or xs i 0 ∷ []) (subst (λ (ys : List ℕ). Contains ys m) (take_more xs i 0 lt) has)) [
   | inl old ↦ before m old

@@ -1,4 +1,4 @@
--- Each step that tells one of a proof has a text, and so has the report.
+-- Each step that writes one of a proof has a text, and so has the report.
 use Rattle.std.proofs.Common.{inl, inr, ◌⊎◌, ◌≡◌, ◌<◌, ℕ, zero, suc, List, [], ◌∷◌, ◌++◌, map, length, Option, Some, None, refl, sym, ap, subst, ◌∙◌, arith, Vec, Global}
 use Rattle.std.specs.Prelude.{IsTrue, ◌&&◌, not, Contains, slice_get}
 use Rattle.std.specs.List.{AllZip}
@@ -65,11 +65,11 @@ some_last : {X : Type 0} (xs : List X) (x : X) → 0 < length (xs ++ x ∷ [])
 some_last [] x = omega arith
 some_last (y ∷ xs) x = omega arith
 
--- a step that bars a version has a text
+-- a step that forbids a version has a text
 pub bar_text : (catalogue : List Line) → length catalogue < 4294967296 → (v : Version) (t : Step) → form.IsVersion v → IsBarredBy catalogue v t → IsStep t
 bar_text catalogue long v t fits = λ by. (let (line, l, at, is) = by_line by in text line l at is)
   where
-    -- each step that bars names a line of the catalogue
+    -- each step that forbids names a line of the catalogue
     by_line : IsBarredBy catalogue v t → (line : ℕ) × (l : Line) × (line_at catalogue line ≡ Some l) × ((t ≡ told.Lock line v) ⊎ ((t ≡ told.Exclude line) ⊎ (t ≡ told.Unknown line)))
     by_line (line, inl (is, (l, at, locks))) = (line, l, at, inl is)
     by_line (line, inr (inl (is, (l, at, out)))) = (line, l, at, inr (inl is))
@@ -124,7 +124,7 @@ module _ (catalogue : List Line) (said : ReadRequest) (provider : Provider) (ste
   catalogue_form zero l e = absurd cc
   catalogue_form (suc k) l e = (let (bytes, line) = proves.over.grammatical k l e in line.says.form)
 
-  -- so has a step that bars a version
+  -- so has a step that forbids a version
   bar_fits : (s : SolvableId) (t : Step) → IsVersion catalogue provider.ids s → IsBarredBy catalogue (version_at catalogue s) t → IsStep t
   bar_fits s t version by = bar_text catalogue long (version_at catalogue s) t (version_fits catalogue provider proves.over s version) by
 
@@ -184,7 +184,7 @@ named_fit of count numbers written fits all n h = (let (k, is, below, rests) = (
 
 module _ (catalogue : List Line) (said : ReadRequest) (provider : Provider) (steps : List (ProofStep NameId SolvableId)) (refutes : Refutes catalogue said provider steps)
     (few : length steps < 4294967296) (long : length catalogue < 4294967296) (asked : length said.lines < 4294967296) where
-  -- the steps that tell the proof's are those of a report
+  -- the steps that write the proof's are those of a report
   is_report : (in_catalogue in_request : List ℕ) (written : List Step) → AllZip (Tells catalogue said.lines provider.ids) steps written → AllZip (IsToldBy catalogue provider.ids said.lines) steps written
       → AreAll in_catalogue (IsNamedBy text.Catalogue (length catalogue) written) → AreAll in_request (IsNamedBy text.Request (length said.lines) written) → IsReport (Refused in_catalogue in_request written [])
   is_report in_catalogue in_request written tells are of_catalogue of_request = in_grammar in_catalogue in_request steps written of_catalogue.rising of_request.rising

@@ -104,7 +104,7 @@ gate_stated : (catalogue request : List Line) (of : Text) (v : Version) (line n 
 gate_stated catalogue request of v line n l at e = catalogue_stated catalogue request of line n l (owned _ (line_at catalogue line) l at) e
 
 module _ (catalogue : List Line) (said : ReadRequest) (provider : Provider) (steps : List (ProofStep NameId SolvableId)) (proves : IsProofOver catalogue said provider steps) where
-  -- the line that a written step rests on states a rule
+  -- the line of a written step has a rule
   pub line_stated : (of : Text) (s : ProofStep NameId SolvableId) (t : told.Step) (n : ℕ) → IsToldBy catalogue provider.ids said.lines s t → line_in of t ≡ Some n → (l : Line) × (line_at (lines_in catalogue said.lines of) n ≡ Some l) × (is_rule l ≡ true)
   line_stated of (Rule (NeedsRule parent r case)) t n (line, k, is, first) e =
       let (l, says, (condition, needs, numbered)) = first.says in
@@ -132,7 +132,7 @@ module _ (catalogue : List Line) (said : ReadRequest) (provider : Provider) (ste
       let (version, packaged) = candidate_of catalogue provider proves.over proves.same proves.exact (name_of provider.ids s) s among in
       (version, below)
 
-  -- the clause of a written step spells that of the step which it tells
+  -- the clause of a written step spells that of the proof's step
   step_spelled : (n : ℕ) (s : ProofStep NameId SolvableId) (t : told.Step) → slice_get steps n ≡ Some s → IsToldBy catalogue provider.ids said.lines s t → IsClauseOf s t
   step_spelled n (Rule (NeedsRule parent r case)) t at (line, k, is, first) =
       let (condition, (needs, cases)) = proves.proof n _ at in
@@ -228,7 +228,7 @@ module _ (catalogue : List Line) (said : ReadRequest) (provider : Provider) (ste
             let same : q ≡ s = one_version (same_is (version_at catalogue q) (version_at catalogue s) e) in
             eq-eqb other place (proves.one_place m n s other place digit bit (subst (λ (y : SolvableId). slice_get steps m ≡ Some (Rule (Digit y other digit))) same there) at)
 
-    -- what a step owes to the earlier ones
+    -- a step against the earlier ones
     step_follows : (n : ℕ) (s : ProofStep NameId SolvableId) (t : told.Step) → slice_get steps n ≡ Some s → slice_get written n ≡ Some t → IsToldBy catalogue provider.ids said.lines s t → follows catalogue said.lines (take n written) t ≡ true
     step_follows n (Rule (NeedsRule parent r case)) t at there (line, k, is, first) = ap (follows catalogue said.lines (take n written)) is
     step_follows n (Rule (GateOf q r)) t at there (line, is, first) = ap (follows catalogue said.lines (take n written)) is
@@ -272,7 +272,7 @@ module _ (catalogue : List Line) (said : ReadRequest) (provider : Provider) (ste
 -- ---- the end
 
 module _ (catalogue : List Line) (said : ReadRequest) (provider : Provider) (steps : List (ProofStep NameId SolvableId)) (refutes : Refutes catalogue said provider steps) where
-  -- a written step derives the empty clause where the step that it tells does
+  -- a written step derives the empty clause where the proof's step does
   empty_told : (literals : Vec (ProofLiteral NameId SolvableId) Global) (causes : Vec ℕ Global) (t : told.Step) → literals.items ≡ [] → IsToldBy catalogue provider.ids said.lines (Derived literals causes) t → derives_empty t ≡ true
   empty_told literals causes t empty (w, is, are) = ap derives_empty is ∙ go w (subst (λ ls. AreLiterals catalogue provider.ids ls w) empty are)
     where

@@ -46,7 +46,7 @@ every : {X : Type 0} (P : X → Type 0) (xs : List X) (x : X) → AllByRecursion
 every P [] x h c = absurd (contains_none x c)
 every P (y ∷ ys) x h c = elim (contains_cases x y ys c) [ inl is ↦ subst P (sym is) h.0 | inr m ↦ every P ys x h.1 m ]
 
--- what holds of each element
+-- a property of each element
 pub of_every : {X : Type 0} (P : X → Type 0) (xs : List X) → ((x : X) → Contains xs x → P x) → AllByRecursion P xs
 of_every P [] h = tt
 of_every P (y ∷ ys) h = (h y (contains_first y y ys refl), of_every P ys (λ x c. h x (contains_later x y ys c)))
@@ -62,7 +62,7 @@ any_fails f xs h = go (list_any f xs) refl
 never_before : (t : List ℕ) → slice_cmp nat_cmp t t ≡ Less → ⊥
 never_before t e = (let twice : Less ≡ Greater = sym e ∙ (nat_list_cmp_total.antisymm t t ∙ ap ordering_reverse e) in absurd cc)
 
--- an atom is told by its text
+-- an atom is known by its text
 one_atom : (a b : told.Atom) → IsAtom a → IsAtom b → atom_text a ≡ atom_text b → a ≡ b
 one_atom a b fits suits is = ap (λ (l : Literal). l.atom) (one_literal (record { atom = a; positive = true }) (record { atom = b; positive = true }) fits suits is)
 
@@ -84,7 +84,7 @@ atoms_once (l ∷ ls) fits signs sorted = and_from _ _ (ap not (any_fails (λ y.
         let before : slice_cmp nat_cmp (literal_text l) (literal_text m) ≡ Less = every (λ t. slice_cmp nat_cmp (literal_text l) t ≡ Less) (map literal_text ls) (literal_text m) sorted.0 (contains_map literal_text m ls has) in
         never_before (literal_text l) (ap (slice_cmp nat_cmp (literal_text l)) (sym texts) ∙ before)
 
--- ---- where the lines stand
+-- ---- the order of the lines
 
 -- the numbers rise, the first one is greater than this one
 abbrev IsRisingFrom : ℕ → List ℕ → Type 0

@@ -1,4 +1,5 @@
--- The steps that tell a proof are in an install report, and so does a step that bars a wish without a search.
+-- The steps that write a proof are in an install report, and so is a step that forbids a wish
+-- without a search.
 use Rattle.std.proofs.Common.{◌≡◌, ◌⊎◌, inl, inr, ◌<◌, ℕ, zero, suc, Bool, true, false, List, [], ◌∷◌, ◌++◌, map, length, Option, Some, Result, Ok, Err, refl, sym, ap, subst, ◌∙◌}
 use Rattle.std.specs.Prelude.{◌&&◌, not, is_some, IfOk, Contains, slice_get}
 use Rattle.std.specs.List.{AllZip}
@@ -38,7 +39,7 @@ use Rattle.resolve_refusal.proofs.TellLemmas.{zipped, steps_told}
 use Rattle.resolve_refusal.proofs.Spelled.{listed_fits}
 use Rattle.resolve_refusal.proofs.FitLemmas.{bar_text, step_fits}
 
--- what follows of two clauses about a value
+-- a consequence of two clauses about a value
 pub both_ok : {A E : Type 0} {P Q R : A → Type 0} (r : Result A E) → ((a : A) → P a → Q a → R a) → IfOk r P → IfOk r Q → IfOk r R
 both_ok (Ok a) f p q = f a p q
 both_ok (Err e) f p q = tt
@@ -52,9 +53,9 @@ zip_left R (w ∷ xs) [] z n x e = absurd z
 zip_left R (w ∷ xs) (y ∷ ys) z zero x e = (let same : w ≡ x = one_some e in (y, refl, subst (λ v. R v y) same z.0))
 zip_left R (w ∷ xs) (y ∷ ys) z (suc n) x e = zip_left R xs ys z.1 n x e
 
--- ---- a step that bars
+-- ---- a step that forbids
 
--- a step that is there bars by its clause
+-- a step in the report forbids by its clause
 step_there : (catalogue request : List Line) (steps : List told.Step) (entries : Set) (wish : Version) (k : ℕ) (t : told.Step) (clause : judge.Clause) → slice_get steps k ≡ Some t → judge.clause_of catalogue request t ≡ Some clause → bars entries wish clause ≡ true
     → step_bars catalogue request steps entries wish (suc k) ≡ true
 step_there catalogue request steps entries wish k t clause at says barred =
@@ -70,7 +71,7 @@ among v wish entries (inr has) = or_right _ _ (is_contained entries v has)
 abbrev denies : Set → Version → pass.Literal told.Atom → Bool
 denies entries wish l = not l.positive && is_among entries wish l.atom
 
--- literals that are `not` of such ones bar
+-- literals that are `not` of such ones forbid
 literals_bar : (catalogue : List Line) (provider : Provider) (literals : List (ProofLiteral NameId SolvableId)) (written : List told.Literal) (entries : Set) (wish : Version) → AreLiterals catalogue provider.ids literals written
     → ((l : ProofLiteral NameId SolvableId) → Contains literals l → DeniesOneOf catalogue entries wish l) → bars entries wish (map judge.literal_of written) ≡ true
 literals_bar catalogue provider literals written entries wish are each = contained_all (denies entries wish) (map judge.literal_of written) (λ x h. (
@@ -84,7 +85,7 @@ literals_bar catalogue provider literals written entries wish are each = contain
 -- ---- the steps of a proof
 
 module _ (catalogue : List Line) (said : ReadRequest) (provider : Provider) (steps : List (ProofStep NameId SolvableId)) (proves : IsProofOver catalogue said provider steps) where
-  -- a step that denies the wish and entries bars it
+  -- a step that denies the wish and entries forbids it
   pub told_bars : (written others : List told.Step) → AllZip (IsToldBy catalogue provider.ids said.lines) steps written → (entries : Set) (wish : Version) (k : ℕ) → IsBarAt catalogue steps entries wish k → step_bars catalogue said.lines (written ++ others) entries wish (suc k) ≡ true
   told_bars written others each entries wish k bar =
       let (t, at, (w, is, are)) = zip_left (IsToldBy catalogue provider.ids said.lines) steps written each k (Derived bar.literals bar.causes) bar.derived in
@@ -108,13 +109,14 @@ module _ (catalogue : List Line) (said : ReadRequest) (provider : Provider) (ste
       texts : AllZip (λ (x : ProofStep NameId SolvableId) (y : told.Step). IsStep y) steps written
       texts = zipped steps written (step_fits catalogue said provider steps proves few long asked) tells each
 
--- ---- a step that bars without a search
+-- ---- a step that forbids without a search
 
 barred_by : (catalogue : List Line) (v : Version) (t : told.Step) → IsBarredBefore catalogue v t → IsBarredBy catalogue v t
 barred_by catalogue v t (line, inl lock) = (line, inl lock)
 barred_by catalogue v t (line, inr (is, none, out)) = (line, inr (inl (is, out)))
 
--- a step that bars a listed version so is allowed anywhere in an install report, and bars it there
+-- a step that forbids a listed version so is allowed anywhere in an install report, and forbids it
+-- there
 pub barring_step : (catalogue : List Line) → AreCatalogueLines catalogue → length catalogue < 4294967296 → (number : ℕ) (v : Version) (t : told.Step) → slice_get (listed catalogue) number ≡ Some v → IsBarredBefore catalogue v t → IsBarringStep catalogue v t
 barring_step catalogue grammatical long number v t at before = record {
   bars = before;

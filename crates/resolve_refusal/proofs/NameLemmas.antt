@@ -73,7 +73,7 @@ flagged_skip of count steps s flags says are = record {
   only = λ k is. (let (t, h, e) = are.only k is in (t, contains_left t steps (s ∷ []) h, e));
 }
 
--- the lines whose flags come before one more flag
+-- the lines whose flags are before one more flag
 pub lines_more : (flags : List Bool) (i : ℕ) (numbers : List ℕ) → IsFlagged flags i → AreAll numbers (IsFlaggedLine flags i) → AreAll (numbers ++ (i + 1) ∷ []) (IsFlaggedLine flags (i + 1))
 lines_more flags i numbers is all = all_new {C = IsFlagged flags i} all (lines_grow flags i) (λ n (k, e, below, f). omega arith) is
   where

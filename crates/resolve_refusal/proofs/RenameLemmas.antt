@@ -29,7 +29,7 @@ use Rattle.resolve_refusal.specs.RefusedReport.{version_at}
 use Rattle.resolve_refusal.specs.Refusal.{IsVersion, IsRequirement, IsName}
 
 module _ (catalogue : List Line) (provider : Provider) (over : IsOver catalogue provider) where
-  -- what the atom is about is the catalogue's
+  -- the package or version of the atom is the catalogue's
   abbrev pub IsKnown : Atom NameId SolvableId → Type 0
   IsKnown (Atom.solvable s) = IsVersion catalogue provider.ids s
   IsKnown (Atom.any_of n) = IsName catalogue provider.ids n

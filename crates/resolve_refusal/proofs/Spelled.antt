@@ -1,4 +1,4 @@
--- What is known has a text in a report.
+-- A known item has a text in a report.
 use Rattle.std.proofs.Common.{◌≡◌, ℕ, List, Some, sym, subst}
 use Rattle.std.specs.Prelude.{IsTrue, Contains, slice_get}
 use Rattle.resolvo_text.specs.Line.{Version, Spec, Line, Listed}

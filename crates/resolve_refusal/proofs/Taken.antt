@@ -1,4 +1,4 @@
--- What the rules of a proof say, taken apart.
+-- The rules of a proof, taken apart.
 use Rattle.std.proofs.Common.{◌≡◌, inl, inr, Bool, true}
 use Rattle.std.proofs.lemmas.Bool.{or_cases, or_left, or_right}
 use Rattle.std.specs.Prelude.{◌||◌}

@@ -1,4 +1,4 @@
--- The lines by which the rules of a proof are told.
+-- The lines that the steps of a proof's rules name.
 use Rattle.std.proofs.lemmas.Bool.Decides.{nat_tests}
 use Rattle.std.proofs.Common.{◌≡◌, ◌+◌, ◌<◌, ◌≤◌, inl, inr, ℕ, zero, suc, Bool, true, false, List, [], ◌∷◌, map, length, Option, Some, None, refl, sym, ◌∙◌, ap, subst, arith, Vec, Global, not, ◌&&◌}
 use Rattle.std.specs.Prelude.{◌↔◌, ◌||◌, IfSome, option_map, nat_lt, Contains, slice_get, slice_index_or, unwrap_or, option_to_list, if◌then◌else◌}
@@ -57,7 +57,7 @@ use Rattle.resolve_refusal.proofs.Spelled.{literals_fit}
 abbrev pub plain : Requirement → ConditionalRequirement
 plain r = record { condition = None; requirement = r }
 
--- a need of the lines, with the condition as it is said
+-- a need of the lines, with its condition as spelled
 pub line_from : (ids : Ids) (needs : List ConditionalRequirement) (ls : List Line) → AreEach (IsNeed ids) needs (flat_map need_in ls) → (need : ConditionalRequirement) → Contains needs need
     → (condition : Option Cond) × IsConditionOf ids need.condition condition × Contains ls (Needs (alternatives_at ids need.requirement) condition)
 line_from ids needs ls each need has =
@@ -70,7 +70,7 @@ no_condition : (ids : Ids) (c : Option Cond) → IsConditionOf ids None c → c 
 no_condition ids None h = refl
 no_condition ids (Some c) h = absurd h
 
--- a line with the case of the condition that it says
+-- a line with the case of its condition
 needs_in : (catalogue : List Line) (p : Provider) → IsOver catalogue p → (r : Requirement) (condition : Option ConditionId) (said : Option Cond) → IsConditionOf p.ids condition said → (case : List VersionSetId) → Contains (cases_under (condition_at p.ids) condition) case → NeedsIn (alternatives_at p.ids r) (map (spec_at p.ids) case) (Needs (alternatives_at p.ids r) said)
 needs_in catalogue p over r condition said is case among =
     let (specs, has, each) = case_said p.ids over.once.below condition said is case among in
@@ -159,7 +159,7 @@ module _ (catalogue : List Line) (ids : Ids) (request : List Line) (s : Solvable
       let owner : owner_of catalogue n ≡ Some (version_at catalogue s) = (own w (owner_of catalogue n)).0 (subst (λ (x : Line). BelongsTo w (owner_of catalogue n) x) same has) ∙ ap (λ (x : Version). Some x) (sym (get_or_from_slice_get (listed catalogue) s.raw w (record { name = []; number = 0 }) at)) in
       subst (λ (b : Bool). (if b then line_at catalogue n else None) ≡ Some said) (sym (is_own (version_at catalogue s) (owner_of catalogue n) owner)) e
 
-  -- what is at its place is a line of the version
+  -- the line at its place is one of the version
   of_place : (said : Line) → IsOwned said → (n : ℕ) → PlaceSays catalogue request (OfVersion (version_at catalogue s)) said n → SaysOf (listed catalogue) catalogue s.raw BelongsTo n × (line_at catalogue n ≡ Some said)
   of_place said own n e =
       let (mine, is) = taken (is_owner (version_at catalogue s) (owner_of catalogue n)) (line_at catalogue n) said e in
@@ -218,7 +218,7 @@ requirements_same (Union v) (Union w) e = ap (λ (n : ℕ). Union (record { 0 = 
 requirements_same (Single v) (Union w) e = absurd (false≢true e)
 requirements_same (Union v) (Single w) e = absurd (false≢true e)
 
--- what follows of two lists from what holds of them place by place
+-- a consequence for two lists of a property that holds place by place
 pub zipped : {A B : Type 0} {P Q R : A → B → Type 0} (xs : List A) (ys : List B) → ((n : ℕ) (x : A) (y : B) → slice_get xs n ≡ Some x → P x y → Q x y → R x y) → AllZip P xs ys → AllZip Q xs ys → AllZip R xs ys
 zipped [] [] f p q = p
 zipped [] (y ∷ ys) f p q = p
@@ -242,7 +242,7 @@ same_need need r e = (let (none, same) = and_parts (not (has_condition need.cond
     by_parts None q none same = ap plain (sym (requirements_same r q same))
 
 module _ (catalogue : List Line) (said : ReadRequest) (p : Provider) (steps : List (ProofStep NameId SolvableId)) (proves : IsProofOver catalogue said p steps) (fits : length steps < 4294967296) where
-  -- a limit is told by the first line that states it
+  -- a limit is written with its first line
   limit_told : (parent : Option SolvableId) (v : VersionSetId) (line : ℕ) → IsFirstLine catalogue said.lines (option_map version_no parent) (Limits (spec_at p.ids v)) line → Contains (rules_for proves.same (packages_of p) (root_of proves.ids) parent).constraints v
       → IsFirst catalogue said.lines (place_at catalogue parent) (Limits (spec_at p.ids v)) line
   limit_told None v line by has = first_asked catalogue p.ids said.lines (Limits (spec_at p.ids v)) line by (limit_in_lines p.ids proves.ids.constraints.items said.lines proves.asked.constraints v has)
@@ -250,7 +250,7 @@ module _ (catalogue : List Line) (said : ReadRequest) (p : Provider) (steps : Li
       let (m, of, there) = version_limit catalogue p proves.over s v has in
       first_told catalogue p.ids said.lines (Limits (spec_at p.ids v)) (limit_owned (spec_at p.ids v)) s line by m of there
 
-  -- a lock is told by its line
+  -- a lock is written with its line
   lock_told : (l s : SolvableId) (t : Step) → TellsLock catalogue s t → KeepsOut proves.same (packages_of p) (Bar.lock l) s → (line : ℕ) × IsLockStep catalogue (version_at catalogue s) t line
   lock_told l s t (found, is, line) bars =
       let (v, e) = barred_version catalogue p proves.over proves.same proves.exact s (Bar.lock l) bars in
@@ -261,7 +261,7 @@ module _ (catalogue : List Line) (said : ReadRequest) (p : Provider) (steps : Li
       by_line v own None none n there e = absurd (none n there)
       by_line v own (Some k) at n there e = (k, (e, subst (λ (w : Version). LineIs catalogue k (LocksAnother w)) (sym own) at))
 
-  -- what bars a version with a word is told by the first line that does
+  -- a version that is forbidden with a word is written with the first line that does so
   word_told : (why : StringId) (s : SolvableId) (t : Step) → TellsWord catalogue p.ids s why t → KeepsOut proves.same (packages_of p) (Bar.word why) s → IsBarredAs catalogue (version_at catalogue s) (word_text p.ids why) t
   word_told why s t (found, is, line) bars =
       let (v, e) = barred_version catalogue p proves.over proves.same proves.exact s (Bar.word why) bars in
@@ -273,7 +273,7 @@ module _ (catalogue : List Line) (said : ReadRequest) (p : Provider) (steps : Li
       by_line v word (Some (with_word.Exclude k)) (at, first) n there e = (k, inl (e, at), first)
       by_line v word (Some (with_word.Unknown k)) (at, first) n there e = (k, inr (e, at), first)
 
-  -- a need of a parent is told by the first line that states it
+  -- a need of a parent is written with its first line
   need_found : (parent : Option SolvableId) (r : Requirement) (condition : Option ConditionId) (case : List VersionSetId) (found : Option NeedLine) → IsNeedLineOf catalogue said.lines p.ids parent r case found
       → Contains (rules_for proves.same (packages_of p) (root_of proves.ids) parent).requirements (record { condition = condition; requirement = r }) → Contains (cases_under (condition_at p.ids) condition) case
       → (n : NeedLine) × (found ≡ Some n) × IsFirstNeed catalogue said.lines (place_at catalogue parent) (alternatives_at p.ids r) (map (spec_at p.ids) case) n.line n.case
@@ -284,7 +284,7 @@ module _ (catalogue : List Line) (said : ReadRequest) (p : Provider) (steps : Li
       let (c, is, m, of, there) = version_line catalogue p proves.over s (record { condition = condition; requirement = r }) has in
       first_need_told catalogue p.ids said.lines (alternatives_at p.ids r) (map (spec_at p.ids) case) s found by m of _ there (needs_in catalogue p proves.over r condition c is case among)
 
-  -- a need that is written is told rightly
+  -- a written need is right
   pub need_told : (n : ℕ) (parent : Option SolvableId) (r : Requirement) (case : Vec VersionSetId Global) (t : Step) → slice_get steps n ≡ Some (Rule (NeedsRule parent r case)) → TellsNeed catalogue said.lines p.ids parent r case.items t
       → (line k : ℕ) × IsNumber k × (t ≡ told.Need (place_at catalogue parent) line k) × IsFirstNeed catalogue said.lines (place_at catalogue parent) (alternatives_at p.ids r) (map (spec_at p.ids) case.items) line k
   need_told n parent r case t at (found, by, tells) =
@@ -293,7 +293,7 @@ module _ (catalogue : List Line) (said : ReadRequest) (p : Provider) (steps : Li
       let (number, told_so) = subst (λ (o : Option NeedLine). IfSome o (λ x. IsNumber x.case × (t ≡ told.Need (place_at catalogue parent) x.line x.case))) is tells in
       (l.line, l.case, number, told_so, first)
 
-  -- a step that is written is told rightly
+  -- a written step is right
   step_told : (n : ℕ) (s : ProofStep NameId SolvableId) (t : Step) → slice_get steps n ≡ Some s → Tells catalogue said.lines p.ids s t → IsWritten catalogue p.ids s t → IsToldBy catalogue p.ids said.lines s t
   step_told n (Rule (NeedsRule parent r case)) t at tells written = (let (line, k, number, is, first) = need_told n parent r case t at tells in (line, k, is, first))
   step_told n (Rule (GateOf s r)) t at tells written =
@@ -319,6 +319,6 @@ module _ (catalogue : List Line) (said : ReadRequest) (p : Provider) (steps : Li
       let below : n < length steps = slice_get_within steps n _ at in
       (clause, is ∙ ap (λ (ns : List ℕ). told.Derive clause ns) (numbers_from n causes.items (omega (arith, below, fits)) (λ k h. let e : k < n = (proves.proof n _ at).earlier k h in omega (arith, e))), same (literals_fit catalogue p proves.over literals.items (proves.known n _ at)))
 
-  -- each step is told rightly
+  -- each step is right
   pub steps_told : (written : List Step) → AllZip (Tells catalogue said.lines p.ids) steps written → AllZip (IsWritten catalogue p.ids) steps written → AllZip (IsToldBy catalogue p.ids said.lines) steps written
   steps_told written tells are = zipped steps written step_told tells are

@@ -29,8 +29,9 @@ pub record IsBarAt (catalogue : List Line) (steps : List (ProofStep NameId Solva
   pub derived : slice_get steps k ≡ Some (Derived literals causes)
   pub denies : (l : ProofLiteral NameId SolvableId) → Contains literals.items l → DeniesOneOf catalogue entries wish l
 
--- The steps write those of a proof, one by one. Each has a text, and is allowed after those before it where each line may be
--- rested on. One that denies a wish and entries bars the wish, whatever steps follow.
+-- The steps write those of a proof, one by one. Each has a text, and is allowed after those before
+-- it where each line may be rested on. One that denies a wish and entries forbids the wish,
+-- whichever steps follow.
 pub record AreInstallSteps (catalogue request : List Line) (ids : Ids) (steps : List (ProofStep NameId SolvableId)) (written : List Step) : Type 0 where
   pub each : AllZip (IsToldBy catalogue ids request) steps written
   pub few : length written < 4294967296
@@ -38,18 +39,21 @@ pub record AreInstallSteps (catalogue request : List Line) (ids : Ids) (steps : 
   pub stand : IsProof catalogue request every_line every_line written
   pub bar : (others : List Step) (entries : Set) (wish : Version) (k : ℕ) → IsBarAt catalogue steps entries wish k → step_bars catalogue request (written ++ others) entries wish (suc k) ≡ true
 
--- The step bars the version by a line that locks another version of its package, else by one that excludes it.
+-- The step forbids the version by a line that locks another version of its package, else by one
+-- that excludes it.
 abbrev pub IsBarredBefore : List Line → Version → Step → Type 0
 IsBarredBefore catalogue v step = (line : ℕ) × (IsLockStep catalogue v step line ⊎ IsExclusionStep catalogue v step line)
 
--- The step bars the version so. It has a text, is allowed anywhere in an install report, and bars the version as a wish there.
+-- The step forbids the version so. It has a text, is allowed anywhere in an install report, and
+-- forbids the version as a wish there.
 pub record IsBarringStep (catalogue : List Line) (v : Version) (step : Step) : Type 0 where
   pub bars : IsBarredBefore catalogue v step
   pub text : IsStep step
   pub stands : (request : List Line) (earlier : List Step) → may_stand catalogue request every_line every_line earlier step ≡ true
   pub leaves_out : (request : List Line) (steps : List Step) (entries : Set) (k : ℕ) → slice_get steps k ≡ Some step → step_bars catalogue request steps entries v (suc k) ≡ true
 
--- The version of this number is listed and so barred; or it isn't listed, or nothing locks it out or excludes it.
+-- The version of this number is listed and so forbidden; or it isn't listed, or nothing locks it
+-- out or excludes it.
 abbrev pub IsBarringStepOf : List Line → ℕ → Option Step → Type 0
 IsBarringStepOf catalogue number (Some step) = (v : Version) × (slice_get (listed catalogue) number ≡ Some v) × IsBarringStep catalogue v step
 IsBarringStepOf catalogue number None = (v : Version) → slice_get (listed catalogue) number ≡ Some v → IsFree catalogue v

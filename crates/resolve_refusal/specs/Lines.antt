@@ -1,4 +1,4 @@
--- The line of a place that states a need or a limit, and the line that bars a version.
+-- The line of a need or a limit of a place, and the line that forbids a version.
 use Rattle.std.specs.Prelude.{◌≡◌, ◌⊎◌, ◌<◌, ◌≤◌, ◌+◌, ℕ, Bool, true, false, List, length, slice_index_or, slice_get, Option, None, Some, Contains}
 use Rattle.resolvo_text.specs.Line.{Version, Spec, Cond, Line, Skipped, Listed, Needs, Limits, Unknown, Lock, Favour, Exclude, Wish}
 use Rattle.resolvo_text.specs.Cases.{condition_cases}
@@ -99,11 +99,11 @@ ExcludesAt catalogue v word n = line_at catalogue n ≡ Some (Exclude v word)
 abbrev pub MarksUnknownAt : List Line → Version → List ℕ → ℕ → Type 0
 MarksUnknownAt catalogue v word n = (line_at catalogue n ≡ Some (Unknown word)) × (owner_of catalogue n ≡ Some v)
 
--- Line n bars the version with this word.
+-- Line n forbids the version with this word.
 abbrev pub BarsAs : List Line → Version → List ℕ → ℕ → Type 0
 BarsAs catalogue v word n = ExcludesAt catalogue v word n ⊎ MarksUnknownAt catalogue v word n
 
--- It is the first line that bars the version with this word, by its content; or none does.
+-- It is the first line that forbids the version with this word, by its content; or none does.
 abbrev pub IsWordLine : List Line → Version → List ℕ → Option WordLine → Type 0
 IsWordLine catalogue v word None = (m : ℕ) → BarsAs catalogue v word m → ⊥
 IsWordLine catalogue v word (Some (with_word.Exclude n)) = ExcludesAt catalogue v word n × ((m : ℕ) → m < n → BarsAs catalogue v word m → ⊥)
@@ -118,14 +118,15 @@ IsLockLine catalogue v (Some n) = LineIs catalogue n (LocksAnother v)
 abbrev pub IsFree : List Line → Version → Type 0
 IsFree catalogue v = (m : ℕ) → Bars catalogue v m → ⊥
 
--- The line bars the version before a search: one that locks another version of its package, else the one that excludes it;
--- or none does.
+-- The line forbids the version before a search: one that locks another version of its package, else
+-- the one that excludes it; or none does.
 abbrev pub IsBarredLine : List Line → Version → Option BarringLine → Type 0
 IsBarredLine catalogue v (Some (barring.Lock n)) = LineIs catalogue n (LocksAnother v)
 IsBarredLine catalogue v (Some (barring.Exclude n)) = ((m : ℕ) → LineIs catalogue m (LocksAnother v) → ⊥) × LineIs catalogue n (Excludes v) × ((m : ℕ) → LineIs catalogue m (Excludes v) → m ≡ n)
 IsBarredLine catalogue v None = IsFree catalogue v
 
--- The version of this number is listed, and the line bars it so; or it isn't listed, or no line bars it so.
+-- The version of this number is listed, and the line forbids it so; or it isn't listed, or no line
+-- forbids it so.
 abbrev pub IsBarredLineOf : List Line → ℕ → Option BarringLine → Type 0
 IsBarredLineOf catalogue number None = (v : Version) → slice_get (listed catalogue) number ≡ Some v → IsBarredLine catalogue v None
 IsBarredLineOf catalogue number (Some line) = (v : Version) × (slice_get (listed catalogue) number ≡ Some v) × IsBarredLine catalogue v (Some line)

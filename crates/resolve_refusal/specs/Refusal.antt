@@ -1,4 +1,4 @@
--- What the refused report of a proof over the provider of a catalogue is.
+-- The refused report of a proof over the provider of a catalogue.
 use Rattle.std.specs.Prelude.{◌≡◌, ◌↔◌, ◌⊎◌, ℕ, suc, Bool, ◌<◌, ⊤, IsTrue, List, [], map, None, Some, Contains, slice_get}
 use Rattle.std.specs.List.{AllZip}
 use Rattle.std.proofs.Common.{Vec, Global}
@@ -60,7 +60,7 @@ module _ (catalogue : List Line) (ids : Ids) where
   abbrev pub IsSpelledRequirement : Requirement → Type 0
   IsSpelledRequirement r = (alternatives : List Spec) × AreAlternatives ids r alternatives × form_of.AreAlternatives alternatives
 
-  -- what the atom is about is the catalogue's, and a digit is one of the first 32
+  -- the package, version or SPEC of the atom is the catalogue's, and a digit is one of the first 32
   abbrev pub IsKnownAtom : ProofAtom NameId SolvableId → Type 0
   IsKnownAtom (atom.Solvable s) = IsVersion s
   IsKnownAtom (atom.AtLeastOne n) = IsSpelledName n
@@ -68,7 +68,8 @@ module _ (catalogue : List Line) (ids : Ids) where
   IsKnownAtom (atom.Outside v) = IsSpelledSet v
   IsKnownAtom (atom.Bit n bit) = IsSpelledName n × (bit < 32)
 
-  -- The step's SPEC can be spelled, and so can the atoms of its literals. The rules give what other steps name.
+  -- The step's SPEC can be spelled, and so can the atoms of its literals. The rules give the names
+  -- of other steps.
   abbrev pub IsKnownStep : ProofStep NameId SolvableId → Type 0
   IsKnownStep (Rule (NeedsRule parent r case)) = ⊤
   IsKnownStep (Rule (GateOf s r)) = ⊤
@@ -83,7 +84,7 @@ module _ (catalogue : List Line) (ids : Ids) where
 
 -- ---- how steps are written
 
--- The step bars the version by this line, which locks another version of its package.
+-- The step forbids the version by this line, which locks another version of its package.
 abbrev pub IsLockStep : List Line → Version → Step → ℕ → Type 0
 IsLockStep catalogue v step line = (step ≡ told.Lock line v) × LineIs catalogue line (LocksAnother v)
 
@@ -91,11 +92,13 @@ IsLockStep catalogue v step line = (step ≡ told.Lock line v) × LineIs catalog
 abbrev pub IsExclusionStep : List Line → Version → Step → ℕ → Type 0
 IsExclusionStep catalogue v step line = (step ≡ told.Exclude line) × ((m : ℕ) → LineIs catalogue m (LocksAnother v) → ⊥) × LineIs catalogue line (Excludes v)
 
--- The step bars the version by a line that locks another version of its package, excludes it, or marks its needs as unknown.
+-- The step forbids the version by a line that locks another version of its package, excludes it, or
+-- marks its needs as unknown.
 abbrev pub IsBarredBy : List Line → Version → Step → Type 0
 IsBarredBy catalogue v step = (line : ℕ) × (IsLockStep catalogue v step line ⊎ (((step ≡ told.Exclude line) × LineIs catalogue line (Excludes v)) ⊎ ((step ≡ told.Unknown line) × LineIs catalogue line (MarksUnknownOf v))))
 
--- It bars the version with this word, by the first line that does: one that excludes it, or one that marks its needs as unknown.
+-- It forbids the version with this word, by the first line that does: one that excludes it, or one
+-- that marks its needs as unknown.
 abbrev pub IsBarredAs : List Line → Version → List ℕ → Step → Type 0
 IsBarredAs catalogue v word step = (line : ℕ) × (((step ≡ told.Exclude line) × ExcludesAt catalogue v word line) ⊎ ((step ≡ told.Unknown line) × MarksUnknownAt catalogue v word line)) × ((m : ℕ) → m < line → BarsAs catalogue v word m → ⊥)
 
@@ -119,8 +122,9 @@ module _ (catalogue : List Line) where
     pub says : IsOfPlace request place (NeedsAs alternatives case k) n
     pub first : (m : ℕ) → m < n → IsOfPlace request place (NeedsIn alternatives case) m → ⊥
 
-  -- The step names its rule by the first line that states it, a need by the first of its cases too. A package is locked by one line
-  -- at most; an exclusion and an unknown mark of one version state one rule where their words are the same.
+  -- The step names the first line of its rule, a need the first of its cases too. A package is
+  -- locked by one line at most. An exclusion and an unknown mark of one version are one rule where
+  -- their words are the same.
   abbrev pub TellsFirst : List Line → Step → Type 0
   TellsFirst request (told.Need place line k) = (alternatives case : List Spec) × IsFirstNeed request place alternatives case line k
   TellsFirst request (told.Gate v line) = (alternatives : List Spec) × IsFirst request (OfVersion v) (Needs alternatives None) line
@@ -155,9 +159,9 @@ module _ (catalogue : List Line) (ids : Ids) where
   abbrev pub AreLiterals : List (ProofLiteral NameId SolvableId) → List Literal → Type 0
   AreLiterals literals written = (l : Literal) → Contains written l ↔ ((k : ProofLiteral NameId SolvableId) × Contains literals k × (l ≡ literal_at k))
 
-  -- The step writes the proof's step: a rule by the first line that states it, a need by its first such case too; a lock by the line
-  -- that locks another version, what bars a version with a word by that word; a derived clause by its literals and the numbers of
-  -- its causes.
+  -- The step writes the proof's step: a rule by its first line, a need by its first such case too.
+  -- A lock is written by the line that locks another version, a forbidden version with a word by
+  -- that word. A derived clause is written by its literals and the numbers of its causes.
   abbrev pub IsToldBy : List Line → ProofStep NameId SolvableId → Step → Type 0
   IsToldBy request (Rule (NeedsRule parent r case)) step = (line k : ℕ) × (step ≡ told.Need (place_at catalogue parent) line k) × IsFirstNeed catalogue request (place_at catalogue parent) (alternatives_at ids r) (map (spec_at ids) case.items) line k
   IsToldBy request (Rule (GateOf s r)) step = (line : ℕ) × (step ≡ told.Gate (version_at catalogue s) line) × IsFirst catalogue request (OfVersion (version_at catalogue s)) (Needs (alternatives_at ids r) None) line
@@ -173,7 +177,8 @@ module _ (catalogue : List Line) (ids : Ids) where
 
 -- ---- reports
 
--- Over a provider of the catalogue, with what a request asks, the steps are a proof whose ids have texts.
+-- Over a provider of the catalogue, with the request's ids, the steps are a proof whose ids have
+-- texts.
 pub record IsProofOver (catalogue : List Line) (said : ReadRequest) (provider : Provider) (steps : List (ProofStep NameId SolvableId)) : Type 0 where
   pub over : IsOver catalogue provider
   pub ids : RequestIds
@@ -193,7 +198,8 @@ pub record Refutes (catalogue : List Line) (said : ReadRequest) (provider : Prov
   pub proves : IsProofOver catalogue said provider steps
   pub empty : EndsEmpty steps
 
--- The report is a refusal of these steps that the judge accepts, so what it claims is true. It names the lines that they use.
+-- The report is a refusal of these steps that the judge accepts, so its claim is true. It names the
+-- lines that they use.
 pub record IsRefusalOf (catalogue request : List Line) (ids : Ids) (steps : List (ProofStep NameId SolvableId)) (r : Report) : Type 0 where
   pub in_catalogue : List ℕ
   pub in_request : List ℕ

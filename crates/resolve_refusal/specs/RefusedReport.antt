@@ -27,7 +27,7 @@ place_at catalogue (Some s) = OfVersion (version_at catalogue s)
 abbrev pub number_of : ℕ → ℕ
 number_of place = if nat_lt place 4294967295 then place + 1 else 4294967295
 
--- The step bars a version by an exclusion or its unknown needs.
+-- The step forbids a version by an exclusion or its unknown needs.
 abbrev pub HasWord : Step → Type 0
 HasWord step = (line : ℕ) × ((step ≡ told.Exclude line) ⊎ (step ≡ told.Unknown line))
 

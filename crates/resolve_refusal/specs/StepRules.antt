@@ -1,4 +1,5 @@
--- The line and case by which a step names a need, the line of a limit and of a bar, and the literals of a derived clause.
+-- The line and case by which a step names a need, the line of a limit and of a forbidden version,
+-- and the literals of a derived clause.
 use Rattle.std.specs.Prelude.{◌≡◌, ℕ, ⊤, IsTrue, IfSome, List, map, Option, Some, None, unwrap_or, slice_get}
 use Rattle.std.specs.Option.{option_map}
 use Rattle.resolvo_text.specs.Line.{Version, Line}
@@ -28,7 +29,7 @@ use Rattle.resolve_refusal.specs.Refusal.{AreLiterals, HaveForm}
 abbrev pub version_no : SolvableId → VersionNo
 version_no s = record { 0 = s.raw }
 
--- The line is the first of the place with this content; 0 is none.
+-- The line is the first of the place that equals this one; 0 is none.
 abbrev pub IsFirstLine : List Line → List Line → Option VersionNo → Line → ℕ → Type 0
 IsFirstLine catalogue request place said line = (found : Option ℕ) × (line ≡ unwrap_or found 0) × IsLeast found (λ n. IsLineOf catalogue request place n × SaysAt (text_of catalogue request place) said n)
 
@@ -44,18 +45,20 @@ TellsNeed catalogue request ids parent r case step = (found : Option NeedLine) �
 abbrev pub TellsLock : List Line → SolvableId → Step → Type 0
 TellsLock catalogue s step = (found : Option ℕ) × (step ≡ told.Lock (unwrap_or found 0) (version_at catalogue s)) × ((v : Version) → slice_get (listed catalogue) s.raw ≡ Some v → IsLockLine catalogue v found)
 
--- the rule of the line that bars a version with a word; an exclusion at line 0 where none does
+-- the rule of the line that forbids a version with a word; an exclusion at line 0 where none does
 abbrev pub word_step : Option WordLine → Step
 word_step None = told.Exclude 0
 word_step (Some (with_word.Exclude n)) = told.Exclude n
 word_step (Some (with_word.Unknown n)) = told.Unknown n
 
--- The step bars the solvable's version by the first line that does with the reason's word; or none does.
+-- The step forbids the solvable's version by the first line that does with the reason's word; or
+-- none does.
 abbrev pub TellsWord : List Line → Ids → SolvableId → StringId → Step → Type 0
 TellsWord catalogue ids s reason step = (found : Option WordLine) × (step ≡ word_step found) × ((v : Version) → slice_get (listed catalogue) s.raw ≡ Some v → IsWordLine catalogue v (word_text ids reason) found)
 
--- What a step names beside `IsWritten`: a need, a limit and a bar with a word by the first line that states it, a lock by its line,
--- a place by a number that has a text, and a derived clause by its literals in the order of their texts.
+-- The items that a step names beside `IsWritten`: a need, a limit and a word that forbids by the
+-- first line, a lock by its line. A place is named by a number that has a text, and a derived
+-- clause by its literals in the order of their texts.
 abbrev pub Tells : List Line → List Line → Ids → ProofStep NameId SolvableId → Step → Type 0
 Tells catalogue request ids (Rule (Needs parent r case)) step = TellsNeed catalogue request ids parent r case.items step
 Tells catalogue request ids (Rule (GateOf s r)) step = (line : ℕ) × (step ≡ told.Gate (version_at catalogue s) line) × IsFirstLine catalogue request (Some (version_no s)) (says.Needs (alternatives_at ids r) None) line

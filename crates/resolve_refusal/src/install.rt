@@ -1,5 +1,5 @@
 //! Steps of an install report: those of a proof by which wishes are left out, and the step that
-//! bars a wish without a search.
+//! forbids a wish without a search.
 
 ghost use Rattle.std.specs.Prelude.{IfOk};
 ghost use Rattle.std.specs.Option.{option_map};
@@ -18,9 +18,9 @@ use resolvo_proof::step::ProofStep;
 use resolvo_report::Step;
 use std::alloc::Global;
 
-/// The steps of a proof, written for an install report. Each rule is named by the first line that
-/// states it, a need also by the first of its cases. `Ids` where there are more steps, or more
-/// cases of a line, than numbers.
+/// The steps of a proof, written for an install report. Each rule is named by its first line, a
+/// need also by the first of its cases. `Ids` where there are more steps, or more cases of a line,
+/// than numbers.
 pub fn install_steps(
     alloc: Global,
     catalogue: &Catalogue,
@@ -45,8 +45,8 @@ pub fn install_steps(
     write_steps(alloc, texts, provider, steps)
 }
 
-/// The step that bars a version before a search: the lock of another version of its package, else
-/// its exclusion. None where there is neither.
+/// The step that forbids a version before a search: the lock of another version of its package,
+/// else its exclusion. None where there is neither.
 pub fn barring_step(alloc: Global, catalogue: &Catalogue, version: VersionNo) -> R<Option<Step>>
     ensures { IfOk result (λ found. IsBarringStepOf catalogue.now version.0
         (option_map step_of found)) }

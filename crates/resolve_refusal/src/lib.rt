@@ -1,8 +1,8 @@
 //! The refused report of a proof, and the steps of an install report that leaves wishes out.
 //!
 //! A proof has ids of a provider over a catalogue. Here each step becomes one of a report:
-//! packages, versions and SPECs by their texts, and each rule by the first line that states it. The
-//! program writes the report, and the judge of `resolvo_judge` accepts it.
+//! packages, versions and SPECs by their texts, and each rule by its first line. The program writes
+//! the report, and the judge of `resolvo_judge` accepts it.
 #![tactic(auto)]
 
 mod install;

@@ -1,5 +1,5 @@
-//! The first line of a text that states a rule. The lines of a place, the request or a version, are
-//! searched in order. Where several state the rule, the first one is found.
+//! The first line of a rule in a text. The lines of a place, the request or a version, are searched
+//! in order. Where several have the rule, the first one is found.
 
 ghost use Rattle.std.specs.Prelude.{◌≡◌, ◌<◌, ℕ, List, IfOk, IfSome, IfNone, Option, Some, None, false, slice_get};
 ghost use Rattle.std.specs.Bool.{Decides};
@@ -28,14 +28,14 @@ pub(crate) struct NeedLine {
     pub case: u32,
 }
 
-/// A line that bars a version before a search.
+/// A line that forbids a version before a search.
 #[derive(Clone, Copy, Debug)]
 pub(crate) enum BarringLine {
     Lock(u32),
     Exclude(u32),
 }
 
-/// A line that bars a version with a word.
+/// A line that forbids a version with a word.
 #[derive(Clone, Copy, Debug)]
 pub(crate) enum WordLine {
     Exclude(u32),
@@ -72,8 +72,8 @@ impl PlaceLines<'_> {
 }
 
 impl<'a> Texts<'a> {
-    /// The rule that line `line` of a place states, if it states one. The place is a version, or
-    /// none for the request.
+    /// The rule of line `line` of a place, if it has one. The place is a version, or none for the
+    /// request.
     fn rule(self, place: Option<VersionNo>, line: u32) -> Option<&'a Rule>
         ensures stated { IfSome result
             (λ r.
@@ -211,8 +211,8 @@ impl<'a> Texts<'a> {
         }
     }
 
-    /// The first line that bars the version with this word: one that excludes it, or one that marks
-    /// its needs as unknown.
+    /// The first line that forbids the version with this word: one that excludes it, or one that
+    /// marks its needs as unknown.
     pub fn word_line(self, version: VersionNo, word: &str) -> Option<WordLine>
         ensures { (v : says.Version)
             → slice_get (listed self.entry.catalogue.now) version.0 ≡ Some v
@@ -250,7 +250,7 @@ impl<'a> Texts<'a> {
         }
     }
 
-    /// The line that excludes the version with this word. Where a lock bars the version too, all
+    /// The line that excludes the version with this word. Where a lock forbids the version too, all
     /// lines are searched for it.
     fn exclusion_line(self, version: VersionNo, word: &str) -> Option<u32>
         ensures { (v : says.Version)
@@ -308,7 +308,7 @@ impl<'a> Texts<'a> {
     }
 }
 
-/// The earlier one of two lines that bar a version with one word.
+/// The earlier one of two lines that forbid a version with one word.
 fn earlier(excludes: Option<u32>, unknown: Option<u32>) -> Option<WordLine>
     ensures { (catalogue : List says.Line) (v : says.Version) (word : List ℕ)
         → IsLeast excludes (ExcludesAt catalogue v word)
@@ -346,8 +346,8 @@ pub(crate) fn lock_line(catalogue: &Catalogue, version: VersionNo) -> Option<u32
     }
 }
 
-/// The line that bars the version before a search: one that locks another version of its package,
-/// else one that excludes it.
+/// The line that forbids the version before a search: one that locks another version of its
+/// package, else one that excludes it.
 pub(crate) fn barred_line(catalogue: &Catalogue, version: VersionNo) -> Option<BarringLine>
     ensures { IsBarredLineOf catalogue.now version.0 result }
 {
@@ -473,7 +473,7 @@ fn excludes(rule: &Rule, version: VersionNo, word: &str) -> bool
     }
 }
 
-/// Whether the rule needs these alternatives, under whatever condition.
+/// Whether the rule needs these alternatives, under any condition or none.
 fn needs(rule: &Rule, alternatives: &[Spec]) -> bool
     ensures { (versions : List says.Version) (owner : Option says.Version) (line : says.Line)
         → States versions rule.now owner line

@@ -18,9 +18,9 @@ use resolvo_proof::step::ProofStep;
 use resolvo_report::{Report, Step};
 use std::alloc::Global;
 
-/// The refused report of a proof over the provider of a catalogue. Each rule is named by the first
-/// line that states it, a need also by the first of its cases. `Ids` where there are more steps, or
-/// more cases of a line, than numbers.
+/// The refused report of a proof over the provider of a catalogue. Each rule is named by its first
+/// line, a need also by the first of its cases. `Ids` where there are more steps, or more cases of
+/// a line, than numbers.
 pub fn refused_report(
     alloc: Global,
     catalogue: &Catalogue,

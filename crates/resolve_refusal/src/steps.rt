@@ -24,8 +24,8 @@ use resolvo_proof::step::{ProofRule, ProofStep};
 use resolvo_report::{Place, Step};
 use std::alloc::Global;
 
-/// The context for writing steps: the two texts, and the provider of their ids. A rule that no line
-/// states is written with line 0, which no text has.
+/// The context for writing steps: the two texts, and the provider of their ids. A rule of no line
+/// is written with line 0, which no text has.
 #[derive(Clone, Copy)]
 pub(crate) struct Writing<'a> {
     pub alloc: Global,
@@ -112,7 +112,7 @@ impl Writing<'_> {
         }
     }
 
-    /// The step of a need, by the first line that states it, and its first such case.
+    /// The step of a need, by its first line, and its first such case.
     fn need(
         self,
         parent: Option<SolvableId>,
@@ -191,7 +191,7 @@ impl Writing<'_> {
         Ok(self.texts.plain_need_line(place, alternatives.as_slice()))
     }
 
-    /// The step of a gate, by the first line that states the need without condition.
+    /// The step of a gate, by the first line of the need without condition.
     fn gate(self, parent: SolvableId, requirement: Requirement) -> R<Step>
         ensures { IfOk result
             (λ w.
@@ -209,7 +209,7 @@ impl Writing<'_> {
         })
     }
 
-    /// The step of a limit, by the first line that states it.
+    /// The step of a limit, by its first line.
     fn limit(
         self,
         parent: Option<SolvableId>,
@@ -251,7 +251,7 @@ impl Writing<'_> {
         Ok(self.texts.limit_line(place, &spec).unwrap_or(0))
     }
 
-    /// The step that bars a version by the line that locks another version of its package.
+    /// The step that forbids a version by the line that locks another version of its package.
     fn lock(self, solvable: SolvableId) -> R<Step>
         ensures tells { IfOk result (λ w. TellsLock self.entry.texts.catalogue.now solvable
             (step_of w)) }
@@ -267,7 +267,7 @@ impl Writing<'_> {
         Ok(Step::Lock { line, version })
     }
 
-    /// The step that bars a version with the word of a reason, by the first line that does. The
+    /// The step that forbids a version with the word of a reason, by the first line that does. The
     /// line excludes the version, or marks its needs as unknown.
     fn exclusion(self, solvable: SolvableId, reason: StringId) -> Step
         ensures tells { TellsWord self.entry.texts.catalogue.now self.entry.provider.now.ids

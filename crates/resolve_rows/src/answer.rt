@@ -11,14 +11,14 @@ use std::alloc::{AllocError, Global};
 /// Room for all that is written to a row.
 const ROOM: usize = 65_536;
 
-/// What is printed, and the status.
+/// The printed bytes, and the status.
 #[derive(Drop)]
 pub struct Answer {
     pub text: Vec<u8>,
     pub status: u8,
 }
 
-/// What was written, and the last line.
+/// The written bytes, and the last line.
 fn whole(alloc: Global, written: &[u8], (status, line): (u8, &str)) -> Result<Answer, AllocError> {
     let mut text = Vec::from_slice(alloc, written)?;
     if !line.is_empty() {

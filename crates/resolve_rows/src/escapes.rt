@@ -2,7 +2,7 @@
 
 use std::alloc::{AllocError, Global};
 
-/// What was read before the next byte.
+/// The escape that was read before the next byte.
 #[derive(Clone, Copy, PartialEq, Eq)]
 enum State {
     Plain,
@@ -26,7 +26,7 @@ fn digit(byte: u8) -> Option<u8> {
     }
 }
 
-/// The byte that a letter behind `\` stands for.
+/// The byte of a letter after `\`.
 fn named_byte(letter: u8) -> Option<u8> {
     match letter {
         b'n' => Some(b'\n'),
@@ -81,7 +81,7 @@ fn after(text: &mut Vec<u8>, state: State, byte: u8) -> Result<State, AllocError
     }
 }
 
-/// The bytes that an escaped text spells, whose own newlines say nothing; none where an escape isn't one.
+/// The bytes that an escaped text spells, without its own newlines; none where an escape isn't one.
 pub fn unescaped(alloc: Global, escaped: &str) -> Result<Option<Vec<u8>>, AllocError> {
     let mut text = Vec::new(alloc);
     let mut state = State::Plain;

@@ -1,4 +1,4 @@
-//! Compares the answer to a row with what its sections expect.
+//! Compares the answer to a row with its sections.
 
 use crate::answer::{Answer, judged, read_back, solved};
 use crate::row::{Row, Section};
@@ -17,7 +17,7 @@ pub enum Compared {
     Differs(String),
 }
 
-/// What a row is run on.
+/// The inputs of a row.
 #[derive(Drop)]
 struct Inputs {
     catalogue: Vec<u8>,
@@ -126,7 +126,7 @@ fn came(
     }))
 }
 
-/// A line about an answer that isn't what the section expects.
+/// A line about an answer that differs from its section.
 fn difference(
     alloc: Global,
     section: &Section<'_>,
@@ -169,7 +169,7 @@ fn first_difference(
     Ok(None)
 }
 
-/// Whether the judge says yes to the report that was written for the texts, where one was.
+/// Whether the judge accepts the report that was written for the texts, where one was.
 fn is_upheld(
     alloc: Global,
     row: &Row<'_>,

@@ -1,4 +1,5 @@
-//! Runs the rows of the files `*.row` in the folder where it runs, and prints each that differs from what its file expects.
+//! Runs the rows of the files `*.row` in the folder where it runs, and prints each that differs
+//! from its file.
 #![tactic(auto)]
 
 mod answer;
@@ -40,7 +41,7 @@ fn row_files(rt: &HostRuntime) -> io::Result<Vec<String>> {
     Ok(names)
 }
 
-/// Runs a row, and prints what differs.
+/// Runs a row, and prints its differences.
 fn run_row(rt: &HostRuntime, file: &str, row: &Row<'_>, tally: &mut Tally) -> io::Result<()> {
     let compared = compare(rt.alloc(), row)?;
     tally.count(!matches!(compared, Compared::Agrees));

@@ -3,7 +3,7 @@
 use crate::escapes::unescaped;
 use std::alloc::{AllocError, Global};
 
-/// A part of a row: an input or what is expected, as it stands in the file.
+/// A part of a row: an input or an expected answer, verbatim from the file.
 #[derive(Clone, Copy, Drop)]
 pub struct Section<'a> {
     pub name: &'a str,
@@ -14,14 +14,14 @@ pub struct Section<'a> {
 enum Body<'a> {
     /// No line.
     Empty,
-    /// Lines, as they stand, without the last newline.
+    /// Lines, verbatim, without the last newline.
     Lines(&'a str),
     /// A text with escapes.
     Escaped(&'a str),
 }
 
 impl<'a> Section<'a> {
-    /// A section from the text behind its `== `.
+    /// A section from the text after its `== `.
     fn new(text: &'a str) -> Self {
         let (head, body) = match text.split_once('\n') {
             Some((head, lines)) => (head, Body::Lines(lines)),

@@ -53,7 +53,7 @@ not_too_long catalogue request ended output after a fault =
     let few : length output ≤ most_bytes = a.bound in
     omega (arith, most, more, parts, few)
 
--- what a check writes for the report of a run over the same texts
+-- the text of a check for the report of a run over the same texts
 pub accepted : (c r : List ℕ) (ended : Outcome) (output : List ℕ) (checked : Checked) (told : List ℕ) → IsAnswer c r ended output → (ended ≡ outcome.Faulty → ⊥) → IsCheck c r output checked told → (checked ≡ Accepted) × (told ≡ yes_text)
 accepted c r ended output checked told (answer.catalogue_fault n faulty ends is) sound found = absurd (sound ends)
 accepted c r ended output checked told (answer.request_fault catalogue n grammatical faulty ends is) sound found = absurd (sound ends)

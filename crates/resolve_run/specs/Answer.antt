@@ -1,4 +1,4 @@
--- What a run may write for the texts of a catalogue and a request.
+-- The text of a run for a catalogue and a request.
 use Rattle.std.specs.Prelude.{◌≡◌, ◌≤◌, ℕ, List, length, codes}
 use Rattle.resolvo_text.specs.Line.{Line}
 use Rattle.resolvo_text.specs.Texts.{IsGrammatical, IsFaultyAt}
@@ -16,8 +16,8 @@ abbrev pub outcome_of : Report → Outcome
 outcome_of (Install lines steps) = outcome.Installed
 outcome_of (Refused catalogue request steps message) = outcome.Refused
 
--- What is written for the lines of grammatical texts: a report that the judge says yes to, whose claim is true. It has no more bytes
--- than the judge reads.
+-- The text for the lines of grammatical texts: a report that the judge accepts, whose claim is
+-- true. It has no more bytes than the judge reads.
 pub record IsAnswerOfLines (catalogue request : List Line) (ended : Outcome) (output : List ℕ) : Type 0 where
   pub report : Report
   pub reported : IsReportOf catalogue request report
@@ -25,8 +25,8 @@ pub record IsAnswerOfLines (catalogue request : List Line) (ended : Outcome) (ou
   pub is_text : output ≡ report_text report
   pub bound : length output ≤ most_bytes
 
--- What is written for two texts: the catalogue's first faulty line, else that of the request; where there is none, the
--- answer of their lines.
+-- The text for two texts: the catalogue's first faulty line, else that of the request. Where there
+-- is none, it is the answer of their lines.
 pub data IsAnswer (c r : List ℕ) (ended : Outcome) (output : List ℕ) : Type 0 where
   catalogue_fault : (n : ℕ) → IsFaultyAt IsCatalogueLine c n → ended ≡ outcome.Faulty → output ≡ fault_text (codes "catalogue") n → IsAnswer c r ended output
   request_fault : (catalogue : List Line) (n : ℕ) → IsGrammatical IsCatalogueLine c catalogue → IsFaultyAt (IsRequestLine catalogue) r n

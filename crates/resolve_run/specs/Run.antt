@@ -1,4 +1,4 @@
--- What a run does to its devices: a text is written, or a front of one, or nothing, and why.
+-- The effect of a run on its devices: a text is written, or a prefix of one, or nothing, and why.
 use Rattle.std.specs.Prelude.{◌≡◌, ◌⊎◌, ◌<◌, ℕ, List, length, Option}
 use Rattle.std.specs.Io.KnownBytes.{Appends}
 use Rattle.resolvo_text.specs.Device.{IfKnown, TakesFront}
@@ -56,7 +56,8 @@ StopsBefore Memory catalogue request = Unit {0}
 StopsBefore Ids catalogue request = AreRead catalogue request
 StopsBefore Writer catalogue request = ⊥
 
--- Why a run ends without its whole text, and what went out: nothing, or after a failed write a front of an answer.
+-- Why a run ends without its whole text, and the bytes that were written: none, or after a failed
+-- write a prefix of an answer.
 abbrev pub StopsRun : RunFault → Device → Device → Device → Type 0
 StopsRun Writer catalogue request writer = writer.Failed × ((outcome : Outcome) × (output : List ℕ) × AnswersTexts catalogue.before request.before outcome output × TakesFront writer.before writer.after output)
 StopsRun e catalogue request writer = StopsBefore e catalogue request × (writer.after ≡ writer.before)

@@ -24,8 +24,8 @@ pub fn installs_exactly_if_some_set_keeps_the_rules()
 {}
 
 /// The judge accepts each report that a run wrote over the same texts. It answers yes, refuses no
-/// line, and doesn't find the report too long. A check writes `yes` for what a run wrote over two
-/// texts without a fault.
+/// line, and doesn't find the report too long. A check writes `yes` for the report of a run without
+/// a fault.
 pub fn the_judge_accepts_each_report()
     ensures judged { (catalogue request : List Line) (ended : Outcome) (output : List ℕ) (verdict : Verdict)
         → IsAnswerOfLines catalogue request ended output

@@ -1,5 +1,4 @@
-//! What the program `resolve` does with the solver: it turns the bytes of two texts into those of a
-//! report.
+//! The program `resolve` with the solver: it turns the bytes of two texts into those of a report.
 #![tactic(auto)]
 
 pub mod laws;

@@ -87,8 +87,8 @@ fn report(
     within(written(alloc, &report))
 }
 
-/// What to write for two texts. The catalogue is read to its end first; where it is refused, the
-/// request isn't read.
+/// The outcome and the text for two texts. The catalogue is read to its end first; where it is
+/// refused, the request isn't read.
 fn answer<C: Source, R: Source>(
     alloc: Global,
     catalogue: &mut C,

@@ -1,5 +1,5 @@
 //! Tests of the program's library, apart from it so that the gate proves its functions once.
-//! What can be said as texts in and an answer out is a row of `resolve_rows`.
+//! A test of texts with an answer is a row of `resolve_rows`.
 #![tactic(auto)]
 
 #[cfg(test)]

@@ -1,4 +1,5 @@
-//! What no clause says and no row can show: devices that fail, stop or are interrupted, and how input is parted.
+//! Beyond the clauses and the rows: devices that fail, stop or are interrupted, and how input is
+//! parted.
 
 mod budget;
 mod check;

@@ -1,4 +1,5 @@
-//! What no clause says: that each call succeeds with ample memory, and graphs and messages worked out by hand.
+//! Beyond the clauses: each call succeeds with ample memory, and graphs and messages worked out by
+//! hand.
 
 mod graphs;
 mod indents;

@@ -1,5 +1,5 @@
-//! What no clause says and no row can show: devices that fail, stop or are interrupted, and each call that the program
-//! doesn't make by itself, with ample memory.
+//! Beyond the clauses and the rows: devices that fail, stop or are interrupted, and each call that
+//! the program doesn't make by itself, with ample memory.
 
 mod catalogue;
 mod entries;

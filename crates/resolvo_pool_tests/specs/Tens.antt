@@ -1,4 +1,4 @@
--- What the tests' provider in memory answers.
+-- The answers of the tests' provider in memory.
 use Rattle.std.specs.Prelude.{◌≡◌, ◌==◌, ℕ, ◌+◌, ◌*◌, ◌/◌, ◌%◌, Bool, true, false, [], ◌∷◌, Option, None, Some, cond, nat_lt, All}
 use Rattle.std.proofs.Common.{ap, arith}
 use Rattle.std.proofs.lemmas.List.Elements.{All-nil, All-cons}

@@ -1,4 +1,4 @@
-//! What no clause says: that each call succeeds with ample memory, the worked examples, and the same
+//! Beyond the clauses: each call succeeds with ample memory, the worked examples, and the same
 //! generic code at dense and at sparse ids.
 
 mod cache;

@@ -41,7 +41,7 @@ fn variable(numbers: &[u64], place: usize) -> VariableId {
     VariableId(id(numbers, place))
 }
 
-/// The literal of a number: twice the variable, and one more where the literal says that it is false.
+/// The literal of a number: twice the variable, and one more where the literal is negative.
 fn literal(number: u64) -> Literal {
     let number = u32::try_from(number).unwrap_or(u32::MAX);
     Literal::new(VariableId(number / 2), number % 2 == 1)
@@ -136,7 +136,7 @@ fn put_group(
     Ok(())
 }
 
-/// The packages with their versions, each behind a `;`.
+/// The packages with their versions, each after a `;`.
 fn groups(alloc: Global, text: &str) -> Result<Vec<(NameId, Vec<VariableId>)>, AllocError> {
     let mut groups = Vec::new(alloc);
     for part in text.split(';').skip(1) {

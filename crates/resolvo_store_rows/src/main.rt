@@ -1,4 +1,4 @@
-//! Runs the lists of store calls on standard input, and prints each line that is answered otherwise than it says.
+//! Runs the lists of store calls on standard input, and prints each line whose answer differs.
 #![tactic(auto)]
 
 mod call;
@@ -15,7 +15,7 @@ use std::process::ExitCode;
 
 type Call = StoreCall<NameId>;
 
-/// How many lists were run, how many answers came, and how many of these are others than expected.
+/// How many lists were run, how many answers there were, and how many of these differ.
 #[derive(Clone, Copy)]
 struct Tally {
     lists: u32,
@@ -23,7 +23,7 @@ struct Tally {
     differing: u32,
 }
 
-/// What was found, or that memory was refused.
+/// The counts, or that memory was refused.
 fn got<T>(found: R<T>) -> io::Result<T> {
     match found {
         Ok(value) => Ok(value),

@@ -1,5 +1,6 @@
-//! What no clause says: that each call succeeds with ample memory, and the worked examples; which clauses registered
-//! solvables get; what is learnt and trimmed. Lists of store calls are rows of `resolvo_store_rows`.
+//! Beyond the clauses: each call succeeds with ample memory, and the worked examples; the clauses
+//! of registered solvables; learnt clauses and trimmed proofs. Lists of store calls are rows of
+//! `resolvo_store_rows`.
 
 mod clauses;
 mod names;

@@ -17,7 +17,7 @@ filter_back {S} p (x ∷ xs) = go (p x.raw) (filter_back p xs)
     go true rest = ap (λ ys. x ∷ ys) rest
     go false rest = rest
 
--- what is kept of the solvables are those that are kept of the ids
+-- the kept solvables are those kept of the ids
 pub kept_back : {S : Type 0} (test : S → Bool) (inverse : Bool) (xs : List (Id S)) → map (λ s. record { raw = s; kind = record {} }) (kept test inverse (map (λ t. t.raw) xs)) ≡ kept (λ t. test t.raw) inverse xs
 kept_back test inverse xs = filter_back (λ s. cond inverse (not (test s)) (test s)) xs
 

@@ -1,4 +1,4 @@
--- What a provider's candidates are under other ids.
+-- A provider's candidates under other ids.
 use Rattle.std.specs.Prelude.{map}
 use Rattle.std.specs.Option.{option_map}
 use Rattle.resolvo_pool_core.specs.Provider.{Hint, Listing, none, all, some}

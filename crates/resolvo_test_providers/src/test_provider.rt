@@ -1,4 +1,4 @@
-//! A source over another one: its ids are sparse, it notes what it is asked, and it cancels once.
+//! A source over another one: its ids are sparse, it records its questions, and it cancels once.
 
 ghost use Rattle.std.specs.Prelude.{◌≡◌, refl, length, IfOk, IsErrOf, IsOkUnless, map};
 ghost use Rattle.std.specs.Option.{option_map};
@@ -19,7 +19,7 @@ use std::alloc::Global;
 use std::cell::{Cell, RefCell};
 use std::fmt;
 
-/// What a source is asked.
+/// A question to a source.
 #[derive(Clone, Copy, Debug, PartialEq, Eq)]
 pub enum Question<N, S> {
     /// The candidates of a package.
@@ -36,7 +36,7 @@ pub struct TestProvider<P: Interner> {
     inner: P,
     left: Cell<u32>,
     value: u32,
-    /// What it was asked, in order.
+    /// Its questions, in order.
     pub asked: RefCell<Vec<Question<P::NameId, P::SolvableId>>>,
 }
 

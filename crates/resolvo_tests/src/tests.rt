@@ -1,4 +1,4 @@
-//! What no clause says: that a search comes to an answer where there is memory, and which.
+//! Beyond the clauses: a search has an answer where there is memory, and which.
 
 mod pairs;
 mod requests;
@@ -22,10 +22,10 @@ fn request(rt: &impl Abort, alloc: Global, text: &str, catalogue: &Catalogue) ->
     Request::read(alloc, &mut source, catalogue).expect(rt, "a request")
 }
 
-/// What is asked of a solver: needs, limits and wishes.
+/// The requirements of a solver: needs, limits and wishes.
 type Asked<'a, S> = (&'a [ConditionalRequirement], &'a [VersionSetId], &'a [S]);
 
-/// What a solver answers.
+/// The answer of a solver.
 fn solved<P: DependencyProvider>(
     rt: &impl Abort,
     alloc: Global,

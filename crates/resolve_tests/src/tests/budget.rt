@@ -12,7 +12,7 @@ const REQUEST: &str = "needs a 0..100\n";
 
 const REPORT: &str = "install\na=2 for request line 1\nb=5 for a=2 line 2\n";
 
-/// How a run with this budget ends, and what it writes.
+/// How a run with this budget ends, and its text.
 fn written(alloc: Global, budget: u64) -> Result<(Result<Outcome, RunStop>, Vec<u8>), AllocError> {
     let mut catalogue = MemorySource::new(CATALOGUE.as_bytes(), 4096);
     let mut request = MemorySource::new(REQUEST.as_bytes(), 4096);

@@ -14,7 +14,7 @@ const REQUEST: &str = "needs a\n";
 
 const REPORT: &str = "install\na=1 for request line 1\n";
 
-/// A device, and what it does: interruptions, then so many calls that move a byte, then failures.
+/// A device, and its behaviour: interruptions, then so many calls that move a byte, then failures.
 #[derive(Clone, Copy)]
 struct IoFault {
     device: Device,

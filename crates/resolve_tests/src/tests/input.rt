@@ -25,7 +25,7 @@ fn input_is_parted(rt: HostRuntime) -> Result<(), Fail> {
     Ok(())
 }
 
-/// Whether the input is read whole under this limit; else it is told to be too long.
+/// Whether the input is read whole under this limit; else it is too long.
 fn is_read(alloc: Global, limit: usize) -> Option<bool> {
     let mut source = MemorySource::new(REQUEST.as_bytes(), 3);
     match read_input(alloc, &mut source, limit) {

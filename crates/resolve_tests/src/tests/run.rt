@@ -14,7 +14,7 @@ const REQUEST: &str = "needs a 0..100\n";
 
 const REPORT: &str = "install\na=2 for request line 1\nb=5 for a=2 line 2\n";
 
-/// How a run over these devices ends; what the writer took stays in it.
+/// How a run over these devices ends; the bytes that the writer took stay in it.
 fn ended<W: Sink>(
     alloc: Global,
     catalogue: MemorySource,
@@ -42,7 +42,8 @@ fn ended_full(alloc: Global, room: usize) -> Result<Outcome, RunFault> {
     ended_well_read(alloc, &mut Counted::new(Full::after(room)))
 }
 
-/// How a run ends, and what it writes, where the writer takes so many bytes a call and fails after so many calls.
+/// How a run ends, and its text, where the writer takes so many bytes a call and fails after so
+/// many calls.
 fn written(
     alloc: Global,
     per_call: usize,
@@ -53,7 +54,7 @@ fn written(
     Ok((ended, Vec::from_slice(alloc, writer.bytes())?))
 }
 
-/// Whether such a run fails, and writes this front of the report.
+/// Whether such a run fails, and writes this prefix of the report.
 fn writes_front(
     alloc: Global,
     per_call: usize,
@@ -128,7 +129,8 @@ fn told_where_failing(
     Ok((ended, writer.bytes() == told.as_bytes()))
 }
 
-/// A whole line that came is judged before the read that fails, and told; an unfinished one isn't.
+/// A whole line that was read is judged before the read that fails, and reported; an unfinished one
+/// isn't.
 #[test]
 fn faults_before_failures(rt: HostRuntime) -> Result<(), Fail> {
     for (text, calls, wanted, told) in &[

@@ -17,12 +17,12 @@ fn message_of_copy(alloc: Global, graph: &ConflictGraph) -> R<String> {
     message(alloc, &graph.clone(alloc)?)
 }
 
-/// What the copy of a drawing tells.
+/// The message of the copy of a drawing.
 fn told_by_copy(alloc: Global, links: &[Link]) -> R<String> {
     message_of_copy(alloc, &drawn(alloc, links)?)
 }
 
-/// The drawing and its copy say the same.
+/// The drawing and its copy have one message.
 fn copies_say_the_same(rt: &impl Abort, alloc: Global, links: &[Link]) -> Result<(), Fail> {
     let first = told(alloc, links)?;
     let second = told_by_copy(alloc, links)?;
@@ -71,7 +71,7 @@ fn keeps_unresolved(rt: &impl Abort, graph: &mut ConflictGraph) {
     assert_eq!(rt; graph.unresolved_node(), Some(NodeIndex(2)));
 }
 
-/// Adds an unresolved node without an edge, then a reason, then a version that the root bars.
+/// Adds an unresolved node without an edge, then a reason, then a version that the root forbids.
 fn draw_unused(graph: &mut ConflictGraph) -> R<NodeIndex> {
     graph.add_node(ConflictNode::UnresolvedDependency)?;
     graph.add_node(ConflictNode::Excluded(StringId(0)))?;

@@ -177,7 +177,7 @@ pub enum Link {
     Needs(Place, u32, Place),
     /// The first needs the union.
     NeedsEither(Place, Place),
-    /// The first is locked, so the problem bars the second.
+    /// The first is locked, so the problem forbids the second.
     Locks(u32, Place),
     /// The first admits the version set alone, of which the second is none.
     Admits(Place, u32, Place),
@@ -240,7 +240,7 @@ fn draw_all(graph: &mut ConflictGraph, links: &[Link]) -> R<()> {
     Ok(())
 }
 
-/// The graph of some links, whose nodes come as they are first named.
+/// The graph of some links, whose nodes are in the order in which they are first named.
 pub fn drawn(alloc: Global, links: &[Link]) -> R<ConflictGraph> {
     let mut graph = ConflictGraph::new(alloc)?;
     draw_all(&mut graph, links)?;

@@ -50,7 +50,7 @@ fn fault_after(alloc: Global, calls: u64) -> Option<ReadFault> {
     Catalogue::read(alloc, &mut source).err()
 }
 
-/// A read that fails in mid-text is answered, unless a whole line that came before is faulty.
+/// A read that fails in mid-text is answered, unless a whole line that was read before is faulty.
 #[test]
 fn failing_reads(rt: HostRuntime) {
     for (calls, fault) in &[
@@ -165,7 +165,7 @@ fn owns_the_need(rt: &impl Abort, catalogue: &Catalogue) {
     assert_eq!(rt; catalogue.lines_of(VersionNo(0)), [].as_slice());
 }
 
-/// The nearest `version` line above owns a line, whatever stands between.
+/// The nearest `version` line above owns a line, whichever lines are between.
 #[test]
 fn owners(rt: HostRuntime) -> Result<(), Fail> {
     let text = "version a 1\nversion b 1\nlock a 1\nneeds a";

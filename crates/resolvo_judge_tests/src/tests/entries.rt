@@ -17,7 +17,7 @@ enum RowTurn {
     LeftOut(usize, u32),
 }
 
-/// A step of a row: the line of a lock, and the version that it bars.
+/// A step of a row: the line of a lock, and the version that it forbids.
 struct Lock {
     line: u32,
     name: &'static str,
@@ -33,7 +33,7 @@ struct Row {
     report: &'static str,
 }
 
-/// Wishes that were chosen and wishes that are left out, whose steps come in another order.
+/// Wishes that were chosen and wishes that are left out, whose steps are in another order.
 static WISHES: Row = Row {
     catalogue: "version a 1\nversion a 2\nlock a 1\nversion b 1\nversion b 2\nlock b 2\nversion c 1\nneeds b\n",
     request: "wish a 2\nneeds a\nwish c 1\nwish b 1\n",
@@ -194,7 +194,7 @@ fn written(alloc: Global, report: &Report, room: usize) -> Result<MemorySink, Fa
     Ok(sink)
 }
 
-/// Whether the report has the row's text, and what the judge says of it.
+/// Whether the report has the row's text, and the judge's verdict on it.
 fn told_over(
     alloc: Global,
     catalogue: &Catalogue,

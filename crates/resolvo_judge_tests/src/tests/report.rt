@@ -31,7 +31,7 @@ fn a_faulty_line_before_a_failing_read(rt: HostRuntime) {
     assert_eq!(rt; fault, Some(ReportFault::NotAReport(2)));
 }
 
-/// How many lines of a report come, and the fault of the next.
+/// How many lines of a report are read, and the fault of the next.
 fn lines_and_fault(
     alloc: Global,
     reader: &mut ReportReader,
@@ -58,7 +58,8 @@ fn line_by_line(rt: HostRuntime) -> Result<(), Fail> {
 
 const REFUSAL: &str = "refused\ncatalogue line 1\nrequest line 1\nstep 1 any a=1\n| a\n";
 
-/// Whether a report that doesn't fit into so much room is written up to its end, and the writer's fault told.
+/// Whether a report that doesn't fit into so much room is written up to its end, and the writer's
+/// fault returned.
 fn front_is_written(alloc: Global, report: &Report, room: usize) -> Result<bool, AllocError> {
     let mut sink = MemorySink::new(alloc, room, 1)?;
     let fault = report.write(alloc, &mut sink).err();

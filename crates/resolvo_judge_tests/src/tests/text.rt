@@ -1,4 +1,4 @@
-//! Lines of texts, devices over memory, conditions and what they mean.
+//! Lines of texts, devices over memory, conditions and their meaning.
 
 ghost use Rattle.std.specs.Prelude.{◌<◌};
 

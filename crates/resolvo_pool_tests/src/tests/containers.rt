@@ -16,7 +16,7 @@ use std::alloc::Global;
 use std::process::Abort;
 use std::test::Fail;
 
-/// Whether a set of ids holds what was put in, once.
+/// Whether a set of ids holds the inserted ones, once.
 fn serves_sets<S: SolverId>(alloc: Global, a: S, b: S) -> R<bool> {
     let mut set = S::Set::new(alloc);
     Ok(set.insert(a)? && !set.insert(a)? && set.contains(a) && !set.contains(b))
@@ -30,7 +30,7 @@ fn serves_scores<S: SolverId>(alloc: Global, a: S, b: S) -> R<bool> {
     Ok(scores.get(a) == 950_000 && scores.get(b) == 0)
 }
 
-/// Whether a map of optional numbers holds what was put in.
+/// Whether a map of optional numbers holds the inserted ones.
 fn serves_numbers<S: SolverId>(alloc: Global, a: S, b: S) -> R<bool> {
     let mut numbers = S::OptionalIds::new(alloc);
     numbers.set(b, OptionalNumber(Some(7)))?;

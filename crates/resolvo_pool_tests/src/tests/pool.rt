@@ -73,7 +73,7 @@ fn joined_condition(pool: &mut Pool<UpTo>) -> R<Option<usize>> {
     Ok(Some(both.to_index()))
 }
 
-/// Whether what is interned under a letter and a number of a package has this index, in each list.
+/// Whether the ids interned for a letter and a number of a package have this index, in each list.
 fn has_index(pool: &mut Pool<UpTo>, letter: &str, set: u32, want: usize) -> R<bool> {
     Ok(
         name(pool, letter)? == Some(want)

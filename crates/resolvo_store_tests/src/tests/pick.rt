@@ -78,7 +78,7 @@ fn root_alone(alloc: Global) -> R<DecisionMap> {
 /// A candidate with the number of undecided ones of its clause.
 type Pick = Option<(u32, usize)>;
 
-/// What is picked at first, with a raised score, with three more values, and with a last one.
+/// The picks at first, with a raised score, with three more values, and with a last one.
 fn picks_in_turn(
     (lists, queue): &(FixedLists<NameId>, DecideQueue),
     values: &mut DecisionMap,

@@ -31,7 +31,7 @@ fn register(
     Ok(())
 }
 
-/// What comes once so many solvables of one package were registered, each twice.
+/// The counts after so many solvables of one package were registered, each twice.
 fn registered(alloc: Global, count: u32) -> R<SolverState<NameId, SolvableId>> {
     let mut coding: SolverState<NameId, SolvableId> = SolverState::begin(alloc)?;
     register(&mut coding, &mut Registry::new(alloc), count)?;
@@ -44,7 +44,7 @@ fn clauses(alloc: Global, count: u32) -> R<usize> {
     Ok(coding.search.clauses.len())
 }
 
-/// Which digits of which places the clauses tell then.
+/// The digits and places of the clauses then.
 fn places(alloc: Global, count: u32) -> R<Vec<(u32, u32)>> {
     let coding = registered(alloc, count)?;
     let mut places = Vec::new(alloc);
@@ -56,7 +56,7 @@ fn places(alloc: Global, count: u32) -> R<Vec<(u32, u32)>> {
     Ok(places)
 }
 
-/// The first clause says the root; then there is one for each solvable and each digit.
+/// The first clause is the root's; then there is one for each solvable and each digit.
 #[test]
 fn digits(rt: HostRuntime) -> Result<(), Fail> {
     assert_eq!(rt; clauses(rt.alloc(), 1)?, 1);
@@ -66,7 +66,7 @@ fn digits(rt: HostRuntime) -> Result<(), Fail> {
     Ok(())
 }
 
-/// Where a digit is new, it is told first of the solvables before, in their order.
+/// Where a digit is new, the clauses of the solvables before are first, in their order.
 #[test]
 fn each_place(rt: HostRuntime) -> Result<(), Fail> {
     assert_eq!(rt; places(rt.alloc(), 1)?.len(), 0);
@@ -96,7 +96,8 @@ fn one_of_two(alloc: Global) -> R<Vec<SolvableId>> {
     )
 }
 
-/// Registers two solvables, states that one is needed and the first excluded, and gives the chosen ones.
+/// Registers two solvables, adds that one is needed and the first excluded, and returns the chosen
+/// ones.
 fn choose_one(
     alloc: Global,
     coding: &mut SolverState<NameId, SolvableId>,
@@ -114,7 +115,7 @@ fn choose_one(
     coding.chosen(alloc)
 }
 
-/// States that one of two solvables is needed.
+/// Adds that one of two solvables is needed.
 fn need_one(
     alloc: Global,
     coding: &mut SolverState<NameId, SolvableId>,
@@ -140,7 +141,7 @@ fn need_one(
     Ok(())
 }
 
-/// States that a solvable is excluded.
+/// Adds that a solvable is excluded.
 fn exclude(
     alloc: Global,
     coding: &mut SolverState<NameId, SolvableId>,

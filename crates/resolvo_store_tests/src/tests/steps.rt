@@ -38,7 +38,7 @@ fn literals_of(alloc: Global, search: &SatState, signs: &[(u32, bool)]) -> R<Vec
     Ok(literals)
 }
 
-/// States a rule, unless its clause has no literal.
+/// Adds a rule, unless its clause has no literal.
 fn state(
     alloc: Global,
     coding: &mut TestCoding,
@@ -68,7 +68,7 @@ fn solvables(alloc: Global, count: u32) -> R<TestCoding>
     Ok(coding)
 }
 
-/// States that the root needs one of two solvables, and that both are excluded; what then is refused.
+/// Adds that the root needs one of two solvables, and that both are excluded; the refusal of that.
 fn refuse(alloc: Global, coding: &mut TestCoding) -> R<Vec<TestStep>>
     requires { IsCoding coding.old }
 {
@@ -87,7 +87,7 @@ fn refused(alloc: Global) -> R<Vec<TestStep>> {
     refuse(alloc, &mut solvables(alloc, 2)?)
 }
 
-/// States that a solvable is excluded.
+/// Adds that a solvable is excluded.
 fn exclude(alloc: Global, coding: &mut TestCoding, number: u16) -> R<()>
     requires { IsCoding coding.old }
     ensures { OnOk result (IsCoding coding.new) }
@@ -109,7 +109,7 @@ fn steps_of_next(alloc: Global, coding: &mut TestCoding) -> R<Vec<TestStep>>
     }
 }
 
-/// A solvable is chosen that needs another one, and keeps it out; what then is learnt.
+/// A solvable is chosen that needs another one, and keeps it out; the clause learnt then.
 fn learn(alloc: Global, coding: &mut TestCoding) -> R<Vec<TestStep>>
     requires { IsCoding coding.old }
 {
@@ -192,8 +192,8 @@ fn tells_a_refusal(rt: &impl Abort, steps: &[TestStep]) {
     assert_eq!(rt; causes(&steps[3]), Some([1, 2, 0].as_slice()));
 }
 
-/// The rules come as they were stated. The last step has no literals: both solvables are out, which
-/// breaks the first rule.
+/// The rules are in the order in which they were added. The last step has no literals: both
+/// solvables are out, which falsifies the first rule.
 #[test]
 fn refusal(rt: HostRuntime) -> Result<(), Fail> {
     tells_a_refusal(&rt, refused(rt.alloc())?.as_slice());
@@ -210,15 +210,15 @@ fn tells_what_was_learnt(rt: &impl Abort, steps: &[TestStep]) {
     assert_eq!(rt; causes(&steps[2]), Some([1, 0].as_slice()));
 }
 
-/// The learnt clause says that the first solvable is out. With it, the rule that came last, which is met
-/// first, keeps the second one out, and then the other rule breaks.
+/// The learnt clause excludes the first solvable. With it, the rule added last, which is met first,
+/// keeps the second one out. Then the other rule is falsified.
 #[test]
 fn learning(rt: HostRuntime) -> Result<(), Fail> {
     tells_what_was_learnt(&rt, learnt(rt.alloc())?.as_slice());
     Ok(())
 }
 
-/// A step: the exclusion of a solvable, or what follows of one other step and has no literals.
+/// A step: the exclusion of a solvable, or a clause without literals derived from one other step.
 #[derive(Clone, Copy)]
 enum StepRow {
     Excluded(u16),
@@ -233,7 +233,8 @@ struct Trim {
     numbers: &'static [usize],
 }
 
-/// Three exclusions, and what follows of the second and of the third; then one more of the first.
+/// Three exclusions, and the steps derived from the second and the third; then one more of the
+/// first.
 const SEVERAL: &[StepRow] = &[
     StepRow::Excluded(0),
     StepRow::Excluded(1),
@@ -329,7 +330,7 @@ fn trimming_to_places(rt: HostRuntime) -> Result<(), Fail> {
     Ok(())
 }
 
-/// A rule that nothing rests on is left out, and the one behind it is named anew.
+/// A rule on which nothing rests is left out, and the one after it is renumbered.
 #[test]
 fn trimming(rt: HostRuntime) -> Result<(), Fail> {
     let rows = [

@@ -111,7 +111,7 @@ fn origins(rt: HostRuntime) -> Result<(), Fail> {
     Ok(())
 }
 
-/// What kind of origin it is, as a word.
+/// The kind of an origin, as a word.
 fn kind(origin: VariableOrigin<NameId, SolvableId>) -> &'static str {
     match origin {
         VariableOrigin::Root => "root",

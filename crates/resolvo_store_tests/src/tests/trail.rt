@@ -45,7 +45,7 @@ fn least_length(rt: HostRuntime) -> Result<(), Fail> {
     Ok(())
 }
 
-/// Four decisions come, and neither one that is there nor its opposite.
+/// Four decisions are added, but none that is on the trail, nor its opposite.
 fn takes_decisions(rt: &impl Abort, trail: &mut DecisionTracker) -> R<()> {
     assert_eq!(rt; undo(trail), None);
     for (variable, level) in &[(4u32, 1u32), (7, 2), (5, 3), (9, 3)] {
@@ -79,7 +79,7 @@ fn next(trail: &mut DecisionTracker) -> Option<VariableId> {
     trail.next_unpropagated().map(|decision| decision.variable)
 }
 
-/// Decisions are handed out once, but for those after a return, and again from the front.
+/// Decisions are propagated once, but for those after a backtrack, and again from the start.
 fn hands_out(rt: &impl Abort, trail: &mut DecisionTracker) {
     assert_eq!(rt; next(trail), Some(VariableId(4)));
     assert_eq!(rt; next(trail), Some(VariableId(7)));

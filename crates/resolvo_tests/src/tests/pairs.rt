@@ -1,5 +1,5 @@
-//! Generated catalogues and requests with lines of all forms: what the solver chooses keeps all lines, with one version of a package at
-//! most, and it refuses only where no set does.
+//! Generated catalogues and requests with lines of all forms. The solver's choices keep all lines,
+//! with one version of a package at most, and it refuses only where no set does.
 
 use super::{catalogue, request, solved};
 use resolvo::solver::{Solver, UnsolvableOrCancelled};
@@ -16,7 +16,7 @@ fn keeps_by_lines(catalogue: &Catalogue, request: &Request, set: &[VersionNo]) -
         && (0..request.line_count()).all(|line| request.keeps(catalogue, line.wrapping_add(1), set))
 }
 
-/// The lines that may follow a version, and those that may stand below all of them.
+/// The lines that may follow a version, and those that may be below all of them.
 static OWNED: [&str; 16] = [
     "needs a\n",
     "needs b 1..2 | c 3\n",
@@ -132,7 +132,7 @@ fn count_of(package: &[u32; 3], set: &[VersionNo]) -> usize {
         .count()
 }
 
-/// Whether what is chosen keeps all lines, with at most one version of a package.
+/// Whether the chosen versions keep all lines, with at most one version of a package.
 fn is_right(
     rt: &impl Abort,
     alloc: Global,
@@ -149,8 +149,8 @@ fn is_right(
         && keeps_by_lines(catalogue, request, set.as_slice())
 }
 
-/// Whether the generated request can be solved over the generated catalogue; the solver says so too. A wish that a lock or an exclusion
-/// bars isn't asked for.
+/// Whether the generated request can be solved over the generated catalogue, as the solver answers
+/// too. A wish that a lock or an exclusion forbids isn't asked for.
 fn is_solved(rt: &impl Abort, alloc: Global, seed: u32) -> bool {
     let (mut listed, mut asked) = (String::new(alloc), String::new(alloc));
     generated(rt, seed, &mut listed, &mut asked);

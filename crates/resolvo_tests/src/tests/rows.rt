@@ -1,5 +1,5 @@
-//! Requests over small catalogues. A row is solved by a source with sparse ids, which notes what it is asked and cancels at each of its
-//! tests in turn.
+//! Requests over small catalogues. A row is solved by a source with sparse ids, which records its
+//! questions and cancels at each of its tests in turn.
 
 use super::{Asked, catalogue, request, solved};
 use resolvo::conflict::Conflict;
@@ -43,8 +43,8 @@ const OLD: &str =
 const WISHED: &str =
     "version a 1\nversion a 2\nversion w 1\nneeds x\nversion x 1\nversion x 2\nneeds a 1\n";
 
-/// A catalogue, a request, and what a solver says: what is chosen, in its order, which wishes are left out, and how many cases of
-/// conditions wait.
+/// A catalogue, a request, and the solver's answer: the chosen versions, in their order, the wishes
+/// left out, and how many cases of conditions wait.
 static ROWS: [[&str; 3]; 44] = [
     ["", "", ""],
     [MARKET, "needs a\n", "a 2\nb 1\n"],
@@ -152,8 +152,9 @@ static ROWS: [[&str; 3]; 44] = [
     ],
 ];
 
-/// A catalogue, for which candidates dependencies are at hand, a request, and what the source is asked: the candidates of a package, or
-/// the dependencies of a version. Those that are at hand are asked for with each need, and others once the version is chosen.
+/// A catalogue, for which candidates dependencies are at hand, a request, and the source's
+/// questions: the candidates of a package, or the dependencies of a version. Those that are at hand
+/// are asked for with each need, and others once the version is chosen.
 static QUESTIONS: [(&str, Hint, &str, &str); 8] = [
     (LAZY, Hint::None, "needs a\n", "a\na 2\n"),
     (LAZY, Hint::All, "needs a\n", "a\na 2\na 1\nb\n"),
@@ -198,7 +199,8 @@ type Source = TestProvider<CatalogueProvider>;
 
 type Version = SparseId<SolvableTag, SolvableId>;
 
-/// What a solver says of a row: at first, and where it was stopped, when it is asked again; what its source was asked; and why it refuses.
+/// A solver's answer to a row: at first, and where it was stopped, when it is asked again; its
+/// source's questions; and why it refuses.
 #[derive(Drop)]
 struct Answer {
     first: String,
@@ -231,7 +233,7 @@ fn tell_version(
     writeln!(text, "{front}{shown}").expect(rt, "room");
 }
 
-/// What is chosen, which wishes are left out, and how many cases wait.
+/// The chosen versions, the wishes left out, and how many cases wait.
 fn tell_chosen(rt: &impl Abort, text: &mut String, solver: &Solver<Source>, chosen: &[Version]) {
     for version in chosen {
         tell_version(rt, text, solver.provider(), "", *version);
@@ -279,7 +281,7 @@ fn tell_asked(rt: &impl Abort, text: &mut String, source: &Source) {
     }
 }
 
-/// Writes what a solver says, and why it refuses. Whether it was stopped.
+/// Writes a solver's answer, and why it refuses. Whether it was stopped.
 fn tell(
     rt: &impl Abort,
     alloc: Global,
@@ -306,7 +308,7 @@ fn tell(
     false
 }
 
-/// Fills in what a solver says. Where it is stopped nothing is left, and it is asked again.
+/// Fills in a solver's answer. Where it is stopped nothing is left, and it is asked again.
 fn tell_twice(
     rt: &impl Abort,
     alloc: Global,
@@ -343,7 +345,7 @@ fn tell_twice(
     }
 }
 
-/// What a solver says of a request over a catalogue, if its source lets so many tests pass.
+/// A solver's answer to a request over a catalogue, if its source lets so many tests pass.
 fn answer_of(
     rt: &impl Abort,
     alloc: Global,

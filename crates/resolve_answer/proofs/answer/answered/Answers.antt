@@ -25,7 +25,7 @@ same x y = (x.raw == y.raw) && true
 exact : IsExact same
 exact = record { one = λ x y h. ap (λ k. record { raw = k; tag = record {} }) (eqb-true x.raw y.raw (and_parts (x.raw == y.raw) true h).0); own = λ x. and_from (x.raw == x.raw) true (eq-eqb x.raw x.raw refl) refl }
 
--- what is said of these wishes for a root of these rules
+-- the answer for these wishes, for a root of these rules
 abbrev SaysOf : Rules → List SolvableId → Verdict → Kept Provider NameId SolvableId → Provider → Type 0
 SaysOf root free verdict solver p = AreCandidates same (packages_of p) free → IsAnswer same (packages_of p) root (orders_of same p) free verdict solver
 
@@ -35,7 +35,7 @@ IfGiven verdict P = IfEnded verdict P
 abbrev IsLeftBy : Verdict → Kept Provider NameId SolvableId → Type 0
 IsLeftBy verdict solver = Leaves verdict solver
 
--- a search that refuses has come to its end
+-- a search that refuses is complete
 ended : {P : Type 0} {e : UnsolvableOrCancelled GivenUp} {conflict : Conflict} → e ≡ Unsolvable conflict → IfGiven (Err e) P → P
 ended {P} is h = subst (λ (x : UnsolvableOrCancelled GivenUp). IfGiven (Err x) P) is h
 

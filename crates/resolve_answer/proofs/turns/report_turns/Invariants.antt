@@ -5,7 +5,7 @@ use Rattle.resolvo_report.specs.View.{steps_of}
 use Rattle.resolve_answer.specs.ReportTurns.{AreReportTurns, AreTold}
 use Rattle.resolve_answer.proofs.turns.report_turns.Given as goal
 
--- what is told of the other wishes goes behind what was told
+-- the turns of the other wishes follow those that are there
 abbrev pub invariant-loop-wish : goal.invariant-loop-wish
 invariant-loop-wish l = record {
   goes : (rest : List Turn) (after : List Step) → AreTold l.outcome.chosen.now l.outcome.turns.now l.outcome.places.now (drop (length l.yielded) l.fn.wishes.items) l.next (steps_of l.steps.items) rest after

@@ -7,7 +7,7 @@ use Rattle.resolve_answer.specs.Wishes.{asked_by}
 use Rattle.resolve_answer.specs.declared.wishes.Wish.{Wish}
 use Rattle.resolve_answer.proofs.wishes.wishes_of.Given as goal
 
--- the wishes so far, each with the step that bars it
+-- the wishes so far, each with the step that forbids it
 abbrev pub invariant-loop-wish : goal.invariant-loop-wish
 invariant-loop-wish l = record {
   are : map asked_by l.wishes.items ≡ take l.wish-index l.wish-items;

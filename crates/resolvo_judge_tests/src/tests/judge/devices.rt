@@ -9,7 +9,7 @@ use std::test::Fail;
 
 const REPORT: &str = "install\na=1 for request line 1\n";
 
-/// What is answered where the device fails after so many calls.
+/// The answer where the device fails after so many calls.
 fn after_calls(
     alloc: Global,
     (catalogue, request): &(Catalogue, Request),
@@ -35,7 +35,7 @@ fn tells_each_read(rt: &impl Abort, alloc: Global, asked: &(Catalogue, Request))
     assert_eq!(rt; found, Ok(Verdict::Yes));
 }
 
-/// A read that fails is told, at whichever call.
+/// A read that fails is reported, at any call.
 #[test]
 fn each_read_failing(rt: HostRuntime) -> Result<(), Fail> {
     tells_each_read(&rt, rt.alloc(), &asked(rt.alloc())?);
@@ -49,7 +49,7 @@ fn tells_the_line(rt: &impl Abort, alloc: Global, asked: &(Catalogue, Request)) 
     assert_eq!(rt; found, Err(JudgeFault::Reader));
 }
 
-/// A whole line that came is judged before the read that fails; an unfinished one isn't.
+/// A whole line that was read is judged before the read that fails; an unfinished one isn't.
 #[test]
 fn a_wrong_line_before_a_failing_read(rt: HostRuntime) -> Result<(), Fail> {
     tells_the_line(&rt, rt.alloc(), &asked(rt.alloc())?);

@@ -10,7 +10,7 @@ use resolvo_report::{Atom, Literal, Report, Step};
 use std::alloc::{AllocError, Global};
 use std::test::Fail;
 
-/// What is found of steps: the place of the first wrong one, and how many clauses were named and read.
+/// The check of steps: the place of the first wrong one, and how many clauses were named and read.
 type Found = (Option<usize>, u64, u64);
 
 /// Checks the steps; none where they are too many.
@@ -69,7 +69,7 @@ fn named(alloc: Global, catalogue: &[bool]) -> Result<Premises, AllocError> {
     })
 }
 
-/// What is found of the proof's steps, where these lines of the catalogue are named.
+/// The check of the proof's steps, where these lines of the catalogue are named.
 fn found_where_named(
     alloc: Global,
     texts: &(Catalogue, Request),

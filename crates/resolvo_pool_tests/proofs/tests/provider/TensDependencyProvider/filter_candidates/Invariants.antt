@@ -4,7 +4,7 @@ use Rattle.resolvo_pool_core.specs.Provider.{kept}
 use Rattle.resolvo_pool_tests.specs.Tens.{Place}
 use Rattle.resolvo_pool_tests.proofs.tests.provider.TensDependencyProvider.filter_candidates.Given as goal
 
--- what was found, with what is kept of the candidates that are left, is what is kept of them all
+-- the found candidates, with those kept of the rest, are those kept of all
 abbrev pub invariant-loop-candidate : goal.invariant-loop-candidate
 invariant-loop-candidate l =
     let holds = λ (s : Place). nat_le l.version_set.0 s.raw in
