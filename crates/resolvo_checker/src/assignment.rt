@@ -1,5 +1,5 @@
 //! A table of truth values that is never cleared: a value counts in the pass that set it.
-//! Its model is what is known, a function from variables to values. Used by `one_pass`.
+//! Its model is a function from variables to known values. Used by `one_pass`.
 
 ghost use Rattle.std.specs.Prelude.{◌≡◌, ◌<◌, ◌≤◌, ◌^◌, ◌+◌, ℕ, OnOk, OnErr, vec_len, All};
 ghost use Rattle.std.specs.Bool.{nat_eq};
@@ -15,7 +15,7 @@ pub struct Mark {
     pub value: Option<bool>,
 }
 
-/// The values that are known in the present pass.
+/// The values that the present pass has assigned.
 #[derive(Debug, Drop)]
 pub struct Assignment {
     pub marks: Vec<Mark>,

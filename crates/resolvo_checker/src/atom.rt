@@ -1,8 +1,8 @@
-//! Literals as clauses are built of them: versions by their numbers in the catalogue.
+//! The literals of a built clause: versions by their numbers in the catalogue.
 
 use resolvo_catalogue_core::{Spec, VersionNo};
 
-/// What a literal is about.
+/// The atom of a literal.
 #[derive(Debug, Drop)]
 pub enum Atom {
     Version(VersionNo),

@@ -7,7 +7,7 @@ use std::alloc::{AllocError, Global};
 use std::collections::HashMap;
 use std::marker::Model;
 
-/// The numbers of the keys that were met.
+/// The numbers of the keys so far.
 #[derive(Drop)]
 pub struct AtomIds {
     map: HashMap<Vec<usize>, usize>,
@@ -49,7 +49,7 @@ impl AtomIds {
         self.map.get(key).copied()
     }
 
-    /// Gives a key that has none the next number.
+    /// Gives a new key the next number.
     fn add(&mut self, key: Vec<usize>) -> Result<usize, AllocError>
         requires { number_in self.old key.items ≡ None }
         ensures found { IfOk result (λ i. number_in self.new key.items ≡ Some i) }
@@ -60,7 +60,7 @@ impl AtomIds {
         Ok(number)
     }
 
-    /// The number of the key, a new one where it has none.
+    /// The number of the key, or the next one for a new key.
     pub fn number(&mut self, alloc: Global, key: &[usize]) -> Result<usize, AllocError>
         ensures found { IfOk result (λ i. number_in self.new key.now ≡ Some i) }
         ensures keeps { Keeps self.old self.new }

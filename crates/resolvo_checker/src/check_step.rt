@@ -1,5 +1,5 @@
-//! The steps of a proof, taken one after the other.
-//! What is kept of the steps stands for them: `StandFor` of specs/Checking.antt. The judge takes each step of a report here.
+//! The check of a proof, step by step.
+//! Its invariant is `CheckerInvariant` of specs/CheckStep.antt.
 
 ghost use Rattle.std.specs.Prelude.{◌≡◌, ◌+◌, ◌^◌, ◌<◌, ◌≤◌, ◌&&◌, [], ◌∷◌, ◌++◌, ℕ, List, IfOk, IsTrue, length, map, is_some, slice_get, true};
 ghost use Rattle.std.specs.Global.{Vec};
@@ -34,7 +34,7 @@ use resolvo_report as report;
 use resolvo_report::{Atom, Place, Step};
 use std::alloc::{AllocError, Global};
 
-/// The lines that steps may rest on: all, or those of the two texts that are marked.
+/// The lines that steps may name: all, or the marked ones of the two texts.
 #[derive(Debug, Drop)]
 pub enum Premises {
     All,
@@ -71,7 +71,7 @@ fn in_request(scope: &Premises, line: u32) -> bool
     }
 }
 
-/// Whether the line that the step takes its rule from may be rested on.
+/// Whether the step may name its line.
 fn is_named(scope: &Premises, step: &Step) -> bool
     ensures { result
         ≡ rests_on_named (names_catalogue scope.now) (names_request scope.now) (step_of step.now) }
@@ -205,7 +205,7 @@ fn number_step(
     number_rule(alloc, catalogue, request, numbers, out, step)
 }
 
-/// The place that a version was given.
+/// Whether the version has this place, or none yet.
 fn may_have(places: &[Option<u32>], version: VersionNo, place: u32) -> bool
     ensures { result ≡ allows (slice_get places.now version.0) place }
 {
@@ -215,14 +215,14 @@ fn may_have(places: &[Option<u32>], version: VersionNo, place: u32) -> bool
     }
 }
 
-/// Whether these are numbers of the first so many steps, from 1.
+/// Whether the causes are steps from 1 to the count.
 pub fn are_earlier(causes: &[u32], count: usize) -> bool
     ensures { result ≡ list_all (is_earlier count) causes.now }
 {
     causes.iter().all(|n| 0 < *n && *n as usize <= count)
 }
 
-/// What is kept of the steps so far beside their clauses, and the literals of the present one.
+/// The checker's state beside the clauses, and the literals of the present step.
 #[derive(Drop)]
 pub struct Checker {
     pub numbers: AtomIds,
@@ -232,7 +232,7 @@ pub struct Checker {
     pub literals: Vec<Literal>,
 }
 
-/// Whether the causes are earlier steps, and one pass over their clauses refutes the derived one.
+/// Whether the causes are earlier steps, and the derived clause is RUP by them.
 fn is_derived(
     alloc: Global,
     truth: &mut Assignment,
@@ -285,8 +285,7 @@ fn has_no_other(
     }
 }
 
-/// Whether the step owes nothing to the earlier ones that it hasn't: a version has one place, and one pass over
-/// the clauses of earlier steps refutes a derived one.
+/// Whether the step fits the earlier ones: a version has one place, and a derived clause is RUP.
 fn follows(
     alloc: Global,
     catalogue: &Catalogue,
@@ -338,7 +337,7 @@ fn follows(
     }
 }
 
-/// Notes the place that a digit step gives.
+/// Records the place that a digit step gives.
 fn note_place(catalogue: &Catalogue, places: &mut Vec<Option<u32>>, step: &Step)
     requires { length places.old.items ≡ length (listed catalogue.now) }
     ensures long { length places.new.items ≡ length (listed catalogue.now) }
@@ -356,9 +355,9 @@ fn note_place(catalogue: &Catalogue, places: &mut Vec<Option<u32>>, step: &Step)
     }
 }
 
-/// Takes the next step: whether it may stand after the earlier ones. Where it may, what is kept stands for it too.
+/// Checks the next step, and adds its clause if it is valid.
 ///
-/// The number of the step is that of the steps before it and one.
+/// The steps are numbered from 1.
 pub fn advance(
     alloc: Global,
     catalogue: &Catalogue,
@@ -411,7 +410,8 @@ pub fn advance(
     if !there || !is_named(scope, step) {
         return Ok(false);
     }
-    // The proof rests on what these two say: no version is listed twice, and no two keys have one number.
+    // The proof uses the contracts of these two calls: no version is listed twice, and no two
+    // keys have one number.
     let _versions = catalogue.versions();
     let _count = checker.numbers.count();
     let fine = follows(

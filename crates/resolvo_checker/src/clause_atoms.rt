@@ -100,7 +100,7 @@ pub fn push_bit(
     Ok(())
 }
 
-/// Adds a SPEC's part of a key. The length of the name tells where it ends.
+/// Adds a SPEC's part of a key. The length of the name precedes the name.
 fn push_spec(key: &mut Vec<usize>, spec: &Spec) -> Result<(), AllocError>
     ensures { OnOk result (key.new.items ≡ key.old.items ++ spec_key (spec_of spec.now)) }
 {
@@ -189,7 +189,7 @@ fn push_literal(
     Ok(())
 }
 
-/// Numbers the atoms of a clause that was built.
+/// Numbers the atoms of a built clause.
 pub fn number_all(
     alloc: Global,
     numbers: &mut AtomIds,

@@ -1,4 +1,4 @@
-//! The parts of clauses, added to a clause that is built.
+//! Literals and groups of literals, added to a clause.
 
 ghost use Rattle.std.specs.Prelude.{◌≡◌, [], ◌∷◌, ◌++◌, List, Some, OnOk, IfOk, map};
 ghost use Rattle.resolvo_text.specs.Line as says;
@@ -130,7 +130,8 @@ fn push_numbers(out: &mut Clause, numbers: &BTreeSet<u32>) -> Result<(), AllocEr
     Ok(())
 }
 
-/// Adds each listed version of the SPEC's package that doesn't match, or else each that matches. The others aren't walked.
+/// Adds the listed versions of the SPEC's package that don't match, or those that match.
+/// It reads no other versions.
 fn push_each(
     alloc: Global,
     out: &mut Clause,
@@ -166,7 +167,7 @@ pub fn push_matches(
     Ok(())
 }
 
-/// Adds that each SPEC of the case has no matching member.
+/// Adds the literals of which one is true where the case doesn't hold.
 pub fn push_case(
     alloc: Global,
     out: &mut Clause,

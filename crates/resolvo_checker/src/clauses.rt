@@ -1,5 +1,5 @@
 //! The clauses of earlier steps, and how often they were named and read.
-//! They and their counter are one value: a clause is given out by `Clauses::clause` alone, which counts it there.
+//! `Clauses::clause` alone gives a clause out, and counts it as read.
 
 ghost use Rattle.std.specs.Prelude.{◌≡◌, ◌+◌, ◌^◌, ◌<◌, ◌≤◌, [], ◌∷◌, ◌++◌, OnOk, OnErr, length, Some, slice_get};
 ghost use Rattle.std.specs.List.{slice_range};
@@ -9,7 +9,7 @@ use crate::literal::Literal;
 use std::alloc::{AllocError, Global};
 use std::marker::Model;
 
-/// How many clauses were named, and how many read.
+/// The counts of clauses that were named and read.
 #[derive(Clone, Copy, Debug, PartialEq, Eq)]
 pub struct Readings {
     named: u64,
@@ -157,7 +157,7 @@ impl Clauses {
         self.kept.push(clause)
     }
 
-    /// Gives out the clause of a step, counted from 0. It is counted as read.
+    /// The clause of a step, from 0. It is counted as read.
     pub(crate) fn clause(&mut self, step: usize, out: &mut Vec<Literal>) -> Result<(), AllocError>
         requires within { step < length self.old.kept }
         requires room { self.old.readings.read + 1 < 2 ^ 64 }
@@ -171,7 +171,7 @@ impl Clauses {
         Ok(())
     }
 
-    /// Notes that so many clauses are named.
+    /// Counts so many clauses as named.
     pub fn name(&mut self, count: u64)
         requires { self.old.readings.named + count < 2 ^ 64 }
         ensures kept { self.new.kept ≡ self.old.kept }

@@ -1,4 +1,4 @@
-//! The steps of a report: the clause of each, whether it may stand where it does, and whole proofs.
+//! The steps of a report: the clause of each, whether the step is valid, and whole proofs.
 #![tactic(auto)]
 
 pub mod assignment;

@@ -1,4 +1,4 @@
-//! Literals of numbered atoms, as clauses hold them.
+//! The literals of clauses, over numbered atoms.
 
 /// The atom of this number, or its negation.
 #[derive(Clone, Copy, Debug, PartialEq, Eq, Drop)]
@@ -7,13 +7,13 @@ pub struct Literal {
     pub positive: bool,
 }
 
-/// What a clause says once its false literals are left out.
+/// The literals of a clause that aren't false.
 #[derive(Clone, Copy, Debug, PartialEq, Eq, Drop)]
 pub enum Rest {
-    /// No literal is left.
+    /// None.
     Broken,
-    /// One literal is, perhaps named twice.
+    /// One, perhaps twice.
     Last(Literal),
-    /// More are.
+    /// More than one.
     Open,
 }

@@ -1,4 +1,4 @@
-//! Whole proofs: the steps in order, from all lines or from those that are named.
+//! Whole proofs: the steps in order, from all lines or from the named ones.
 
 ghost use Rattle.std.specs.Prelude.{◌≡◌, ◌+◌, ◌^◌, ◌<◌, ◌≤◌, ℕ, [], List, Some, IfOk, IfSome, IfNone, length, replicate, None, true, slice_get};
 ghost use Rattle.resolvo_text.specs.Line.{Version};
@@ -19,14 +19,14 @@ use resolvo_catalogue_core::{Catalogue, Request};
 use resolvo_report::Step;
 use std::alloc::{AllocError, Global};
 
-/// The first step, from 0, that may not stand after those before it, and how many clauses were named and read.
+/// The first invalid step, from 0, and the counts of clauses that were named and read.
 #[derive(Clone, Copy, Debug)]
 pub struct Checked {
     pub wrong: Option<usize>,
     pub readings: Readings,
 }
 
-/// A table of so many places, with nothing in each.
+/// So many places, all empty.
 pub fn nothing_each<T: Copy>(alloc: Global, count: usize) -> Result<Vec<Option<T>>, AllocError>
     ensures { IfOk result (λ places. places.items ≡ replicate count None) }
 {
@@ -37,7 +37,7 @@ pub fn nothing_each<T: Copy>(alloc: Global, count: usize) -> Result<Vec<Option<T
     Ok(places)
 }
 
-/// What is kept of no step.
+/// The checker's state before the first step.
 pub fn begin(alloc: Global, catalogue: &Catalogue, request: &Request) -> Result<Checker, AllocError>
     ensures stands { IfOk result (λ c. StandFor catalogue.now request.now.lines c.numbers [] c.places.items []) }
     ensures pass { IfOk result (λ c. c.truth.pass ≡ 0) }
@@ -74,7 +74,7 @@ pub fn count_causes(steps: &[Step]) -> Option<u64>
     Some(count)
 }
 
-/// Takes the steps in order: the first, from 0, that may not stand after those before it.
+/// Checks the steps in order. The answer is the first invalid step, from 0.
 fn check_from(
     alloc: Global,
     catalogue: &Catalogue,
@@ -129,7 +129,7 @@ pub fn check_steps(
 ) -> Result<Checked, AllocError>
     requires few { length steps.now + 1 < 2 ^ 32 }
     requires room { count_causes (steps_of steps.now) < 2 ^ 64 }
-    // The first step that may not stand where it does, or else the steps are a proof.
+    // The first invalid step, or else the steps are a proof.
     ensures wrong { IfOk result
         (λ c.
         IfSome c.wrong
@@ -143,7 +143,7 @@ pub fn check_steps(
     // Each named clause was read once for each naming.
     ensures named { IfOk result (λ c. IfNone c.wrong (c.readings.named ≡ count_causes (steps_of steps.now))) }
     ensures read { IfOk result (λ c. IfNone c.wrong (c.readings.read ≡ count_causes (steps_of steps.now))) }
-    // A proof that ends with the empty clause: no single set obeys the lines.
+    // Where a proof ends with the empty clause, no single set obeys the lines.
     ensures refutes { IfOk result
         (λ c.
         IfNone c.wrong

@@ -1,4 +1,4 @@
-//! One pass over clauses: deny a clause, and read the named clauses once each, in order.
+//! A RUP check with hints: one pass of unit propagation over the hinted clauses, in order.
 
 ghost use Rattle.std.specs.Prelude.{◌≡◌, ◌+◌, ◌^◌, ◌<◌, ◌≤◌, length, map, IfOk, OnOk, true};
 ghost use Rattle.std.specs.Bool.{nat_eq};
@@ -23,7 +23,7 @@ fn is_false(truth: &Assignment, literal: Literal) -> bool
     }
 }
 
-/// What is left with one more literal that isn't false.
+/// The rest with one more literal that isn't false.
 fn met(rest: Rest, literal: Literal) -> Rest
     ensures { rest_of_lem result ≡ meet_lem nat_eq (rest_of_lem rest) (literal_of literal) }
 {
@@ -40,7 +40,7 @@ fn met(rest: Rest, literal: Literal) -> Rest
     }
 }
 
-/// What is left of the clause without its false literals.
+/// The literals of the clause that aren't false.
 fn rest_of(truth: &Assignment, clause: &[Literal]) -> Rest
     ensures { rest_of_lem result
         ≡ reading nat_eq (known_in truth.now.marks.items truth.now.pass) (literals_of clause.now) }
@@ -54,7 +54,7 @@ fn rest_of(truth: &Assignment, clause: &[Literal]) -> Rest
     rest
 }
 
-/// Reads one clause: whether it is broken. A literal that is left alone, and has no value, is made true.
+/// Whether the clause is falsified. If it is unit, its unassigned literal becomes true.
 fn read(truth: &mut Assignment, clause: &[Literal]) -> Result<bool, AllocError>
     ensures broken { IfOk result
         (λ broken.
@@ -94,9 +94,9 @@ fn deny_all(truth: &mut Assignment, clause: &[Literal]) -> Result<(), AllocError
     Ok(())
 }
 
-/// Whether one pass over the causes, which are steps counted from 1, refutes the denied clause.
+/// Whether the denied clause is RUP by one pass over the causes, which are steps from 1.
 ///
-/// The pass gets a number above those of the passes before it.
+/// The pass number is greater than that of every earlier pass.
 pub fn is_rup(
     alloc: Global,
     truth: &mut Assignment,

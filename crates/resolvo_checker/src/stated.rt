@@ -1,4 +1,4 @@
-//! The rule that a step takes from a line.
+//! The rule of the line that a step names.
 
 ghost use Rattle.std.specs.Prelude.{◌≡◌, IfSome, None, List, slice_get};
 ghost use Rattle.resolvo_text.specs.Matches.{same_version};
@@ -16,7 +16,7 @@ ghost use Rattle.resolvo_checker.specs.Stated.{line_said, rule_line, owned_line,
 use resolvo_catalogue_core::{Catalogue, Request, Rule, Version, VersionNo};
 use resolvo_report::Place;
 
-/// What a line of the catalogue states, if it states a rule.
+/// The rule of a line of the catalogue, if it has one.
 pub fn rule_of(catalogue: &Catalogue, line: u32) -> Option<&Rule>
     ensures said { rule_line (line_at catalogue.now line)
         ≡ option_and_then (line_said (listed catalogue.now)) (option_copied result) }
@@ -28,7 +28,7 @@ pub fn rule_of(catalogue: &Catalogue, line: u32) -> Option<&Rule>
     }
 }
 
-/// What a line of a request states, if it is a `needs` or `limits` line.
+/// The rule of a `needs` or `limits` line of the request.
 fn rule_asked(request: &Request, line: u32) -> Option<&Rule>
     ensures said { (vs : List says.Version)
         → owned_line (line_at request.now.lines line)
@@ -74,7 +74,7 @@ fn is_owned(versions: &[(String, u32)], rule: &Rule, version: &Version) -> bool
     }
 }
 
-/// What a line of the catalogue states, if it is a `needs` or `limits` line of the version.
+/// The rule of a `needs` or `limits` line of the version in the catalogue.
 pub fn rule_owned<'a>(catalogue: &'a Catalogue, version: &Version, line: u32) -> Option<&'a Rule>
     ensures said { (request : List says.Line)
         → owned_line (line_of catalogue.now request (OfVersion (version_of version.now)) line)
@@ -96,7 +96,7 @@ pub fn rule_owned<'a>(catalogue: &'a Catalogue, version: &Version, line: u32) ->
     }
 }
 
-/// What the line of a place states, if it is a `needs` or `limits` line.
+/// The rule of a `needs` or `limits` line of the place.
 pub fn rule_at<'a>(
     catalogue: &'a Catalogue,
     request: &'a Request,

@@ -1,4 +1,4 @@
-//! The clause of each step that takes a rule from a line, or says what a helper means.
+//! The clause of each step that encodes a rule or defines an auxiliary atom.
 
 ghost use Rattle.std.specs.Prelude.{◌≡◌, [], ◌∷◌, ◌++◌, ◌==◌, ◌<◌, List, Option, OnOk, IfOk, IfSome, Some, None, true, false, is_some, slice_get};
 ghost use Rattle.std.specs.Option.{option_map, option_map_or, option_and_then, option_copied};
@@ -48,7 +48,7 @@ fn is_locked_by(locked: &(String, u32), version: &Version) -> bool
     version.name == locked.0 && version.number != locked.1
 }
 
-/// Whether the version is another one of the package whose version of this number is locked.
+/// Whether the lock of the version of this number excludes the version.
 fn is_locked_out(versions: &[(String, u32)], locked: VersionNo, version: &Version) -> bool
     ensures { result
         ≡ option_map_or (λ w. is_locked_out_lem w (version_of version.now))
@@ -100,7 +100,7 @@ fn push_owner(out: &mut Clause, owner: Option<VersionNo>) -> Result<(), AllocErr
     Ok(())
 }
 
-/// The clause that the version isn't in the set.
+/// The clause that keeps the version out of the set.
 fn absent(alloc: Global, version: VersionNo) -> Result<Clause, AllocError>
     ensures { IfOk result
         (λ c.
@@ -111,7 +111,7 @@ fn absent(alloc: Global, version: VersionNo) -> Result<Clause, AllocError>
     Ok(out)
 }
 
-/// The clause of a need, at one of its cases.
+/// The clause of a requirement, for one case of its condition.
 fn need(
     alloc: Global,
     catalogue: &Catalogue,

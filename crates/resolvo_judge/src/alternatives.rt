@@ -1,5 +1,5 @@
-//! Where the package of an entry stands among the alternatives of its line, so that a long line isn't walked for each entry.
-//! A place is only a hint: it is tried, and no answer rests on it. The judge asks for one before it takes an entry.
+//! The place of an entry's package among the alternatives of its line, so that no entry walks a
+//! long line. It is only a hint: no answer depends on it.
 
 use resolvo_catalogue_core::{Catalogue, Request, Rule, Spec, Version};
 use resolvo_checker::stated::rule_at;
@@ -8,20 +8,20 @@ use resolvo_text::matches;
 use std::alloc::{AllocError, Global};
 use std::collections::BTreeMap;
 
-/// So many alternatives are walked faster than a table of them is made.
+/// Up to so many alternatives, a walk is faster than a table.
 const FEW: usize = 16;
 
 /// The places of a line's alternatives, by their packages.
 type Places = BTreeMap<String, Vec<usize>>;
 
-/// The places of the long lines that were the reason of an entry.
+/// The tables of the long lines that give an entry its reason.
 #[derive(Drop)]
 pub struct Alternatives {
     catalogue: BTreeMap<u32, Places>,
     request: BTreeMap<u32, Places>,
 }
 
-/// Puts a place to those of a package.
+/// Adds a place of a package.
 fn add_place(
     alloc: Global,
     places: &mut Places,
@@ -58,7 +58,7 @@ fn first_match(places: &[usize], alternatives: &[Spec], version: &Version) -> Op
     None
 }
 
-/// The place of an alternative that matches the version. The table of the line is made where there is none.
+/// The place of an alternative that matches the version, by the line's table.
 fn place_in(
     alloc: Global,
     tables: &mut BTreeMap<u32, Places>,

@@ -1,4 +1,4 @@
-//! Whether the clause of a step bars the wishes that are left out because of it. The judge asks it as it takes the step.
+//! Whether the clause of a step forbids the left-out wishes that name the step.
 
 ghost use Rattle.std.specs.Prelude.{◌≡◌, ◌&&◌, ◌||◌, not, false, List, IfOk, Some, map, slice_get, take};
 ghost use Rattle.std.specs.List.{list_all};
@@ -97,7 +97,7 @@ fn literal_bars(chosen: &Chosen, literal: &Literal, barred: &Barred) -> bool
     }
 }
 
-/// Whether all literals of a built clause do.
+/// Whether each literal of a built clause is such a literal.
 fn all_built_bar(
     chosen: &Chosen,
     versions: &[(String, u32)],
@@ -118,7 +118,7 @@ fn all_built_bar(
     true
 }
 
-/// Whether all literals of a derived clause do.
+/// Whether each literal of a derived clause is such a literal.
 fn all_bar(chosen: &Chosen, literals: &[Literal], barred: &Barred) -> bool
     ensures { (set : Set)
         → Holds chosen.now set
@@ -134,7 +134,7 @@ fn all_bar(chosen: &Chosen, literals: &[Literal], barred: &Barred) -> bool
     true
 }
 
-/// Whether the built clause bars each of the wishes.
+/// Whether the built clause forbids each of the wishes.
 fn rule_bars(
     chosen: &Chosen,
     versions: &[(String, u32)],
@@ -154,7 +154,7 @@ fn rule_bars(
     true
 }
 
-/// Whether the derived clause bars each of the wishes.
+/// Whether the derived clause forbids each of the wishes.
 fn derived_bars(chosen: &Chosen, literals: &[Literal], wishes: &[Barred]) -> bool
     ensures { (set : Set)
         → Holds chosen.now set
@@ -170,7 +170,7 @@ fn derived_bars(chosen: &Chosen, literals: &[Literal], wishes: &[Barred]) -> boo
     true
 }
 
-/// The same of a step that takes a rule from a line, or says what a helper means.
+/// Whether the clause of a step that isn't derived forbids each of the wishes.
 fn rule_step_bars(
     alloc: Global,
     catalogue: &Catalogue,
@@ -192,7 +192,8 @@ fn rule_step_bars(
     }
 }
 
-/// Whether the step's clause bars each of the wishes: it has no literal but `not` of the wish, or of an entry above its line.
+/// Whether the step's clause forbids each of the wishes: its only literals are `not` of the wish
+/// and of entries above its line.
 pub fn step_bars(
     alloc: Global,
     catalogue: &Catalogue,

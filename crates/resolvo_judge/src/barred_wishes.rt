@@ -1,5 +1,5 @@
-//! The wishes that an `install` report leaves out, by the steps that are to bar them.
-//! It stands for a list of wishes (`HoldsWishes` of specs/BarredWishes.antt). The judge asks for those of a step as it takes the step.
+//! The wishes that an `install` report leaves out, by the steps that forbid them.
+//! Its model is a list of wishes: `HoldsWishes` of specs/ForbiddenWishes.antt.
 
 ghost use Rattle.std.specs.Prelude.{◌≡◌, ◌++◌, ◌∷◌, [], OnOk, List, map, nat_eq};
 ghost use Rattle.std.specs.HashMap.{get};
@@ -10,7 +10,7 @@ use resolvo_catalogue_core::Version;
 use std::alloc::{AllocError, Global};
 use std::collections::HashMap;
 
-/// A wish that is left out, the step that bars it, and how many entries stand above its line.
+/// A left-out wish, the step that forbids it, and the number of entries above its line.
 #[derive(Drop)]
 pub struct Barred {
     pub wish: Version,
@@ -25,7 +25,7 @@ pub struct BarredWishes {
     steps: Vec<u32>,
 }
 
-/// Puts a wish to those of its step.
+/// Adds a wish of its step.
 fn add_wish(
     alloc: Global,
     by_step: &mut HashMap<u32, Vec<Barred>>,
@@ -73,7 +73,7 @@ impl BarredWishes {
         add_wish(alloc, &mut self.by_step, Barred { wish, step, above })
     }
 
-    /// The wishes that are to be barred by this step.
+    /// The wishes that this step must forbid.
     pub fn of(&self, step: u32) -> &[Barred]
         ensures { map barred_of result.now ≡ wishes_kept (get nat_eq self.now.by_step step) }
     {
@@ -83,7 +83,7 @@ impl BarredWishes {
         }
     }
 
-    /// The steps that are to bar the wishes.
+    /// The steps that must forbid the wishes.
     pub fn steps(&self) -> &[u32]
         ensures { result.now ≡ self.now.steps.items }
     {

@@ -1,5 +1,6 @@
-//! A set of versions, at most one of a package, by which conditions and rules are asked in time linear in their size.
-//! It stands for a list of versions (`Holds` of specs/Chosen.antt). The judge keeps the entries of an `install` report so.
+//! The entries of an `install` report as a set: at most one version of each package.
+//! Conditions and rules are evaluated in time linear in their size.
+//! Its model is a list of versions: `Holds` of specs/Chosen.antt.
 
 ghost use Rattle.std.specs.Prelude.{◌≡◌, ◌++◌, ◌∷◌, [], ◌<◌, ◌+◌, ◌^◌, OnOk, false, not, ◌||◌, ◌==◌, List, length, take};
 ghost use Rattle.std.specs.HashMap.{get_by_text};
@@ -42,14 +43,14 @@ impl Chosen {
         }
     }
 
-    /// How many there are.
+    /// The number of chosen versions.
     pub fn count(&self) -> usize
         ensures { (set : Set) → Holds self.now set → result ≡ length set }
     {
         self.count
     }
 
-    /// Adds a version, of whose package there is none.
+    /// Adds a version of a new package.
     pub fn add(&mut self, version: &Version) -> Result<(), AllocError>
         requires { self.old.count < 2 ^ 32 }
         ensures count { OnOk result (self.new.count ≡ self.old.count + 1) }
@@ -127,7 +128,7 @@ impl Chosen {
         }
     }
 
-    /// The same of a version as the catalogue lists it.
+    /// Whether a version, as the catalogue lists it, is chosen.
     pub fn has_listed(&self, version: &(String, u32)) -> bool
         ensures { (set : Set) → Holds self.now set → result ≡ is_member (pair_version version.now) set }
     {

@@ -1,4 +1,4 @@
-//! Whether the entries of an `install` report keep all rules. The judge asks it at the report's end.
+//! Whether the entries of an `install` report keep all rules, at the report's end.
 
 ghost use Rattle.std.specs.Prelude.{◌≡◌, ℕ, List, Option, Some, None, IsTrue, false, slice_get, option_map};
 ghost use Rattle.resolvo_text.specs.Line as says;
@@ -34,7 +34,7 @@ fn is_chosen(chosen: &Chosen, versions: &[(String, u32)], number: VersionNo) -> 
     }
 }
 
-/// Whether a rule of this owner binds: its owner is chosen, or it has none.
+/// Whether a rule of this owner applies: the owner is chosen, or there is none.
 fn binds(chosen: &Chosen, versions: &[(String, u32)], owner: Option<VersionNo>) -> bool
     ensures { (set : Set) (whose : Option says.Version)
         → Holds chosen.now set
@@ -85,7 +85,7 @@ fn obeys(chosen: &Chosen, versions: &[(String, u32)], rule: &Rule) -> bool
     }
 }
 
-/// Whether they obey the line of the catalogue. A line that states no rule is obeyed.
+/// Whether they obey the line of the catalogue. A line without a rule is obeyed.
 fn keeps_line(chosen: &Chosen, catalogue: &Catalogue, line: u32) -> bool
     ensures { (set : Set) → Holds chosen.now set → result ≡ keeps catalogue.now line set }
 {

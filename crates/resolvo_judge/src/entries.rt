@@ -1,5 +1,5 @@
-//! The entries and the left-out wishes of an `install` report, taken one line after the other.
-//! What is kept stands for the lines so far (`KeepsAnswers` of specs/KeptAnswers.antt). The judge takes each such line here.
+//! The entries and the left-out wishes of an `install` report, line by line.
+//! The invariant is `KeepsAnswers` of specs/KeptAnswers.antt.
 
 ghost use Rattle.std.specs.Prelude.{◌≡◌, ◌++◌, ◌∷◌, [], ◌<◌, ◌+◌, ◌^◌, List, Option, IfOk, OnOk, IsTrue, true, option_and_then, option_copied};
 ghost use Rattle.std.specs.List.{list_any};
@@ -32,7 +32,7 @@ pub struct Entries {
     pub chosen: Chosen,
     pub out: Versions,
     pub barred: BarredWishes,
-    /// The steps that bar the left-out wishes, by their request lines.
+    /// The steps that forbid the left-out wishes, by their request lines.
     pub lines: HashMap<u32, u32>,
     /// The last request line that a `wished` or `left out` line named.
     pub last_wish: Option<u32>,
@@ -59,7 +59,7 @@ fn matches_at(alternatives: &[Spec], place: Option<usize>, version: &Version) ->
     }
 }
 
-/// Whether the version matches one of the alternatives. That of the place is tried before they are walked.
+/// Whether the version matches one of the alternatives. That of the place is tried first.
 fn one_matches(alternatives: &[Spec], place: Option<usize>, version: &Version) -> bool
     ensures { result ≡ list_any (λ s. matches_lem s (version_of version.now)) (specs_of alternatives.now) }
 {
@@ -69,7 +69,7 @@ fn one_matches(alternatives: &[Spec], place: Option<usize>, version: &Version) -
     any_matches(alternatives, version)
 }
 
-/// Whether the rule is a need that the version meets, and whose condition holds.
+/// Whether the rule is a requirement that the version meets, and its condition holds.
 fn gives(
     chosen: &Chosen,
     rule: Option<&Rule>,
@@ -115,7 +115,7 @@ impl Entries {
         }
     }
 
-    /// Whether the version may be an entry, for whatever reason.
+    /// Whether the version may be an entry, its reason aside.
     fn may_enter(&self, catalogue: &Catalogue, version: &Version) -> bool
         ensures { (before : List said.AnswerLine)
             → KeepsAnswers self.now before
@@ -162,7 +162,7 @@ impl Entries {
             )
     }
 
-    /// Whether no line so far named a wish of this line or of one below it.
+    /// Whether no line so far names a wish of this line or of a later one.
     fn is_next_wish(&self, line: u32) -> bool
         ensures { result ≡ is_after self.now.last_wish line }
     {
@@ -172,7 +172,7 @@ impl Entries {
         }
     }
 
-    /// Whether the line of the request wishes the version, and may be named now.
+    /// Whether the line of the request is a wish for the version, after the last wish line.
     fn is_wish(&self, request: &Request, line: u32, version: &Version) -> bool
         ensures { (before : List said.AnswerLine)
             → KeepsAnswers self.now before
@@ -184,7 +184,7 @@ impl Entries {
         }
     }
 
-    /// Takes an entry, if it may stand here.
+    /// Adds an entry, if it fits.
     fn take_entry(
         &mut self,
         catalogue: &Catalogue,
@@ -228,7 +228,7 @@ impl Entries {
         Ok(true)
     }
 
-    /// Takes a wish that is an entry, if it may stand here.
+    /// Adds a wish that is an entry, if it fits.
     fn take_wished(
         &mut self,
         catalogue: &Catalogue,
@@ -268,7 +268,7 @@ impl Entries {
         Ok(true)
     }
 
-    /// Takes a wish that is left out, if it may stand here.
+    /// Adds a left-out wish, if it fits.
     fn take_left_out(
         &mut self,
         alloc: Global,
@@ -312,7 +312,7 @@ impl Entries {
         Ok(true)
     }
 
-    /// Whether the wish of this request line, if it is one, is an entry or left out.
+    /// Whether the wish of this request line, if there is one, is an entry or left out.
     fn is_wish_told(&self, request: &Request, line: u32) -> bool
         ensures { (before : List said.AnswerLine)
             → KeepsAnswers self.now before
@@ -340,7 +340,7 @@ impl Entries {
         true
     }
 
-    /// Takes the next line, if it may stand after those before it. Of an entry's reason the alternative is tried first.
+    /// Adds the next line, if it fits. The alternative of an entry's reason is tried first.
     pub fn take(
         &mut self,
         alloc: Global,

@@ -1,5 +1,5 @@
-//! The lines of a report below its first one, taken one after the other.
-//! What is kept stands for the lines so far: `LogStands` for named lines and steps, `KeepsAnswers` for the entries.
+//! The judge's state, line by line.
+//! The invariant is `LogInvariant` for named lines and steps, and `KeepsAnswers` for the entries.
 
 ghost use Rattle.std.specs.Prelude.{◌≡◌, ◌+◌, ◌^◌, ◌<◌, ◌≤◌, [], ◌∷◌, ◌++◌, ℕ, List, IfOk, IsTrue, length, true, false};
 ghost use Rattle.resolvo_catalogue_core.specs.Listed.{listed};
@@ -27,18 +27,18 @@ use resolvo_checker::proof::causes_in;
 use resolvo_report::{ReportLine, Step};
 use std::alloc::{AllocError, Global};
 
-/// What is kept of the lines so far.
+/// The judge's state after the lines so far.
 pub struct JudgeState {
-    /// The report says that no set serves the request.
+    /// The report is a refusal.
     pub refused: bool,
     pub log: ProofState,
     pub entries: Entries,
     pub alternatives: Alternatives,
-    /// Each left-out wish whose step was taken is barred by it.
+    /// Each step so far forbids the left-out wishes that name it.
     pub barred: bool,
 }
 
-// split for the prover: what owns one calls this drop, and doesn't drop each field at each exit
+// Split for the prover: an owner calls this drop, and doesn't drop each field at each exit.
 impl Drop for JudgeState {
     fn drop(self) {
         let JudgeState {
@@ -51,7 +51,7 @@ impl Drop for JudgeState {
     }
 }
 
-/// What is kept of the first line.
+/// The state after the first line.
 pub fn begin(
     alloc: Global,
     catalogue: &Catalogue,
@@ -80,7 +80,7 @@ pub fn begin(
     })
 }
 
-/// Whether the line is the first of a report that refuses the request.
+/// Whether the line is the first of a refusal.
 fn is_refusal(first: &ReportLine) -> bool
     ensures { result ≡ is_refusal_lem (report_line_of first.now ∷ []) }
 {
@@ -90,8 +90,8 @@ fn is_refusal(first: &ReportLine) -> bool
     }
 }
 
-/// Takes a step, and asks it of the left-out wishes that name it: whether its line passes. Where it does, what is kept
-/// stands for it too.
+/// Whether the line of a step passes. If it does, adds the step, and checks whether it forbids
+/// the left-out wishes that name it.
 fn take_numbered(
     alloc: Global,
     catalogue: &Catalogue,
@@ -162,7 +162,7 @@ fn take_numbered(
     Ok(true)
 }
 
-/// Takes a line below the first one: whether it passes. Where it does, what is kept stands for it too.
+/// Whether a line below the first one passes. If it does, adds it.
 fn take_line(
     alloc: Global,
     catalogue: &Catalogue,
@@ -279,8 +279,8 @@ fn causes_of_line(line: &ReportLine) -> u64
     }
 }
 
-/// Takes a line below the first one, and counts the clauses that it names: whether it passes. Where it does, what is
-/// kept stands for it too.
+/// Whether a line below the first one passes. If it does, adds it, and counts the clauses that it
+/// names.
 pub fn take(
     alloc: Global,
     catalogue: &Catalogue,
@@ -338,8 +338,8 @@ pub fn take(
     Ok(true)
 }
 
-/// Whether an `install` report may end after its lines: the entries keep all rules, each wish is told, and the step of each
-/// left-out wish is there and bars it.
+/// Whether an `install` report may end after its lines: the entries keep all rules, each wish is
+/// an entry or left out, and the step of each left-out wish exists and forbids it.
 fn installs(
     catalogue: &Catalogue,
     request: &Request,

@@ -1,6 +1,6 @@
 //! The judge: whether a report holds for a catalogue and a request, from the report's bytes.
 //!
-//! It takes the report line by line and holds one line at a time, once, beside what it keeps of those above. A registry can
+//! It reads the report line by line, and holds one line at a time beside its state. A registry can
 //! run it on reports from strangers: its yes alone implies that the report's claim is true.
 
 ghost use Rattle.std.specs.Prelude.{◌≡◌, [], IfOk, IfErr};
@@ -17,10 +17,10 @@ use thiserror::Error;
 /// Whether a report holds.
 #[derive(Clone, Copy, Debug, PartialEq, Eq)]
 pub enum Verdict {
-    /// All its lines pass, and its end does.
+    /// All its lines pass, and it may end there.
     Yes,
-    /// The first line, from 1, that is none of a report or doesn't pass; or one past the last line, where the report
-    /// may not end there.
+    /// The first line, from 1, that is outside the grammar or doesn't pass. Or one past the last
+    /// line, if the report may not end there.
     No(u32),
 }
 
@@ -47,14 +47,14 @@ impl From<AllocError> for JudgeFault {
     }
 }
 
-/// A verdict, and how many clauses of earlier steps were named and read on the way to it.
+/// A verdict, and the counts of clauses of earlier steps that were named and read for it.
 #[derive(Clone, Copy, Debug, PartialEq, Eq)]
 pub struct Judged {
     pub verdict: Verdict,
     pub readings: Readings,
 }
 
-/// Takes one line of the report after the other, up to the first that doesn't pass, or to the end.
+/// Judges the lines in order, up to the first that doesn't pass, or to the end.
 fn judge_lines<S: Source>(
     alloc: Global,
     catalogue: &Catalogue,
@@ -100,9 +100,10 @@ fn judge_lines<S: Source>(
     }
 }
 
-/// The same as `judge`, with the count of clauses that were named and read.
+/// The verdict of `judge`, with the counts of clauses that were named and read.
 ///
-/// After a yes both counts are equal, so each clause that a `derive` step names was read once for each naming.
+/// After a yes both counts are equal: each clause that a `derive` step names was read once for
+/// each naming.
 pub fn judge_counted<S: Source>(
     alloc: Global,
     catalogue: &Catalogue,
@@ -141,10 +142,11 @@ pub fn judge_counted<S: Source>(
     }
 }
 
-/// Whether the report that the device gives holds for the catalogue and the request, and where it doesn't.
+/// Whether the report from the device holds for the catalogue and the request, and where it
+/// doesn't.
 ///
-/// Lines that have come whole are judged before the device is asked again, so a wrong line is told before a fault
-/// that comes later.
+/// Lines that were read whole are judged before the next read. So a wrong line precedes a later
+/// fault of the device.
 pub fn judge<S: Source>(
     alloc: Global,
     catalogue: &Catalogue,

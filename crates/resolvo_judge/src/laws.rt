@@ -1,4 +1,4 @@
-//! What a proof and a verdict show, for those who rest on them. Each is a function that does nothing.
+//! The laws of proofs and verdicts, for other crates. Each is a function that does nothing.
 
 ghost use Rattle.std.specs.Prelude.{◌≡◌, ℕ, List, Some, true, slice_get, [], ◌∷◌, ◌++◌, map};
 ghost use Rattle.std.specs.List.{AllByRecursion};
@@ -15,8 +15,8 @@ ghost use Rattle.resolvo_catalogue_core.specs.Sets.{IsSingle};
 ghost use Rattle.resolvo_report.specs.Value.{Report};
 ghost use Rattle.resolvo_judge.specs.Judgement.{IsUpheld, IsRefusedAt};
 
-/// The clause of each step of a proof is true in each single set that obeys the lines which the proof rests on,
-/// with one place for each version and helpers by what they mean.
+/// The clause of each step of a proof is true in each single set that obeys the proof's lines.
+/// Each version has one place, and auxiliary atoms have their defined values.
 pub fn steps_are_true()
     ensures { (catalogue request : List Line) (catalogue_lines request_lines : List ℕ) (steps : List Step)
         (set : Set)
@@ -26,7 +26,7 @@ pub fn steps_are_true()
         → IsTrueIn catalogue request set steps }
 {}
 
-/// A proof that ends with the empty clause refutes the lines which it rests on.
+/// A proof that ends with the empty clause refutes its lines.
 pub fn proof_refutes()
     ensures { (catalogue request : List Line) (catalogue_lines request_lines : List ℕ) (steps : List Step)
         → IsProof catalogue request (is_named catalogue_lines) (is_named request_lines) steps
@@ -34,7 +34,8 @@ pub fn proof_refutes()
         → AreRefuted catalogue request catalogue_lines request_lines }
 {}
 
-/// A step of a proof whose clause has no literal but `not` of a wish and of entries: no rule-keeping set holds these.
+/// If the only literals of a step's clause are `not` of a wish and of entries, no rule-keeping set
+/// has them all.
 pub fn proof_bars()
     ensures { (catalogue request : List Line) (steps : List Step) (entries : Set) (wish : Version) (n : ℕ)
         (step : Step) (clause : Clause)
@@ -45,15 +46,15 @@ pub fn proof_bars()
         → AreApart catalogue request entries wish }
 {}
 
-/// The claim of a refusal whose lines and end pass: no single set obeys the lines that it names.
+/// If the lines and the end of a refusal pass, no single set obeys the lines that it names.
 pub fn accepted_refusal_is_true()
     ensures { (catalogue request : List Line) (lines : List ReportLine)
         → IsAccepted catalogue request (RefusedHead ∷ lines)
         → ClaimsRefusal catalogue request (catalogue_lines_in lines) (request_lines_in lines) }
 {}
 
-/// The claim of an install report whose lines and end pass: its entries are a rule-keeping set, each for the reason
-/// that it names, and its account of the wishes is right.
+/// If the lines and the end of an install report pass, its entries are a rule-keeping set, each for
+/// the reason that it names, and each wish is an entry or rightly left out.
 pub fn accepted_install_is_true()
     ensures { (catalogue request : List Line) (lines : List ReportLine)
         → IsAccepted catalogue request (InstallHead ∷ lines)
@@ -68,7 +69,8 @@ pub fn places_are_one()
         → m ≡ n }
 {}
 
-/// A text that holds is refused nowhere. So a verdict is yes exactly where there is no place of refusal, and else tells it.
+/// The text of an upheld report is refused at no line. So a verdict is yes, or the one line of
+/// refusal.
 pub fn upheld_texts_are_refused_nowhere()
     ensures { (catalogue request : List Line) (text : List ℕ) (r : Report) (n : ℕ)
         → IsUpheld catalogue request text r
@@ -76,7 +78,7 @@ pub fn upheld_texts_are_refused_nowhere()
         → ⊥ }
 {}
 
-/// The message of a refused report takes no yes away: with other lines of message in its place, or with none, it is upheld too.
+/// A refused report that is upheld stays so with any other message, or with none.
 pub fn messages_change_nothing()
     ensures { (catalogue request : List Line) (catalogue_lines request_lines : List ℕ) (steps : List Step)
         (message other : List (List ℕ))
@@ -89,8 +91,8 @@ pub fn messages_change_nothing()
         (Refused catalogue_lines request_lines steps other) }
 {}
 
-/// Other bytes in a line of message change no place of refusal: below lines that have the form of a report's, the text is refused
-/// where it was. So with other bytes in as many lines of message the judge says the same.
+/// Other bytes in a line of message keep the line of refusal, below lines in the grammar of
+/// reports. So the judge's verdict is the same for other bytes in as many lines of message.
 pub fn message_bytes_change_nothing()
     ensures { (catalogue request : List Line) (above : List ReportLine) (bytes other below : List ℕ)
         (n : ℕ)

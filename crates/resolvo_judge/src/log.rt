@@ -1,5 +1,5 @@
 //! The proof of a report, line by line: named lines, and steps.
-//! What is kept stands for the lines so far: `LogStands` of specs/Log.antt. The judge of reports takes its lines here.
+//! The invariant is `LogInvariant` of specs/Log.antt.
 
 ghost use Rattle.std.specs.Prelude.{◌≡◌, ◌+◌, ◌^◌, ◌<◌, ◌≤◌, [], ◌∷◌, ◌++◌, List, IfOk, IsTrue, length, ℕ, ◌==◌, ◌||◌};
 ghost use Rattle.resolvo_catalogue_core.specs.Listed.{listed};
@@ -21,7 +21,7 @@ use resolvo_checker::proof::begin;
 use resolvo_report::Step;
 use std::alloc::{AllocError, Global};
 
-/// What is kept of the named lines and the steps of a report.
+/// The state of the named lines and the steps of a report.
 #[derive(Drop)]
 pub struct ProofState {
     pub checker: Checker,
@@ -30,7 +30,7 @@ pub struct ProofState {
     pub ends_empty: bool,
 }
 
-/// What is kept below the first line of an install report, the steps of which rest on all lines.
+/// The state after the first line of an install report, whose steps may name all lines.
 pub fn install_log(
     alloc: Global,
     catalogue: &Catalogue,
@@ -50,7 +50,7 @@ pub fn install_log(
     })
 }
 
-/// What is kept below the first line of a refusal, which names no line yet.
+/// The state after the first line of a refusal, which names no line yet.
 pub fn refusal_log(
     alloc: Global,
     catalogue: &Catalogue,
@@ -82,7 +82,7 @@ fn derives_empty(step: &Step) -> bool
     }
 }
 
-/// Takes a step: whether its line passes. Where it does, what is kept stands for it too.
+/// Whether the line of a step passes. If it does, adds the step.
 pub fn take_step(
     alloc: Global,
     catalogue: &Catalogue,
@@ -136,7 +136,7 @@ pub fn take_step(
     Ok(fine)
 }
 
-/// Takes a named line of the catalogue: whether it passes. Where it does, what is kept stands for it too.
+/// Whether a named line of the catalogue passes. If it does, adds it.
 pub fn take_catalogue_line(
     catalogue: &Catalogue,
     log: &mut ProofState,
@@ -161,7 +161,7 @@ pub fn take_catalogue_line(
     Ok(fine)
 }
 
-/// Takes a named line of the request: whether it passes. Where it does, what is kept stands for it too.
+/// Whether a named line of the request passes. If it does, adds it.
 pub fn take_request_line(
     request: &Request,
     log: &mut ProofState,

@@ -1,4 +1,4 @@
-//! The lines that a refusal names. The judge takes each named line here, and `Scope` then tells which steps may rest on them.
+//! The lines that a refusal names. `Premises` has their marks: steps may name no other lines.
 
 ghost use Rattle.std.specs.Prelude.{◌≡◌, ◌==◌, ◌||◌, ◌<◌, ℕ, IfOk, OnOk, IsTrue, vec_len};
 ghost use Rattle.resolvo_catalogue_core.specs.Grammar.{line_at};
@@ -8,7 +8,7 @@ ghost use Rattle.resolvo_judge.specs.Refusal.{states_rule};
 use resolvo_catalogue_core::{Catalogue, Request};
 use std::alloc::AllocError;
 
-/// Makes room for the mark of the line. No more lines are marked.
+/// Makes room for the mark of the line, and marks none.
 fn reach(marks: &mut Vec<bool>, line: u32) -> Result<(), AllocError>
     ensures len { OnOk result (line < vec_len marks.new) }
     ensures same { OnOk result ((n : ℕ) → flag_at marks.new.items n ≡ flag_at marks.old.items n) }
@@ -30,7 +30,7 @@ fn mark(marks: &mut Vec<bool>, line: u32) -> Result<(), AllocError>
     Ok(())
 }
 
-/// Marks a line of the catalogue as named, if it states a rule.
+/// Marks a line of the catalogue as named, if it has a rule.
 pub fn name_in_catalogue(
     catalogue: &Catalogue,
     marks: &mut Vec<bool>,
@@ -52,7 +52,7 @@ pub fn name_in_catalogue(
     }
 }
 
-/// Whether the line of the request states a rule.
+/// Whether the line of the request has a rule.
 pub fn is_rule(request: &Request, line: u32) -> bool
     ensures { result ≡ states_rule (line_at request.now.lines line) }
 {
@@ -62,7 +62,7 @@ pub fn is_rule(request: &Request, line: u32) -> bool
     }
 }
 
-/// Marks a line of the request as named, if it states a rule.
+/// Marks a line of the request as named, if it has a rule.
 pub fn name_in_request(
     request: &Request,
     marks: &mut Vec<bool>,

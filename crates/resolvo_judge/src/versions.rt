@@ -1,5 +1,5 @@
-//! A set of versions, by their packages. The judge keeps the wishes that a report leaves out so.
-//! It stands for a list of versions (`HoldsAll` of specs/Versions.antt).
+//! The left-out wishes of a report, as a set of versions by their packages.
+//! Its model is a list of versions: `HoldsAll` of specs/Versions.antt.
 
 ghost use Rattle.std.specs.Prelude.{◌≡◌, ◌++◌, ◌∷◌, [], OnOk};
 ghost use Rattle.std.specs.HashMap.{get_by_text};
@@ -18,7 +18,7 @@ pub struct Versions {
     numbers: HashMap<String, Vec<u32>>,
 }
 
-/// Puts a number to those of a package.
+/// Adds a number of a package.
 fn add_number(
     alloc: Global,
     numbers: &mut HashMap<String, Vec<u32>>,

@@ -1,7 +1,7 @@
 //! The order of the literals of a clause in a report: their texts rise in byte order, and no atom
-//! is named twice.
+//! occurs twice.
 //!
-//! So one clause has one spelling. The reader of reports asks `are_in_order` of each clause.
+//! So one clause has one spelling. The reader of reports checks `are_in_order` for each clause.
 #![tactic(auto)]
 
 ghost use Rattle.std.specs.Prelude.{◌≡◌, IfOk, map};
@@ -39,7 +39,7 @@ fn are_rising(texts: &[&[u8]]) -> bool
     }
 }
 
-/// Whether these texts of literals name no atom twice.
+/// Whether no atom occurs twice in these texts of literals.
 fn are_atoms_once(alloc: Global, texts: &[&[u8]]) -> Result<bool, AllocError>
     ensures { IfOk result (λ b. b ≡ are_once (map atom_part (texts_of texts.now))) }
 {
@@ -54,7 +54,7 @@ fn are_atoms_once(alloc: Global, texts: &[&[u8]]) -> Result<bool, AllocError>
     Ok(true)
 }
 
-/// Whether texts of literals are in byte order, each atom once.
+/// Whether the texts of literals are in byte order, each atom once.
 pub fn are_in_order(alloc: Global, texts: &[&[u8]]) -> Result<bool, AllocError>
     ensures { IfOk result (λ b. b ≡ are_in_order (texts_of texts.now)) }
 {
