@@ -3,17 +3,17 @@
 //! reason, and these choices are kept.
 ghost use Rattle.std.specs.Prelude.{◌≡◌, ◌<◌, ℕ, [], false, length, Some, IfOk, IfErr, IfSome, OnOk};
 ghost use Rattle.resolvo_pool.specs.Cached.{IsCancelledBy};
-ghost use Rattle.resolvo_pool_core.specs.RuleKeeping.{Packages, Rules, IsLawful};
+ghost use Rattle.resolvo_pool_core.specs.RuleKeeping.{Rules};
 ghost use Rattle.resolvo_store_core.specs.AtMostOne.{IsFrontOf};
 ghost use Rattle.resolvo_store_core.specs.Clauses.{yes};
 ghost use Rattle.resolvo_store_core.specs.Signed.{has};
 ghost use Rattle.resolvo_sat.specs.Entries.{made_true};
 ghost use Rattle.resolvo_sat.specs.State.{history};
 ghost use Rattle.resolvo_encoder.specs.Base.{base_of, IsOpen};
-ghost use Rattle.resolvo_encoder.specs.Encoded.{IsEncoding};
+ghost use Rattle.resolvo_encoder.specs.Encoded.{StaysEncoding};
 ghost use Rattle.resolvo_encoder.specs.Steps.{IsBuilt};
 ghost use Rattle.resolvo_encoder.specs.SoftRequirement.{turn_of, IsWish};
-ghost use Rattle.resolvo_turn.specs.Encoder.{IsInOrder, AddsParents};
+ghost use Rattle.resolvo_turn.specs.Encoder.{IsInOrder, AddsParents, StaysInOrderOf};
 ghost use Rattle.resolvo_turn.specs.Turn.{IsRooted, IsTurn};
 ghost use Rattle.resolvo.specs.Turns.{AreAt, AreRight, HaveReasons, IsNextRight, IsRootOf, NotesOutcome, StandSo};
 ghost use Rattle.resolvo.specs.Wished.{AreCandidates, IsCandidate, IsClosed, IsOutcome, IsRefusable, IsTold, IsTurnedDown, KeepsRest, KeepsTrail};
@@ -66,12 +66,9 @@ fn run_open<A: PackageSource, C: ScoreMap<A::NameId>>(
     ensures same { answers.new ≡ answers.old }
     // After an answer.
     ensures stays { OnOk result
-        ((root : Rules)
-        → IsRootOf input.now root
-        → IsInOrder A.SolvableId.eq (A.packages answers.old) (A.orders answers.old) root
-        encoding.old
-        → IsInOrder A.SolvableId.eq (A.packages answers.old) (A.orders answers.old) root
-        encoding.new) }
+        (StaysInOrderOf input.now.requirements.now input.now.constraints.now
+        A.SolvableId.eq (A.packages answers.old) (A.orders answers.old)
+        encoding.old encoding.new) }
     ensures adds { OnOk result (AddsParents (turn_of encoding.old) encoding.new) }
     ensures turn { OnOk result
         (IsOpen encoding.new variable
@@ -105,11 +102,7 @@ fn refuse<N: Copy + Exact + Hash + Debug, S: Copy + Exact + Hash + Debug>(
     requires refused { IsRefusable encoding.old refusal }
     requires some { 0 < length refusal.literals.items }
     // After an answer.
-    ensures stays { OnOk result
-        ((p : Packages N S) (root : Rules)
-        → IsLawful p
-        → IsEncoding S.eq p root encoding.old
-        → IsEncoding S.eq p root encoding.new) }
+    ensures stays { OnOk result (StaysEncoding S.eq encoding.old encoding.new) }
     ensures rest { OnOk result (KeepsRest encoding.old encoding.new) }
     ensures refused { IfOk result (λ clause. IsTurnedDown refusal encoding.old encoding.new (Refused clause)) }
     ensures built { OnOk result (IsBuilt encoding.new) }
@@ -129,11 +122,7 @@ fn close_turn<N: Copy + Exact + Hash + Debug, S: Copy + Exact + Hash + Debug>(
     requires built { IsBuilt encoding.old }
     requires refused { IfSome turn (IsRefusable encoding.old) }
     // After an answer.
-    ensures stays { OnOk result
-        ((p : Packages N S) (root : Rules)
-        → IsLawful p
-        → IsEncoding S.eq p root encoding.old
-        → IsEncoding S.eq p root encoding.new) }
+    ensures stays { OnOk result (StaysEncoding S.eq encoding.old encoding.new) }
     ensures rest { OnOk result (KeepsRest encoding.old encoding.new) }
     ensures closed { IfOk result (IsClosed turn encoding.old encoding.new) }
     ensures built { OnOk result (IsBuilt encoding.new) }

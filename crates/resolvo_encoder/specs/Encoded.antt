@@ -11,7 +11,7 @@ use Rattle.resolvo_pool_core.specs.declared.solver_id.SolvableIdOrRoot.{Solvable
 use Rattle.resolvo_pool_core.specs.ByRequirement.{slot_of}
 use Rattle.resolvo_pool_core.specs.Provider.{listed}
 use Rattle.resolvo_pool_core.specs.Text.{solvable_of, alternatives_of}
-use Rattle.resolvo_pool_core.specs.RuleKeeping.{Packages, Rules, is_in, meets, rules_for, is_outside, is_unknown}
+use Rattle.resolvo_pool_core.specs.RuleKeeping.{Packages, Rules, IsLawful, is_in, meets, rules_for, is_outside, is_unknown}
 use Rattle.resolvo_store_core.specs.Clauses.{root as root_variable}
 use Rattle.resolvo_store_core.specs.declared.decide_queue.NeedClause.{NeedClause}
 use Rattle.resolvo_store_core.specs.declared.lists.Candidate.{Candidate}
@@ -189,3 +189,7 @@ module _ {N S : Type 0} (same : S → S → Bool) (p : Packages N S) (root : Rul
     -- requirement that wasn't false.
     pub wished : (s : S) → Contains e.noted.wishes.items s → Registered e s
     pub called : AreCalledFor (origin e.coding.atoms.keys) (IsChosenFor same p e) (history e.coding.search)
+
+-- it stays an encoding of whatever packages and root it is one of
+abbrev pub StaysEncoding : {N S : Type 0} → (S → S → Bool) → Encoder N S → Encoder N S → Type 0
+StaysEncoding {N} {S} same old new = (p : Packages N S) (root : Rules) → IsLawful p → IsEncoding same p root old → IsEncoding same p root new

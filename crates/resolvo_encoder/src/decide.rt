@@ -1,12 +1,11 @@
 //! The steps of the search over the encoding: propagate, learn, decide.
 ghost use Rattle.std.specs.Prelude.{◌≡◌, ◌-◌, max, IfOk, OnOk, IsErrOf, IsOkUnless};
 ghost use Rattle.resolvo_pool_core.specs.declared.want.Want.TheVariants.{Memory, Ids};
-ghost use Rattle.resolvo_pool_core.specs.RuleKeeping.{Packages, Rules, IsLawful};
 ghost use Rattle.resolvo_store_core.specs.AtMostOne.{IsFrontOf};
 ghost use Rattle.resolvo_decide.specs.Needs.{KeepsFitting};
 ghost use Rattle.resolvo_sat.specs.Steps.{Undoes};
 ghost use Rattle.resolvo_state.specs.SolverState.{LacksNumber};
-ghost use Rattle.resolvo_encoder.specs.Encoded.{IsEncoding};
+ghost use Rattle.resolvo_encoder.specs.Encoded.{StaysEncoding};
 ghost use Rattle.resolvo_encoder.specs.Steps.{IsBuilt};
 ghost use Rattle.resolvo_encoder.specs.Progress.{IsNext, GoesOn, IsStep, IsChoice};
 ghost use Rattle.resolvo_encoder.specs.Base.{KeepsFirst, KeepsTurns};
@@ -61,11 +60,7 @@ impl<N: Copy + Exact + Hash + Debug + Drop, S: Copy + Exact + Hash + Debug> Enco
     pub fn choose_next<C: ScoreMap<N>>(&mut self, scores: &Scores<N, C>) -> R<bool>
         requires { IsBuilt self.old }
         // After an answer.
-        ensures stays { OnOk result
-            ((p : Packages N S) (root : Rules)
-            → IsLawful p
-            → IsEncoding S.eq p root self.old
-            → IsEncoding S.eq p root self.new) }
+        ensures stays { OnOk result (StaysEncoding S.eq self.old self.new) }
         ensures goes_on { OnOk result (GoesOn self.old self.new) }
         ensures built { OnOk result (IsBuilt self.new) }
         ensures first { OnOk result (KeepsFirst self.old self.new) }
@@ -86,10 +81,7 @@ impl<N: Copy + Exact + Hash + Debug + Drop, S: Copy + Exact + Hash + Debug> Enco
     pub fn undo_turn(&mut self)
         requires { IsBuilt self.old }
         // What the call promises.
-        ensures stays { (p : Packages N S) (root : Rules)
-            → IsLawful p
-            → IsEncoding S.eq p root self.old
-            → IsEncoding S.eq p root self.new }
+        ensures stays { StaysEncoding S.eq self.old self.new }
         ensures goes_on { GoesOn self.old self.new }
         ensures built { IsBuilt self.new }
         ensures undone { Undoes (max (self.old.coding.search.base_level - 1) 1) self.old.coding.search
@@ -105,11 +97,7 @@ impl<N: Copy + Exact + Hash + Debug + Drop, S: Copy + Exact + Hash + Debug> Enco
     pub fn step<C: ScoreMap<N>>(&mut self, alloc: Global, scores: &Scores<N, C>) -> R<Step>
         requires { IsBuilt self.old }
         // After an answer.
-        ensures stays { OnOk result
-            ((p : Packages N S) (root : Rules)
-            → IsLawful p
-            → IsEncoding S.eq p root self.old
-            → IsEncoding S.eq p root self.new) }
+        ensures stays { OnOk result (StaysEncoding S.eq self.old self.new) }
         ensures goes_on { OnOk result (GoesOn self.old self.new) }
         ensures built { OnOk result (IsBuilt self.new) }
         ensures first { OnOk result (KeepsFirst self.old self.new) }

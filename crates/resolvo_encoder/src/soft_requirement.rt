@@ -2,12 +2,11 @@
 //! that explains its conflict with earlier turns.
 ghost use Rattle.std.specs.Prelude.{◌≡◌, ◌<◌, length, Some, IfOk, OnOk, IsErrOf, IsOkUnless};
 ghost use Rattle.resolvo_pool_core.specs.declared.want.Want.TheVariants.{Memory, Ids};
-ghost use Rattle.resolvo_pool_core.specs.RuleKeeping.{Packages, Rules, IsLawful};
 ghost use Rattle.resolvo_sat.specs.Analysis.{IsBar};
 ghost use Rattle.resolvo_sat.specs.Entries.{top_level};
 ghost use Rattle.resolvo_sat.specs.State.{history};
 ghost use Rattle.resolvo_state.specs.SolverState.{Bars, LacksNumber};
-ghost use Rattle.resolvo_encoder.specs.Encoded.{IsEncoding};
+ghost use Rattle.resolvo_encoder.specs.Encoded.{StaysEncoding};
 ghost use Rattle.resolvo_encoder.specs.Steps.{IsBuilt};
 ghost use Rattle.resolvo_encoder.specs.Progress.{GoesOn};
 ghost use Rattle.resolvo_encoder.specs.SoftRequirement.{turn_of, Notes, IsUntaken, TakesBack};
@@ -28,10 +27,7 @@ impl<N: Copy + Exact + Hash + Debug + Drop, S: Copy + Exact + Hash + Debug> Enco
     pub fn begin_turn(&mut self)
         requires { IsBuilt self.old }
         ensures begun { self.new ≡ turn_of self.old }
-        ensures stays { (p : Packages N S) (root : Rules)
-            → IsLawful p
-            → IsEncoding S.eq p root self.old
-            → IsEncoding S.eq p root self.new }
+        ensures stays { StaysEncoding S.eq self.old self.new }
         ensures built { IsBuilt self.new }
     {
         let level = self.coding.search.top_level() + 1;
@@ -44,11 +40,7 @@ impl<N: Copy + Exact + Hash + Debug + Drop, S: Copy + Exact + Hash + Debug> Enco
         requires built { IsBuilt self.old }
         requires turn { HasTurn (Some variable) self.old }
         // After an answer.
-        ensures stays { OnOk result
-            ((p : Packages N S) (root : Rules)
-            → IsLawful p
-            → IsEncoding S.eq p root self.old
-            → IsEncoding S.eq p root self.new) }
+        ensures stays { OnOk result (StaysEncoding S.eq self.old self.new) }
         ensures goes_on { OnOk result (GoesOn self.old self.new) }
         ensures built { OnOk result (IsBuilt self.new) }
         ensures turn { OnOk result (KeepsTurn (Some variable) self.old self.new) }
@@ -71,11 +63,7 @@ impl<N: Copy + Exact + Hash + Debug + Drop, S: Copy + Exact + Hash + Debug> Enco
         requires above { top_level (history self.old.coding.search) < self.old.coding.search.base_level }
         requires turn { HasTurn (Some variable) self.old }
         // After an answer.
-        ensures stays { OnOk result
-            ((p : Packages N S) (root : Rules)
-            → IsLawful p
-            → IsEncoding S.eq p root self.old
-            → IsEncoding S.eq p root self.new) }
+        ensures stays { OnOk result (StaysEncoding S.eq self.old self.new) }
         ensures goes_on { OnOk result (GoesOn self.old self.new) }
         ensures built { OnOk result (IsBuilt self.new) }
         ensures turn { OnOk result (KeepsTurn (Some variable) self.old self.new) }
@@ -96,11 +84,7 @@ impl<N: Copy + Exact + Hash + Debug + Drop, S: Copy + Exact + Hash + Debug> Enco
         requires some { 0 < length refusal.literals.items }
         requires bar { IsBar self.old.coding.search refusal.literals.items refusal.causes.items }
         // After an answer.
-        ensures stays { OnOk result
-            ((p : Packages N S) (root : Rules)
-            → IsLawful p
-            → IsEncoding S.eq p root self.old
-            → IsEncoding S.eq p root self.new) }
+        ensures stays { OnOk result (StaysEncoding S.eq self.old self.new) }
         ensures goes_on { OnOk result (GoesOn self.old self.new) }
         ensures built { OnOk result (IsBuilt self.new) }
         ensures turn { OnOk result (KeepsTurns self.old self.new) }

@@ -28,6 +28,14 @@ pub record IsInOrder {N S : Type 0} (same : S → S → Bool) (p : Packages N S)
   pub encoding : IsEncoding same p root e
   pub ordered : AreOrdered orders e
 
+-- an encoding in order stays one, whatever the root
+abbrev pub StaysInOrder : {N S : Type 0} → (S → S → Bool) → Packages N S → (Requirement → List S → Type 0) → Encoder N S → Encoder N S → Type 0
+StaysInOrder same p orders old new = (root : Rules) → IsInOrder same p orders root old → IsInOrder same p orders root new
+
+-- an encoding in order stays one where the root has these requirements and constraints
+abbrev pub StaysInOrderOf : {N S : Type 0} → List ConditionalRequirement → List VersionSetId → (S → S → Bool) → Packages N S → (Requirement → List S → Type 0) → Encoder N S → Encoder N S → Type 0
+StaysInOrderOf requirements constraints same p orders old new = (root : Rules) → IsRoot requirements constraints root → IsInOrder same p orders root old → IsInOrder same p orders root new
+
 -- each of these cases of the parent's requirement is deferred, or was
 abbrev pub AreDeferred : {N S : Type 0} → Encoder N S → Option S → ConditionalRequirement → List (List VersionSetId) → Type 0
 AreDeferred {N} {S} e parent need cases = (case : List VersionSetId) → Contains cases case → IsDeferred e parent need case

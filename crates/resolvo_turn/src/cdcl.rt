@@ -2,11 +2,10 @@
 //! decide or the turn is refused.
 ghost use Rattle.std.specs.Prelude.{◌≡◌, ◌<◌, ◌≤◌, length, IfOk, IfErr, OnOk};
 ghost use Rattle.resolvo_pool.specs.Cached.{IsCancelledBy};
-ghost use Rattle.resolvo_pool_core.specs.RuleKeeping.{Rules};
 ghost use Rattle.resolvo_encoder.specs.Base.{KeepsFirst};
 ghost use Rattle.resolvo_encoder.specs.Steps.{IsBuilt};
 ghost use Rattle.resolvo_encoder.specs.Progress.{GoesOn, IsDecision};
-ghost use Rattle.resolvo_turn.specs.Encoder.{IsInOrder};
+ghost use Rattle.resolvo_turn.specs.Encoder.{StaysInOrder};
 
 use crate::looked::Looked;
 use resolvo_decide::scores::Scores;
@@ -82,11 +81,8 @@ pub fn decide<A: PackageSource, C: ScoreMap<A::NameId>>(
     requires built { IsBuilt encoding.old }
     // After an answer.
     ensures stays { OnOk result
-        ((root : Rules)
-        → IsInOrder A.SolvableId.eq (A.packages answers.now) (A.orders answers.now) root
-        encoding.old
-        → IsInOrder A.SolvableId.eq (A.packages answers.now) (A.orders answers.now) root
-        encoding.new) }
+        (StaysInOrder A.SolvableId.eq (A.packages answers.now) (A.orders answers.now)
+        encoding.old encoding.new) }
     ensures goes_on { OnOk result (GoesOn encoding.old encoding.new) }
     ensures first { OnOk result (KeepsFirst encoding.old encoding.new) }
     ensures decided { IfOk result (IsDecision encoding.new) }

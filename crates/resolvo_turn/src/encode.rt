@@ -11,7 +11,7 @@ ghost use Rattle.resolvo_soundness.specs.SearchEnd.{IsNeedEncoded};
 ghost use Rattle.resolvo_encoder.specs.Encoded.{IsGuarded, IsLimitEncoded, IsParentEncoded, rules_of};
 ghost use Rattle.resolvo_encoder.specs.Base.{KeepsTurns};
 ghost use Rattle.resolvo_encoder.specs.Steps.{IsBuilt, Needs, AddsParent};
-ghost use Rattle.resolvo_turn.specs.Encoder.{IsRoot, AreRulesOf, IsInOrder, AddsNeeds, AddsAll, IsConditionalEncoded};
+ghost use Rattle.resolvo_turn.specs.Encoder.{IsRoot, AreRulesOf, IsInOrder, AddsNeeds, AddsAll, IsConditionalEncoded, StaysInOrderOf};
 
 use crate::defer::defer_need;
 use resolvo_encoder::encoder::Encoder;
@@ -484,12 +484,9 @@ pub fn encode_parents<A: PackageSource>(
     ensures same { answers.new ≡ answers.old }
     // After an answer.
     ensures encoded { OnOk result
-        ((root : Rules)
-        → IsRoot requirements.now constraints.now root
-        → IsInOrder A.SolvableId.eq (A.packages answers.old) (A.orders answers.old) root
-        encoding.old
-        → IsInOrder A.SolvableId.eq (A.packages answers.old) (A.orders answers.old) root
-        encoding.new) }
+        (StaysInOrderOf requirements.now constraints.now
+        A.SolvableId.eq (A.packages answers.old) (A.orders answers.old)
+        encoding.old encoding.new) }
     ensures all { OnOk result (AddsAll encoding.old encoding.new) }
     ensures turn { OnOk result (KeepsTurns encoding.old encoding.new) }
     ensures built { OnOk result (IsBuilt encoding.new) }

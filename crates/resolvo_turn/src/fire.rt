@@ -9,7 +9,7 @@ ghost use Rattle.resolvo_encoder.specs.Conditions.{IsSet, AreSets, sets_case};
 ghost use Rattle.resolvo_encoder.specs.Conditions.{IsSpent, AreSpent};
 ghost use Rattle.resolvo_encoder.specs.Encoded.{rules_of, IsGuarded};
 ghost use Rattle.resolvo_encoder.specs.Steps.{IsBuilt};
-ghost use Rattle.resolvo_turn.specs.Encoder.{IsInOrder, AddsNeeds};
+ghost use Rattle.resolvo_turn.specs.Encoder.{IsInOrder, AddsNeeds, StaysInOrder};
 ghost use Rattle.resolvo_turn.specs.Turn.{FiresMore};
 
 use crate::encode::{add_available, guard};
@@ -147,11 +147,8 @@ fn fire<A: PackageSource>(
     ensures same { answers.new ≡ answers.old }
     // After an answer.
     ensures stays { OnOk result
-        ((root : Rules)
-        → IsInOrder A.SolvableId.eq (A.packages answers.old) (A.orders answers.old) root
-        encoding.old
-        → IsInOrder A.SolvableId.eq (A.packages answers.old) (A.orders answers.old) root
-        encoding.new) }
+        (StaysInOrder A.SolvableId.eq (A.packages answers.old) (A.orders answers.old)
+        encoding.old encoding.new) }
     ensures kept { OnOk result (AddsNeeds encoding.old encoding.new) }
     ensures fires { OnOk result (FiresMore encoding.old encoding.new) }
     ensures built { OnOk result (IsBuilt encoding.new) }
@@ -176,11 +173,8 @@ fn fire_if_due<A: PackageSource>(
     ensures same { answers.new ≡ answers.old }
     // After an answer.
     ensures stays { OnOk result
-        ((root : Rules)
-        → IsInOrder A.SolvableId.eq (A.packages answers.old) (A.orders answers.old) root
-        encoding.old
-        → IsInOrder A.SolvableId.eq (A.packages answers.old) (A.orders answers.old) root
-        encoding.new) }
+        (StaysInOrder A.SolvableId.eq (A.packages answers.old) (A.orders answers.old)
+        encoding.old encoding.new) }
     ensures kept { OnOk result (AddsNeeds encoding.old encoding.new) }
     ensures fires { IfOk result (λ b. b ≡ true → FiresMore encoding.old encoding.new) }
     ensures spent { IfOk result
@@ -209,11 +203,8 @@ pub fn fire_cases<A: PackageSource>(
     ensures same { answers.new ≡ answers.old }
     // After an answer.
     ensures stays { OnOk result
-        ((root : Rules)
-        → IsInOrder A.SolvableId.eq (A.packages answers.old) (A.orders answers.old) root
-        encoding.old
-        → IsInOrder A.SolvableId.eq (A.packages answers.old) (A.orders answers.old) root
-        encoding.new) }
+        (StaysInOrder A.SolvableId.eq (A.packages answers.old) (A.orders answers.old)
+        encoding.old encoding.new) }
     ensures kept { OnOk result (AddsNeeds encoding.old encoding.new) }
     ensures fires { IfOk result (λ b. b ≡ true → FiresMore encoding.old encoding.new) }
     ensures spent { IfOk result
@@ -244,11 +235,8 @@ pub fn fire_each<A: PackageSource>(
     ensures same { answers.new ≡ answers.old }
     // After an answer.
     ensures stays { OnOk result
-        ((root : Rules)
-        → IsInOrder A.SolvableId.eq (A.packages answers.old) (A.orders answers.old) root
-        encoding.old
-        → IsInOrder A.SolvableId.eq (A.packages answers.old) (A.orders answers.old) root
-        encoding.new) }
+        (StaysInOrder A.SolvableId.eq (A.packages answers.old) (A.orders answers.old)
+        encoding.old encoding.new) }
     ensures kept { OnOk result (AddsNeeds encoding.old encoding.new) }
     ensures fires { IfOk result (λ b. b ≡ true → FiresMore encoding.old encoding.new) }
     ensures unchanged { IfOk result (λ b. b ≡ false → encoding.new ≡ encoding.old) }

@@ -3,13 +3,12 @@
 //! nothing is new.
 ghost use Rattle.std.specs.Prelude.{◌≡◌, true, false, IfOk, IfErr, OnOk};
 ghost use Rattle.resolvo_pool.specs.Cached.{IsCancelledBy};
-ghost use Rattle.resolvo_pool_core.specs.RuleKeeping.{Packages, Rules, IsLawful};
 ghost use Rattle.resolvo_encoder.specs.Base.{HasTurn, KeepsTurn, KeepsTurns};
 ghost use Rattle.resolvo_encoder.specs.Conditions.{AreSpent};
 ghost use Rattle.resolvo_encoder.specs.Steps.{IsBuilt, AddsParent};
-ghost use Rattle.resolvo_encoder.specs.Encoded.{IsEncoding};
+ghost use Rattle.resolvo_encoder.specs.Encoded.{StaysEncoding};
 ghost use Rattle.resolvo_encoder.specs.Progress.{GoesOn};
-ghost use Rattle.resolvo_turn.specs.Encoder.{IsInOrder, IsRoot, AddsNeeds, AddsParents, AddsAll};
+ghost use Rattle.resolvo_turn.specs.Encoder.{AddsNeeds, AddsParents, AddsAll, StaysInOrder, StaysInOrderOf};
 ghost use Rattle.resolvo_turn.specs.Turn.{AddsChosen, FiresMore, IsBegunBy, IsDecisionOf, IsRooted, IsRound, IsTurn, FindsMore, FindsNone};
 
 use crate::cdcl::{Activity, decide};
@@ -72,10 +71,7 @@ fn undo_broken<N: Copy + Exact + Hash + Debug, S: Copy + Exact + Hash + Debug>(
     looked: &mut Looked<N>,
 )
     requires { IsBuilt encoding.old }
-    ensures stays { (p : Packages N S) (root : Rules)
-        → IsLawful p
-        → IsEncoding S.eq p root encoding.old
-        → IsEncoding S.eq p root encoding.new }
+    ensures stays { StaysEncoding S.eq encoding.old encoding.new }
     ensures goes_on { GoesOn encoding.old encoding.new }
     ensures turn { KeepsTurns encoding.old encoding.new }
     ensures built { IsBuilt encoding.new }
@@ -100,12 +96,9 @@ fn encode<A: PackageSource>(
     ensures same { answers.new ≡ answers.old }
     // After an answer.
     ensures encoded { OnOk result
-        ((root : Rules)
-        → IsRoot requirements.now constraints.now root
-        → IsInOrder A.SolvableId.eq (A.packages answers.old) (A.orders answers.old) root
-        encoding.old
-        → IsInOrder A.SolvableId.eq (A.packages answers.old) (A.orders answers.old) root
-        encoding.new) }
+        (StaysInOrderOf requirements.now constraints.now
+        A.SolvableId.eq (A.packages answers.old) (A.orders answers.old)
+        encoding.old encoding.new) }
     ensures all { OnOk result (AddsAll encoding.old encoding.new) }
     ensures turn { OnOk result (KeepsTurns encoding.old encoding.new) }
     ensures built { OnOk result (IsBuilt encoding.new) }
@@ -131,11 +124,8 @@ fn fire<A: PackageSource>(
     ensures same { answers.new ≡ answers.old }
     // After an answer.
     ensures stays { OnOk result
-        ((root : Rules)
-        → IsInOrder A.SolvableId.eq (A.packages answers.old) (A.orders answers.old) root
-        encoding.old
-        → IsInOrder A.SolvableId.eq (A.packages answers.old) (A.orders answers.old) root
-        encoding.new) }
+        (StaysInOrder A.SolvableId.eq (A.packages answers.old) (A.orders answers.old)
+        encoding.old encoding.new) }
     ensures adds { OnOk result (AddsNeeds encoding.old encoding.new) }
     ensures fires { IfOk result (λ b. b ≡ true → FiresMore encoding.old encoding.new) }
     ensures spent { IfOk result
@@ -163,11 +153,7 @@ fn choose_first<N: Copy + Exact + Hash + Debug, S: Copy + Exact + Hash + Debug>(
     requires built { IsBuilt encoding.old }
     requires turn { HasTurn wish encoding.old }
     // After an answer.
-    ensures stays { OnOk result
-        ((p : Packages N S) (root : Rules)
-        → IsLawful p
-        → IsEncoding S.eq p root encoding.old
-        → IsEncoding S.eq p root encoding.new) }
+    ensures stays { OnOk result (StaysEncoding S.eq encoding.old encoding.new) }
     ensures goes_on { OnOk result (GoesOn encoding.old encoding.new) }
     ensures turn { OnOk result (KeepsTurn wish encoding.old encoding.new) }
     ensures begun { IfOk result (IsBegunBy wish encoding.new) }
@@ -193,11 +179,8 @@ fn choose_and_decide<A: PackageSource, C: ScoreMap<A::NameId>>(
     requires turn { HasTurn wish encoding.old }
     // After an answer.
     ensures stays { OnOk result
-        ((root : Rules)
-        → IsInOrder A.SolvableId.eq (A.packages answers.now) (A.orders answers.now) root
-        encoding.old
-        → IsInOrder A.SolvableId.eq (A.packages answers.now) (A.orders answers.now) root
-        encoding.new) }
+        (StaysInOrder A.SolvableId.eq (A.packages answers.now) (A.orders answers.now)
+        encoding.old encoding.new) }
     ensures goes_on { OnOk result (GoesOn encoding.old encoding.new) }
     ensures turn { OnOk result (KeepsTurn wish encoding.old encoding.new) }
     ensures decided { IfOk result (IsDecisionOf wish encoding.new) }
@@ -229,12 +212,9 @@ fn encode_and_decide<A: PackageSource, C: ScoreMap<A::NameId>>(
     ensures same { answers.new ≡ answers.old }
     // After an answer.
     ensures stays { OnOk result
-        ((root : Rules)
-        → IsRoot aim.now.requirements.now aim.now.constraints.now root
-        → IsInOrder A.SolvableId.eq (A.packages answers.old) (A.orders answers.old) root
-        encoding.old
-        → IsInOrder A.SolvableId.eq (A.packages answers.old) (A.orders answers.old) root
-        encoding.new) }
+        (StaysInOrderOf aim.now.requirements.now aim.now.constraints.now
+        A.SolvableId.eq (A.packages answers.old) (A.orders answers.old)
+        encoding.old encoding.new) }
     ensures all { OnOk result (AddsAll encoding.old encoding.new) }
     ensures turn { OnOk result (KeepsTurn aim.now.wish encoding.old encoding.new) }
     ensures decided { IfOk result (IsDecisionOf aim.now.wish encoding.new) }
@@ -286,11 +266,8 @@ fn fire_touched<A: PackageSource>(
     ensures same { answers.new ≡ answers.old }
     // After an answer.
     ensures stays { OnOk result
-        ((root : Rules)
-        → IsInOrder A.SolvableId.eq (A.packages answers.old) (A.orders answers.old) root
-        encoding.old
-        → IsInOrder A.SolvableId.eq (A.packages answers.old) (A.orders answers.old) root
-        encoding.new) }
+        (StaysInOrder A.SolvableId.eq (A.packages answers.old) (A.orders answers.old)
+        encoding.old encoding.new) }
     ensures adds { OnOk result (AddsNeeds encoding.old encoding.new) }
     ensures fires { IfOk result (λ b. b ≡ true → FiresMore encoding.old encoding.new) }
     ensures unchanged { IfOk result (λ b. b ≡ false → encoding.new ≡ encoding.old) }
@@ -325,11 +302,8 @@ fn look_at_new<A: PackageSource>(
     ensures same { answers.new ≡ answers.old }
     // After an answer.
     ensures stays { OnOk result
-        ((root : Rules)
-        → IsInOrder A.SolvableId.eq (A.packages answers.old) (A.orders answers.old) root
-        encoding.old
-        → IsInOrder A.SolvableId.eq (A.packages answers.old) (A.orders answers.old) root
-        encoding.new) }
+        (StaysInOrder A.SolvableId.eq (A.packages answers.old) (A.orders answers.old)
+        encoding.old encoding.new) }
     ensures adds { OnOk result (AddsNeeds encoding.old encoding.new) }
     ensures more { IfOk result (λ b. b ≡ true → FindsMore encoding.old encoding.new) }
     ensures none { IfOk result (λ b. b ≡ false → AddsParent encoding.old encoding.new) }
@@ -358,11 +332,8 @@ fn look_at_all<A: PackageSource>(
     ensures same { answers.new ≡ answers.old }
     // After an answer.
     ensures stays { OnOk result
-        ((root : Rules)
-        → IsInOrder A.SolvableId.eq (A.packages answers.old) (A.orders answers.old) root
-        encoding.old
-        → IsInOrder A.SolvableId.eq (A.packages answers.old) (A.orders answers.old) root
-        encoding.new) }
+        (StaysInOrder A.SolvableId.eq (A.packages answers.old) (A.orders answers.old)
+        encoding.old encoding.new) }
     ensures adds { OnOk result (AddsNeeds encoding.old encoding.new) }
     ensures more { IfOk result (λ b. b ≡ true → FindsMore encoding.old encoding.new) }
     ensures none { IfOk result
@@ -408,12 +379,9 @@ fn run_round<A: PackageSource, C: ScoreMap<A::NameId>>(
     ensures same { answers.new ≡ answers.old }
     // After an answer.
     ensures stays { OnOk result
-        ((root : Rules)
-        → IsRoot aim.now.requirements.now aim.now.constraints.now root
-        → IsInOrder A.SolvableId.eq (A.packages answers.old) (A.orders answers.old) root
-        encoding.old
-        → IsInOrder A.SolvableId.eq (A.packages answers.old) (A.orders answers.old) root
-        encoding.new) }
+        (StaysInOrderOf aim.now.requirements.now aim.now.constraints.now
+        A.SolvableId.eq (A.packages answers.old) (A.orders answers.old)
+        encoding.old encoding.new) }
     ensures adds { OnOk result (AddsParents encoding.old encoding.new) }
     ensures turn { OnOk result (KeepsTurn aim.now.wish encoding.old encoding.new) }
     ensures round { IfOk result (IsRound A.SolvableId.eq aim.now.wish encoding.old encoding.new) }
@@ -455,12 +423,9 @@ pub fn run_turn<A: PackageSource, C: ScoreMap<A::NameId>>(
     ensures same { answers.new ≡ answers.old }
     // After an answer.
     ensures stays { OnOk result
-        ((root : Rules)
-        → IsRoot requirements.now constraints.now root
-        → IsInOrder A.SolvableId.eq (A.packages answers.old) (A.orders answers.old) root
-        encoding.old
-        → IsInOrder A.SolvableId.eq (A.packages answers.old) (A.orders answers.old) root
-        encoding.new) }
+        (StaysInOrderOf requirements.now constraints.now
+        A.SolvableId.eq (A.packages answers.old) (A.orders answers.old)
+        encoding.old encoding.new) }
     ensures adds { OnOk result (AddsParents encoding.old encoding.new) }
     ensures turn { OnOk result (KeepsTurn wish encoding.old encoding.new) }
     ensures ended { IfOk result (IsTurn A.SolvableId.eq wish encoding.new) }
