@@ -24,7 +24,7 @@ use resolvo_pool_core::solver_id::SolvableIdOrRoot;
 use resolvo_pool_core::want::R;
 use std::alloc::Global;
 
-/// Adds the candidates whose dependencies are available as parents.
+/// Adds as parents the candidates whose dependencies are available.
 pub fn add_available<A: PackageSource>(
     answers: &A,
     encoding: &mut Encoder<A::NameId, A::SolvableId>,
