@@ -1,4 +1,4 @@
-//! The versions of a catalogue as solvables, in the order of their lines, and those of each package.
+//! The versions of a catalogue as solvables, in line order, and those of each package.
 
 ghost use Rattle.std.specs.Prelude.{◌≡◌, ◌≤◌, ◌+◌, ◌++◌, ◌∷◌, ◌==◌, [], IfOk, IsErrOf, IsOkUnless, OnOk, length, if◌then◌else◌, ℕ};
 ghost use Rattle.resolvo_pool_core.specs.declared.want.Want.TheVariants.{Ids, Memory};
