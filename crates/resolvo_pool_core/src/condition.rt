@@ -1,5 +1,5 @@
-//! Conditions on the chosen solvables, as trees whose nodes are ids. A requirement may have a condition,
-//! and the encoder reads it.
+//! Conditions on the chosen solvables, as trees whose nodes are ids. A requirement may have a
+//! condition, and the encoder reads it.
 
 use crate::id::{ConditionId, VersionSetId};
 
