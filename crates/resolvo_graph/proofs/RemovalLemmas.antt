@@ -125,7 +125,7 @@ module _ {S : Type 0} (g : Graph S) (u : NodeIndex) (keys : List (ConflictNode S
       let is : last ≡ length g.nodes - 1 = last_is left long in
       omega arith
 
-  -- the code does what the definition says
+  -- the code agrees with the definition
   pub removes : unresolved_of g ≡ Some u → has_edge_at g u ≡ false → keys ≡ swap_remove g.nodes u.0 UnresolvedDependency → last ≡ length keys → now ≡ map (with_ends_moved last u.0) g.edges → record { nodes = keys; edges = now } ≡ without_unused_unresolved g
   removes found unused left long put =
       let whole : without_unused_unresolved g ≡ without_unresolved g u = ap (unless_used g) found ∙ ap (λ b. cond b g (without_unresolved g u)) unused in

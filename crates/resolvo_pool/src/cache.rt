@@ -705,7 +705,7 @@ impl<D: DependencyProvider> SolverCache<D> {
         Ok(())
     }
 
-    /// What a solvable needs and limits.
+    /// The dependencies of a solvable.
     pub fn get_or_cache_dependencies(
         &mut self,
         solvable: D::SolvableId,

@@ -1,9 +1,9 @@
-//! Conditions on what is chosen, as trees whose nodes are ids. A requirement may have a condition,
-//! and the encoder reads it.
+//! Conditions on the chosen solvables, as trees whose nodes are ids. A requirement may have a
+//! condition, and the encoder reads it.
 
 use crate::id::{ConditionId, VersionSetId};
 
-/// A condition on what is chosen.
+/// A condition on the chosen solvables.
 #[derive(Clone, Copy, Debug, PartialEq, Eq, Hash)]
 pub enum Condition {
     /// Two conditions, joined.

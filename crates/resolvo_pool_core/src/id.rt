@@ -277,7 +277,7 @@ impl DenseIndex for VersionSetUnionId {
     }
 }
 
-/// A condition on what is chosen.
+/// A condition on the chosen solvables.
 #[derive(Clone, Copy, Debug, PartialEq, Eq, PartialOrd, Ord, Hash)]
 pub struct ConditionId(pub u32);
 

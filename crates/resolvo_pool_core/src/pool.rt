@@ -33,7 +33,7 @@ pub trait PackageName: Eq + Hash {}
 
 impl<N: Eq + Hash> PackageName for N {}
 
-/// What a package name is made from.
+/// The source of a package name.
 pub trait IntoPackageName<N: PackageName> {
     /// Which names it may be converted to.
     ghost gives: { Self → N → Type 0 };
@@ -67,7 +67,7 @@ pub struct Solvable<V> {
     pub name: NameId,
 }
 
-/// What was interned.
+/// The interned values.
 #[derive(Drop)]
 pub struct Pool<VS: VersionSet, N: PackageName = String> {
     names: IndexSet<N>,

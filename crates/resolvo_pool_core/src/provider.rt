@@ -140,7 +140,7 @@ pub trait DependencyProvider: Interner {
     /// The candidates of a package, or none where there is no such package.
     ghost candidates_of: { Self → Self.NameId → Option (Listing Self.SolvableId) };
 
-    /// What a solvable needs and limits, or the reason why that is unknown.
+    /// The dependencies of a solvable, or the reason why they are unknown.
     ghost dependencies_of: { Self → Self.SolvableId → Needs };
 
     /// Which lists sorting may make of a list.
@@ -291,7 +291,7 @@ pub enum Dependencies {
     Unknown(StringId),
 }
 
-/// What a solvable needs and limits, where that is known.
+/// The known dependencies of a solvable.
 #[derive(Debug, Drop)]
 pub struct KnownDependencies {
     pub requirements: Vec<ConditionalRequirement>,

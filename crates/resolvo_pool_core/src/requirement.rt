@@ -20,7 +20,7 @@ use std::fmt;
 use std::marker::Model;
 use std::ops::Index;
 
-/// What is needed: a match of one version set, or of one of several.
+/// A requirement: a match of one version set, or of one of several.
 #[derive(Clone, Copy, Debug, PartialEq, Eq, PartialOrd, Ord, Hash)]
 pub enum Requirement {
     Single(VersionSetId),
