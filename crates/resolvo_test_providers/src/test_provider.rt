@@ -29,7 +29,8 @@ pub enum Question<N, S> {
 }
 
 /// A source that answers as another one, by ids of its own. Each is kept as the other one's id, and
-/// is no place in a list.
+/// is no place in a list. It records its questions, and cancels once: at the test before which so
+/// many others passed.
 #[derive(Drop)]
 pub struct TestProvider<P: Interner> {
     alloc: Global,
