@@ -1,5 +1,5 @@
--- The turns of a report, one after the other: the choices of each are reached, and keep the rules;
--- and each wish that is left out is forbidden.
+-- The turns of a report, one after the other. The choices of each are reached, and keep the rules.
+-- Each wish that is left out is forbidden.
 use Rattle.std.proofs.Common.{◌≡◌, Bor, inl, inr, ℕ, zero, suc, ◌+◌, ◌-◌, ◌<◌, ◌≤◌, Bool, true, false, cond, List, [], ◌∷◌, ◌++◌, take, drop, length, Option, Some, None, refl, sym, ap, subst, ◌∙◌, append_assoc, arith}
 use Rattle.std.specs.Prelude.{Contains, IsTrue, MatchOption, option_to_list, slice_get, slice_index_or, unwrap_or}
 use Rattle.std.specs.Option.{option_map}

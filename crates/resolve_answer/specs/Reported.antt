@@ -67,8 +67,8 @@ AreUsed answers steps = (k : ℕ) → k < length steps → LeavesOutBy answers (
 abbrev pub AreFirstTold : List Line → List Line → List Step → Type 0
 AreFirstTold catalogue request steps = (k : ℕ) (s : Step) → slice_get steps k ≡ Some s → TellsFirst catalogue request s
 
--- A wish that a lock or an exclusion forbids is left out by the step of this number: that of the
--- lock, else that of the exclusion.
+-- A wish that a lock or an exclusion forbids is left out by the step of this number. It is that of
+-- the lock, else that of the exclusion.
 abbrev pub LeavesOutBarred : List Line → List Answer → ℕ → Step → Type 0
 LeavesOutBarred catalogue answers number s = (v : Version) × (line : ℕ) × Contains answers (LeftOut v line number) × IsBarredBefore catalogue v s
 

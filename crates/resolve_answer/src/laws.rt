@@ -8,8 +8,8 @@ ghost use Rattle.resolvo_catalogue_core.specs.Sets.{IsRuleKeeping};
 ghost use Rattle.resolvo_catalogue.specs.Provider.{Provider};
 ghost use Rattle.resolve_answer.specs.Verdict.{IsChosen, IsGivenOver, IsRefused, Verdict};
 
-/// A solver over the provider of a catalogue chooses only where some set of versions keeps the rules of both texts, and refuses
-/// only where none does.
+/// A solver over the provider of a catalogue chooses only where some set of versions keeps the
+/// rules of both texts. It refuses only where none does.
 pub fn a_verdict_is_that_of_the_texts()
     ensures chosen { (catalogue : List Line) (said : ReadRequest) (provider : Provider) (verdict : Verdict)
         → IsGivenOver catalogue said provider verdict

@@ -41,9 +41,9 @@ abbrev pub StopsJudging : RunFault → List ℕ → List ℕ → List ℕ → Ty
 StopsJudging fault c r p = (c_left : Option (List ℕ)) × (r_left : Option (List ℕ)) × (p_left : Option (List ℕ))
     × StopsBeforeCheck fault (lent c c_left) (lent r r_left) (lent p p_left)
 
--- The result of solving a catalogue and a request: their answer, with the ending 0 for `install`, 1
--- for `refused` and 2 for a faulty line. Or no text, where one is too long, or memory or numbers
--- are lacking.
+-- The result of solving a catalogue and a request. It is their answer, with the ending 0 for
+-- `install`, 1 for `refused` and 2 for a faulty line. Or no text, where one is too long, or memory
+-- or numbers are lacking.
 pub data Solves (c r before after : List ℕ) (told : Told) : Type 0 where
   answered : (outcome : Outcome) (text : List ℕ) → IsAnswer c r outcome text → Leaves (ending_of outcome) text before after told → Solves c r before after told
   too_long : StopsSolving TooLong c r → Leaves 4 [] before after told → Solves c r before after told
@@ -55,8 +55,8 @@ pub data SolvesWithin (c r before after : List ℕ) (told : Told) : Type 0 where
   solved : Solves c r before after told → SolvesWithin c r before after told
   given_up : AreGrammatical c r → Leaves 8 [] before after told → SolvesWithin c r before after told
 
--- The result of judging a catalogue, a request and a report: their check, with the ending 0 for
--- `yes`, 1 for `no` and 2 for a faulty line. Or no text, where one is too long or memory is
+-- The result of judging a catalogue, a request and a report. It is their check, with the ending 0
+-- for `yes`, 1 for `no` and 2 for a faulty line. Or no text, where one is too long or memory is
 -- lacking.
 pub data Judges (c r p before after : List ℕ) (told : Told) : Type 0 where
   checked : (ended : Checked) (text : List ℕ) → IsCheck c r p ended text → Leaves (check_ending_of ended) text before after told → Judges c r p before after told

@@ -314,7 +314,7 @@ module _ (catalogue request : List Line) (turns : List Turn) (steps : List Step)
     pub entries_exact : AreSame (all_chosen catalogue turns) (entries_of answers)
     entries_exact = exact_entries catalogue request (turns_of (listed catalogue) turns) answers told all_told all_reached
 
-    -- A line of a wish that is left out: it is a wish of the request, its step forbids it with the
+    -- A line of a wish that is left out. It is a wish of the request, its step forbids it with the
     -- entries above, and it isn't chosen.
     pub record IsRightlyLeftOut (above : List Answer) (v : Version) (n step : ℕ) : Type 0 where
       pub wished : line_at request n ≡ Some (Wish v)

@@ -33,8 +33,8 @@ pub record MayGive (catalogue request : List Line) (chosen entries : Set) (reaso
 abbrev pub IsEarlier : Set → Version → Version → Type 0
 IsEarlier entries u w = (above : Set) × (below : Set) × (entries ≡ above ++ below) × Contains above u × Contains below w
 
--- The first line is before the second: lines of the request by their numbers, then those of the
--- entries in listing order, those of one entry by their numbers.
+-- The first line is before the second. Lines of the request are ordered by their numbers; those of
+-- the entries follow in listing order, those of one entry by their numbers.
 abbrev pub Precedes : Set → Reason → Reason → Type 0
 Precedes entries (ForRequest m) (ForRequest n) = m < n
 Precedes entries (ForRequest m) (ForVersion w n) = ⊤
@@ -92,7 +92,7 @@ wish_entry None entries = []
 wish_entry (Some w) entries = if is_member w.1 entries then [] else Entry w.1 (Wished w.0) ∷ []
 
 -- The answers of a turn, where these versions are chosen by its end: its wish, then one after the
--- other, until no line gives anything more.
+-- other, until no line gives more.
 pub record IsTurn (catalogue request : List Line) (chosen entries : Set) (wish : Option (ℕ × Version)) (answers : List Answer) : Type 0 where
   pub others : List Answer
   pub wish_first : answers ≡ wish_entry wish entries ++ others
@@ -126,8 +126,8 @@ wished_by (Some w) = w.1 ∷ []
 abbrev pub wishes_in : List Turn → Set
 wishes_in turns = flat_map (λ t. wished_by (accepted_by t)) turns
 
--- The part of the chosen versions holds the wishes, and each chosen match of a line of the request or of a member whose
--- condition holds in the part.
+-- The part of the chosen versions holds the wishes. It holds each chosen match of a line of the
+-- request or of a member whose condition holds in the part.
 pub record IsClosed (catalogue request : List Line) (chosen wishes part : Set) : Type 0 where
   pub within : (v : Version) → Contains part v → Contains chosen v
   pub wished : (v : Version) → Contains wishes v → Contains part v

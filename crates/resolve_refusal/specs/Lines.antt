@@ -63,7 +63,8 @@ NeedsIn alternatives case line = (condition : Option Cond) × (line ≡ Needs al
 abbrev pub NeedsAs : List Spec → List Spec → ℕ → Line → Type 0
 NeedsAs alternatives case k line = (condition : Option Cond) × (line ≡ Needs alternatives condition) × IsLeast (Some k) (λ j. case_at condition j ≡ Some case)
 
--- It is the number of the first case of the line that is this one; or there is no such case, or the line doesn't need these alternatives.
+-- It is the number of the first case of the line that is this one. Or there is no such case, or the
+-- line doesn't need these alternatives.
 abbrev pub IsCaseOf : List Spec → List Spec → Line → Option ℕ → Type 0
 IsCaseOf alternatives case line None = NeedsIn alternatives case line → ⊥
 IsCaseOf alternatives case line (Some k) = NeedsAs alternatives case k line
@@ -73,8 +74,8 @@ abbrev pub IsCaseAt : List Line → List Spec → List Spec → ℕ → Option �
 IsCaseAt lines alternatives case n None = IsAt lines (NeedsIn alternatives case) n → ⊥
 IsCaseAt lines alternatives case n (Some k) = IsAt lines (NeedsAs alternatives case k) n
 
--- It is the first of these lines of the text that needs the alternatives in this case, with the number of its first such
--- case; or none does.
+-- It is the first of these lines of the text that needs the alternatives in this case, with the
+-- number of its first such case. Or none does.
 abbrev pub IsNeedLine : (ℕ → Type 0) → List Line → List Spec → List Spec → Option NeedLine → Type 0
 IsNeedLine Among lines alternatives case None = (n : ℕ) → Among n → IsAt lines (NeedsIn alternatives case) n → ⊥
 IsNeedLine Among lines alternatives case (Some found) = Among found.line × IsAt lines (NeedsAs alternatives case found.case) found.line × ((m : ℕ) → m < found.line → Among m → IsAt lines (NeedsIn alternatives case) m → ⊥)

@@ -45,8 +45,8 @@ IsWritten catalogue ids (Rule (Digit s place bit)) step = step ≡ told.Digit (v
 IsWritten catalogue ids (Rule (AtLeastOne n s)) step = step ≡ told.Any (version_at catalogue s)
 IsWritten catalogue ids (Derived literals causes) step = (written : List Literal) × (step ≡ told.Derive written (map number_of causes.items))
 
--- The report is refused, has a step for each of the proof's, in order, names the lines of both texts that its steps rest on,
--- and has no message.
+-- The report is refused, has a step for each of the proof's, in order, and has no message. It names
+-- the lines of both texts on which its steps rest.
 pub record IsRefusedBy (catalogue request : List Line) (ids : Ids) (steps : List (ProofStep NameId SolvableId)) (r : Report) : Type 0 where
   pub in_catalogue : List ℕ
   pub in_request : List ℕ

@@ -1,5 +1,5 @@
--- The line and case by which a step names a need, the line of a limit and of a forbidden version,
--- and the literals of a derived clause.
+-- The lines that a step names: of a need with its case, of a limit, of a forbidden version. And the
+-- literals of a derived clause.
 use Rattle.std.specs.Prelude.{◌≡◌, ℕ, ⊤, IsTrue, IfSome, List, map, Option, Some, None, unwrap_or, slice_get}
 use Rattle.std.specs.Option.{option_map}
 use Rattle.resolvo_text.specs.Line.{Version, Line}
@@ -56,9 +56,9 @@ word_step (Some (with_word.Unknown n)) = told.Unknown n
 abbrev pub TellsWord : List Line → Ids → SolvableId → StringId → Step → Type 0
 TellsWord catalogue ids s reason step = (found : Option WordLine) × (step ≡ word_step found) × ((v : Version) → slice_get (listed catalogue) s.raw ≡ Some v → IsWordLine catalogue v (word_text ids reason) found)
 
--- The items that a step names beside `IsWritten`: a need, a limit and a word that forbids by the
--- first line, a lock by its line. A place is named by a number that has a text, and a derived
--- clause by its literals in the order of their texts.
+-- The items that a step names beside `IsWritten`. A need, a limit and a word that forbids are named
+-- by the first line, a lock by its line. A place is named by a number that has a text, and a
+-- derived clause by its literals in the order of their texts.
 abbrev pub Tells : List Line → List Line → Ids → ProofStep NameId SolvableId → Step → Type 0
 Tells catalogue request ids (Rule (Needs parent r case)) step = TellsNeed catalogue request ids parent r case.items step
 Tells catalogue request ids (Rule (GateOf s r)) step = (line : ℕ) × (step ≡ told.Gate (version_at catalogue s) line) × IsFirstLine catalogue request (Some (version_no s)) (says.Needs (alternatives_at ids r) None) line

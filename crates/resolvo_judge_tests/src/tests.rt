@@ -1,5 +1,5 @@
-//! Beyond the clauses and the rows: devices that fail, stop or are interrupted, and each call that
-//! the program doesn't make by itself, with ample memory.
+//! Beyond the clauses and the rows: devices that fail, stop or are interrupted. And each call, with
+//! ample memory, that the program doesn't make by itself.
 
 mod catalogue;
 mod entries;

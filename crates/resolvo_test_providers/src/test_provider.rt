@@ -28,8 +28,9 @@ pub enum Question<N, S> {
     Dependencies(S),
 }
 
-/// A source that answers as another one, by ids of its own: each is kept as the other one's id, and is no place in a list. It notes its
-/// questions, and cancels once: at the test before which so many others were let pass.
+/// A source that answers as another one, by ids of its own. Each is kept as the other one's id, and
+/// is no place in a list. It records its questions, and cancels once: at the test before which so
+/// many others passed.
 #[derive(Drop)]
 pub struct TestProvider<P: Interner> {
     alloc: Global,

@@ -10,8 +10,8 @@ use resolvo_text::MemorySink;
 use std::alloc::{AllocError, Global};
 use std::test::Fail;
 
-/// A turn of a row: the place of its wish among those of the request, and the numbers of the versions that it chose; or
-/// the place of a wish that is left out, and its step.
+/// A turn of a row. It has the place of its wish among those of the request, and the numbers of the
+/// versions that it chose; or the place of a wish that is left out, and its step.
 enum RowTurn {
     Chose(Option<usize>, &'static [u32]),
     LeftOut(usize, u32),

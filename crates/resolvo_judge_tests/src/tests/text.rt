@@ -93,8 +93,8 @@ fn sinks(rt: HostRuntime) -> Result<(), Fail> {
     Ok(())
 }
 
-/// Whether `abcde` is written whole, or not, to a sink of so much room that takes 2 bytes a call, fails after so many
-/// calls and is interrupted so often before; and whether it took these bytes.
+/// Whether `abcde` is written whole, or not, and whether the sink took these bytes. The sink has so
+/// much room, takes 2 bytes a call, fails after so many calls and is interrupted so often before.
 fn writes_so(
     alloc: Global,
     (room, calls, interruptions): (usize, u64, u32),

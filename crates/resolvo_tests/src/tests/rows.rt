@@ -153,8 +153,8 @@ static ROWS: [[&str; 3]; 44] = [
 ];
 
 /// A catalogue, for which candidates dependencies are at hand, a request, and the source's
-/// questions: the candidates of a package, or the dependencies of a version. Those that are at hand
-/// are asked for with each need, and others once the version is chosen.
+/// questions. These are the candidates of a package, or the dependencies of a version. Those that
+/// are at hand are asked for with each need, and others once the version is chosen.
 static QUESTIONS: [(&str, Hint, &str, &str); 8] = [
     (LAZY, Hint::None, "needs a\n", "a\na 2\n"),
     (LAZY, Hint::All, "needs a\n", "a\na 2\na 1\nb\n"),
