@@ -66,7 +66,7 @@ said_extends vs old middle before new after ls i l h is e f =
     subst (Extends vs old [] new after) (sym (more (λ xs. map literal_of (view.literals_of xs)) ls i l h is ∙ joined))
     (extends_then vs old [] middle before new after (map literal_of (view.literals_of (take i ls))) (literal_of (view.literal_of l) ∷ []) e f)
 
--- ---- a derived clause over what is kept
+-- ---- a derived clause over the checker's state
 
 module _ (catalogue request : List Line) (entries : List (Vec ℕ × ℕ)) where
   abbrev Kept : List Clause → List (List (pass.Literal ℕ)) → Type 0
@@ -100,7 +100,7 @@ module _ (catalogue request : List Line) (entries : List (Vec ℕ × ℕ)) where
       let p = and_parts (is_earlier (length earlier) n) (list_all (is_earlier (length earlier)) ns) e in
       (cause_named earlier clauses n p.0 k, causes_named earlier clauses ns p.1 k)
 
-  -- the pass over what is kept answers what the pass over the clauses themselves does
+  -- the pass over numbered clauses has the answer of the pass over the clauses themselves
   pub derived_alike : (count : ℕ) → AreNumbers entries count → AreDistinct (listed catalogue) → (earlier : List Step) (clauses : List (List Literal)) (causes : List ℕ) (clause : Clause) (ids : List Literal)
       → Kept (map (clause_or_none catalogue request) earlier) (map literals_of clauses) → Numbered (listed catalogue) entries clause ids
       → (list_all (is_earlier (length clauses)) causes && one_pass nat_eq (literals_of ids) (map (clause_at clauses) causes))
@@ -180,7 +180,7 @@ stand_more catalogue request old new clauses places after ids earlier s stands k
   placed = given;
 }
 
--- ---- what a step owes to the earlier ones
+-- ---- how a step fits the earlier ones
 
 pub digit_listed : (catalogue : List Line) (v : Version) (place bit : ℕ) → is_some (digit_clause catalogue v place bit) ≡ true → is_listed catalogue v ≡ true
 digit_listed catalogue v place bit h = one (is_listed catalogue v) refl h where

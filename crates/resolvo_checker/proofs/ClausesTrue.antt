@@ -71,8 +71,7 @@ module _ (catalogue : List Line) (set : Set) (place : Version → ℕ) where
     | inl e ↦ next (not_in v) (literal a true ∷ []) (first (literal a true) [] (beq_true _ (makes (held test set v e t))))
   ]
 
-  -- where the line obeys and its owner binds it, the place fails or the line says more
-  -- `Stands` tells that the place is the line's.
+  -- The version of the place is the line's owner. A place of the request has none.
   abbrev pub Stands : Place → Option Version → Type 0
   Stands OfRequest owner = owner ≡ None
   Stands (OfVersion v) owner = owner ≡ Some v
@@ -251,7 +250,7 @@ module _ (catalogue : List Line) (set : Set) (place : Version → ℕ) where
     unknown_true owner (Favour w) c kept h = nothing_said c h
     unknown_true owner (Wish w) c kept h = nothing_said c h
 
-    -- ---- helpers
+    -- ---- auxiliary atoms
 
     pub outside_true : (s : Spec) (v : Version) (c : Clause) → outside_clause catalogue s v ≡ Some c → True c
     outside_true s v c h =

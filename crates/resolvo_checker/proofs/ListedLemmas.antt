@@ -7,7 +7,7 @@ use Rattle.resolvo_text.specs.Matches.{same_version, is_member}
 use Rattle.resolvo_catalogue_core.specs.Listed.{listed}
 use Rattle.resolvo_checker.proofs.Sets.{same_own, same_is}
 
--- what is listed below is listed
+-- a version that is listed later is listed
 more_listed : (line : Line) (lines : List Line) (v : Version) → is_member v (listed lines) ≡ true → is_member v (listed (line ∷ lines)) ≡ true
 more_listed Skipped lines v h = h
 more_listed (Listed w) lines v h = or_right _ _ h

@@ -1,4 +1,4 @@
--- A mark without a value says nothing.
+-- A mark without a value assigns nothing.
 use Rattle.std.proofs.Common.{◌≡◌, ℕ, zero, suc, Bool, true, false, List, [], ◌∷◌, ◌++◌, Option, None, refl, cond}
 use Rattle.std.specs.Prelude.{◌==◌}
 use Rattle.resolvo_checker.specs.declared.assignment.Mark.{Mark}

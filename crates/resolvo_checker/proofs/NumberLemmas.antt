@@ -19,7 +19,7 @@ others key old new h = h
 apart_keys : (bs cs ks : List ℕ) → bytes_eq bs cs ≡ false → bytes_eq bs ks ≡ true → bytes_eq cs ks ≡ false
 apart_keys bs cs ks n y = nat_list_eq_equiv.symm cs ks ∙ sym (nat_list_eq_equiv.congr bs ks cs y) ∙ n
 
--- what a new number at a key leaves at any key
+-- a new number at one key keeps those at the other keys
 pub number-updated : {S : Type 0} (m n : HashMap (Vec ℕ) ℕ S) (key : List ℕ) (w : Option ℕ) → UpdatesBy key_eq (λ k. bytes_eq key k.items) m n w
     → (other : List ℕ) → number_in n.entries other ≡ cond (bytes_eq key other) w (number_in m.entries other)
 number-updated m n key w h other = elim (cases_Bool (bytes_eq key other)) [

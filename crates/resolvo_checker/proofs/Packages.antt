@@ -53,7 +53,7 @@ in_above m n (x ∷ xs) a i = elim i [
   | inr j ↦ let b : m ≤ x = a.0 in let c : suc x ≤ n = in_above (suc x) n xs a.1 j in omega (arith, b, c)
 ]
 
--- ---- a list behind its front
+-- ---- a list after a prefix
 
 get_seam : (front : List Version) (v : Version) (vs : List Version) → slice_get (front ++ v ∷ vs) (length front) ≡ Some v
 get_seam [] v vs = refl
@@ -151,9 +151,9 @@ twice : (xs : List Version) → map (λ w. Some (is_in w)) xs ≡ somes (map is_
 twice [] = refl
 twice (x ∷ xs) = ap (λ ys. Some (is_in x) ∷ ys) (twice xs)
 
--- ---- what a SPEC picks
+-- ---- the versions that a SPEC picks
 
--- which versions pass, told by their names and numbers
+-- which versions pass, by their names and numbers
 passes_by : (s : Spec) (outside : Bool) (v : Version) → v.name ≡ s.name → passes s outside v ≡ is_picked s.span outside v.number
 passes_by s true v named =
     let own : bytes_eq v.name s.name ≡ true = (bytes_eq-Decides v.name s.name).1 named in

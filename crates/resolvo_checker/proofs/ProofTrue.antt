@@ -116,7 +116,7 @@ module _ (catalogue request : List Line) (catalogue_line request_line : ℕ → 
   owner_is v None h = absurd (false≢true h)
   owner_is v (Some w) h = ap Some (sym (same_is v w h))
 
-  -- what the line of a place gives, where a clause of its line is true
+  -- the clause of a place's line is true
   at_place : (p : Place) (n : ℕ) (line : Line) → line_of catalogue request p n ≡ Some line → rests_on catalogue_line request_line p n ≡ true
       → (owner : Option Version) × Stands catalogue set place p owner × (obeys owner line set ≡ true)
   at_place OfRequest n line e r = (None, refl, obeyed_in_request n line r e)
@@ -224,7 +224,7 @@ pub proof_true : (catalogue request : List Line) (catalogue_line request_line : 
     → list_all (λ s. clause_true (value_of set (place_given steps)) (unwrap_or (clause_of catalogue request s) [])) steps ≡ true
 proof_true catalogue request catalogue_line request_line steps h set single named = steps_true catalogue request catalogue_line request_line set (place_given steps) single named steps [] steps h refl refl refl
 
--- ---- what follows
+-- ---- corollaries
 
 empty_derived : (catalogue request : List Line) (s : Step) → derives_empty s ≡ true → unwrap_or (clause_of catalogue request s) [] ≡ []
 empty_derived catalogue request (step.Derive literals causes) h = one literals (eqb-true (length literals) 0 h) where

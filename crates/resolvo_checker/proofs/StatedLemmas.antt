@@ -1,4 +1,4 @@
--- What the rules of lines say of the lines.
+-- Rules and the lines that they encode.
 use Rattle.std.proofs.Common.{◌≡◌, Bool, true, false, List, [], ◌∷◌, Option, Some, None, refl, sym, ap, ◌∙◌, cond}
 use Rattle.std.specs.Prelude.{slice_get}
 use Rattle.std.specs.Option.{option_map}
@@ -15,7 +15,7 @@ use Rattle.resolvo_checker.specs.Built.{somes}
 use Rattle.resolvo_checker.specs.Stated.{line_said, rule_line, is_owned, owned_line, owner_in, owner_literals, is_owner_at, is_owned_by, IsValid}
 use Rattle.resolvo_checker.proofs.Sets.{same_is}
 
--- a line that states no rule
+-- a line without a rule
 no_rule_owned : (l : Line) → is_rule l ≡ false → is_owned l ≡ false
 no_rule_owned Skipped h = refl
 no_rule_owned (Listed v) h = refl
@@ -39,7 +39,7 @@ pub none_owned_by : (b : Bool) (o : Option Line) → ((l : Line) → o ≡ Some 
 none_owned_by true o h = none_owned o h
 none_owned_by false o h = refl
 
--- what a rule says
+-- the line that a rule encodes
 pub said : (vs : List Version) (r : Rule) (owner : Option Version) (l : Line) → States vs r owner l → rule_line (Some l) ≡ line_said vs r
 said vs (rule.Needs of a c) owner l s = ap (λ x. rule_line (Some x)) s.0
 said vs (rule.Limits of x) owner l s = ap (λ x. rule_line (Some x)) s.0
@@ -80,7 +80,7 @@ unowned : (b : Bool) (x : Line) → is_owned x ≡ false → owned_line (cond b 
 unowned true x h = ap (λ d. cond d (Some x) None) h
 unowned false x h = refl
 
--- what a rule says, if it is one of the version
+-- the line that a rule of the version encodes
 pub owned_said : (vs : List Version) (r : Rule) (owner : Option Version) (l : Line) (v : Version) (b : Bool) → States vs r owner l → is_owned_by vs r v ≡ b → owned_line (cond (is_owner v owner) (Some l) None) ≡ cond b (line_said vs r) None
 owned_said vs (rule.Needs of a c) owner l v b s e = ap (λ x. owned_line (cond (is_owner v owner) (Some x) None)) s.0 ∙ owned_one vs of owner v _ b refl s.1 e
 owned_said vs (rule.Limits of x) owner l v b s e = ap (λ y. owned_line (cond (is_owner v owner) (Some y) None)) s.0 ∙ owned_one vs of owner v _ b refl s.1 e
@@ -102,7 +102,7 @@ owned_literals vs (rule.Unknown of w) v h = absurd (false≢true h)
 owned_literals vs (rule.Lock n) v h = absurd (false≢true h)
 owned_literals vs (rule.Exclude n w) v h = absurd (false≢true h)
 
--- what is barred is listed
+-- an excluded version is listed
 pub valid : (vs : List Version) (r : Rule) (owner : Option Version) (l : Line) → States vs r owner l → IsValid vs owner r
 valid vs (rule.Unknown of w) owner l s = s.1
 valid vs (rule.Exclude n w) owner l s = (s.0, s.1)

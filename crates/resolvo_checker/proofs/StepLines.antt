@@ -1,4 +1,4 @@
--- The clauses of steps, by what the rules of their lines say.
+-- The clauses of steps, by the rules of their lines.
 use Rattle.std.proofs.Common.{◌≡◌, ℕ, zero, suc, Bool, true, false, List, [], ◌∷◌, Option, Some, None, refl, sym, ap, subst, ◌∙◌, cond, inl, inr, Bor, IfSome}
 use Rattle.std.specs.Prelude.{slice_get, ◌||◌}
 use Rattle.std.specs.Global.{Vec}
@@ -16,7 +16,7 @@ use Rattle.resolvo_checker.specs.StepClauses.{Clause, case_at, need_clause, gate
 use Rattle.resolvo_checker.specs.Stated.{rule_line, is_owned, owned_line}
 use Rattle.resolvo_checker.proofs.Sets.{same_own, same_is}
 
--- ---- lines that state no such rule give no clause
+-- ---- lines without such a rule give no clause
 
 by_owned : (f : Option Line → Option Clause) → ((x : Line) → is_owned x ≡ false → f (Some x) ≡ f None) → (l : Option Line) → f (owned_line l) ≡ f l
 by_owned f other None = refl
@@ -123,7 +123,7 @@ unknown_rule o l = by_rule (unknown_clause o) other l where
   other (Exclude w r) h = refl
   other (Wish w) h = refl
 
--- ---- what is told of a borrowed value is told of the value
+-- ---- properties of a borrowed value are those of the value
 
 pub if_copied : {X : Type 0} (P : X → Type 0) (o : Option (Bor X)) → IfSome o (λ r. P r.now) → IfSome (option_copied o) P
 if_copied P None h = h

@@ -1,4 +1,4 @@
--- What built literals are, over the listed versions.
+-- The literals that built ones encode, over the listed versions.
 use Rattle.std.specs.Prelude.{ℕ, Bool, true, false, List, map, Option, Some, None, slice_get}
 use Rattle.std.specs.String.{string_bytes}
 use Rattle.std.specs.Option.{option_map}

@@ -1,4 +1,4 @@
--- What is kept of the steps of a proof.
+-- The state of the checker of a proof.
 use Rattle.std.specs.Prelude.{◌≡◌, ℕ, ◌+◌, ◌-◌, Bool, true, false, not, ◌&&◌, ◌||◌, ◌==◌, List, [], ◌∷◌, map, length, Option, Some, None, slice_get, unwrap_or, if◌then◌else◌}
 use Rattle.std.specs.Global.{Vec}
 use Rattle.std.specs.List.{list_all, list_any}
@@ -21,7 +21,7 @@ use Rattle.resolvo_catalogue_core.specs.declared.rule.VersionNo.{VersionNo}
 abbrev pub flag_at : List Bool → ℕ → Bool
 flag_at flags line = unwrap_or (slice_get flags line) false
 
--- which lines steps may rest on
+-- which lines steps may name
 abbrev pub names_catalogue : Premises → ℕ → Bool
 names_catalogue All line = true
 names_catalogue (Named catalogue request) line = flag_at catalogue.items line
@@ -49,7 +49,7 @@ abbrev pub count_causes : List Step → ℕ
 count_causes [] = 0
 count_causes (s ∷ steps) = causes_in s + count_causes steps
 
--- what numbering a step's clause gives: whether there is one, and its numbers
+-- the numbered clause of a step: whether there is one, and its numbers
 abbrev pub AtomIds : Option Clause → Bool → List Version → List (Vec ℕ × ℕ) → List (Vec ℕ × ℕ) → List Literal → Type 0
 AtomIds None there versions old new ids = there ≡ false
 AtomIds (Some clause) there versions old new ids = (there ≡ true) × Extends versions old [] new ids clause
@@ -58,7 +58,7 @@ AtomIds (Some clause) there versions old new ids = (there ≡ true) × Extends v
 abbrev pub Given : List Line → List (Option ℕ) → List Step → Type 0
 Given catalogue places earlier = (v : Version) (n place : ℕ) → slice_get (listed catalogue) n ≡ Some v → list_all (allows_place v place) earlier ≡ allows (slice_get places n) place
 
--- what is kept stands for the earlier steps
+-- the checker's state is that after the earlier steps
 pub record StandFor (catalogue request : List Line) (entries : List (Vec ℕ × ℕ)) (clauses : List (List Literal)) (places : List (Option ℕ)) (earlier : List Step) : Type 0 where
   pub numbered : AreNamedClauses (Names (listed catalogue) entries) (map (clause_or_none catalogue request) earlier) (map literals_of clauses)
   pub placed : Given catalogue places earlier

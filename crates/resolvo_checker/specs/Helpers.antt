@@ -1,4 +1,4 @@
--- What the atoms of a proof mean over a set of versions, and when two of them are one.
+-- The values of a proof's atoms over a set of versions, and when two atoms are equal.
 use Rattle.std.specs.Prelude.{ℕ, Bool, true, false, ◌&&◌, ◌==◌, List, [], ◌∷◌}
 use Rattle.std.specs.List.{list_any}
 use Rattle.std.specs.Int.{bit_at}

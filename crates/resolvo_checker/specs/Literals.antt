@@ -1,4 +1,4 @@
--- What numbered literals and clauses are, without how they are kept.
+-- The models of numbered literals and clauses.
 use Rattle.std.specs.Prelude.{ℕ, ◌-◌, List, [], map, slice_index_or}
 use Rattle.resolvo_pool_core.specs.OnePass.Rest.{broken, last, more}
 use Rattle.resolvo_pool_core.specs.OnePass as pass

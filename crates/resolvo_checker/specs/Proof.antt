@@ -1,4 +1,4 @@
--- Which steps may stand after which, and what a proof of them shows.
+-- Which steps are valid after which, and what a proof implies.
 use Rattle.std.specs.Prelude.{◌≡◌, ℕ, zero, suc, Bool, true, false, not, ◌&&◌, ◌||◌, ◌==◌, List, [], ◌∷◌, map, length, take, Some, is_some, slice_get, unwrap_or, IsTrue, Contains}
 use Rattle.std.specs.List.{list_all, list_any}
 use Rattle.std.specs.Option.{option_and_then}
@@ -13,7 +13,7 @@ use Rattle.resolvo_checker.specs.Rup.{is_earlier}
 use Rattle.resolvo_checker.specs.Helpers.{same_atom, value_of}
 use Rattle.resolvo_checker.specs.StepClauses.{Clause, clause_of, literal_of}
 
--- The line that the step takes its rule from is named. Tests tell which lines of the two texts are.
+-- The line of the step's rule is named, by tests for the lines of the two texts.
 abbrev pub rests_on : (ℕ → Bool) → (ℕ → Bool) → Place → ℕ → Bool
 rests_on catalogue_line request_line OfRequest n = request_line n
 rests_on catalogue_line request_line (OfVersion v) n = catalogue_line n
@@ -42,15 +42,15 @@ abbrev pub cause_of : List Line → List Line → List Step → ℕ → Clause
 cause_of catalogue request earlier zero = []
 cause_of catalogue request earlier (suc k) = unwrap_or (option_and_then (clause_of catalogue request) (slice_get earlier k)) []
 
--- What a step owes to the earlier ones: a version has one place, and a derived clause rests on earlier steps,
--- one pass over which refutes it.
+-- The step fits the earlier ones: a version has one place, and a derived clause is RUP by one pass
+-- over earlier steps.
 abbrev pub follows : List Line → List Line → List Step → Step → Bool
 follows catalogue request earlier (step.Digit v place bit) = list_all (allows_place v place) earlier
 follows catalogue request earlier (step.Derive literals causes) =
     list_all (is_earlier (length earlier)) causes && one_pass same_atom (map literal_of literals) (map (cause_of catalogue request earlier) causes)
 follows catalogue request earlier s = true
 
--- The step may stand after the earlier ones.
+-- The step is valid after the earlier ones.
 abbrev pub may_stand : List Line → List Line → (ℕ → Bool) → (ℕ → Bool) → List Step → Step → Bool
 may_stand catalogue request catalogue_line request_line earlier s =
     is_some (clause_of catalogue request s) && (rests_on_named catalogue_line request_line s && follows catalogue request earlier s)
@@ -62,19 +62,19 @@ is_named lines n = list_any (λ m. m == n) lines
 abbrev pub every_line : ℕ → Bool
 every_line n = true
 
--- The steps are a proof from the lines that the tests name: each may stand after those before it.
+-- The steps are a proof from the lines that the tests name: each is valid after those before it.
 abbrev pub IsProof : List Line → List Line → (ℕ → Bool) → (ℕ → Bool) → List Step → Type 0
 IsProof catalogue request catalogue_line request_line steps =
     (n : ℕ) (s : Step) → slice_get steps n ≡ Some s → may_stand catalogue request catalogue_line request_line (take n steps) s ≡ true
 
--- Step n, from 0, is the first that may not stand after those before it.
+-- Step n, from 0, is the first that is invalid after those before it.
 pub record IsWrongAt (catalogue request : List Line) (catalogue_line request_line : ℕ → Bool) (steps : List Step) (n : ℕ) : Type 0 where
   pub before : IsProof catalogue request catalogue_line request_line (take n steps)
   pub wrong : Step
   pub there : slice_get steps n ≡ Some wrong
   pub refused : may_stand catalogue request catalogue_line request_line (take n steps) wrong ≡ false
 
--- ---- what a proof shows
+-- ---- what a proof implies
 
 -- The last step derives the clause without literals.
 abbrev pub derives_empty : Step → Bool

@@ -1,4 +1,4 @@
--- How a pass goes on by one literal, and which steps it may read.
+-- One literal more in a pass, and the steps that a pass may read.
 use Rattle.std.specs.Prelude.{ℕ, Bool, ◌&&◌, nat_lt, nat_le, if◌then◌else◌}
 use Rattle.resolvo_pool_core.specs.OnePass.Rest.{broken, last, more}
 use Rattle.resolvo_pool_core.specs.OnePass.{Literal, Rest, same_literal}

@@ -1,4 +1,4 @@
--- The lines that rules state, and the literals of their owners.
+-- The lines that rules encode, and the literals of their owners.
 use Rattle.std.specs.Prelude.{◌≡◌, ⊤, Bool, true, false, List, [], ◌∷◌, Option, Some, None, slice_get, if◌then◌else◌}
 use Rattle.std.specs.String.{string_bytes}
 use Rattle.std.specs.Option.{option_map, option_map_or}
@@ -13,7 +13,7 @@ use Rattle.resolvo_report.specs.Value.{Atom}
 use Rattle.resolvo_checker.specs.StepClauses.{is_owner}
 use Rattle.resolvo_checker.specs.Built.{member_of}
 
--- the line that the rule states, versions being told by their numbers
+-- the line that the rule encodes, with versions by their numbers
 abbrev pub line_said : List Version → Rule → Option Line
 line_said versions (rule.Needs of alternatives condition) = Some (Needs (specs_of alternatives.items) (condition_of condition))
 line_said versions (rule.Limits of spec) = Some (Limits (spec_of spec))
@@ -21,7 +21,7 @@ line_said versions (rule.Unknown of word) = Some (Unknown (string_bytes word))
 line_said versions (rule.Lock locked) = option_map Lock (slice_get versions locked.0)
 line_said versions (rule.Exclude excluded word) = option_map (λ v. Exclude v (string_bytes word)) (slice_get versions excluded.0)
 
--- the line, if it states a rule
+-- the line, if it has a rule
 abbrev pub rule_line : Option Line → Option Line
 rule_line None = None
 rule_line (Some line) = if is_rule line then Some line else None
@@ -47,7 +47,7 @@ abbrev pub owner_literals : List Version → Option VersionNo → List (Option (
 owner_literals versions None = []
 owner_literals versions (Some n) = member_of versions false n.0 ∷ []
 
--- The version that an `exclude` rule bars is listed, and so is that of an `unknown` rule, which is its owner.
+-- The version of an `exclude` rule is listed. So is that of an `unknown` rule, which is its owner.
 abbrev pub IsValid : List Version → Option Version → Rule → Type 0
 IsValid versions owner (rule.Unknown of word) = (v : Version) × (slice_get versions of.0 ≡ Some v) × (owner ≡ Some v)
 IsValid versions owner (rule.Exclude excluded word) = (v : Version) × (slice_get versions excluded.0 ≡ Some v)

@@ -114,7 +114,7 @@ abbrev pub unknown_clause : Option Version → Option Line → Option Clause
 unknown_clause owner (Some (Unknown reason)) = option_map (λ v. not_in v ∷ []) owner
 unknown_clause owner line = None
 
--- ---- the clauses that say what helpers mean
+-- ---- the clauses that define auxiliary atoms
 
 abbrev pub shared_clause : List Line → List Spec → Clause
 shared_clause catalogue alternatives = literal (SharedBy alternatives) false ∷ some_match catalogue alternatives

@@ -1,4 +1,4 @@
--- What a table of marked values knows.
+-- The assignment in a table of marked values.
 use Rattle.std.specs.Prelude.{ℕ, Bool, ◌==◌, if◌then◌else◌, List, Option, None, slice_get}
 use Rattle.std.specs.Option.{option_and_then}
 use Rattle.resolvo_checker.specs.declared.assignment.Mark.{Mark}

@@ -1,4 +1,4 @@
--- A report whose lines and end pass claims what is true.
+-- The claim of a report whose lines and end pass is true.
 use Rattle.std.proofs.Common.{◌≡◌, ℕ, zero, suc, ◌<◌, Bool, true, false, List, [], ◌∷◌, ◌++◌, length, take, Option, Some, None, refl, sym, ap, subst, ◌∙◌, inl, inr, ◌⊎◌, arith, eqb}
 use Rattle.std.specs.Prelude.{not, ◌&&◌, ◌||◌, nat_lt, slice_get, slice_index_or, Contains}
 use Rattle.std.specs.List.{list_any, list_all, flat_map}
@@ -32,7 +32,7 @@ use Rattle.resolvo_checker.proofs.WholeProofs.{take_front}
 
 -- ---- parts of the lines
 
--- where a part of the lines stands that each line gives at most one of
+-- the place of a part of the lines, of which each line gives at most one
 pub record FoundAt {L X : Type 0} (f : L → List X) (lines : List L) (k : ℕ) (x : X) : Type 0 where
   pub place : ℕ
   pub item : L
@@ -111,7 +111,7 @@ drop_front zero xs = (xs, refl)
 drop_front (suc k) [] = ([], refl)
 drop_front (suc k) (x ∷ xs) = let r = drop_front k xs in (r.0, ap (λ zs. x ∷ zs) r.1)
 
--- what is named above a line is named in all lines
+-- a line that is named above another is named in all lines
 named_above : (f : ReportLine → List ℕ) (lines : List ReportLine) (k n : ℕ) → is_named (flat_map f (take k lines)) n ≡ true → is_named (flat_map f lines) n ≡ true
 named_above f lines k n h =
     let r = drop_front k lines in
@@ -180,7 +180,7 @@ module _ (catalogue request : List Line) (answers : List Answer) (pass : Answers
       subst (λ (xs : List Answer). answer_passes catalogue request xs a ≡ true) (ap (take (length above)) is ∙ take_front above (a ∷ below))
       (pass (length above) a (ap (λ xs. slice_get xs (length above)) is ∙ get_seam above a below))
 
-  -- what an entry's passing says
+  -- what an entry that passes implies
   record EntryPasses (above : List Answer) (v : Version) (reason : Reason) : Type 0 where
     pub listed : is_listed catalogue v ≡ true
     pub alone : list_any (same_package v) (entries_of above) ≡ false
@@ -266,7 +266,7 @@ module _ (catalogue request : List Line) (answers : List Answer) (pass : Answers
   reasoned above (LeftOut v n k ∷ below) is =
       subst (λ (es : Set). IsReasoned catalogue request es below) (entries_more above (LeftOut v n k) [] refl ∙ append-nil (entries_of above)) (reasoned (above ++ LeftOut v n k ∷ []) below (next above (LeftOut v n k) below is))
 
-  -- ---- what stands above a later entry, and above a later wish that is left out
+  -- ---- the answers above a later entry, and above a later left-out wish
 
   any_front : (p : Version → Bool) (above : List Answer) (a : Answer) → list_any p (entries_of (above ++ a ∷ [])) ≡ false → list_any p (entries_of above) ≡ false
   any_front p above a h = front (entries_of above) (entries_of (a ∷ [])) (sym (ap (list_any p) (flat_map-append entry_of above (a ∷ []))) ∙ h) where

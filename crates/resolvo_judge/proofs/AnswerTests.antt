@@ -1,4 +1,4 @@
--- Answers as they are tested, for the proof that accepted reports claim what is true.
+-- Tests of answers, for the proof that the claims of accepted reports are true.
 use Rattle.std.specs.Prelude.{◌≡◌, ℕ, Bool, false, not, ◌&&◌, ◌||◌, ◌==◌, nat_lt, IsTrue, List, ◌∷◌, ◌++◌, Option, Some}
 use Rattle.std.specs.List.{list_any, list_all, flat_map}
 use Rattle.resolvo_text.specs.Line.{Version, Line, Needs, Wish}
@@ -33,7 +33,7 @@ leaves_out v (answer.Entry w reason) = false
 abbrev pub is_left_out : List Answer → Version → Bool
 is_left_out answers v = list_any (leaves_out v) answers
 
--- The wish's line stands below those of the wishes above.
+-- The wish's line is greater than those of the wishes above.
 abbrev pub rises : List Answer → Answer → Bool
 rises above a = list_all (λ n. list_all (λ m. nat_lt m n) (flat_map wish_line_of above)) (wish_line_of a)
 
@@ -49,8 +49,8 @@ abbrev pub leaves_out_at : Version → ℕ → Answer → Bool
 leaves_out_at v n (answer.LeftOut w m step) = same_version w v && m == n
 leaves_out_at v n (answer.Entry w reason) = false
 
--- The entries obey each line, each wish is an entry or is left out, and each one that is left out is barred by
--- its step, with the entries above its line.
+-- The entries obey each line, each wish is an entry or left out, and the step of each left-out wish
+-- forbids it with the entries above its line.
 pub record AnswersEnd (catalogue request : List Line) (answers : List Answer) (steps : List Step) : Type 0 where
   pub catalogue_lines : (n : ℕ) → IsTrue (keeps catalogue n (entries_of answers))
   pub request_lines : (n : ℕ) → IsTrue (keeps_in_request request n (entries_of answers))

@@ -1,4 +1,4 @@
--- What steps bar: clauses that are built, wishes by their steps, and one step more.
+-- The wishes that steps forbid: built clauses, wishes by their steps, and one step more.
 use Rattle.std.proofs.Common.{◌≡◌, inl, inr, ℕ, zero, suc, ◌+◌, ◌<◌, ◌≤◌, Bool, true, false, List, [], ◌∷◌, ◌++◌, length, map, take, get_or, Option, Some, None, refl, sym, ap, subst, ◌∙◌, append_assoc, length-append, arith}
 use Rattle.std.specs.Prelude.{not, ◌&&◌, ◌||◌, nat_eq, nat_lt, nat_le, is_some, slice_get, if◌then◌else◌}
 use Rattle.std.specs.Global.{Vec}
@@ -132,7 +132,7 @@ unasked : (x rest others y all : Bool) → x ≡ y → (rest && others) ≡ all 
 unasked x rest others y all e h = group x rest others ∙ (ap (λ z. z && (rest && others)) e ∙ ap (λ z. y && z) h)
 
 module _ (catalogue request : List Line) where
-  -- a step that isn't there bars nothing
+  -- a step that isn't there forbids nothing
   none_bars : (steps : List Step) (set : Set) (wish : Version) (k : ℕ) → is_earlier (length steps) k ≡ false → step_bars catalogue request steps set wish k ≡ false
   none_bars steps set wish zero e = refl
   none_bars steps set wish (suc k) e = elim (cases_lt (length steps) (suc k)) [
@@ -140,7 +140,7 @@ module _ (catalogue request : List Line) where
     | inr within ↦ absurd (false≢true (sym e ∙ earlier_yes (length steps) (suc k) (omega arith) within))
   ]
 
-  -- each wish is barred, where each is by the steps that are there, and all their steps are
+  -- each wish is forbidden, where the steps so far forbid theirs, and include all steps of wishes
   pub all_barred : (steps : List Step) (set : Set) (bs : List BarredWish) → (list_all (is_barred_so_far catalogue request steps set) bs && list_all (is_earlier (length steps)) (map (λ b. b.step) bs)) ≡ list_all (is_barred catalogue request steps set) bs
   all_barred steps set [] = refl
   all_barred steps set (b ∷ bs) =
@@ -241,7 +241,7 @@ module _ (catalogue request : List Line) where
       ∙ ap (λ xs. list_all (is_barred_so_far catalogue request xs (entries_of (answers_in above))) (barred_from 0 (answers_in above))) (sym (one_more step_in above l (s ∷ []) refl))
       ∙ ap (λ xs. list_all (is_barred_so_far catalogue request (steps_in (above ++ l ∷ [])) (entries_of xs)) (barred_from 0 xs)) (no_answers_more above l refl)
 
--- ---- the answers of an install report stand above its steps
+-- ---- the answers of an install report are above its steps
 
 no_answer_below : (ss : List Step) (n : ℕ) (xs ys : List ReportLine) (a : AnswerLine) → numbered n ss ≡ xs ++ line.Answer a ∷ ys → ⊥
 no_answer_below [] n [] ys a e = cc

@@ -1,4 +1,4 @@
--- The left-out wishes as they are kept, and where they stand among the lines.
+-- The left-out wishes in the judge's state, and their places among the lines.
 use Rattle.std.proofs.Common.{◌≡◌, ℕ, suc, ◌+◌, Bool, true, false, List, [], ◌∷◌, ◌++◌, length, take, refl, sym, ap, subst, ◌∙◌, arith, length-append}
 use Rattle.std.specs.Prelude.{◌&&◌}
 use Rattle.std.specs.List.{list_all, flat_map}
@@ -14,7 +14,7 @@ use Rattle.resolvo_judge.specs.KeptAnswers.{barred_from}
 use Rattle.resolvo_checker.proofs.WholeProofs.{take_front}
 
 module _ (f : Set → Version → ℕ → Bool) (answers : List AnswerLine) where
-  -- the wish is barred with the entries above it
+  -- the wish is forbidden with the entries above it
   abbrev pub is_barred : BarredWish → Bool
   is_barred b = f (take b.above (entries_of answers)) b.wish b.step
 
@@ -62,7 +62,7 @@ module _ (f : Set → Version → ℕ → Bool) (answers : List AnswerLine) wher
       ∙ each_from (front ++ LeftOut w m j ∷ []) rest (next front (LeftOut w m j) rest is)
       (subst (λ (es : Set). list_all is_barred (barred_from (length es) rest) ≡ true) (sym (passed front w m j)) (and_parts (f (take (length (entries_of front)) (entries_of answers)) w j) _ h).1) above below v n k t
 
-  -- each wish that is left out is barred
+  -- each left-out wish is forbidden
   pub barred_each : list_all is_barred (barred_from 0 answers) ≡ true → (above below : List AnswerLine) (v : Version) (n k : ℕ) → answers ≡ above ++ LeftOut v n k ∷ below → f (entries_of above) v k ≡ true
   barred_each h above below v n k e = each_from [] answers refl h above below v n k e
 

@@ -118,7 +118,7 @@ pick_more i (w ∷ set) v name none = by_test (bytes_eq w.name name) refl (pick_
     by_test true e more = sym (ap (λ (t : Bool). if t then Some (let p : Pick = record { number = v.number; index = i + suc (length set) } in p) else Some (record { number = w.number; index = i })) (apart e))
     by_test false e more = more
 
--- the number of what is picked
+-- the number of the picked version
 pub picked_number : (i : ℕ) (set : Set) (name : List ℕ) → option_map (λ p. p.number) (pick_from i set name) ≡ number_for set name
 picked_number i [] name = refl
 picked_number i (v ∷ set) name = by_test (bytes_eq v.name name) (picked_number (i + 1) set name)
@@ -127,7 +127,7 @@ picked_number i (v ∷ set) name = by_test (bytes_eq v.name name) (picked_number
     by_test true rest = refl
     by_test false rest = rest
 
--- what is picked comes after those before
+-- the picked version is after those before
 picked_after : (i : ℕ) (set : Set) (name : List ℕ) (p : Pick) → pick_from i set name ≡ Some p → i ≤ p.index
 picked_after i [] name p e = absurd cc
 picked_after i (v ∷ set) name p e = by_test (bytes_eq v.name name) (λ f. picked_after (i + 1) set name p f) e
@@ -194,7 +194,7 @@ own_more (w ∷ set) v own none = (none_more set own.0, own_more set v own.1 (re
     none_more [] e = ap (λ (b : Bool). b || false) (bytes_eq_sym w.name v.name ∙ first_of _ _ none)
     none_more (x ∷ xs) e = ap (λ (b : Bool). b || list_any (same_package w) (xs ++ v ∷ [])) (first_of _ _ e) ∙ none_more xs (rest_of _ _ e)
 
--- ---- answers, by what is kept
+-- ---- answers, by the judge's state
 
 pub number_by : (o : Option Pick) (set : Set) (name : List ℕ) → o ≡ pick_from 0 set name → option_map (λ p. p.number) o ≡ number_for set name
 number_by o set name is = ap (option_map (λ p. p.number)) is ∙ picked_number 0 set name

@@ -1,4 +1,4 @@
--- Whether a report may end after its lines, over what is kept of them.
+-- Whether a report may end after its lines, by the judge's state.
 use Rattle.std.proofs.Common.{◌≡◌, ℕ, Bool, true, false, List, [], ◌∷◌, ◌++◌, length, map, refl, sym, ap, subst, ◌∙◌}
 use Rattle.std.specs.Prelude.{◌&&◌}
 use Rattle.std.specs.List.{list_all}
@@ -32,7 +32,7 @@ refused_ends catalogue request j clauses (Refused cs rs ss ms) refused stands = 
   one true e = sym e
   one false e = λ ends. false≢true (e ∙ ends)
 
--- what the end of an install report asks, by the answer for its left-out wishes
+-- the end of an install report, by the answer for its left-out wishes
 by_answer : (catalogue request : List Line) (rest : List ReportLine) (fine : Bool) → KeepsAll catalogue request (entries_of (answers_in rest)) true → AreWishesTold request (answers_in rest) true
     → fine ≡ list_all (is_barred catalogue request (steps_in rest) (entries_of (answers_in rest))) (barred_from 0 (answers_in rest)) → EndsSo catalogue request (InstallHead ∷ rest) fine
 by_answer catalogue request rest true keeps told all = record {
@@ -43,7 +43,8 @@ by_answer catalogue request rest true keeps told all = record {
 }
 by_answer catalogue request rest false keeps told all = λ ends. false≢true (all ∙ barred_all (step_bars catalogue request (steps_in rest)) (answers_in rest) ends.barred)
 
--- an install report: the entries keep all rules, the wishes are told, and those that are left out are barred
+-- an install report: the entries keep all rules, each wish is answered, and left-out ones are
+-- forbidden
 pub install_ends : (catalogue request : List Line) (j : JudgeState) (clauses : List (List Literal)) (r : Report) (fine : Bool) → is_refusal (report_lines r) ≡ false → Stands catalogue request j clauses (report_lines r)
     → KeepsAll catalogue request (entries_of (answers_in (report_lines r))) true → AreWishesTold request (answers_in (report_lines r)) true
     → fine ≡ (j.barred && list_all (is_earlier (length clauses)) j.entries.barred.steps.items) → EndsSo catalogue request (report_lines r) fine

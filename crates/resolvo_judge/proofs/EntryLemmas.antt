@@ -167,7 +167,7 @@ gives_owned (Some (Favour w)) entries v = refl
 gives_owned (Some (Exclude w r)) entries v = refl
 gives_owned (Some (Wish w)) entries v = refl
 
--- what passes at a place passes
+-- an element that passes at a place passes
 pub any_at : {X : Type 0} (p : X → Bool) (xs : List X) (i : ℕ) (x : X) → slice_get xs i ≡ Some x → p x ≡ true → list_any p xs ≡ true
 any_at p [] i x at h = absurd cc
 any_at p (y ∷ ys) zero x at h = or_left (p y) (list_any p ys) (ap p (same_Some y x at) ∙ h)
@@ -190,7 +190,7 @@ lines_more request e f before v n step wish put h k w told =
     ∙ line_more request before v n step k w (get nat_eq e.lines k) (and_parts _ _ wish).0 told (h k w told)
     ∙ sym (any_more (leaves_out w k) before (LeftOut v n step))
 
--- ---- wishes that are told
+-- ---- wishes that are answered
 
 from_wished : (o : Option Line) (w : Version) → wished_in o ≡ Some w → o ≡ Some (Wish w)
 from_wished (Some (Wish x)) w e = cc
@@ -204,7 +204,7 @@ from_wished (Some (Lock x)) w e = absurd cc
 from_wished (Some (Favour x)) w e = absurd cc
 from_wished (Some (Exclude x r)) w e = absurd cc
 
--- a wish that is no entry is told where its line is left out
+-- a wish that is no entry is answered where its line is left out
 pub told_by : (request : List Line) (answers : List AnswerLine) (n : ℕ) (w : Version) (b : Bool) → wished_in (line_at request n) ≡ Some w → is_member w (entries_of answers) ≡ false
     → (wishes (line_at request n) w ≡ true → b ≡ list_any (leaves_out w n) answers) → IsWishTold request answers n b
 told_by request answers n w b wished out left = by_test b (left told)

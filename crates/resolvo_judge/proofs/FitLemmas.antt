@@ -20,7 +20,7 @@ use Rattle.resolvo_judge.proofs.AnswerTests as test
 use Rattle.resolvo_judge.proofs.AnswerTests.{answer_passes, is_needed, is_wish, is_left_out, rises, leaves_out_at, AnswersEnd}
 use Rattle.resolvo_checker.proofs.Sets.{same_own, same_is}
 
--- ---- what both say of the lines
+-- ---- both sides agree on the lines
 
 pub same_entries : (lines : List AnswerLine) → answer.entries_of (map answer_of lines) ≡ said.entries_of lines
 same_entries [] = refl

@@ -43,7 +43,7 @@ use Rattle.resolvo_checker.proofs.WholeProofs.{take_front, count_push}
 use Rattle.resolvo_judge.proofs.LogLemmas.{one_more}
 use Rattle.resolvo_judge.proofs.Accepted.{install_true, refusal_true}
 
--- ---- a report grows by each line that may stand next
+-- ---- a report grows by each line that may be next
 
 pub grows : (r : Report) (l : ReportLine) (q : Part) → next_part (part_of r) l ≡ Some q → (s : Report) × Grows r l s
 grows (Install ls ss) (says.Answer a) q e = (Install (ls ++ a ∷ []) ss, push_answer ls ss a q e)
@@ -185,7 +185,8 @@ lines_within (l ∷ ls) =
 
 -- ---- the lines so far
 
--- Of the bytes known at first, the lines of a report were read; all passed, and what is kept stands for them.
+-- The lines of a report were read from the bytes known at first. All passed, and the judge's state
+-- is that after them.
 pub record Reached (catalogue request : List Line) (known left : Option (List ℕ)) (r : ReportReader) (j : JudgeState) (clauses : Clauses) (next : ℕ) : Type 0 where
   pub report : Report
   pub read : ReadTo known left (report_lines report) r.part r.number r.lines.room

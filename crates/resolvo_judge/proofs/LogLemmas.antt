@@ -40,7 +40,7 @@ rest_more above n s f none k =
     ∙ ap (λ b. cond b (is_named (flat_map f above) k) true) (refusal_more above (Numbered n s) refl)
 
 module _ (catalogue request : List Line) (entries : List (Vec ℕ × ℕ)) (clauses : List (List Literal)) (places : List (Option ℕ)) (scope : Premises) (empty : Bool) (above : List ReportLine) (stands : LogStands catalogue request entries clauses places scope empty above) where
-  -- a step passes exactly where it may stand after what is kept
+  -- a step passes exactly where it is valid after the steps so far
   pub passes_so : (n : ℕ) (s : Step) → may_stand catalogue request (names_catalogue scope) (names_request scope) (steps_in above) s ≡ passes catalogue request above (Numbered n s)
   passes_so n s =
       ap (λ (c : ℕ → Bool). may_stand catalogue request c (names_request scope) (steps_in above) s) (λ i k. stands.catalogue_lines k i)

@@ -47,7 +47,7 @@ no_steps : (message : List (List ℕ)) → steps_in (map Message message) ≡ []
 no_steps [] = refl
 no_steps (bytes ∷ message) = no_steps message
 
--- what passes with a message passes without it
+-- lines that pass with a message pass without it
 without_passes : (catalogue request : List Line) (lines : List ReportLine) (message : List (List ℕ)) → ArePassed catalogue request (lines ++ map Message message) → ArePassed catalogue request lines
 without_passes catalogue request lines message passed n l e =
     subst (λ (above : List ReportLine). passes catalogue request above l ≡ true) (take-append-le n lines (map Message message) (let low = slice_get_within lines n l e in omega (arith, low))) (passed n l (front_at lines (map Message message) n l e))
@@ -69,7 +69,7 @@ any_message catalogue request lines message other h = record {
   ends = subst (λ (steps : List Step). IsTrue (ends_empty steps)) (same_steps lines message ∙ sym (same_steps lines other)) h.ends;
 }
 
--- ---- where the lines may stand
+-- ---- where the lines may be
 
 after_parts : (ls ms : List ReportLine) (p q : Part) → part_after p (ls ++ ms) ≡ Some q → (m : Part) × (part_after p ls ≡ Some m) × (part_after m ms ≡ Some q)
 after_parts [] ms p q e = (p, refl, e)

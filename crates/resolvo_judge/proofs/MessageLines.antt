@@ -19,7 +19,7 @@ use Rattle.resolvo_judge.specs.Refusal.{answer_in, answers_in, step_in, steps_in
 use Rattle.resolvo_judge.specs.Judgement.{HoldsOn, IsRefusedAt}
 use Rattle.resolvo_judge.proofs.PlaceLaws.{splits, line_first}
 
--- ---- lines with a message line among them: what is asked of them doesn't see its bytes
+-- ---- lines with a message line among them: its bytes don't matter
 
 module _ (bytes other : List ℕ) where
   same_part : (p : Part) → next_part p (Message bytes) ≡ next_part p (Message other)
@@ -138,7 +138,7 @@ module _ (catalogue request : List Line) (bytes other : List ℕ) (fits : HasTex
   seam : (above : List ReportLine) (m : List ℕ) → lines_text (above ++ Message m ∷ []) ++ below ≡ lines_text above ++ (lines_text (Message m ∷ []) ++ below)
   seam above m = ap (λ (t : List ℕ). t ++ below) (flat_map-append line_of above (Message m ∷ [])) ∙ append_assoc (lines_text above) (lines_text (Message m ∷ [])) below
 
-  -- what begins with a line that passes
+  -- a text that begins with a line that passes
   first_is : (above : List ReportLine) (p : Part) (l : ReportLine) (ls : List ReportLine) (rest text : List ℕ) → HasText l → text ≡ lines_text (l ∷ ls) ++ rest → HoldsOn catalogue request above p text
       → ((q : Part) × (next_part p l ≡ Some q) × (passes catalogue request above l ≡ true))
   first_is above p l ls rest text has e holds = ⊎_elim

@@ -25,7 +25,7 @@ AllHaveText ls = AllByRecursion HasText ls
 pub line_first : (l : ReportLine) (ls : List ReportLine) (rest : List ℕ) → lines_text (l ∷ ls) ++ rest ≡ line_text l ++ 10 ∷ (lines_text ls ++ rest)
 line_first l ls rest = append_assoc (line_text l ++ codes "\n") (lines_text ls) rest ∙ append_assoc (line_text l) (codes "\n") (lines_text ls ++ rest)
 
--- Of two ways to cut one text, that with no more lines is a front of the other.
+-- Of two ways to cut one text, that with no more lines is a prefix of the other.
 pub record Splits (above lines : List ReportLine) (below rest : List ℕ) : Type 0 where
   pub more : List ReportLine
   pub parts : lines ≡ above ++ more
@@ -54,14 +54,14 @@ text_right [] rest h = h
 text_right (a ∷ above) rest h = text_right above rest h.1
 
 module _ (catalogue request : List Line) where
-  -- below a front of lines that pass, the text goes on with one that passes
+  -- after a prefix of lines that pass, the next line of the text passes
   goes_on : (above : List ReportLine) (p q : Part) (below rest : List ℕ) (l : ReportLine) (ls : List ReportLine) → AreLines above p → AreLines (above ++ l ∷ ls) q → ArePassed catalogue request (above ++ l ∷ ls) → below ≡ lines_text (l ∷ ls) ++ rest → HoldsOn catalogue request above p below
   goes_on above p q below rest l ls good all passed left =
       let next = bind_some (next_part p l) (λ z. part_after z ls) q (split_after part.Start p q above (l ∷ ls) good.placed all.placed) in
       let pass = subst (λ (xs : List ReportLine). passes catalogue request xs l ≡ true) (take_front above (l ∷ ls)) (passed (length above) l (get_seam above l ls)) in
       inl (l, lines_text ls ++ rest, next.0, (text_right above (l ∷ ls) all.each).0, next.1, left ∙ line_first l ls rest ∙ sym (append_assoc (line_text l) (codes "\n") (lines_text ls ++ rest)), pass)
 
-  -- no text is refused below a front of lines that pass
+  -- no text is refused after a prefix of lines that pass
   not_below : (above lines : List ReportLine) (p q : Part) (below rest : List ℕ) → AreLines above p → AreLines lines q → ArePassed catalogue request lines → length above < length lines → lines_text lines ++ rest ≡ lines_text above ++ below → (HoldsOn catalogue request above p below → ⊥) → ⊥
   not_below above lines p q below rest good all passed lt e none =
       let s = splits above lines below rest good.each all.each (omega (arith, lt)) e in one s.more s.parts s.left

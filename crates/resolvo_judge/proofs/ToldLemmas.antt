@@ -1,4 +1,5 @@
--- Lines of a message that the reader gives without their bytes: what is kept of them stands for the lines that were said.
+-- Lines of a message that the reader gives without their bytes: the judge's state is that after
+-- the written lines.
 use Rattle.std.proofs.Common.{◌≡◌, ℕ, Bool, true, false, List, [], ◌∷◌, ◌++◌, Some, refl, sym, ap, subst, ◌∙◌, ⊎_elim, append_assoc}
 use Rattle.std.specs.List.{list_all}
 use Rattle.resolvo_text.specs.Line.{Line}
@@ -43,9 +44,9 @@ module _ (said l : ReportLine) (told : IsTold false said l) where
   pub head_told : is_head said ≡ false → is_head l ≡ false
   head_told none = ⊎_elim (λ e. ap is_head (sym e) ∙ none) (λ m. ap is_head m.2) told
 
--- ---- what is kept of a line of a message, whatever its bytes
+-- ---- the state after a line of a message, whatever its bytes
 
--- an answer stands above the last line, which is none
+-- an answer is above the last line, which is none
 above_last : (above : List ReportLine) (l : ReportLine) (xs ys : List ReportLine) (a : AnswerLine) → answer_in l ≡ [] → above ++ l ∷ [] ≡ xs ++ line.Answer a ∷ ys → (zs : List ReportLine) × (above ≡ xs ++ line.Answer a ∷ zs)
 above_last [] l [] ys a none e = absurd (other (let h : l ≡ line.Answer a = cc in sym (ap answer_in h) ∙ none)) where
   other : ◌≡◌ {A = List AnswerLine} (a ∷ []) [] → ⊥

@@ -1,4 +1,4 @@
--- The wishes that are left out, as the judge keeps them: those of each step.
+-- The left-out wishes in the judge's state, by their steps.
 use Rattle.std.specs.Prelude.{◌≡◌, ℕ, nat_eq, List, [], ◌∷◌, ◌++◌, map, Option, Some, None, if◌then◌else◌}
 use Rattle.std.specs.Global.{Vec}
 use Rattle.std.specs.HashMap.{get}
@@ -7,7 +7,7 @@ use Rattle.resolvo_text.specs.View.{version_of}
 use Rattle.resolvo_judge.specs.declared.barred_wishes.Barred as code
 use Rattle.resolvo_judge.specs.declared.barred_wishes.BarredWishes.{BarredWishes}
 
--- a wish that is left out, the step that bars it, and how many entries stand above its line
+-- a left-out wish, the step that forbids it, and the number of entries above its line
 pub record BarredWish : Type 0 where
   pub wish : Version
   pub step : ℕ
@@ -16,7 +16,7 @@ pub record BarredWish : Type 0 where
 abbrev pub barred_of : code.Barred → BarredWish
 barred_of b = record { wish = version_of b.wish; step = b.step; above = b.above }
 
--- those that the step is to bar, in order
+-- those that the step must forbid, in order
 abbrev pub named_by : List BarredWish → ℕ → List BarredWish
 named_by [] n = []
 named_by (b ∷ bs) n = if nat_eq b.step n then b ∷ named_by bs n else named_by bs n
@@ -30,6 +30,6 @@ pub record HoldsWishes (kept : BarredWishes) (wishes : List BarredWish) : Type 0
   pub by_step : (n : ℕ) → wishes_kept (get nat_eq kept.by_step n) ≡ named_by wishes n
   pub steps : kept.steps.items ≡ map (λ b. b.step) wishes
 
--- The wish is put to those of its step.
+-- The wish is added to those of its step.
 abbrev pub AddsWish : (ℕ → Option (Vec code.Barred)) → BarredWish → (ℕ → Option (Vec code.Barred)) → Type 0
 AddsWish before b after = (n : ℕ) → wishes_kept (after n) ≡ (if nat_eq b.step n then wishes_kept (before n) ++ b ∷ [] else wishes_kept (before n))

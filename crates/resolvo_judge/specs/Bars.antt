@@ -1,4 +1,4 @@
--- Whether steps bar the wishes that are left out.
+-- Whether steps forbid the left-out wishes.
 use Rattle.std.specs.Prelude.{◌≡◌, ℕ, Bool, false, not, ◌&&◌, ◌||◌, List, [], ◌∷◌, ◌++◌, length, take, Option}
 use Rattle.std.specs.List.{list_all}
 use Rattle.std.specs.Option.{option_map_or}
@@ -23,11 +23,11 @@ literal_bars entries wish l = not l.positive && is_among entries wish l.atom
 abbrev pub built_bar : Set → Version → List (Option (pass.Literal Atom)) → Bool
 built_bar entries wish built = list_all (λ o. option_map_or (literal_bars entries wish) o false) built
 
--- the clause bars the wish, with the entries above its line
+-- the clause forbids the wish, with the entries above its line
 abbrev pub clause_bars : Set → Clause → BarredWish → Bool
 clause_bars set clause b = bars (take b.above set) b.wish clause
 
--- The step of the left-out wish bars it, with the entries above its line.
+-- The step of the left-out wish forbids it, with the entries above its line.
 abbrev pub is_barred : List Line → List Line → List Step → Set → BarredWish → Bool
 is_barred catalogue request steps set b = step_bars catalogue request steps (take b.above set) b.wish b.step
 
@@ -35,11 +35,12 @@ is_barred catalogue request steps set b = step_bars catalogue request steps (tak
 abbrev pub is_barred_so_far : List Line → List Line → List Step → Set → BarredWish → Bool
 is_barred_so_far catalogue request steps set b = not (is_earlier (length steps) b.step) || is_barred catalogue request steps set b
 
--- No answer stands below a step.
+-- No answer is below a step.
 abbrev pub AreFirst : List ReportLine → Type 0
 AreFirst lines = (above below : List ReportLine) (a : AnswerLine) → lines ≡ above ++ line.Answer a ∷ below → steps_in above ≡ []
 
--- The test tells whether the steps so far bar the left-out wishes that name them, where these stand above all steps.
+-- The flag is whether the steps so far forbid the left-out wishes that name them, where these are
+-- above all steps.
 abbrev pub TellsBarred : List Line → List Line → Bool → List ReportLine → Type 0
 TellsBarred catalogue request barred above =
     AreFirst above → barred ≡ list_all (is_barred_so_far catalogue request (steps_in above) (entries_of (answers_in above))) (barred_from 0 (answers_in above))

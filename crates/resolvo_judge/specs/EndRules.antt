@@ -9,7 +9,7 @@ pub record ObeysAll (catalogue request : List Line) (set : Set) : Type 0 where
   pub catalogue_lines : (n : ℕ) → IsTrue (keeps catalogue n set)
   pub request_lines : (n : ℕ) → IsTrue (keeps_in_request request n set)
 
--- The answer says whether each line is.
+-- The answer is whether each line is.
 abbrev pub KeepsAll : List Line → List Line → Set → Bool → Type 0
 KeepsAll catalogue request set true = ObeysAll catalogue request set
 KeepsAll catalogue request set false = ObeysAll catalogue request set → ⊥

@@ -1,4 +1,4 @@
--- Which entries and left-out wishes of an `install` report may stand after those before them, and when they are all.
+-- Which entries and left-out wishes of an `install` report fit after those before them.
 use Rattle.std.specs.Prelude.{ℕ, Bool, true, false, not, ◌&&◌, nat_lt, List, [], ◌∷◌, Option, Some}
 use Rattle.std.specs.List.{list_any, list_all, flat_map}
 use Rattle.resolvo_text.specs.Line.{Version, Line, Needs, Wish}
@@ -7,7 +7,7 @@ use Rattle.resolvo_catalogue_core.specs.Grammar.{line_at}
 use Rattle.resolvo_report.specs.Value.{Place, OfRequest, OfVersion, AnswerLine, Entry, Wished, LeftOut}
 use Rattle.resolvo_checker.specs.StepClauses.{is_listed, line_of}
 
--- ---- what the lines so far say
+-- ---- the contents of the lines so far
 
 abbrev pub entry_of : AnswerLine → List Version
 entry_of (Entry v place n) = v ∷ []
@@ -63,7 +63,7 @@ wishes line v = false
 abbrev pub is_wish : List Line → List AnswerLine → ℕ → Version → Bool
 is_wish request before n v = wishes (line_at request n) v && list_all (λ m. nat_lt m n) (wish_lines before)
 
--- The line may stand after those before it.
+-- The line fits after those before it.
 abbrev pub answer_fits : List Line → List Line → List AnswerLine → AnswerLine → Bool
 answer_fits catalogue request before (Entry v place n) = may_enter catalogue before v && is_reason catalogue request (entries_of before) place n v
 answer_fits catalogue request before (Wished v n) = may_enter catalogue before v && is_wish request before n v

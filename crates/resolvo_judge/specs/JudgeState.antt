@@ -1,4 +1,4 @@
--- What the judge keeps of the lines of a report, and whether the report may end after them.
+-- The judge's state after lines of a report, and whether the report may end after them.
 use Rattle.std.specs.Prelude.{◌≡◌, Bool, true, false, List}
 use Rattle.resolvo_text.specs.Line.{Line}
 use Rattle.resolvo_report.specs.Value.{ReportLine}
@@ -9,7 +9,7 @@ use Rattle.resolvo_judge.specs.Log.{LogStands}
 use Rattle.resolvo_judge.specs.Bars.{TellsBarred}
 use Rattle.resolvo_judge.specs.KeptAnswers.{KeepsAnswers, KeepsLines}
 
--- What is kept stands for these lines.
+-- The state is that after these lines.
 pub record Stands (catalogue request : List Line) (j : JudgeState) (clauses : List (List Literal)) (above : List ReportLine) : Type 0 where
   pub refused : j.refused ≡ is_refusal above
   pub log : LogStands catalogue request j.log.checker.numbers clauses j.log.checker.places.items j.log.scope j.log.ends_empty above
@@ -17,7 +17,7 @@ pub record Stands (catalogue request : List Line) (j : JudgeState) (clauses : Li
   pub lines : KeepsLines request j.entries (answers_in above)
   pub barred : TellsBarred catalogue request j.barred above
 
--- The answer says whether the report may end after these lines.
+-- The answer is whether the report may end after these lines.
 abbrev pub EndsSo : List Line → List Line → List ReportLine → Bool → Type 0
 EndsSo catalogue request lines true = Ends catalogue request lines
 EndsSo catalogue request lines false = Ends catalogue request lines → ⊥

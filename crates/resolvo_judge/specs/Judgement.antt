@@ -18,9 +18,9 @@ use Rattle.resolvo_judge.specs.declared.judgement.JudgeFault.TheVariants.{Reader
 use Rattle.resolvo_checker.specs.CheckStep.{count_causes}
 use Rattle.resolvo_judge.specs.Refusal.{answer_of, steps_in, passes, Ends, ArePassed, IsAccepted}
 
--- ---- what holds
+-- ---- reports that hold
 
--- What a report claims is true: steps and message claim nothing by themselves.
+-- The claim of a report is true. Steps and message claim nothing by themselves.
 abbrev pub IsClaimTrue : List Line → List Line → Report → Type 0
 IsClaimTrue catalogue request (Install lines steps) = ClaimsInstall catalogue request (map answer_of lines)
 IsClaimTrue catalogue request (Refused catalogue_lines request_lines steps message) = ClaimsRefusal catalogue request catalogue_lines request_lines
@@ -37,8 +37,8 @@ causes_named r = count_causes (steps_in (report_lines r))
 
 -- ---- where a text is refused
 
--- Below these lines, in this part of a report, the bytes begin with a line that may stand there and passes, and its
--- newline; or they are none, and the report may end.
+-- After these lines, in this part of a report, the bytes begin with a line that may be next and
+-- passes, and its newline. Or they are none, and the report may end.
 abbrev pub HoldsOn : List Line → List Line → List ReportLine → Part → List ℕ → Type 0
 HoldsOn catalogue request above p bytes =
     ((line : ReportLine) × (rest : List ℕ) × (q : Part) × HasText line × (next_part p line ≡ Some q) × (bytes ≡ line_text line ++ codes "\n" ++ rest) × (passes catalogue request above line ≡ true))
@@ -55,7 +55,7 @@ pub record IsRefusedAt (catalogue request : List Line) (text : List ℕ) (n : �
   pub place : n ≡ length above + 1
   pub none : HoldsOn catalogue request above part below → ⊥
 
--- ---- what the judge answers
+-- ---- the judge's answer
 
 -- Yes where the text is that of a report which holds, else the place where it is refused.
 abbrev pub IsVerdict : List Line → List Line → List ℕ → Verdict → Type 0
@@ -74,7 +74,8 @@ CountsReadings text (No n) readings = ⊤
 
 -- ---- why there is no answer
 
--- Of the text these bytes came, and the rest is left; the lines that end among them are lines of a report that pass.
+-- These bytes of the text were received, and the rest is left. The whole lines among them are lines
+-- of a report that pass.
 pub record CameRight (catalogue request : List Line) (text came rest : List ℕ) : Type 0 where
   pub parts : text ≡ came ++ rest
   pub above : List ReportLine
@@ -85,8 +86,8 @@ pub record CameRight (catalogue request : List Line) (text came rest : List ℕ)
   pub passed : ArePassed catalogue request above
   pub unfinished : newlines begun ≡ 0
 
--- When there is no answer so: what the device had left before and has left after, and that the device failed. Whole
--- lines that have come are judged before the device is asked again.
+-- When there is no answer: by the bytes left in the device before and after, and its failure.
+-- Received whole lines are judged before the next read.
 abbrev pub IsJudgeFault : List Line → List Line → JudgeFault → Option (List ℕ) → Option (List ℕ) → Type 0 → Type 0
 IsJudgeFault catalogue request Reader before after failed = failed × IfKnown before (λ text. (came : List ℕ) × (rest : List ℕ) × (after ≡ Some rest) × CameRight catalogue request text came rest)
 IsJudgeFault catalogue request TooLong before after failed = IfKnown before (λ text. (came : List ℕ) × (rest : List ℕ) × (length came ≡ most_bytes) × (0 < length rest) × CameRight catalogue request text came rest)

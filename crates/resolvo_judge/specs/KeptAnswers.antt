@@ -1,4 +1,4 @@
--- What the judge keeps of the entries and left-out wishes so far.
+-- The judge's state of the entries and left-out wishes so far.
 use Rattle.std.specs.Prelude.{◌≡◌, ℕ, ◌+◌, ◌||◌, Bool, true, false, IsTrue, nat_lt, List, [], ◌∷◌, Option, Some, None, is_some, nat_eq}
 use Rattle.std.specs.HashMap.{get}
 use Rattle.std.specs.List.{list_any, list_all}
@@ -25,7 +25,7 @@ abbrev pub is_after : Option ℕ → ℕ → Bool
 is_after None n = true
 is_after (Some m) n = nat_lt m n
 
--- This is kept of these lines.
+-- The state is that after these lines.
 pub record KeepsAnswers (e : Entries) (before : List AnswerLine) : Type 0 where
   pub chosen : Holds e.chosen (entries_of before)
   pub out : HoldsAll e.out (left_out before)
@@ -42,12 +42,12 @@ KeepsLines request e before = (n : ℕ) (v : Version) → wishes (line_at reques
 abbrev pub IsTold : List Line → List AnswerLine → ℕ → Type 0
 IsTold request answers n = (v : Version) → line_at request n ≡ Some (Wish v) → IsTrue (is_member v (entries_of answers) || list_any (leaves_out v n) answers)
 
--- The answer says whether it is.
+-- The answer is whether it is.
 abbrev pub IsWishTold : List Line → List AnswerLine → ℕ → Bool → Type 0
 IsWishTold request answers n true = IsTold request answers n
 IsWishTold request answers n false = IsTold request answers n → ⊥
 
--- The answer says whether each wish is.
+-- The answer is whether each wish is.
 abbrev pub AreWishesTold : List Line → List AnswerLine → Bool → Type 0
 AreWishesTold request answers true = (n : ℕ) → IsTold request answers n
 AreWishesTold request answers false = ((n : ℕ) → IsTold request answers n) → ⊥

@@ -1,4 +1,4 @@
--- What is kept of the named lines and the steps of a report.
+-- The state of the named lines and the steps of a report.
 use Rattle.std.specs.Prelude.{◌≡◌, ℕ, Bool, true, false, List, Option}
 use Rattle.std.specs.Global.{Vec}
 use Rattle.resolvo_text.specs.Line.{Line}
@@ -9,8 +9,8 @@ use Rattle.resolvo_checker.specs.Proof.{ends_empty}
 use Rattle.resolvo_checker.specs.CheckStep.{names_catalogue, names_request, causes_in, StandFor}
 use Rattle.resolvo_judge.specs.Refusal.{steps_in, catalogue_lines_in, request_lines_in, may_rest}
 
--- What is kept stands for these lines: their steps, the lines that steps may rest on, and whether the last step
--- derives the clause without literals.
+-- The state is that after these lines: their steps, the lines that steps may name, and whether the
+-- last step derives the empty clause.
 pub record LogStands (catalogue request : List Line) (entries : List (Vec ℕ × ℕ)) (clauses : List (List Literal)) (places : List (Option ℕ)) (scope : Premises) (empty : Bool) (above : List ReportLine) : Type 0 where
   pub steps : StandFor catalogue request entries clauses places (steps_in above)
   pub catalogue_lines : (n : ℕ) → names_catalogue scope n ≡ may_rest above (catalogue_lines_in above) n

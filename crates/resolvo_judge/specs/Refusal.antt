@@ -15,9 +15,9 @@ use Rattle.resolvo_checker.specs.StepClauses.{clause_of}
 use Rattle.resolvo_judge.specs.Entries.{entries_of, answer_fits}
 use Rattle.resolvo_checker.specs.Proof.{may_stand, is_named, ends_empty, bars}
 
--- ---- what lines say
+-- ---- the contents of lines
 
--- what an entry or a `left out` line claims
+-- the claim of an entry or a `left out` line
 abbrev pub answer_of : AnswerLine → Answer
 answer_of (Entry v OfRequest n) = answer.Entry v (answer.ForRequest n)
 answer_of (Entry v (OfVersion w) n) = answer.Entry v (answer.ForVersion w n)
@@ -53,16 +53,16 @@ catalogue_lines_in lines = flat_map catalogue_line_in lines
 abbrev pub request_lines_in : List ReportLine → List ℕ
 request_lines_in lines = flat_map request_line_in lines
 
--- what the entries and `left out` lines claim
+-- the claims of the entries and `left out` lines
 abbrev pub answers_claimed : List ReportLine → List Answer
 answers_claimed lines = map answer_of (answers_in lines)
 
--- The report says that no set serves the request.
+-- The report is a refusal.
 abbrev pub is_refusal : List ReportLine → Bool
 is_refusal (RefusedHead ∷ lines) = true
 is_refusal lines = false
 
--- Steps of a refusal rest on the lines that it names, those of an install report on all.
+-- Steps of a refusal may name the lines that it names, those of an install report all lines.
 abbrev pub may_rest : List ReportLine → List ℕ → ℕ → Bool
 may_rest above lines n = if is_refusal above then is_named lines n else true
 
@@ -94,8 +94,8 @@ abbrev pub leaves_out : Version → ℕ → AnswerLine → Bool
 leaves_out v n (LeftOut w m step) = same_version w v && m == n
 leaves_out v n l = false
 
--- The entries obey each line, each wish is an entry or is left out, and each one that is left out is barred by
--- its step, with the entries above its line.
+-- The entries obey each line, each wish is an entry or left out, and the step of each left-out wish
+-- forbids it with the entries above its line.
 pub record InstallEnds (catalogue request : List Line) (answers : List AnswerLine) (steps : List Step) : Type 0 where
   pub catalogue_lines : (n : ℕ) → IsTrue (keeps catalogue n (entries_of answers))
   pub request_lines : (n : ℕ) → IsTrue (keeps_in_request request n (entries_of answers))

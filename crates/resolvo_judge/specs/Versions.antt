@@ -20,6 +20,6 @@ numbers_kept (Some v) = v.items
 abbrev pub HoldsAll : Versions → Set → Type 0
 HoldsAll versions set = (name : List ℕ) → numbers_kept (get_by_text versions.numbers name) ≡ numbers_for set name
 
--- The version's number is put to those of its package.
+-- The version's number is added to those of its package.
 abbrev pub AddsNumber : (List ℕ → Option (Vec ℕ)) → Version → (List ℕ → Option (Vec ℕ)) → Type 0
 AddsNumber before v after = (name : List ℕ) → numbers_kept (after name) ≡ (if bytes_eq v.name name then numbers_kept (before name) ++ v.number ∷ [] else numbers_kept (before name))

@@ -1,4 +1,4 @@
--- Texts that rise, and texts of which none is there twice, as far as a loop has come.
+-- Loop invariants: texts that rise, and texts without repetition.
 use Rattle.std.proofs.Common.{◌≡◌, ℕ, zero, suc, Bool, true, false, not, cond, ◌&&◌, ◌||◌, drop, Bor, List, [], ◌∷◌, ◌+◌, ◌<◌, ◌≤◌, length, map, get_or, subst, arith, refl, sym, ap, ◌∙◌}
 use Rattle.resolvo_literal_order.specs.Order.{texts_of, is_before, are_rising, are_once, atom_part}
 use Rattle.std.specs.Str.{bytes_eq}
@@ -29,7 +29,7 @@ once_below (suc n) (x ∷ xs) e = once_below n xs (once_part x xs e)
 abbrev pub by_bytes : Bor (List ℕ) → Bor (List ℕ) → Ordering
 by_bytes x y = slice_cmp nat_cmp x.now y.now
 
--- a sorted set to which a text came tells it by its bytes
+-- a sorted set finds an added text by its bytes
 pub updates_by_bytes : (has has_now : Bor (List ℕ) → Bool) (x : Bor (List ℕ)) → ((q : Bor (List ℕ)) → has_now q ≡ cond (is_eq (by_bytes x q)) true (has q)) → (q : Bor (List ℕ)) → has_now q ≡ cond (bytes_eq x.now q.now) true (has q)
 updates_by_bytes has has_now x updated = λ q. updated q ∙ ap (λ (b : Bool). cond b true (has q)) (is_eq-slice_cmp x.now q.now)
 
