@@ -32,7 +32,7 @@ use Rattle.resolvo_catalogue.proofs.PassLemmas.{any_from}
 use Rattle.resolvo_catalogue.proofs.Elements.{flat_from, reason_from, from_lines}
 use Rattle.resolvo_catalogue.proofs.RulesKept.{found_in, listing_is, locked_by, excluded_by, exclusion_word}
 use Rattle.std.proofs.lemmas.Option.{slice_get-get_or, slice_get_within, get_or_from_slice_get, unwrap_or-slice_get}
-use Rattle.resolvo_report.specs.Value as told
+use Rattle.resolvo_report.specs.Value as in_report
 use Rattle.resolvo_checker.specs.StepClauses as judge
 use Rattle.resolve_refusal.specs.declared.named.Text.{Text}
 use Rattle.resolve_refusal.specs.Named.{line_in, in_catalogue}
@@ -79,22 +79,22 @@ unknown_is v owner (Wish w) h = absurd h
 -- ---- the step
 
 -- a lock forbids
-pub lock_bars : (catalogue : List Line) (v : Version) (t : told.Step) → (line : ℕ) × IsLockStep catalogue v t line → IsBarredBy catalogue v t
+pub lock_bars : (catalogue : List Line) (v : Version) (t : in_report.Step) → (line : ℕ) × IsLockStep catalogue v t line → IsBarredBy catalogue v t
 lock_bars catalogue v t (line, lock) = (line, inl lock)
 
 -- a version that is forbidden with a word is forbidden
-pub word_bars : (catalogue : List Line) (v : Version) (word : List ℕ) (t : told.Step) → IsBarredAs catalogue v word t → IsBarredBy catalogue v t
+pub word_bars : (catalogue : List Line) (v : Version) (word : List ℕ) (t : in_report.Step) → IsBarredAs catalogue v word t → IsBarredBy catalogue v t
 word_bars catalogue v word t (line, inl (is, at), first) = (line, inr (inl (is, (Exclude v word, at, refl))))
 word_bars catalogue v word t (line, inr (is, (at, own)), first) = (line, inr (inr (is, (Unknown word, at, own))))
 
 -- the step that forbids names a line with a rule
-pub bar_stated : (catalogue : List Line) (v : Version) (t : told.Step) → IsBarredBy catalogue v t → (line : ℕ) × (l : Line) × (line_at catalogue line ≡ Some l) × (is_rule l ≡ true) × ((of : Text) → line_in of t ≡ in_catalogue of line)
+pub bar_stated : (catalogue : List Line) (v : Version) (t : in_report.Step) → IsBarredBy catalogue v t → (line : ℕ) × (l : Line) × (line_at catalogue line ≡ Some l) × (is_rule l ≡ true) × ((of : Text) → line_in of t ≡ in_catalogue of line)
 bar_stated catalogue v t (line, inl (is, (l, at, other))) = (let (w, same, name, number) = lock_is v (owner_of catalogue line) l other in (line, l, at, ap is_rule same, λ of. ap (line_in of) is))
 bar_stated catalogue v t (line, inr (inl (is, (l, at, out)))) = (let (reason, same) = exclude_is v (owner_of catalogue line) l out in (line, l, at, ap is_rule same, λ of. ap (line_in of) is))
 bar_stated catalogue v t (line, inr (inr (is, (l, at, unknown)))) = (let (reason, same, own) = unknown_is v (owner_of catalogue line) l unknown in (line, l, at, ap is_rule same, λ of. ap (line_in of) is))
 
 -- a value that is the same for the three steps that forbid a version
-pub by_bar : {X : Type 0} (catalogue : List Line) (v : Version) (t : told.Step) (f : told.Step → X) (x : X) → ((line : ℕ) → f (told.Lock line v) ≡ x) → ((line : ℕ) → f (told.Exclude line) ≡ x) → ((line : ℕ) → f (told.Unknown line) ≡ x) → IsBarredBy catalogue v t → f t ≡ x
+pub by_bar : {X : Type 0} (catalogue : List Line) (v : Version) (t : in_report.Step) (f : in_report.Step → X) (x : X) → ((line : ℕ) → f (in_report.Lock line v) ≡ x) → ((line : ℕ) → f (in_report.Exclude line) ≡ x) → ((line : ℕ) → f (in_report.Unknown line) ≡ x) → IsBarredBy catalogue v t → f t ≡ x
 by_bar catalogue v t f x a b c (line, inl (is, other)) = ap f is ∙ a line
 by_bar catalogue v t f x a b c (line, inr (inl (is, out))) = ap f is ∙ b line
 by_bar catalogue v t f x a b c (line, inr (inr (is, unknown))) = ap f is ∙ c line
@@ -107,7 +107,7 @@ differs m n apart = go (m == n) refl
     go true e = absurd (apart (sym (eqb-true m n e)))
 
 -- the clause of the step is that the version is not chosen
-pub bar_clause : (catalogue request : List Line) (v : Version) (t : told.Step) → judge.is_listed catalogue v ≡ true → IsBarredBy catalogue v t → judge.clause_of catalogue request t ≡ Some (judge.not_in v ∷ [])
+pub bar_clause : (catalogue request : List Line) (v : Version) (t : in_report.Step) → judge.is_listed catalogue v ≡ true → IsBarredBy catalogue v t → judge.clause_of catalogue request t ≡ Some (judge.not_in v ∷ [])
 bar_clause catalogue request v t here (line, inl (is, (l, at, other))) =
     let (w, same, name, number) = lock_is v (owner_of catalogue line) l other in
     let one_package : same_package v w ≡ true = (bytes_decides v.name w.name).1 (sym name) in

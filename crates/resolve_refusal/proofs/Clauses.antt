@@ -44,7 +44,7 @@ use Rattle.resolvo_catalogue.proofs.KeptAlike.{its_version}
 use Rattle.resolvo_catalogue.proofs.RulesKept.{con_from}
 use Rattle.resolvo_catalogue.proofs.MarkLemmas.{one_some}
 use Rattle.resolvo_catalogue.proofs.Places.{each_left}
-use Rattle.resolvo_report.specs.Value as told
+use Rattle.resolvo_report.specs.Value as in_report
 use Rattle.resolvo_checker.specs.StepClauses as judge
 use Rattle.resolvo_checker.proofs.Sets.{is_contained}
 use Rattle.resolve_refusal.specs.RefusedReport.{version_at, place_at}
@@ -81,12 +81,12 @@ same_requirement_is (Union v) (Single w) h = absurd cc
 
 module _ (catalogue : List Line) (provider : Provider) (over : IsOver catalogue provider) where
   -- The second clause has the names of the first one's literals, which are known.
-  pub record Spells (c : List (pass.Literal (Atom NameId SolvableId))) (d : List (pass.Literal told.Atom)) : Type 0 where
+  pub record Spells (c : List (pass.Literal (Atom NameId SolvableId))) (d : List (pass.Literal in_report.Atom)) : Type 0 where
     pub known : IsKnownClause catalogue provider over c
     pub only : (l : pass.Literal (Atom NameId SolvableId)) → Contains c l → Contains d (name_literal catalogue provider over l)
-    pub each : (m : pass.Literal told.Atom) → Contains d m → (l : pass.Literal (Atom NameId SolvableId)) × Contains c l × (m ≡ name_literal catalogue provider over l)
+    pub each : (m : pass.Literal in_report.Atom) → Contains d m → (l : pass.Literal (Atom NameId SolvableId)) × Contains c l × (m ≡ name_literal catalogue provider over l)
 
-  pub spelled_members : (c : List (pass.Literal (Atom NameId SolvableId))) (d : List (pass.Literal told.Atom)) → Spells c d → SameMembers (name_clause catalogue provider over c) d
+  pub spelled_members : (c : List (pass.Literal (Atom NameId SolvableId))) (d : List (pass.Literal in_report.Atom)) → Spells c d → SameMembers (name_clause catalogue provider over c) d
   spelled_members c d s = record {
     only = λ m h. (let (l, a, e) = map_contains (name_literal catalogue provider over) m c h in subst (λ x. Contains d x) (sym e) (s.only l a));
     each = λ m h. (let (l, a, e) = s.each m h in subst (λ x. Contains (name_clause catalogue provider over c) x) (sym e) (contains_map (name_literal catalogue provider over) l c a));
@@ -95,7 +95,7 @@ module _ (catalogue : List Line) (provider : Provider) (over : IsOver catalogue 
   spelled_none : Spells [] []
   spelled_none = record { known = λ l h. absurd (contains_none l h); only = λ l h. absurd (contains_none l h); each = λ m h. absurd (contains_none m h) }
 
-  spelled_more : (l : pass.Literal (Atom NameId SolvableId)) (m : pass.Literal told.Atom) (c : List (pass.Literal (Atom NameId SolvableId))) (d : List (pass.Literal told.Atom))
+  spelled_more : (l : pass.Literal (Atom NameId SolvableId)) (m : pass.Literal in_report.Atom) (c : List (pass.Literal (Atom NameId SolvableId))) (d : List (pass.Literal in_report.Atom))
       → IsKnown catalogue provider over l.atom → m ≡ name_literal catalogue provider over l → Spells c d → Spells (l ∷ c) (m ∷ d)
   spelled_more l m c d known is s = record {
     known = λ x h. elim (contains_cases x l c h) [ inl e ↦ subst (λ (y : pass.Literal (Atom NameId SolvableId)). IsKnown catalogue provider over y.atom) (sym e) known | inr a ↦ s.known x a ];
@@ -109,7 +109,7 @@ module _ (catalogue : List Line) (provider : Provider) (over : IsOver catalogue 
     ];
   }
 
-  spelled_append : (c e : List (pass.Literal (Atom NameId SolvableId))) (d f : List (pass.Literal told.Atom)) → Spells c d → Spells e f → Spells (c ++ e) (d ++ f)
+  spelled_append : (c e : List (pass.Literal (Atom NameId SolvableId))) (d f : List (pass.Literal in_report.Atom)) → Spells c d → Spells e f → Spells (c ++ e) (d ++ f)
   spelled_append c e d f s t = record {
     known = λ x h. elim (contains_parts x c e h) [ inl a ↦ s.known x a | inr a ↦ t.known x a ];
     only = λ x h. elim (contains_parts x c e h) [
@@ -195,7 +195,7 @@ module _ (catalogue : List Line) (provider : Provider) (over : IsOver catalogue 
         let set : (set_at provider.ids v).0 ≡ n = ap (λ (x : NameId × Numbers). x.0) (get_or_from_slice_get provider.ids.version_sets v.0 _ _ e) in
         let its : IsPackage provider.ids (set_at provider.ids v).0 s.name = subst (λ (m : NameId). IsPackage provider.ids m s.name) (sym set) named in
         let text : s.name ≡ name_text provider.ids (set_at provider.ids v).0 = sym (name_is catalogue provider over (set_at provider.ids v).0 s.name its) in
-        spelled_more (minus (Atom.any_of (set_at provider.ids v).0)) _ _ _ (s.name, its) (λ i. record { atom = told.AnyOf (text i); positive = false }) (spelled_append _ _ _ _ (others_spelled v s h.0) (case_spelled vs ss h.1))
+        spelled_more (minus (Atom.any_of (set_at provider.ids v).0)) _ _ _ (s.name, its) (λ i. record { atom = in_report.AnyOf (text i); positive = false }) (spelled_append _ _ _ _ (others_spelled v s h.0) (case_spelled vs ss h.1))
 
     candidates_spelled : (vs : List VersionSetId) (ss : List Spec) → AreEach (IsSpec provider.ids) vs ss → Spells (candidate_literals same (packages_of provider) vs) (judge.some_match catalogue ss)
     candidates_spelled [] [] h = spelled_none
@@ -251,12 +251,12 @@ module _ (catalogue : List Line) (provider : Provider) (over : IsOver catalogue 
     -- ---- the clauses of steps
 
     -- the step of a report has a clause, which spells this one
-    abbrev pub IsSpelled : List Line → List (pass.Literal (Atom NameId SolvableId)) → told.Step → Type 0
+    abbrev pub IsSpelled : List Line → List (pass.Literal (Atom NameId SolvableId)) → in_report.Step → Type 0
     IsSpelled request c step = (d : judge.Clause) × (judge.clause_of catalogue request step ≡ Some d) × Spells c d
 
     pub need_spelled : (request : List Line) (parent : Option SolvableId) (r : Requirement) (case : List VersionSetId) (line k : ℕ) → ((s : SolvableId) → parent ≡ Some s → IsVersion catalogue provider.ids s) → IsRequirement catalogue provider.ids r
         → (specs : List Spec) × AreEach (IsSpec provider.ids) case specs → IsOfPlace catalogue request (place_at catalogue parent) (NeedsAs (alternatives_at provider.ids r) (map (spec_at provider.ids) case) k) line
-        → IsSpelled request (parent_literals parent ++ (case_literals same (packages_of provider) case ++ candidate_literals same (packages_of provider) (alternatives_of (members_of provider.ids) r))) (told.Need (place_at catalogue parent) line k)
+        → IsSpelled request (parent_literals parent ++ (case_literals same (packages_of provider) case ++ candidate_literals same (packages_of provider) (alternatives_of (members_of provider.ids) r))) (in_report.Need (place_at catalogue parent) line k)
     need_spelled request parent r case line k listed known (specs, each) (l, says, (condition, is, (at, first))) =
         let stated : judge.line_of catalogue request (place_at catalogue parent) line ≡ Some (Needs (alternatives_at provider.ids r) condition) = says ∙ ap (λ (x : Line). Some x) is in
         let cased : judge.case_at condition k ≡ Some specs = at ∙ ap (λ (ss : List Spec). Some ss) (specs_are catalogue provider over case specs each) in (
@@ -267,20 +267,20 @@ module _ (catalogue : List Line) (provider : Provider) (over : IsOver catalogue 
         )
 
     pub gate_spelled : (request : List Line) (s : SolvableId) (r : Requirement) (line : ℕ) → IsVersion catalogue provider.ids s → IsRequirement catalogue provider.ids r
-        → judge.line_of catalogue request (told.OfVersion (version_at catalogue s)) line ≡ Some (Needs (alternatives_at provider.ids r) None)
-        → IsSpelled request (minus (Atom.solvable s) ∷ plus (Atom.gate r) ∷ []) (told.Gate (version_at catalogue s) line)
+        → judge.line_of catalogue request (in_report.OfVersion (version_at catalogue s)) line ≡ Some (Needs (alternatives_at provider.ids r) None)
+        → IsSpelled request (minus (Atom.solvable s) ∷ plus (Atom.gate r) ∷ []) (in_report.Gate (version_at catalogue s) line)
     gate_spelled request s r line listed known needs = (
-      judge.not_in (version_at catalogue s) ∷ judge.literal (told.SharedBy (alternatives_at provider.ids r)) true ∷ [],
+      judge.not_in (version_at catalogue s) ∷ judge.literal (in_report.SharedBy (alternatives_at provider.ids r)) true ∷ [],
       ap (judge.gate_clause (version_at catalogue s)) needs,
       spelled_more (minus (Atom.solvable s)) _ _ _ listed refl (spelled_more (plus (Atom.gate r)) _ [] [] known refl spelled_none),
     )
 
     pub shared_spelled : (request : List Line) (r : Requirement) → IsRequirement catalogue provider.ids r
-        → IsSpelled request (minus (Atom.gate r) ∷ candidate_literals same (packages_of provider) (alternatives_of (members_of provider.ids) r)) (told.Shared (alternatives_at provider.ids r))
+        → IsSpelled request (minus (Atom.gate r) ∷ candidate_literals same (packages_of provider) (alternatives_of (members_of provider.ids) r)) (in_report.Shared (alternatives_at provider.ids r))
     shared_spelled request r known = (_, refl, spelled_more (minus (Atom.gate r)) _ _ _ known refl (alternatives_spelled r known))
 
     pub digit_spelled : (request : List Line) (s : SolvableId) (place bit : ℕ) → IsVersion catalogue provider.ids s → bit < 32
-        → IsSpelled request (literals_of same (packages_of provider) (Rule.has_digit s bit (digit place bit))) (told.Digit (version_at catalogue s) place bit)
+        → IsSpelled request (literals_of same (packages_of provider) (Rule.has_digit s bit (digit place bit))) (in_report.Digit (version_at catalogue s) place bit)
     digit_spelled request s place bit known below =
         let (v, e) = known in
         let at : version_at catalogue s ≡ v = version_is catalogue provider over s v e in
@@ -288,9 +288,9 @@ module _ (catalogue : List Line) (provider : Provider) (over : IsOver catalogue 
         let text : (version_at catalogue s).name ≡ name_text provider.ids (name_of provider.ids s) = ap (λ (x : Version). x.name) at ∙ sym (name_is catalogue provider over (name_of provider.ids s) v.name packaged) in
         let lists : judge.is_listed catalogue (version_at catalogue s) ≡ true = is_listed s known in
         let within : nat_lt bit 32 ≡ true = (Decides-ltb bit 32).1 below in (
-          judge.not_in (version_at catalogue s) ∷ judge.literal (told.BitOf bit (version_at catalogue s).name) (bit_at place bit == 1) ∷ [],
+          judge.not_in (version_at catalogue s) ∷ judge.literal (in_report.BitOf bit (version_at catalogue s).name) (bit_at place bit == 1) ∷ [],
           rw (lists, within) refl,
-          spelled_more (minus (Atom.solvable s)) _ _ _ known refl (spelled_more _ _ [] [] (v.name, packaged) (λ i. record { atom = told.BitOf bit (text i); positive = sym (digit_bit place bit) i }) spelled_none),
+          spelled_more (minus (Atom.solvable s)) _ _ _ known refl (spelled_more _ _ [] [] (v.name, packaged) (λ i. record { atom = in_report.BitOf bit (text i); positive = sym (digit_bit place bit) i }) spelled_none),
         )
 
     -- a limit of a parent is known, and so is the parent
@@ -320,16 +320,16 @@ module _ (catalogue : List Line) (provider : Provider) (over : IsOver catalogue 
 
     pub limit_spelled : (request : List Line) (parent : Option SolvableId) (v : VersionSetId) (line : ℕ) → ((s : SolvableId) → parent ≡ Some s → IsVersion catalogue provider.ids s) → (spec : Spec) × IsSpec provider.ids v spec
         → judge.line_of catalogue request (place_at catalogue parent) line ≡ Some (Limits (spec_at provider.ids v))
-        → IsSpelled request (parent_literals parent ++ minus (Atom.outside v) ∷ []) (told.Limit (place_at catalogue parent) line)
+        → IsSpelled request (parent_literals parent ++ minus (Atom.outside v) ∷ []) (in_report.Limit (place_at catalogue parent) line)
     limit_spelled request parent v line versions known limits = (
-      judge.place_fails (place_at catalogue parent) ++ judge.literal (told.OutsideOf (spec_at provider.ids v)) false ∷ [],
+      judge.place_fails (place_at catalogue parent) ++ judge.literal (in_report.OutsideOf (spec_at provider.ids v)) false ∷ [],
       ap (judge.limit_clause (place_at catalogue parent)) limits,
       spelled_append _ _ _ _ (fails_spelled parent versions) (spelled_more (minus (Atom.outside v)) _ [] [] known refl spelled_none),
     )
 
     pub limit_bars_spelled : (request : List Line) (parent : Option SolvableId) (v : VersionSetId) (s : SolvableId) (line : ℕ) → ((s : SolvableId) → parent ≡ Some s → IsVersion catalogue provider.ids s) → (spec : Spec) × IsSpec provider.ids v spec
         → pool_rules.is_outside same (packages_of provider) v s ≡ true → judge.line_of catalogue request (place_at catalogue parent) line ≡ Some (Limits (spec_at provider.ids v))
-        → IsSpelled request (parent_literals parent ++ minus (Atom.solvable s) ∷ []) (told.LimitBars (place_at catalogue parent) line (version_at catalogue s))
+        → IsSpelled request (parent_literals parent ++ minus (Atom.solvable s) ∷ []) (in_report.LimitBars (place_at catalogue parent) line (version_at catalogue s))
     limit_bars_spelled request parent v s line versions (spec, is) out limits =
         let (version, outside) = is_out v spec s is out in
         let lists : judge.is_listed catalogue (version_at catalogue s) ≡ true = is_listed s version in
@@ -340,11 +340,11 @@ module _ (catalogue : List Line) (provider : Provider) (over : IsOver catalogue 
         )
 
     pub outside_spelled : (request : List Line) (v : VersionSetId) (s : SolvableId) → (spec : Spec) × IsSpec provider.ids v spec → pool_rules.is_outside same (packages_of provider) v s ≡ true
-        → IsSpelled request (minus (Atom.solvable s) ∷ plus (Atom.outside v) ∷ []) (told.Outside (spec_at provider.ids v) (version_at catalogue s))
+        → IsSpelled request (minus (Atom.solvable s) ∷ plus (Atom.outside v) ∷ []) (in_report.Outside (spec_at provider.ids v) (version_at catalogue s))
     outside_spelled request v s (spec, is) out =
         let (version, outside) = is_out v spec s is out in
         let lists : judge.is_listed catalogue (version_at catalogue s) ≡ true = is_listed s version in (
-          judge.not_in (version_at catalogue s) ∷ judge.literal (told.OutsideOf (spec_at provider.ids v)) true ∷ [],
+          judge.not_in (version_at catalogue s) ∷ judge.literal (in_report.OutsideOf (spec_at provider.ids v)) true ∷ [],
           rw (lists, outside) refl,
           spelled_more (minus (Atom.solvable s)) _ _ _ version refl (spelled_more (plus (Atom.outside v)) _ [] [] (spec, is) refl spelled_none),
         )
@@ -357,17 +357,17 @@ module _ (catalogue : List Line) (provider : Provider) (over : IsOver catalogue 
         ((v, e), subst (λ (w : Version). IsPackage provider.ids n w.name) (sym (version_is catalogue provider over s v e)) packaged)
 
     pub any_spelled : (request : List Line) (n : NameId) (s : SolvableId) → pool_rules.is_in same (packages_of provider) (pool.listed (candidates_of provider n)) s ≡ true
-        → IsSpelled request (minus (Atom.solvable s) ∷ plus (Atom.any_of n) ∷ []) (told.Any (version_at catalogue s))
+        → IsSpelled request (minus (Atom.solvable s) ∷ plus (Atom.any_of n) ∷ []) (in_report.Any (version_at catalogue s))
     any_spelled request n s there =
         let (version, packaged) = candidate_of n s there in
         let text : (version_at catalogue s).name ≡ name_text provider.ids n = sym (name_is catalogue provider over n (version_at catalogue s).name packaged) in
         let lists : judge.is_listed catalogue (version_at catalogue s) ≡ true = is_listed s version in (
-          judge.not_in (version_at catalogue s) ∷ judge.literal (told.AnyOf (version_at catalogue s).name) true ∷ [],
+          judge.not_in (version_at catalogue s) ∷ judge.literal (in_report.AnyOf (version_at catalogue s).name) true ∷ [],
           rw lists refl,
-          spelled_more (minus (Atom.solvable s)) _ _ _ version refl (spelled_more (plus (Atom.any_of n)) _ [] [] ((version_at catalogue s).name, packaged) (λ i. record { atom = told.AnyOf (text i); positive = true }) spelled_none),
+          spelled_more (minus (Atom.solvable s)) _ _ _ version refl (spelled_more (plus (Atom.any_of n)) _ [] [] ((version_at catalogue s).name, packaged) (λ i. record { atom = in_report.AnyOf (text i); positive = true }) spelled_none),
         )
 
-    pub bar_spelled : (request : List Line) (s : SolvableId) (t : told.Step) → IsVersion catalogue provider.ids s → IsBarredBy catalogue (version_at catalogue s) t → IsSpelled request (minus (Atom.solvable s) ∷ []) t
+    pub bar_spelled : (request : List Line) (s : SolvableId) (t : in_report.Step) → IsVersion catalogue provider.ids s → IsBarredBy catalogue (version_at catalogue s) t → IsSpelled request (minus (Atom.solvable s) ∷ []) t
     bar_spelled request s t version bars = (
       judge.not_in (version_at catalogue s) ∷ [],
       bar_clause catalogue request (version_at catalogue s) t (is_listed s version) bars,
@@ -400,7 +400,7 @@ module _ (catalogue : List Line) (provider : Provider) (over : IsOver catalogue 
   named_literal : (l : ProofLiteral NameId SolvableId) → name_literal catalogue provider over (literal_in l) ≡ judge.literal_of (literal_at catalogue provider.ids l)
   named_literal l i = record { atom = named_atom l.atom i; positive = l.positive }
 
-  pub literals_spelled : (literals : List (ProofLiteral NameId SolvableId)) (written : List told.Literal) → ((l : ProofLiteral NameId SolvableId) → Contains literals l → IsKnownAtom catalogue provider.ids l.atom)
+  pub literals_spelled : (literals : List (ProofLiteral NameId SolvableId)) (written : List in_report.Literal) → ((l : ProofLiteral NameId SolvableId) → Contains literals l → IsKnownAtom catalogue provider.ids l.atom)
       → AreLiterals catalogue provider.ids literals written → Spells (map literal_in literals) (map judge.literal_of written)
   literals_spelled literals written known are = record {
     known = λ l h. (let (k, a, e) = map_contains literal_in l literals h in subst (λ (x : pass.Literal (Atom NameId SolvableId)). IsKnown catalogue provider over x.atom) (sym e) (known_atom k.atom (known k a)));
@@ -416,7 +416,7 @@ module _ (catalogue : List Line) (provider : Provider) (over : IsOver catalogue 
         );
   }
 
-  pub derived_spelled : (request : List Line) (literals : List (ProofLiteral NameId SolvableId)) (written : List told.Literal) (causes : List ℕ) → ((l : ProofLiteral NameId SolvableId) → Contains literals l → IsKnownAtom catalogue provider.ids l.atom)
-      → AreLiterals catalogue provider.ids literals written → judge.clause_of catalogue request (told.Derive written causes) ≡ Some (map judge.literal_of written)
-  derived_spelled request literals written causes known are = rw (contained_all (λ (l : told.Literal). judge.is_atom catalogue l.atom) written
-      (λ w b. (let (k, a, is) = (are w).0 b in ap (λ (l : told.Literal). judge.is_atom catalogue l.atom) is ∙ is_atom k.atom (known k a)))) refl
+  pub derived_spelled : (request : List Line) (literals : List (ProofLiteral NameId SolvableId)) (written : List in_report.Literal) (causes : List ℕ) → ((l : ProofLiteral NameId SolvableId) → Contains literals l → IsKnownAtom catalogue provider.ids l.atom)
+      → AreLiterals catalogue provider.ids literals written → judge.clause_of catalogue request (in_report.Derive written causes) ≡ Some (map judge.literal_of written)
+  derived_spelled request literals written causes known are = rw (contained_all (λ (l : in_report.Literal). judge.is_atom catalogue l.atom) written
+      (λ w b. (let (k, a, is) = (are w).0 b in ap (λ (l : in_report.Literal). judge.is_atom catalogue l.atom) is ∙ is_atom k.atom (known k a)))) refl

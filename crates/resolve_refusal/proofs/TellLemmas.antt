@@ -37,7 +37,7 @@ use Rattle.resolvo_catalogue.proofs.RulesKept.{req_from, con_from}
 use Rattle.resolvo_catalogue.proofs.CoverLemmas.{alternatives_stand, spec_stands}
 use Rattle.resolvo_catalogue.proofs.Places.{no_element}
 use Rattle.resolvo_report.specs.Value.{OfRequest, OfVersion, Step}
-use Rattle.resolvo_report.specs.Value as told
+use Rattle.resolvo_report.specs.Value as in_report
 use Rattle.resolvo_checker.specs.StepClauses.{is_owner}
 use Rattle.resolve_refusal.specs.RefusedReport.{version_at, place_at, number_of, IsWritten}
 use Rattle.resolve_refusal.specs.declared.lines.NeedLine.{NeedLine}
@@ -257,7 +257,7 @@ module _ (catalogue : List Line) (said : ReadRequest) (p : Provider) (steps : Li
       let (n, there) = lock_there catalogue p proves.over proves.same proves.exact l s v e bars in
       by_line v (version_is catalogue p proves.over s v e) found (line v e) n there is
     where
-      by_line : (v : Version) → version_at catalogue s ≡ v → (o : Option ℕ) → IsLockLine catalogue v o → (n : ℕ) → LineIs catalogue n (LocksAnother v) → t ≡ told.Lock (unwrap_or o 0) (version_at catalogue s) → (k : ℕ) × IsLockStep catalogue (version_at catalogue s) t k
+      by_line : (v : Version) → version_at catalogue s ≡ v → (o : Option ℕ) → IsLockLine catalogue v o → (n : ℕ) → LineIs catalogue n (LocksAnother v) → t ≡ in_report.Lock (unwrap_or o 0) (version_at catalogue s) → (k : ℕ) × IsLockStep catalogue (version_at catalogue s) t k
       by_line v own None none n there e = absurd (none n there)
       by_line v own (Some k) at n there e = (k, (e, subst (λ (w : Version). LineIs catalogue k (LocksAnother w)) (sym own) at))
 
@@ -286,11 +286,11 @@ module _ (catalogue : List Line) (said : ReadRequest) (p : Provider) (steps : Li
 
   -- a written need is right
   pub need_told : (n : ℕ) (parent : Option SolvableId) (r : Requirement) (case : Vec VersionSetId Global) (t : Step) → slice_get steps n ≡ Some (Rule (NeedsRule parent r case)) → TellsNeed catalogue said.lines p.ids parent r case.items t
-      → (line k : ℕ) × IsNumber k × (t ≡ told.Need (place_at catalogue parent) line k) × IsFirstNeed catalogue said.lines (place_at catalogue parent) (alternatives_at p.ids r) (map (spec_at p.ids) case.items) line k
+      → (line k : ℕ) × IsNumber k × (t ≡ in_report.Need (place_at catalogue parent) line k) × IsFirstNeed catalogue said.lines (place_at catalogue parent) (alternatives_at p.ids r) (map (spec_at p.ids) case.items) line k
   need_told n parent r case t at (found, by, tells) =
       let (condition, (has, among)) = proves.proof n _ at in
       let (l, is, first) = need_found parent r condition case.items found by has among in
-      let (number, told_so) = subst (λ (o : Option NeedLine). IfSome o (λ x. IsNumber x.case × (t ≡ told.Need (place_at catalogue parent) x.line x.case))) is tells in
+      let (number, told_so) = subst (λ (o : Option NeedLine). IfSome o (λ x. IsNumber x.case × (t ≡ in_report.Need (place_at catalogue parent) x.line x.case))) is tells in
       (l.line, l.case, number, told_so, first)
 
   -- a written step is right
@@ -317,7 +317,7 @@ module _ (catalogue : List Line) (said : ReadRequest) (p : Provider) (steps : Li
   step_told n (Derived literals causes) t at tells written =
       let (clause, is, same, rising) = tells in
       let below : n < length steps = slice_get_within steps n _ at in
-      (clause, is ∙ ap (λ (ns : List ℕ). told.Derive clause ns) (numbers_from n causes.items (omega (arith, below, fits)) (λ k h. let e : k < n = (proves.proof n _ at).earlier k h in omega (arith, e))), same (literals_fit catalogue p proves.over literals.items (proves.known n _ at)))
+      (clause, is ∙ ap (λ (ns : List ℕ). in_report.Derive clause ns) (numbers_from n causes.items (omega (arith, below, fits)) (λ k h. let e : k < n = (proves.proof n _ at).earlier k h in omega (arith, e))), same (literals_fit catalogue p proves.over literals.items (proves.known n _ at)))
 
   -- each step is right
   pub steps_told : (written : List Step) → AllZip (Tells catalogue said.lines p.ids) steps written → AllZip (IsWritten catalogue p.ids) steps written → AllZip (IsToldBy catalogue p.ids said.lines) steps written
