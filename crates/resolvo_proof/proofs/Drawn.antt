@@ -68,7 +68,7 @@ one_sign {N} {S} of count once literals in_range apart l m a b same =
     go x y h k one false true e f = absurd (clash x y h k one (f ∙ sym (ap not e)))
 
 module _ {N S : Type 0} (c : SolverState N S) (coding : IsCoding c) where
-  -- a derived step of a clause says what the literals of a learnt one mean
+  -- a derived step of a clause has the meanings of a learnt one's literals
   learnt_at : (n : ℕ) (literals : Vec (ProofLiteral N S) Global) (causes : Vec ℕ Global) → (at : IsStepAt c n (Derived literals causes)) → (stated_at c.stated.items n ≡ Some Says.Learnt) × (map literal_in literals.items ≡ meanings (origin c.atoms.keys) at.clause.literals.items)
   learnt_at n literals causes at = go at.writes
     where
@@ -142,7 +142,7 @@ module _ {N S : Type 0} (c : SolverState N S) (coding : IsCoding c) where
           (one_sign (origin c.atoms.keys) (count_of c.search) (coding_once c coding) spelled (refusal_in_range c.search spelled from coding.ready.state refusal) (false_apart c.search spelled coding.ready.state (kept_false c.search spelled refusal.denies)))
     ]
 
--- what is left of steps says no more of an atom
+-- trimmed steps add no sign of an atom
 pub trimmed_signs : {N S : Type 0} {Wanted : ℕ → Type 0} (steps kept : List (ProofStep N S)) → IsTrimmedTo Wanted steps kept → HaveOneSigns steps → HaveOneSigns kept
 trimmed_signs {N} {S} {Wanted} steps kept trimmed signs n literals causes here = let (place, x, at, there, is) = stood steps kept trimmed n (Derived literals causes) here in go place x there is
   where

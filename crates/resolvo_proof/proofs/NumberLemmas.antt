@@ -189,7 +189,7 @@ order k zero = inr (omega arith)
 order zero (suc l) = inl (omega arith)
 order (suc k) (suc l) = elim (order k l) [ inl h ↦ inl (omega arith) | inr h ↦ inr (omega arith) ]
 
--- places that rise are told by their order
+-- rising places are determined by their order
 pub falls_back : (from : List ℕ) → ((k l a b : ℕ) → k < l → slice_get from k ≡ Some a → slice_get from l ≡ Some b → a < b) → (k l a b : ℕ) → slice_get from k ≡ Some a → slice_get from l ≡ Some b → a < b → k < l
 falls_back from rising k l a b h i less = elim (order k l) [
   | inl small ↦ small

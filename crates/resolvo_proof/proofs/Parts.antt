@@ -111,11 +111,11 @@ some_clause c coding =
 pub clause_in_range : {N S : Type 0} (c : SolverState N S) → IsCoding c → (n : ℕ) (clause : SatClause) → slice_get c.search.clauses n ≡ Some clause → AreInRange (count_of c.search) clause.literals.items
 clause_in_range c coding n clause at l h = coding.ready.state.in_range n l (subst (λ xs. has xs l ≡ true) (sym (literals_at c.search.clauses n clause at)) h)
 
--- the step of a clause that states a rule
+-- the step of a clause that encodes a rule
 pub rule_step : {N S : Type 0} (c : SolverState N S) (n : ℕ) (x : Stated N S) (r : ProofRule N S) → n < length c.search.clauses → stated_at c.stated.items n ≡ Some x → IsTold x (Some r) → IsStepAt c n (Rule r)
 rule_step c n x r below states told = let (clause, at) = get_below c.search.clauses n below in record { stated = x; clause = clause; states = states; stands = at; writes = inl (r, refl, told) }
 
--- the step of a clause behind the root's that states none
+-- the step of a clause after the root's that encodes none
 pub learnt_step : {N S : Type 0} (c : SolverState N S) → IsCoding c → (n : ℕ) (x : Stated N S) (clause : SatClause) (step : ProofStep N S) → 0 < n → stated_at c.stated.items n ≡ Some x → slice_get c.search.clauses n ≡ Some clause → IsTold x None
     → IsDerivation c.atoms.keys clause.literals.items clause.causes.items step → IsStepAt c n step
 learnt_step {N} {S} c coding n x clause step behind states at told d = record { stated = x; clause = clause; states = states; stands = at; writes = inr (go x states told, d) }

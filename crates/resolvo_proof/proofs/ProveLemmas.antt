@@ -116,7 +116,7 @@ pub map_none : {X Y : Type 0} (f : X → Y) (xs : List X) → map f xs ≡ [] �
 map_none f [] h = refl
 map_none f (x ∷ xs) h = absurd cc
 
--- the rule that a step states is the clause's, under some condition
+-- the rule of a step is the clause's, under some condition
 told_rule : {N S : Type 0} (x : Stated N S) (r : ProofRule N S) → IsTold x (Some r) → (condition : Option ConditionId) × (rule_of x ≡ Some (rule_under condition r))
 told_rule Says.Root r h = absurd cc
 told_rule (Says.Needs parent need case) r (copy, e, same) = (need.condition, ap (λ vs. Some (Encoder.Rule.needs parent need vs)) (sym same) ∙ sym (ap (λ y. Some (rule_under need.condition y)) (some_is r (Needs parent need.requirement copy) e)))

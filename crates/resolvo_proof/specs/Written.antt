@@ -34,7 +34,7 @@ abbrev pub places : List ClauseId → List ℕ
 places [] = []
 places (c ∷ cs) = with_place c.0 (places cs)
 
--- the rule is the one that is stated; the root's clause and a learnt one state none
+-- the rule that is written for a kind; the root's clause and a learnt one have none
 abbrev pub IsTold : {N S : Type 0} → Stated N S → Option (ProofRule N S) → Type 0
 IsTold Says.Root told = told ≡ None
 IsTold (Says.Needs parent need case) told = (copy : Vec VersionSetId Global) × (told ≡ Some (Needs parent need.requirement copy)) × (copy.items ≡ case.items)
@@ -57,7 +57,7 @@ pub record IsDerivation {N S : Type 0} (atoms : List (ProofAtom N S)) (spelled :
   pub means : map literal_in literals.items ≡ meanings (origin atoms) spelled
   pub read : causes.items ≡ places from
 
--- the step states the rule that the clause states, or is derived as the clause was
+-- the step is the rule that the clause encodes, or is derived as the clause was
 abbrev pub IsStepOf : {N S : Type 0} → List (ProofAtom N S) → Stated N S → SatClause → ProofStep N S → Type 0
 IsStepOf {N} {S} atoms stated clause step = ((r : ProofRule N S) × (step ≡ Rule r) × IsTold stated (Some r)) ⊎ ((stated ≡ Says.Learnt) × IsDerivation atoms clause.literals.items clause.causes.items step)
 

@@ -19,7 +19,7 @@ use Rattle.resolvo_sat.specs.Propagation.{IsGuard, Guards, GuardsTo, NotesGuard}
 use Rattle.resolvo_sat.proofs.Trails.{same_or_negated, known_from_stands, stands_from_known, consistent}
 use Rattle.resolvo_sat.proofs.Values.{undecided_none}
 
--- a guard stays one where entries come, and where the guards' level rises
+-- a guard stays one where entries are added, and where the guards' level rises
 pub guard_more : (g h k : ℕ) (all more : List Entry) (l : Signed) → g ≤ h → ((j : ℕ) → StandsAt all l j → StandsAt more l j) → IsGuard g k all l → IsGuard h k more l
 guard_more g h k all more l le inside (j, low, stands) = (j, omega arith, inside j stands)
 

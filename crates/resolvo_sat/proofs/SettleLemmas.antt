@@ -38,7 +38,7 @@ guards_free s clause p best free = record {
   second = λ k f. absurd (both_ways _ free (known_from_stands (history s) (negation p.second) k f));
 }
 
--- the first is true, and its level was noted
+-- the first is true, and its level was recorded
 pub first_set : (n : ℕ) (p : WatchedLiterals) (s u t : SatState) → Extends s u → u.front ≡ s.front → has (made_true (history u)) p.first ≡ true → NotesGuard p.second p.first u t → IsFirstSet n p s t true
 first_set n p s u t e front known noted = (noted_extends s u t p.second p.first e noted, ap (λ (x : SatState). x.front) noted.same ∙ front, guards_noted u t p e.state known noted)
 

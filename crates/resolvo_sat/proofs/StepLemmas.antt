@@ -27,7 +27,7 @@ rooted_push : (e : Entry) (h : List Entry) → IsRooted h → IsRooted (e ∷ h)
 rooted_push e [] r = absurd r
 rooted_push e (d ∷ older) r = r
 
--- an entry that may follow comes to the trail's end
+-- an entry that may follow is appended to the trail
 pub state_pushed : (s : SatState) (t : Store.Tracked) (e : Entry) → IsState s → Follows (count_of s) (clauses_of s) e (history s) → t.trail ≡ s.tracker.trail ++ e ∷ [] → IsState (record s { tracker = t })
 state_pushed s t e state follows pushed =
     let newest : reverse t.trail ≡ e ∷ history s = ap reverse pushed ∙ reverse_push s.tracker.trail e in

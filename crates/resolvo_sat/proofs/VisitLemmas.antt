@@ -128,7 +128,7 @@ pub visiting_keeps : (k : ℕ) (l : Signed) (place : ℕ) (c : ClauseId) (p : Wa
     → Keeps l p s t w x → IsVisiting k l (place + 1) o t v x
 visiting_keeps k l place c p o s t v w x propagate_literal at is keeps = subst (IsVisiting k l (place + 1) o t v) (sym keeps.same_watching) (keeps_here k l place c p o s t v w propagate_literal at is keeps.extends keeps.front keeps.guard)
 
--- the other one of the two is true, and its level was noted
+-- the other one of the two is true, and its level was recorded
 pub keeps_noted : (l m : Signed) (p : WatchedLiterals) (s u t : SatState) (w : WatchLists) → m ≡ other_of p l → Extends s u → u.front ≡ s.front → NotesGuard l m u t → Keeps l p s t w w
 keeps_noted l m p s u t w is e front noted =
     let same : history t ≡ history u = ap history noted.same in

@@ -23,7 +23,7 @@ abbrev pub HasAnother : List Signed → Signed → Bool → Type 0
 HasAnother clause l true = HasTwo clause
 HasAnother clause l false = IsOnly clause l
 
--- the clause of the next number watches nothing: it waits, or is noted as a rule or a learnt clause of one literal
+-- the clause of the next number watches nothing: it is pending, or listed as a unit clause, a rule or a learnt one
 pub record Begins (x : UnitClause) (is_long is_rule : Bool) (old new : WatchLists) : Type 0 where
   pub watched : new.watched.items ≡ old.watched.items ++ None ∷ []
   pub watches : new.watches ≡ old.watches

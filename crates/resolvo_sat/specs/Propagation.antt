@@ -85,11 +85,11 @@ pub record IsReady (s : SatState) (w : WatchLists) : Type 0 where
   pub front : s.front ≤ length s.tracker.trail
   pub walked : IsWalkedTo s.front s w
 
--- the clause is noted as one of one literal
+-- the clause is listed as a unit clause
 abbrev pub IsNoted : ℕ → WatchLists → Type 0
 IsNoted n w = (x : UnitClause) × (x.clause.0 ≡ n) × (HasSingle w.assertions.items x ⊎ HasSingle w.learnt.items x)
 
--- a clause that watches nothing is the root's, which is the first, or is noted as a unit clause, or is pending
+-- a clause that watches nothing is the root's, which is the first, or is listed as a unit clause, or is pending
 pub record AreCovered (s : SatState) (w : WatchLists) : Type 0 where
   pub assertions : AreSingles (clauses_of s) w.assertions.items
   pub learnt : AreSingles (clauses_of s) w.learnt.items

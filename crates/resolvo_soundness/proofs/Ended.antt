@@ -148,7 +148,7 @@ module _ {N S : Type 0} (same : S → S → Bool) (exact : IsExact same) (same_n
       let f : bit ≡ other = eqb-true bit other parts.1 in
       sym (λ i. Atom.digit (e i) (f i))
 
-  -- a digit that the trail tells is the one that is read from it
+  -- a digit that is true on the trail is the one that is read from it
   digit_given : (n : N) (bit : ℕ) (b : Bool) (l : Literal (Atom N S)) → l ≡ record { atom = Atom.digit n bit; positive = b } → Contains known l → digits_in same_name known n bit ≡ b
   digit_given n bit true l is a =
       contained_any (λ (m : Literal (Atom N S)). is_digit same_name n bit m.atom && m.positive) l known a

@@ -39,7 +39,7 @@ place_of_held (d ∷ cs) c h = elim (contains_cases c d cs h) [
   | inr a ↦ let (n, below, e) = place_of_held cs c a in (suc n, omega arith, e)
 ]
 
--- a literal of a clause is in one of the old clauses, or in one of those that came
+-- a literal of a clause is in one of the old clauses, or in a new one
 has_in_more : (xs ys : List (List Signed)) (n : ℕ) (l : Signed) → has (clause_at (xs ++ ys) n) l ≡ true → (has (clause_at xs n) l ≡ true) ⊎ ((k : ℕ) × (has (clause_at ys k) l ≡ true))
 has_in_more [] ys n l h = inr (n, h)
 has_in_more (x ∷ xs) ys zero l h = inl h
@@ -90,7 +90,7 @@ module _ {N S : Type 0} (origin other : ℕ → Atom N S) (count : ℕ) (agree :
           ap (λ (m : Literal (Atom N S)). cond (x.variable.0 == 0) (meanings origin xs) (m ∷ meanings origin xs)) (meaning_agrees x (omega arith) (omega arith))
           ∙ ap (λ (ms : List (Literal (Atom N S))). cond (x.variable.0 == 0) ms (meaning other x ∷ ms)) rest
 
-  -- what choices were called for stands
+  -- a reason for a choice remains one
   pub called_grows : (choice wider : List (Literal (Atom N S)) → Literal (Atom N S) → Type 0) (cs : List (List Signed)) (h : List Entry) → IsTrail count cs h
       → ((known : List (Literal (Atom N S))) (l : Literal (Atom N S)) → choice known l → wider known l) → AreCalledFor origin choice h → AreCalledFor other wider h
   called_grows choice wider cs h t f called e older stands is a =
@@ -99,14 +99,14 @@ module _ {N S : Type 0} (origin other : ℕ → Atom N S) (count : ℕ) (agree :
       subst (λ m. wider (known_of other older) m) (meaning_agrees (literal_of e) a part.0.in_range)
       (subst (λ k. wider k (meaning origin (literal_of e))) (meanings_agree (made_true older) (λ l h. known_in_range count cs older l part.1 h)) now)
 
-  -- what a clause spells stands
+  -- a clause that spells a rule still does
   pub spells_agree : (clause : List Signed) (literals : List (Literal (Atom N S))) → ((l : Signed) → has clause l ≡ true → l.variable.0 < count) → Spells origin clause literals → Spells other clause literals
   spells_agree clause literals below s = record {
     only = λ l h. elim (s.only l h) [ inl e ↦ inl e | inr (a, c) ↦ inr (a, subst (Contains literals) (meaning_agrees l a (below l h)) c) ];
     each = λ m c. (let (l, h, (a, e)) = s.each m c in (l, h, (a, e ∙ meaning_agrees l a (below l h))));
   }
 
-  -- Clauses, rules, variables and registered solvables came, and leave all coded.
+  -- Clauses, rules, variables and registered solvables were added, and all is still coded.
   pub coded_grows : (same : S → S → Bool) (p : Packages N S) (rules more : Rule N S → Type 0) (registered wider : S → Type 0) (larger : ℕ) (cs ds : List SatClause)
       → IsOnce other larger → ((r : Rule N S) → rules r → more r) → ((s : S) → registered s → wider s)
       → ((n : ℕ) (l : Signed) → has (clause_at (lists (cs ++ ds)) n) l ≡ true → l.variable.0 < larger) → AreDerived (reverse (cs ++ ds))
@@ -159,7 +159,7 @@ coded_learnt origin same p rules registered count cs c caused from derived coded
       | inr (k, a) ↦ let (j, b) = from l (here k l a) in coded.in_range j l b
     ]
 
--- At its start the search has the root's clause alone, and no rule is stated.
+-- At its start the search has the root's clause alone, and no clause encodes a rule.
 pub coded_begins : {N S : Type 0} (origin : ℕ → Atom N S) (same : S → S → Bool) (p : Packages N S) (registered : S → Type 0) (cs : List SatClause) → IsRootClause cs → AreCoded origin same p (λ r. ⊥) registered 1 cs
 coded_begins origin same p registered [] h = absurd h
 coded_begins origin same p registered (c ∷ d ∷ cs) h = absurd h

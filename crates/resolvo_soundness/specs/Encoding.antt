@@ -42,7 +42,7 @@ pub data Bar (S : Type 0) : Type 0 where
   lock : S → Bar S
   word : StringId → Bar S
 
--- What a clause states. A parent is a solvable, or None for the root.
+-- The rule that a clause encodes. A parent is a solvable, or None for the root.
 -- needs: for this case of its condition, the parent's requirement has a chosen match
 -- gated: the solvable opens the gate of its requirement, which has no condition
 -- shared: an open gate's requirement has a chosen match
@@ -110,7 +110,7 @@ module _ {N S : Type 0} (same : S → S → Bool) (p : Packages N S) where
   candidate_literals [] = []
   candidate_literals (v ∷ vs) = solvables (filter (p.matches v) (listed (p.candidates_of (p.set_package v)))) ++ candidate_literals vs
 
-  -- the clause that states the rule
+  -- the clause that encodes the rule
   abbrev pub literals_of : Rule N S → List (Literal (Atom N S))
   literals_of (Rule.needs parent need vs) = parent_literals parent ++ (case_literals vs ++ candidate_literals (alternatives_of p.members_of need.requirement))
   literals_of (Rule.gated s r) = minus (Atom.solvable s) ∷ plus (Atom.gate r) ∷ []

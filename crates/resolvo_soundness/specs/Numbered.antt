@@ -55,7 +55,7 @@ module _ {N S : Type 0} (origin : ℕ → Atom N S) where
   Denies same p list clause = (l : Signed) → has clause l ≡ true → (l ≡ no root_variable) ⊎ ((s : S) × Means l (minus (Atom.solvable s)) × (is_in same p list s ≡ true))
 
   module _ (same : S → S → Bool) (p : Packages N S) (rules : Rule N S → Type 0) where
-    -- the clause has causes from which it follows, is the root's unit clause, or states a rule
+    -- the clause has causes from which it follows, is the root's unit clause, or encodes a rule
     abbrev pub IsAccounted : SatClause → Type 0
     IsAccounted c = (0 < length c.causes.items) ⊎ ((has c.literals.items (yes root_variable) ≡ true) ⊎ ((r : Rule N S) × rules r × Spells c.literals.items (literals_of same p r)))
 
@@ -63,7 +63,7 @@ module _ {N S : Type 0} (origin : ℕ → Atom N S) where
     pub record AreCoded (registered : S → Type 0) (count : ℕ) (clauses : List SatClause) : Type 0 where
       pub once : IsOnce count
       pub in_range : (n : ℕ) (l : Signed) → has (clause_at (lists clauses) n) l ≡ true → l.variable.0 < count
-      -- each clause is accounted for, and each rule stated
+      -- each clause is accounted for, and each rule encoded
       pub derived : AreDerived (reverse clauses)
       pub accounted : (c : SatClause) → Contains clauses c → IsAccounted c
       pub stated : (r : Rule N S) → rules r → (n : ℕ) × (n < length clauses) × Spells (clause_at (lists clauses) n) (literals_of same p r)

@@ -29,7 +29,7 @@ IsTrueParent known (Some s) = Contains known (plus (Atom.solvable s))
 abbrev pub AreTold : {N S : Type 0} → (Rule N S → Type 0) → S → S → Type 0
 AreTold rules s t = (bit : ℕ) × (b : Bool) × rules (Rule.has_digit s bit b) × rules (Rule.has_digit t bit (not b))
 
--- `rules` are those that clauses state, `registered` the solvables whose digits have clauses
+-- `rules` are those that clauses encode, `registered` the solvables whose digits have clauses
 module _ {N S : Type 0} (same : S → S → Bool) (p : Packages N S) (rules : Rule N S → Type 0) where
   -- the clause of a need asks for a match of the requirement: its parent is chosen, and its condition's literals are false
   pub record IsAskedByNeed (known : List (Literal (Atom N S))) (r : Requirement) : Type 0 where

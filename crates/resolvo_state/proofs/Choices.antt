@@ -53,7 +53,7 @@ module _ {N S : Type 0} where
   choices_once atoms count clauses [] once t = once_none (choices atoms (reverse [])) refl
   choices_once atoms count clauses (e ∷ older) once (follows, t) = once_then atoms count clauses e older once follows (choices_once atoms count clauses older once t)
 
-  -- atoms that come behind the others leave what a variable represents as it is
+  -- appended atoms don't change the solvable of a variable
   solvable_kept : (atoms more : List (ProofAtom N S)) (n : ℕ) → n < suc (length atoms) → IsFrontOf atoms more → solvable_of more n ≡ solvable_of atoms n
   solvable_kept atoms more zero low front = refl
   solvable_kept atoms more (suc k) low front = let (x, at) = get_below atoms k (omega arith) in ap solvable_in (front_get atoms more k x front at ∙ sym at)

@@ -148,7 +148,7 @@ pub solvable_means : {N S : Type 0} (atoms : List (ProofAtom N S)) (l : Signed) 
 solvable_means {N} {S} atoms l s positive stands =
     subst (λ b. Means (origin atoms) l (let m : Literal (Atom N S) = record { atom = Atom.solvable s; positive = b } in m)) positive (means_atom atoms l (Solvable s) stands)
 
--- atoms that come behind leave the others where they are
+-- appended atoms leave the others at their places
 pub origin_front : {N S : Type 0} (atoms more : List (ProofAtom N S)) (n : ℕ) → IsFrontOf atoms more → 0 < n → n < suc (length atoms) → origin atoms n ≡ origin more n
 origin_front atoms more n f a b =
     let (k, x, e, at) = stands_some atoms n a b in

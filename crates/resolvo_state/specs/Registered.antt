@@ -130,7 +130,7 @@ pub record IsTie {N S : Type 0} (name : N) (atoms : List (ProofAtom N S)) (place
   pub tells : StandsFor atoms tie.1 (Bit name bit)
   pub value : tie.2 ≡ digit place bit
 
--- the clause of this number states the tie
+-- the clause of this number encodes the tie
 pub record StatesTie {N S : Type 0} (name : N) (place : ℕ) (tie : VariableId × VariableId × Bool) (c : SolverState N S) (n : ℕ) : Type 0 where
   pub is : IsTie name c.atoms.keys place tie
   pub stated : stated_at c.stated.items n ≡ Some (Digit name is.solvable place is.bit)

@@ -100,7 +100,7 @@ pub record Bars {N S : Type 0} (denies : List Signed) (by : List ClauseId) (id :
   pub grows : Grows old new
   pub trail : SameTrail old new
 
--- what a step adds to what is stated
+-- the kinds that a step adds
 abbrev pub learnt_by : {N S : Type 0} → StepResult → List (Stated N S)
 learnt_by StepResult.Complete = []
 learnt_by (StepResult.Learnt id) = Learnt ∷ []
