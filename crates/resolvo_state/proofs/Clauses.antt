@@ -40,7 +40,7 @@ stands_before old more m l h =
     let within : m < length (lists old) = clause_in_range (lists old) m l h in
     subst (λ (ls : List Signed). has ls l ≡ true) (sym (ap (λ (cs : List (List Signed)). clause_at cs m) (lists-append old more) ∙ clause_stays (lists old) (lists more) m within)) h
 
--- A clause and what it states came behind the others: neither is the root's, and a learnt one has causes, no literal beside
+-- A clause and its kind were appended: neither is the root's, and a learnt one has causes, no literal beside
 -- its negation, and none but those of the others.
 pub one_more : {N S : Type 0} (old new : SolverState N S) (x : Stated N S) (clause : SatClause) → IsCoding old → IsReady new.search new.watching → AreCovered new.search new.watching
     → new.atoms ≡ old.atoms → new.search.variables ≡ old.search.variables → new.search.clauses ≡ old.search.clauses ++ clause ∷ [] → new.stated.items ≡ old.stated.items ++ x ∷ []

@@ -27,7 +27,7 @@ abbrev pub digit_literals : {N S : Type 0} → N → S → ℕ → Bool → List
 digit_literals {N} {S} name s bit value = minus (Atom.solvable s) ∷ (let l : Literal (Atom N S) = record { atom = Atom.digit name bit; positive = value } in l) ∷ []
 
 -- The tracker of a package: its variables represent solvables, its helpers the digits in order, as many as distinguish the
--- places apart and fewer than 32, and a clause states each digit of each place.
+-- places apart and fewer than 32, and a clause encodes each digit of each place.
 pub record IsTied {N S : Type 0} (name : N) (t : Tracking VariableId) (c : SolverState N S) : Type 0 where
   pub solvables : (v : VariableId) → Contains t.variables v → (s : S) × StandsFor c.atoms.keys v (Solvable s)
   pub digits : (i : ℕ) (v : VariableId) → slice_get t.helpers i ≡ Some v → StandsFor c.atoms.keys v (Bit name i)
@@ -46,7 +46,7 @@ pub record IsPlaced {N S : Type 0} (r : Registry N) (c : SolverState N S) (name 
   pub stands : slice_get tracker.variables place ≡ Some variable
   pub means : StandsFor c.atoms.keys variable (Solvable s)
 
--- Each package has one tracker, and each is tied. A clause that states a digit of a place states it of the solvable there.
+-- Each package has one tracker, and each is tied. A clause that encodes a digit of a place encodes it of the solvable there.
 pub record AreTied {N S : Type 0} (r : Registry N) (c : SolverState N S) : Type 0 where
   pub each : length r.names.keys ≡ length r.trackers.items
   pub once : AreOnce r.names.keys
