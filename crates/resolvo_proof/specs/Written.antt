@@ -49,7 +49,7 @@ IsTold (Says.Digit n s place bit) told = told ≡ Some (Digit s place bit)
 IsTold (Says.IsThere n s) told = told ≡ Some (AtLeastOne n s)
 IsTold Says.Learnt told = told ≡ None
 
--- the step is derived, with what the literals mean and the places of the causes
+-- the step is derived, with the meanings of the literals and the places of the causes
 pub record IsDerivation {N S : Type 0} (atoms : List (ProofAtom N S)) (spelled : List Signed) (from : List ClauseId) (step : ProofStep N S) : Type 0 where
   pub literals : Vec (ProofLiteral N S) Global
   pub causes : Vec ℕ Global
@@ -69,12 +69,12 @@ pub record IsStepAt {N S : Type 0} (c : SolverState N S) (n : ℕ) (step : Proof
   pub stands : slice_get c.search.clauses n ≡ Some clause
   pub writes : IsStepOf c.atoms.keys stated clause step
 
--- the steps of the clauses behind the root's, in their order
+-- the steps of the clauses after the root's, in their order
 pub record AreSteps {N S : Type 0} (c : SolverState N S) (steps : List (ProofStep N S)) : Type 0 where
   pub count : length steps + 1 ≡ length c.search.clauses
   pub each : (place : ℕ) (step : ProofStep N S) → slice_get steps place ≡ Some step → IsStepAt c (suc place) step
 
--- the steps of a coding's clauses, and the refusal's behind them
+-- the steps of a coding's clauses, and the refusal's after them
 pub record AreStepsThen {N S : Type 0} (c : SolverState N S) (spelled : List Signed) (from : List ClauseId) (steps : List (ProofStep N S)) : Type 0 where
   pub earlier : List (ProofStep N S)
   pub final : ProofStep N S

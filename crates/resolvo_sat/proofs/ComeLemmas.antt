@@ -211,7 +211,7 @@ clause_comes c id literal is_long is_rule s t v w ready covers another adds begu
     pair : (n : ℕ) → pair_at w.watched.items n ≡ pair_at v.watched.items n
     pair n = ap (λ (ps : List (Option WatchedLiterals)). pair_at ps n) begun.watched ∙ none_more v.watched.items n
 
-    -- what waits waited before, or is the clause that was added
+    -- a pending clause was pending before, or is the new one
     waits : (n : ℕ) → Waits n w → (Waits n v) ⊎ ((is_long ≡ true) × (n ≡ id.0))
     waits n h = waits_cases n is_long id v.waiting.items (subst (λ (cs : List ClauseId). 0 < count n cs) begun.waiting h)
 

@@ -1,4 +1,4 @@
--- More rules, clauses and variables leave standing what holds.
+-- More rules, clauses and variables keep the invariant.
 use Rattle.std.proofs.Common.{◌≡◌, ℕ, zero, suc, ◌+◌, ◌<◌, ◌⊎◌, inl, inr, Bool, true, false, ◌==◌, List, [], ◌∷◌, ◌++◌, length, reverse, cond, refl, sym, ◌∙◌, ap, subst, arith}
 use Rattle.std.specs.Prelude.{Contains}
 use Rattle.std.proofs.lemmas.Bool.{both_ways}
@@ -25,7 +25,7 @@ use Rattle.resolvo_soundness.specs.First.{IsFirstPick}
 use Rattle.resolvo_soundness.specs.Numbered.{meaning, Means, meanings, known_of, IsOnce, Spells, AreCalledFor, IsAccounted, AreCoded}
 use Rattle.resolvo_soundness.proofs.Lists.{contains_none, contains_cases, contains_one, contains_parts}
 
--- an entry of a trail, with what is before it, is one
+-- an entry of a trail, with those before it, is a trail
 stands_trail : (count : ℕ) (cs : List (List Signed)) (h : List Entry) (e : Entry) (older : List Entry) → IsTrail count cs h → StandsOn h e older → IsTrail count cs (e ∷ older)
 stands_trail count cs [] e older t s = absurd s
 stands_trail count cs (d ∷ rest) e older t (inl (same, before)) = subst (λ (xs : List Entry). IsTrail count cs (e ∷ xs)) before (subst (λ (x : Entry). IsTrail count cs (x ∷ rest)) same t)
@@ -75,7 +75,7 @@ pub called_choice : {N S : Type 0} (origin : ℕ → Atom N S) (choice : List (L
 called_choice origin choice e h now called d older (inl (same, before)) is other = subst (λ (xs : List Entry). choice (known_of origin xs) (meaning origin (literal_of d))) before (subst (λ (x : Entry). choice (known_of origin h) (meaning origin (literal_of x))) same now)
 called_choice origin choice e h now called d older (inr stands) is other = called d older stands is other
 
--- variables were added, and the first ones are for what they were
+-- variables were added, and the first ones represent the same atoms
 module _ {N S : Type 0} (origin other : ℕ → Atom N S) (count : ℕ) (agree : (n : ℕ) → 0 < n → n < count → origin n ≡ other n) where
   meaning_agrees : (l : Signed) → 0 < l.variable.0 → l.variable.0 < count → meaning origin l ≡ meaning other l
   meaning_agrees l a b = ap (λ (x : Atom N S). let m : Literal (Atom N S) = record { atom = x; positive = l.positive } in m) (agree l.variable.0 a b)

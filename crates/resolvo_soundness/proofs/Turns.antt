@@ -50,15 +50,16 @@ module _ {N S : Type 0} (same : S → S → Bool) (exact : IsExact same) (same_n
       known : (s : S) → is_in same p members s ≡ true → Contains (known_of origin h) (plus (Atom.solvable s))
       known s c = let (l, a, (o, e)) = t.true_on_trail s c in subst (Contains (known_of origin h)) (sym e) (meaning_stands origin (made_true h) l a o)
 
-  -- An accepted turn's members keep all rules, but for exempt wishes, and are their reached part.
+  -- An accepted turn's members keep all rules, except exempt soft requirements, and are their
+  -- reached part.
   pub turn_accepted : (wishes : List S) (count : ℕ) (clauses : List SatClause) (h : List Entry) (members : List S) → IsTurnEnd origin same p rules root registered wishes count clauses h members → Ending.IsAccepted same p root wishes members
   turn_accepted wishes count clauses h members t = turn_is_right same exact same_name names p root rules registered wishes (known_of origin h) members (end_meaning wishes count clauses h members t)
 
-  -- Without wishes they keep all rules.
+  -- Without soft requirements they keep all rules.
   pub turn_keeps_rules : (count : ℕ) (clauses : List SatClause) (h : List Entry) (members : List S) → IsTurnEnd origin same p rules root registered [] count clauses h members → IsRuleKeeping same p root members
   turn_keeps_rules count clauses h members t = keeping_without_wishes same exact p root members (turn_accepted [] count clauses h members t).keeping
 
-  -- Without wishes, and where each choice took the first candidate that was not false, they were chosen in the order in
+  -- Without soft requirements, and where each choice took the first candidate that was not false, they were chosen in the order in
   -- which they are tried.
   pub turn_prefers : (orders : Requirement → List S → Type 0) (bits : S → ℕ → Bool) (count : ℕ) (clauses : List SatClause) (h : List Entry) (members : List S)
       → IsTurnEnd origin same p rules root registered [] count clauses h members → AreCalledFor origin (IsFirstPick same p orders rules) h → AgreeWith rules bits → ArePreferred same p orders root members

@@ -1,4 +1,4 @@
--- Clauses and trails over numbered variables, and what their literals mean.
+-- Clauses and trails over numbered variables, and the meanings of their literals.
 use Rattle.std.specs.Prelude.{◌≡◌, ℕ, zero, suc, ◌<◌, ◌==◌, ◌⊎◌, Bool, true, List, [], ◌∷◌, length, reverse, cond, Contains}
 use Rattle.resolvo_pool_core.specs.declared.requirement.Requirement.{Requirement}
 use Rattle.resolvo_pool_core.specs.OnePass.{Literal}
@@ -14,7 +14,7 @@ use Rattle.resolvo_sat.specs.State.{lists, AreDerived}
 use Rattle.resolvo_soundness.specs.Encoding.{Atom, Rule, plus, minus, literals_of}
 use Rattle.resolvo_soundness.specs.SearchEnd as Ending
 
--- `origin` gives what each variable was made for; the root's variable, number 0, has no atom
+-- `origin` gives the atom that each variable represents; the root's variable, number 0, has none
 module _ {N S : Type 0} (origin : ℕ → Atom N S) where
   abbrev pub meaning : Signed → Literal (Atom N S)
   meaning l = record { atom = origin l.variable.0; positive = l.positive }
@@ -23,12 +23,12 @@ module _ {N S : Type 0} (origin : ℕ → Atom N S) where
   abbrev pub Means : Signed → Literal (Atom N S) → Type 0
   Means l m = (0 < l.variable.0) × (m ≡ meaning l)
 
-  -- what the literals mean, but for those of the root
+  -- the meanings of the literals, except the root's
   abbrev pub meanings : List Signed → List (Literal (Atom N S))
   meanings [] = []
   meanings (l ∷ ls) = cond (l.variable.0 == 0) (meanings ls) (meaning l ∷ meanings ls)
 
-  -- what a trail, newest first, makes true
+  -- the meanings of the true literals of a trail, newest first
   abbrev pub known_of : List Entry → List (Literal (Atom N S))
   known_of h = meanings (made_true h)
 
@@ -46,7 +46,7 @@ module _ {N S : Type 0} (origin : ℕ → Atom N S) where
     pub only : (l : Signed) → has clause l ≡ true → (l ≡ no root_variable) ⊎ ((0 < l.variable.0) × Contains literals (meaning l))
     pub each : (m : Literal (Atom N S)) → Contains literals m → (l : Signed) × (has clause l ≡ true) × Means l m
 
-  -- each decision, but the root's, has its reason in what was known before
+  -- each decision, except the root's, has its reason in the literals known before
   abbrev pub AreCalledFor : (List (Literal (Atom N S)) → Literal (Atom N S) → Type 0) → List Entry → Type 0
   AreCalledFor choice h = (e : Entry) (older : List Entry) → StandsOn h e older → IsChoice e older → 0 < e.decision.variable.0 → choice (known_of older) (meaning (literal_of e))
 

@@ -112,7 +112,7 @@ module _ {N S : Type 0} (atoms : List (ProofAtom N S)) where
       step true value None of = skip (helper_none e of) (helper_choice e of)
       step true value (Some s) of = chosen_more e (made_true older) before (choices atoms (reverse (e ∷ older))) s value of (is (Some s) (makes_choice e s value of)) c
 
-  -- what the entries of a trail choose, in their order, is what its literals choose
+  -- the choices of a trail's entries, in their order, are those of its literals
   pub choices_chosen : (history : List Entry) → AreChosen atoms (made_true history) (choices atoms (reverse history))
   choices_chosen [] = chosen_none [] refl
   choices_chosen (e ∷ older) = chosen_then e older (choices_chosen older)

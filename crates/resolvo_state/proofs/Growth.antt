@@ -66,7 +66,7 @@ stands_once c u v a coding f g = one_variable c.atoms.keys u v a coding.distinct
 pub rules_grow : {N S : Type 0} (old new : SolverState N S) → Grows old new → (r : Rule N S) → rules_in old.stated.items r → rules_in new.stated.items r
 rules_grow old new grows r h = rules_front old.stated.items new.stated.items r grows.stated h
 
--- what is barred goes on to be
+-- a forbidden solvable stays forbidden
 pub bar_grows : {N S : Type 0} (old new : SolverState N S) → Grows old new → (s : S) → HasBar (rules_in old.stated.items) s → HasBar (rules_in new.stated.items) s
 bar_grows old new grows s (w, h) = (w, rules_grow old new grows (Rule.bars w s) h)
 
@@ -107,7 +107,7 @@ clause_grows old new grows n below =
     let long : length (lists old.search.clauses) ≡ length old.search.clauses = length-lists old.search.clauses in
     ap (λ (cs : List SatClause). clause_at (lists cs) n) e ∙ ap (λ (ls : List (List Signed)). clause_at ls n) (lists-append old.search.clauses more) ∙ clause_stays (lists old.search.clauses) (lists more) n (omega arith)
 
--- the old variables represent what they did
+-- the old variables represent the same atoms
 pub origin_grows : {N S : Type 0} (old new : SolverState N S) → IsCoding old → Grows old new → (n : ℕ) → 0 < n → n < count_of old.search → origin old.atoms.keys n ≡ origin new.atoms.keys n
 origin_grows old new coding grows n a b = let c : count_of old.search ≡ suc (length old.atoms.keys) = count_is old coding in origin_front old.atoms.keys new.atoms.keys n grows.atoms a (omega arith)
 
@@ -199,7 +199,8 @@ no_rule (Digit n s place bit) h = absurd cc
 no_rule (IsThere n s) h = absurd cc
 no_rule Learnt h = inr refl
 
--- Each clause that encodes a rule has its literals, and makes registered solvables true alone: then all is coded.
+-- Each clause that encodes a rule has its literals, and makes registered solvables true alone: then
+-- all is coded.
 pub coding_coded : {N S : Type 0} (same : S → S → Bool) (p : Packages N S) (registered : S → Type 0) (c : SolverState N S) → IsCoding c → Spelled same p c → AreRegistered registered c
     → AreCoded (origin c.atoms.keys) same p (rules_in c.stated.items) registered (count_of c.search) c.search.clauses
 coding_coded {N} {S} same p registered c coding spelled positive = record {

@@ -1,4 +1,4 @@
--- Lemmas on what variables represent.
+-- Lemmas on the atoms that variables represent.
 use Rattle.std.proofs.Common.{◌≡◌, ℕ, zero, suc, ◌<◌, true, List, [], ◌∷◌, length, map, Option, Some, None, refl, sym, ◌∙◌, ap, subst, arith}
 use Rattle.std.specs.Prelude.{slice_get}
 use Rattle.std.proofs.lemmas.Option.{slice_get_within}
@@ -51,7 +51,7 @@ atom_at_place [] k a h = absurd cc
 atom_at_place (b ∷ atoms) zero a h = let e : b ≡ a = cc in ap atom_of e
 atom_at_place (b ∷ atoms) (suc k) a h = atom_at_place atoms k a h
 
--- what a variable was made for is the atom that it represents
+-- a variable's origin is the atom that it represents
 pub origin_stands : {N S : Type 0} (atoms : List (ProofAtom N S)) (v : VariableId) (a : ProofAtom N S) → StandsFor atoms v a → origin atoms v.0 ≡ atom_of a
 origin_stands atoms v a (k, e, at) = ap (origin atoms) e ∙ atom_at_place atoms k a at
 

@@ -95,7 +95,7 @@ get_set_other (x ∷ xs) zero (suc k) y other = refl
 get_set_other (x ∷ xs) (suc i) zero y other = refl
 get_set_other (x ∷ xs) (suc i) (suc k) y other = get_set_other xs i k y (λ e. other (ap suc e))
 
--- an item of two lists, one behind the other
+-- an item of two lists, appended one to the other
 pub get_parts : {X : Type 0} (xs ys : List X) (i : ℕ) (x : X) → slice_get (xs ++ ys) i ≡ Some x → (slice_get xs i ≡ Some x) ⊎ ((j : ℕ) × (i ≡ length xs + j) × (slice_get ys j ≡ Some x))
 get_parts [] ys i x h = inr (i, omega arith, h)
 get_parts (z ∷ xs) ys zero x h = inl h

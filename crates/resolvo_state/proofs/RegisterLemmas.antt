@@ -437,7 +437,8 @@ module _ {N S : Type 0} (name : N) (s : S) (v : VariableId) (r : Registry N) (ol
         inr (n, cc)
   ]
 
--- A clause that encodes a digit spells its rule, where the package's registered solvables are the package's.
+-- A clause that encodes a digit spells its rule, where the package's registered solvables are the
+-- package's.
 pub digit_spelled : {N S : Type 0} (same : S → S → Bool) (p : Packages N S) (r : Registry N) (c : SolverState N S) (name : N) (n : ℕ) (rule : Rule N S) → ((s : S) → IsRegistered r c name s → p.package_of s ≡ name)
     → IsDigitClause r c name n → rule_at c.stated.items n ≡ Some rule → Spells (origin c.atoms.keys) (clause_at (clauses_of c.search) n) (literals_of same p rule)
 digit_spelled {N} {S} same p r c name n rule own d h =

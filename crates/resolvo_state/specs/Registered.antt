@@ -1,4 +1,4 @@
--- Which solvables of each package are registered, and what ties them to the digits of their places.
+-- The registered solvables of each package, and their ties to the digits of their places.
 use Rattle.std.specs.Prelude.{◌≡◌, ℕ, ◌+◌, ◌^◌, ◌==◌, ◌<◌, ◌≤◌, ◌⊎◌, Bool, min, List, [], ◌∷◌, length, slice_get, Option, Some, None, Contains}
 use Rattle.resolvo_pool_core.specs.declared.id.VariableId.{VariableId}
 use Rattle.resolvo_pool_core.specs.OnePass.{Literal}
@@ -46,7 +46,8 @@ pub record IsPlaced {N S : Type 0} (r : Registry N) (c : SolverState N S) (name 
   pub stands : slice_get tracker.variables place ≡ Some variable
   pub means : StandsFor c.atoms.keys variable (Solvable s)
 
--- Each package has one tracker, and each is tied. A clause that encodes a digit of a place encodes it of the solvable there.
+-- Each package has one tracker, and each is tied. A clause that encodes a digit of a place encodes
+-- it of the solvable there.
 pub record AreTied {N S : Type 0} (r : Registry N) (c : SolverState N S) : Type 0 where
   pub each : length r.names.keys ≡ length r.trackers.items
   pub once : AreOnce r.names.keys
@@ -93,7 +94,7 @@ pub record Registers {N S : Type 0} (name : N) (s : S) (v : VariableId) (r : Reg
   pub digits : (n : ℕ) → length old.search.clauses ≤ n → n < length new.search.clauses → IsDigitClause t new name n
   pub same : IsRegistered r old name s → new ≡ old
 
--- the place is the package's; a new one was added behind the others, with nothing tracked
+-- the place is the package's; a new one was appended, with nothing tracked
 pub record PlacesName {N : Type 0} (name : N) (place : ℕ) (old new : Registry N) : Type 0 where
   pub names : IsFrontOf old.names.keys new.names.keys
   pub trackers : IsFrontOf old.trackers.items new.trackers.items
