@@ -119,7 +119,7 @@ module _ {N S : Type 0} (origin other : ℕ → Atom N S) (count : ℕ) (agree :
     in_range = in_range;
     derived = derived;
     accounted = λ c h. elim (contains_parts c cs ds h) [ inl a ↦ old c a (coded.accounted c a) | inr a ↦ accounted c a ];
-    stated = λ r h. elim (stated r h) [ inl a ↦ kept r (coded.stated r a) | inr a ↦ a ];
+    spelled = λ r h. elim (stated r h) [ inl a ↦ kept r (coded.spelled r a) | inr a ↦ a ];
     positive = λ n l s h m. elim (has_in_more (lists cs) (lists ds) n l (subst (λ (xs : List (List Signed)). has (clause_at xs n) l ≡ true) (lists-append cs ds) h)) [
       | inl a ↦ registers s (coded.positive n l s a (m.0, m.1 ∙ sym (meaning_agrees l m.0 (coded.in_range n l a))))
       | inr (k, a) ↦ positive k l s a m
@@ -168,7 +168,7 @@ coded_begins origin same p registered (c ∷ []) (is, none) = record {
   in_range = λ n l h. (let z : l.variable.0 ≡ 0 = ap (λ (x : Signed). x.variable.0) (of_root n l h) in omega arith);
   derived = ((λ some. let z : length c.causes.items ≡ 0 = ap length none in absurd (omega arith)), tt);
   accounted = λ d a. subst (IsAccounted origin same p (λ r. ⊥)) (sym (contains_one d c a)) (inr (inl (subst (λ (x : List Signed). has x (yes root_variable) ≡ true) (sym is) refl)));
-  stated = λ r f. absurd f;
+  spelled = λ r f. absurd f;
   positive = λ n l s h m. (let z : l.variable.0 ≡ 0 = ap (λ (x : Signed). x.variable.0) (of_root n l h) in let other : 0 < l.variable.0 = m.0 in absurd (omega arith));
 }
   where

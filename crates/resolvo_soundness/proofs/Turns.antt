@@ -41,7 +41,7 @@ module _ {N S : Type 0} (same : S → S → Bool) (exact : IsExact same) (same_n
     trail = trail_meaning origin same p rules registered count clauses t.coded (Ending.IsCalledFor same p rules wishes) h t.trail t.rooted t.choices;
     true_on_trail = known;
     chosen = λ s a. (let (l, b, e) = stands_meaning origin (made_true h) (plus (Atom.solvable s)) a in t.chosen l s b e);
-    quiet = λ r stands. (let (n, below, spells) = t.coded.stated r stands in quiet_meaning origin count t.coded.once (lists clauses) h (clause_at (lists clauses) n) (literals_of same p r) t.trail t.rooted (t.coded.in_range n) spells (t.quiet n below));
+    quiet = λ r stands. (let (n, below, spells) = t.coded.spelled r stands in quiet_meaning origin count t.coded.once (lists clauses) h (clause_at (lists clauses) n) (literals_of same p r) t.trail t.rooted (t.coded.in_range n) spells (t.quiet n below));
     met = λ r asked. elim (t.met r asked) [ inl none ↦ inl none | inr (s, o, c) ↦ inr (s, o, known s c) ];
     register = t.register;
     encoded = t.encoded;

@@ -66,7 +66,7 @@ module _ {N S : Type 0} (origin : ℕ → Atom N S) where
       -- each clause is accounted for, and each rule encoded
       pub derived : AreDerived (reverse clauses)
       pub accounted : (c : SatClause) → Contains clauses c → IsAccounted c
-      pub stated : (r : Rule N S) → rules r → (n : ℕ) × (n < length clauses) × Spells (clause_at (lists clauses) n) (literals_of same p r)
+      pub spelled : (r : Rule N S) → rules r → (n : ℕ) × (n < length clauses) × Spells (clause_at (lists clauses) n) (literals_of same p r)
       -- the solvables that clauses may make true are registered
       pub positive : (n : ℕ) (l : Signed) (s : S) → has (clause_at (lists clauses) n) l ≡ true → Means l (plus (Atom.solvable s)) → registered s
 

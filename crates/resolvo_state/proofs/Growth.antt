@@ -208,7 +208,7 @@ coding_coded {N} {S} same p registered c coding spelled positive = record {
   in_range = coding.ready.state.in_range;
   derived = coding.ready.state.derived;
   accounted = accounted;
-  stated = λ r (n, h). (n, rule_within c n r coding h, spelled n r h);
+  spelled = λ r (n, h). (n, rule_within c n r coding h, spelled n r h);
   positive = positive;
 }
   where
