@@ -22,7 +22,7 @@ use Rattle.resolvo_proof.specs.Steps.{literal_in, rule_under, clause_of, clause_
 use Rattle.resolvo_proof.specs.Proof.{IsRefuted, IsProof, EndsEmpty, HaveDigits, Convinces}
 use Rattle.resolvo_proof.proofs.ProveLemmas.{under_any, step_clause}
 
--- a rule that tells a digit is stated as that of a place
+-- a rule of a digit is that of a place
 digit_stated : {N S : Type 0} (condition : Option ConditionId) (x : ProofRule N S) (s : S) (bit : ℕ) (b : Bool) → Encoder.Rule.has_digit s bit b ≡ rule_under condition x → (place : ℕ) × (x ≡ Digit s place bit) × (b ≡ digit place bit)
 digit_stated condition (Needs parent q case) s bit b h = absurd cc
 digit_stated condition (GateOf t q) s bit b h = absurd cc
@@ -41,7 +41,7 @@ digit_stated condition (AtLeastOne n t) s bit b h = absurd cc
 
 module _ {N S : Type 0} (same_atom : Atom N S → Atom N S → Bool) (exact_atom : IsExact same_atom) (same : S → S → Bool) (exact : IsExact same) (same_name : N → N → Bool) (names : IsExact same_name) (p : Packages N S) (root : Rules)
     (steps : List (ProofStep N S)) (proof : IsProof same_atom same p root steps) (bits : S → ℕ → Bool) (digits : HaveDigits steps bits) (chosen : List S) (keeps : IsRuleKeeping same p root chosen) where
-  -- a rule of the provider that a step states
+  -- a rule of the provider that is a step
   abbrev Stands : Encoder.Rule N S → Type 0
   Stands r = IsRule same p root r × ((place : ℕ) × (condition : Option ConditionId) × (x : ProofRule N S) × (slice_get steps place ≡ Some (Rule x)) × (r ≡ rule_under condition x))
 
@@ -81,6 +81,6 @@ module _ {N S : Type 0} (same_atom : Atom N S → Atom N S → Bool) (exact_atom
       let t : clause_true at_set (map literal_in ends.literals.items) ≡ true = step_true (length ends.earlier) (Derived ends.literals ends.causes) at (all_true (length ends.earlier) (omega arith)) in
       false≢true (subst (λ xs. clause_true at_set (map literal_in xs) ≡ true) ends.empty t)
 
--- such a list says that no set keeps the rules
+-- such a list proves that no set keeps the rules
 pub convinces : {N S : Type 0} (steps : List (ProofStep N S)) → Convinces steps
 convinces steps same_atom exact_atom same exact same_name names p root proof ends bits digits chosen keeps = not_empty same_atom exact_atom same exact same_name names p root steps proof bits digits chosen keeps ends

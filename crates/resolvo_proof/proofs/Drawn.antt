@@ -49,7 +49,7 @@ same_literals a b x y h = cc
 opposite : (x y : Signed) → x.variable.0 ≡ y.variable.0 → y.positive ≡ not x.positive → y ≡ negation x
 opposite x y same sign = let back = sym same in λ i. record { variable = record { 0 = back i }; positive = sign i }
 
--- in what literals mean that are distinct, an atom has one sign
+-- in the meanings of distinct literals an atom has one sign
 one_sign : {N S : Type 0} (of : ℕ → Atom N S) (count : ℕ) → IsOnce of count → (literals : List Signed) → AreInRange count literals → AreApart literals → HaveOneSign (meanings of literals)
 one_sign {N} {S} of count once literals in_range apart l m a b same =
     let (x, h, (other, is)) = stands_meaning of literals l a in
@@ -68,7 +68,7 @@ one_sign {N} {S} of count once literals in_range apart l m a b same =
     go x y h k one false true e f = absurd (clash x y h k one (f ∙ sym (ap not e)))
 
 module _ {N S : Type 0} (c : SolverState N S) (coding : IsCoding c) where
-  -- a derived step of a clause says what the literals of a learnt one mean
+  -- a derived step of a clause has the meanings of a learnt one's literals
   learnt_at : (n : ℕ) (literals : Vec (ProofLiteral N S) Global) (causes : Vec ℕ Global) → (at : IsStepAt c n (Derived literals causes)) → (stated_at c.stated.items n ≡ Some Says.Learnt) × (map literal_in literals.items ≡ meanings (origin c.atoms.keys) at.clause.literals.items)
   learnt_at n literals causes at = go at.writes
     where
@@ -83,7 +83,7 @@ module _ {N S : Type 0} (c : SolverState N S) (coding : IsCoding c) where
         let (x, there) = get_below steps k (omega arith) in
         (x, there, are.each k x there)
 
-    -- what a literal of a clause means is in the clause's step, unless the literal is the root's
+    -- a literal's meaning is in the clause's step, unless the literal is the root's
     stands_in_step : (n : ℕ) (x : Signed) (m : ℕ) → m < suc n → 0 < x.variable.0 → has (clause_at (clauses_of c.search) m) x ≡ true → (k : ℕ) × (k < n) × Contains (step_at same p steps k) (meaning (origin c.atoms.keys) x)
     stands_in_step n x zero below other h = (let z : x.variable.0 ≡ 0 = coding.alone x h in absurd (omega arith))
     stands_in_step n x (suc k) below other h = elim ((spells_step same p c coding spelled steps each k (place_in_range (clauses_of c.search) (suc k) x h)).only x h) [
@@ -142,7 +142,7 @@ module _ {N S : Type 0} (c : SolverState N S) (coding : IsCoding c) where
           (one_sign (origin c.atoms.keys) (count_of c.search) (coding_once c coding) spelled (refusal_in_range c.search spelled from coding.ready.state refusal) (false_apart c.search spelled coding.ready.state (kept_false c.search spelled refusal.denies)))
     ]
 
--- what is left of steps says no more of an atom
+-- trimmed steps add no sign of an atom
 pub trimmed_signs : {N S : Type 0} {Wanted : ℕ → Type 0} (steps kept : List (ProofStep N S)) → IsTrimmedTo Wanted steps kept → HaveOneSigns steps → HaveOneSigns kept
 trimmed_signs {N} {S} {Wanted} steps kept trimmed signs n literals causes here = let (place, x, at, there, is) = stood steps kept trimmed n (Derived literals causes) here in go place x there is
   where

@@ -47,7 +47,7 @@ flags_skip xs c place old new past (same, kept, named, only) = (
   λ k h. elim (only k h) [ inl a ↦ inl a | inr (a, small) ↦ inr (contains_left k xs (c ∷ []) a, small) ],
 )
 
--- one step further to the front, which is flagged
+-- one step further back, which is flagged
 pub leads_more : {N S : Type 0} {Wanted : ℕ → Type 0} (steps : List (ProofStep N S)) (p : ℕ) (step : ProofStep N S) (old new : List Bool) → slice_get steps p ≡ Some step → IsFlagged old p → Flags (Names step) p old new → AreLeadingFrom (suc p) Wanted steps old → AreLeadingFrom p Wanted steps new
 leads_more {N} {S} steps p step old new at flagged (same, kept, marked, only) leads = record {
   count = same ∙ leads.count;

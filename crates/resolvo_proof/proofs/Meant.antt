@@ -98,7 +98,8 @@ module _ {N S : Type 0} (same : Atom N S → Atom N S → Bool) (exact : IsExact
       go l x e h (inl i) = inl (e ∙ ap said i)
       go l x e h (inr (other, a)) = inr (meaning origin x, a, subst (λ y. IsNamed y (meaning origin x)) (sym e) ((other, below x h, refl), refl))
 
-  -- The pass over the clauses of these numbers, the first of which says that the root is true, refutes where that over their steps does.
+  -- The pass over the clauses of these numbers, the first of which is true by the root, refutes
+  -- where that over their steps does.
   pass_alike : (clauses : List (List Signed)) (steps : ℕ → List (Literal (Atom N S))) → has (clause_at clauses 0) (yes root_variable) ≡ true → ((n : ℕ) → suc n < length clauses → IsSpelt (clause_at clauses (suc n)) (steps n))
       → (causes : List ClauseId) → AllBelow (length clauses) causes → (values : ℕ → Option Bool) (known : Atom N S → Option Bool) → Agrees values known → refutes nat_eq values (map said_all (named clauses causes)) ≡ refutes same known (map steps (places causes))
   pass_alike clauses steps first spelt [] below values known agree = refl

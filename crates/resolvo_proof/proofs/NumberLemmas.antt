@@ -133,7 +133,7 @@ kept_more {N} {S} steps flags done numbers kept old step leads at is number are 
     most : (place n : ℕ) → slice_get (numbers ++ length kept ∷ []) place ≡ Some n → n ≤ length (kept ++ step ∷ [])
     most place n h = (let m = (numbers_before steps flags done numbers kept are place n h).0 in let longer = length-append kept (step ∷ []) in omega (arith, m, longer))
 
-    -- the new step is behind each that has a number, and its place is none before it
+    -- the new step is after each that has a number, and its place is none before it
     last_not : (place n k : ℕ) → slice_get (numbers ++ length kept ∷ []) place ≡ Some n → k ≡ length are.from → k < n → ⊥
     last_not place n k h e less = (let m = (numbers_before steps flags done numbers kept are place n h).0 in let c : length kept ≡ length are.from = are.count in omega (arith, m, c, e, less))
 
@@ -189,7 +189,7 @@ order k zero = inr (omega arith)
 order zero (suc l) = inl (omega arith)
 order (suc k) (suc l) = elim (order k l) [ inl h ↦ inl (omega arith) | inr h ↦ inr (omega arith) ]
 
--- places that rise are told by their order
+-- rising places are determined by their order
 pub falls_back : (from : List ℕ) → ((k l a b : ℕ) → k < l → slice_get from k ≡ Some a → slice_get from l ≡ Some b → a < b) → (k l a b : ℕ) → slice_get from k ≡ Some a → slice_get from l ≡ Some b → a < b → k < l
 falls_back from rising k l a b h i less = elim (order k l) [
   | inl small ↦ small
@@ -208,7 +208,7 @@ same_place from rising k l a h i = elim (order k l) [
   ]
 ]
 
--- a renumbered step names what the old one names
+-- a renumbered step names the same causes
 renamed : {N S : Type 0} (from : List ℕ) → ((k l a b : ℕ) → k < l → slice_get from k ≡ Some a → slice_get from l ≡ Some b → a < b) → (place cause k : ℕ) (old step : ProofStep N S) → IsRenumbered from place old step → Names old cause → cause < place → slice_get from k ≡ Some cause → Names step k
 renamed from rising place cause k (Rule r) step h names small at = absurd names
 renamed from rising place cause k (Derived literals causes) step (renumbered, is, zip) names small at = subst (λ (x : ProofStep _ _). Names x k) (sym is) (go causes.items renumbered.items zip names)

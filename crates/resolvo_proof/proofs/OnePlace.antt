@@ -1,4 +1,4 @@
--- The steps of a coding tell one place of each solvable.
+-- The steps of a coding name one place of each solvable.
 use Rattle.std.proofs.Common.{◌≡◌, ℕ, suc, inl, inr, List, Some, sym, ◌∙◌, ap, subst}
 use Rattle.std.specs.Prelude.{slice_get}
 use Rattle.resolvo_pool_core.specs.declared.id.VariableId.{VariableId}
@@ -24,7 +24,7 @@ use Rattle.resolvo_proof.specs.Written.{IsTold, IsStepOf, IsStepAt, AreSteps, Ar
 use Rattle.resolvo_proof.proofs.NumberLemmas.{one_place}
 use Rattle.resolvo_proof.proofs.Shortened.{stood}
 
--- the clause of a step that tells a digit states it
+-- the clause of a step of a digit encodes it
 digit_stated : {N S : Type 0} (x : Stated N S) (s : S) (k bit : ℕ) → IsTold x (Some (Digit s k bit)) → (name : N) × (x ≡ Says.Digit name s k bit)
 digit_stated Says.Root s k bit h = absurd cc
 digit_stated (Says.Needs parent need case) s k bit (copy, t, same) = absurd cc
@@ -47,7 +47,7 @@ rule_same : {N S : Type 0} (x : ProofRule N S) (y : ProofRule N S) → Rule x �
 rule_same x y e = cc
 
 module _ {N S : Type 0} (c : SolverState N S) (r : Registry N) (coding : IsCoding c) (tied : AreTied r c) (package_of : S → N) (named : AreNamedBy r c package_of) where
-  -- a step that tells a digit tells that of the place where the solvable stands
+  -- the place in a step of a digit is the solvable's
   placed : (n : ℕ) (s : S) (k bit : ℕ) → IsStepAt c n (Rule (Digit s k bit)) → (name : N) × IsPlaced r c name k s
   placed n s k bit at = go at.writes
     where
@@ -85,7 +85,7 @@ module _ {N S : Type 0} (c : SolverState N S) (r : Registry N) (coding : IsCodin
         | inr (e, is) ↦ absurd (let both : Rule (Digit t at low) ≡ Derived are.derivation.literals are.derivation.causes = is ∙ are.derivation.derived in cc)
       ]
 
--- what is left of steps tells no other places
+-- trimmed steps name no other places
 pub trimmed_one_place : {N S : Type 0} {Wanted : ℕ → Type 0} (steps kept : List (ProofStep N S)) → IsTrimmedTo Wanted steps kept → HaveOnePlace steps → HaveOnePlace kept
 trimmed_one_place {N} {S} {Wanted} steps kept trimmed one m n s k l bit other a b = let (i, at) = old m s k bit a in let (j, there) = old n s l other b in one i j s k l bit other at there
   where

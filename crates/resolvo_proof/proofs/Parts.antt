@@ -42,7 +42,7 @@ meanings-append {N} {S} of (x ∷ xs) ys = go (x.variable.0 == 0) (meanings-appe
 not_zero : (k : ℕ) → (suc k == 0) ≡ false
 not_zero k = elim (cases_Bool (suc k == 0)) [ inl e ↦ (let z : suc k ≡ 0 = eqb-true (suc k) 0 e in absurd (omega arith)) | inr e ↦ e ]
 
--- a literal of an atom is written behind the others
+-- a literal of an atom is appended
 pub written_more : {N S : Type 0} (atoms : List (ProofAtom N S)) (xs : List Signed) (l : Signed) (a : ProofAtom N S) (b : Bool) (ys : List (ProofLiteral N S)) → b ≡ l.positive → atoms_of atoms l.variable.0 ≡ Some a → map literal_in ys ≡ meanings (origin atoms) xs
     → map literal_in (ys ++ (let r : ProofLiteral N S = record { atom = a; positive = b } in r) ∷ []) ≡ meanings (origin atoms) (xs ++ l ∷ [])
 written_more {N} {S} atoms xs l a b ys sign known e =
@@ -92,7 +92,7 @@ zip_same [] (y ∷ ys) h = absurd h
 zip_same (x ∷ xs) [] h = absurd h
 zip_same (x ∷ xs) (y ∷ ys) h = ap (λ z. z ∷ ys) h.0 ∙ ap (λ zs. x ∷ zs) (zip_same xs ys h.1)
 
--- a cause behind the root's clause is written behind the others
+-- a cause other than the root's clause is appended
 pub place_more : (cs : List ClauseId) (c : ClauseId) (k : ℕ) (ys : List ℕ) → c.0 ≡ suc k → ys ≡ places cs → ys ++ k ∷ [] ≡ places (cs ++ c ∷ [])
 place_more cs c k ys is e = ap (λ zs. zs ++ k ∷ []) e ∙ (ap (λ n. places cs ++ with_place n []) (sym is) ∙ sym (places-append cs (c ∷ [])))
 
@@ -111,11 +111,11 @@ some_clause c coding =
 pub clause_in_range : {N S : Type 0} (c : SolverState N S) → IsCoding c → (n : ℕ) (clause : SatClause) → slice_get c.search.clauses n ≡ Some clause → AreInRange (count_of c.search) clause.literals.items
 clause_in_range c coding n clause at l h = coding.ready.state.in_range n l (subst (λ xs. has xs l ≡ true) (sym (literals_at c.search.clauses n clause at)) h)
 
--- the step of a clause that states a rule
+-- the step of a clause that encodes a rule
 pub rule_step : {N S : Type 0} (c : SolverState N S) (n : ℕ) (x : Stated N S) (r : ProofRule N S) → n < length c.search.clauses → stated_at c.stated.items n ≡ Some x → IsTold x (Some r) → IsStepAt c n (Rule r)
 rule_step c n x r below states told = let (clause, at) = get_below c.search.clauses n below in record { stated = x; clause = clause; states = states; stands = at; writes = inl (r, refl, told) }
 
--- the step of a clause behind the root's that states none
+-- the step of a clause after the root's that encodes none
 pub learnt_step : {N S : Type 0} (c : SolverState N S) → IsCoding c → (n : ℕ) (x : Stated N S) (clause : SatClause) (step : ProofStep N S) → 0 < n → stated_at c.stated.items n ≡ Some x → slice_get c.search.clauses n ≡ Some clause → IsTold x None
     → IsDerivation c.atoms.keys clause.literals.items clause.causes.items step → IsStepAt c n step
 learnt_step {N} {S} c coding n x clause step behind states at told d = record { stated = x; clause = clause; states = states; stands = at; writes = inr (go x states told, d) }
@@ -142,7 +142,7 @@ step_more c steps n step number each at place x h = elim (get_push steps step x 
   | inr (e, is) ↦ subst (λ y. IsStepAt c (suc place) y) (sym is) (subst (λ k. IsStepAt c k step) (number ∙ ap suc (sym e)) at)
 ]
 
--- the steps of the clauses, with a refusal's behind them
+-- the steps of the clauses, and a refusal's after them
 pub refusal_step : {N S : Type 0} (c : SolverState N S) (literals spelled : List Signed) (causes from : List ClauseId) (earlier steps : List (ProofStep N S)) (step : ProofStep N S) → steps ≡ earlier ++ step ∷ [] → AreSteps c earlier → spelled ≡ literals → from ≡ causes
     → IsDerivation c.atoms.keys spelled from step → AreStepsThen c literals causes steps
 refusal_step c literals spelled causes from earlier steps step ends are e f d = record {

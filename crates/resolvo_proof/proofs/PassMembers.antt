@@ -62,7 +62,7 @@ module _ {A : Type 0} (same : A → A → Bool) (exact : IsExact same) where
         ]
   ]
 
-  -- denying two clauses with the same literals comes to the same
+  -- denying two clauses with the same literals gives the same
   deny_alike : (c d : List (Literal A)) → SameMembers c d → HaveOneSign c → Alike (deny same nothing c) (deny same nothing d)
   deny_alike c d alike signs = record { at = λ a b e. ap (deny same nothing d) (sym e) ∙ go a (list_any (λ (y : Literal A). same a y.atom) c) refl; gone = λ l h. absurd h }
     where
@@ -78,6 +78,7 @@ module _ {A : Type 0} (same : A → A → Bool) (exact : IsExact same) where
           untouched nothing a d (λ m h. none_contained (λ (y : Literal A). same a y.atom) m c (alike.each m h) f)
           ∙ sym (untouched nothing a c (λ m h. none_contained (λ (y : Literal A). same a y.atom) m c h f))
 
-  -- The pass over clauses with the same literals comes to the same, where no atom is denied and affirmed in the derived one.
+  -- The pass over clauses with the same literals gives the same, where no atom is denied and
+  -- affirmed in the derived one.
   pub one_pass_members : (c d : List (Literal A)) (cs ds : List (List (Literal A))) → SameMembers c d → HaveOneSign c → AllZip SameMembers cs ds → one_pass same c cs ≡ one_pass same d ds
   one_pass_members c d cs ds alike signs all = refutes_alike cs ds all (deny same nothing c) (deny same nothing d) (deny_alike c d alike signs)

@@ -71,7 +71,7 @@ module _ {A B : Type 0} (same_a : A → A → Bool) (exact_a : (a b : A) → sam
     each = λ m h. (let (b, t) = filter_contains (is_left known) m d h in let (l, a, n) = spelt.each m b in (l, contains_filter (is_left said) l c a (ap not (sym (denied_agree said known agree l m n)) ∙ t), n));
   }
 
-  -- what is left of both
+  -- the rests of both
   abbrev RestMatch : Rest A → Rest B → Type 0
   RestMatch broken broken = Unit {0}
   RestMatch (last l) (last m) = Named l m

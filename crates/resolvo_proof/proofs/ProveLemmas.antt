@@ -46,7 +46,7 @@ use Rattle.resolvo_proof.proofs.Meant.{spelt, derived_meant, refuted_some, place
 some_is : {X : Type 0} (x y : X) → Some x ≡ Some y → x ≡ y
 some_is x y h = cc
 
--- a list up to a place, and what follows
+-- a list up to a place, and the rest
 split_at : {X : Type 0} (xs : List X) (n : ℕ) (x : X) → slice_get xs n ≡ Some x → (front : List X) × (rest : List X) × (xs ≡ front ++ x ∷ rest) × (length front ≡ n)
 split_at [] n x h = absurd cc
 split_at (y ∷ xs) zero x h = ([], xs, ap (λ z. z ∷ xs) (some_is y x h), refl)
@@ -79,7 +79,7 @@ derived_at cs n c derived at some =
     let same : named (lists cs) c.causes.items ≡ named (lists front) c.causes.items = ap (λ xs. named (lists xs) c.causes.items) e ∙ named_front front (c ∷ rest) c.causes.items own.in_range in
     (subst (λ k. AllBelow k c.causes.items) (length-lists front ∙ long) own.in_range, subst (Refutes (no root_variable ∷ c.literals.items)) (sym same) own.refuted)
 
--- what denies choices of the trail is false on it
+-- a clause that denies choices of the trail is false on it
 pub kept_false : (s : SatState) (literals : List Signed) → DenyKept s literals → (l : Signed) → has literals l ≡ true → has (made_true (history s)) (negation l) ≡ true
 kept_false s literals denies l h =
     let (e, older, on, is, kept) = denies l h in
@@ -89,7 +89,7 @@ kept_false s literals denies l h =
 pub refusal_in_range : (s : SatState) (literals : List Signed) (causes : List ClauseId) → IsState s → IsRefusal s literals causes → AreInRange (count_of s) literals
 refusal_in_range s literals causes state refusal l h = known_in_range (count_of s) (clauses_of s) (history s) (negation l) state.trail (kept_false s literals refusal.denies l h)
 
--- literals that are distinct are spelled by what they mean
+-- distinct literals are spelled by their meanings
 apart_spells : {N S : Type 0} (of : ℕ → Atom N S) (literals : List Signed) → AreApart literals → Spells of literals (meanings of literals)
 apart_spells of literals apart = record {
   only = λ l h. elim (root_or_other l.variable.0) [
@@ -116,7 +116,7 @@ pub map_none : {X Y : Type 0} (f : X → Y) (xs : List X) → map f xs ≡ [] �
 map_none f [] h = refl
 map_none f (x ∷ xs) h = absurd cc
 
--- the rule that a step states is the clause's, under some condition
+-- the rule of a step is the clause's, under some condition
 told_rule : {N S : Type 0} (x : Stated N S) (r : ProofRule N S) → IsTold x (Some r) → (condition : Option ConditionId) × (rule_of x ≡ Some (rule_under condition r))
 told_rule Says.Root r h = absurd cc
 told_rule (Says.Needs parent need case) r (copy, e, same) = (need.condition, ap (λ vs. Some (Encoder.Rule.needs parent need vs)) (sym same) ∙ sym (ap (λ y. Some (rule_under need.condition y)) (some_is r (Needs parent need.requirement copy) e)))
@@ -151,7 +151,7 @@ module _ {N S : Type 0} (same : S → S → Bool) (p : Packages N S) where
   step_clause (x ∷ steps) (suc place) step h = step_clause steps place step h
 
   module _ (c : SolverState N S) (coding : IsCoding c) (spelled : Spelled same p c) (steps : List (ProofStep N S)) (each : (place : ℕ) → suc place < length c.search.clauses → (step : ProofStep N S) × (slice_get steps place ≡ Some step) × IsStepAt c (suc place) step) where
-    -- the step of a clause has what the clause's literals mean
+    -- the step of a clause has the meanings of the clause's literals
     spells_clause : (n : ℕ) (step : ProofStep N S) → IsStepAt c n step → Spells (origin c.atoms.keys) (clause_at (clauses_of c.search) n) (clause_of same p step)
     spells_clause n step at = go at.writes
       where
@@ -213,7 +213,7 @@ module _ {N S : Type 0} (same : S → S → Bool) (p : Packages N S) where
               subst (IsStep same_atom same p root steps place) (sym d.derived)
               (derivation_refuted place at.clause.literals.items at.clause.causes.items step (omega arith) earlier refuted in_range (coding.apart (suc place) at.clause learnt at.stands) d)
 
--- each clause behind the root's has its step
+-- each clause after the root's has its step
 has_step : {N S : Type 0} (c : SolverState N S) (steps more : List (ProofStep N S)) → AreSteps c steps → (place : ℕ) → suc place < length c.search.clauses → (step : ProofStep N S) × (slice_get (steps ++ more) place ≡ Some step) × IsStepAt c (suc place) step
 has_step c steps more are place below =
     let count : length steps + 1 ≡ length c.search.clauses = are.count in
@@ -233,7 +233,7 @@ steps_prove {N} {S} c steps coding are same_atom exact same p root spelled rule 
         let (x, there) = get_below steps k (omega arith) in
         (x, there, are.each k x there)
 
--- So are they with a refusal's step behind them.
+-- So are they with a refusal's step after them.
 pub refusal_proves : {N S : Type 0} (c : SolverState N S) (literals : List Signed) (causes : List ClauseId) (steps : List (ProofStep N S)) → IsCoding c → IsRefusal c.search literals causes → AreStepsThen c literals causes steps → Proves c steps
 refusal_proves {N} {S} c literals causes steps coding refusal are same_atom exact same p root spelled rule place step at = elim (get_push are.earlier are.final step place (subst (λ xs. slice_get xs place ≡ Some step) are.ends at)) [
   | inl old ↦

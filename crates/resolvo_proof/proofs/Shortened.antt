@@ -86,11 +86,11 @@ module _ {N S : Type 0} {Wanted : ℕ → Type 0} (steps kept : List (ProofStep 
     trimmed_proof : IsProof same_atom same p root kept
     trimmed_proof k step at = let (place, old, here, there, is) = stood k step at in stands k place old step here is (proof place old there)
 
--- what is left of a proof is one
+-- the kept steps of a proof are one
 pub trimmed_proves : {N S : Type 0} {Wanted : ℕ → Type 0} (steps kept : List (ProofStep N S)) → IsTrimmedTo Wanted steps kept → StaysProof steps kept
 trimmed_proves steps kept trimmed same_atom same p root proof = trimmed_proof steps kept trimmed same_atom same p root proof
 
--- a list is what is before its last item, and that item
+-- a list is the items before its last one, and that item
 split_last : {X : Type 0} (xs : List X) (k : ℕ) (x : X) → slice_get xs k ≡ Some x → length xs ≡ suc k → (front : List X) × (xs ≡ front ++ x ∷ [])
 split_last [] k x at long = absurd cc
 split_last (y ∷ []) zero x at long = ([], let e : Some y ≡ Some x = at in cc)

@@ -57,7 +57,7 @@ Convinces {N} {S} steps = (same_atom : Atom N S → Atom N S → Bool) → IsExa
 abbrev pub DenyRoot : List Signed → Type 0
 DenyRoot literals = (l : Signed) → has literals l ≡ true → l ≡ no root_variable
 
--- the steps are a proof for all packages and for each root whose rules the clauses state
+-- the steps are a proof for all packages and for each root whose rules the clauses encode
 abbrev pub Proves : {N S : Type 0} → SolverState N S → List (ProofStep N S) → Type 0
 Proves {N} {S} c steps = (same_atom : Atom N S → Atom N S → Bool) → IsExact same_atom → (same : S → S → Bool) (p : Packages N S) (root : Rules)
     → Spelled same p c → ((r : Encoder.Rule N S) → rules_in c.stated.items r → IsRule same p root r) → IsProof same_atom same p root steps

@@ -17,7 +17,7 @@ use Rattle.resolvo_proof.specs.declared.step.ProofStep.TheVariants.{Rule, Derive
 abbrev pub literal_in : {N S : Type 0} → ProofLiteral N S → Literal (Atom N S)
 literal_in l = record { atom = atom_of l.atom; positive = l.positive }
 
--- The rule that is stated. A need is stated for a case of its condition, which is given.
+-- The rule of a step. A need is encoded for a case of its condition, which is given.
 abbrev pub rule_under : {N S : Type 0} → Option ConditionId → ProofRule N S → Encoder.Rule N S
 rule_under condition (Needs parent r case) = Encoder.Rule.needs parent (record { condition = condition; requirement = r }) case.items
 rule_under condition (GateOf s r) = Encoder.Rule.gated s r

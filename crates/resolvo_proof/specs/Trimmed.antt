@@ -46,7 +46,7 @@ abbrev pub IsNumbered : {N S : Type 0} → List ℕ → ProofStep N S → ProofS
 IsNumbered numbers (Rule r) new = new ≡ Rule r
 IsNumbered numbers (Derived literals causes) new = (renumbered : Vec ℕ Global) × (new ≡ Derived literals renumbered) × (renumbered.items ≡ map (number_of numbers) causes.items)
 
--- the step is put behind the others, with the numbers of its causes, where it leads to a wanted one
+-- the step is appended, with the numbers of its causes, where it leads to a wanted one
 abbrev pub Keeps : {N S : Type 0} → Bool → List ℕ → ProofStep N S → List (ProofStep N S) → List (ProofStep N S) → Type 0
 Keeps {N} {S} true numbers step old new = (numbered : ProofStep N S) × IsNumbered numbers step numbered × (new ≡ old ++ numbered ∷ [])
 Keeps {N} {S} false numbers step old new = new ≡ old

@@ -34,7 +34,7 @@ abbrev pub places : List ClauseId → List ℕ
 places [] = []
 places (c ∷ cs) = with_place c.0 (places cs)
 
--- the rule is the one that is stated; the root's clause and a learnt one state none
+-- the rule that is written for a kind; the root's clause and a learnt one have none
 abbrev pub IsTold : {N S : Type 0} → Stated N S → Option (ProofRule N S) → Type 0
 IsTold Says.Root told = told ≡ None
 IsTold (Says.Needs parent need case) told = (copy : Vec VersionSetId Global) × (told ≡ Some (Needs parent need.requirement copy)) × (copy.items ≡ case.items)
@@ -49,7 +49,7 @@ IsTold (Says.Digit n s place bit) told = told ≡ Some (Digit s place bit)
 IsTold (Says.IsThere n s) told = told ≡ Some (AtLeastOne n s)
 IsTold Says.Learnt told = told ≡ None
 
--- the step is derived, with what the literals mean and the places of the causes
+-- the step is derived, with the meanings of the literals and the places of the causes
 pub record IsDerivation {N S : Type 0} (atoms : List (ProofAtom N S)) (spelled : List Signed) (from : List ClauseId) (step : ProofStep N S) : Type 0 where
   pub literals : Vec (ProofLiteral N S) Global
   pub causes : Vec ℕ Global
@@ -57,7 +57,7 @@ pub record IsDerivation {N S : Type 0} (atoms : List (ProofAtom N S)) (spelled :
   pub means : map literal_in literals.items ≡ meanings (origin atoms) spelled
   pub read : causes.items ≡ places from
 
--- the step states the rule that the clause states, or is derived as the clause was
+-- the step is the rule that the clause encodes, or is derived as the clause was
 abbrev pub IsStepOf : {N S : Type 0} → List (ProofAtom N S) → Stated N S → SatClause → ProofStep N S → Type 0
 IsStepOf {N} {S} atoms stated clause step = ((r : ProofRule N S) × (step ≡ Rule r) × IsTold stated (Some r)) ⊎ ((stated ≡ Says.Learnt) × IsDerivation atoms clause.literals.items clause.causes.items step)
 
@@ -69,12 +69,12 @@ pub record IsStepAt {N S : Type 0} (c : SolverState N S) (n : ℕ) (step : Proof
   pub stands : slice_get c.search.clauses n ≡ Some clause
   pub writes : IsStepOf c.atoms.keys stated clause step
 
--- the steps of the clauses behind the root's, in their order
+-- the steps of the clauses after the root's, in their order
 pub record AreSteps {N S : Type 0} (c : SolverState N S) (steps : List (ProofStep N S)) : Type 0 where
   pub count : length steps + 1 ≡ length c.search.clauses
   pub each : (place : ℕ) (step : ProofStep N S) → slice_get steps place ≡ Some step → IsStepAt c (suc place) step
 
--- the steps of a coding's clauses, and the refusal's behind them
+-- the steps of a coding's clauses, and the refusal's after them
 pub record AreStepsThen {N S : Type 0} (c : SolverState N S) (spelled : List Signed) (from : List ClauseId) (steps : List (ProofStep N S)) : Type 0 where
   pub earlier : List (ProofStep N S)
   pub final : ProofStep N S

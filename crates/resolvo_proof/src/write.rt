@@ -113,12 +113,12 @@ fn write_causes(alloc: Global, causes: &[ClauseId]) -> R<Vec<usize>>
 
 /// The rule that a clause encodes. The root's clause and a learnt one encode none.
 fn write_rule<N: Copy + Exact + Hash + Debug, S: Copy + Exact + Hash + Debug>(
-    stated: &Stated<N, S>,
+    kind: &Stated<N, S>,
 ) -> R<Option<ProofRule<N, S>>>
-    ensures told { IfOk result (IsTold stated.now) }
+    ensures told { IfOk result (IsTold kind.now) }
     ensures refusal { IsOkUnless result Memory }
 {
-    let rule = match stated {
+    let rule = match kind {
         Stated::Root | Stated::Learnt => return Ok(None),
         Stated::Needs { parent, need, case } => ProofRule::Needs {
             parent: *parent,

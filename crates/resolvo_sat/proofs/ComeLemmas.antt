@@ -1,4 +1,4 @@
--- A clause that comes keeps the watches right.
+-- A new clause keeps the watches right.
 use Rattle.std.proofs.Common.{◌≡◌, ℕ, zero, suc, ◌+◌, ◌<◌, ◌≤◌, ◌⊎◌, inl, inr, Bool, true, false, not, ◌==◌, ◌&&◌, List, [], ◌∷◌, ◌++◌, reverse, length, Option, None, refl, sym, ◌∙◌, ap, subst, arith, eqb, eqb-true, eq-eqb}
 use Rattle.std.specs.Prelude.{slice_index_or, Contains}
 use Rattle.std.proofs.lemmas.Bool.{both_ways, cases_Bool}
@@ -136,14 +136,14 @@ two_below s n (l, m, stands, other, differ) =
 pub waits_below : (s : SatState) (v : WatchLists) (n : ℕ) → IsFit s v → Waits n v → n < length s.clauses
 waits_below s v n fits waits = two_below s n (fits.two n waits)
 
--- a clause that watches nothing came
+-- a clause that watches nothing was added
 none_more : (ps : List (Option WatchedLiterals)) (n : ℕ) → pair_at (ps ++ None ∷ []) n ≡ pair_at ps n
 none_more [] zero = refl
 none_more [] (suc n) = refl
 none_more (p ∷ ps) zero = refl
 none_more (p ∷ ps) (suc n) = none_more ps n
 
--- a clause that is noted as one of one literal has one
+-- a clause that is listed as a unit clause is one
 only_if : (literals : List Signed) (l : Signed) (is_long wanted : Bool) → HasAnother literals l is_long → (not is_long && wanted) ≡ true → IsOnly literals l
 only_if literals l true wanted h e = absurd (both_ways false refl e)
 only_if literals l false wanted h e = h
@@ -211,7 +211,7 @@ clause_comes c id literal is_long is_rule s t v w ready covers another adds begu
     pair : (n : ℕ) → pair_at w.watched.items n ≡ pair_at v.watched.items n
     pair n = ap (λ (ps : List (Option WatchedLiterals)). pair_at ps n) begun.watched ∙ none_more v.watched.items n
 
-    -- what waits waited before, or is the clause that was added
+    -- a pending clause was pending before, or is the new one
     waits : (n : ℕ) → Waits n w → (Waits n v) ⊎ ((is_long ≡ true) × (n ≡ id.0))
     waits n h = waits_cases n is_long id v.waiting.items (subst (λ (cs : List ClauseId). 0 < count n cs) begun.waiting h)
 
@@ -242,7 +242,7 @@ clause_comes c id literal is_long is_rule s t v w ready covers another adds begu
           absurd (omega arith)));
     }
 
-    -- the clause that was added waits, or is noted
+    -- the clause that was added is pending, or listed as a unit clause
     newest : (b : Bool) → is_long ≡ b → IsNoted id.0 w ⊎ Waits id.0 w
     newest true is = inr (subst (λ (cs : List ClauseId). 0 < count id.0 cs) (sym (begun.waiting ∙ ap (λ a. with_last a id v.waiting.items) is)) (waits_last id v.waiting.items))
     newest false is = inl (

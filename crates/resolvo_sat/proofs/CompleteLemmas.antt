@@ -90,7 +90,7 @@ running_starts o r s t v w rules learnt settles settled = record {
 pub singles_ready : (o r s : SatState) (w : WatchLists) (xs ys : List UnitClause) → IsReady o w → SetsSingles xs o r → SetsSingles ys r s → IsReady s w
 singles_ready o r s w xs ys ready rules learnt = ready_extends r s w (ready_extends o r w ready rules.extends rules.front) learnt.extends learnt.front
 
--- the entry at the front was walked over, and is passed
+-- the entry at the propagation head was walked over, and is passed
 pub running_goes_on : (o s u t : SatState) (v w x : WatchLists) (l : Signed) → Running o s v w → FellAt l s.front s → Walked (s.front + 1) s u w x → t ≡ record u { front = u.front + 1 } → Running o t v x
 running_goes_on o s u t v w x l run fell walked passed =
     subst (λ (y : SatState). Running o y v x) (sym passed)
@@ -191,7 +191,7 @@ running_ends o s v w run covers end =
       quiet = running_quiet o s v w run covers end;
     }
 
--- a quiet clause is not wholly false
+-- a quiet clause is not falsified
 pub quiet_not_broken : (s : SatState) (clause : List Signed) → IsState s → IsQuiet (made_true (history s)) clause → IsFalseUnder (made_true (history s)) clause → ⊥
 quiet_not_broken s clause state (inl q) f = consistent (count_of s) (clauses_of s) (history s) q.0 state.trail q.2 (f q.0 q.1)
 quiet_not_broken s clause state (inr q) f = both_ways _ q.5 (f q.0 q.2)
@@ -207,7 +207,7 @@ quiet_not_forced s clause l state (inr q) f = elim (f.forced.others q.0 q.2) [
   | inr e ↦ both_ways _ q.5 e
 ]
 
--- the literal that fell by the entry at the front
+-- the literal that the entry at the propagation head makes false
 pub next_fell : (s : SatState) (e : Entry) (l : Signed) → s.front < length s.tracker.trail → before s.tracker.trail (s.front + 1) ≡ e ∷ before s.tracker.trail s.front → l ≡ record { variable = e.decision.variable; positive = not e.decision.value } → FellAt l s.front s
 next_fell s e l within next is =
     let literal : literal_of e ≡ negation l = sym (negation-negation (literal_of e)) ∙ ap negation (sym is) in

@@ -1,4 +1,4 @@
--- Lemmas on a trail that goes on.
+-- Lemmas on a trail that grows.
 use Rattle.std.proofs.Common.{◌≡◌, ℕ, ◌≤◌, ◌⊎◌, inl, inr, true, List, [], ◌∷◌, ◌++◌, reverse, take, drop, length, suc, refl, sym, ◌∙◌, ap, subst, arith, append_assoc}
 use Rattle.std.proofs.lemmas.List.{append-nil, reverse-append, take-append-le, take-append-drop}
 use Rattle.resolvo_pool_core.specs.declared.id.ClauseId.{ClauseId}
@@ -61,11 +61,11 @@ known_in_more xs ys l h =
     subst (λ (ls : List Signed). has ls l ≡ true) (sym (ap made_true (reverse-append xs ys) ∙ made_true-append (reverse ys) (reverse xs)))
     (has_right (made_true (reverse ys)) (made_true (reverse xs)) l h)
 
--- what was true stays true
+-- true literals stay true
 pub still_true : (s t : SatState) (l : Signed) → Extends s t → has (made_true (history s)) l ≡ true → has (made_true (history t)) l ≡ true
 still_true s t l e h = subst (λ (xs : List Entry). has (made_true (reverse xs)) l ≡ true) (sym e.added) (known_in_more s.tracker.trail e.more l h)
 
--- what the first entries make true, the trail makes true
+-- a literal that the first entries make true is true
 pub true_by_now : (xs : List Entry) (k : ℕ) (l : Signed) → has (made_true (before xs k)) l ≡ true → has (made_true (reverse xs)) l ≡ true
 true_by_now xs k l h = subst (λ (ys : List Entry). has (made_true (reverse ys)) l ≡ true) (take-append-drop k xs) (known_in_more (take k xs) (drop k xs) l h)
 
@@ -82,10 +82,10 @@ stands_later (x ∷ xs) ys l k h = inr (stands_later xs ys l k h)
 pub stands_in_more : (xs ys : List Entry) (l : Signed) (k : ℕ) → StandsAt (reverse xs) l k → StandsAt (reverse (xs ++ ys)) l k
 stands_in_more xs ys l k h = subst (λ (zs : List Entry). StandsAt zs l k) (sym (reverse-append xs ys)) (stands_later (reverse ys) (reverse xs) l k h)
 
--- what is on the trail is there still
+-- an entry of the trail is still on it
 pub still_stands : (s t : SatState) (l : Signed) (k : ℕ) → Extends s t → StandsAt (history s) l k → StandsAt (history t) l k
 still_stands s t l k e h = subst (λ (xs : List Entry). StandsAt (reverse xs) l k) (sym e.added) (stands_in_more s.tracker.trail e.more l k h)
 
--- what is among the first entries is on the trail
+-- one of the first entries is on the trail
 pub stands_by_now : (xs : List Entry) (n : ℕ) (l : Signed) (k : ℕ) → StandsAt (before xs n) l k → StandsAt (reverse xs) l k
 stands_by_now xs n l k h = subst (λ (ys : List Entry). StandsAt (reverse ys) l k) (take-append-drop n xs) (stands_in_more (take n xs) (drop n xs) l k h)

@@ -1,4 +1,4 @@
--- The literals that guard those that fell, and their levels.
+-- The literals that guard false ones, and their levels.
 use Rattle.std.proofs.Common.{◌≡◌, ℕ, ◌≤◌, inl, inr, true, List, [], ◌∷◌, ◌++◌, reverse, Option, Some, None, refl, sym, ◌∙◌, ap, subst, arith}
 use Rattle.std.specs.Prelude.{max}
 use Rattle.std.specs.Option.{option_map}
@@ -19,7 +19,7 @@ use Rattle.resolvo_sat.specs.Propagation.{IsGuard, Guards, GuardsTo, NotesGuard}
 use Rattle.resolvo_sat.proofs.Trails.{same_or_negated, known_from_stands, stands_from_known, consistent}
 use Rattle.resolvo_sat.proofs.Values.{undecided_none}
 
--- a guard stays one where entries come, and where the guards' level rises
+-- a guard stays one where entries are added, and where the guards' level rises
 pub guard_more : (g h k : ℕ) (all more : List Entry) (l : Signed) → g ≤ h → ((j : ℕ) → StandsAt all l j → StandsAt more l j) → IsGuard g k all l → IsGuard h k more l
 guard_more g h k all more l le inside (j, low, stands) = (j, omega arith, inside j stands)
 
@@ -67,7 +67,8 @@ level_at count cs (d ∷ older) l k t (inr s) =
 pub level_is : (s : SatState) (l : Signed) (k : ℕ) → IsState s → StandsAt (history s) l k → level_or (assigned s.tracker.trail l.variable.0) ≡ k
 level_is s l k state stands = subst (λ (xs : List Entry). level_or (assigned xs l.variable.0) ≡ k) (reverse-reverse s.tracker.trail) (level_at (count_of s) (clauses_of s) (history s) l k state.trail stands)
 
--- the guards' level is that of the guard at least, unless the guard is at the fallen literal's level or below
+-- the guards' level is that of the guard at least, unless the guard is at the false literal's level
+-- or below
 pub guard_noted : (s : SatState) (g : ℕ) (l m : Signed) → IsState s → has (made_true (history s)) m ≡ true → s.guard_level ≤ g
     → (level_or (assigned s.tracker.trail m.variable.0) ≤ max g (level_or (assigned s.tracker.trail l.variable.0))) → (k : ℕ) → StandsAt (history s) (negation l) k → IsGuard g k (history s) m
 guard_noted s g l m state known le bound k fell =

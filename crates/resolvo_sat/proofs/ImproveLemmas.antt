@@ -33,7 +33,7 @@ weight-append count (e ∷ p) h = let a : weight count h ≤ weight count (p ++ 
 same_count : (s t : SatState) → SameBut s t → count_of t ≡ count_of s
 same_count s t same = ap (λ (v : Vec VariableKind Global). length v.items) same.variables
 
--- a trail that goes on is no lighter
+-- a trail that grows is no lighter
 pub extends_heavier : (s t : SatState) (count : ℕ) → Extends s t → weight count (history s) ≤ weight count (history t)
 extends_heavier s t count e =
     subst (λ (h : List Entry). weight count (history s) ≤ weight count h) (sym (ap reverse e.added ∙ reverse-append s.tracker.trail e.more)) (weight-append count (reverse e.more) (history s))
@@ -47,7 +47,7 @@ learnt_apart s x state learnt = false_apart s x.literals.items state (λ l h. el
   | inr (level, low, stands) ↦ known_from_stands (history s) (negation l) level stands
 ])
 
--- what was up to the turn's first level is under what was set behind it
+-- the entries up to the turn's first level are under those assigned after it
 pub extends_earlier : (s t : SatState) (base : List Entry) → Extends s t → EndsWith base (history s) → EndsWith base (history t)
 extends_earlier s t base e (p, is) = (reverse e.more ++ p, (ap reverse e.added ∙ reverse-append s.tracker.trail e.more) ∙ ap (λ (h : List Entry). reverse e.more ++ h) is ∙ sym (append_assoc (reverse e.more) p base))
 
@@ -80,13 +80,13 @@ learning_improves s m b w x id e learnt l =
       earlier = λ base low ends. learns_earlier m b w x id learnt l base (subst (λ (n : ℕ). top_level base ≤ n) (sym e.same.base_level) low) (extends_earlier s m base e ends);
     }
 
--- what was there is under a decision
+-- the older entries are under a decision
 pub choice_earlier : (s t : SatState) (v : VariableId) (c : ClauseId) (base : List Entry) → Chooses v c s t → EndsWith base (history s) → EndsWith base (history t)
 choice_earlier s t v c base chosen (p, is) =
     let d : Entry = choice_entry v c (history s) in
     (d ∷ p, (ap reverse chosen.pushed ∙ reverse_push s.tracker.trail d) ∙ ap (λ (h : List Entry). d ∷ h) is)
 
--- what was up to the level remains after entries above it are taken away
+-- the entries up to the level remain after those above it are undone
 pub undo_earlier : (s t : SatState) (level : ℕ) (base : List Entry) → Undoes level s t → top_level base ≤ level → EndsWith base (history s) → EndsWith base (history t)
 undo_earlier s t level base undoes low (p, is) = undone_ends level (count_of s) (clauses_of s) p base (history t) (subst (λ (h : List Entry). IsUndone level h (history t)) is undoes.undone) low
 
@@ -97,7 +97,7 @@ choice_heavier s t v c chosen =
     let one : 1 ≤ (count_of s + 1) ^ (count_of s + 1 - d.level) = one-le-pow (count_of s + 1 - d.level) (count_of s + 1) (omega arith) in
     subst (λ (h : List Entry). weight (count_of s) (history s) < weight (count_of s) h) (sym (ap reverse chosen.pushed ∙ reverse_push s.tracker.trail d)) (omega arith)
 
--- what is left to gain falls as the trail grows heavier over the same variables
+-- the weight left falls as the trail grows heavier over the same variables
 pub weight_falls : (s t : SatState) → IsState t → count_of t ≡ count_of s → weight (count_of s) (history s) < weight (count_of s) (history t) → weight_left t < weight_left s
 weight_falls s t state count heavier =
     let bound : weight (count_of t) (history t) ≤ count_of t * (count_of t + 1) ^ (count_of t + 1) = weight_bounded (count_of t) (clauses_of t) (history t) state.trail in

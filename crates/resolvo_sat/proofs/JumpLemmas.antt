@@ -70,7 +70,7 @@ learns s t a b v w x c id u is comes set =
       pushed = set_pushed a b id x.asserting set ∙ ap (λ (h : List Entry). forced_entry id x.asserting h ∷ h) entries;
     }
 
--- what is left after a jump was before it
+-- the entries after a jump were there before it
 pub undone_on : (level : ℕ) (old new : List Entry) (e : Entry) (older : List Entry) → IsUndone level old new → StandsOn new e older → StandsOn old e older
 undone_on level [] new e older u s = subst (λ (h : List Entry). StandsOn h e older) u s
 undone_on level (d ∷ ds) new e older (inl u) s = subst (λ (h : List Entry). StandsOn h e older) u s

@@ -54,7 +54,7 @@ has_map_negation (x ∷ xs) l h =
       | inr e ↦ has_later x xs (negation l) (has_map_negation xs l e)
     ]
 
--- one literal more of a list that is read from the front
+-- one literal more of a list that is read from its first on
 pub has_more : (xs : List Signed) (i : ℕ) (d m : Signed) → i < length xs → has (take (i + 1) xs) m ≡ true → (has (take i xs) m ≡ true) ⊎ (get_or xs i d ≡ m)
 has_more xs i d m h a =
     elim (has-append (take i xs) (get_or xs i d ∷ []) m (subst (λ (l : List Signed). has l m ≡ true) (take_more xs i d h) a)) [

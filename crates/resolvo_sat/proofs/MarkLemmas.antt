@@ -32,7 +32,7 @@ denied_here seen e older m = go (is_seen seen e) m
     go true m = has_here (negation (literal_of e)) (denied seen older) (negation (literal_of e)) refl
     go false m = absurd (both_ways false refl m)
 
--- what is denied is false by an entry
+-- a denied literal is false by an entry
 pub denied_stands : (seen : List Bool) (h : List Entry) (l : Signed) → has (denied seen h) l ≡ true → (k : ℕ) × StandsAt h (negation l) k
 denied_stands seen [] l h = absurd (both_ways false refl h)
 denied_stands seen (e ∷ older) l h = elim (denied_cases seen e older l h) [
@@ -58,7 +58,7 @@ denied_more old new (e ∷ older) l more h = elim (denied_cases old e older l h)
   | inr i ↦ denied_later new e older l (denied_more old new older l more i)
 ]
 
--- what is denied is of a marked variable
+-- a denied literal is of a marked variable
 pub denied_marked : (seen : List Bool) (h : List Entry) (l : Signed) → has (denied seen h) l ≡ true → slice_index_or seen l.variable.0 false ≡ true
 denied_marked seen [] l h = absurd (both_ways false refl h)
 denied_marked seen (e ∷ older) l h = elim (denied_cases seen e older l h) [

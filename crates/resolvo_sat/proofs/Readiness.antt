@@ -1,4 +1,4 @@
--- The watches stay ready where the trail goes on, or begins anew; and they stay covered.
+-- The watches stay ready where the trail grows, or propagation restarts; and they stay covered.
 use Rattle.std.proofs.Common.{◌≡◌, ℕ, ◌+◌, ◌<◌, ◌≤◌, inl, inr, true, List, [], ◌++◌, take, reverse, length, refl, sym, ◌∙◌, ap, subst, arith}
 use Rattle.std.proofs.lemmas.List.{append-nil, length-append, take-append-le, take-take, reverse-append, reverse-reverse}
 use Rattle.resolvo_store_core.specs.Signed.{Signed, negation, has}
@@ -28,7 +28,7 @@ fits_same s t w fits same = record {
   once = fits.once;
 }
 
--- before the first entry nothing fell
+-- before the first entry no literal is false
 pub walked_none : (s : SatState) (w : WatchLists) → IsWalkedTo 0 s w
 walked_none s w n p is = record { first = λ k f. absurd f; second = λ k f. absurd f }
 
@@ -38,7 +38,7 @@ walked_same s t k w same higher walked n p is =
     subst (λ (xs : List Entry). GuardsTo t.guard_level (before xs k) (reverse xs) p) (sym same)
     (guards_more s.guard_level t.guard_level (before s.tracker.trail k) (history s) (history s) p higher (λ l j h. h) (walked n p is))
 
--- a trail that goes on was walked as far
+-- a longer trail was walked as far
 pub walked_more : (s t : SatState) (k : ℕ) (w : WatchLists) (more : List Entry) → t.tracker.trail ≡ s.tracker.trail ++ more → s.guard_level ≤ t.guard_level → k ≤ length s.tracker.trail → IsWalkedTo k s w → IsWalkedTo k t w
 walked_more s t k w more added higher low walked n p is =
     subst (λ (xs : List Entry). GuardsTo t.guard_level (before xs k) (reverse xs) p) (sym added)
@@ -106,7 +106,7 @@ ready_undone s t w level undoes ready = elim undoes.front [
   }
 ]
 
--- the front alone was set
+-- the propagation head alone was set
 pub front_extends : (s t : SatState) (front : ℕ) → Extends s t → Extends s (record t { front = front })
 front_extends s t front e = record {
   state = record { trail = e.state.trail; derived = e.state.derived; in_range = e.state.in_range; small = e.state.small; floor_low = e.state.floor_low; rooted = e.state.rooted };
@@ -129,7 +129,7 @@ noted_extends o s t l m e noted =
       guard = let a : o.guard_level ≤ s.guard_level = e.guard in let b : s.guard_level ≤ t.guard_level = noted.higher in omega arith;
     })
 
--- what the clauses watch is the same
+-- the clauses' watches are the same
 pub same_watching : (w : WatchLists) → SameWatching w w
 same_watching w = record { assertions = refl; learnt = refl; pairs = λ n h. h; waited = λ n h. h; waits = λ n h none. h }
 

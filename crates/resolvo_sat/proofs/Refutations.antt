@@ -27,7 +27,7 @@ has-said : (c : List Signed) (l : Signed) → Pass.has nat_eq (said_all c) (said
 has-said [] l = refl
 has-said (x ∷ xs) l = ap (λ b. Rattle.std.specs.Prelude.◌||◌ (same_literal x l) b) (has-said xs l)
 
--- what refutes a clause refutes one with more literals
+-- a refutation of a clause refutes one with more literals
 pub refutes_more : (old new : List Signed) (cs : List (List Signed)) → ((l : Signed) → has old l ≡ true → has new l ≡ true) → Refutes old cs → Refutes new cs
 refutes_more old new cs more r known denied = r known (λ l h. denied l (has-said new (unsaid l) ∙ more (unsaid l) (sym (has-said old (unsaid l)) ∙ h)))
 

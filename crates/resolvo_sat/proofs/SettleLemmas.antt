@@ -31,14 +31,14 @@ pub best_found : (known clause part : List Signed) (l : Signed) (o : Option Sign
 best_found known clause part l None whole far = subst (λ (ms : List Signed). (m : Signed) → has ms m ≡ true → m ≡ l) whole far
 best_found known clause part l (Some k) whole far = (far.0, far.1, λ _. subst (AreFalseBut l known) whole far.2)
 
--- neither of the two fell
+-- neither of the two is false
 pub guards_free : (s : SatState) (clause : List Signed) (p : WatchedLiterals) → IsBestPair (made_true (history s)) clause p → has (made_true (history s)) (negation p.second) ≡ false → GuardsTo s.guard_level (history s) (history s) p
 guards_free s clause p best free = record {
   first = λ k f. absurd (both_ways _ free (best.first (known_from_stands (history s) (negation p.first) k f)));
   second = λ k f. absurd (both_ways _ free (known_from_stands (history s) (negation p.second) k f));
 }
 
--- the first is true, and its level was noted
+-- the first is true, and its level was recorded
 pub first_set : (n : ℕ) (p : WatchedLiterals) (s u t : SatState) → Extends s u → u.front ≡ s.front → has (made_true (history u)) p.first ≡ true → NotesGuard p.second p.first u t → IsFirstSet n p s t true
 first_set n p s u t e front known noted = (noted_extends s u t p.second p.first e noted, ap (λ (x : SatState). x.front) noted.same ∙ front, guards_noted u t p e.state known noted)
 
@@ -98,7 +98,7 @@ started_at ps old new c p well within none differ starts = record { once = λ l 
         subst (λ (y : WatchedLiterals). same_literal y.first y.second ≡ false) same differ
     differs d r e (inr k) = well.differ d r (sym (elsewhere d k.1) ∙ e)
 
--- what waits last waits
+-- the last pending clause is pending
 pub last_waits : (c : ClauseId) (v : WatchLists) → IsLast c v.waiting.items → Waits c.0 v
 last_waits c v last = count_at v.waiting.items (length v.waiting.items - 1) c last
 
@@ -113,7 +113,8 @@ waiting_within s v c fits last =
     let each : length v.watched.items ≡ length s.clauses = fits.each in
     omega arith
 
--- what the clauses watch after the last one that waited began to: it watches the two, the others what they watched
+-- the watches once the last pending clause is attached: it watches the two, the others are
+-- unchanged
 pub started_pair : (v w : WatchLists) (c : ClauseId) (p : WatchedLiterals) → Starts c p v w → c.0 < length v.watched.items → (n : ℕ)
     → ((n ≡ c.0) × (pair_at w.watched.items n ≡ Some p)) ⊎ ((n ≡ c.0 → ⊥) × (eqb n c.0 ≡ false) × (pair_at w.watched.items n ≡ pair_at v.watched.items n))
 started_pair v w c p starts within n = elim (eqb_tells n c.0) [
@@ -121,7 +122,7 @@ started_pair v w c p starts within n = elim (eqb_tells n c.0) [
   | inr y ↦ inr (y.1, y.0, ap (λ (ps : List (Option WatchedLiterals)). pair_at ps n) starts.watched ∙ pair_at-set_other v.watched.items c.0 n (Some p) (λ e. y.1 (sym e)))
 ]
 
--- what waits after it waited before
+-- a clause that is pending afterwards was pending before
 waited : (v w : WatchLists) (c : ClauseId) (p : WatchedLiterals) → Starts c p v w → (n : ℕ) → Waits n w → Waits n v
 waited v w c p starts n h =
     let all : count n v.waiting.items ≡ count n w.waiting.items + one_if (eqb n c.0) = ap (count n) starts.waiting ∙ count_push n w.waiting.items c in
@@ -181,7 +182,7 @@ started_watching v w c p within starts = record {
     some_none : (q : WatchedLiterals) → Some q ≡ None → ⊥
     some_none q e = cc
 
--- the clause that waited last watches, and what it forces is set
+-- the last pending clause is attached, and its forced literal assigned
 pub settles_one : (s t : SatState) (v w : WatchLists) (c : ClauseId) (p : WatchedLiterals) → IsReady s v → IsLast c v.waiting.items → IsBestPair (made_true (history s)) (clause_at (clauses_of s) c.0) p → IsFirstSet c.0 p s t true → Starts c p v w → IsSettling c.0 s t v w true
 settles_one s t v w c p ready last best (e, front, guards) starts = (
   record {
@@ -212,7 +213,7 @@ settles_one s t v w c p ready last best (e, front, guards) starts = (
         (guards_first t.guard_level (history t) (before t.tracker.trail t.front) (history t) p (λ l j h. stands_by_now t.tracker.trail t.front l j h) guards)
     walks n q is (inr other) = still.walked n q (sym other.2 ∙ is)
 
--- the clause that waits last is wholly false
+-- the last pending clause is falsified
 pub settles_none : (s t : SatState) (v : WatchLists) (c : ClauseId) (p : WatchedLiterals) → IsReady s v → IsLast c v.waiting.items → IsFirstSet c.0 p s t false → IsSettling c.0 s t v v false
 settles_none s t v c p ready last (same, falls) = (same, refl, record { in_range = waits_below s v c.0 ready.fits (last_waits c v last); falls = falls })
 

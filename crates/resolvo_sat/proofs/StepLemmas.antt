@@ -27,7 +27,7 @@ rooted_push : (e : Entry) (h : List Entry) → IsRooted h → IsRooted (e ∷ h)
 rooted_push e [] r = absurd r
 rooted_push e (d ∷ older) r = r
 
--- an entry that may follow comes to the trail's end
+-- an entry that may follow is appended to the trail
 pub state_pushed : (s : SatState) (t : Store.Tracked) (e : Entry) → IsState s → Follows (count_of s) (clauses_of s) e (history s) → t.trail ≡ s.tracker.trail ++ e ∷ [] → IsState (record s { tracker = t })
 state_pushed s t e state follows pushed =
     let newest : reverse t.trail ≡ e ∷ history s = ap reverse pushed ∙ reverse_push s.tracker.trail e in
@@ -88,7 +88,7 @@ last_is_top es = go (reverse es) es (sym (reverse-reverse es))
     go [] es e = ap Store.last_level e
     go (d ∷ older) es e = ap Store.last_level (e ∙ reverse-append (d ∷ []) older) ∙ StoreTrails.last_level_end (reverse older) d
 
--- entries above the level are before what is left
+-- entries above the level are before the remaining ones
 undone_over : (level : ℕ) (h base : List Entry) → ((i : ℕ) (d : Entry) → i < length h → level < (get_or h i d).level) → IsUndone level (h ++ base) base
 undone_over level [] base above = undone_all level base
 undone_over level (e ∷ h) base above = inr (above 0 e (omega arith), undone_over level h base (λ i d lt. above (suc i) d (omega arith)))
@@ -101,7 +101,7 @@ undone_is level a b t =
     let within : i < length t.undone = omega arith in
     subst (λ (e : Entry). level < e.level) (sym (get_or-reverse t.undone i d within)) (t.above (length t.undone - 1 - i) d (omega arith))))
 
--- entries were taken away, and the front was set
+-- entries were undone, and the propagation head was set
 pub state_undone : (s u : SatState) (level : ℕ) → IsState s → 1 ≤ level → Store.Undoes level s.tracker u.tracker → u ≡ record s { tracker = u.tracker; front = u.front; guard_level = u.guard_level } → IsFrontUndone level s u → Undoes level s u
 state_undone s u level state one undoes same front =
     let undone : IsUndone level (history s) (history u) = undone_is level s.tracker u.tracker undoes.0 in

@@ -72,7 +72,7 @@ level_le_length count cs (d ∷ older) t =
     let b : d.level ≤ top_level older + 1 = (level_steps count cs d older t.0).1 in
     omega arith
 
--- what is at or below the level is kept
+-- entries at or below the level are kept
 pub kept : (j : ℕ) (old new : List Entry) (l : Signed) (k : ℕ) → IsUndone j old new → StandsAt old l k → k ≤ j → StandsAt new l k
 kept j [] new l k u s le = absurd s
 kept j (d ∷ older) new l k (inl u) s le = subst (λ (h : List Entry). StandsAt h l k) (sym u) s
@@ -101,7 +101,7 @@ undone_more j (e ∷ older) d new (inl u) h =
     inr (subst (λ (x : Entry). j < x.level) same h, subst (λ (x : List Entry). IsUndone j older x) (sym rest) (undone_all j older))
 undone_more j (e ∷ older) d new (inr u) h = inr (u.0, undone_more j older d new u.1 h)
 
--- what is left is the older part
+-- the remaining entries are the older part
 pub undone_older : (j : ℕ) (old new : List Entry) → IsUndone j old new → EndsWith new old
 undone_older j [] new u = ([], sym u)
 undone_older j (d ∷ older) new (inl u) = ([], sym u)
@@ -111,7 +111,7 @@ false_unless : (b : Bool) → (b ≡ true → ⊥) → b ≡ false
 false_unless true h = absurd (h refl)
 false_unless false h = refl
 
--- what was made true above the level has no value after it is undone
+-- a literal that became true above the level has no value after the undoing
 pub undone_undecided :
     (j count : ℕ) (cs : List (List Signed)) (old new : List Entry) (l : Signed) (k : ℕ)
     → IsTrail count cs old → IsUndone j old new → top_level new ≤ j → StandsAt old l k → j < k → IsUndecided (made_true new) l
@@ -246,7 +246,7 @@ root_stands (e ∷ d ∷ older) r = inr (root_stands (d ∷ older) r)
 pub root_known : (h : List Entry) → IsRooted h → has (made_true h) (yes root) ≡ true
 root_known h r = known_from_stands h (yes root) 1 (root_stands h r)
 
--- what is left of a trail begins with the root too
+-- the rest of a trail begins with the root too
 pub rooted_rest : (p : List Entry) (e : Entry) (base : List Entry) → IsRooted (p ++ e ∷ base) → IsRooted (e ∷ base)
 rooted_rest [] e base r = r
 rooted_rest (d ∷ []) e base r = r

@@ -128,7 +128,7 @@ pub visiting_keeps : (k : ℕ) (l : Signed) (place : ℕ) (c : ClauseId) (p : Wa
     → Keeps l p s t w x → IsVisiting k l (place + 1) o t v x
 visiting_keeps k l place c p o s t v w x propagate_literal at is keeps = subst (IsVisiting k l (place + 1) o t v) (sym keeps.same_watching) (keeps_here k l place c p o s t v w propagate_literal at is keeps.extends keeps.front keeps.guard)
 
--- the other one of the two is true, and its level was noted
+-- the other one of the two is true, and its level was recorded
 pub keeps_noted : (l m : Signed) (p : WatchedLiterals) (s u t : SatState) (w : WatchLists) → m ≡ other_of p l → Extends s u → u.front ≡ s.front → NotesGuard l m u t → Keeps l p s t w w
 keeps_noted l m p s u t w is e front noted =
     let same : history t ≡ history u = ap history noted.same in
@@ -199,7 +199,7 @@ moves_here k l place c o s t v w x propagate_literal at r named = record {
     waits : (n : ℕ) → Waits n w → Waits n x
     waits n h = subst (λ (cs : Vec ClauseId Global). 0 < count n cs.items) (sym r.waiting) h
 
-    -- what waits is not the clause that moved
+    -- a pending clause is not the clause that moved
     unwatched_still : (n : ℕ) → Waits n w → ((eqb n r.moves.clause.0 ≡ true) × (n ≡ r.moves.clause.0)) ⊎ ((eqb n r.moves.clause.0 ≡ false) × (n ≡ r.moves.clause.0 → ⊥)) → pair_at x.watched.items n ≡ None
     unwatched_still n h (inl y) =
         let none : pair_at w.watched.items r.moves.clause.0 ≡ None = subst (λ (i : ℕ). pair_at w.watched.items i ≡ None) y.1 (propagate_literal.fits.unwatched n h) in
@@ -260,7 +260,7 @@ visiting_moves k l place c o s t v w x propagate_literal at r =
     let named : r.moves.clause ≡ c = cc in
     subst (λ (u : SatState). IsVisiting k l place o u v x) (sym r.same_state) (moves_here k l place c o s t v w x propagate_literal at r named)
 
--- a walk begins: what doesn't watch the literal was passed
+-- a walk begins: each clause that doesn't watch the literal was passed
 pub visiting_starts : (k : ℕ) (s : SatState) (w : WatchLists) (l : Signed) → IsState s → IsFit s w → FellAt l k s → IsWalkedTo k s w → IsVisiting k l 0 s s w w
 visiting_starts k s w l state fits fell walked = record {
   fits = fits;
@@ -313,7 +313,7 @@ visiting_ends k l place o s v w propagate_literal end = record {
           | inr e ↦ inr e
         ]
 
--- a clause is wholly false
+-- a clause is falsified
 pub visiting_breaks : (l : Signed) (place n : ℕ) (p : WatchedLiterals) (o s t : SatState) (v w x : WatchLists) → IsVisiting o.front l place o s v w → pair_at w.watched.items n ≡ Some p → Breaks n s t w x → Conflicts n o t v x
 visiting_breaks l place n p o s t v w x propagate_literal is b =
     subst (λ (m : SatState). Conflicts n o m v x) (sym b.same_state)

@@ -45,14 +45,14 @@ standing_on : (p base : List Entry) (e : Entry) (older : List Entry) → StandsO
 standing_on [] base e older s = s
 standing_on (d ∷ p) base e older s = inr (standing_on p base e older s)
 
--- what is before a place is in the trail
+-- an entry before a place is on the trail
 pub inside : (xs : List Entry) (n : ℕ) (l : Signed) (k : ℕ) → StandsAt (before xs n) l k → StandsAt (reverse xs) l k
 inside xs n l k s = subst (λ (h : List Entry). StandsAt h l k) (sym (whole_trail xs n)) (standing (reverse (drop n xs)) (before xs n) l k s)
 
 pub inside_on : (xs : List Entry) (n : ℕ) (e : Entry) (older : List Entry) → StandsOn (before xs n) e older → StandsOn (reverse xs) e older
 inside_on xs n e older s = subst (λ (h : List Entry). StandsOn h e older) (sym (whole_trail xs n)) (standing_on (reverse (drop n xs)) (before xs n) e older s)
 
--- the newest entry of those before a place, with what holds of it
+-- the newest entry before a place, with its properties
 pub record Meets (s : SatState) (p : ℕ) (d : Entry) : Type 0 where
   pub in_range : p < length s.tracker.trail
   pub next : before s.tracker.trail (p + 1) ≡ d ∷ before s.tracker.trail p
@@ -64,7 +64,7 @@ meets s p d state h e =
     let t : IsTrail (count_of s) (clauses_of s) (d ∷ before s.tracker.trail p) = subst (IsTrail (count_of s) (clauses_of s)) e (trail_before (count_of s) (clauses_of s) s.tracker.trail (p + 1) state.trail) in
     record { in_range = h; next = e; follows = t.0; trail = t.1 }
 
--- what is denied before the place, with the newest entry apart
+-- the denied literals before the place, with the newest entry apart
 denied_next : (s : SatState) (p : ℕ) (d : Entry) (seen : List Bool) → Meets s p d → denied seen (before s.tracker.trail (p + 1)) ≡ denied seen (d ∷ before s.tracker.trail p)
 denied_next s p d seen m = ap (denied seen) m.next
 
@@ -162,7 +162,7 @@ not_before h d l u f e = elim (same_or_negated (negation l) (literal_of d) e) [
   | inr i ↦ both_ways _ u.not_false (subst (λ (x : Signed). has (made_true h) x ≡ true) i f)
 ]
 
--- what is newly denied is in the reason
+-- a newly denied literal is in the reason
 from_reason : (s : SatState) (p : ℕ) (d : Entry) (c : List Signed) (old new : List Bool) → Meets s p d → IsForced c (literal_of d) (made_true (before s.tracker.trail p)) → Seen c old new
     → (l : Signed) → has (denied new (before s.tracker.trail p)) l ≡ true → (has (denied old (before s.tracker.trail p)) l ≡ true) ⊎ (has c l ≡ true)
 from_reason s p d c old new m forced marked l h =
@@ -322,7 +322,7 @@ walk_learns s p d seen kept causes below x m marked level above low base_level i
       low = base_level;
     }
 
--- at the trail's front only the kept literals are left
+-- at the trail's start only the kept literals are left
 pub walk_ends : (s : SatState) (seen : List Bool) (kept : List Signed) (causes : List ClauseId) → Walks s [] 0 seen kept causes → IsRefusal s kept (reverse causes)
 walk_ends s seen kept causes w = record {
   derived = w.derived;
@@ -366,7 +366,7 @@ walk_begins s p d none seen m rooted propagated empty marked =
       rootless = still_rootless c none seen marked (ap (λ (xs : List Bool). slice_index_or xs 0 false) empty);
     }
 
--- at the trail's front only the kept literals are left, and that from which the walk began
+-- at the trail's start only the kept literals are left, and that from which the walk began
 pub walk_explains : (s : SatState) (x : Signed) (seen : List Bool) (kept : List Signed) (causes : List ClauseId) → Walks s (x ∷ []) 0 seen kept causes → IsReason s x kept (reverse causes)
 walk_explains s x seen kept causes w = record {
   derived = w.derived;
@@ -398,11 +398,11 @@ pub no_denial : (d : Entry) (v : VariableId) → (nat_eq d.decision.variable.0 v
 no_denial d v (inl other) is = both_ways (nat_eq d.decision.variable.0 v.0) other (subst (λ (x : ℕ). nat_eq d.decision.variable.0 x ≡ true) (ap (λ (l : Signed). l.variable.0) is) (own d.decision.variable.0))
 no_denial d v (inr rose) is = both_ways d.decision.value (ap (λ (l : Signed). l.positive) is) rose
 
--- what is true before an entry is no other literal, or is before it
+-- a literal that is true before an entry is another one, or is before it
 pub true_before : (s : SatState) (p : ℕ) (d : Entry) (l : Signed) → before s.tracker.trail (p + 1) ≡ d ∷ before s.tracker.trail p → (literal_of d ≡ l → ⊥) → has (made_true (before s.tracker.trail (p + 1))) l ≡ true → has (made_true (before s.tracker.trail p)) l ≡ true
 true_before s p d l next other h = elim (has-cons (literal_of d) (made_true (before s.tracker.trail p)) l (subst (λ (x : List Entry). has (made_true x) l ≡ true) next h)) [ inl e ↦ absurd (other e) | inr r ↦ r ]
 
--- what an entry makes true is true
+-- an entry's literal is true
 pub entry_true : (s : SatState) (p : ℕ) (d : Entry) → Meets s p d → has (made_true (history s)) (literal_of d) ≡ true
 entry_true s p d m = known_from_stands (history s) (literal_of d) d.level (stands_from_entry (history s) d (before s.tracker.trail p) (inside_on s.tracker.trail (p + 1) d (before s.tracker.trail p) (subst (λ (x : List Entry). StandsOn x d (before s.tracker.trail p)) (sym m.next) (inl (refl, refl)))))
 
@@ -437,7 +437,7 @@ below_turn s p d state m above =
     let low : d.level ≤ top_level (history s) = level_le_last (count_of s) (clauses_of s) (history s) (literal_of d) d.level state.trail (stands_from_entry (history s) d (before s.tracker.trail p) stands) in
     omega arith
 
--- what was learnt at an entry that is the last of its level, as an analysis
+-- the learnt clause of an entry that is the last of its level, as an analysis
 pub learnt_analysis : (s : SatState) (p : ℕ) (d : Entry) (seen : List Bool) (kept : List Signed) (causes : List ClauseId) (below : ℕ) (literals : List Signed) (x : Analysis) → Meets s p d → is_seen seen d ≡ true → IsMarkedLevel seen (before s.tracker.trail p) below
     → s.base_level < d.level → below < d.level → literals ≡ denied seen (before s.tracker.trail p) → Walks s [] (p + 1) seen kept causes → IsLearntOf literals kept causes d (max s.base_level below) x → IsAnalysis s x
 learnt_analysis s p d seen kept causes below literals (Analysis.Refused x) m marked level above under same w of = absurd of

@@ -31,7 +31,7 @@ taken_more n w v p x h le = omega arith
 power_falls : (count j k : ℕ) → j < k → (count + 1) ^ (count + 1 - k) ≤ (count + 1) ^ (count + 1 - suc j)
 power_falls count j k h = pow-le-pow_right (omega arith) (omega arith)
 
--- what is taken away above the level weighs little
+-- the undone entries above the level weigh little
 pub weight_undone : (count j : ℕ) (old new : List Entry) → IsUndone j old new → (n : ℕ) × (length old ≡ n + length new) × (weight count old ≤ weight count new + n * (count + 1) ^ (count + 1 - suc j))
 weight_undone count j [] new u =
     let e : length new ≡ length {A = Entry} [] = ap length u in
@@ -51,7 +51,7 @@ outweighs count n x h one = let a : n * x ≤ count * x = mul_le n count x h in 
 power_rises : (count j low : ℕ) → suc j ≤ count + 1 → low ≤ j → (count + 1) ^ suc (count + 1 - suc j) ≤ (count + 1) ^ (count + 1 - low)
 power_rises count j low h le = pow-le-pow_right (omega arith) (omega arith)
 
--- A backjump: what was above the level goes, one entry is added at the level that is left.
+-- A backjump: the entries above the level are undone, and one is added at the remaining level.
 pub weight_jump :
     (count j : ℕ) (cs : List (List Signed)) (old new : List Entry) (l : Signed) (k : ℕ)
     → IsTrail count cs old → IsUndone j old new → top_level new ≤ j → StandsAt old l k → j < k

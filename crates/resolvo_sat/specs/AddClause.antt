@@ -13,7 +13,7 @@ use Rattle.resolvo_sat.specs.State.{history}
 use Rattle.resolvo_sat.specs.Steps.{Adds, forced_entry}
 use Rattle.resolvo_sat.specs.Propagation.{HasTwo, IsOnly, IsReady, AreCovered}
 
--- the list, with this one behind the others where it belongs there
+-- the list, with this item appended where the flag is set
 abbrev pub with_last : {X : Type 0} → Bool → X → List X → List X
 with_last true x xs = xs ++ x ∷ []
 with_last false x xs = xs
@@ -23,7 +23,8 @@ abbrev pub HasAnother : List Signed → Signed → Bool → Type 0
 HasAnother clause l true = HasTwo clause
 HasAnother clause l false = IsOnly clause l
 
--- the clause of the next number watches nothing: it waits, or is noted as a rule or a learnt clause of one literal
+-- the clause of the next number watches nothing: it is pending, or listed as a unit clause, a rule
+-- or a learnt one
 pub record Begins (x : UnitClause) (is_long is_rule : Bool) (old new : WatchLists) : Type 0 where
   pub watched : new.watched.items ≡ old.watched.items ++ None ∷ []
   pub watches : new.watches ≡ old.watches
@@ -31,7 +32,7 @@ pub record Begins (x : UnitClause) (is_long is_rule : Bool) (old new : WatchList
   pub assertions : new.assertions.items ≡ with_last (not is_long && is_rule) x old.assertions.items
   pub learnt : new.learnt.items ≡ with_last (not is_long && not is_rule) x old.learnt.items
 
--- the clause was added behind the others, and the watch lists note it
+-- the clause was appended, and the watch lists list it
 pub record Comes (c : SatClause) (id : ClauseId) (old : SatState) (v : WatchLists) (new : SatState) (w : WatchLists) : Type 0 where
   pub adds : Adds c id old new
   pub ready : IsReady new w

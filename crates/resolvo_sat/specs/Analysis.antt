@@ -18,7 +18,7 @@ use Rattle.resolvo_sat.specs.State.{history, clauses_of, IsDerived}
 abbrev pub is_seen : List Bool → Entry → Bool
 is_seen seen e = slice_index_or seen e.decision.variable.0 false
 
--- the negations of what the marked entries make true
+-- the negations of the marked entries' literals
 abbrev pub denied : List Bool → List Entry → List Signed
 denied seen [] = []
 denied seen (e ∷ older) = cond (is_seen seen e) (negation (literal_of e) ∷ denied seen older) (denied seen older)
@@ -43,7 +43,8 @@ IsAssertion s seen e older (Some below) = (s.base_level < e.level) × (below < e
 abbrev pub IsSolvable : SatState → ℕ → Type 0
 IsSolvable s v = slice_get s.variables.items v ≡ Some Solvable
 
--- a choice that the search does not go behind: a solvable chosen before the turn, or the choice that began it
+-- a decision that the search does not undo: a solvable chosen before the turn, or the decision that
+-- began it
 pub record IsKept (s : SatState) (e : Entry) (older : List Entry) : Type 0 where
   pub chosen : e.decision.value ≡ true
   pub low : e.level ≤ s.base_level
@@ -110,7 +111,7 @@ abbrev pub IsAnalysis : SatState → Analysis → Type 0
 IsAnalysis s (Analysis.Refused x) = IsRefusal s x.literals.items x.causes.items
 IsAnalysis s (Analysis.Learnt x) = IsLearnt s x
 
--- what was learnt where this entry is the last of its level, from these parts
+-- the learnt clause of an entry that is the last of its level, from these parts
 abbrev pub IsLearntOf : List Signed → List Signed → List ClauseId → Entry → ℕ → Analysis → Type 0
 IsLearntOf literals kept causes e level (Analysis.Refused x) = ⊥
 IsLearntOf literals kept causes e level (Analysis.Learnt x) = (x.literals.items ≡ (literals ++ kept) ++ negation (literal_of e) ∷ []) × (x.causes.items ≡ reverse causes) × (x.asserting ≡ negation (literal_of e)) × (x.level ≡ level)

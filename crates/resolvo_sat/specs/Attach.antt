@@ -37,7 +37,7 @@ pub record IsBestPair (known clause : List Signed) (p : WatchedLiterals) : Type 
   pub first : has known (negation p.first) ≡ true → has known (negation p.second) ≡ true
   pub others : has known (negation p.second) ≡ true → AreFalseBut p.first known clause
 
--- where one of the two is false, the other one is true; or the clause is wholly false
+-- where one of the two is false, the other one is true; or the clause is falsified
 abbrev pub IsFirstSet : ℕ → WatchedLiterals → SatState → SatState → Bool → Type 0
 IsFirstSet n p old new true = Extends old new × (new.front ≡ old.front) × GuardsTo new.guard_level (history new) (history new) p
 IsFirstSet n p old new false = (new ≡ old) × IsFalseUnder (made_true (history old)) (clause_at (clauses_of old) n)
@@ -54,18 +54,18 @@ pub record Starts (c : ClauseId) (p : WatchedLiterals) (v w : WatchLists) : Type
   pub assertions : w.assertions ≡ v.assertions
   pub learnt : w.learnt ≡ v.learnt
 
--- clauses that waited watch, and what they force is set
+-- pending clauses were attached, and their forced literals assigned
 pub record Settles (old new : SatState) (v w : WatchLists) : Type 0 where
   pub watching : SameWatching v w
   pub ready : IsReady new w
   pub extends : Extends old new
 
--- one clause less waits; or the clause is wholly false, and all is as it was
+-- one clause less is pending; or the clause is falsified, and nothing changed
 abbrev pub IsSettling : ℕ → SatState → SatState → WatchLists → WatchLists → Bool → Type 0
 IsSettling n old new v w true = Settles old new v w × (length w.waiting.items + 1 ≡ length v.waiting.items)
 IsSettling n old new v w false = (new ≡ old) × (w ≡ v) × IsBroken n old
 
--- no clause waits any longer; or one of those that do is wholly false
+-- no clause is pending any longer; or one of the pending ones is falsified
 abbrev pub IsWaitingEnd : SatState → SatState → WatchLists → WatchLists → Option ClauseId → Type 0
 IsWaitingEnd old new v w None = Settles old new v w × ((n : ℕ) → Waits n w → ⊥)
 IsWaitingEnd old new v w (Some n) = Conflicts n.0 old new v w

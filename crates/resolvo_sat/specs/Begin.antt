@@ -30,7 +30,7 @@ pub record Begun (s : SatState) (w : WatchLists) : Type 0 where
   pub trail : s.tracker.trail ≡ root_entry ∷ []
   pub base_level : s.base_level ≡ 1
 
--- the variable was added behind the others
+-- the variable was appended
 pub record AddsVariable (kind : VariableKind) (v : VariableId) (old new : SatState) : Type 0 where
   pub state : IsState new
   pub number : v.0 ≡ length old.variables.items

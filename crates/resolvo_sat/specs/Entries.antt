@@ -72,7 +72,7 @@ abbrev pub IsUndone : ℕ → List Entry → List Entry → Type 0
 IsUndone level [] new = new ≡ []
 IsUndone level (e ∷ older) new = (new ≡ e ∷ older) ⊎ ((level < e.level) × IsUndone level older new)
 
--- the trail goes on from an older one
+-- the trail extends an older one
 abbrev pub EndsWith : List Entry → List Entry → Type 0
 EndsWith base h = (p : List Entry) × (h ≡ p ++ base)
 

@@ -1,4 +1,4 @@
--- Clauses under what is known, and under values of the variables.
+-- Clauses under known literals, and under values of the variables.
 use Rattle.std.specs.Prelude.{◌≡◌, ℕ, zero, suc, ◌⊎◌, Bool, true, false, List, [], ◌∷◌}
 use Rattle.std.proofs.Math.Bool.{beq}
 use Rattle.resolvo_store_core.specs.Signed.{Signed, negation, has}

@@ -1,4 +1,4 @@
--- What follows from the trail: walks over the clauses that watch what fell.
+-- Unit propagation: walks over the clauses that watch false literals.
 use Rattle.std.specs.Prelude.{◌≡◌, ℕ, ◌+◌, ◌<◌, ◌≤◌, ◌⊎◌, Bool, true, false, List, [], ◌∷◌, ◌++◌, drop, length, max, Option, Some, None}
 use Rattle.resolvo_pool_core.specs.declared.id.ClauseId.{ClauseId}
 use Rattle.resolvo_store_core.specs.Signed.{Signed, negation, same_literal, has}
@@ -53,7 +53,7 @@ pub record IsFit (s : SatState) (w : WatchLists) : Type 0 where
   pub two : (n : ℕ) → Waits n w → HasTwo (clause_at (clauses_of s) n)
   pub once : (n : ℕ) → count n w.waiting.items ≤ 1
 
--- where one of the two fell among the first literals, the other one is true
+-- where one of the two is false by the first literals, the other one is true
 pub record Guards (fallen known : List Signed) (p : WatchedLiterals) : Type 0 where
   pub first : has fallen (negation p.first) ≡ true → has known p.second ≡ true
   pub second : has fallen (negation p.second) ≡ true → has known p.first ≡ true
@@ -62,34 +62,36 @@ pub record Guards (fallen known : List Signed) (p : WatchedLiterals) : Type 0 wh
 abbrev pub IsGuard : ℕ → ℕ → List Entry → Signed → Type 0
 IsGuard g k all l = (j : ℕ) × (j ≤ max g k) × StandsAt all l j
 
--- where one of the two fell among the first entries, the other one guards it
+-- where one of the two is false by the first entries, the other one guards it
 pub record GuardsTo (g : ℕ) (fallen all : List Entry) (p : WatchedLiterals) : Type 0 where
   pub first : (k : ℕ) → StandsAt fallen (negation p.first) k → IsGuard g k all p.second
   pub second : (k : ℕ) → StandsAt fallen (negation p.second) k → IsGuard g k all p.first
 
 -- the first k entries of the trail were walked: in each clause where one of the two watched literals
--- fell by them, the other one is true and guards it
+-- is false by them, the other one is true and guards it
 abbrev pub IsWalkedTo : ℕ → SatState → WatchLists → Type 0
 IsWalkedTo k s w = (n : ℕ) (p : WatchedLiterals) → pair_at w.watched.items n ≡ Some p → GuardsTo s.guard_level (before s.tracker.trail k) (history s) p
 
--- the level of a true literal beside one that fell is among the guards' levels now
+-- the level of a true literal beside a false one is among the guards' levels now
 pub record NotesGuard (l m : Signed) (old new : SatState) : Type 0 where
   pub same : new ≡ record old { guard_level = new.guard_level }
   pub higher : old.guard_level ≤ new.guard_level
   pub guard : (k : ℕ) → StandsAt (history old) (negation l) k → IsGuard new.guard_level k (history old) m
 
--- what holds of the watches between calls: they fit the clauses, and the trail was walked up to its front
+-- the invariant of the watches between calls: they fit the clauses, and the trail was walked up to
+-- the propagation head
 pub record IsReady (s : SatState) (w : WatchLists) : Type 0 where
   pub state : IsState s
   pub fits : IsFit s w
   pub front : s.front ≤ length s.tracker.trail
   pub walked : IsWalkedTo s.front s w
 
--- the clause is noted as one of one literal
+-- the clause is listed as a unit clause
 abbrev pub IsNoted : ℕ → WatchLists → Type 0
 IsNoted n w = (x : UnitClause) × (x.clause.0 ≡ n) × (HasSingle w.assertions.items x ⊎ HasSingle w.learnt.items x)
 
--- a clause that watches nothing is the root's, which is the first, or is noted as a unit clause, or is pending
+-- a clause that watches nothing is the root's, which is the first, or is listed as a unit clause,
+-- or is pending
 pub record AreCovered (s : SatState) (w : WatchLists) : Type 0 where
   pub assertions : AreSingles (clauses_of s) w.assertions.items
   pub learnt : AreSingles (clauses_of s) w.learnt.items
@@ -105,7 +107,7 @@ pub record SameWatching (v w : WatchLists) : Type 0 where
   pub waited : (n : ℕ) → Waits n w → Waits n v
   pub waits : (n : ℕ) → Waits n v → pair_at w.watched.items n ≡ None → Waits n w
 
--- where one of the two is this literal, which fell, the other one guards it
+-- where one of the two is this literal, which is false, the other one guards it
 pub record Passed (l : Signed) (g : ℕ) (all : List Entry) (p : WatchedLiterals) : Type 0 where
   pub first : p.first ≡ l → (k : ℕ) → StandsAt all (negation l) k → IsGuard g k all p.second
   pub second : p.second ≡ l → (k : ℕ) → StandsAt all (negation l) k → IsGuard g k all p.first
@@ -135,7 +137,7 @@ abbrev pub IsFree : List Signed → List Signed → WatchedLiterals → Option S
 IsFree known clause p None = (m : Signed) → has clause m ≡ true → (watches (Some p) m ≡ true) ⊎ (has known (negation m) ≡ true)
 IsFree known clause p (Some l) = (has clause l ≡ true) × (watches (Some p) l ≡ false) × (has known (negation l) ≡ false)
 
--- the clause's other watched literal is true, and guards the one that fell
+-- the clause's other watched literal is true, and guards the false one
 pub record Keeps (l : Signed) (p : WatchedLiterals) (s t : SatState) (w x : WatchLists) : Type 0 where
   pub extends : Extends s t
   pub front : t.front ≡ s.front
@@ -166,12 +168,12 @@ IsMeeting l place n p s w t x WatchVisit.Kept = Keeps l p s t w x
 IsMeeting l place n p s w t x WatchVisit.Moved = Replaces l place n s t w x
 IsMeeting l place n p s w t x WatchVisit.Broken = Breaks n s t w x
 
--- the clause is wholly false
+-- the clause is falsified
 pub record IsBroken (n : ℕ) (s : SatState) : Type 0 where
   pub in_range : n < length s.clauses
   pub falls : IsFalseUnder (made_true (history s)) (clause_at (clauses_of s) n)
 
--- the first k entries of the trail were walked, and what follows was added
+-- the first k entries of the trail were walked, and the forced literals assigned
 pub record Walked (k : ℕ) (old new : SatState) (v w : WatchLists) : Type 0 where
   pub watching : SameWatching v w
   pub fits : IsFit new w
@@ -188,7 +190,8 @@ abbrev pub IsQuiet : List Signed → List Signed → Type 0
 IsQuiet known clause = ((l : Signed) × (has clause l ≡ true) × (has known l ≡ true))
     ⊎ ((l : Signed) × (m : Signed) × (has clause l ≡ true) × (has clause m ≡ true) × (same_literal l m ≡ false) × (has known (negation l) ≡ false) × (has known (negation m) ≡ false))
 
--- nothing is left to set: no clause is wholly false, and none has one literal left; all of the trail was walked, and no clause waits
+-- propagation is complete: no clause is falsified or unit, all of the trail was walked, and no
+-- clause is pending
 pub record IsComplete (old new : SatState) (v w : WatchLists) : Type 0 where
   pub watching : SameWatching v w
   pub ready : IsReady new w
@@ -197,14 +200,14 @@ pub record IsComplete (old new : SatState) (v w : WatchLists) : Type 0 where
   pub settled : (n : ℕ) → Waits n w → ⊥
   pub quiet : (n : ℕ) → n < length new.clauses → IsQuiet (made_true (history new)) (clause_at (clauses_of new) n)
 
--- the clause is wholly false by what follows
+-- propagation ended in a conflict: the clause is falsified
 pub record Conflicts (n : ℕ) (old new : SatState) (v w : WatchLists) : Type 0 where
   pub watching : SameWatching v w
   pub ready : IsReady new w
   pub extends : Extends old new
   pub broken : IsBroken n new
 
--- a broken clause, or the literal of the entry at the front was walked over
+-- a falsified clause, or the literal of the entry at the propagation head was walked over
 abbrev pub IsVisit : SatState → SatState → WatchLists → WatchLists → Option ClauseId → Type 0
 IsVisit old new v w None = Walked (old.front + 1) old new v w
 IsVisit old new v w (Some n) = Conflicts n.0 old new v w
@@ -228,12 +231,12 @@ abbrev pub IsSinglesEnd : List UnitClause → SatState → SatState → Option C
 IsSinglesEnd singles old new None = SetsSingles singles old new
 IsSinglesEnd singles old new (Some n) = Extends old new × (new.front ≡ old.front) × IsBroken n.0 new
 
--- the literal fell by the entry of this place
+-- the entry of this place makes the literal false
 pub record FellAt (l : Signed) (place : ℕ) (s : SatState) : Type 0 where
   pub in_range : place < length s.tracker.trail
   pub entry : made_true (before s.tracker.trail (place + 1)) ≡ negation l ∷ made_true (before s.tracker.trail place)
 
--- the literal that fell by the entry at the front; or there is no entry there
+-- the literal that the entry at the propagation head makes false; or there is no entry there
 abbrev pub IsNextFallen : SatState → Option Signed → Type 0
 IsNextFallen s None = length s.tracker.trail ≤ s.front
 IsNextFallen s (Some l) = FellAt l s.front s

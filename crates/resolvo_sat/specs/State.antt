@@ -48,7 +48,7 @@ abbrev pub AreDerived : List SatClause → Type 0
 AreDerived [] = Unit {0}
 AreDerived (c ∷ older) = (0 < length c.causes.items → IsDerived (lists (reverse older)) c.literals.items c.causes.items) × AreDerived older
 
--- what holds of the search's state between its steps
+-- the invariant of the search's state between its steps
 pub record IsState (s : SatState) : Type 0 where
   pub trail : IsTrail (count_of s) (clauses_of s) (history s)
   pub derived : AreDerived (reverse s.clauses)

@@ -47,7 +47,8 @@ pub record Chooses (v : VariableId) (c : ClauseId) (old new : SatState) : Type 0
   pub front : new.front ≡ old.front
   pub guard : new.guard_level ≡ old.guard_level
 
--- propagation begins anew at the trail's first entry; or it goes on behind what is left, as no guard was above the level
+-- propagation restarts at the trail's first entry; or it continues after the remaining ones, as no
+-- guard was above the level
 abbrev pub IsFrontUndone : ℕ → SatState → SatState → Type 0
 IsFrontUndone level old new = (new.front ≡ 0) ⊎ ((old.guard_level ≤ level) × (new.guard_level ≡ old.guard_level) × (new.front ≡ min old.front (length new.tracker.trail)))
 
@@ -59,7 +60,7 @@ pub record Undoes (level : ℕ) (old new : SatState) : Type 0 where
   pub low : top_level (history new) ≤ level
   pub front : IsFrontUndone level old new
 
--- the clause was added behind the others
+-- the clause was appended
 pub record Adds (c : SatClause) (id : ClauseId) (old new : SatState) : Type 0 where
   pub state : IsState new
   pub variables : new.variables ≡ old.variables

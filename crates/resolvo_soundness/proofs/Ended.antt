@@ -133,7 +133,7 @@ module _ {N S : Type 0} (same : S → S → Bool) (exact : IsExact same) (same_n
   pub does_obey : Obeys same p root members
   does_obey = record { requirements_met = needs_are_met; constraints_kept = limits_are_kept }
 
-  -- a clause that bars a solvable keeps it out
+  -- a clause that forbids a solvable keeps it out
   pub barred_out : (s : S) → HasBar rules s → is_in same p members s ≡ false
   barred_out s (w, r) = false_from_ne_true _ (λ c. quiet_single known (minus (Atom.solvable s)) (end.quiet _ r) (end.true_on_trail s c))
 
@@ -148,7 +148,7 @@ module _ {N S : Type 0} (same : S → S → Bool) (exact : IsExact same) (same_n
       let f : bit ≡ other = eqb-true bit other parts.1 in
       sym (λ i. Atom.digit (e i) (f i))
 
-  -- a digit that the trail tells is the one that is read from it
+  -- a digit that is true on the trail is the one that is read from it
   digit_given : (n : N) (bit : ℕ) (b : Bool) (l : Literal (Atom N S)) → l ≡ record { atom = Atom.digit n bit; positive = b } → Contains known l → digits_in same_name known n bit ≡ b
   digit_given n bit true l is a =
       contained_any (λ (m : Literal (Atom N S)). is_digit same_name n bit m.atom && m.positive) l known a
@@ -171,14 +171,14 @@ module _ {N S : Type 0} (same : S → S → Bool) (exact : IsExact same) (same_n
         told = λ s bit b a i. (let d : Literal (Atom N S) = record { atom = Atom.digit (p.package_of s) bit; positive = b } in digit_given (p.package_of s) bit b d refl (quiet_second known (minus (Atom.solvable s)) d (end.quiet _ a) (end.true_on_trail s (c.inside s i))));
       }
 
-  -- what the turn chose is reached
+  -- each chosen solvable of the turn is reached
   pub all_reached : (s : S) → is_in same p members s ≡ true → IsReached same p root wishes members s
   all_reached s i part c = true_plus _ (trail_holds same exact p root rules registered wishes members part (digits_in same_name known) known end.register.rule (part_holds part c) c end.chosen end.trail (plus (Atom.solvable s)) (end.true_on_trail s i))
 
   reached_inside : (s : S) → IsReached same p root wishes members s → is_in same p members s ≡ true
   reached_inside s r = r members (record { inside = λ t i. i; wished = λ t w i. i; matches = λ parent need t m a b e i. i })
 
-  -- a barred member's package is not named
+  -- a forbidden member's package is not named
   unnamed : (s : S) → is_in same p members s ≡ true → is_barred same p s ≡ true → IsNamed same p root members (p.package_of s) → ⊥
   unnamed s i b (inl n) = both_ways _ (barred_out s (end.encoded.bar n.parent n.version_set s n.member n.stated (subst (λ m. is_in same p (listed (p.candidates_of m)) s ≡ true) (sym n.names) (is_single.listed s i), b))) i
   unnamed s i b (inr n) =
@@ -202,7 +202,8 @@ module _ {N S : Type 0} (same : S → S → Bool) (exact : IsExact same) (same_n
   in_but : (s t : S) → is_in same p members t ≡ true → (t ≡ s → ⊥) → is_in same p (but s) t ≡ true
   in_but s t c n = contained_in same exact p (but s) t (contains_filter (λ x. not (same x s)) t members (in_contained same exact p members t c) (not_from_false _ (false_from_ne_true _ (λ e. n (exact.one t s e)))))
 
-  -- without a solvable that is no wish and whose package is not named, the members are closed
+  -- without a solvable that is no soft requirement and whose package is not named, the members are
+  -- closed
   without_closed : (s : S) → is_in same p wishes s ≡ false → (IsNamed same p root members (p.package_of s) → ⊥) → IsClosed same p root wishes members (but s)
   without_closed s w n = record {
     inside = λ t c. (but_in s t c).0;
@@ -248,7 +249,7 @@ module _ {N S : Type 0} (same : S → S → Bool) (exact : IsExact same) (same_n
   turn_is_right = record { keeping = is_exempt_keeping; reached = all_reached; inside = reached_inside }
 
 module _ {N S : Type 0} (same : S → S → Bool) (exact : IsExact same) (p : Packages N S) (root : Rules) where
-  -- without wishes the set is plainly rule-keeping
+  -- without soft requirements the set keeps all rules
   pub keeping_without_wishes : (chosen : List S) → IsExemptKeeping same p root [] chosen → IsRuleKeeping same p root chosen
   keeping_without_wishes chosen k = record {
     single = k.single;

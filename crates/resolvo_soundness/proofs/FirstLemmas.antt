@@ -152,11 +152,12 @@ module _ {N S : Type 0} (same : S → S → Bool) (exact : IsExact same) (p : Pa
             let is : t ≡ g = one_match first (alternatives_of p.members_of need.requirement) v t g end.lawful f.keeping.single alone e meeting (inside t c) (f.holds parent need g up n bound i) in
             subst (λ x. is_in same p members x ≡ true) is c
 
-        -- At the end of a turn without wishes the members are the first choices.
+        -- At the end of a turn without soft requirements the members are the first choices.
         first_choices : (first : List S) → IsFirstChoices same p tried root first → (s : S) → is_in same p members s ≡ is_in same p first s
         first_choices first f s = one_truth _ _ (among first (first_unbeaten first f) s) (f.least members (members_hold first f) s)
 
-      -- At the end of a turn without wishes the members were chosen in the order in which they are tried.
+      -- At the end of a turn without soft requirements the members were chosen in the order in
+      -- which they are tried.
       pub end_preferred : ArePreferred same p orders root members
       end_preferred = record {
         within = among;

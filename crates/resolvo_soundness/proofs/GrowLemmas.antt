@@ -1,4 +1,4 @@
--- More rules, clauses and variables leave standing what holds.
+-- More rules, clauses and variables keep the invariant.
 use Rattle.std.proofs.Common.{◌≡◌, ℕ, zero, suc, ◌+◌, ◌<◌, ◌⊎◌, inl, inr, Bool, true, false, ◌==◌, List, [], ◌∷◌, ◌++◌, length, reverse, cond, refl, sym, ◌∙◌, ap, subst, arith}
 use Rattle.std.specs.Prelude.{Contains}
 use Rattle.std.proofs.lemmas.Bool.{both_ways}
@@ -25,7 +25,7 @@ use Rattle.resolvo_soundness.specs.First.{IsFirstPick}
 use Rattle.resolvo_soundness.specs.Numbered.{meaning, Means, meanings, known_of, IsOnce, Spells, AreCalledFor, IsAccounted, AreCoded}
 use Rattle.resolvo_soundness.proofs.Lists.{contains_none, contains_cases, contains_one, contains_parts}
 
--- an entry of a trail, with what is before it, is one
+-- an entry of a trail, with those before it, is a trail
 stands_trail : (count : ℕ) (cs : List (List Signed)) (h : List Entry) (e : Entry) (older : List Entry) → IsTrail count cs h → StandsOn h e older → IsTrail count cs (e ∷ older)
 stands_trail count cs [] e older t s = absurd s
 stands_trail count cs (d ∷ rest) e older t (inl (same, before)) = subst (λ (xs : List Entry). IsTrail count cs (e ∷ xs)) before (subst (λ (x : Entry). IsTrail count cs (x ∷ rest)) same t)
@@ -39,7 +39,7 @@ place_of_held (d ∷ cs) c h = elim (contains_cases c d cs h) [
   | inr a ↦ let (n, below, e) = place_of_held cs c a in (suc n, omega arith, e)
 ]
 
--- a literal of a clause is in one of the old clauses, or in one of those that came
+-- a literal of a clause is in one of the old clauses, or in a new one
 has_in_more : (xs ys : List (List Signed)) (n : ℕ) (l : Signed) → has (clause_at (xs ++ ys) n) l ≡ true → (has (clause_at xs n) l ≡ true) ⊎ ((k : ℕ) × (has (clause_at ys k) l ≡ true))
 has_in_more [] ys n l h = inr (n, h)
 has_in_more (x ∷ xs) ys zero l h = inl h
@@ -75,7 +75,7 @@ pub called_choice : {N S : Type 0} (origin : ℕ → Atom N S) (choice : List (L
 called_choice origin choice e h now called d older (inl (same, before)) is other = subst (λ (xs : List Entry). choice (known_of origin xs) (meaning origin (literal_of d))) before (subst (λ (x : Entry). choice (known_of origin h) (meaning origin (literal_of x))) same now)
 called_choice origin choice e h now called d older (inr stands) is other = called d older stands is other
 
--- variables were added, and the first ones are for what they were
+-- variables were added, and the first ones represent the same atoms
 module _ {N S : Type 0} (origin other : ℕ → Atom N S) (count : ℕ) (agree : (n : ℕ) → 0 < n → n < count → origin n ≡ other n) where
   meaning_agrees : (l : Signed) → 0 < l.variable.0 → l.variable.0 < count → meaning origin l ≡ meaning other l
   meaning_agrees l a b = ap (λ (x : Atom N S). let m : Literal (Atom N S) = record { atom = x; positive = l.positive } in m) (agree l.variable.0 a b)
@@ -90,7 +90,7 @@ module _ {N S : Type 0} (origin other : ℕ → Atom N S) (count : ℕ) (agree :
           ap (λ (m : Literal (Atom N S)). cond (x.variable.0 == 0) (meanings origin xs) (m ∷ meanings origin xs)) (meaning_agrees x (omega arith) (omega arith))
           ∙ ap (λ (ms : List (Literal (Atom N S))). cond (x.variable.0 == 0) ms (meaning other x ∷ ms)) rest
 
-  -- what choices were called for stands
+  -- a reason for a choice remains one
   pub called_grows : (choice wider : List (Literal (Atom N S)) → Literal (Atom N S) → Type 0) (cs : List (List Signed)) (h : List Entry) → IsTrail count cs h
       → ((known : List (Literal (Atom N S))) (l : Literal (Atom N S)) → choice known l → wider known l) → AreCalledFor origin choice h → AreCalledFor other wider h
   called_grows choice wider cs h t f called e older stands is a =
@@ -99,14 +99,14 @@ module _ {N S : Type 0} (origin other : ℕ → Atom N S) (count : ℕ) (agree :
       subst (λ m. wider (known_of other older) m) (meaning_agrees (literal_of e) a part.0.in_range)
       (subst (λ k. wider k (meaning origin (literal_of e))) (meanings_agree (made_true older) (λ l h. known_in_range count cs older l part.1 h)) now)
 
-  -- what a clause spells stands
+  -- a clause that spells a rule still does
   pub spells_agree : (clause : List Signed) (literals : List (Literal (Atom N S))) → ((l : Signed) → has clause l ≡ true → l.variable.0 < count) → Spells origin clause literals → Spells other clause literals
   spells_agree clause literals below s = record {
     only = λ l h. elim (s.only l h) [ inl e ↦ inl e | inr (a, c) ↦ inr (a, subst (Contains literals) (meaning_agrees l a (below l h)) c) ];
     each = λ m c. (let (l, h, (a, e)) = s.each m c in (l, h, (a, e ∙ meaning_agrees l a (below l h))));
   }
 
-  -- Clauses, rules, variables and registered solvables came, and leave all coded.
+  -- Clauses, rules, variables and registered solvables were added, and all is still coded.
   pub coded_grows : (same : S → S → Bool) (p : Packages N S) (rules more : Rule N S → Type 0) (registered wider : S → Type 0) (larger : ℕ) (cs ds : List SatClause)
       → IsOnce other larger → ((r : Rule N S) → rules r → more r) → ((s : S) → registered s → wider s)
       → ((n : ℕ) (l : Signed) → has (clause_at (lists (cs ++ ds)) n) l ≡ true → l.variable.0 < larger) → AreDerived (reverse (cs ++ ds))
@@ -119,7 +119,7 @@ module _ {N S : Type 0} (origin other : ℕ → Atom N S) (count : ℕ) (agree :
     in_range = in_range;
     derived = derived;
     accounted = λ c h. elim (contains_parts c cs ds h) [ inl a ↦ old c a (coded.accounted c a) | inr a ↦ accounted c a ];
-    stated = λ r h. elim (stated r h) [ inl a ↦ kept r (coded.stated r a) | inr a ↦ a ];
+    spelled = λ r h. elim (stated r h) [ inl a ↦ kept r (coded.spelled r a) | inr a ↦ a ];
     positive = λ n l s h m. elim (has_in_more (lists cs) (lists ds) n l (subst (λ (xs : List (List Signed)). has (clause_at xs n) l ≡ true) (lists-append cs ds) h)) [
       | inl a ↦ registers s (coded.positive n l s a (m.0, m.1 ∙ sym (meaning_agrees l m.0 (coded.in_range n l a))))
       | inr (k, a) ↦ positive k l s a m
@@ -159,7 +159,7 @@ coded_learnt origin same p rules registered count cs c caused from derived coded
       | inr (k, a) ↦ let (j, b) = from l (here k l a) in coded.in_range j l b
     ]
 
--- At its start the search has the root's clause alone, and no rule is stated.
+-- At its start the search has the root's clause alone, and no clause encodes a rule.
 pub coded_begins : {N S : Type 0} (origin : ℕ → Atom N S) (same : S → S → Bool) (p : Packages N S) (registered : S → Type 0) (cs : List SatClause) → IsRootClause cs → AreCoded origin same p (λ r. ⊥) registered 1 cs
 coded_begins origin same p registered [] h = absurd h
 coded_begins origin same p registered (c ∷ d ∷ cs) h = absurd h
@@ -168,7 +168,7 @@ coded_begins origin same p registered (c ∷ []) (is, none) = record {
   in_range = λ n l h. (let z : l.variable.0 ≡ 0 = ap (λ (x : Signed). x.variable.0) (of_root n l h) in omega arith);
   derived = ((λ some. let z : length c.causes.items ≡ 0 = ap length none in absurd (omega arith)), tt);
   accounted = λ d a. subst (IsAccounted origin same p (λ r. ⊥)) (sym (contains_one d c a)) (inr (inl (subst (λ (x : List Signed). has x (yes root_variable) ≡ true) (sym is) refl)));
-  stated = λ r f. absurd f;
+  spelled = λ r f. absurd f;
   positive = λ n l s h m. (let z : l.variable.0 ≡ 0 = ap (λ (x : Signed). x.variable.0) (of_root n l h) in let other : 0 < l.variable.0 = m.0 in absurd (omega arith));
 }
   where

@@ -22,7 +22,7 @@ use Rattle.resolvo_store_core.proofs.CaseLaws.{exact_cases}
 use Rattle.resolvo_soundness.specs.Encoding.{IsExact, Atom, plus, minus, solvables, has_condition, same_requirement, asks, cases_under, cases_for, case_holds, case_literals, candidate_literals, Bar, KeepsOut}
 use Rattle.resolvo_soundness.proofs.Lists.{contains_first, contains_later, contains_none, contains_cases, contains_left, contains_right, contains_parts, contains_map, map_contains, contains_filter, filter_contains, any_contained, contained_any, none_contained}
 
--- what is kept out is barred, or its dependencies are unknown
+-- a solvable that is kept out is forbidden, or its dependencies are unknown
 pub kept_out : {N S : Type 0} (same : S → S → Bool) → IsExact same → (p : Packages N S) (w : Bar S) (s : S) → KeepsOut same p w s → (is_barred same p s || is_unknown (p.dependencies_of s)) ≡ true
 kept_out same exact p (Bar.lock l) s (is, other, listed) = or_left _ _ (or_left _ _ (ap (λ o. locks_out same o s) is ∙ ap not other))
 kept_out {S = S} same exact p (Bar.word why) s (inl h) = or_left _ _ (or_right _ _ (contained_any (λ (e : S × StringId). same e.0 s) (s, why) (listing_for same p s).excluded h (exact.own s)))

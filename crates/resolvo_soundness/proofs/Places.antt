@@ -1,4 +1,4 @@
--- Places below a power of two are told apart by a digit.
+-- Different places below a power of two differ in a digit.
 use Rattle.std.proofs.Common.{◌≡◌, ℕ, zero, suc, ◌/◌, ◌^◌, ◌<◌, ◌⊎◌, inl, inr, Bool, true, false, not, refl, sym, ◌∙◌, ap, subst, arith}
 use Rattle.resolvo_store_core.specs.AtMostOne.{digit}
 use Rattle.resolvo_store_core.proofs.Digits.{same_digits}
@@ -30,7 +30,8 @@ first_digits (suc h) j k = elim (same_or_not (digit j zero) (digit k zero)) [
 pub told_by_digit : (h j k : ℕ) → j < 2 ^ h → k < 2 ^ h → (j ≡ k) ⊎ ((i : ℕ) × (i < h) × (digit j i ≡ not (digit k i)))
 told_by_digit h j k a b = elim (first_digits h j k) [ inl f ↦ inl (same_digits h j k a b f) | inr d ↦ inr d ]
 
--- solvables whose places have all their digits told are one where the places are, and else told apart
+-- solvables whose places have rules for all their digits are the same where the places are, and
+-- else differ in a digit
 pub places_tell : {N S : Type 0} (rules : Rule N S → Type 0) (place : S → ℕ) (h : ℕ) (s t : S) → place s < 2 ^ h → place t < 2 ^ h
     → ((i : ℕ) → i < h → rules (Rule.has_digit s i (digit (place s) i))) → ((i : ℕ) → i < h → rules (Rule.has_digit t i (digit (place t) i))) → (place s ≡ place t → s ≡ t) → (s ≡ t) ⊎ AreTold rules s t
 places_tell rules place h s t a b first second one = elim (told_by_digit h (place s) (place t) a b) [

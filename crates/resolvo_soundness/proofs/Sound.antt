@@ -117,7 +117,8 @@ module _ {N S : Type 0} (same : S → S → Bool) (exact : IsExact same) (p : Pa
             let is : s ≡ t = single.one s t c i (names.one _ _ parts.0) in
             both_ways (bits t bit) (subst (λ n. bits n bit ≡ false) is e) parts.1)
 
-    -- Soundness: the clauses of rules are true under each rule-keeping set, for each map of places that has the digits told.
+    -- Soundness: the clauses of rules are true under each rule-keeping set, for each map of places
+    -- that has the digits of the rules.
     pub rules_sound : (same_name : N → N → Bool) → IsExact same_name → (rules : Rule N S → Type 0) (bits : S → ℕ → Bool) (chosen : List S) → ((r : Rule N S) → rules r → IsRule same p root r) → AgreeWith rules bits → IsRuleKeeping same p root chosen
         → (r : Rule N S) → rules r → clause_true (value same p (shown same p same_name bits chosen) chosen) (literals_of same p r) ≡ true
     rules_sound same_name names rules bits chosen rule agree k r stands = clause_holds rules (shown same p same_name bits chosen) chosen r k.obeys (rule r stands) fits stands

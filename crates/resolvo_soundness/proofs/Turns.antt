@@ -41,7 +41,7 @@ module _ {N S : Type 0} (same : S → S → Bool) (exact : IsExact same) (same_n
     trail = trail_meaning origin same p rules registered count clauses t.coded (Ending.IsCalledFor same p rules wishes) h t.trail t.rooted t.choices;
     true_on_trail = known;
     chosen = λ s a. (let (l, b, e) = stands_meaning origin (made_true h) (plus (Atom.solvable s)) a in t.chosen l s b e);
-    quiet = λ r stands. (let (n, below, spells) = t.coded.stated r stands in quiet_meaning origin count t.coded.once (lists clauses) h (clause_at (lists clauses) n) (literals_of same p r) t.trail t.rooted (t.coded.in_range n) spells (t.quiet n below));
+    quiet = λ r stands. (let (n, below, spells) = t.coded.spelled r stands in quiet_meaning origin count t.coded.once (lists clauses) h (clause_at (lists clauses) n) (literals_of same p r) t.trail t.rooted (t.coded.in_range n) spells (t.quiet n below));
     met = λ r asked. elim (t.met r asked) [ inl none ↦ inl none | inr (s, o, c) ↦ inr (s, o, known s c) ];
     register = t.register;
     encoded = t.encoded;
@@ -50,15 +50,16 @@ module _ {N S : Type 0} (same : S → S → Bool) (exact : IsExact same) (same_n
       known : (s : S) → is_in same p members s ≡ true → Contains (known_of origin h) (plus (Atom.solvable s))
       known s c = let (l, a, (o, e)) = t.true_on_trail s c in subst (Contains (known_of origin h)) (sym e) (meaning_stands origin (made_true h) l a o)
 
-  -- An accepted turn's members keep all rules, but for exempt wishes, and are their reached part.
+  -- An accepted turn's members keep all rules, except exempt soft requirements, and are their
+  -- reached part.
   pub turn_accepted : (wishes : List S) (count : ℕ) (clauses : List SatClause) (h : List Entry) (members : List S) → IsTurnEnd origin same p rules root registered wishes count clauses h members → Ending.IsAccepted same p root wishes members
   turn_accepted wishes count clauses h members t = turn_is_right same exact same_name names p root rules registered wishes (known_of origin h) members (end_meaning wishes count clauses h members t)
 
-  -- Without wishes they keep all rules.
+  -- Without soft requirements they keep all rules.
   pub turn_keeps_rules : (count : ℕ) (clauses : List SatClause) (h : List Entry) (members : List S) → IsTurnEnd origin same p rules root registered [] count clauses h members → IsRuleKeeping same p root members
   turn_keeps_rules count clauses h members t = keeping_without_wishes same exact p root members (turn_accepted [] count clauses h members t).keeping
 
-  -- Without wishes, and where each choice took the first candidate that was not false, they were chosen in the order in
+  -- Without soft requirements, and where each choice took the first candidate that was not false, they were chosen in the order in
   -- which they are tried.
   pub turn_prefers : (orders : Requirement → List S → Type 0) (bits : S → ℕ → Bool) (count : ℕ) (clauses : List SatClause) (h : List Entry) (members : List S)
       → IsTurnEnd origin same p rules root registered [] count clauses h members → AreCalledFor origin (IsFirstPick same p orders rules) h → AgreeWith rules bits → ArePreferred same p orders root members

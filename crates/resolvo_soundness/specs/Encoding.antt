@@ -42,14 +42,14 @@ pub data Bar (S : Type 0) : Type 0 where
   lock : S → Bar S
   word : StringId → Bar S
 
--- What a clause states. A parent is a solvable, or None for the root.
+-- The rule that a clause encodes. A parent is a solvable, or None for the root.
 -- needs: for this case of its condition, the parent's requirement has a chosen match
 -- gated: the solvable opens the gate of its requirement, which has no condition
 -- shared: an open gate's requirement has a chosen match
 -- limits: the parent's version set keeps the solvable out
 -- limits_outside: the parent's version set keeps out whatever is outside it
 -- is_out: the solvable is outside the version set
--- bars: a lock, an exclusion or unknown dependencies keep the solvable out, for this
+-- forbids: a lock, an exclusion or unknown dependencies forbid the solvable, for this reason
 -- has_digit: the digit of the solvable's place
 -- is_there: the solvable is a candidate of the package
 pub data Rule (N S : Type 0) : Type 0 where
@@ -110,7 +110,7 @@ module _ {N S : Type 0} (same : S → S → Bool) (p : Packages N S) where
   candidate_literals [] = []
   candidate_literals (v ∷ vs) = solvables (filter (p.matches v) (listed (p.candidates_of (p.set_package v)))) ++ candidate_literals vs
 
-  -- the clause that states the rule
+  -- the clause that encodes the rule
   abbrev pub literals_of : Rule N S → List (Literal (Atom N S))
   literals_of (Rule.needs parent need vs) = parent_literals parent ++ (case_literals vs ++ candidate_literals (alternatives_of p.members_of need.requirement))
   literals_of (Rule.gated s r) = minus (Atom.solvable s) ∷ plus (Atom.gate r) ∷ []
@@ -138,7 +138,7 @@ module _ {N S : Type 0} (same : S → S → Bool) (p : Packages N S) where
   abbrev pub IsImplied : (Rule N S → Type 0) → List (Literal (Atom N S)) → Type 0
   IsImplied rules clause = (v : Atom N S → Bool) → ((r : Rule N S) → rules r → clause_true v (literals_of r) ≡ true) → clause_true v clause ≡ true
 
-  -- no rule bars a member, and the digits of members are those in the rules
+  -- no rule forbids a member, and the digits of members are those in the rules
   pub record Fits (rules : Rule N S → Type 0) (digits : N → ℕ → Bool) (chosen : List S) : Type 0 where
     pub unbarred : (w : Bar S) (s : S) → rules (Rule.bars w s) → is_in same p chosen s ≡ false
     pub told : (s : S) (bit : ℕ) (b : Bool) → rules (Rule.has_digit s bit b) → is_in same p chosen s ≡ true → digits (p.package_of s) bit ≡ b
@@ -147,7 +147,7 @@ module _ {N S : Type 0} (same : S → S → Bool) (p : Packages N S) where
   abbrev pub shown : (N → N → Bool) → (S → ℕ → Bool) → List S → N → ℕ → Bool
   shown same_name bits chosen n bit = list_any (λ s. same_name n (p.package_of s) && bits s bit) chosen
 
-  -- the solvable is a candidate of the package that a lock or an exclusion bars
+  -- the solvable is a candidate of the package that a lock or an exclusion forbids
   abbrev pub IsBarredIn : N → S → Type 0
   IsBarredIn n s = (is_in same p (listed (p.candidates_of n)) s ≡ true) × (is_barred same p s ≡ true)
 
@@ -170,7 +170,7 @@ module _ {N S : Type 0} (same : S → S → Bool) (p : Packages N S) where
   IsRule root (Rule.has_digit s bit b) = (is_in same p (listed (p.candidates_of (p.package_of s))) s ≡ true) × (bit < 32)
   IsRule root (Rule.is_there n s) = is_in same p (listed (p.candidates_of n)) s ≡ true
 
--- some rule bars the solvable
+-- some rule forbids the solvable
 abbrev pub HasBar : {N S : Type 0} → (Rule N S → Type 0) → S → Type 0
 HasBar {N} {S} rules s = (w : Bar S) × rules (Rule.bars w s)
 

@@ -1,4 +1,4 @@
--- Clauses and trails over numbered variables, and what their literals mean.
+-- Clauses and trails over numbered variables, and the meanings of their literals.
 use Rattle.std.specs.Prelude.{◌≡◌, ℕ, zero, suc, ◌<◌, ◌==◌, ◌⊎◌, Bool, true, List, [], ◌∷◌, length, reverse, cond, Contains}
 use Rattle.resolvo_pool_core.specs.declared.requirement.Requirement.{Requirement}
 use Rattle.resolvo_pool_core.specs.OnePass.{Literal}
@@ -14,7 +14,7 @@ use Rattle.resolvo_sat.specs.State.{lists, AreDerived}
 use Rattle.resolvo_soundness.specs.Encoding.{Atom, Rule, plus, minus, literals_of}
 use Rattle.resolvo_soundness.specs.SearchEnd as Ending
 
--- `origin` gives what each variable was made for; the root's variable, number 0, has no atom
+-- `origin` gives the atom that each variable represents; the root's variable, number 0, has none
 module _ {N S : Type 0} (origin : ℕ → Atom N S) where
   abbrev pub meaning : Signed → Literal (Atom N S)
   meaning l = record { atom = origin l.variable.0; positive = l.positive }
@@ -23,12 +23,12 @@ module _ {N S : Type 0} (origin : ℕ → Atom N S) where
   abbrev pub Means : Signed → Literal (Atom N S) → Type 0
   Means l m = (0 < l.variable.0) × (m ≡ meaning l)
 
-  -- what the literals mean, but for those of the root
+  -- the meanings of the literals, except the root's
   abbrev pub meanings : List Signed → List (Literal (Atom N S))
   meanings [] = []
   meanings (l ∷ ls) = cond (l.variable.0 == 0) (meanings ls) (meaning l ∷ meanings ls)
 
-  -- what a trail, newest first, makes true
+  -- the meanings of the true literals of a trail, newest first
   abbrev pub known_of : List Entry → List (Literal (Atom N S))
   known_of h = meanings (made_true h)
 
@@ -46,7 +46,7 @@ module _ {N S : Type 0} (origin : ℕ → Atom N S) where
     pub only : (l : Signed) → has clause l ≡ true → (l ≡ no root_variable) ⊎ ((0 < l.variable.0) × Contains literals (meaning l))
     pub each : (m : Literal (Atom N S)) → Contains literals m → (l : Signed) × (has clause l ≡ true) × Means l m
 
-  -- each decision, but the root's, has its reason in what was known before
+  -- each decision, except the root's, has its reason in the literals known before
   abbrev pub AreCalledFor : (List (Literal (Atom N S)) → Literal (Atom N S) → Type 0) → List Entry → Type 0
   AreCalledFor choice h = (e : Entry) (older : List Entry) → StandsOn h e older → IsChoice e older → 0 < e.decision.variable.0 → choice (known_of older) (meaning (literal_of e))
 
@@ -55,7 +55,7 @@ module _ {N S : Type 0} (origin : ℕ → Atom N S) where
   Denies same p list clause = (l : Signed) → has clause l ≡ true → (l ≡ no root_variable) ⊎ ((s : S) × Means l (minus (Atom.solvable s)) × (is_in same p list s ≡ true))
 
   module _ (same : S → S → Bool) (p : Packages N S) (rules : Rule N S → Type 0) where
-    -- the clause has causes from which it follows, is the root's unit clause, or states a rule
+    -- the clause has causes from which it follows, is the root's unit clause, or encodes a rule
     abbrev pub IsAccounted : SatClause → Type 0
     IsAccounted c = (0 < length c.causes.items) ⊎ ((has c.literals.items (yes root_variable) ≡ true) ⊎ ((r : Rule N S) × rules r × Spells c.literals.items (literals_of same p r)))
 
@@ -63,10 +63,10 @@ module _ {N S : Type 0} (origin : ℕ → Atom N S) where
     pub record AreCoded (registered : S → Type 0) (count : ℕ) (clauses : List SatClause) : Type 0 where
       pub once : IsOnce count
       pub in_range : (n : ℕ) (l : Signed) → has (clause_at (lists clauses) n) l ≡ true → l.variable.0 < count
-      -- each clause is accounted for, and each rule stated
+      -- each clause is accounted for, and each rule encoded
       pub derived : AreDerived (reverse clauses)
       pub accounted : (c : SatClause) → Contains clauses c → IsAccounted c
-      pub stated : (r : Rule N S) → rules r → (n : ℕ) × (n < length clauses) × Spells (clause_at (lists clauses) n) (literals_of same p r)
+      pub spelled : (r : Rule N S) → rules r → (n : ℕ) × (n < length clauses) × Spells (clause_at (lists clauses) n) (literals_of same p r)
       -- the solvables that clauses may make true are registered
       pub positive : (n : ℕ) (l : Signed) (s : S) → has (clause_at (lists clauses) n) l ≡ true → Means l (plus (Atom.solvable s)) → registered s
 

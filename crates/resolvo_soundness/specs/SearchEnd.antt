@@ -11,11 +11,11 @@ use Rattle.resolvo_pool_core.specs.Text.{alternatives_of}
 use Rattle.resolvo_pool_core.specs.RuleKeeping.{Packages, Rules, IsLawful, is_unknown, is_in, is_outside, meets, binds, rules_for, is_member, IsExemptKeeping, IsReached}
 use Rattle.resolvo_soundness.specs.Encoding.{Atom, Rule, plus, minus, cases_for, case_holds, case_literals, literals_of, IsImplied, IsRule, IsBarredIn, HasBar}
 
--- each of the literals is false by what is known
+-- each of the literals is false by the known ones
 abbrev pub AreFalse : {A : Type 0} → List (Literal A) → List (Literal A) → Type 0
 AreFalse {A} known literals = (l : Literal A) → Contains literals l → Contains known (negate l)
 
--- the clause is not wholly false, and a literal whose others are false is true
+-- the clause is not falsified, and a literal whose others are false is true
 pub record IsQuiet {A : Type 0} (known clause : List (Literal A)) : Type 0 where
   pub unbroken : AreFalse known clause → ⊥
   pub complete : (l : Literal A) → Contains clause l → ((m : Literal A) → Contains clause m → (m ≡ l) ⊎ Contains known (negate m)) → Contains known l
@@ -29,7 +29,7 @@ IsTrueParent known (Some s) = Contains known (plus (Atom.solvable s))
 abbrev pub AreTold : {N S : Type 0} → (Rule N S → Type 0) → S → S → Type 0
 AreTold rules s t = (bit : ℕ) × (b : Bool) × rules (Rule.has_digit s bit b) × rules (Rule.has_digit t bit (not b))
 
--- `rules` are those that clauses state, `registered` the solvables whose digits have clauses
+-- `rules` are those that clauses encode, `registered` the solvables whose digits have clauses
 module _ {N S : Type 0} (same : S → S → Bool) (p : Packages N S) (rules : Rule N S → Type 0) where
   -- the clause of a need asks for a match of the requirement: its parent is chosen, and its condition's literals are false
   pub record IsAskedByNeed (known : List (Literal (Atom N S))) (r : Requirement) : Type 0 where
@@ -58,7 +58,7 @@ module _ {N S : Type 0} (same : S → S → Bool) (p : Packages N S) (rules : Ru
   abbrev pub HasClause : Requirement → Type 0
   HasClause r = ((parent : Option S) × (need : ConditionalRequirement) × (case : List VersionSetId) × rules (Rule.needs parent need case) × (r ≡ need.requirement)) ⊎ rules (Rule.shared r)
 
-  -- the literal chooses an accepted wish
+  -- the literal chooses an accepted soft requirement
   pub record IsWished (wishes : List S) (l : Literal (Atom N S)) : Type 0 where
     pub solvable : S
     pub is : l ≡ plus (Atom.solvable solvable)
@@ -72,7 +72,7 @@ module _ {N S : Type 0} (same : S → S → Bool) (p : Packages N S) (rules : Ru
     pub is : l ≡ plus (Atom.solvable solvable)
     pub offered : meets same p requirement solvable ≡ true
 
-  -- a choice is an accepted wish, or a match of a requirement that is asked for
+  -- a choice is an accepted soft requirement, or a match of a requirement that is asked for
   abbrev pub IsCalledFor : List S → List (Literal (Atom N S)) → Literal (Atom N S) → Type 0
   IsCalledFor wishes known l = IsWished wishes l ⊎ IsPicked known l
 
@@ -100,7 +100,8 @@ module _ {N S : Type 0} (same : S → S → Bool) (p : Packages N S) (rules : Ru
   pub record AreRegistered (root : Rules) (registered : S → Type 0) (wishes : List S) : Type 0 where
     -- each rule is one of the problem
     pub rule : (r : Rule N S) → rules r → IsRule same p root r
-    -- registered are wishes, candidates of requirements that have a clause, and what is outside a condition's version sets
+    -- registered are soft requirements, candidates of requirements that have a clause, and
+    -- solvables outside a condition's version sets
     pub wish : (s : S) → is_in same p wishes s ≡ true → registered s
     pub candidate : (r : Requirement) (s : S) → HasClause r → meets same p r s ≡ true → registered s
     pub out : (parent : Option S) (need : ConditionalRequirement) (case : List VersionSetId) (v : VersionSetId) (s : S) → rules (Rule.needs parent need case) → Contains case v → is_outside same p v s ≡ true → registered s
@@ -109,7 +110,8 @@ module _ {N S : Type 0} (same : S → S → Bool) (p : Packages N S) (rules : Ru
     pub told : (s t : S) → registered s → registered t → p.package_of s ≡ p.package_of t → (s ≡ t) ⊎ AreTold rules s t
     -- where a condition names its package, an at-least-one clause holds it
     pub there : (parent : Option S) (need : ConditionalRequirement) (case : List VersionSetId) (v : VersionSetId) (s : S) → rules (Rule.needs parent need case) → Contains case v → registered s → p.package_of s ≡ p.set_package v → rules (Rule.is_there (p.set_package v) s)
-    -- the candidates of requirements that have a clause are barred where a lock or an exclusion bars them
+    -- the candidates of requirements that have a clause are forbidden by rules where a lock or an
+    -- exclusion forbids them
     pub bar : (r : Requirement) (v : VersionSetId) (s : S) → HasClause r → Contains (alternatives_of p.members_of r) v → IsBarredIn same p (p.set_package v) s → HasBar rules s
 
   -- The clauses for a case of a parent's need: its own; or, without a condition, those of a gate; or none, since a
@@ -119,7 +121,7 @@ module _ {N S : Type 0} (same : S → S → Bool) (p : Packages N S) (rules : Ru
       ⊎ (((s : S) × (parent ≡ Some s) × rules (Rule.gated s need.requirement) × rules (Rule.shared need.requirement))
       ⊎ ((s : S) × (v : VersionSetId) × (parent ≡ Some s) × Contains case v × (is_outside same p v s ≡ true)))
 
-  -- The rules of the root and of each member are clauses: each case that holds, each limit, and what bars the
+  -- The rules of the root and of each member are clauses: each case that holds, each limit, and each rule that forbids the
   -- candidates that limits name, and members of unknown dependencies.
   pub record AreEncoded (root : Rules) (members : List S) : Type 0 where
     pub need : (parent : Option S) (need : ConditionalRequirement) (case : List VersionSetId) → is_member same p root members parent ≡ true → Contains (rules_for same p root parent).requirements need → Contains (cases_for same p need) case → case_holds same p members case ≡ true → IsNeedEncoded parent need case
@@ -135,12 +137,13 @@ module _ {N S : Type 0} (same : S → S → Bool) (p : Packages N S) (rules : Ru
     pub true_on_trail : (s : S) → is_in same p members s ≡ true → Contains known (plus (Atom.solvable s))
     pub chosen : (s : S) → Contains known (plus (Atom.solvable s)) → is_in same p members s ≡ true
     pub quiet : (r : Rule N S) → rules r → IsQuiet known (literals_of same p r)
-    -- what is asked for has no candidate, or a chosen one
+    -- a requirement that is asked for has no candidate, or a chosen one
     pub met : (r : Requirement) → IsAsked known r → ((s : S) → meets same p r s ≡ true → ⊥) ⊎ ((s : S) × (meets same p r s ≡ true) × Contains known (plus (Atom.solvable s)))
     pub register : AreRegistered root registered wishes
     pub encoded : AreEncoded root members
 
--- What the end of an accepted turn shows: the members keep all rules, but for exempt wishes, and are their reached part.
+-- What the end of an accepted turn shows: the members keep all rules, except exempt soft
+-- requirements, and are their reached part.
 pub record IsAccepted {N S : Type 0} (same : S → S → Bool) (p : Packages N S) (root : Rules) (wishes members : List S) : Type 0 where
   pub keeping : IsExemptKeeping same p root wishes members
   pub reached : (s : S) → is_in same p members s ≡ true → IsReached same p root wishes members s
@@ -150,7 +153,7 @@ pub record IsAccepted {N S : Type 0} (same : S → S → Bool) (p : Packages N S
 abbrev pub Denies : {N S : Type 0} → (S → S → Bool) → Packages N S → List S → List (Literal (Atom N S)) → Type 0
 Denies {N} {S} same p list clause = (l : Literal (Atom N S)) → Contains clause l → (s : S) × (l ≡ minus (Atom.solvable s)) × (is_in same p list s ≡ true)
 
--- A list in the order of its reasons, newest first: each entry is a wish, or matches a requirement of the root or of an
+-- A list in the order of its reasons, newest first: each entry is a soft requirement, or matches a requirement of the root or of an
 -- older entry that binds in the older ones.
 abbrev pub IsReasoned : {N S : Type 0} → (S → S → Bool) → Packages N S → Rules → List S → List S → Type 0
 IsReasoned same p root wishes [] = Unit {0}

@@ -1,4 +1,5 @@
--- What a trail chooses, in its order: none is there twice, and what was chosen stays in front where the trail goes on.
+-- The choices of a trail, in its order: none is there twice, and they stay first where the trail
+-- grows.
 use Rattle.std.proofs.Common.{◌≡◌, ℕ, zero, suc, ◌<◌, Bool, true, false, cond, List, [], ◌∷◌, ◌++◌, reverse, length, Option, Some, None, refl, sym, ◌∙◌, ap, subst, append-nil, arith}
 use Rattle.std.specs.Prelude.{slice_get}
 use Rattle.std.specs.List.{cons_option}
@@ -48,17 +49,17 @@ module _ {N S : Type 0} where
       step None h = subst AreOnce (sym (is None h ∙ append-nil before)) c
       step (Some s) h = subst AreOnce (sym (is (Some s) h)) (once_push before s c (fresh s h))
 
-  -- no solvable is there twice in what a trail chooses
+  -- no solvable is twice among the choices of a trail
   pub choices_once : (atoms : List (ProofAtom N S)) (count : ℕ) (clauses : List (List Signed)) (history : List Entry) → AreOnce atoms → IsTrail count clauses history → AreOnce (choices atoms (reverse history))
   choices_once atoms count clauses [] once t = once_none (choices atoms (reverse [])) refl
   choices_once atoms count clauses (e ∷ older) once (follows, t) = once_then atoms count clauses e older once follows (choices_once atoms count clauses older once t)
 
-  -- atoms that come behind the others leave what a variable represents as it is
+  -- appended atoms don't change the solvable of a variable
   solvable_kept : (atoms more : List (ProofAtom N S)) (n : ℕ) → n < suc (length atoms) → IsFrontOf atoms more → solvable_of more n ≡ solvable_of atoms n
   solvable_kept atoms more zero low front = refl
   solvable_kept atoms more (suc k) low front = let (x, at) = get_below atoms k (omega arith) in ap solvable_in (front_get atoms more k x front at ∙ sym at)
 
-  -- and what a trail chooses
+  -- and the choices of a trail
   pub choices_kept : (atoms more : List (ProofAtom N S)) (count : ℕ) (clauses : List (List Signed)) (history : List Entry) → IsTrail count clauses history → count ≡ suc (length atoms) → IsFrontOf atoms more → choices more (reverse history) ≡ choices atoms (reverse history)
   choices_kept atoms more count clauses [] t long front = refl
   choices_kept atoms more count clauses (e ∷ older) (follows, t) long front =
@@ -66,7 +67,7 @@ module _ {N S : Type 0} where
       let here : choice_of more e ≡ choice_of atoms e = ap (λ (o : Option S). cond e.decision.value o None) (solvable_kept atoms more e.decision.variable.0 (omega arith) front) in
       choices_newest more e older ∙ ap (λ (xs : List S). xs ++ cons_option (choice_of more e) []) (choices_kept atoms more count clauses older t long front) ∙ ap (λ (o : Option S). choices atoms (reverse older) ++ cons_option o []) here ∙ sym (choices_newest atoms e older)
 
-  -- where the trail goes on, so does what it chooses
+  -- where the trail grows, so do its choices
   pub choices_go_on : (atoms : List (ProofAtom N S)) (old new : List Entry) → EndsWith (reverse old) (reverse new) → IsFrontOf (choices atoms old) (choices atoms new)
   choices_go_on atoms old new (p, is) =
       let whole : new ≡ old ++ reverse p = sym (reverse-reverse new) ∙ ap reverse is ∙ reverse-append p (reverse old) ∙ ap (λ (es : List Entry). es ++ reverse p) (reverse-reverse old) in

@@ -90,7 +90,7 @@ module _ {N S : Type 0} (atoms : List (ProofAtom N S)) where
   pub choices_all : (es trail : List Entry) (i : ℕ) (chosen : List S) → length es ≤ i → es ≡ trail → chosen ≡ choices atoms (take i es) → chosen ≡ choices atoms trail
   choices_all es trail i chosen long same h = h ∙ ap (choices atoms) (take_all i es long ∙ same)
 
-  -- the newest entry's comes last
+  -- the newest entry's is the last
   pub choices_newest : (e : Entry) (older : List Entry) → choices atoms (reverse (e ∷ older)) ≡ choices atoms (reverse older) ++ cons_option (choice_of atoms e) []
   choices_newest e older = ap (choices atoms) (reverse-append (e ∷ []) older) ∙ filter_map-append (choice_of atoms) (reverse older) (e ∷ [])
 
@@ -112,7 +112,7 @@ module _ {N S : Type 0} (atoms : List (ProofAtom N S)) where
       step true value None of = skip (helper_none e of) (helper_choice e of)
       step true value (Some s) of = chosen_more e (made_true older) before (choices atoms (reverse (e ∷ older))) s value of (is (Some s) (makes_choice e s value of)) c
 
-  -- what the entries of a trail choose, in their order, is what its literals choose
+  -- the choices of a trail's entries, in their order, are those of its literals
   pub choices_chosen : (history : List Entry) → AreChosen atoms (made_true history) (choices atoms (reverse history))
   choices_chosen [] = chosen_none [] refl
   choices_chosen (e ∷ older) = chosen_then e older (choices_chosen older)

@@ -40,7 +40,7 @@ stands_before old more m l h =
     let within : m < length (lists old) = clause_in_range (lists old) m l h in
     subst (λ (ls : List Signed). has ls l ≡ true) (sym (ap (λ (cs : List (List Signed)). clause_at cs m) (lists-append old more) ∙ clause_stays (lists old) (lists more) m within)) h
 
--- A clause and what it states came behind the others: neither is the root's, and a learnt one has causes, no literal beside
+-- A clause and its kind were appended: neither is the root's, and a learnt one has causes, no literal beside
 -- its negation, and none but those of the others.
 pub one_more : {N S : Type 0} (old new : SolverState N S) (x : Stated N S) (clause : SatClause) → IsCoding old → IsReady new.search new.watching → AreCovered new.search new.watching
     → new.atoms ≡ old.atoms → new.search.variables ≡ old.search.variables → new.search.clauses ≡ old.search.clauses ++ clause ∷ [] → new.stated.items ≡ old.stated.items ++ x ∷ []
@@ -88,7 +88,7 @@ one_more {N} {S} old new x clause coding ready covered atoms variables clauses s
     stays : (m : ℕ) (l : Signed) → has (clause_at (clauses_of old.search) m) l ≡ true → has (clause_at (clauses_of new.search) m) l ≡ true
     stays m l h = subst (λ (cs : List SatClause). has (clause_at (lists cs) m) l ≡ true) (sym clauses) (stands_before old.search.clauses (clause ∷ []) m l h)
 
-    -- a learnt clause was there, or is the one that came
+    -- a learnt clause is an old one or the new one
     old_or_this : (n : ℕ) (held : SatClause) → stated_at new.stated.items n ≡ Some Learnt → slice_get new.search.clauses n ≡ Some held
         → ((stated_at old.stated.items n ≡ Some Learnt) × (slice_get old.search.clauses n ≡ Some held)) ⊎ ((x ≡ Learnt) × (clause ≡ held) × (n ≡ length old.search.clauses))
     old_or_this n held h is = elim (get_push old.stated.items x Learnt n (said n Learnt h)) [
@@ -124,7 +124,7 @@ states_is {N} {S} old new x clause id coding rule comes plain atoms stated = rec
     unlearnt : (y : Stated N S) → IsSome (rule_of y) → y ≡ Learnt → ⊥
     unlearnt y h e = both_ways false refl (subst (λ (z : Stated N S). IsSome (rule_of z)) e h)
 
--- a learnt clause came
+-- a learnt clause was added
 pub learnt_is : {N S : Type 0} (old new : SolverState N S) (id : ClauseId) → IsCoding old → (improves : Improves id old.search new.search new.watching) → new.atoms ≡ old.atoms → new.stated.items ≡ old.stated.items ++ Learnt ∷ [] → Advances old new (StepResult.Learnt id)
 learnt_is {N} {S} old new id coding improves atoms stated = record {
   coding = one_more old new Learnt improves.clause coding improves.ready improves.covered atoms improves.variables improves.added stated (λ e. absurd cc) (λ e. improves.caused) (λ e. improves.apart) (λ e. improves.from);
@@ -145,7 +145,7 @@ negative_apart literals negative l a b = both_ways (not l.positive) (falls (nega
     falls : (k : Signed) → has (no root_variable ∷ literals) k ≡ true → k.positive ≡ false
     falls k h = elim (has-cons (no root_variable) literals k h) [ inl e ↦ ap (λ (x : Signed). x.positive) (sym e) | inr e ↦ negative k e ]
 
--- a clause that only denies came
+-- a clause of negative literals alone was added
 pub bar_is : {N S : Type 0} (old new : SolverState N S) (clause : SatClause) (id : ClauseId) → IsCoding old → IsBar old.search clause.literals.items clause.causes.items → Comes clause id old.search old.watching new.search new.watching
     → new.atoms ≡ old.atoms → new.stated.items ≡ old.stated.items ++ Learnt ∷ [] → Bars clause.literals.items clause.causes.items id old new
 bar_is {N} {S} old new clause id coding bar comes atoms stated = record {

@@ -1,4 +1,4 @@
--- What stands while variables and clauses come, and the search goes on.
+-- The invariant as variables and clauses are added, and the search continues.
 use Rattle.std.proofs.Common.{◌≡◌, ℕ, suc, ◌<◌, ◌≤◌, ◌⊎◌, inl, inr, Bool, true, ltb, List, ◌∷◌, length, Option, Some, None, reverse, HashSet, BuildHasherDefault, FoldHasher, refl, sym, ◌∙◌, ap, subst, arith}
 use Rattle.std.specs.Prelude.{slice_get, Contains}
 use Rattle.std.proofs.lemmas.Bool.{ltb-true, ltb-false, cases_Bool}
@@ -62,11 +62,11 @@ stands_grow old new v a grows stands = stands_front old.atoms.keys new.atoms.key
 pub stands_once : {N S : Type 0} (c : SolverState N S) (u v : VariableId) (a : ProofAtom N S) → IsCoding c → StandsFor c.atoms.keys u a → StandsFor c.atoms.keys v a → u ≡ v
 stands_once c u v a coding f g = one_variable c.atoms.keys u v a coding.distinct f g
 
--- rules stay stated
+-- rules stay encoded
 pub rules_grow : {N S : Type 0} (old new : SolverState N S) → Grows old new → (r : Rule N S) → rules_in old.stated.items r → rules_in new.stated.items r
 rules_grow old new grows r h = rules_front old.stated.items new.stated.items r grows.stated h
 
--- what is barred goes on to be
+-- a forbidden solvable stays forbidden
 pub bar_grows : {N S : Type 0} (old new : SolverState N S) → Grows old new → (s : S) → HasBar (rules_in old.stated.items) s → HasBar (rules_in new.stated.items) s
 bar_grows old new grows s (w, h) = (w, rules_grow old new grows (Rule.bars w s) h)
 
@@ -77,7 +77,7 @@ stated_grows old new grows n x h = front_get old.stated.items new.stated.items n
 pub below_or_not : (n k : ℕ) → (n < k) ⊎ (k ≤ n)
 below_or_not n k = elim (cases_Bool (ltb n k)) [ inl e ↦ inl (ltb-true n k e) | inr e ↦ let h = ltb-false n k e in inr (omega (arith, h)) ]
 
--- what is stated was so before, or came with a clause
+-- a kind is of an old clause or of a new one
 pub stated_split : {N S : Type 0} (old new : SolverState N S) → IsCoding old → IsCoding new → Grows old new → (n : ℕ) (x : Stated N S) → stated_at new.stated.items n ≡ Some x
     → (stated_at old.stated.items n ≡ Some x) ⊎ ((length old.search.clauses ≤ n) × (n < length new.search.clauses))
 stated_split {N} {S} old new before after grows n x h = elim (below_or_not n (length old.stated.items)) [
@@ -95,7 +95,7 @@ rule_split old new before after grows n r h =
     let (x, at, is) = stated_rule new.stated.items n r h in
     elim (stated_split old new before after grows n x at) [ inl a ↦ inl (rule_stated old.stated.items n x a ∙ is) | inr a ↦ inr a ]
 
--- a rule was stated before, or came with a clause
+-- a rule is of an old clause or of a new one
 pub rules_split : {N S : Type 0} (old new : SolverState N S) → IsCoding old → IsCoding new → Grows old new → (r : Rule N S) → rules_in new.stated.items r
     → rules_in old.stated.items r ⊎ ((n : ℕ) × (length old.search.clauses ≤ n) × (n < length new.search.clauses) × (rule_at new.stated.items n ≡ Some r))
 rules_split old new before after grows r (n, h) = elim (rule_split old new before after grows n r h) [ inl a ↦ inl (n, a) | inr (a, b) ↦ inr (n, a, b, h) ]
@@ -107,11 +107,11 @@ clause_grows old new grows n below =
     let long : length (lists old.search.clauses) ≡ length old.search.clauses = length-lists old.search.clauses in
     ap (λ (cs : List SatClause). clause_at (lists cs) n) e ∙ ap (λ (ls : List (List Signed)). clause_at ls n) (lists-append old.search.clauses more) ∙ clause_stays (lists old.search.clauses) (lists more) n (omega arith)
 
--- the old variables represent what they did
+-- the old variables represent the same atoms
 pub origin_grows : {N S : Type 0} (old new : SolverState N S) → IsCoding old → Grows old new → (n : ℕ) → 0 < n → n < count_of old.search → origin old.atoms.keys n ≡ origin new.atoms.keys n
 origin_grows old new coding grows n a b = let c : count_of old.search ≡ suc (length old.atoms.keys) = count_is old coding in origin_front old.atoms.keys new.atoms.keys n grows.atoms a (omega arith)
 
--- a clause that states a rule states it at an old place
+-- a clause that encodes a rule is one of the search's
 rule_within : {N S : Type 0} (c : SolverState N S) (n : ℕ) (r : Rule N S) → IsCoding c → rule_at c.stated.items n ≡ Some r → n < length c.search.clauses
 rule_within c n r coding h =
     let (x, at, is) = stated_rule c.stated.items n r h in
@@ -119,7 +119,7 @@ rule_within c n r coding h =
     let long : length c.stated.items ≡ length c.search.clauses = coding.each in
     omega arith
 
--- Where the clauses that were added have the literals of the rules that they state, all have.
+-- Where the new clauses have the literals of the rules that they encode, all have.
 pub spelled_grows : {N S : Type 0} (same : S → S → Bool) (p : Packages N S) (old new : SolverState N S) → IsCoding old → IsCoding new → Grows old new → Spelled same p old
     → ((n : ℕ) (r : Rule N S) → length old.search.clauses ≤ n → n < length new.search.clauses → rule_at new.stated.items n ≡ Some r → Spells (origin new.atoms.keys) (clause_at (clauses_of new.search) n) (literals_of same p r))
     → Spelled same p new
@@ -130,7 +130,7 @@ spelled_grows same p old new before after grows spelled came n r h = elim (rule_
       (spells_agree (origin old.atoms.keys) (origin new.atoms.keys) (count_of old.search) (origin_grows old new before grows) (clause_at (clauses_of old.search) n) (literals_of same p r) (before.ready.state.in_range n) (spelled n r a))
 ]
 
--- Where the solvables that the clauses which came may make true are registered, all are.
+-- Where the solvables that the new clauses may make true are registered, all are.
 pub registered_grows : {N S : Type 0} (registered wider : S → Type 0) (old new : SolverState N S) → IsCoding old → IsCoding new → Grows old new → ((s : S) → registered s → wider s) → AreRegistered registered old
     → ((n : ℕ) (l : Signed) (s : S) → length old.search.clauses ≤ n → n < length new.search.clauses → has (clause_at (clauses_of new.search) n) l ≡ true → Means (origin new.atoms.keys) l (plus (Atom.solvable s)) → wider s)
     → AreRegistered wider new
@@ -145,9 +145,9 @@ registered_grows {N} {S} registered wider old new before after grows more all ca
       came n l s past (omega arith) h (other, e)
 ]
 
--- a choice that was called for as the one says is so as the other says
+-- a reason for a choice under one meaning is a reason under the other
 module _ {N S : Type 0} (choice wider : List (Literal (Atom N S)) → Literal (Atom N S) → Type 0) (more : (known : List (Literal (Atom N S))) (l : Literal (Atom N S)) → choice known l → wider known l) (old new : SolverState N S) where
-  -- what comes leaves the trail's choices called for
+  -- the trail's choices keep their reasons where atoms are added
   pub called_grows_trail : IsCoding old → Grows old new → SameTrail old new → AreCalledFor (origin old.atoms.keys) choice (history old.search) → AreCalledFor (origin new.atoms.keys) wider (history new.search)
   called_grows_trail coding grows trail called =
       subst (λ (t : List Entry). AreCalledFor (origin new.atoms.keys) wider t) (sym (ap (λ (t : Tracked). reverse t.trail) trail.tracker))
@@ -184,7 +184,7 @@ module _ {N S : Type 0} (choice wider : List (Literal (Atom N S)) → Literal (A
       pushed : history new.search ≡ choice_entry v clause (history old.search) ∷ history old.search
       pushed = ap reverse chooses.pushed ∙ reverse_push old.search.tracker.trail (choice_entry v clause (history old.search))
 
--- what states no rule is the root's clause or a learnt one
+-- a clause that encodes no rule is the root's or a learnt one
 no_rule : {N S : Type 0} (x : Stated N S) → rule_of x ≡ None → (x ≡ Root) ⊎ (x ≡ Learnt)
 no_rule Root h = inl refl
 no_rule (Needs parent need case) h = absurd cc
@@ -199,7 +199,8 @@ no_rule (Digit n s place bit) h = absurd cc
 no_rule (IsThere n s) h = absurd cc
 no_rule Learnt h = inr refl
 
--- Each clause that states a rule has its literals, and makes registered solvables true alone: then all is coded.
+-- Each clause that encodes a rule has its literals, and makes registered solvables true alone: then
+-- all is coded.
 pub coding_coded : {N S : Type 0} (same : S → S → Bool) (p : Packages N S) (registered : S → Type 0) (c : SolverState N S) → IsCoding c → Spelled same p c → AreRegistered registered c
     → AreCoded (origin c.atoms.keys) same p (rules_in c.stated.items) registered (count_of c.search) c.search.clauses
 coding_coded {N} {S} same p registered c coding spelled positive = record {
@@ -207,7 +208,7 @@ coding_coded {N} {S} same p registered c coding spelled positive = record {
   in_range = coding.ready.state.in_range;
   derived = coding.ready.state.derived;
   accounted = accounted;
-  stated = λ r (n, h). (n, rule_within c n r coding h, spelled n r h);
+  spelled = λ r (n, h). (n, rule_within c n r coding h, spelled n r h);
   positive = positive;
 }
   where

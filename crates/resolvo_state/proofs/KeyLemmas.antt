@@ -25,7 +25,7 @@ place_is eq x xs exact own = go (ltb (position_or_len (eq x) xs) (length xs)) re
         let same : get_or xs k x ≡ x = get_or_from_slice_get xs k x x at in
         both_ways (eq x x) (subst (λ y. eq x y ≡ false) same differs) own
 
--- a value that is not there is added behind the others
+-- a value that is not in the list is appended
 pub pushed_is : {K : Type 0} (eq : K → K → Bool) (x : K) (xs : List K) → ((y : K) → eq x y ≡ true → x ≡ y) → IsPlace xs x None → insert_key eq xs x ≡ xs ++ x ∷ []
 pushed_is eq x xs exact fresh = elim (cases_Bool (list_any (eq x) xs)) [
   | inl e ↦

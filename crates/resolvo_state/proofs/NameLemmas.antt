@@ -21,7 +21,7 @@ place_found name place r each at = record {
   fresh = λ k t past h. (let within : k < length r.trackers.items = slice_get_within r.trackers.items k t h in absurd (omega arith));
 }
 
--- a package that comes behind the others
+-- a package that is appended
 pub place_pushed : {N : Type 0} (name : N) (place : ℕ) (old new : Registry N) (t : Tracking VariableId) → length old.names.keys ≡ length old.trackers.items → IsPlace old.names.keys name None → place ≡ length old.trackers.items
     → new.names.keys ≡ old.names.keys ++ name ∷ [] → new.trackers.items ≡ old.trackers.items ++ t ∷ [] → t.variables ≡ [] → t.helpers ≡ [] → PlacesName name place old new
 place_pushed {N} name place old new t each absent at names trackers none helpers = record {

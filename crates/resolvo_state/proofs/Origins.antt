@@ -1,4 +1,4 @@
--- Lemmas on what variables represent.
+-- Lemmas on the atoms that variables represent.
 use Rattle.std.proofs.Common.{◌≡◌, ℕ, zero, suc, ◌<◌, true, List, [], ◌∷◌, length, map, Option, Some, None, refl, sym, ◌∙◌, ap, subst, arith}
 use Rattle.std.specs.Prelude.{slice_get}
 use Rattle.std.proofs.lemmas.Option.{slice_get_within}
@@ -51,7 +51,7 @@ atom_at_place [] k a h = absurd cc
 atom_at_place (b ∷ atoms) zero a h = let e : b ≡ a = cc in ap atom_of e
 atom_at_place (b ∷ atoms) (suc k) a h = atom_at_place atoms k a h
 
--- what a variable was made for is the atom that it represents
+-- a variable's origin is the atom that it represents
 pub origin_stands : {N S : Type 0} (atoms : List (ProofAtom N S)) (v : VariableId) (a : ProofAtom N S) → StandsFor atoms v a → origin atoms v.0 ≡ atom_of a
 origin_stands atoms v a (k, e, at) = ap (origin atoms) e ∙ atom_at_place atoms k a at
 
@@ -148,7 +148,7 @@ pub solvable_means : {N S : Type 0} (atoms : List (ProofAtom N S)) (l : Signed) 
 solvable_means {N} {S} atoms l s positive stands =
     subst (λ b. Means (origin atoms) l (let m : Literal (Atom N S) = record { atom = Atom.solvable s; positive = b } in m)) positive (means_atom atoms l (Solvable s) stands)
 
--- atoms that come behind leave the others where they are
+-- appended atoms leave the others at their places
 pub origin_front : {N S : Type 0} (atoms more : List (ProofAtom N S)) (n : ℕ) → IsFrontOf atoms more → 0 < n → n < suc (length atoms) → origin atoms n ≡ origin more n
 origin_front atoms more n f a b =
     let (k, x, e, at) = stands_some atoms n a b in

@@ -69,7 +69,7 @@ front_long xs ys (more, e) = let a : length ys ≡ length (xs ++ more) = ap leng
 pub once_none : {X : Type 0} (xs : List X) → xs ≡ [] → AreOnce xs
 once_none xs e i j x a b = let f : slice_get [] i ≡ Some x = subst (λ ys. slice_get ys i ≡ Some x) e a in absurd cc
 
--- one that is not there comes behind the others
+-- a value that is not in the list is appended
 pub once_push : {X : Type 0} (xs : List X) (y : X) → AreOnce xs → ((k : ℕ) → slice_get xs k ≡ Some y → ⊥) → AreOnce (xs ++ y ∷ [])
 once_push xs y once fresh i j x a b = elim (get_push xs y x i a) [
   | inl p ↦ elim (get_push xs y x j b) [
@@ -95,7 +95,7 @@ get_set_other (x ∷ xs) zero (suc k) y other = refl
 get_set_other (x ∷ xs) (suc i) zero y other = refl
 get_set_other (x ∷ xs) (suc i) (suc k) y other = get_set_other xs i k y (λ e. other (ap suc e))
 
--- an item of two lists, one behind the other
+-- an item of two lists, appended one to the other
 pub get_parts : {X : Type 0} (xs ys : List X) (i : ℕ) (x : X) → slice_get (xs ++ ys) i ≡ Some x → (slice_get xs i ≡ Some x) ⊎ ((j : ℕ) × (i ≡ length xs + j) × (slice_get ys j ≡ Some x))
 get_parts [] ys i x h = inr (i, omega arith, h)
 get_parts (z ∷ xs) ys zero x h = inl h

@@ -63,11 +63,11 @@ tied_none {N} {S} name t c none helpers = record {
     nothing : (i : ℕ) (v : VariableId) → slice_get [] i ≡ Some v → ⊥
     nothing i v h = absurd cc
 
--- each digit that clauses state was stated before
+-- each digit that clauses encode was encoded before
 abbrev pub KeepsDigits : {N S : Type 0} → SolverState N S → SolverState N S → Type 0
 KeepsDigits {N} {S} a c = (n : ℕ) (name : N) (s : S) (place bit : ℕ) → stated_at c.stated.items n ≡ Some (Digit name s place bit) → stated_at a.stated.items n ≡ Some (Digit name s place bit)
 
--- so it is where nothing came to be stated, or something else did
+-- so it is where no kind was added, or one of another rule
 pub digits_same : {N S : Type 0} (a c : SolverState N S) → c.stated ≡ a.stated → KeepsDigits a c
 digits_same {N} {S} a c e n name s place bit h = subst (λ (xs : Vec (Stated N S) Global). stated_at xs.items n ≡ Some (Digit name s place bit)) e h
 
@@ -154,7 +154,7 @@ module _ {N S : Type 0} (name : N) (place : ℕ) (r r1 : Registry N) (a : Solver
     | inr (none, helpers) ↦ absurd (contains_none w (subst (λ (xs : List VariableId). Contains xs w) none h))
   ]
 
--- the clause of a tie tells the digit of its solvable
+-- the clause of a tie encodes the digit of its solvable
 pub tie_spells : {N S : Type 0} (name : N) (place : ℕ) (tie : VariableId × VariableId × Bool) (c : SolverState N S) (n : ℕ) → (st : StatesTie name place tie c n) → Spells (origin c.atoms.keys) (clause_at (clauses_of c.search) n) (digit_literals name st.is.solvable st.is.bit tie.2)
 tie_spells {N} {S} name place tie c n st = subst (λ (clause : List Signed). Spells (origin c.atoms.keys) clause (digit_literals name st.is.solvable st.is.bit tie.2)) (sym st.clause) (record { only = only; each = each })
   where
@@ -209,7 +209,7 @@ module _ {N S : Type 0} (name : N) (s : S) (v : VariableId) (place : ℕ) (r r1 
   tied_before : AreTied r1 b
   tied_before = named_tied name place r r1 a tied places b gives.grows (digits_same a b gives.stated)
 
-  -- at the package's place stands its tracker as it is now
+  -- at the package's place is its new tracker
   at_place : (m : N) (w : Tracking VariableId) → slice_get r2.names.keys place ≡ Some m → slice_get r2.trackers.items place ≡ Some w → (m ≡ name) × (w ≡ u)
   at_place m w n h = (let x : slice_get r1.names.keys place ≡ Some m = named place m n in let y : slice_get r1.names.keys place ≡ Some name = places.stands in cc, cc)
 
@@ -242,7 +242,7 @@ module _ {N S : Type 0} (name : N) (s : S) (v : VariableId) (place : ℕ) (r r1 
     }
   ]
 
-  -- a digit that came is one of a place of the package's tracker
+  -- a new digit is one of a place of the package's tracker
   placed_came : (n : ℕ) (m : N) (x : S) (at bit : ℕ) → length b.search.clauses ≤ n → n < length c.search.clauses → stated_at c.stated.items n ≡ Some (Digit m x at bit) → IsPlaced r2 c m at x
   placed_came n m x at bit low high h =
       let same : length b.search.clauses ≡ length a.search.clauses = ap length gives.clauses in
@@ -351,7 +351,7 @@ module _ {N S : Type 0} (name : N) (s : S) (v : VariableId) (place : ℕ) (r r1 
     same = unchanged;
   }
 
--- Two registered solvables of one package are one, or a digit tells them apart.
+-- Two registered solvables of one package are the same, or differ in a digit.
 pub told : {N S : Type 0} (r : Registry N) (c : SolverState N S) (name : N) (s t : S) → AreTied r c → IsRegistered r c name s → IsRegistered r c name t → (s ≡ t) ⊎ AreTold (rules_in c.stated.items) s t
 told {N} {S} r c name s t tied (v, f, h) (w, g, k) =
     let same : k.place ≡ h.place = tied.once k.place h.place name k.named h.named in
@@ -405,7 +405,7 @@ module _ {N S : Type 0} (r : Registry N) (c : SolverState N S) (name : N) where
       let both = stands_same c.atoms.keys k.variable (Solvable s) (Solvable t) (subst (λ (z : VariableId). StandsFor c.atoms.keys z (Solvable s)) is h.means) k.means in
       cc
 
--- a clause that tells a digit makes no solvable true
+-- a clause that encodes a digit makes no solvable true
 pub digit_denies : {N S : Type 0} (r : Registry N) (c : SolverState N S) (name : N) (n : ℕ) (l : Signed) (s : S) → IsDigitClause r c name n → has (clause_at (clauses_of c.search) n) l ≡ true → Means (origin c.atoms.keys) l (plus (Atom.solvable s)) → ⊥
 digit_denies {N} {S} r c name n l s d h (other, m) = elim (d.spells.only l h) [
   | inl e ↦ (let z : l.variable.0 ≡ 0 = ap (λ (x : Signed). x.variable.0) e in omega arith)
@@ -437,7 +437,8 @@ module _ {N S : Type 0} (name : N) (s : S) (v : VariableId) (r : Registry N) (ol
         inr (n, cc)
   ]
 
--- A clause that tells a digit spells the rule that it states, where the package's registered solvables are the package's.
+-- A clause that encodes a digit spells its rule, where the package's registered solvables are the
+-- package's.
 pub digit_spelled : {N S : Type 0} (same : S → S → Bool) (p : Packages N S) (r : Registry N) (c : SolverState N S) (name : N) (n : ℕ) (rule : Rule N S) → ((s : S) → IsRegistered r c name s → p.package_of s ≡ name)
     → IsDigitClause r c name n → rule_at c.stated.items n ≡ Some rule → Spells (origin c.atoms.keys) (clause_at (clauses_of c.search) n) (literals_of same p rule)
 digit_spelled {N} {S} same p r c name n rule own d h =

@@ -1,4 +1,4 @@
--- Lemmas on what clauses state.
+-- Lemmas on the rules that clauses encode.
 use Rattle.std.proofs.Common.{◌≡◌, ℕ, zero, suc, Bool, List, [], ◌∷◌, Some, refl, sym, ◌∙◌, ap}
 use Rattle.resolvo_store_core.specs.AtMostOne.{IsFrontOf, digit}
 use Rattle.resolvo_soundness.specs.Encoding.{Rule}
@@ -7,7 +7,7 @@ use Rattle.resolvo_state.specs.declared.clause_kind.Stated.TheVariants.{Root, Ne
 use Rattle.resolvo_state.specs.Statements.{rule_of, stated_at, rule_at, rules_in}
 use Rattle.resolvo_state.proofs.Positions.{front_get}
 
--- the rule of a clause is that of what it states
+-- the rule of a clause is that of its kind
 pub rule_stated : {N S : Type 0} (stated : List (Stated N S)) (n : ℕ) (x : Stated N S) → stated_at stated n ≡ Some x → rule_at stated n ≡ rule_of x
 rule_stated [] n x h = absurd cc
 rule_stated (y ∷ stated) zero x h = let e : y ≡ x = cc in ap rule_of e
@@ -18,14 +18,14 @@ stated_rule [] n r h = absurd cc
 stated_rule (y ∷ stated) zero r h = (y, refl, h)
 stated_rule (y ∷ stated) (suc n) r h = stated_rule stated n r h
 
--- what comes behind changes no rule
+-- appended kinds change no rule
 pub rule_front : {N S : Type 0} (stated more : List (Stated N S)) (n : ℕ) (r : Rule N S) → IsFrontOf stated more → rule_at stated n ≡ Some r → rule_at more n ≡ Some r
 rule_front stated more n r f h = let (x, at, is) = stated_rule stated n r h in rule_stated more n x (front_get stated more n x f at) ∙ is
 
 pub rules_front : {N S : Type 0} (stated more : List (Stated N S)) (r : Rule N S) → IsFrontOf stated more → rules_in stated r → rules_in more r
 rules_front stated more r f (n, h) = (n, rule_front stated more n r f h)
 
--- a clause that states a digit states that of a place
+-- a clause that encodes a digit encodes that of a place
 pub digit_stated : {N S : Type 0} (stated : List (Stated N S)) (n : ℕ) (s : S) (bit : ℕ) (b : Bool) → rule_at stated n ≡ Some (Rule.has_digit s bit b) → (name : N) × (place : ℕ) × (stated_at stated n ≡ Some (Digit name s place bit)) × (b ≡ digit place bit)
 digit_stated {N} {S} stated n s bit b h = let (x, at, is) = stated_rule stated n (Rule.has_digit s bit b) h in go x at is
   where

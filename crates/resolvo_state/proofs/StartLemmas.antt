@@ -37,7 +37,7 @@ root_only [] h l a = absurd h
 root_only (c ∷ []) (is, none) l a = elim (has-cons (yes root_variable) [] l (subst (λ (x : List Signed). has x l ≡ true) is a)) [ inl i ↦ ap (λ (y : Signed). y.variable.0) (sym i) | inr f ↦ absurd (both_ways false refl f) ]
 root_only (c ∷ d ∷ cs) h l a = absurd h
 
--- of the root's clause alone nothing but itself is stated
+-- the root's clause has the only kind in the list
 root_alone : {N S : Type 0} (stated : List (Stated N S)) (n : ℕ) (x : Stated N S) → stated ≡ Root ∷ [] → stated_at stated n ≡ Some x → (n ≡ 0) × (x ≡ Root)
 root_alone {N} {S} stated n x e h = go n (subst (λ (xs : List (Stated N S)). stated_at xs n ≡ Some x) e h)
   where

@@ -1,4 +1,4 @@
--- Clauses that tell the digits of places.
+-- Clauses that encode the digits of places.
 use Rattle.std.proofs.Common.{◌≡◌, ℕ, ◌+◌, ◌<◌, ◌≤◌, inl, inr, Bool, not, List, [], ◌∷◌, ◌++◌, length, take, get_or, min, Some, refl, sym, ◌∙◌, ap, subst, arith}
 use Rattle.std.specs.Prelude.{slice_get}
 use Rattle.std.proofs.Math.Nat.{min-eq_left, min-eq_right}
@@ -43,7 +43,7 @@ two_literals xs ys zs a l v w b none first second is other =
     ∙ ap (λ (x : Signed). x ∷ l ∷ []) is
     ∙ ap (λ (x : Signed). no v ∷ x ∷ []) (other ∙ ap (λ c. let m : Signed = record { variable = w; positive = c } in m) (not_not b))
 
--- the clause of a tie came
+-- the clause of a tie was added
 pub tie_stated : {N S : Type 0} (name : N) (place : ℕ) (tie : Tie) (old new : SolverState N S) (s : S) (bit : ℕ) (id : ClauseId) (literals : List Signed) → IsCoding old → IsTie name old.atoms.keys place tie
     → solvable_of old.atoms.keys tie.0.0 ≡ Some s → bit_of old.atoms.keys tie.1.0 ≡ Some bit → literals ≡ tie_literals tie.0 tie.1 tie.2 → States (Digit name s place bit) literals id old new → StatesOne name place tie old new
 tie_stated {N} {S} name place tie old new s bit id literals coding is solvable known_bit spelled states = record {
@@ -100,7 +100,7 @@ tie_grows name place tie old new grows t = record {
   value = t.value;
 }
 
--- and stays stated
+-- and stays encoded
 pub tie_stays : {N S : Type 0} (name : N) (place : ℕ) (tie : Tie) (old new : SolverState N S) (n : ℕ) → Grows old new → n < length old.search.clauses → StatesTie name place tie old n → StatesTie name place tie new n
 unfolding tie_grows
 tie_stays name place tie old new n grows below t = record {
@@ -148,7 +148,7 @@ all_more name ties first last tie a b c all one = record {
   same = λ e. (let long : length (ties ++ tie ∷ []) ≡ 0 = ap length e in let more : length (ties ++ tie ∷ []) ≡ length ties + 1 = length-append ties (tie ∷ []) in absurd (omega arith));
 }
 
--- the rule of a tie that is stated
+-- the rule of a tie that a clause encodes
 pub tie_rule : {N S : Type 0} (name : N) (place : ℕ) (tie : Tie) (c : SolverState N S) (n : ℕ) (s : S) (i : ℕ) → StatesTie name place tie c n → StandsFor c.atoms.keys tie.0 (Solvable s) → StandsFor c.atoms.keys tie.1 (Bit name i) → rules_in c.stated.items (Rule.has_digit s i tie.2)
 tie_rule name place tie c n s i t stands tells =
     let first = stands_same c.atoms.keys tie.0 (Solvable t.is.solvable) (Solvable s) t.is.stands stands in

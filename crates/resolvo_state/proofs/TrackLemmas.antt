@@ -39,20 +39,20 @@ ties_at k x [] i tie h = absurd cc
 ties_at k x (w ∷ vs) zero tie h = let e : (x, w, k % 2 == 1) ≡ tie = cc in (ap (λ (t : Tie). t.0) (sym e), ap (λ (t : Tie). Some t.1) e, ap (λ (t : Tie). t.2) (sym e))
 ties_at k x (w ∷ vs) (suc i) tie h = ties_at (k / 2) x vs i tie h
 
--- the tie's variable is at the place, and its helper tells a digit of that
+-- the tie's variable is at the place, and its helper is a digit of that
 record IsTieAt (xs vs : List VariableId) (place : ℕ) (tie : Tie) : Type 0 where
   stands : slice_get xs place ≡ Some tie.0
   bit : ℕ
   tells : slice_get vs bit ≡ Some tie.1
   value : tie.2 ≡ digit place bit
 
--- a tie of the variable that comes
+-- a tie of the new variable
 own_at : (xs vs more : List VariableId) (x : VariableId) (i : ℕ) (tie : Tie) → slice_get (ties (length xs) x vs) i ≡ Some tie → IsTieAt (xs ++ x ∷ []) (vs ++ more) (length xs) tie
 own_at xs vs more x i tie h =
     let (e, at, value) = ties_at (length xs) x vs i tie h in
     record { stands = get_last xs x ∙ ap Some (sym e); bit = i; tells = get_front vs more i tie.1 at; value = value }
 
--- each tie that comes is of the place of a tracked variable, or of the one that comes
+-- each new tie is of the place of a tracked variable, or of the new one
 all_at : (xs vs : List VariableId) (x : VariableId) (o : Option VariableId) (i : ℕ) (tie : Tie) → length xs ≤ 2 ^ length vs → (is_some o ≡ true → length xs ≡ 2 ^ length vs) → slice_get (tie_all xs vs x o) i ≡ Some tie
     → IsTieAt (xs ++ x ∷ []) (vs ++ option_to_list o) (place_from (first_of o (length xs)) (length xs) i) tie
 all_at xs vs x None i tie few full h =
@@ -86,7 +86,7 @@ all_at xs vs x (Some v) i tie few full h = elim (get_parts (map (λ (y : Variabl
       ])
 ]
 
--- there is a tie for each place and digit that came
+-- there is a tie for each place and the new digit
 all_tell : (xs vs : List VariableId) (x : VariableId) (o : Option VariableId) (i : ℕ) (v : VariableId) → length xs ≤ 2 ^ length vs → (is_some o ≡ true → length xs ≡ 2 ^ length vs) → slice_get (vs ++ option_to_list o) i ≡ Some v → Contains (tie_all xs vs x o) (x, v, digit (length xs) i)
 all_tell xs vs x None i v few full h = has_ties (length xs) x vs i v (subst (λ (ws : List VariableId). slice_get ws i ≡ Some v) (append-nil vs) h)
 all_tell xs vs x (Some w) i v few full h =
@@ -97,7 +97,7 @@ all_tell xs vs x (Some w) i v few full h =
           contains_right (x, v, digit (length xs) i) (ties (length xs) x vs) ((x, w, true) ∷ []) (contains_first (x, v, digit (length xs) i) (x, w, true) [] (let back = sym same in let digit_back = sym one in λ j. (x, back j, digit_back j)))
     ])
 
--- so there is for each old place and a digit that came
+-- so there is for each old place and the new digit
 old_tell : (xs vs : List VariableId) (x w : VariableId) (place : ℕ) (y : VariableId) → length xs ≤ 2 ^ length vs → slice_get xs place ≡ Some y → Contains (tie_all xs vs x (Some w)) (y, w, digit place (length vs))
 old_tell xs vs x w place y few h =
     let within : place < length xs = slice_get_within xs place y h in
@@ -202,12 +202,12 @@ module _ {N S : Type 0} (name : N) (x : VariableId) (s : S) (t : Tracking Variab
       let (u, f) = longer_solvables tie.0 (get_contains (t.variables ++ x ∷ []) _ tie.0 q.stands) in
       record { solvable = u; bit = q.bit; few = omega arith; stands = f; tells = longer_digits q.bit tie.1 q.tells; value = q.value }
 
-  -- a helper came where the helpers distinguished no more places
+  -- a helper was added where the helpers distinguished no more places
   come_full : (q : Bool) → is_some o ≡ (not q && (length t.variables == 2 ^ length t.helpers)) → is_some o ≡ true → length t.variables ≡ 2 ^ length t.helpers
   come_full true n some = absurd (both_ways _ n some)
   come_full false n some = eqb-true (length t.variables) (2 ^ length t.helpers) (sym n ∙ some)
 
-  -- what comes with a variable are ties, of the places one after another
+  -- with a variable ties are added, of the places one after another
   pub come_ties : IsCoding a → (ts : List Tie) (first last : ℕ) → is_some o ≡ needs_helper same_variable t x → first ≡ first_of o last → last ≡ length t.variables → ts ≡ new_ties same_variable t x o
       → (i : ℕ) (tie : Tie) → slice_get ts i ≡ Some tie → IsTie name b.atoms.keys (place_from first last i) tie
   come_ties coding ts first last needed begins ends e i tie h =
@@ -232,7 +232,7 @@ module _ {N S : Type 0} (name : N) (x : VariableId) (s : S) (t : Tracking Variab
         let (n, below, st) = all.each j (v, w, digit place i) at in
         tie_rule name _ (v, w, digit place i) c n u i st f g
 
-    -- an old variable, by an old digit or the one that came
+    -- an old variable, by an old digit or the new one
     old_told : (place i : ℕ) (v w : VariableId) (u : S) → slice_get t.variables place ≡ Some v → StandsFor c.atoms.keys v (Solvable u) → slice_get (t.helpers ++ option_to_list o) i ≡ Some w → StandsFor c.atoms.keys w (Bit name i) → rules_in c.stated.items (Rule.has_digit u i (digit place i))
     old_told place i v w u at f wt g = elim (below_or_not i (length t.helpers)) [
       | inl below ↦
@@ -308,7 +308,7 @@ module _ {N S : Type 0} (name : N) (x : VariableId) (s : S) (t : Tracking Variab
     same = λ i. refl;
   }
 
-  -- The tracker takes the variable, unless it has it, and its ties come as clauses.
+  -- The tracker takes the variable, unless it has it, and its ties are added as clauses.
   pub track_is : (u : Tracking VariableId) (ts : List Tie) (first last : ℕ) (c : SolverState N S) → IsCoding a → is_some o ≡ needs_helper same_variable t x → first ≡ first_of o last → last ≡ length t.variables → u ≡ tracked same_variable t x o → ts ≡ new_ties same_variable t x o
       → StatesAll name ts first last b c → Tracks name x t a u c
   track_is u ts first last c coding needed begins ends next come all =

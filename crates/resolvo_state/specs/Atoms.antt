@@ -16,7 +16,7 @@ atom_of (Gate r) = Atom.gate r
 atom_of (Outside v) = Atom.outside v
 atom_of (Bit n bit) = Atom.digit n bit
 
--- what the SAT core knows of the variable
+-- the variable's kind in the SAT core
 abbrev pub kind_of : {N S : Type 0} → ProofAtom N S → VariableKind
 kind_of (Solvable s) = Kinds.Solvable
 kind_of (AtLeastOne n) = Kinds.Helper
@@ -24,7 +24,7 @@ kind_of (Gate r) = Kinds.Helper
 kind_of (Outside v) = Kinds.Helper
 kind_of (Bit n bit) = Kinds.Helper
 
--- an atom for what has none
+-- an atom for variables without one
 abbrev pub no_atom : {N S : Type 0} → Atom N S
 no_atom = Atom.gate (Single (record { 0 = 0 }))
 
@@ -34,7 +34,7 @@ atom_at [] k = no_atom
 atom_at (a ∷ atoms) zero = atom_of a
 atom_at (a ∷ atoms) (suc k) = atom_at atoms k
 
--- what each variable was made for: the root's for nothing, the one behind it for the first atom
+-- the atom that each variable represents: the root's none, the one after it the first
 abbrev pub origin : {N S : Type 0} → List (ProofAtom N S) → ℕ → Atom N S
 origin atoms zero = no_atom
 origin atoms (suc k) = atom_at atoms k

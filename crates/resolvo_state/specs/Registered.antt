@@ -1,4 +1,4 @@
--- Which solvables of each package are registered, and what ties them to the digits of their places.
+-- The registered solvables of each package, and their ties to the digits of their places.
 use Rattle.std.specs.Prelude.{◌≡◌, ℕ, ◌+◌, ◌^◌, ◌==◌, ◌<◌, ◌≤◌, ◌⊎◌, Bool, min, List, [], ◌∷◌, length, slice_get, Option, Some, None, Contains}
 use Rattle.resolvo_pool_core.specs.declared.id.VariableId.{VariableId}
 use Rattle.resolvo_pool_core.specs.OnePass.{Literal}
@@ -27,7 +27,7 @@ abbrev pub digit_literals : {N S : Type 0} → N → S → ℕ → Bool → List
 digit_literals {N} {S} name s bit value = minus (Atom.solvable s) ∷ (let l : Literal (Atom N S) = record { atom = Atom.digit name bit; positive = value } in l) ∷ []
 
 -- The tracker of a package: its variables represent solvables, its helpers the digits in order, as many as distinguish the
--- places apart and fewer than 32, and a clause states each digit of each place.
+-- places apart and fewer than 32, and a clause encodes each digit of each place.
 pub record IsTied {N S : Type 0} (name : N) (t : Tracking VariableId) (c : SolverState N S) : Type 0 where
   pub solvables : (v : VariableId) → Contains t.variables v → (s : S) × StandsFor c.atoms.keys v (Solvable s)
   pub digits : (i : ℕ) (v : VariableId) → slice_get t.helpers i ≡ Some v → StandsFor c.atoms.keys v (Bit name i)
@@ -46,7 +46,8 @@ pub record IsPlaced {N S : Type 0} (r : Registry N) (c : SolverState N S) (name 
   pub stands : slice_get tracker.variables place ≡ Some variable
   pub means : StandsFor c.atoms.keys variable (Solvable s)
 
--- Each package has one tracker, and each is tied. A clause that states a digit of a place states it of the solvable there.
+-- Each package has one tracker, and each is tied. A clause that encodes a digit of a place encodes
+-- it of the solvable there.
 pub record AreTied {N S : Type 0} (r : Registry N) (c : SolverState N S) : Type 0 where
   pub each : length r.names.keys ≡ length r.trackers.items
   pub once : AreOnce r.names.keys
@@ -93,7 +94,7 @@ pub record Registers {N S : Type 0} (name : N) (s : S) (v : VariableId) (r : Reg
   pub digits : (n : ℕ) → length old.search.clauses ≤ n → n < length new.search.clauses → IsDigitClause t new name n
   pub same : IsRegistered r old name s → new ≡ old
 
--- the place is the package's; a new one was added behind the others, with nothing tracked
+-- the place is the package's; a new one was appended, with nothing tracked
 pub record PlacesName {N : Type 0} (name : N) (place : ℕ) (old new : Registry N) : Type 0 where
   pub names : IsFrontOf old.names.keys new.names.keys
   pub trackers : IsFrontOf old.trackers.items new.trackers.items
@@ -130,7 +131,7 @@ pub record IsTie {N S : Type 0} (name : N) (atoms : List (ProofAtom N S)) (place
   pub tells : StandsFor atoms tie.1 (Bit name bit)
   pub value : tie.2 ≡ digit place bit
 
--- the clause of this number states the tie
+-- the clause of this number encodes the tie
 pub record StatesTie {N S : Type 0} (name : N) (place : ℕ) (tie : VariableId × VariableId × Bool) (c : SolverState N S) (n : ℕ) : Type 0 where
   pub is : IsTie name c.atoms.keys place tie
   pub stated : stated_at c.stated.items n ≡ Some (Digit name is.solvable place is.bit)

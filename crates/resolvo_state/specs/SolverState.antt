@@ -42,14 +42,14 @@ pub data LacksNumber {N S : Type 0} (c : SolverState N S) : Type 0 where
   variables : count_of c.search ≡ 2147483647 → LacksNumber c
   clauses : length c.search.clauses ≡ 4294967295 → LacksNumber c
 
--- Atoms, clauses and their rules were added behind the others.
+-- Atoms, clauses and their kinds were appended.
 pub record Grows {N S : Type 0} (old new : SolverState N S) : Type 0 where
   pub atoms : IsFrontOf old.atoms.keys new.atoms.keys
   pub clauses : IsFrontOf old.search.clauses new.search.clauses
   pub stated : IsFrontOf old.stated.items new.stated.items
   pub base_level : new.search.base_level ≡ old.search.base_level
 
--- the trail is what it was
+-- the trail is unchanged
 pub record SameTrail {N S : Type 0} (old new : SolverState N S) : Type 0 where
   pub tracker : new.search.tracker ≡ old.search.tracker
 
@@ -62,7 +62,7 @@ pub record IsBegun {N S : Type 0} (c : SolverState N S) : Type 0 where
   pub trail : c.search.tracker.trail ≡ root_entry ∷ []
   pub base_level : c.search.base_level ≡ 1
 
--- The variable represents the atom. If one did before, nothing changed; else the atom was added behind the others.
+-- The variable represents the atom. If one did before, nothing changed; else the atom was appended.
 pub record Gives {N S : Type 0} (atom : ProofAtom N S) (v : VariableId) (old new : SolverState N S) : Type 0 where
   pub coding : IsCoding new
   pub stands : StandsFor new.atoms.keys v atom
@@ -73,7 +73,7 @@ pub record Gives {N S : Type 0} (atom : ProofAtom N S) (v : VariableId) (old new
   pub clauses : new.search.clauses ≡ old.search.clauses
   pub stated : new.stated ≡ old.stated
 
--- A clause of these literals, which has no causes, was added behind the others.
+-- A clause of these literals, which has no causes, was appended.
 pub record States {N S : Type 0} (x : Stated N S) (spelled : List Signed) (id : ClauseId) (old new : SolverState N S) : Type 0 where
   pub coding : IsCoding new
   pub atoms : new.atoms ≡ old.atoms
@@ -86,7 +86,7 @@ pub record States {N S : Type 0} (x : Stated N S) (spelled : List Signed) (id : 
   pub grows : Grows old new
   pub trail : SameTrail old new
 
--- A clause was added behind the others that follows from its causes.
+-- A clause was appended that follows from its causes.
 pub record Bars {N S : Type 0} (denies : List Signed) (by : List ClauseId) (id : ClauseId) (old new : SolverState N S) : Type 0 where
   pub coding : IsCoding new
   pub atoms : new.atoms ≡ old.atoms
@@ -100,7 +100,7 @@ pub record Bars {N S : Type 0} (denies : List Signed) (by : List ClauseId) (id :
   pub grows : Grows old new
   pub trail : SameTrail old new
 
--- what a step adds to what is stated
+-- the kinds that a step adds
 abbrev pub learnt_by : {N S : Type 0} → StepResult → List (Stated N S)
 learnt_by StepResult.Complete = []
 learnt_by (StepResult.Learnt id) = Learnt ∷ []

@@ -1,4 +1,4 @@
--- Clauses that state rules have their literals.
+-- Clauses that encode rules have their literals.
 use Rattle.std.specs.Prelude.{◌≡◌, ℕ, Bool, true, Some}
 use Rattle.resolvo_pool_core.specs.RuleKeeping.{Packages}
 use Rattle.resolvo_store_core.specs.Signed.{Signed, has}
@@ -11,7 +11,7 @@ use Rattle.resolvo_state.specs.Atoms.{origin}
 use Rattle.resolvo_state.specs.Statements.{rule_at}
 
 module _ {N S : Type 0} (same : S → S → Bool) (p : Packages N S) where
-  -- each clause that states a rule has the rule's literals
+  -- each clause that encodes a rule has the rule's literals
   abbrev pub Spelled : SolverState N S → Type 0
   Spelled c = (n : ℕ) (r : Rule N S) → rule_at c.stated.items n ≡ Some r → Spells (origin c.atoms.keys) (clause_at (clauses_of c.search) n) (literals_of same p r)
 

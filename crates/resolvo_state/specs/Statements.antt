@@ -1,11 +1,11 @@
--- What clauses state.
+-- The rules that clauses encode.
 use Rattle.std.specs.Prelude.{◌≡◌, ℕ, zero, suc, List, [], ◌∷◌, Option, Some, None, slice_get}
 use Rattle.resolvo_store_core.specs.AtMostOne.{digit}
 use Rattle.resolvo_soundness.specs.Encoding.{Rule, Bar}
 use Rattle.resolvo_state.specs.declared.clause_kind.Stated.{Stated}
 use Rattle.resolvo_state.specs.declared.clause_kind.Stated.TheVariants.{Root, Needs, Gated, Shared, Limits, LimitsOutside, IsOut, Locked, Excluded, Digit, IsThere, Learnt}
 
--- the rule that is stated; what the root's clause and a learnt one state is none
+-- the rule of a kind of clause; the root's clause and a learnt one encode none
 abbrev pub rule_of : {N S : Type 0} → Stated N S → Option (Rule N S)
 rule_of Root = None
 rule_of (Needs parent need case) = Some (Rule.needs parent need case.items)
@@ -20,16 +20,16 @@ rule_of (Digit n s place bit) = Some (Rule.has_digit s bit (digit place bit))
 rule_of (IsThere n s) = Some (Rule.is_there n s)
 rule_of Learnt = None
 
--- what the clause of this number states
+-- the kind of the clause of this number
 abbrev pub stated_at : {N S : Type 0} → List (Stated N S) → ℕ → Option (Stated N S)
 stated_at stated n = slice_get stated n
 
--- the rule that the clause of this number states
+-- the rule that the clause of this number encodes
 abbrev pub rule_at : {N S : Type 0} → List (Stated N S) → ℕ → Option (Rule N S)
 rule_at [] n = None
 rule_at (x ∷ stated) zero = rule_of x
 rule_at (x ∷ stated) (suc n) = rule_at stated n
 
--- some clause states the rule
+-- some clause encodes the rule
 abbrev pub rules_in : {N S : Type 0} → List (Stated N S) → Rule N S → Type 0
 rules_in stated r = (n : ℕ) × (rule_at stated n ≡ Some r)

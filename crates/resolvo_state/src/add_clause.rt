@@ -19,13 +19,13 @@ use std::hash::Hash;
 
 impl<N: Copy + Exact + Hash + Debug, S: Copy + Exact + Hash + Debug> SolverState<N, S> {
     /// Adds a clause that encodes a rule.
-    pub fn state(&mut self, stated: Stated<N, S>, literals: Vec<Literal>) -> R<ClauseId>
+    pub fn state(&mut self, kind: Stated<N, S>, literals: Vec<Literal>) -> R<ClauseId>
         requires coding { IsCoding self.old }
-        requires rule { IsSome (rule_of stated) }
+        requires rule { IsSome (rule_of kind) }
         requires some { 0 < length literals.items }
         requires in_range { AreInRange (count_of self.old.search) literals.items }
         // After an answer.
-        ensures states { IfOk result (λ id. States stated literals.items id self.old self.new) }
+        ensures states { IfOk result (λ id. States kind literals.items id self.old self.new) }
         // After a refusal.
         ensures ids { IsErrOf result Ids → length self.old.search.clauses ≡ 4294967295 }
         ensures full { IsErrOf result Ids → LacksNumber self.new }
@@ -34,7 +34,7 @@ impl<N: Copy + Exact + Hash + Debug, S: Copy + Exact + Hash + Debug> SolverState
         let clause = self
             .search
             .add_clause(&mut self.watching, SatClause { literals, causes })?;
-        self.stated.push(stated)?;
+        self.stated.push(kind)?;
         Ok(clause)
     }
 

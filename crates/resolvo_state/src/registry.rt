@@ -217,12 +217,12 @@ fn state_tie<N: Copy + Exact + Hash + Debug, S: Copy + Exact + Hash + Debug>(
     let (Some(solvable), Some(bit)) = (coding.solvable(variable), coding.bit(digit)) else {
         unreachable!()
     };
-    let stated = Stated::Digit {
+    let kind = Stated::Digit {
         name,
         solvable,
         place,
         bit,
     };
-    coding.state(stated, literals)?;
+    coding.state(kind, literals)?;
     Ok(())
 }

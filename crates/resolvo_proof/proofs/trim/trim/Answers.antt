@@ -4,7 +4,7 @@ use Rattle.resolvo_proof.proofs.Shortened.{trimmed_empty}
 use Rattle.resolvo_proof.proofs.NumberLemmas.{last_wanted, all_named}
 use Rattle.resolvo_proof.proofs.trim.trim.Goals as goal
 
--- what is left leads to the last step
+-- the kept steps lead to the last step
 left : (g : _) (c : goal.After-drop-branch g) → IsTrimmed c.args.steps.items c.in_ok-steps.field-0.steps.items
 left g c = last_wanted c.args.steps.items c.in_ok-steps.field-0.steps.items c.saturating_sub-last.result (c.saturating_sub-last.ensures ∙ ap (λ (n : ℕ). n - 1) (c.len.ensures ∙ c.args.steps.ok.0)) c.in_ok-steps.ensures.kept.trimmed
 

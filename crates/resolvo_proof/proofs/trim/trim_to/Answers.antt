@@ -39,7 +39,7 @@ loop-step-preserved g c =
     subst (λ k. AreKept steps flags k c.push.new.self.items c.keep.new.kept.items) longer
     (kept_next steps flags done c.loop-step.numbers.items c.push.new.self.items c.loop-step.kept.items c.keep.new.kept.items c.index.result.now c.in-Some.step leads at flag (subst (λ (ns : List ℕ). Keeps c.index.result.now ns c.in-Some.step c.loop-step.kept.items c.keep.new.kept.items) c.as_slice-in-loop-step.ensures.value c.in_ok-keep.ensures.kept) (c.in_ok-push.ensures.items ∙ ap (λ n. c.loop-step.numbers.items ++ n ∷ []) (c.len-number.ensures ∙ c.loop-step.kept.ok.0)) c.loop-step.invariant)
 
--- what is left of the steps when the loop has ended
+-- the kept steps when the loop has ended
 left : (g : _) (c : goal.After-drop-leading-2 g) → IsTrimmedWith (Contains c.args.wanted.now) c.args.steps.items c.loop-step.kept.items c.loop-step.numbers.items
 left g c =
     let steps = c.args.steps.items in

@@ -7,8 +7,8 @@ use Rattle.resolvo_proof.proofs.write.write_rule.Goals.{in-Needs+in_ok-clone-in-
 
 pub returns-clause-told : goal.returns-clause-told
 returns-clause-told g c =
-    let told = λ (x : Stated g.row.N.Denot g.row.S.Denot). IsTold x (Some c.match-stated.rule) in
-    elim c.match-stated.branch [
+    let told = λ (x : Stated g.row.N.Denot g.row.S.Denot). IsTold x (Some c.match-kind.rule) in
+    elim c.match-kind.branch [
       | in-Needs+in_ok-clone-in-Needs w ↦ subst told (sym w.in-Needs.is) (w.in_ok-clone-in-Needs.field-0, ap Some w.rule-is, zip_same w.in-Needs.case.items w.in_ok-clone-in-Needs.field-0.items w.in_ok-clone-in-Needs.ensures.cases.0)
       | in-Gated w ↦ subst told (sym w.in-Gated.is) (ap Some w.rule-is)
       | in-Shared w ↦ subst told (sym w.in-Shared.is) (ap Some w.rule-is)
