@@ -22,5 +22,5 @@ written_fits (Either v w) fits case among s has =
 -- a line's condition is one that is written
 pub case_fits : (text : List ℕ) (alternatives : List Spec) (condition : Option Cond) → Spells text (Needs alternatives condition) → (case : List Spec) → Contains (condition_cases condition) case → (s : Spec) → Contains case s → IsSpec s
 case_fits text alternatives None spells case among s has = absurd (contains_none s (subst (λ (ss : List Spec). Contains ss s) (contains_one case [] among) has))
-case_fits text alternatives (Some c) (words, is, (others, said, condition)) case among s has =
+case_fits text alternatives (Some c) (words, is, (others, source, condition)) case among s has =
     written_fits condition.written condition.form.form case (subst (λ (x : Cond). Contains (cases x) case) (sym condition.means) among) s has

@@ -19,7 +19,7 @@ use Rattle.resolvo_catalogue.specs.Ids.{NameId, SolvableId, solvable_id, solvabl
 use Rattle.resolvo_catalogue.specs.Known.{set_at}
 use Rattle.resolvo_catalogue.specs.Marked.{IsMarked}
 use Rattle.resolvo_catalogue.specs.Provider.{Provider, candidates_of, listing_if_any, matches, marks_at, no_marks, packages_of}
-use Rattle.resolvo_catalogue.specs.KeptSets.{TellsApart}
+use Rattle.resolvo_catalogue.specs.KeptSets.{DistinguishesIds}
 use Rattle.resolvo_catalogue.specs.Over.{IsOver}
 use Rattle.resolvo_catalogue.specs.CandidateOrder.{matching, IsOrder}
 use Rattle.resolvo_catalogue.proofs.Alike.{in_from, listed_is, match_same}
@@ -77,7 +77,7 @@ favored_is : (p : Provider) (ss : List SolvableId) → (pool.listing_or_empty (l
 favored_is p [] = refl
 favored_is p (s ∷ ss) = refl
 
-module _ (p : Provider) (catalogue : List Line) (over : IsOver catalogue p) (same : SolvableId → SolvableId → Bool) (apart : TellsApart same) where
+module _ (p : Provider) (catalogue : List Line) (over : IsOver catalogue p) (same : SolvableId → SolvableId → Bool) (apart : DistinguishesIds same) where
   front_to : (favoured : Option SolvableId) (ys : List SolvableId) (s : SolvableId) → Contains ys s → Contains (favoured_first same favoured ys) s
   front_to None ys s c = c
   front_to (Some g) ys s c = go (list_any (λ x. same x g) ys)

@@ -6,7 +6,7 @@ use Rattle.std.specs.List.{flat_map}
 use Rattle.std.proofs.lemmas.Bool.{and_parts, eqb-true}
 use Rattle.std.proofs.lemmas.Option.{slice_get-get_or, slice_get_within, get_or_from_slice_get}
 use Rattle.resolvo_text.specs.Line.{Line, Listed}
-use Rattle.resolvo_text.specs.Spelling.{HasForm, Spells, SaysLine}
+use Rattle.resolvo_text.specs.Spelling.{HasForm, Spells, SpellsLine}
 use Rattle.resolvo_catalogue_core.specs.Grammar.{AreRequestLines, line_at}
 use Rattle.resolvo_catalogue_core.specs.Listed.{listed}
 use Rattle.resolvo_catalogue_core.specs.Questions.{ReadRequest}
@@ -21,7 +21,7 @@ use Rattle.resolvo_pool_core.specs.Provider as pool
 use Rattle.resolvo_pool_core.specs.RuleKeeping.{Packages, rules_of, rules_for, is_in, is_outside}
 use Rattle.resolvo_pool_core.specs.Text.{alternatives_of}
 use Rattle.resolvo_store_core.specs.AtMostOne.{digit}
-use Rattle.resolvo_soundness.specs.Encoding.{Atom, IsExact, Bar, plus, minus, solvables, IsRule, asks, has_condition, same_requirement, cases_under, parent_literals, case_literals, candidate_literals, literals_of}
+use Rattle.resolvo_soundness.specs.Encoding.{Atom, IsExact, ForbidReason, plus, minus, solvables, IsRule, asks, has_condition, same_requirement, cases_under, parent_literals, case_literals, candidate_literals, literals_of}
 use Rattle.resolvo_soundness.proofs.Lists.{contains_none, contains_cases, contains_first, contains_later, contains_parts, map_contains, filter_contains, any_contained, contains_map}
 use Rattle.resolvo_state.specs.declared.atom.ProofAtom.{ProofAtom}
 use Rattle.resolvo_state.specs.declared.atom.ProofAtom.TheVariants as atom
@@ -36,10 +36,10 @@ use Rattle.resolvo_proof.specs.Drawn.{AreDrawn}
 use Rattle.resolvo_proof.specs.Trimmed.{IsTrimmedTo, IsRenumbered}
 use Rattle.resolvo_catalogue.specs.Ids.{NameId, SolvableId, AreEach, IsNeed, IsSpec, IsPackage}
 use Rattle.resolvo_catalogue.specs.Known.{name_of, set_at, members_of, condition_at}
-use Rattle.resolvo_catalogue.specs.Told.{VersionDependencies, need_in, limit_in, lines_at}
-use Rattle.resolvo_catalogue.specs.Provider.{Provider, packages_of, candidates_of, dependencies_of, matches, told_at, no_lines}
+use Rattle.resolvo_catalogue.specs.Dependencies.{VersionDependencies, need_in, limit_in, lines_at}
+use Rattle.resolvo_catalogue.specs.Provider.{Provider, packages_of, candidates_of, dependencies_of, matches, deps_at, no_lines}
 use Rattle.resolvo_catalogue.specs.Over.{IsOver, AreAsked}
-use Rattle.resolvo_catalogue.specs.KeptSets.{TellsApart, root_of}
+use Rattle.resolvo_catalogue.specs.KeptSets.{DistinguishesIds, root_of}
 use Rattle.resolvo_catalogue.specs.declared.provider.RequestIds.{RequestIds}
 use Rattle.resolvo_catalogue.specs.declared.id_table.Numbers.{Numbers}
 use Rattle.resolvo_catalogue.proofs.Alike.{is_package, candidate, in_to}
@@ -47,8 +47,8 @@ use Rattle.resolvo_catalogue.proofs.Elements.{flat_from, option_from, each_from_
 use Rattle.resolvo_catalogue.proofs.MarkLemmas.{one_some}
 use Rattle.resolvo_catalogue.proofs.RulesKept.{req_from, con_from}
 use Rattle.resolve_refusal.specs.Refusal.{IsVersion, IsSpelledName, IsSpelledSet, IsSpelledRequirement, IsKnownAtom, IsKnownStep}
-use Rattle.resolve_refusal.proofs.BarLemmas.{told_version, barred_version}
-use Rattle.resolve_refusal.proofs.Cases.{case_said}
+use Rattle.resolve_refusal.proofs.ForbidLemmas.{known_version, forbidden_version}
+use Rattle.resolve_refusal.proofs.Cases.{case_specs}
 use Rattle.resolve_refusal.proofs.Clauses.{candidate_of}
 use Rattle.resolve_answer.proofs.CaseForms.{case_fits}
 use Rattle.resolve_answer.proofs.Atoms.{one_requirement}
@@ -72,30 +72,30 @@ no_clause same p [] n e = refl
 no_clause same p (x ∷ steps) zero e = absurd cc
 no_clause same p (x ∷ steps) (suc n) e = no_clause same p steps n e
 
-module _ (catalogue : List Line) (said : ReadRequest) (provider : Provider) (over : IsOver catalogue provider) (asks_rightly : AreRequestLines catalogue said.lines) (ids : RequestIds) (asked : AreAsked provider.ids said ids) (same : SolvableId → SolvableId → Bool) (exact : IsExact same) where
+module _ (catalogue : List Line) (source : ReadRequest) (provider : Provider) (over : IsOver catalogue provider) (asks_rightly : AreRequestLines catalogue source.lines) (ids : RequestIds) (asked : AreAsked provider.ids source ids) (same : SolvableId → SolvableId → Bool) (exact : IsExact same) where
   abbrev p : Packages NameId SolvableId
   p = packages_of provider
 
-  apart : TellsApart same
+  apart : DistinguishesIds same
   apart s t = (exact.one s t, λ e. subst (λ x. same s x ≡ true) e (exact.own s))
 
   -- ---- lines have their forms
 
   -- some text spells each line
   abbrev Fit : List Line → Type 0
-  Fit lines = (l : Line) → Contains lines l → (text : List ℕ) × SaysLine text l
+  Fit lines = (l : Line) → Contains lines l → (text : List ℕ) × SpellsLine text l
 
   catalogue_fits : Fit catalogue
   catalogue_fits l h =
       let (k, at) = at_from_contains catalogue l h in
       let (text, line) = over.grammatical k l at in
-      (text, line.says)
+      (text, line.parsed)
 
-  request_fits : Fit said.lines
+  request_fits : Fit source.lines
   request_fits l h =
-      let (k, at) = at_from_contains said.lines l h in
+      let (k, at) = at_from_contains source.lines l h in
       let (text, line) = asks_rightly k l at in
-      (text, line.says)
+      (text, line.parsed)
 
   lines_fit : (numbers : List ℕ) → Fit (lines_at catalogue numbers)
   lines_fit numbers l c =
@@ -113,13 +113,13 @@ module _ (catalogue : List Line) (said : ReadRequest) (provider : Provider) (ove
   need_spelled : (lines : List Line) → Fit lines → (needs : List ConditionalRequirement) → AreEach (IsNeed provider.ids) needs (flat_map need_in lines) → (need : ConditionalRequirement) → Contains needs need → IsSpelledNeed need
   need_spelled lines fit needs each need h =
       let (x, among, (alternatives, condition)) = each_from_left (IsNeed provider.ids) needs (flat_map need_in lines) each need h in
-      let (l, stands, says) = flat_from need_in lines x among in
-      let (text, line) = fit l stands in (
-        (x.0, alternatives, subst HasForm (need_from l x says) line.form),
+      let (l, in_lines, parsed) = flat_from need_in lines x among in
+      let (text, line) = fit l in_lines in (
+        (x.0, alternatives, subst HasForm (need_from l x parsed) line.form),
         λ case has v in_case. (
-            let (specs, of, sets) = case_said provider.ids over.once.below need.condition x.1 condition case has in
+            let (specs, of, sets) = case_specs provider.ids over.once.below need.condition x.1 condition case has in
             let (s, there, is) = each_from_left (IsSpec provider.ids) case specs sets v in_case in
-            (s, is, case_fits text x.0 x.1 (subst (Spells text) (need_from l x says) line.spelled) specs of s there)
+            (s, is, case_fits text x.0 x.1 (subst (Spells text) (need_from l x parsed) line.spelled) specs of s there)
             ),
       )
 
@@ -131,14 +131,14 @@ module _ (catalogue : List Line) (said : ReadRequest) (provider : Provider) (ove
 
   -- ---- the dependencies of a solvable
 
-  needs_told : (s : SolvableId) (need : ConditionalRequirement) → Contains (told_at provider s).requirements need → IsSpelledNeed need
-  needs_told s need = or_all (λ (t : VersionDependencies). Contains t.requirements need → IsSpelledNeed need) provider.told no_lines
-      (λ k t e. let tells = over.told.each k t e in need_spelled (lines_at catalogue tells.0) (lines_fit tells.0) t.requirements tells.2.requirements need)
+  needs_known : (s : SolvableId) (need : ConditionalRequirement) → Contains (deps_at provider s).requirements need → IsSpelledNeed need
+  needs_known s need = or_all (λ (t : VersionDependencies). Contains t.requirements need → IsSpelledNeed need) provider.deps no_lines
+      (λ k t e. let known_of = over.deps.each k t e in need_spelled (lines_at catalogue known_of.0) (lines_fit known_of.0) t.requirements known_of.2.requirements need)
       (λ c. absurd (contains_none need c)) s.raw
 
-  limits_told : (s : SolvableId) (v : VersionSetId) → Contains (told_at provider s).constrains v → IsSpelledSet catalogue provider.ids v
-  limits_told s v = or_all (λ (t : VersionDependencies). Contains t.constrains v → IsSpelledSet catalogue provider.ids v) provider.told no_lines
-      (λ k t e. let tells = over.told.each k t e in limit_spelled (lines_at catalogue tells.0) (lines_fit tells.0) t.constrains tells.2.constrains v)
+  limits_known : (s : SolvableId) (v : VersionSetId) → Contains (deps_at provider s).constrains v → IsSpelledSet catalogue provider.ids v
+  limits_known s v = or_all (λ (t : VersionDependencies). Contains t.constrains v → IsSpelledSet catalogue provider.ids v) provider.deps no_lines
+      (λ k t e. let known_of = over.deps.each k t e in limit_spelled (lines_at catalogue known_of.0) (lines_fit known_of.0) t.constrains known_of.2.constrains v)
       (λ c. absurd (contains_none v c)) s.raw
 
   -- ---- the rules of a parent
@@ -147,18 +147,18 @@ module _ (catalogue : List Line) (said : ReadRequest) (provider : Provider) (ove
   IsParentKnown parent = (s : SolvableId) → parent ≡ Some s → IsVersion catalogue provider.ids s
 
   need_known : (parent : Option SolvableId) (need : ConditionalRequirement) → Contains (rules_for same p (root_of ids) parent).requirements need → IsParentKnown parent × IsSpelledNeed need
-  need_known None need h = (λ s e. absurd cc, need_spelled said.lines request_fits ids.requirements.items asked.requirements need h)
+  need_known None need h = (λ s e. absurd cc, need_spelled source.lines request_fits ids.requirements.items asked.requirements need h)
   need_known (Some s) need h =
-      let c = req_from (told_at provider s) (told_at provider s).unknown need h in
-      let v = told_version catalogue provider over same exact s (λ e. contains_none need (subst (λ (t : VersionDependencies). Contains t.requirements need) e c)) in
-      (λ t e. subst (λ (x : SolvableId). IsVersion catalogue provider.ids x) (one_some e) v, needs_told s need c)
+      let c = req_from (deps_at provider s) (deps_at provider s).unknown need h in
+      let v = known_version catalogue provider over same exact s (λ e. contains_none need (subst (λ (t : VersionDependencies). Contains t.requirements need) e c)) in
+      (λ t e. subst (λ (x : SolvableId). IsVersion catalogue provider.ids x) (one_some e) v, needs_known s need c)
 
   limit_known : (parent : Option SolvableId) (v : VersionSetId) → Contains (rules_for same p (root_of ids) parent).constraints v → IsParentKnown parent × IsSpelledSet catalogue provider.ids v
-  limit_known None v h = (λ s e. absurd cc, limit_spelled said.lines request_fits ids.constraints.items asked.constraints v h)
+  limit_known None v h = (λ s e. absurd cc, limit_spelled source.lines request_fits ids.constraints.items asked.constraints v h)
   limit_known (Some s) v h =
-      let c = con_from (told_at provider s) (told_at provider s).unknown v h in
-      let w = told_version catalogue provider over same exact s (λ e. contains_none v (subst (λ (t : VersionDependencies). Contains t.constrains v) e c)) in
-      (λ t e. subst (λ (x : SolvableId). IsVersion catalogue provider.ids x) (one_some e) w, limits_told s v c)
+      let c = con_from (deps_at provider s) (deps_at provider s).unknown v h in
+      let w = known_version catalogue provider over same exact s (λ e. contains_none v (subst (λ (t : VersionDependencies). Contains t.constrains v) e c)) in
+      (λ t e. subst (λ (x : SolvableId). IsVersion catalogue provider.ids x) (one_some e) w, limits_known s v c)
 
   gate_known : (s : SolvableId) (r : Requirement) → asks (rules_of (dependencies_of provider s)).requirements r ≡ true → IsVersion catalogue provider.ids s × IsSpelledRequirement catalogue provider.ids r
   gate_known s r h =
@@ -260,15 +260,15 @@ module _ (catalogue : List Line) (said : ReadRequest) (provider : Provider) (ove
       known_append (parent_literals parent) (minus (Atom.outside v) ∷ []) (parent_known parent known.0) (known_more (minus (Atom.outside v)) [] known.1 known_none)
   rule_known condition (Limit parent v (Some s)) is =
       known_append (parent_literals parent) (minus (Atom.solvable s) ∷ []) (parent_known parent (limit_known parent v is.0).0) (known_more (minus (Atom.solvable s)) [] (outside_version v s is.1) known_none)
-  rule_known condition (Outside v s) (parent, stated, out) =
-      known_more (minus (Atom.solvable s)) (plus (Atom.outside v) ∷ []) (outside_version v s out) (known_more (plus (Atom.outside v)) [] (limit_known parent v stated).1 known_none)
-  rule_known condition (Locked locked s) is = known_more (minus (Atom.solvable s)) [] (barred_version catalogue provider over same exact s (Bar.lock locked) is) known_none
-  rule_known condition (Excluded s reason) is = known_more (minus (Atom.solvable s)) [] (barred_version catalogue provider over same exact s (Bar.word reason) is) known_none
+  rule_known condition (Outside v s) (parent, limited, out) =
+      known_more (minus (Atom.solvable s)) (plus (Atom.outside v) ∷ []) (outside_version v s out) (known_more (plus (Atom.outside v)) [] (limit_known parent v limited).1 known_none)
+  rule_known condition (Locked locked s) is = known_more (minus (Atom.solvable s)) [] (forbidden_version catalogue provider over same exact s (ForbidReason.lock locked) is) known_none
+  rule_known condition (Excluded s reason) is = known_more (minus (Atom.solvable s)) [] (forbidden_version catalogue provider over same exact s (ForbidReason.word reason) is) known_none
   rule_known condition (Digit s place bit) (among, below) =
       let known = candidate_version (name_of provider.ids s) s among in
-      let told : Literal (Atom NameId SolvableId) = record { atom = Atom.digit (name_of provider.ids s) bit; positive = digit place bit } in
-      let named : IsKnown told.atom = (name_spelled s known, below) in
-      known_more (minus (Atom.solvable s)) (told ∷ []) known (known_more told [] named known_none)
+      let deps : Literal (Atom NameId SolvableId) = record { atom = Atom.digit (name_of provider.ids s) bit; positive = digit place bit } in
+      let named : IsKnown deps.atom = (name_spelled s known, below) in
+      known_more (minus (Atom.solvable s)) (deps ∷ []) known (known_more deps [] named known_none)
   rule_known condition (AtLeastOne n s) is =
       known_more (minus (Atom.solvable s)) (plus (Atom.any_of n) ∷ []) (candidate_version n s is) (known_more (plus (Atom.any_of n)) [] (candidate_name n s is) known_none)
 
@@ -292,8 +292,8 @@ module _ (catalogue : List Line) (said : ReadRequest) (provider : Provider) (ove
     rule_step condition (Needs parent r case) is = tt
     rule_step condition (GateOf s r) is = tt
     rule_step condition (Shared r) is = tt
-    rule_step condition (Limit parent v barred) is = tt
-    rule_step condition (Outside v s) (parent, stated, out) = (limit_known parent v stated).1
+    rule_step condition (Limit parent v forbidden) is = tt
+    rule_step condition (Outside v s) (parent, limited, out) = (limit_known parent v limited).1
     rule_step condition (Locked locked s) is = tt
     rule_step condition (Excluded s reason) is = tt
     rule_step condition (Digit s place bit) is = tt

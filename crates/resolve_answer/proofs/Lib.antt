@@ -1,4 +1,4 @@
-pub mod TellLemmas
+pub mod WishTurns
 pub mod CaseForms
 pub mod FirstMatches
 pub mod FirstTried
@@ -10,7 +10,7 @@ pub mod Atoms
 pub mod KnowLemmas
 pub mod WalkLemmas
 pub mod UseLemmas
-pub mod Barred
+pub mod Forbidden
 pub mod ServeLemmas
 pub mod Upheld
 pub mod JoinLemmas

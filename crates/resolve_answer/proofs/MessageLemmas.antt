@@ -20,11 +20,11 @@ use Rattle.resolve_answer.proofs.JoinLemmas.{all_lines, each_ends, ends_line}
 line_ends_so : (p : Provider) (l : MessageLine SolvableId) → (text : List ℕ) × (line_text (meaning_of p) l ≡ text ++ codes "\n")
 line_ends_so p l = (_, sym (append_assoc (indent_text l.indenter) (sentence_words (meaning_of p) (length l.indenter.levels == 1) l.sentence) (codes "\n")))
 
-pub text_told : (same_name : NameId → NameId → Bool) (same : SolvableId → SolvableId → Bool) (p : Provider) (offered : Requirement → List SolvableId) (steps : List (ProofStep NameId SolvableId)) (g : Graph SolvableId) (lines : List (MessageLine SolvableId)) (text : List ℕ) (message : List (List ℕ))
+pub text_lines : (same_name : NameId → NameId → Bool) (same : SolvableId → SolvableId → Bool) (p : Provider) (offered : Requirement → List SolvableId) (steps : List (ProofStep NameId SolvableId)) (g : Graph SolvableId) (lines : List (MessageLine SolvableId)) (text : List ℕ) (message : List (List ℕ))
     → g ≡ conflict_drawing same_name same (name_of p.ids) offered (conflict_rules steps) → IsMessage same_name same (name_of p.ids) g lines → text ≡ text_of (meaning_of p) lines → AreLinesOf text message → IsTextOf same_name same p offered steps message
-text_told same_name same p offered steps g lines text message drawn tells bytes are = record {
+text_lines same_name same p offered steps g lines text message drawn is_message bytes are = record {
   lines = lines;
-  tells = subst (λ (x : Graph SolvableId). IsMessage same_name same (name_of p.ids) x lines) drawn tells;
+  is_message = subst (λ (x : Graph SolvableId). IsMessage same_name same (name_of p.ids) x lines) drawn is_message;
   text = all_lines text message (ap ends_line bytes ∙ each_ends (line_text (meaning_of p)) (line_ends_so p) lines) are ∙ bytes;
   plain = are.plain;
 }

@@ -84,8 +84,8 @@ none_beyond (y ∷ xs) (suc k) h = none_beyond xs k (omega (arith, h))
 
 module _ {N S : Type 0} {Wanted : ℕ → Type 0} (steps kept : List (ProofStep N S)) (trimmed : IsTrimmedTo Wanted steps kept) (earlier : AreEarlier steps) where
   -- the kept step, and the one that it was
-  stood : (k place : ℕ) → slice_get trimmed.from k ≡ Some place → (step old : ProofStep N S) × (slice_get kept k ≡ Some step) × (slice_get steps place ≡ Some old) × IsRenumbered trimmed.from place old step
-  stood k place at =
+  renumbered_from : (k place : ℕ) → slice_get trimmed.from k ≡ Some place → (step old : ProofStep N S) × (slice_get kept k ≡ Some step) × (slice_get steps place ≡ Some old) × IsRenumbered trimmed.from place old step
+  renumbered_from k place at =
       let within : k < length trimmed.from = slice_get_within trimmed.from k place at in
       let count : length kept ≡ length trimmed.from = trimmed.count in
       let (step, here) = get_below kept k (omega arith) in
@@ -96,7 +96,7 @@ module _ {N S : Type 0} {Wanted : ℕ → Type 0} (steps kept : List (ProofStep 
   one a b = go (slice_get trimmed.from a) (slice_get trimmed.from b) refl refl
     where
       below : (k place : ℕ) → slice_get trimmed.from k ≡ Some place → place < length steps
-      below k place at = (let (step, old, here, there, is) = stood k place at in slice_get_within steps place old there)
+      below k place at = (let (step, old, here, there, is) = renumbered_from k place at in slice_get_within steps place old there)
 
       same : (k l p : ℕ) → slice_get trimmed.from k ≡ Some p → slice_get trimmed.from l ≡ Some p → k ≡ l
       same k l p h i = elim (order k l) [
@@ -125,7 +125,7 @@ module _ {N S : Type 0} {Wanted : ℕ → Type 0} (steps kept : List (ProofStep 
 
       go : (o : Option ℕ) → slice_get trimmed.from k ≡ o → rule_in (slice_get steps (was trimmed.from (length steps) k)) ≡ rule_in (slice_get kept k)
       go (Some place) at =
-          let (step, old, here, there, is) = stood k place at in
+          let (step, old, here, there, is) = renumbered_from k place at in
           ap (λ n. rule_in (slice_get steps n)) (item_or trimmed.from k (length steps + k) place at) ∙ (ap rule_in there ∙ (same place old step is ∙ ap rule_in (sym here)))
       go None at =
           let count : length kept ≡ length trimmed.from = trimmed.count in
@@ -166,7 +166,7 @@ module _ {N S : Type 0} {Wanted : ℕ → Type 0} (steps kept : List (ProofStep 
   under zero n k place at less small = absurd (omega (arith, small))
   under (suc m) zero k place at less small = absurd (omega (arith, less))
   under (suc m) (suc n) k place at less small =
-      let (step, old, here, there, is) = stood k place at in
+      let (step, old, here, there, is) = renumbered_from k place at in
       ap (rests_on (rules_within steps m) place) there
       ∙ (rests m n k place at (λ l p has back before. under m n l p has (omega (arith, back, less)) (omega (arith, before, small))) old step (λ cause names. earlier place old there cause names) is ∙ ap (λ o. map (was trimmed.from (length steps)) (rests_on (rules_within kept n) k o)) (sym here))
 

@@ -21,7 +21,7 @@ use Rattle.resolve_order.specs.View.{turn_of, turns_of, wish_at}
 use Rattle.resolve_order.specs.declared.entry.Turn.{Turn}
 use Rattle.resolve_order.specs.declared.entry.Turn.TheVariants.{Chose, LeftOut}
 use Rattle.resolvo_soundness.proofs.Lists.{contains_cases, contains_first, contains_later, contains_left, contains_map, contains_none, contains_only, contains_right, map_contains}
-use Rattle.resolvo_state.proofs.Positions.{contains_get, get_below, get_front}
+use Rattle.resolvo_state.proofs.Positions.{contains_get, get_below, get_in_prefix}
 use Rattle.resolvo_proof.specs.Trimmed as proof
 use Rattle.resolvo_proof.specs.Trimmed.{IsTrimmedWith}
 use Rattle.resolvo_proof.specs.declared.step.ProofStep.{ProofStep}
@@ -33,13 +33,13 @@ use Rattle.resolvo_report.specs.View.{step_of}
 use Rattle.resolvo_report.specs.declared.step.Step as code
 use Rattle.resolve_install.specs.Install as install
 use Rattle.resolve_install.specs.Install.{Serve}
-use Rattle.resolve_refusal.specs.Refusal.{IsToldBy}
+use Rattle.resolve_refusal.specs.Refusal.{IsWrittenAs}
 use Rattle.resolvo.specs.Solve.{HasProof}
 use Rattle.resolve_answer.specs.Reported.{AreUsed, AreWishTurns, IsNamedLater, wish_of}
-use Rattle.resolve_answer.specs.ReportTurns.{Solved, AreTold, AreWanted, IsWishedTurn, number_at, past}
-use Rattle.resolve_answer.specs.Wishes.{asked_by, free_of, unless_barred}
+use Rattle.resolve_answer.specs.ReportTurns.{Solved, AreTurnsFor, AreWanted, IsWishedTurn, number_at, past}
+use Rattle.resolve_answer.specs.Wishes.{asked_by, free_of, unless_forbidden}
 use Rattle.resolve_answer.specs.declared.wishes.Wish.{Wish}
-use Rattle.resolve_answer.proofs.TellLemmas.{steps_front}
+use Rattle.resolve_answer.proofs.WishTurns.{steps_prefix}
 use Rattle.resolve_answer.proofs.WalkLemmas.{nth_is}
 
 pub lt-or-ge : (a b : ℕ) → (a < b) ⊎ (b ≤ a)
@@ -69,8 +69,8 @@ wish_turns catalogue request t rest steps serve = record {
   versions = λ w h. (
       let (u, there, is) = map_contains (wish_at (listed catalogue)) w serve.wishes h in
       let (i, at) = contains_get serve.wishes u there in
-      let (v, of, stated) = serve.are_wishes.versions i u at in
-      subst (λ (x : ℕ × Version). line_at request x.0 ≡ Some (line.Wish x.1)) (sym is) (stated ∙ ap (λ x. Some (line.Wish x)) (sym (nth_is (listed catalogue) u.1 v of))));
+      let (v, of, is_wish) = serve.are_wishes.versions i u at in
+      subst (λ (x : ℕ × Version). line_at request x.0 ≡ Some (line.Wish x.1)) (sym is) (is_wish ∙ ap (λ x. Some (line.Wish x)) (sym (nth_is (listed catalogue) u.1 v of))));
 }
   where
     later : map install.wish_of rest ≡ map Some serve.wishes
@@ -83,16 +83,16 @@ wish_turns catalogue request t rest steps serve = record {
 -- ---- the steps that forbid wishes without a search
 
 -- a wish is left out by each step that follows the others
-barring_told : (numbers : List VersionNo) (turns : List Solved) (places : List ℕ) (ws : List Wish) (m : ℕ) (steps : List Step) (told : List Turn) (after : List Step) → AreTold numbers turns places ws m steps told after
-    → (k : ℕ) → length steps ≤ k → k < length after → (w : ℕ × VersionNo) × Contains told (LeftOut w (suc k))
-barring_told numbers turns places [] m steps told after (none, is) k behind below = absurd (let same : length after ≡ length steps = ap length is in omega (arith, same, behind, below))
-barring_told numbers turns places (w ∷ ws) m steps told after (u, rest, are, next) k behind below =
-    subst (λ (ts : List Turn). (x : ℕ × VersionNo) × Contains ts (LeftOut x (suc k))) (sym are) (go (λ j before at on. barring_told numbers turns places ws j before rest after on k at below) w.bar next)
+forbid_left_out : (numbers : List VersionNo) (turns : List Solved) (places : List ℕ) (ws : List Wish) (m : ℕ) (steps : List Step) (matched : List Turn) (after : List Step) → AreTurnsFor numbers turns places ws m steps matched after
+    → (k : ℕ) → length steps ≤ k → k < length after → (w : ℕ × VersionNo) × Contains matched (LeftOut w (suc k))
+forbid_left_out numbers turns places [] m steps matched after (none, is) k behind below = absurd (let same : length after ≡ length steps = ap length is in omega (arith, same, behind, below))
+forbid_left_out numbers turns places (w ∷ ws) m steps matched after (u, rest, are, next) k behind below =
+    subst (λ (ts : List Turn). (x : ℕ × VersionNo) × Contains ts (LeftOut x (suc k))) (sym are) (go (λ j before at on. forbid_left_out numbers turns places ws j before rest after on k at below) w.forbidden_by next)
   where
-    go : ((j : ℕ) (before : List Step) → length before ≤ k → AreTold numbers turns places ws j before rest after → (x : ℕ × VersionNo) × Contains rest (LeftOut x (suc k))) → (b : Option code.Step)
-        → MatchOption b (IsWishedTurn numbers places (asked_by w) (slice_get turns m) u × AreTold numbers turns places ws (suc m) steps rest after)
-        (λ step. (suc (length steps) < 4294967296) × (u ≡ LeftOut (asked_by w) (suc (length steps))) × AreTold numbers turns places ws m (steps ++ step_of step ∷ []) rest after) → (x : ℕ × VersionNo) × Contains (u ∷ rest) (LeftOut x (suc k))
-    go again None (told_as, on) = (let (x, h) = again (suc m) steps behind on in (x, contains_later _ u rest h))
+    go : ((j : ℕ) (before : List Step) → length before ≤ k → AreTurnsFor numbers turns places ws j before rest after → (x : ℕ × VersionNo) × Contains rest (LeftOut x (suc k))) → (b : Option code.Step)
+        → MatchOption b (IsWishedTurn numbers places (asked_by w) (slice_get turns m) u × AreTurnsFor numbers turns places ws (suc m) steps rest after)
+        (λ step. (suc (length steps) < 4294967296) × (u ≡ LeftOut (asked_by w) (suc (length steps))) × AreTurnsFor numbers turns places ws m (steps ++ step_of step ∷ []) rest after) → (x : ℕ × VersionNo) × Contains (u ∷ rest) (LeftOut x (suc k))
+    go again None (turn_is, on) = (let (x, h) = again (suc m) steps behind on in (x, contains_later _ u rest h))
     go again (Some step) (few, out, on) = elim (lt-or-ge (length steps) k) [
       | inl low ↦ (
           let long : length (steps ++ step_of step ∷ []) ≡ length steps + 1 = length-append steps (step_of step ∷ []) in
@@ -103,28 +103,28 @@ barring_told numbers turns places (w ∷ ws) m steps told after (u, rest, are, n
 -- ---- the steps of refused wishes
 
 -- a refused wish is left out by its turn's step
-refused_told : (numbers : List VersionNo) (turns : List Solved) (places : List ℕ) (ws : List Wish) (m : ℕ) (steps : List Step) (told : List Turn) (after : List Step) → AreTold numbers turns places ws m steps told after
-    → (n : ℕ) → m ≤ n → n < m + length (free_of ws) → (t : Solved) → slice_get turns n ≡ Some t → t.accepted ≡ false → (w : ℕ × VersionNo) × Contains told (LeftOut w (number_at places t.step))
-refused_told numbers turns places [] m steps told after (none, is) n from below t at refused = absurd (omega (arith, from, below))
-refused_told numbers turns places (w ∷ ws) m steps told after (u, rest, are, next) n from below t at refused =
-    subst (λ (ts : List Turn). (x : ℕ × VersionNo) × Contains ts (LeftOut x (number_at places t.step))) (sym are) (go (λ j before low high on. refused_told numbers turns places ws j before rest after on n low high t at refused) w.bar refl next)
+refused_left_out : (numbers : List VersionNo) (turns : List Solved) (places : List ℕ) (ws : List Wish) (m : ℕ) (steps : List Step) (matched : List Turn) (after : List Step) → AreTurnsFor numbers turns places ws m steps matched after
+    → (n : ℕ) → m ≤ n → n < m + length (free_of ws) → (t : Solved) → slice_get turns n ≡ Some t → t.accepted ≡ false → (w : ℕ × VersionNo) × Contains matched (LeftOut w (number_at places t.step))
+refused_left_out numbers turns places [] m steps matched after (none, is) n from below t at refused = absurd (omega (arith, from, below))
+refused_left_out numbers turns places (w ∷ ws) m steps matched after (u, rest, are, next) n from below t at refused =
+    subst (λ (ts : List Turn). (x : ℕ × VersionNo) × Contains ts (LeftOut x (number_at places t.step))) (sym are) (go (λ j before low high on. refused_left_out numbers turns places ws j before rest after on n low high t at refused) w.forbidden_by refl next)
   where
     this_turn : slice_get turns m ≡ Some t → IsWishedTurn numbers places (asked_by w) (slice_get turns m) u → u ≡ LeftOut (asked_by w) (number_at places t.step)
     this_turn here is = (subst (λ (o : Option Solved). IsWishedTurn numbers places (asked_by w) o u) here is).1 refused
 
-    go : ((j : ℕ) (before : List Step) → j ≤ n → n < j + length (free_of ws) → AreTold numbers turns places ws j before rest after → (x : ℕ × VersionNo) × Contains rest (LeftOut x (number_at places t.step))) → (b : Option code.Step) → w.bar ≡ b
-        → MatchOption b (IsWishedTurn numbers places (asked_by w) (slice_get turns m) u × AreTold numbers turns places ws (suc m) steps rest after)
-        (λ step. (suc (length steps) < 4294967296) × (u ≡ LeftOut (asked_by w) (suc (length steps))) × AreTold numbers turns places ws m (steps ++ step_of step ∷ []) rest after) → (x : ℕ × VersionNo) × Contains (u ∷ rest) (LeftOut x (number_at places t.step))
-    go again None is (told_as, on) = elim (lt-or-ge m n) [
+    go : ((j : ℕ) (before : List Step) → j ≤ n → n < j + length (free_of ws) → AreTurnsFor numbers turns places ws j before rest after → (x : ℕ × VersionNo) × Contains rest (LeftOut x (number_at places t.step))) → (b : Option code.Step) → w.forbidden_by ≡ b
+        → MatchOption b (IsWishedTurn numbers places (asked_by w) (slice_get turns m) u × AreTurnsFor numbers turns places ws (suc m) steps rest after)
+        (λ step. (suc (length steps) < 4294967296) × (u ≡ LeftOut (asked_by w) (suc (length steps))) × AreTurnsFor numbers turns places ws m (steps ++ step_of step ∷ []) rest after) → (x : ℕ × VersionNo) × Contains (u ∷ rest) (LeftOut x (number_at places t.step))
+    go again None is (turn_is, on) = elim (lt-or-ge m n) [
       | inl low ↦ (
-          let long : n < m + length (unless_barred None (solvable_id w.version.0) ++ free_of ws) = subst (λ (b : Option code.Step). n < m + length (unless_barred b (solvable_id w.version.0) ++ free_of ws)) is below in
+          let long : n < m + length (unless_forbidden None (solvable_id w.version.0) ++ free_of ws) = subst (λ (b : Option code.Step). n < m + length (unless_forbidden b (solvable_id w.version.0) ++ free_of ws)) is below in
           let (x, h) = again (suc m) steps low (omega (arith, long)) on in (x, contains_later _ u rest h))
       | inr high ↦ (
           let here : n ≡ m = omega (arith, from, high) in
-          (asked_by w, contains_first _ u rest (this_turn (ap (λ (j : ℕ). slice_get turns j) (sym here) ∙ at) told_as)))
+          (asked_by w, contains_first _ u rest (this_turn (ap (λ (j : ℕ). slice_get turns j) (sym here) ∙ at) turn_is)))
     ]
     go again (Some step) is (few, out, on) =
-        let long : n < m + length (unless_barred (Some step) (solvable_id w.version.0) ++ free_of ws) = subst (λ (b : Option code.Step). n < m + length (unless_barred b (solvable_id w.version.0) ++ free_of ws)) is below in
+        let long : n < m + length (unless_forbidden (Some step) (solvable_id w.version.0) ++ free_of ws) = subst (λ (b : Option code.Step). n < m + length (unless_forbidden b (solvable_id w.version.0) ++ free_of ws)) is below in
         let (x, h) = again m (steps ++ step_of step ∷ []) from long on in (x, contains_later _ u rest h)
 
 -- ---- the lines
@@ -151,7 +151,7 @@ wanted_place Wanted steps kept numbers numbered k place from wanted =
     let long : length kept ≡ length trimmed.from = trimmed.count in
     let (step, at) = get_below kept k (omega (arith, low, long)) in
     let (old, was, renumbered) = trimmed.each k place step from at in
-    let (j, new, number, stands, same_step) = numbered.stands place old wanted was in
+    let (j, new, number, present, same_step) = numbered.present place old wanted was in
     let (within, before) = numbered.before place j number in
     let not_less : j ≤ k = elim (lt-or-ge k j) [ inl less ↦ absurd (let same : place < place = (before k place from).0 less in omega (arith, same)) | inr high ↦ high ] in
     let not_more : k ≤ j = elim (lt-or-ge j k) [
@@ -178,20 +178,20 @@ zip_length R (z ∷ xs) [] all = absurd all
 zip_length R (z ∷ xs) (y ∷ ys) all = ap suc (zip_length R xs ys all.1)
 
 -- a step is named later where the proof's step that it writes is
-pub told_later : (catalogue request : List Line) (ids : Ids) (steps : List (ProofStep NameId SolvableId)) (written : List Step) → AllZip (IsToldBy catalogue ids request) steps written → (k : ℕ) → proof.IsNamedLater steps k → IsNamedLater written k
-told_later catalogue request ids steps written each k (later, step, after, at, names) = go later step after at names
+pub named_later : (catalogue request : List Line) (ids : Ids) (steps : List (ProofStep NameId SolvableId)) (written : List Step) → AllZip (IsWrittenAs catalogue ids request) steps written → (k : ℕ) → proof.IsNamedLater steps k → IsNamedLater written k
+named_later catalogue request ids steps written each k (later, step, after, at, names) = go later step after at names
   where
     go : (later : ℕ) (step : ProofStep NameId SolvableId) → k < later → slice_get steps later ≡ Some step → proof.Names step k → (later : ℕ) × (literals : List Literal) × (causes : List ℕ) × (k < later) × (slice_get written later ≡ Some (Derive literals causes)) × Contains causes (suc k)
     go later (Rule r) after at names = absurd names
     go later (Derived literals causes) after at names =
-        let (t, there, told) = zip_left (IsToldBy catalogue ids request) steps written each later (Derived literals causes) at in
-        (later, told.0, map suc causes.items, after, there ∙ ap (λ (x : Step). Some x) told.1, contains_map suc k causes.items names)
+        let (t, there, matched) = zip_left (IsWrittenAs catalogue ids request) steps written each later (Derived literals causes) at in
+        (later, matched.0, map suc causes.items, after, there ∙ ap (λ (x : Step). Some x) matched.1, contains_map suc k causes.items names)
 
 -- ---- all steps
 
 module _ (catalogue request : List Line) (ids : Ids) (turns : List Solved) (chosen : List SolvableId) (proof kept : List (ProofStep NameId SolvableId)) (wanted places : List ℕ) (are_wanted : AreWanted turns wanted) (numbered : IsTrimmedWith (Contains wanted) proof kept places)
-    (proofs : (t : Solved) → Contains turns t → HasProof proof chosen t) (written : List Step) (each : AllZip (IsToldBy catalogue ids request) kept written) (numbers : List VersionNo) (wishes : List Wish) (t : Turn) (rest : List Turn) (after : List Step)
-    (told : AreTold numbers turns places wishes 0 written rest after) (long : length (free_of wishes) ≡ length turns) where
+    (proofs : (t : Solved) → Contains turns t → HasProof proof chosen t) (written : List Step) (each : AllZip (IsWrittenAs catalogue ids request) kept written) (numbers : List VersionNo) (wishes : List Wish) (t : Turn) (rest : List Turn) (after : List Step)
+    (matched : AreTurnsFor numbers turns places wishes 0 written rest after) (long : length (free_of wishes) ≡ length turns) where
   -- a turn of the report leaves a wish out by the step of this number
   abbrev IsLeftOutIn : ℕ → Type 0
   IsLeftOutIn number = (w : ℕ × VersionNo) × Contains rest (LeftOut w number)
@@ -207,25 +207,25 @@ module _ (catalogue request : List Line) (ids : Ids) (turns : List Solved) (chos
         | inr refused ↦ refused
       ] in
       let number : number_at places s.step ≡ suc k = ap (number_at places) step ∙ ap past (wanted_place (Contains wanted) proof kept places numbered k place from h) in
-      subst IsLeftOutIn number (refused_told numbers turns places wishes 0 written rest after told n (omega arith) (omega (arith, low, long)) s at refused)
+      subst IsLeftOutIn number (refused_left_out numbers turns places wishes 0 written rest after matched n (omega arith) (omega (arith, low, long)) s at refused)
 
   -- each step is one by which a turn leaves its wish out, or a later one names it
   each_used : (k : ℕ) → k < length after → IsLeftOutIn (suc k) ⊎ IsNamedLater after k
   each_used k below = elim (lt-or-ge k (length written)) [
     | inl low ↦ (
-        let as_long : length written ≡ length kept = zip_length (IsToldBy catalogue ids request) kept written each in
+        let as_long : length written ≡ length kept = zip_length (IsWrittenAs catalogue ids request) kept written each in
         let (place, from) = get_below numbered.trimmed.from k (let count : length kept ≡ length numbered.trimmed.from = numbered.trimmed.count in omega (arith, low, as_long, count)) in
         elim (numbered.trimmed.named k place from) [
           | inl is_wanted ↦ inl (wanted_used k place from is_wanted)
-          | inr later ↦ inr (in_front (told_later catalogue request ids kept written each k later))
+          | inr later ↦ inr (in_front (named_later catalogue request ids kept written each k later))
         ])
-    | inr high ↦ inl (barring_told numbers turns places wishes 0 written rest after told k high below)
+    | inr high ↦ inl (forbid_left_out numbers turns places wishes 0 written rest after matched k high below)
   ]
     where
       in_front : IsNamedLater written k → IsNamedLater after k
       in_front (later, literals, causes, past_it, at, names) =
-          let (others, whole) = steps_front numbers turns places wishes 0 written rest after told in
-          (later, literals, causes, past_it, subst (λ (xs : List Step). slice_get xs later ≡ Some (Derive literals causes)) (sym whole) (get_front written others later (Derive literals causes) at), names)
+          let (others, whole) = steps_prefix numbers turns places wishes 0 written rest after matched in
+          (later, literals, causes, past_it, subst (λ (xs : List Step). slice_get xs later ≡ Some (Derive literals causes)) (sym whole) (get_in_prefix written others later (Derive literals causes) at), names)
 
   -- it has a line
   pub steps_used : (answers : List Answer) → order.AreTurns catalogue request [] [] (turns_of (listed catalogue) (t ∷ rest)) answers → AreUsed answers after

@@ -19,13 +19,13 @@ use Rattle.resolve_order.specs.Order.{AreReached, chosen_by, chosen_in, wishes_i
 use Rattle.resolve_order.specs.View.{turn_of, turns_of}
 use Rattle.resolve_order.specs.declared.entry.Turn.{Turn}
 use Rattle.resolve_order.specs.declared.entry.Turn.TheVariants.{Chose, LeftOut}
-use Rattle.resolvo_pool_core.specs.RuleKeeping.{is_in, is_barred, IsExemptKeeping, IsRuleKeeping, IsReached}
+use Rattle.resolvo_pool_core.specs.RuleKeeping.{is_in, is_forbidden, IsExemptKeeping, IsRuleKeeping, IsReached}
 use Rattle.resolvo_soundness.specs.Encoding.{IsExact}
 use Rattle.resolvo_soundness.specs.SearchEnd.{IsAccepted}
 use Rattle.resolvo_soundness.proofs.Lists.{contains_first, contains_later, contains_one, contains_parts}
 use Rattle.resolvo_soundness.proofs.Members.{in_contained}
 use Rattle.resolvo_catalogue.specs.Ids.{SolvableId, solvable_id}
-use Rattle.resolvo_catalogue.specs.KeptSets.{StandsFor, TellsApart, root_of}
+use Rattle.resolvo_catalogue.specs.KeptSets.{Represents, DistinguishesIds, root_of}
 use Rattle.resolvo_catalogue.specs.Over.{IsOver, AreAsked}
 use Rattle.resolvo_catalogue.specs.Provider.{Provider, packages_of}
 use Rattle.resolvo_catalogue.specs.declared.provider.RequestIds.{RequestIds}
@@ -33,18 +33,18 @@ use Rattle.resolvo_catalogue.proofs.KeptAlike.{kept_alike}
 use Rattle.resolvo_report.specs.Value.{Step}
 use Rattle.resolvo_report.specs.View.{step_of}
 use Rattle.resolvo_report.specs.declared.step.Step as code
-use Rattle.resolvo_judge.specs.Refusal.{step_bars}
+use Rattle.resolvo_judge.specs.Refusal.{step_forbids}
 use Rattle.resolvo_state.proofs.Positions.{get_contains}
 use Rattle.resolve_install.specs.Numbers.{numbers_of}
 use Rattle.resolve_install.specs.Install.{accepted_of}
-use Rattle.resolve_install.proofs.ReachLemmas.{members_stand, has_version, reached_alike}
-use Rattle.resolve_refusal.specs.InstallSteps.{IsBarringStepOf}
+use Rattle.resolve_install.proofs.ReachLemmas.{members_represent, has_version, reached_alike}
+use Rattle.resolve_refusal.specs.InstallSteps.{IsForbidStepOf}
 use Rattle.resolvo.specs.Turns.{AreInTurn, IsTurnOf, accepted_by}
 use Rattle.resolvo.proofs.Forward.{end_after}
-use Rattle.resolve_answer.specs.Wishes.{asked_by, free_of, unless_barred}
-use Rattle.resolve_answer.specs.ReportTurns.{Solved, AreTold, IsBetween, IsWishedTurn, number_at}
+use Rattle.resolve_answer.specs.Wishes.{asked_by, free_of, unless_forbidden}
+use Rattle.resolve_answer.specs.ReportTurns.{Solved, AreTurnsFor, IsBetween, IsWishedTurn, number_at}
 use Rattle.resolve_answer.specs.declared.wishes.Wish.{Wish}
-use Rattle.resolve_answer.proofs.TellLemmas.{steps_front}
+use Rattle.resolve_answer.proofs.WishTurns.{steps_prefix}
 
 -- ---- lists
 
@@ -110,78 +110,78 @@ part_is catalogue v numbers numbers_are begin end_ part low within between =
 pub record IsKnownWish (catalogue : List Line) (provider : Provider) (same : SolvableId → SolvableId → Bool) (w : Wish) : Type 0 where
   pub version : Version
   pub there : slice_get (listed catalogue) w.version.0 ≡ Some version
-  pub bar : IsBarringStepOf catalogue w.version.0 (option_map step_of w.bar)
-  pub free : w.bar ≡ None → is_barred same (packages_of provider) (solvable_id w.version.0) ≡ false
+  pub forbidden_by : IsForbidStepOf catalogue w.version.0 (option_map step_of w.forbidden_by)
+  pub free : w.forbidden_by ≡ None → is_forbidden same (packages_of provider) (solvable_id w.version.0) ≡ false
 
-module _ (catalogue : List Line) (said : ReadRequest) (provider : Provider) (over : IsOver catalogue provider) (ids : RequestIds) (asked : AreAsked provider.ids said ids) (asks_rightly : AreRequestLines catalogue said.lines)
-    (same : SolvableId → SolvableId → Bool) (apart : TellsApart same) (exact : IsExact same) (v : List SolvableId) where
+module _ (catalogue : List Line) (source : ReadRequest) (provider : Provider) (over : IsOver catalogue provider) (ids : RequestIds) (asked : AreAsked provider.ids source ids) (asks_rightly : AreRequestLines catalogue source.lines)
+    (same : SolvableId → SolvableId → Bool) (apart : DistinguishesIds same) (exact : IsExact same) (v : List SolvableId) where
   -- The first so many chosen keep the rules, and the root and these wishes reach them. The wishes
   -- are listed, and nothing forbids them.
-  pub record StandAt (n : ℕ) (wishes : List SolvableId) : Type 0 where
+  pub record IsValidAt (n : ℕ) (wishes : List SolvableId) : Type 0 where
     pub keeping : IsRuleKeeping same (packages_of provider) (root_of ids) (take n v)
     pub reached : (s : SolvableId) → is_in same (packages_of provider) (take n v) s ≡ true → IsReached same (packages_of provider) (root_of ids) wishes (take n v) s
-    pub free : (s : SolvableId) → Contains wishes s → is_barred same (packages_of provider) s ≡ false
+    pub free : (s : SolvableId) → Contains wishes s → is_forbidden same (packages_of provider) s ≡ false
     pub has : (s : SolvableId) → Contains wishes s → (x : Version) × (slice_get (listed catalogue) s.raw ≡ Some x)
 
   -- a set that keeps the rules but for forbidden wishes keeps them where no wish is forbidden
-  pub plain_keeping : (wishes chosen : List SolvableId) → ((s : SolvableId) → Contains wishes s → is_barred same (packages_of provider) s ≡ false) → IsExemptKeeping same (packages_of provider) (root_of ids) wishes chosen → IsRuleKeeping same (packages_of provider) (root_of ids) chosen
+  pub plain_keeping : (wishes chosen : List SolvableId) → ((s : SolvableId) → Contains wishes s → is_forbidden same (packages_of provider) s ≡ false) → IsExemptKeeping same (packages_of provider) (root_of ids) wishes chosen → IsRuleKeeping same (packages_of provider) (root_of ids) chosen
   plain_keeping wishes chosen free keeps = record {
     single = keeps.single;
     obeys = keeps.obeys;
-    unbarred = λ s h. elim (cases_Bool (is_barred same (packages_of provider) s)) [
-      | inl barred ↦ absurd (both_ways _ (free s (in_contained same exact (packages_of provider) wishes s (keeps.exempt s h barred).0)) barred)
-      | inr no_bar ↦ no_bar
+    allowed = λ s h. elim (cases_Bool (is_forbidden same (packages_of provider) s)) [
+      | inl forbidden ↦ absurd (both_ways _ (free s (in_contained same exact (packages_of provider) wishes s (keeps.exempt s h forbidden).0)) forbidden)
+      | inr none_forbidden ↦ none_forbidden
     ];
     known = keeps.known;
   }
 
   -- a turn's end is such a place
-  pub accepted_stands : (n : ℕ) (wishes : List SolvableId) → ((s : SolvableId) → Contains wishes s → is_barred same (packages_of provider) s ≡ false) → ((s : SolvableId) → Contains wishes s → (x : Version) × (slice_get (listed catalogue) s.raw ≡ Some x)) → IsAccepted same (packages_of provider) (root_of ids) wishes (take n v) → StandAt n wishes
-  accepted_stands n wishes free has h = record { keeping = plain_keeping wishes (take n v) free h.keeping; reached = h.reached; free = free; has = has }
+  pub accepted_valid : (n : ℕ) (wishes : List SolvableId) → ((s : SolvableId) → Contains wishes s → is_forbidden same (packages_of provider) s ≡ false) → ((s : SolvableId) → Contains wishes s → (x : Version) × (slice_get (listed catalogue) s.raw ≡ Some x)) → IsAccepted same (packages_of provider) (root_of ids) wishes (take n v) → IsValidAt n wishes
+  accepted_valid n wishes free has h = record { keeping = plain_keeping wishes (take n v) free h.keeping; reached = h.reached; free = free; has = has }
 
-  pub stand_for : (n : ℕ) (wishes : List SolvableId) → StandAt n wishes → StandsFor (listed catalogue) (take n v) (versions_of catalogue (take n v))
-  stand_for n wishes at = members_stand (listed catalogue) (take n v) (has_version provider catalogue said.lines over same apart (root_of ids) (take n v) at.keeping.single)
+  pub represents_at : (n : ℕ) (wishes : List SolvableId) → IsValidAt n wishes → Represents (listed catalogue) (take n v) (versions_of catalogue (take n v))
+  represents_at n wishes at = members_represent (listed catalogue) (take n v) (has_version provider catalogue source.lines over same apart (root_of ids) (take n v) at.keeping.single)
 
   -- over the lines too they keep the rules
-  pub keeps_lines : (n : ℕ) (wishes : List SolvableId) → StandAt n wishes → texts.IsRuleKeeping catalogue said.lines (versions_of catalogue (take n v))
-  keeps_lines n wishes at = (kept_alike provider catalogue said.lines over asks_rightly (root_of ids) asked.requirements asked.constraints same apart (take n v) (versions_of catalogue (take n v)) (stand_for n wishes at)).0 at.keeping
+  pub keeps_lines : (n : ℕ) (wishes : List SolvableId) → IsValidAt n wishes → texts.IsRuleKeeping catalogue source.lines (versions_of catalogue (take n v))
+  keeps_lines n wishes at = (kept_alike provider catalogue source.lines over asks_rightly (root_of ids) asked.requirements asked.constraints same apart (take n v) (versions_of catalogue (take n v)) (represents_at n wishes at)).0 at.keeping
 
   -- the choices of a report's turns, and their wishes
   pub record AreSoFar (turns : List Turn) (n : ℕ) (wishes : List SolvableId) : Type 0 where
     pub chosen : chosen_in (turns_of (listed catalogue) turns) ≡ versions_of catalogue (take n v)
     pub wished : wishes_in (turns_of (listed catalogue) turns) ≡ versions_of catalogue wishes
-    pub stand : StandAt n wishes
+    pub valid : IsValidAt n wishes
     pub within : n ≤ length v
 
-  pub reached_so_far : (turns : List Turn) (n : ℕ) (wishes : List SolvableId) → AreSoFar turns n wishes → AreReached catalogue said.lines (chosen_in (turns_of (listed catalogue) turns)) (wishes_in (turns_of (listed catalogue) turns))
+  pub reached_so_far : (turns : List Turn) (n : ℕ) (wishes : List SolvableId) → AreSoFar turns n wishes → AreReached catalogue source.lines (chosen_in (turns_of (listed catalogue) turns)) (wishes_in (turns_of (listed catalogue) turns))
   reached_so_far turns n wishes so =
-      subst (λ (ws : Set). AreReached catalogue said.lines (chosen_in (turns_of (listed catalogue) turns)) ws) (sym so.wished)
-      (subst (λ (xs : Set). AreReached catalogue said.lines xs (versions_of catalogue wishes)) (sym so.chosen) (reaches n wishes so.stand))
+      subst (λ (ws : Set). AreReached catalogue source.lines (chosen_in (turns_of (listed catalogue) turns)) ws) (sym so.wished)
+      (subst (λ (xs : Set). AreReached catalogue source.lines xs (versions_of catalogue wishes)) (sym so.chosen) (reaches n wishes so.valid))
     where
-      reaches : (n : ℕ) (wishes : List SolvableId) → StandAt n wishes → AreReached catalogue said.lines (versions_of catalogue (take n v)) (versions_of catalogue wishes)
-      reaches n wishes at = reached_alike provider catalogue said.lines over same apart (root_of ids) asked.requirements (take n v) (versions_of catalogue (take n v)) (stand_for n wishes at)
-          wishes (versions_of catalogue wishes) (members_stand (listed catalogue) wishes at.has).each at.reached
+      reaches : (n : ℕ) (wishes : List SolvableId) → IsValidAt n wishes → AreReached catalogue source.lines (versions_of catalogue (take n v)) (versions_of catalogue wishes)
+      reaches n wishes at = reached_alike provider catalogue source.lines over same apart (root_of ids) asked.requirements (take n v) (versions_of catalogue (take n v)) (represents_at n wishes at)
+          wishes (versions_of catalogue wishes) (members_represent (listed catalogue) wishes at.has).each at.reached
 
-  pub keeping_so_far : (turns : List Turn) (n : ℕ) (wishes : List SolvableId) → AreSoFar turns n wishes → texts.IsRuleKeeping catalogue said.lines (chosen_in (turns_of (listed catalogue) turns))
-  keeping_so_far turns n wishes so = subst (λ (xs : Set). texts.IsRuleKeeping catalogue said.lines xs) (sym so.chosen) (keeps_lines n wishes so.stand)
+  pub keeping_so_far : (turns : List Turn) (n : ℕ) (wishes : List SolvableId) → AreSoFar turns n wishes → texts.IsRuleKeeping catalogue source.lines (chosen_in (turns_of (listed catalogue) turns))
+  keeping_so_far turns n wishes so = subst (λ (xs : Set). texts.IsRuleKeeping catalogue source.lines xs) (sym so.chosen) (keeps_lines n wishes so.valid)
 
   -- ---- one turn
 
   module _ (numbers : List VersionNo) (numbers_are : numbers ≡ numbers_of v) (turns : List Solved) (places : List ℕ) (after : List Step)
-      (refuses : (t : Solved) → Contains turns t → t.accepted ≡ false → (x : Version) → slice_get (listed catalogue) t.solvable.raw ≡ Some x → step_bars catalogue said.lines after (versions_of catalogue (take t.begin v)) x (number_at places t.step) ≡ true) where
+      (refuses : (t : Solved) → Contains turns t → t.accepted ≡ false → (x : Version) → slice_get (listed catalogue) t.solvable.raw ≡ Some x → step_forbids catalogue source.lines after (versions_of catalogue (take t.begin v)) x (number_at places t.step) ≡ true) where
     -- the turn serves, after others
     pub record IsServing (before : List Turn) (t : Turn) : Type 0 where
       pub accepted : (wish : ℕ × VersionNo) → accepted_of t ≡ Some wish → Contains (chosen_in (turns_of (listed catalogue) (before ++ t ∷ []))) (nth (listed catalogue) wish.1)
-      pub keeping : texts.IsRuleKeeping catalogue said.lines (chosen_in (turns_of (listed catalogue) (before ++ t ∷ [])))
-      pub reached : AreReached catalogue said.lines (chosen_in (turns_of (listed catalogue) (before ++ t ∷ []))) (wishes_in (turns_of (listed catalogue) (before ++ t ∷ [])))
-      pub barred : (wish : ℕ × VersionNo) (step : ℕ) → t ≡ LeftOut wish step → IsTrue (step_bars catalogue said.lines after (chosen_in (turns_of (listed catalogue) before)) (nth (listed catalogue) wish.1) step)
+      pub keeping : texts.IsRuleKeeping catalogue source.lines (chosen_in (turns_of (listed catalogue) (before ++ t ∷ [])))
+      pub reached : AreReached catalogue source.lines (chosen_in (turns_of (listed catalogue) (before ++ t ∷ []))) (wishes_in (turns_of (listed catalogue) (before ++ t ∷ [])))
+      pub forbidden : (wish : ℕ × VersionNo) (step : ℕ) → t ≡ LeftOut wish step → IsTrue (step_forbids catalogue source.lines after (chosen_in (turns_of (listed catalogue) before)) (nth (listed catalogue) wish.1) step)
 
     abbrev pub AreServing : List Turn → List Turn → Type 0
-    AreServing before told = (k : ℕ) (t : Turn) → slice_get told k ≡ Some t → IsServing (before ++ take k told) t
+    AreServing before decided = (k : ℕ) (t : Turn) → slice_get decided k ≡ Some t → IsServing (before ++ take k decided) t
 
-    abbrev IsBarringTurn : List Turn → Turn → Type 0
-    IsBarringTurn before (Chose w part) = ⊥
-    IsBarringTurn before (LeftOut w k) = IsTrue (step_bars catalogue said.lines after (chosen_in (turns_of (listed catalogue) before)) (nth (listed catalogue) w.1) k)
+    abbrev IsForbidTurn : List Turn → Turn → Type 0
+    IsForbidTurn before (Chose w part) = ⊥
+    IsForbidTurn before (LeftOut w k) = IsTrue (step_forbids catalogue source.lines after (chosen_in (turns_of (listed catalogue) before)) (nth (listed catalogue) w.1) k)
 
     pub serving_more : (before rest : List Turn) (t : Turn) → IsServing before t → AreServing (before ++ t ∷ []) rest → AreServing before (t ∷ rest)
     serving_more before rest t one later zero u e = subst (λ (x : Turn). IsServing (before ++ []) x) (same_Some t u e) (subst (λ (xs : List Turn). IsServing xs t) (sym (append-nil before)) one)
@@ -196,24 +196,24 @@ module _ (catalogue : List Line) (said : ReadRequest) (provider : Provider) (ove
       still_so = record {
         chosen = still_chosen;
         wished = wishes_next catalogue before (LeftOut wish step) ∙ append-nil (wishes_in (turns_of (listed catalogue) before)) ∙ so.wished;
-        stand = so.stand;
+        valid = so.valid;
         within = so.within;
       }
 
-      pub left_out_serves : step_bars catalogue said.lines after (versions_of catalogue (take n v)) (nth (listed catalogue) wish.1) step ≡ true → IsServing before (LeftOut wish step)
-      left_out_serves bars = record {
+      pub left_out_serves : step_forbids catalogue source.lines after (versions_of catalogue (take n v)) (nth (listed catalogue) wish.1) step ≡ true → IsServing before (LeftOut wish step)
+      left_out_serves forbids = record {
         accepted = λ w e. absurd (none-some w e);
         keeping = keeping_so_far (before ++ LeftOut wish step ∷ []) n wishes still_so;
         reached = reached_so_far (before ++ LeftOut wish step ∷ []) n wishes still_so;
-        barred = λ w k e. subst (λ (x : Turn). IsBarringTurn before x) e bars_here;
+        forbidden = λ w k e. subst (λ (x : Turn). IsForbidTurn before x) e denied_here;
       }
         where
-          bars_here : IsTrue (step_bars catalogue said.lines after (chosen_in (turns_of (listed catalogue) before)) (nth (listed catalogue) wish.1) step)
-          bars_here = subst (λ (xs : Set). IsTrue (step_bars catalogue said.lines after xs (nth (listed catalogue) wish.1) step)) (sym so.chosen) bars
+          denied_here : IsTrue (step_forbids catalogue source.lines after (chosen_in (turns_of (listed catalogue) before)) (nth (listed catalogue) wish.1) step)
+          denied_here = subst (λ (xs : Set). IsTrue (step_forbids catalogue source.lines after xs (nth (listed catalogue) wish.1) step)) (sym so.chosen) forbids
 
     -- a turn that accepts a wish
     module _ (before : List Turn) (n : ℕ) (wishes : List SolvableId) (so : AreSoFar before n wishes) (wish : ℕ × VersionNo) (x : Version) (there : slice_get (listed catalogue) wish.1.0 ≡ Some x) (end_ : ℕ) (part : Bor (List VersionNo))
-        (low : n ≤ end_) (within : end_ ≤ length v) (between : IsBetween numbers n end_ part.now) (stand : StandAt end_ (wishes ++ solvable_id wish.1.0 ∷ [])) where
+        (low : n ≤ end_) (within : end_ ≤ length v) (between : IsBetween numbers n end_ part.now) (valid : IsValidAt end_ (wishes ++ solvable_id wish.1.0 ∷ [])) where
       abbrev pub turn : Turn
       turn = Chose (Some wish) part
 
@@ -230,7 +230,7 @@ module _ (catalogue : List Line) (said : ReadRequest) (provider : Provider) (ove
       accepted_so = record {
         chosen = now_chosen;
         wished = wishes_next catalogue before turn ∙ ap (λ ws. ws ++ nth (listed catalogue) wish.1 ∷ []) so.wished ∙ ap (λ ws. versions_of catalogue wishes ++ ws) (sym one_version) ∙ sym (versions_append catalogue wishes (solvable_id wish.1.0 ∷ []));
-        stand = stand;
+        valid = valid;
         within = within;
       }
 
@@ -240,21 +240,21 @@ module _ (catalogue : List Line) (said : ReadRequest) (provider : Provider) (ove
             (subst (λ (xs : Set). Contains xs (nth (listed catalogue) wish.1)) (sym now_chosen) version_chosen);
         keeping = keeping_so_far (before ++ turn ∷ []) end_ (wishes ++ solvable_id wish.1.0 ∷ []) accepted_so;
         reached = reached_so_far (before ++ turn ∷ []) end_ (wishes ++ solvable_id wish.1.0 ∷ []) accepted_so;
-        barred = λ w k e. absurd cc;
+        forbidden = λ w k e. absurd cc;
       }
         where
           version_chosen : Contains (versions_of catalogue (take end_ v)) (nth (listed catalogue) wish.1)
           version_chosen =
-              let (y, at, inside) = (stand_for end_ (wishes ++ solvable_id wish.1.0 ∷ []) stand).each (solvable_id wish.1.0) among in
+              let (y, at, inside) = (represents_at end_ (wishes ++ solvable_id wish.1.0 ∷ []) valid).each (solvable_id wish.1.0) among in
               subst (λ (z : Version). Contains (versions_of catalogue (take end_ v)) z) (same_Some y x (sym at ∙ there) ∙ sym its_version) inside
 
     -- ---- all turns of the wishes
 
     -- the turns serve, from here to the end
-    pub record Serves (before told : List Turn) (n : ℕ) : Type 0 where
-      pub each : AreServing before told
+    pub record Serves (before decided : List Turn) (n : ℕ) : Type 0 where
+      pub each : AreServing before decided
       pub wishes : List SolvableId
-      pub so : AreSoFar (before ++ told) n wishes
+      pub so : AreSoFar (before ++ decided) n wishes
 
     serves_more : (before rest : List Turn) (t : Turn) (n : ℕ) → IsServing before t → Serves (before ++ t ∷ []) rest n → Serves before (t ∷ rest) n
     serves_more before rest t n one later = record {
@@ -275,24 +275,24 @@ module _ (catalogue : List Line) (said : ReadRequest) (provider : Provider) (ove
 
     -- the turns of these wishes serve, from wherever
     abbrev AreWalked : List Wish → List Turn → Type 0
-    AreWalked ws rest = (m n : ℕ) (wishes : List SolvableId) (before : List Turn) (steps : List Step) (ts : List Solved) → AreSoFar before n wishes → AreFrom m ts → AreIn n wishes (free_of ws) ts → AreTold numbers turns places ws m steps rest after → Serves before rest (end_after n ts)
+    AreWalked ws rest = (m n : ℕ) (wishes : List SolvableId) (before : List Turn) (steps : List Step) (ts : List Solved) → AreSoFar before n wishes → AreFrom m ts → AreIn n wishes (free_of ws) ts → AreTurnsFor numbers turns places ws m steps rest after → Serves before rest (end_after n ts)
 
     -- the step that forbids a wish forbids it in the whole report
-    bars_whole : (w : Wish) (step : code.Step) → w.bar ≡ Some step → IsKnownWish catalogue provider same w → (steps others : List Step) → after ≡ steps ++ step_of step ∷ others → (entries : Set) → step_bars catalogue said.lines after entries (nth (listed catalogue) w.version) (suc (length steps)) ≡ true
-    bars_whole w step is known steps others whole entries =
-        let (x, at, bars) = subst (λ (o : Option code.Step). IsBarringStepOf catalogue w.version.0 (option_map step_of o)) is known.bar in
+    forbids_whole : (w : Wish) (step : code.Step) → w.forbidden_by ≡ Some step → IsKnownWish catalogue provider same w → (steps others : List Step) → after ≡ steps ++ step_of step ∷ others → (entries : Set) → step_forbids catalogue source.lines after entries (nth (listed catalogue) w.version) (suc (length steps)) ≡ true
+    forbids_whole w step is known steps others whole entries =
+        let (x, at, forbids) = subst (λ (o : Option code.Step). IsForbidStepOf catalogue w.version.0 (option_map step_of o)) is known.forbidden_by in
         let place : slice_get after (length steps) ≡ Some (step_of step) = ap (λ (xs : List Step). slice_get xs (length steps)) whole ∙ get_behind steps (step_of step) others in
-        subst (λ (y : Version). step_bars catalogue said.lines after entries y (suc (length steps)) ≡ true) (sym (nth_is (listed catalogue) w.version x at)) (bars.leaves_out said.lines after entries (length steps) place)
+        subst (λ (y : Version). step_forbids catalogue source.lines after entries y (suc (length steps)) ≡ true) (sym (nth_is (listed catalogue) w.version x at)) (forbids.leaves_out source.lines after entries (length steps) place)
 
-    pub walk : (ws : List Wish) (m n : ℕ) (wishes : List SolvableId) (before : List Turn) (steps : List Step) (told : List Turn) (ts : List Solved) → AreSoFar before n wishes → AreFrom m ts → AreIn n wishes (free_of ws) ts
-        → AreTold numbers turns places ws m steps told after → ((w : Wish) → Contains ws w → IsKnownWish catalogue provider same w) → Serves before told (end_after n ts)
-    walk [] m n wishes before steps told (t ∷ ts) so from in_turn are known = absurd in_turn
-    walk [] m n wishes before steps told [] so from in_turn (none, is) known = subst (λ (xs : List Turn). Serves before xs n) (sym none) (record {
+    pub walk : (ws : List Wish) (m n : ℕ) (wishes : List SolvableId) (before : List Turn) (steps : List Step) (decided : List Turn) (ts : List Solved) → AreSoFar before n wishes → AreFrom m ts → AreIn n wishes (free_of ws) ts
+        → AreTurnsFor numbers turns places ws m steps decided after → ((w : Wish) → Contains ws w → IsKnownWish catalogue provider same w) → Serves before decided (end_after n ts)
+    walk [] m n wishes before steps decided (t ∷ ts) so from in_turn are known = absurd in_turn
+    walk [] m n wishes before steps decided [] so from in_turn (none, is) known = subst (λ (xs : List Turn). Serves before xs n) (sym none) (record {
       each = λ k t e. absurd cc;
       wishes = wishes;
       so = subst (λ (xs : List Turn). AreSoFar xs n wishes) (sym (append-nil before)) so;
     })
-    walk (w ∷ ws) m n wishes before steps told ts so from in_turn (u, rest, are, next) known = subst (λ (xs : List Turn). Serves before xs (end_after n ts)) (sym are) (go (λ m n wishes before steps ts so from in_turn more. walk ws m n wishes before steps rest ts so from in_turn more later_known) w.bar refl next)
+    walk (w ∷ ws) m n wishes before steps decided ts so from in_turn (u, rest, are, next) known = subst (λ (xs : List Turn). Serves before xs (end_after n ts)) (sym are) (go (λ m n wishes before steps ts so from in_turn more. walk ws m n wishes before steps rest ts so from in_turn more later_known) w.forbidden_by refl next)
       where
         later_known : (x : Wish) → Contains ws x → IsKnownWish catalogue provider same x
         later_known x h = known x (contains_later x w ws h)
@@ -301,18 +301,18 @@ module _ (catalogue : List Line) (said : ReadRequest) (provider : Provider) (ove
         this = known w (contains_first w w ws refl)
 
         -- a wish that a step forbids
-        barred : AreWalked ws rest → (step : code.Step) → w.bar ≡ Some step → u ≡ LeftOut (asked_by w) (suc (length steps)) → AreTold numbers turns places ws m (steps ++ step_of step ∷ []) rest after → Serves before (u ∷ rest) (end_after n ts)
-        barred again step is out more =
-            let (others, whole) = steps_front numbers turns places ws m (steps ++ step_of step ∷ []) rest after more in
-            let bars = bars_whole w step is this steps others (whole ∙ append_assoc steps (step_of step ∷ []) others) (versions_of catalogue (take n v)) in
+        forbidden : AreWalked ws rest → (step : code.Step) → w.forbidden_by ≡ Some step → u ≡ LeftOut (asked_by w) (suc (length steps)) → AreTurnsFor numbers turns places ws m (steps ++ step_of step ∷ []) rest after → Serves before (u ∷ rest) (end_after n ts)
+        forbidden again step is out more =
+            let (others, whole) = steps_prefix numbers turns places ws m (steps ++ step_of step ∷ []) rest after more in
+            let forbids = forbids_whole w step is this steps others (whole ∙ append_assoc steps (step_of step ∷ []) others) (versions_of catalogue (take n v)) in
             subst (λ (t : Turn). Serves before (t ∷ rest) (end_after n ts)) (sym out) (serves_more before rest (LeftOut (asked_by w) (suc (length steps))) (end_after n ts)
-            (left_out_serves before n wishes so (asked_by w) (suc (length steps)) bars)
+            (left_out_serves before n wishes so (asked_by w) (suc (length steps)) forbids)
             (again m n wishes (before ++ LeftOut (asked_by w) (suc (length steps)) ∷ []) (steps ++ step_of step ∷ []) ts (still_so before n wishes so (asked_by w) (suc (length steps))) from
-            (subst (λ (b : Option code.Step). AreIn n wishes (unless_barred b (solvable_id w.version.0) ++ free_of ws) ts) is in_turn) more))
+            (subst (λ (b : Option code.Step). AreIn n wishes (unless_forbidden b (solvable_id w.version.0) ++ free_of ws) ts) is in_turn) more))
 
         -- a wish that the solver was asked for, and its turn
-        asked_for : AreWalked ws rest → (t : Solved) (later : List Solved) → AreFrom m (t ∷ later) → w.bar ≡ None → t.begin ≡ n → IsTurnOf same (packages_of provider) (root_of ids) v wishes (solvable_id w.version.0) t → AreIn t.end (accepted_by wishes t) (free_of ws) later
-            → IsWishedTurn numbers places (asked_by w) (Some t) u → AreTold numbers turns places ws (suc m) steps rest after → Serves before (u ∷ rest) (end_after t.end later)
+        asked_for : AreWalked ws rest → (t : Solved) (later : List Solved) → AreFrom m (t ∷ later) → w.forbidden_by ≡ None → t.begin ≡ n → IsTurnOf same (packages_of provider) (root_of ids) v wishes (solvable_id w.version.0) t → AreIn t.end (accepted_by wishes t) (free_of ws) later
+            → IsWishedTurn numbers places (asked_by w) (Some t) u → AreTurnsFor numbers turns places ws (suc m) steps rest after → Serves before (u ∷ rest) (end_after t.end later)
         asked_for again t later here is begin one in_later (accepting, refusing) more = elim (cases_Bool t.accepted) [ inl it_is ↦ accepted_it it_is | inr it_isnt ↦ refused_it it_isnt ]
           where
             accepted_it : t.accepted ≡ true → Serves before (u ∷ rest) (end_after t.end later)
@@ -320,22 +320,22 @@ module _ (catalogue : List Line) (said : ReadRequest) (provider : Provider) (ove
                 let (part, is_turn, between) = accepting so_it in
                 let wishes_are : accepted_by wishes t ≡ wishes ++ solvable_id w.version.0 ∷ [] = ap (λ b. cond b (wishes ++ t.solvable ∷ []) wishes) so_it ∙ ap (λ s. wishes ++ s ∷ []) one.solvable in
                 let low : n ≤ t.end = (let a : t.begin ≤ t.end = one.grows in let b : t.begin ≡ n = begin in omega arith) in
-                let nothing_bars : (s : SolvableId) → Contains (wishes ++ solvable_id w.version.0 ∷ []) s → is_barred same (packages_of provider) s ≡ false =
+                let none_forbids : (s : SolvableId) → Contains (wishes ++ solvable_id w.version.0 ∷ []) s → is_forbidden same (packages_of provider) s ≡ false =
                 λ s h. elim (contains_parts s wishes (solvable_id w.version.0 ∷ []) h) [
-                  | inl old ↦ so.stand.free s old
-                  | inr new ↦ subst (λ (x : SolvableId). is_barred same (packages_of provider) x ≡ false) (sym (contains_one s (solvable_id w.version.0) new)) (this.free is)
+                  | inl old ↦ so.valid.free s old
+                  | inr new ↦ subst (λ (x : SolvableId). is_forbidden same (packages_of provider) x ≡ false) (sym (contains_one s (solvable_id w.version.0) new)) (this.free is)
                 ] in
                 let all_listed : (s : SolvableId) → Contains (wishes ++ solvable_id w.version.0 ∷ []) s → (x : Version) × (slice_get (listed catalogue) s.raw ≡ Some x) =
                 λ s h. elim (contains_parts s wishes (solvable_id w.version.0 ∷ []) h) [
-                  | inl old ↦ so.stand.has s old
+                  | inl old ↦ so.valid.has s old
                   | inr new ↦ subst (λ (y : SolvableId). (x : Version) × (slice_get (listed catalogue) y.raw ≡ Some x)) (sym (contains_one s (solvable_id w.version.0) new)) (this.version, this.there)
                 ] in
-                let stand : StandAt t.end (wishes ++ solvable_id w.version.0 ∷ []) = accepted_stands t.end (wishes ++ solvable_id w.version.0 ∷ []) nothing_bars all_listed (subst (λ (ws' : List SolvableId). IsAccepted same (packages_of provider) (root_of ids) ws' (take t.end v)) wishes_are one.ended) in
+                let valid : IsValidAt t.end (wishes ++ solvable_id w.version.0 ∷ []) = accepted_valid t.end (wishes ++ solvable_id w.version.0 ∷ []) none_forbids all_listed (subst (λ (ws' : List SolvableId). IsAccepted same (packages_of provider) (root_of ids) ws' (take t.end v)) wishes_are one.ended) in
                 let between' : IsBetween numbers n t.end part.now = subst (λ (k : ℕ). IsBetween numbers k t.end part.now) begin between in
-                let among : Contains (take t.end v) (solvable_id w.version.0) = in_contained same exact (packages_of provider) (take t.end v) (solvable_id w.version.0) (sym one.told ∙ so_it) in
+                let among : Contains (take t.end v) (solvable_id w.version.0) = in_contained same exact (packages_of provider) (take t.end v) (solvable_id w.version.0) (sym one.decided ∙ so_it) in
                 subst (λ (x : Turn). Serves before (x ∷ rest) (end_after t.end later)) (sym is_turn) (serves_more before rest (Chose (Some (asked_by w)) part) (end_after t.end later)
-                (accepted_serves before n wishes so (asked_by w) this.version this.there t.end part low one.within between' stand among)
-                (again (suc m) t.end (wishes ++ solvable_id w.version.0 ∷ []) (before ++ Chose (Some (asked_by w)) part ∷ []) steps later (accepted_so before n wishes so (asked_by w) this.version this.there t.end part low one.within between' stand) (from_next m t later here)
+                (accepted_serves before n wishes so (asked_by w) this.version this.there t.end part low one.within between' valid among)
+                (again (suc m) t.end (wishes ++ solvable_id w.version.0 ∷ []) (before ++ Chose (Some (asked_by w)) part ∷ []) steps later (accepted_so before n wishes so (asked_by w) this.version this.there t.end part low one.within between' valid) (from_next m t later here)
                 (subst (λ (ws' : List SolvableId). AreIn t.end ws' (free_of ws) later) wishes_are in_later) more))
 
             refused_it : t.accepted ≡ false → Serves before (u ∷ rest) (end_after t.end later)
@@ -345,22 +345,22 @@ module _ (catalogue : List Line) (said : ReadRequest) (provider : Provider) (ove
                 let end_is : t.end ≡ n = one.still so_it ∙ begin in
                 let at : slice_get turns m ≡ Some t = ap (λ (k : ℕ). slice_get turns k) (let is_m : m ≡ m + 0 = omega arith in is_m) ∙ here 0 in
                 let its : slice_get (listed catalogue) t.solvable.raw ≡ Some this.version = ap (λ (s : SolvableId). slice_get (listed catalogue) s.raw) one.solvable ∙ this.there in
-                let bars : step_bars catalogue said.lines after (versions_of catalogue (take n v)) (nth (listed catalogue) w.version) (number_at places t.step) ≡ true =
-                subst (λ (k : ℕ). step_bars catalogue said.lines after (versions_of catalogue (take k v)) (nth (listed catalogue) w.version) (number_at places t.step) ≡ true) begin
-                (subst (λ (y : Version). step_bars catalogue said.lines after (versions_of catalogue (take t.begin v)) y (number_at places t.step) ≡ true) (sym (nth_is (listed catalogue) w.version this.version this.there))
+                let forbids : step_forbids catalogue source.lines after (versions_of catalogue (take n v)) (nth (listed catalogue) w.version) (number_at places t.step) ≡ true =
+                subst (λ (k : ℕ). step_forbids catalogue source.lines after (versions_of catalogue (take k v)) (nth (listed catalogue) w.version) (number_at places t.step) ≡ true) begin
+                (subst (λ (y : Version). step_forbids catalogue source.lines after (versions_of catalogue (take t.begin v)) y (number_at places t.step) ≡ true) (sym (nth_is (listed catalogue) w.version this.version this.there))
                 (refuses t (get_contains turns m t at) so_it this.version its)) in
                 subst (λ (x : Turn). Serves before (x ∷ rest) (end_after t.end later)) (sym out) (serves_more before rest (LeftOut (asked_by w) (number_at places t.step)) (end_after t.end later)
-                (left_out_serves before n wishes so (asked_by w) (number_at places t.step) bars)
+                (left_out_serves before n wishes so (asked_by w) (number_at places t.step) forbids)
                 (again (suc m) t.end wishes (before ++ LeftOut (asked_by w) (number_at places t.step) ∷ []) steps later
                 (subst (λ (k : ℕ). AreSoFar (before ++ LeftOut (asked_by w) (number_at places t.step) ∷ []) k wishes) (sym end_is) (still_so before n wishes so (asked_by w) (number_at places t.step))) (from_next m t later here)
                 (subst (λ (ws' : List SolvableId). AreIn t.end ws' (free_of ws) later) wishes_are in_later) more))
 
-        free_one : AreWalked ws rest → (ts : List Solved) → AreFrom m ts → w.bar ≡ None → AreIn n wishes (solvable_id w.version.0 ∷ free_of ws) ts → IsWishedTurn numbers places (asked_by w) (slice_get turns m) u → AreTold numbers turns places ws (suc m) steps rest after → Serves before (u ∷ rest) (end_after n ts)
-        free_one again [] here is in_ts told_as more = absurd in_ts
-        free_one again (t ∷ later) here is (begin, one, in_later) told_as more =
-            asked_for again t later here is begin one in_later (subst (λ (o : Option Solved). IsWishedTurn numbers places (asked_by w) o u) (ap (λ (k : ℕ). slice_get turns k) (let is_m : m ≡ m + 0 = omega arith in is_m) ∙ here 0) told_as) more
+        free_one : AreWalked ws rest → (ts : List Solved) → AreFrom m ts → w.forbidden_by ≡ None → AreIn n wishes (solvable_id w.version.0 ∷ free_of ws) ts → IsWishedTurn numbers places (asked_by w) (slice_get turns m) u → AreTurnsFor numbers turns places ws (suc m) steps rest after → Serves before (u ∷ rest) (end_after n ts)
+        free_one again [] here is in_ts turn_is more = absurd in_ts
+        free_one again (t ∷ later) here is (begin, one, in_later) turn_is more =
+            asked_for again t later here is begin one in_later (subst (λ (o : Option Solved). IsWishedTurn numbers places (asked_by w) o u) (ap (λ (k : ℕ). slice_get turns k) (let is_m : m ≡ m + 0 = omega arith in is_m) ∙ here 0) turn_is) more
 
-        go : AreWalked ws rest → (b : Option code.Step) → w.bar ≡ b → MatchOption b (IsWishedTurn numbers places (asked_by w) (slice_get turns m) u × AreTold numbers turns places ws (suc m) steps rest after)
-            (λ step. (suc (length steps) < 4294967296) × (u ≡ LeftOut (asked_by w) (suc (length steps))) × AreTold numbers turns places ws m (steps ++ step_of step ∷ []) rest after) → Serves before (u ∷ rest) (end_after n ts)
-        go again None is (told_as, more) = free_one again ts from is (subst (λ (b : Option code.Step). AreIn n wishes (unless_barred b (solvable_id w.version.0) ++ free_of ws) ts) is in_turn) told_as more
-        go again (Some step) is (few, out, more) = barred again step is out more
+        go : AreWalked ws rest → (b : Option code.Step) → w.forbidden_by ≡ b → MatchOption b (IsWishedTurn numbers places (asked_by w) (slice_get turns m) u × AreTurnsFor numbers turns places ws (suc m) steps rest after)
+            (λ step. (suc (length steps) < 4294967296) × (u ≡ LeftOut (asked_by w) (suc (length steps))) × AreTurnsFor numbers turns places ws m (steps ++ step_of step ∷ []) rest after) → Serves before (u ∷ rest) (end_after n ts)
+        go again None is (turn_is, more) = free_one again ts from is (subst (λ (b : Option code.Step). AreIn n wishes (unless_forbidden b (solvable_id w.version.0) ++ free_of ws) ts) is in_turn) turn_is more
+        go again (Some step) is (few, out, more) = forbidden again step is out more

@@ -15,7 +15,7 @@ use Rattle.resolvo_catalogue.specs.Known as shows
 use Rattle.resolvo_catalogue.specs.Known.{name_of, set_at, members_of}
 use Rattle.resolvo_catalogue.specs.Provider.{Provider, packages_of}
 use Rattle.resolvo_report.specs.Value.{Report, Step, Install, Refused}
-use Rattle.resolve_refusal.specs.Refusal.{IsProofOver, IsToldBy}
+use Rattle.resolve_refusal.specs.Refusal.{IsProofOver, IsWrittenAs}
 use Rattle.resolvo_conflict.specs.Draw.{conflict_drawing}
 use Rattle.resolvo_conflict.specs.Order.{conflict_rules}
 use Rattle.resolvo_conflict.specs.Offered.{offered_by}
@@ -60,7 +60,7 @@ module _ (same_name : NameId → NameId → Bool) (same : SolvableId → Solvabl
   -- rests, with the offered candidates.
   pub record IsTextOf (p : Provider) (offered : Requirement → List SolvableId) (steps : List (ProofStep NameId SolvableId)) (message : List (List ℕ)) : Type 0 where
     pub lines : List (MessageLine SolvableId)
-    pub tells : IsMessage same_name same (name_of p.ids) (conflict_drawing same_name same (name_of p.ids) offered (conflict_rules steps)) lines
+    pub is_message : IsMessage same_name same (name_of p.ids) (conflict_drawing same_name same (name_of p.ids) offered (conflict_rules steps)) lines
     pub text : joined message ≡ text_of (meaning_of p) lines
     pub plain : AllByRecursion IsPlain message
 
@@ -68,12 +68,12 @@ module _ (same_name : NameId → NameId → Bool) (same : SolvableId → Solvabl
 -- ids, the steps write a proof. The offered candidates are those of the requirements in its rules.
 -- The message is the text of its graph.
 pub record IsMessageOf (catalogue request : List Line) (steps : List Step) (message : List (List ℕ)) : Type 0 where
-  pub said : ReadRequest
-  pub asks : said.lines ≡ request
+  pub source : ReadRequest
+  pub asks : source.lines ≡ request
   pub provider : Provider
   pub proof : List (ProofStep NameId SolvableId)
-  pub proves : IsProofOver catalogue said provider proof
-  pub told : AllZip (IsToldBy catalogue provider.ids request) proof steps
+  pub proves : IsProofOver catalogue source provider proof
+  pub matched : AllZip (IsWrittenAs catalogue provider.ids request) proof steps
   -- exact tests of whether two packages, or two solvables, are the same
   pub same_name : NameId → NameId → Bool
   pub one_name : IsExact same_name

@@ -57,13 +57,13 @@ IsWishedTurn chosen places wish (Some s) t = (s.accepted ≡ true → (part : _)
 
 -- The report's turns of these wishes, from this turn of the solver and these steps on. A forbidden
 -- wish is left out by its step, which is appended. Any other has its turn of the solver.
-abbrev pub AreTold : List VersionNo → List Solved → List ℕ → List Wish → ℕ → List Step → List Turn → List Step → Type 0
-AreTold chosen turns places [] n steps told after = (told ≡ []) × (after ≡ steps)
-AreTold chosen turns places (w ∷ ws) n steps told after = (t : Turn) × (rest : List Turn) × (told ≡ t ∷ rest)
-    × MatchOption w.bar (IsWishedTurn chosen places (asked_by w) (slice_get turns n) t × AreTold chosen turns places ws (suc n) steps rest after)
-    (λ step. (suc (length steps) < 4294967296) × (t ≡ LeftOut (asked_by w) (suc (length steps))) × AreTold chosen turns places ws n (steps ++ step_of step ∷ []) rest after)
+abbrev pub AreTurnsFor : List VersionNo → List Solved → List ℕ → List Wish → ℕ → List Step → List Turn → List Step → Type 0
+AreTurnsFor chosen turns places [] n steps matched after = (matched ≡ []) × (after ≡ steps)
+AreTurnsFor chosen turns places (w ∷ ws) n steps matched after = (t : Turn) × (rest : List Turn) × (matched ≡ t ∷ rest)
+    × MatchOption w.forbidden_by (IsWishedTurn chosen places (asked_by w) (slice_get turns n) t × AreTurnsFor chosen turns places ws (suc n) steps rest after)
+    (λ step. (suc (length steps) < 4294967296) × (t ≡ LeftOut (asked_by w) (suc (length steps))) × AreTurnsFor chosen turns places ws n (steps ++ step_of step ∷ []) rest after)
 
 -- all turns of a report
 abbrev pub AreReportTurns : Outcome → List Wish → List Step → List Turn → List Step → Type 0
-AreReportTurns o wishes steps told after = (t : Turn) × (rest : List Turn) × (told ≡ t ∷ rest) × IsFirstTurn o.chosen.now o.turns.now t
-    × AreTold o.chosen.now o.turns.now o.places.now wishes 0 steps rest after
+AreReportTurns o wishes steps matched after = (t : Turn) × (rest : List Turn) × (matched ≡ t ∷ rest) × IsFirstTurn o.chosen.now o.turns.now t
+    × AreTurnsFor o.chosen.now o.turns.now o.places.now wishes 0 steps rest after

@@ -4,7 +4,7 @@ use Rattle.resolvo_text.specs.Line.{Version, Line, Wish}
 use Rattle.resolvo_text.specs.Matches.{Set}
 use Rattle.resolvo_catalogue_core.specs.Answers.{Answer, LeftOut, entries_of}
 use Rattle.resolvo_catalogue_core.specs.Grammar.{line_at}
-use Rattle.resolvo_catalogue_core.specs.Questions.{AreAll, Bars, LineIs, IsWish}
+use Rattle.resolvo_catalogue_core.specs.Questions.{AreAll, Forbids, LineIs, IsWish}
 use Rattle.resolvo_catalogue_core.specs.Sets.{IsRuleKeeping}
 use Rattle.resolve_order.specs.Order.{Turn, Chose, LeavesOut, AreTurns, AreReached, chosen_in, wishes_in}
 use Rattle.resolvo_report.specs.Value.{Literal, Step, Derive, Report, Install, Refused}
@@ -12,8 +12,8 @@ use Rattle.resolvo_report.specs.Text.{report_text}
 use Rattle.resolvo_judge.specs.Judgement.{IsUpheld, IsClaimTrue}
 use Rattle.resolvo_judge.specs.Refusal.{answer_of}
 use Rattle.resolve_refusal.specs.Named.{AreUsedLines}
-use Rattle.resolve_refusal.specs.Refusal.{TellsFirst}
-use Rattle.resolve_refusal.specs.InstallSteps.{IsBarredBefore}
+use Rattle.resolve_refusal.specs.Refusal.{NamesFirstLine}
+use Rattle.resolve_refusal.specs.InstallSteps.{IsForbiddenBefore}
 use Rattle.resolve_answer.specs.Message.{IsMessageOf}
 use Rattle.resolve_answer.specs.First.{AreFirstChosen}
 
@@ -64,20 +64,20 @@ abbrev pub AreUsed : List Answer → List Step → Type 0
 AreUsed answers steps = (k : ℕ) → k < length steps → LeavesOutBy answers (suc k) ⊎ IsNamedLater steps k
 
 -- Each step names the first line of its rule, a need the first of its cases too.
-abbrev pub AreFirstTold : List Line → List Line → List Step → Type 0
-AreFirstTold catalogue request steps = (k : ℕ) (s : Step) → slice_get steps k ≡ Some s → TellsFirst catalogue request s
+abbrev pub NameFirstLines : List Line → List Line → List Step → Type 0
+NameFirstLines catalogue request steps = (k : ℕ) (s : Step) → slice_get steps k ≡ Some s → NamesFirstLine catalogue request s
 
 -- A wish that a lock or an exclusion forbids is left out by the step of this number. It is that of
 -- the lock, else that of the exclusion.
-abbrev pub LeavesOutBarred : List Line → List Answer → ℕ → Step → Type 0
-LeavesOutBarred catalogue answers number s = (v : Version) × (line : ℕ) × Contains answers (LeftOut v line number) × IsBarredBefore catalogue v s
+abbrev pub LeavesOutForbidden : List Line → List Answer → ℕ → Step → Type 0
+LeavesOutForbidden catalogue answers number s = (v : Version) × (line : ℕ) × Contains answers (LeftOut v line number) × IsForbiddenBefore catalogue v s
 
 -- Which lines the steps of an install report name, and which steps leave forbidden wishes out.
-pub record TellTheirRules (catalogue request : List Line) (answers : List Answer) (steps : List Step) : Type 0 where
+pub record NameRules (catalogue request : List Line) (answers : List Answer) (steps : List Step) : Type 0 where
   -- each step names the first line of its rule, or a forbidden wish is left out by it
-  pub first : (k : ℕ) (s : Step) → slice_get steps k ≡ Some s → TellsFirst catalogue request s ⊎ LeavesOutBarred catalogue answers (suc k) s
+  pub first : (k : ℕ) (s : Step) → slice_get steps k ≡ Some s → NamesFirstLine catalogue request s ⊎ LeavesOutForbidden catalogue answers (suc k) s
   -- a wish that a lock or an exclusion forbids is left out by such a step
-  pub barred : (v : Version) (line number : ℕ) → Contains answers (LeftOut v line number) → (m : ℕ) → Bars catalogue v m → (k : ℕ) × (s : Step) × (number ≡ suc k) × (slice_get steps k ≡ Some s) × IsBarredBefore catalogue v s
+  pub forbidden : (v : Version) (line number : ℕ) → Contains answers (LeftOut v line number) → (m : ℕ) → Forbids catalogue v m → (k : ℕ) × (s : Step) × (number ≡ suc k) × (slice_get steps k ≡ Some s) × IsForbiddenBefore catalogue v s
 
 -- An install report lists the turns of a search. Each of its steps is used, and names the first
 -- line of its rule. A refused report names exactly the lines on which its steps rest. Each step
@@ -85,9 +85,9 @@ pub record TellTheirRules (catalogue request : List Line) (answers : List Answer
 -- conflict.
 abbrev pub IsAnswer : List Line → List Line → Report → Type 0
 IsAnswer catalogue request (Install lines steps) = AreListed catalogue request (map answer_of lines) × AreUsed (map answer_of lines) steps
-    × TellTheirRules catalogue request (map answer_of lines) steps
+    × NameRules catalogue request (map answer_of lines) steps
 IsAnswer catalogue request (Refused catalogue_lines request_lines steps message) = AreUsedLines catalogue request catalogue_lines request_lines steps
-    × AreNamed steps × AreFirstTold catalogue request steps × IsMessageOf catalogue request steps message
+    × AreNamed steps × NameFirstLines catalogue request steps × IsMessageOf catalogue request steps message
 
 -- The judge accepts the report by its text, and its claim is true. So it installs exactly if some
 -- set keeps the rules of both texts.

@@ -17,7 +17,7 @@ use Rattle.resolvo.specs.Conflicts.{Left, AreOffers}
 use Rattle.resolvo.specs.declared.turns.Turn.{Turn}
 use Rattle.resolvo.specs.Solve.{AreRightSteps, HasProof}
 use Rattle.resolvo.specs.Solver.{Kept}
-use Rattle.resolvo.specs.Turns.{AreWished, first_of}
+use Rattle.resolvo.specs.Turns.{AreSolvedByTurn, first_of}
 use Rattle.resolve_answer.specs.First.{orders_of}
 use Rattle.resolve_answer.specs.Message.{IsTextOf}
 use Rattle.resolve_answer.specs.Wishes.{AreWishesOf, free_of}
@@ -25,10 +25,10 @@ use Rattle.resolve_answer.specs.declared.wishes.Wish.{Wish}
 
 -- A solver over the provider keeps a proof that there is no solution for the request. If it keeps a
 -- conflict, its offered candidates are right. The test distinguishes solvables.
-pub record IsRefutedOver (same : SolvableId → SolvableId → Bool) (catalogue : List Line) (said : ReadRequest) (solver : Kept Provider NameId SolvableId) : Type 0 where
+pub record IsRefutedOver (same : SolvableId → SolvableId → Bool) (catalogue : List Line) (source : ReadRequest) (solver : Kept Provider NameId SolvableId) : Type 0 where
   pub over : IsOver catalogue solver.provider
   pub ids : RequestIds
-  pub asked : AreAsked solver.provider.ids said ids
+  pub asked : AreAsked solver.provider.ids source ids
   pub exact : IsExact same
   pub steps : AreRightSteps same (packages_of solver.provider) (root_of ids) solver.proof
   pub ends : EndsEmpty solver.proof
@@ -36,16 +36,16 @@ pub record IsRefutedOver (same : SolvableId → SolvableId → Bool) (catalogue 
 
 -- The choices of a search over the provider, for the wishes that no step forbids, are right and
 -- were preferred. Its proof is one, in which each refused wish has a step.
-pub record IsInstalledOver (catalogue : List Line) (said : ReadRequest) (provider : Provider) (wishes : List Wish) (chosen : List SolvableId) (turns : List (Turn SolvableId)) (proof : List (ProofStep NameId SolvableId)) : Type 0 where
+pub record IsInstalledOver (catalogue : List Line) (source : ReadRequest) (provider : Provider) (wishes : List Wish) (chosen : List SolvableId) (turns : List (Turn SolvableId)) (proof : List (ProofStep NameId SolvableId)) : Type 0 where
   pub over : IsOver catalogue provider
   pub ids : RequestIds
-  pub asked : AreAsked provider.ids said ids
+  pub asked : AreAsked provider.ids source ids
   -- an exact test of whether two solvables are the same
   pub same : SolvableId → SolvableId → Bool
   pub exact : IsExact same
-  pub are_wishes : AreWishes catalogue said.lines said.wishes
-  pub told : AreWishesOf catalogue said.wishes wishes
-  pub wished : AreWished same (packages_of provider) (root_of ids) chosen (first_of chosen turns) (free_of wishes) turns
+  pub are_wishes : AreWishes catalogue source.lines source.wishes
+  pub matched : AreWishesOf catalogue source.wishes wishes
+  pub wished : AreSolvedByTurn same (packages_of provider) (root_of ids) chosen (first_of chosen turns) (free_of wishes) turns
   pub preferred : ArePreferred same (packages_of provider) (orders_of same provider) (root_of ids) (take (first_of chosen turns) chosen)
   pub steps : AreRightSteps same (packages_of provider) (root_of ids) proof
   pub proofs : (t : Turn SolvableId) → Contains turns t → HasProof proof chosen t

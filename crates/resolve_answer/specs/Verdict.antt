@@ -24,11 +24,11 @@ Verdict = Result (Vec SolvableId) (UnsolvableOrCancelled GivenUp)
 
 -- A solver over a provider of the catalogue gives this for a request over the catalogue. Which
 -- dependencies the provider declares as at hand is open.
-pub record IsGivenOver (catalogue : List Line) (said : ReadRequest) (provider : Provider) (verdict : Verdict) : Type 0 where
+pub record IsGivenOver (catalogue : List Line) (source : ReadRequest) (provider : Provider) (verdict : Verdict) : Type 0 where
   pub over : IsOver catalogue provider
-  pub asks : AreRequestLines catalogue said.lines
+  pub asks : AreRequestLines catalogue source.lines
   pub ids : RequestIds
-  pub asked : AreAsked provider.ids said ids
+  pub asked : AreAsked provider.ids source ids
   -- an exact test of whether two solvables are the same
   pub same : SolvableId → SolvableId → Bool
   pub exact : IsExact same

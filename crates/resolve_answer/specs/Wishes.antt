@@ -10,7 +10,7 @@ use Rattle.resolvo_catalogue_core.specs.declared.rule.VersionNo.{VersionNo}
 use Rattle.resolvo_catalogue.specs.Ids.{SolvableId, solvable_id}
 use Rattle.resolvo_report.specs.View.{step_of}
 use Rattle.resolvo_report.specs.declared.step.Step.{Step}
-use Rattle.resolve_refusal.specs.InstallSteps.{IsBarringStepOf}
+use Rattle.resolve_refusal.specs.InstallSteps.{IsForbidStepOf}
 use Rattle.resolve_answer.specs.declared.wishes.Wish.{Wish}
 
 -- a wish, by its line and its version
@@ -19,21 +19,21 @@ asked_by w = (w.line, w.version)
 
 -- the wishes of a request have the versions of their lines
 abbrev pub AreWishesAt : List Line → ReadRequest → Type 0
-AreWishesAt catalogue said = (i : ℕ) (f : ℕ × VersionNo) → slice_get said.wishes i ≡ Some f → WishesAt (listed catalogue) said.lines f
+AreWishesAt catalogue source = (i : ℕ) (f : ℕ × VersionNo) → slice_get source.wishes i ≡ Some f → WishesAt (listed catalogue) source.lines f
 
 -- The wishes are these, and each is forbidden by its step, or no lock and no exclusion forbids it.
 pub record AreWishesOf (catalogue : List Line) (wishes : List (ℕ × VersionNo)) (items : List Wish) : Type 0 where
   pub are : map asked_by items ≡ wishes
-  pub bars : (w : Wish) → Contains items w → IsBarringStepOf catalogue w.version.0 (option_map step_of w.bar)
+  pub forbids : (w : Wish) → Contains items w → IsForbidStepOf catalogue w.version.0 (option_map step_of w.forbidden_by)
 
 -- the solvable, where no step forbids it
-abbrev pub unless_barred : Option Step → SolvableId → List SolvableId
-unless_barred None s = s ∷ []
-unless_barred (Some step) s = []
+abbrev pub unless_forbidden : Option Step → SolvableId → List SolvableId
+unless_forbidden None s = s ∷ []
+unless_forbidden (Some step) s = []
 
 -- the solvables of the wishes that no step forbids
 abbrev pub free_of : List Wish → List SolvableId
-free_of items = flat_map (λ w. unless_barred w.bar (solvable_id w.version.0)) items
+free_of items = flat_map (λ w. unless_forbidden w.forbidden_by (solvable_id w.version.0)) items
 
 -- A run of the iterator to its end gives these solvables.
 abbrev pub GivesAll : {I : Type 0} → (I → Option SolvableId → I → Type 0) → I → List SolvableId → Type 0

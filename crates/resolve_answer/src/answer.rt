@@ -60,8 +60,8 @@ fn installed(
         turns,
         places: numbers.as_slice(),
     };
-    let told = report_turns(alloc, outcome, wishes, &mut written)?;
-    Ok(install_report(alloc, catalogue, request, told.as_slice(), written)?)
+    let matched = report_turns(alloc, outcome, wishes, &mut written)?;
+    Ok(install_report(alloc, catalogue, request, matched.as_slice(), written)?)
 }
 
 /// A refused report with these lines of message.
@@ -85,7 +85,7 @@ fn with_message(report: Report, lines: Vec<Vec<u8>>) -> Report
 }
 
 /// The install report of the solver's choices. It takes the proof from the solver.
-fn told(
+fn matched(
     alloc: Global,
     catalogue: &Catalogue,
     request: &Request,
@@ -180,7 +180,7 @@ fn answered(
     let wishes = wishes_of(alloc, catalogue, request)?;
     let free = free_wishes(alloc, wishes.as_slice())?;
     match solver.solve(problem_of(asked, free)) {
-        Ok(chosen) => Ok(told(alloc, catalogue, request, solver, wishes, chosen.as_slice())?),
+        Ok(chosen) => Ok(matched(alloc, catalogue, request, solver, wishes, chosen.as_slice())?),
         Err(UnsolvableOrCancelled::Unsolvable(conflict)) => {
             Ok(refused(alloc, catalogue, request, solver, &conflict)?)
         }

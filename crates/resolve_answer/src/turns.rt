@@ -136,24 +136,24 @@ pub fn report_turns<'a>(
         AreReportTurns outcome.entry wishes.items (steps_of steps.old.items) v.items
         (steps_of steps.new.items)) }
 {
-    let mut told = Vec::new(alloc);
-    told.push(outcome.first())?;
+    let mut matched = Vec::new(alloc);
+    matched.push(outcome.first())?;
     let mut next: usize = 0;
     for wish in wishes {
-        let Wish { line, version, bar } = wish;
-        match bar {
+        let Wish { line, version, forbidden_by } = wish;
+        match forbidden_by {
             Some(step) => {
                 let step = push_step(steps, step)?;
-                told.push(report::Turn::LeftOut {
+                matched.push(report::Turn::LeftOut {
                     wish: (line, version),
                     step,
                 })?;
             }
             None => {
-                told.push(outcome.wished((line, version), next)?)?;
+                matched.push(outcome.wished((line, version), next)?)?;
                 next += 1;
             }
         }
     }
-    Ok(told)
+    Ok(matched)
 }

@@ -5,10 +5,10 @@ ghost use Rattle.std.specs.Prelude.{◌≡◌, map, IfOk, OnOk};
 ghost use Rattle.resolvo_catalogue_core.specs.Questions.{AreAll, IsWish, LineIs};
 ghost use Rattle.std.specs.Option.{option_map};
 ghost use Rattle.resolvo_report.specs.View.{step_of};
-ghost use Rattle.resolve_refusal.specs.InstallSteps.{IsBarringStepOf};
+ghost use Rattle.resolve_refusal.specs.InstallSteps.{IsForbidStepOf};
 ghost use Rattle.resolve_answer.specs.Wishes.{AreWishesOf, asked_by, free_of};
 
-use resolve_refusal::barring_step;
+use resolve_refusal::forbid_step;
 use resolvo_catalogue_core::{Catalogue, Request, VersionNo};
 use resolvo_pool_core::id::SolvableId;
 use resolvo_pool_core::want::R;
@@ -20,7 +20,7 @@ use std::alloc::Global;
 pub struct Wish {
     pub line: u32,
     pub version: VersionNo,
-    pub bar: Option<Step>,
+    pub forbidden_by: Option<Step>,
 }
 
 /// The wishes of a request, in the order of their lines. `Memory` where they find no room.
@@ -39,11 +39,11 @@ pub fn wishes_of(alloc: Global, catalogue: &Catalogue, request: &Request) -> R<V
 /// A wish, by its line and its version, with the step that forbids it.
 fn wish_of(alloc: Global, catalogue: &Catalogue, wish: (u32, VersionNo)) -> R<Wish>
     ensures asked { IfOk result (λ w. asked_by w ≡ wish) }
-    ensures barred { IfOk result (λ w. IsBarringStepOf catalogue.now w.version.0 (option_map step_of w.bar)) }
+    ensures forbidden { IfOk result (λ w. IsForbidStepOf catalogue.now w.version.0 (option_map step_of w.forbidden_by)) }
 {
     let (line, version) = wish;
-    let bar = barring_step(alloc, catalogue, version)?;
-    Ok(Wish { line, version, bar })
+    let forbidden_by = forbid_step(alloc, catalogue, version)?;
+    Ok(Wish { line, version, forbidden_by })
 }
 
 /// The wishes of the search: those that no step forbids. `Memory` where there is no room.
@@ -52,7 +52,7 @@ pub fn free_wishes(alloc: Global, wishes: &[Wish]) -> R<Vec<SolvableId>>
 {
     let mut free = Vec::new(alloc);
     for wish in wishes {
-        if wish.bar.is_none() {
+        if wish.forbidden_by.is_none() {
             free.push(SolvableId::from_raw(wish.version.0))?;
         }
     }

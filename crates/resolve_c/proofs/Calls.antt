@@ -17,13 +17,13 @@ use Rattle.resolve_run.specs.Within.{AreGrammatical, StopsWithin}
 use Rattle.resolve_run.specs.declared.stop.RunStop.{RunStop}
 use Rattle.resolve_run.specs.declared.stop.RunStop.TheVariants.{Fault, GivenUp}
 use Rattle.resolve_c.specs.Endings.{growing, growing_within, fault_ending_of, stop_ending_of}
-use Rattle.resolve_c.specs.Told.{Leaves, lent, StopsSolving, StopsSolvingWithin, StopsJudging, Solves, SolvesWithin, Judges}
-use Rattle.resolve_c.specs.Told as how
-use Rattle.resolve_c.specs.declared.told.Told.{Told}
+use Rattle.resolve_c.specs.CallResult.{Leaves, lent, StopsSolving, StopsSolvingWithin, StopsJudging, Solves, SolvesWithin, Judges}
+use Rattle.resolve_c.specs.CallResult as how
+use Rattle.resolve_c.specs.declared.call_result.CallResult.{CallResult}
 
-pub leaves_as : (ending other : ℕ) (text same before after : List ℕ) (told : Told) → ending ≡ other → text ≡ same → Leaves ending text before after told → Leaves other same before after told
-leaves_as ending other text same before after told e t h =
-    subst (λ (n : ℕ). Leaves n same before after told) e (subst (λ (xs : List ℕ). Leaves ending xs before after told) t h)
+pub leaves_as : (ending other : ℕ) (text same before after : List ℕ) (call_result : CallResult) → ending ≡ other → text ≡ same → Leaves ending text before after call_result → Leaves other same before after call_result
+leaves_as ending other text same before after call_result e t h =
+    subst (λ (n : ℕ). Leaves n same before after call_result) e (subst (λ (xs : List ℕ). Leaves ending xs before after call_result) t h)
 
 -- ---- a text that was written into a sink that was empty, where the bytes that were lent are the caller's
 
@@ -43,9 +43,9 @@ check_taken c r p c_lent r_lent p_lent held text ended is_c is_r is_p none (outp
 
 -- ---- no text
 
-pub run_stopped : (fault told : RunFault) (c r c_lent r_lent : List ℕ) (c_left r_left : Option (List ℕ)) (writer : Device) → c_lent ≡ c → r_lent ≡ r → told ≡ growing fault
-    → StopsRun fault (lent c_lent c_left) (lent r_lent r_left) writer → StopsSolving told c r
-run_stopped fault told c r c_lent r_lent c_left r_left writer is_c is_r is stopped = (
+pub run_stopped : (fault call_result : RunFault) (c r c_lent r_lent : List ℕ) (c_left r_left : Option (List ℕ)) (writer : Device) → c_lent ≡ c → r_lent ≡ r → call_result ≡ growing fault
+    → StopsRun fault (lent c_lent c_left) (lent r_lent r_left) writer → StopsSolving call_result c r
+run_stopped fault call_result c r c_lent r_lent c_left r_left writer is_c is_r is stopped = (
   c_left,
   r_left,
   subst (λ (e : RunFault). StopsBefore e (lent c c_left) (lent r r_left)) (sym is)
@@ -65,16 +65,16 @@ run_stopped fault told c r c_lent r_lent c_left r_left writer is_c is_r is stopp
 grammatical_read : (c r : List ℕ) (c_left r_left : Option (List ℕ)) → AreRead (lent c c_left) (lent r r_left) → AreGrammatical c r
 grammatical_read c r c_left r_left are = (are.catalogue_lines, are.request_lines, are.catalogue_read c refl, are.request_read r refl)
 
-pub run_stopped_within : (budget : Option ℕ) (stop told : RunStop) (c r c_lent r_lent : List ℕ) (c_left r_left : Option (List ℕ)) (writer : Device) → c_lent ≡ c → r_lent ≡ r → told ≡ growing_within stop
-    → StopsWithin budget stop (lent c_lent c_left) (lent r_lent r_left) writer → StopsSolvingWithin budget told c r
-run_stopped_within budget (Fault e) told c r c_lent r_lent c_left r_left writer is_c is_r is stopped = subst (λ (s : RunStop). StopsSolvingWithin budget s c r) (sym is)
+pub run_stopped_within : (budget : Option ℕ) (stop call_result : RunStop) (c r c_lent r_lent : List ℕ) (c_left r_left : Option (List ℕ)) (writer : Device) → c_lent ≡ c → r_lent ≡ r → call_result ≡ growing_within stop
+    → StopsWithin budget stop (lent c_lent c_left) (lent r_lent r_left) writer → StopsSolvingWithin budget call_result c r
+run_stopped_within budget (Fault e) call_result c r c_lent r_lent c_left r_left writer is_c is_r is stopped = subst (λ (s : RunStop). StopsSolvingWithin budget s c r) (sym is)
     (run_stopped e (growing e) c r c_lent r_lent c_left r_left writer is_c is_r refl stopped)
-run_stopped_within budget GivenUp told c r c_lent r_lent c_left r_left writer is_c is_r is (some, are, same) = subst (λ (s : RunStop). StopsSolvingWithin budget s c r) (sym is)
+run_stopped_within budget GivenUp call_result c r c_lent r_lent c_left r_left writer is_c is_r is (some, are, same) = subst (λ (s : RunStop). StopsSolvingWithin budget s c r) (sym is)
     (some, subst (λ (xs : List ℕ). AreGrammatical c xs) is_r (subst (λ (xs : List ℕ). AreGrammatical xs r_lent) is_c (grammatical_read c_lent r_lent c_left r_left are)))
 
-pub check_stopped : (fault told : RunFault) (c r p c_lent r_lent p_lent : List ℕ) (c_left r_left p_left : Option (List ℕ)) (writer : Device) → c_lent ≡ c → r_lent ≡ r → p_lent ≡ p → told ≡ growing fault
-    → StopsCheck fault (lent c_lent c_left) (lent r_lent r_left) (lent p_lent p_left) writer → StopsJudging told c r p
-check_stopped fault told c r p c_lent r_lent p_lent c_left r_left p_left writer is_c is_r is_p is stopped = (
+pub check_stopped : (fault call_result : RunFault) (c r p c_lent r_lent p_lent : List ℕ) (c_left r_left p_left : Option (List ℕ)) (writer : Device) → c_lent ≡ c → r_lent ≡ r → p_lent ≡ p → call_result ≡ growing fault
+    → StopsCheck fault (lent c_lent c_left) (lent r_lent r_left) (lent p_lent p_left) writer → StopsJudging call_result c r p
+check_stopped fault call_result c r p c_lent r_lent p_lent c_left r_left p_left writer is_c is_r is_p is stopped = (
   c_left,
   r_left,
   p_left,
@@ -99,30 +99,30 @@ no_failure h = ⊎_elim (λ (more : 0 < 0). absurd (omega (arith, more))) (λ re
 
 never_unread : (c r : List ℕ) (c_left r_left : Option (List ℕ)) → StopsReading read.Reader (lent c c_left) (lent r r_left) → ⊥
 never_unread c r c_left r_left (in_catalogue h unread) = no_failure h.0
-never_unread c r c_left r_left (in_request lines says h) = no_failure h.0
+never_unread c r c_left r_left (in_request lines parses h) = no_failure h.0
 
 never_unjudged : (c r p : List ℕ) (c_left r_left p_left : Option (List ℕ)) → StopsTexts read.Reader judging.Reader (lent c c_left) (lent r r_left) (lent p p_left) → ⊥
 never_unjudged c r p c_left r_left p_left h = ⊎_elim (λ texts. never_unread c r c_left r_left texts.0) (λ report. no_failure report.stops.0) h
 
-pub unanswered : (fault : RunFault) (c r before after : List ℕ) (told : Told) → StopsSolving fault c r → Leaves (fault_ending_of fault) [] before after told → Solves c r before after told
-unanswered Reader c r before after told (c_left, r_left, h) leaves = absurd (never_unread c r c_left r_left h)
-unanswered TooLong c r before after told h leaves = how.too_long h leaves
-unanswered Memory c r before after told h leaves = how.no_memory leaves
-unanswered Ids c r before after told h leaves = how.no_ids h leaves
-unanswered Writer c r before after told (c_left, r_left, h) leaves = absurd h
+pub unanswered : (fault : RunFault) (c r before after : List ℕ) (call_result : CallResult) → StopsSolving fault c r → Leaves (fault_ending_of fault) [] before after call_result → Solves c r before after call_result
+unanswered Reader c r before after call_result (c_left, r_left, h) leaves = absurd (never_unread c r c_left r_left h)
+unanswered TooLong c r before after call_result h leaves = how.too_long h leaves
+unanswered Memory c r before after call_result h leaves = how.no_memory leaves
+unanswered Ids c r before after call_result h leaves = how.no_ids h leaves
+unanswered Writer c r before after call_result (c_left, r_left, h) leaves = absurd h
 
 -- without a budget no call gives up
-pub unanswered_without : (stop : RunStop) (c r before after : List ℕ) (told : Told) → StopsSolvingWithin None stop c r → Leaves (stop_ending_of stop) [] before after told → Solves c r before after told
-unanswered_without (Fault e) c r before after told h leaves = unanswered e c r before after told h leaves
-unanswered_without GivenUp c r before after told (none, texts) leaves = absurd (false≢true none)
+pub unanswered_without : (stop : RunStop) (c r before after : List ℕ) (call_result : CallResult) → StopsSolvingWithin None stop c r → Leaves (stop_ending_of stop) [] before after call_result → Solves c r before after call_result
+unanswered_without (Fault e) c r before after call_result h leaves = unanswered e c r before after call_result h leaves
+unanswered_without GivenUp c r before after call_result (none, texts) leaves = absurd (false≢true none)
 
-pub unanswered_within : (budget : Option ℕ) (stop : RunStop) (c r before after : List ℕ) (told : Told) → StopsSolvingWithin budget stop c r → Leaves (stop_ending_of stop) [] before after told → SolvesWithin c r before after told
-unanswered_within budget (Fault e) c r before after told h leaves = how.solved (unanswered e c r before after told h leaves)
-unanswered_within budget GivenUp c r before after told (some, texts) leaves = how.given_up texts leaves
+pub unanswered_within : (budget : Option ℕ) (stop : RunStop) (c r before after : List ℕ) (call_result : CallResult) → StopsSolvingWithin budget stop c r → Leaves (stop_ending_of stop) [] before after call_result → SolvesWithin c r before after call_result
+unanswered_within budget (Fault e) c r before after call_result h leaves = how.solved (unanswered e c r before after call_result h leaves)
+unanswered_within budget GivenUp c r before after call_result (some, texts) leaves = how.given_up texts leaves
 
-pub unchecked : (fault : RunFault) (c r p before after : List ℕ) (told : Told) → StopsJudging fault c r p → Leaves (fault_ending_of fault) [] before after told → Judges c r p before after told
-unchecked Reader c r p before after told (c_left, r_left, p_left, h) leaves = absurd (never_unjudged c r p c_left r_left p_left h)
-unchecked TooLong c r p before after told h leaves = how.too_long h leaves
-unchecked Memory c r p before after told h leaves = how.no_memory leaves
-unchecked Ids c r p before after told (c_left, r_left, p_left, h) leaves = absurd h
-unchecked Writer c r p before after told (c_left, r_left, p_left, h) leaves = absurd h
+pub unchecked : (fault : RunFault) (c r p before after : List ℕ) (call_result : CallResult) → StopsJudging fault c r p → Leaves (fault_ending_of fault) [] before after call_result → Judges c r p before after call_result
+unchecked Reader c r p before after call_result (c_left, r_left, p_left, h) leaves = absurd (never_unjudged c r p c_left r_left p_left h)
+unchecked TooLong c r p before after call_result h leaves = how.too_long h leaves
+unchecked Memory c r p before after call_result h leaves = how.no_memory leaves
+unchecked Ids c r p before after call_result (c_left, r_left, p_left, h) leaves = absurd h
+unchecked Writer c r p before after call_result (c_left, r_left, p_left, h) leaves = absurd h

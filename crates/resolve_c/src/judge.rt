@@ -2,11 +2,11 @@
 
 ghost use Rattle.std.specs.Prelude.{IfOk, IfErr};
 ghost use Rattle.resolve_check.specs.Check.{IsCheck};
-ghost use Rattle.resolve_c.specs.Told.{Judges, StopsJudging};
+ghost use Rattle.resolve_c.specs.CallResult.{Judges, StopsJudging};
 
 use crate::endings::{check_ending_of, fault_ending_of, growing};
 use crate::lent::Lent;
-use crate::told::{Told, tell};
+use crate::call_result::{CallResult, write_text};
 use resolve_check::check::check;
 use resolve_check::outcome::{Checked, RunFault};
 use resolvo_text::GrowingSink;
@@ -54,11 +54,11 @@ pub extern "C" fn resolve_judge(
     request: &[u8],
     report: &[u8],
     room: &mut [u8],
-) -> Told
+) -> CallResult
     ensures { Judges catalogue.now request.now report.now room.old room.new result }
 {
     match verdict_of(alloc, catalogue, request, report) {
-        Ok(answer) => tell(check_ending_of(answer.checked), &answer.text, room),
-        Err(fault) => tell(fault_ending_of(fault), b"", room),
+        Ok(answer) => write_text(check_ending_of(answer.checked), &answer.text, room),
+        Err(fault) => write_text(fault_ending_of(fault), b"", room),
     }
 }

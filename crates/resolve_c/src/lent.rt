@@ -5,9 +5,9 @@ ghost use Rattle.std.specs.Prelude.{◌≡◌, ◌≤◌, ◌<◌, ◌++◌, [],
 use resolvo_text::{IoFault, Source};
 
 /// Copies as much as fits, and returns how many bytes.
-fn copy_front(buf: &mut [u8], bytes: &[u8]) -> usize
+fn copy_prefix(buf: &mut [u8], bytes: &[u8]) -> usize
     ensures within { result ≤ length buf.new }
-    ensures front { bytes.now ≡ take result buf.new ++ drop result bytes.now }
+    ensures prefix { bytes.now ≡ take result buf.new ++ drop result bytes.now }
     ensures short { result ≤ length bytes.now }
     ensures none { result ≡ 0 → 0 < length buf.new → bytes.now ≡ [] }
 {
@@ -40,7 +40,7 @@ impl Source for Lent<'_> {
     ghost interruptions = { λ _. 0 };
 
     fn read(&mut self, buf: &mut [u8]) -> Result<usize, IoFault> {
-        let count = copy_front(buf, self.left);
+        let count = copy_prefix(buf, self.left);
         self.left = &self.left[count..];
         Ok(count)
     }

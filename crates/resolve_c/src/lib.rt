@@ -9,4 +9,4 @@ mod endings;
 mod judge;
 mod lent;
 mod solve;
-mod told;
+mod call_result;

@@ -2,11 +2,11 @@
 
 ghost use Rattle.std.specs.Prelude.{None, Some, IfOk, IfErr};
 ghost use Rattle.resolve_run.specs.Answer.{IsAnswer};
-ghost use Rattle.resolve_c.specs.Told.{Solves, SolvesWithin, StopsSolvingWithin};
+ghost use Rattle.resolve_c.specs.CallResult.{Solves, SolvesWithin, StopsSolvingWithin};
 
 use crate::endings::{ending_of, growing_within, stop_ending_of};
 use crate::lent::Lent;
-use crate::told::{Told, tell};
+use crate::call_result::{CallResult, write_text};
 use resolve_check::written::Written;
 use resolve_run::{RunStop, run_within};
 use resolvo_text::GrowingSink;
@@ -45,12 +45,12 @@ pub extern "C" fn resolve_solve(
     catalogue: &[u8],
     request: &[u8],
     room: &mut [u8],
-) -> Told
+) -> CallResult
     ensures { Solves catalogue.now request.now room.old room.new result }
 {
     match answer_of(alloc, catalogue, request, None) {
-        Ok(answer) => tell(ending_of(answer.outcome), &answer.text, room),
-        Err(stop) => tell(stop_ending_of(stop), b"", room),
+        Ok(answer) => write_text(ending_of(answer.outcome), &answer.text, room),
+        Err(stop) => write_text(stop_ending_of(stop), b"", room),
     }
 }
 
@@ -62,11 +62,11 @@ pub extern "C" fn resolve_solve_within(
     request: &[u8],
     budget: u64,
     room: &mut [u8],
-) -> Told
+) -> CallResult
     ensures { SolvesWithin catalogue.now request.now room.old room.new result }
 {
     match answer_of(alloc, catalogue, request, Some(budget)) {
-        Ok(written) => tell(ending_of(written.outcome), &written.text, room),
-        Err(stop) => tell(stop_ending_of(stop), b"", room),
+        Ok(written) => write_text(ending_of(written.outcome), &written.text, room),
+        Err(stop) => write_text(stop_ending_of(stop), b"", room),
     }
 }

@@ -13,4 +13,4 @@ if_err (Err e) f h = f e h
 
 pub never_ids : (catalogue request : Device) → StopsReading read.Ids catalogue request → ⊥
 never_ids catalogue request (in_catalogue h unread) = h
-never_ids catalogue request (in_request lines says h) = h
+never_ids catalogue request (in_request lines parses h) = h

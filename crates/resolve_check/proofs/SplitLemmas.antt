@@ -13,7 +13,7 @@ use Rattle.std.proofs.lemmas.Bool.{eqb-true, ltb-false}
 use Rattle.resolve_check.proofs.Elements.{only_one}
 use Rattle.resolvo_text.specs.Lines.{lines_of, newlines, is_newline}
 use Rattle.resolvo_text.proofs.LineLemmas.{lines_of-line, lines_of-whole}
-use Rattle.resolve_check.specs.Input.{parting, StandsAbove, IsSplit, parted, parted_at_end, undivided, IsFirstLine}
+use Rattle.resolve_check.specs.Input.{parting, IsAbove, IsSplit, parted, parted_at_end, undivided, IsFirstLine}
 
 -- a text that ends in a newline has a first line
 has_line : (a : List ℕ) → (l : List ℕ) × (ls : List (List ℕ)) × (lines_of (a ++ 10 ∷ []) ≡ l ∷ ls)
@@ -23,18 +23,18 @@ has_line (b ∷ a) = elim (eqb b 10) as (λ t. (l : List ℕ) × (ls : List (Lis
   | false ↦ let h = has_line a in (b ∷ h.0, h.1, ap (λ (ls : List (List ℕ)). onto_first b ls) h.2)
 ]
 
-onto_front : (b : ℕ) (ls more : List (List ℕ)) (l : List ℕ) (rest : List (List ℕ)) → ls ≡ l ∷ rest → onto_first b (ls ++ more) ≡ onto_first b ls ++ more
-onto_front b ls more l rest is = rw is refl
+onto_prefix : (b : ℕ) (ls more : List (List ℕ)) (l : List ℕ) (rest : List (List ℕ)) → ls ≡ l ∷ rest → onto_first b (ls ++ more) ≡ onto_first b ls ++ more
+onto_prefix b ls more l rest is = rw is refl
 
 -- the lines of whole lines and then more
 ended_lines : (a more : List ℕ) → lines_of ((a ++ 10 ∷ []) ++ more) ≡ lines_of (a ++ 10 ∷ []) ++ lines_of more
 ended_lines [] more = refl
 ended_lines (b ∷ a) more = elim (eqb b 10) as (λ t. cond t ([] ∷ lines_of ((a ++ 10 ∷ []) ++ more)) (onto_first b (lines_of ((a ++ 10 ∷ []) ++ more))) ≡ cond t ([] ∷ lines_of (a ++ 10 ∷ [])) (onto_first b (lines_of (a ++ 10 ∷ []))) ++ lines_of more) [
   | true ↦ ap (λ (ls : List (List ℕ)). [] ∷ ls) (ended_lines a more)
-  | false ↦ let h = has_line a in ap (λ (ls : List (List ℕ)). onto_first b ls) (ended_lines a more) ∙ onto_front b (lines_of (a ++ 10 ∷ [])) (lines_of more) h.0 h.1 h.2
+  | false ↦ let h = has_line a in ap (λ (ls : List (List ℕ)). onto_first b ls) (ended_lines a more) ∙ onto_prefix b (lines_of (a ++ 10 ∷ [])) (lines_of more) h.0 h.1 h.2
 ]
 
-lines_above : (text more : List ℕ) → StandsAbove text → lines_of (text ++ more) ≡ lines_of text ++ lines_of more
+lines_above : (text more : List ℕ) → IsAbove text → lines_of (text ++ more) ≡ lines_of text ++ lines_of more
 lines_above text more above = ⊎_elim
     (λ none. rw none refl)
     (λ some. subst (λ (t : List ℕ). lines_of (t ++ more) ≡ lines_of t ++ lines_of more) (sym some.1) (ended_lines some.0 more))
@@ -46,13 +46,13 @@ one_line line each other among = no_more line other (subst (λ (ls : List (List 
     no_more : (line : List ℕ) → (line ≡ parting → ⊥) → Contains (line ∷ []) parting → ⊥
     no_more line other h = other (only_one line parting h)
 
-pub none_above : (text : List ℕ) → text ≡ [] → StandsAbove text
+pub none_above : (text : List ℕ) → text ≡ [] → IsAbove text
 none_above text is = record { whole_lines = inl is; not_parted = λ h. nothing (subst (λ (t : List ℕ). Contains (lines_of t) parting) is h) }
   where
     nothing : Contains {X = List ℕ} [] parting → ⊥
     nothing h = absurd (omega (arith, h.1))
 
-pub one_more_above : (text line : List ℕ) → StandsAbove text → newlines line ≡ 0 → (line ≡ parting → ⊥) → StandsAbove (text ++ (line ++ 10 ∷ []))
+pub one_more_above : (text line : List ℕ) → IsAbove text → newlines line ≡ 0 → (line ≡ parting → ⊥) → IsAbove (text ++ (line ++ 10 ∷ []))
 one_more_above text line above each other = record {
   whole_lines = inr (text ++ line, sym (append_assoc text line (10 ∷ [])));
   not_parted = λ h. ⊎_elim above.not_parted (one_line line each other)
@@ -92,24 +92,24 @@ never_ends text e =
 
 -- ---- parting the input
 
-front_of : (input above rest : List ℕ) (start : ℕ) → input ≡ above ++ rest → length above ≡ start → take start input ≡ above
-front_of input above rest start whole long = ap (λ (n : ℕ). take n input) (sym long) ∙ ap (take (length above)) whole ∙ take-append_seam above rest
+prefix_of : (input above rest : List ℕ) (start : ℕ) → input ≡ above ++ rest → length above ≡ start → take start input ≡ above
+prefix_of input above rest start whole long = ap (λ (n : ℕ). take n input) (sym long) ∙ ap (take (length above)) whole ∙ take-append_seam above rest
 
-pub parted_below : (input above rest line below : List ℕ) (start : ℕ) → StandsAbove above → input ≡ above ++ rest → rest ≡ line ++ 10 ∷ below → line ≡ parting → length above ≡ start
+pub parted_below : (input above rest line below : List ℕ) (start : ℕ) → IsAbove above → input ≡ above ++ rest → rest ≡ line ++ 10 ∷ below → line ≡ parting → length above ≡ start
     → IsSplit input (take start input) below
-parted_below input above rest line below start stands whole first is long =
-    let front : take start input ≡ above = front_of input above rest start whole long in
-    subst (λ (c : List ℕ). IsSplit input c below) (sym front) (parted stands (whole ∙ ap (λ (r : List ℕ). above ++ r) (first ∙ ap (λ (l : List ℕ). l ++ 10 ∷ below) is)))
+parted_below input above rest line below start is_above whole first is long =
+    let prefix : take start input ≡ above = prefix_of input above rest start whole long in
+    subst (λ (c : List ℕ). IsSplit input c below) (sym prefix) (parted is_above (whole ∙ ap (λ (r : List ℕ). above ++ r) (first ∙ ap (λ (l : List ℕ). l ++ 10 ∷ below) is)))
 
-pub parted_nothing_below : (input above rest line none : List ℕ) (start : ℕ) → StandsAbove above → input ≡ above ++ rest → rest ≡ line → line ≡ parting → length above ≡ start → none ≡ []
+pub parted_nothing_below : (input above rest line none : List ℕ) (start : ℕ) → IsAbove above → input ≡ above ++ rest → rest ≡ line → line ≡ parting → length above ≡ start → none ≡ []
     → IsSplit input (take start input) none
-parted_nothing_below input above rest line none start stands whole first is long nothing =
-    let front : take start input ≡ above = front_of input above rest start whole long in
-    subst (λ (c : List ℕ). IsSplit input c none) (sym front) (parted_at_end stands (whole ∙ ap (λ (r : List ℕ). above ++ r) (first ∙ is)) nothing)
+parted_nothing_below input above rest line none start is_above whole first is long nothing =
+    let prefix : take start input ≡ above = prefix_of input above rest start whole long in
+    subst (λ (c : List ℕ). IsSplit input c none) (sym prefix) (parted_at_end is_above (whole ∙ ap (λ (r : List ℕ). above ++ r) (first ∙ is)) nothing)
 
-pub not_parted : (input above line none : List ℕ) → StandsAbove above → input ≡ above ++ line → newlines line ≡ 0 → (line ≡ parting → ⊥) → none ≡ [] → IsSplit input input none
-not_parted input above line none stands whole each other nothing =
-    undivided (λ h. ⊎_elim stands.not_parted (last line each other) (Contains-append_cases (lines_of above) (lines_of line) parting (subst (λ (ls : List (List ℕ)). Contains ls parting) (ap lines_of whole ∙ lines_above above line stands) h))) refl nothing
+pub not_parted : (input above line none : List ℕ) → IsAbove above → input ≡ above ++ line → newlines line ≡ 0 → (line ≡ parting → ⊥) → none ≡ [] → IsSplit input input none
+not_parted input above line none is_above whole each other nothing =
+    undivided (λ h. ⊎_elim is_above.not_parted (last line each other) (Contains-append_cases (lines_of above) (lines_of line) parting (subst (λ (ls : List (List ℕ)). Contains ls parting) (ap lines_of whole ∙ lines_above above line is_above) h))) refl nothing
   where
     last : (line : List ℕ) → newlines line ≡ 0 → (line ≡ parting → ⊥) → Contains (lines_of line) parting → ⊥
     last [] each other h = absurd (omega (arith, h.1))

@@ -2,7 +2,7 @@
 use Rattle.std.specs.Prelude.{◌≡◌, ℕ, ◌⊎◌, List, ◌++◌, Option, Result, Err, IfOk, IfErr, codes}
 use Rattle.std.specs.Fmt.{decimal}
 use Rattle.std.specs.Io.KnownBytes.{Appends}
-use Rattle.resolvo_text.specs.Device.{IfKnown, TakesFront}
+use Rattle.resolvo_text.specs.Device.{IfKnown, TakesPrefix}
 use Rattle.resolvo_text.specs.Line.{Line}
 use Rattle.resolvo_text.specs.Texts.{IsGrammatical, IsFaultyAt}
 use Rattle.resolvo_text.specs.declared.lines.ReadFault.{ReadFault}
@@ -17,7 +17,7 @@ use Rattle.resolve_check.specs.declared.outcome.Checked.{Checked}
 use Rattle.resolve_check.specs.declared.outcome.Checked.TheVariants.{Yes, No, Faulty}
 use Rattle.resolve_check.specs.declared.outcome.RunFault.{RunFault}
 use Rattle.resolve_check.specs.declared.outcome.RunFault.TheVariants.{Reader, TooLong, Memory, Ids, Writer}
-use Rattle.resolve_check.specs.declared.check.Told.{Told}
+use Rattle.resolve_check.specs.declared.check.Answer.{Answer}
 use Rattle.resolve_check.specs.Devices.{Device, StopsReading}
 use Rattle.resolve_check.specs.Texts.{newline, fault_text}
 
@@ -28,9 +28,9 @@ abbrev pub no_text : ℕ → List ℕ
 no_text n = codes "no line " ++ (decimal n ++ newline)
 
 -- how a verdict is reported
-abbrev pub TellsVerdict : Verdict → Checked → List ℕ → Type 0
-TellsVerdict verdict.Yes checked output = (checked ≡ Yes) × (output ≡ yes_text)
-TellsVerdict (verdict.No n) checked output = (checked ≡ No) × (output ≡ no_text n)
+abbrev pub IsVerdictText : Verdict → Checked → List ℕ → Type 0
+IsVerdictText verdict.Yes checked output = (checked ≡ Yes) × (output ≡ yes_text)
+IsVerdictText (verdict.No n) checked output = (checked ≡ No) × (output ≡ no_text n)
 
 -- The text for three texts: the catalogue's first faulty line, else that of the request. Where
 -- there is none, it is the judge's verdict on the report, whose claim is true after a yes.
@@ -39,7 +39,7 @@ pub data IsCheck (c r p : List ℕ) (checked : Checked) (output : List ℕ) : Ty
   request_fault : (catalogue : List Line) (n : ℕ) → IsGrammatical IsCatalogueLine c catalogue → IsFaultyAt (IsRequestLine catalogue) r n
       → checked ≡ Faulty → output ≡ fault_text (codes "request") n → IsCheck c r p checked output
   judged : (catalogue request : List Line) (v : Verdict) → IsGrammatical IsCatalogueLine c catalogue → IsGrammatical (IsRequestLine catalogue) r request
-      → IsVerdict catalogue request p v → ClaimsTruth catalogue request p v → TellsVerdict v checked output → IsCheck c r p checked output
+      → IsVerdict catalogue request p v → ClaimsTruth catalogue request p v → IsVerdictText v checked output → IsCheck c r p checked output
 
 -- A check of the three texts, where all are known.
 abbrev pub ChecksTexts : Option (List ℕ) → Option (List ℕ) → Option (List ℕ) → Checked → List ℕ → Type 0
@@ -72,13 +72,13 @@ StopsBeforeCheck Writer catalogue request report = ⊥
 -- Why a check ends without its whole text, and the bytes that were written: none, or after a failed
 -- write a prefix of it.
 abbrev pub StopsCheck : RunFault → Device → Device → Device → Device → Type 0
-StopsCheck Writer catalogue request report writer = writer.Failed × ((checked : Checked) × (output : List ℕ) × ChecksTexts catalogue.before request.before report.before checked output × TakesFront writer.before writer.after output)
+StopsCheck Writer catalogue request report writer = writer.Failed × ((checked : Checked) × (output : List ℕ) × ChecksTexts catalogue.before request.before report.before checked output × TakesPrefix writer.before writer.after output)
 StopsCheck e catalogue request report writer = StopsBeforeCheck e catalogue request report × (writer.after ≡ writer.before)
 
 -- A faulty line is reported as such; every other fault is the check's, by its own name.
-abbrev pub TellsFaulty : ReadFault → List ℕ → Result Told RunFault → Type 0
-TellsFaulty (read.Fault n) which told = IfOk told (λ answer. (answer.checked ≡ Faulty) × (answer.text.items ≡ fault_text which n)) × IfErr told (λ e. e ≡ Memory)
-TellsFaulty read.Reader which told = told ≡ Err Reader
-TellsFaulty read.TooLong which told = told ≡ Err TooLong
-TellsFaulty read.Memory which told = told ≡ Err Memory
-TellsFaulty read.Ids which told = told ≡ Err Ids
+abbrev pub AnswersFault : ReadFault → List ℕ → Result Answer RunFault → Type 0
+AnswersFault (read.Fault n) which answered = IfOk answered (λ answer. (answer.checked ≡ Faulty) × (answer.text.items ≡ fault_text which n)) × IfErr answered (λ e. e ≡ Memory)
+AnswersFault read.Reader which answered = answered ≡ Err Reader
+AnswersFault read.TooLong which answered = answered ≡ Err TooLong
+AnswersFault read.Memory which answered = answered ≡ Err Memory
+AnswersFault read.Ids which answered = answered ≡ Err Ids

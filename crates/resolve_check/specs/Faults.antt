@@ -16,9 +16,9 @@ fault_of want.Memory = Memory
 fault_of want.Ids = Ids
 
 -- A faulty line is reported as such; every other fault is the run's, by its own name.
-abbrev pub TellsFault : ReadFault → List ℕ → Result Written RunFault → Type 0
-TellsFault (read.Fault n) which told = IfOk told (λ answer. (answer.outcome ≡ outcome.Faulty) × (answer.text.items ≡ fault_text which n)) × IfErr told (λ e. e ≡ Memory)
-TellsFault read.Reader which told = told ≡ Err Reader
-TellsFault read.TooLong which told = told ≡ Err TooLong
-TellsFault read.Memory which told = told ≡ Err Memory
-TellsFault read.Ids which told = told ≡ Err Ids
+abbrev pub WritesFault : ReadFault → List ℕ → Result Written RunFault → Type 0
+WritesFault (read.Fault n) which answered = IfOk answered (λ answer. (answer.outcome ≡ outcome.Faulty) × (answer.text.items ≡ fault_text which n)) × IfErr answered (λ e. e ≡ Memory)
+WritesFault read.Reader which answered = answered ≡ Err Reader
+WritesFault read.TooLong which answered = answered ≡ Err TooLong
+WritesFault read.Memory which answered = answered ≡ Err Memory
+WritesFault read.Ids which answered = answered ≡ Err Ids

@@ -10,15 +10,15 @@ abbrev pub parting : List ℕ
 parting = codes "---"
 
 -- Whole lines, none of which is the parting line.
-pub record StandsAbove (text : List ℕ) : Type 0 where
+pub record IsAbove (text : List ℕ) : Type 0 where
   pub whole_lines : (text ≡ []) ⊎ ((above : List ℕ) × (text ≡ above ++ 10 ∷ []))
   pub not_parted : Contains (lines_of text) parting → ⊥
 
 -- The catalogue is the part above the first parting line, the request the part below it. Where
 -- there is no such line, all is the catalogue, and the request is empty.
 pub data IsSplit (input catalogue request : List ℕ) : Type 0 where
-  parted : StandsAbove catalogue → input ≡ catalogue ++ (parting ++ 10 ∷ request) → IsSplit input catalogue request
-  parted_at_end : StandsAbove catalogue → input ≡ catalogue ++ parting → request ≡ [] → IsSplit input catalogue request
+  parted : IsAbove catalogue → input ≡ catalogue ++ (parting ++ 10 ∷ request) → IsSplit input catalogue request
+  parted_at_end : IsAbove catalogue → input ≡ catalogue ++ parting → request ≡ [] → IsSplit input catalogue request
   undivided : (Contains (lines_of input) parting → ⊥) → catalogue ≡ input → request ≡ [] → IsSplit input catalogue request
 
 -- ---- one line of it

@@ -4,7 +4,7 @@
 ghost use Rattle.std.specs.Prelude.{◌≡◌, IfOk, IfErr};
 ghost use Rattle.resolvo_text.specs.Device.{DeviceFailed, WriterFailed};
 ghost use Rattle.resolve_check.specs.Devices.{IfCatalogueFaulty, IfRequestFaulty, reader_of, writer_of};
-ghost use Rattle.resolve_check.specs.Check.{TellsVerdict, TellsFaulty, ChecksTexts, StopsBeforeCheck, StopsCheck, WritesCheck};
+ghost use Rattle.resolve_check.specs.Check.{IsVerdictText, AnswersFault, ChecksTexts, StopsBeforeCheck, StopsCheck, WritesCheck};
 
 use crate::outcome::{Checked, RunFault};
 use crate::written::not_read;
@@ -14,24 +14,24 @@ use std::alloc::Global;
 
 /// The outcome of the check, and the text to write.
 #[derive(Drop)]
-struct Told {
+struct Answer {
     checked: Checked,
     text: Vec<u8>,
 }
 
 /// The line of a verdict.
-fn verdict_told(alloc: Global, verdict: Verdict) -> Result<Told, RunFault>
-    ensures ok { IfOk result (λ told. TellsVerdict verdict told.checked told.text.items) }
+fn verdict_answer(alloc: Global, verdict: Verdict) -> Result<Answer, RunFault>
+    ensures ok { IfOk result (λ answered. IsVerdictText verdict answered.checked answered.text.items) }
     ensures err { IfErr result (λ e. e ≡ RunFault.Memory) }
 {
     match verdict {
-        Verdict::Yes => Ok(Told {
+        Verdict::Yes => Ok(Answer {
             checked: Checked::Yes,
             text: Vec::from_slice(alloc, b"yes\n")?,
         }),
         Verdict::No(line) => {
             let text = format!(in alloc; "no line {line}\n")?;
-            Ok(Told {
+            Ok(Answer {
                 checked: Checked::No,
                 text: Vec::from_slice(alloc, text.as_bytes())?,
             })
@@ -40,11 +40,11 @@ fn verdict_told(alloc: Global, verdict: Verdict) -> Result<Told, RunFault>
 }
 
 /// The outcome and the text where a text was not read: its faulty line, or nothing.
-fn fault_told(alloc: Global, which: &str, fault: ReadFault) -> Result<Told, RunFault>
-    ensures { TellsFaulty fault which.now result }
+fn fault_answer(alloc: Global, which: &str, fault: ReadFault) -> Result<Answer, RunFault>
+    ensures { AnswersFault fault which.now result }
 {
     match not_read(alloc, which, fault) {
-        Ok(written) => Ok(Told {
+        Ok(written) => Ok(Answer {
             checked: Checked::Faulty,
             text: written.text,
         }),
@@ -58,11 +58,11 @@ fn answer<C: Source, R: Source, P: Source>(
     catalogue: &mut C,
     request: &mut R,
     report: &mut P,
-) -> Result<Told, RunFault>
+) -> Result<Answer, RunFault>
     ensures ok { IfOk result
-        (λ told.
+        (λ answered.
         ChecksTexts (C.left catalogue.old) (R.left request.old) (P.left report.old)
-        told.checked told.text.items) }
+        answered.checked answered.text.items) }
     ensures err { IfErr result
         (λ e.
         StopsBeforeCheck e
@@ -82,14 +82,14 @@ fn answer<C: Source, R: Source, P: Source>(
 {
     let catalogue = match Catalogue::read(alloc, catalogue) {
         Ok(catalogue) => catalogue,
-        Err(fault) => return fault_told(alloc, "catalogue", fault),
+        Err(fault) => return fault_answer(alloc, "catalogue", fault),
     };
     let request = match Request::read(alloc, request, &catalogue) {
         Ok(request) => request,
-        Err(fault) => return fault_told(alloc, "request", fault),
+        Err(fault) => return fault_answer(alloc, "request", fault),
     };
     match judge(alloc, &catalogue, &request, report) {
-        Ok(verdict) => verdict_told(alloc, verdict),
+        Ok(verdict) => verdict_answer(alloc, verdict),
         Err(JudgeFault::Reader) => Err(RunFault::Reader),
         Err(JudgeFault::TooLong) => Err(RunFault::TooLong),
         Err(JudgeFault::Memory) => Err(RunFault::Memory),
@@ -145,8 +145,8 @@ pub fn check<C: Source, R: Source, P: Source, W: Sink>(
         (report.new ≡ report.old) }
 {
     match answer(alloc, catalogue, request, report) {
-        Ok(told) => match write_all(writer, told.text.as_slice()) {
-            Ok(()) => Ok(told.checked),
+        Ok(answered) => match write_all(writer, answered.text.as_slice()) {
+            Ok(()) => Ok(answered.checked),
             Err(_) => Err(RunFault::Writer),
         },
         Err(fault) => Err(fault),

@@ -25,7 +25,7 @@ const PIECE: usize = 4_096;
 fn read_some<S: Source>(source: &mut S, buffer: &mut [u8]) -> Result<usize, RunFault>
     requires { 0 < length buffer.old }
     ensures within { IfOk result (λ n. n ≤ length buffer.new) }
-    ensures came { IfOk result (λ n. Consumes (S.left source.old) (S.left source.new)
+    ensures consumed { IfOk result (λ n. Consumes (S.left source.old) (S.left source.new)
         (take n buffer.new)) }
     ensures end { IfOk result (λ n. n ≡ 0 → IsAtEnd (S.left source.new)) }
     ensures counted { OnOk result (S.failures source.new ≡ S.failures source.old) }

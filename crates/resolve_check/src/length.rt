@@ -4,7 +4,7 @@
 //! bits.
 
 ghost use Rattle.std.specs.Prelude.{◌≡◌, map, IfOk, codes};
-ghost use Rattle.resolvo_report.specs.Value as says;
+ghost use Rattle.resolvo_report.specs.Value as values;
 ghost use Rattle.resolvo_report.specs.View.{report_of, answer_lines_of, steps_of, messages_of};
 ghost use Rattle.resolvo_report.specs.Text.{lines_text, numbered, report_text};
 ghost use Rattle.resolve_check.specs.Length.{bytes_in, CountsOn};
@@ -36,7 +36,7 @@ pub fn report_length(alloc: Global, report: &Report) -> Result<u64, AllocError>
 }
 
 fn count_answers(alloc: Global, above: u64, lines: &[AnswerLine]) -> Result<u64, AllocError>
-    ensures { IfOk result (CountsOn above (lines_text (map says.Answer
+    ensures { IfOk result (CountsOn above (lines_text (map values.Answer
         (answer_lines_of lines.now)))) }
 {
     let mut count = above;
@@ -49,7 +49,7 @@ fn count_answers(alloc: Global, above: u64, lines: &[AnswerLine]) -> Result<u64,
 
 /// The lines that name lines of the catalogue.
 fn count_named(alloc: Global, above: u64, lines: &[u32]) -> Result<u64, AllocError>
-    ensures { IfOk result (CountsOn above (lines_text (map says.CatalogueLine lines.now))) }
+    ensures { IfOk result (CountsOn above (lines_text (map values.CatalogueLine lines.now))) }
 {
     let mut count = above;
     for number in lines {
@@ -61,7 +61,7 @@ fn count_named(alloc: Global, above: u64, lines: &[u32]) -> Result<u64, AllocErr
 
 /// The lines that name lines of the request.
 fn count_asked(alloc: Global, above: u64, lines: &[u32]) -> Result<u64, AllocError>
-    ensures { IfOk result (CountsOn above (lines_text (map says.RequestLine lines.now))) }
+    ensures { IfOk result (CountsOn above (lines_text (map values.RequestLine lines.now))) }
 {
     let mut count = above;
     for number in lines {
@@ -86,7 +86,7 @@ fn count_steps(alloc: Global, above: u64, steps: &[Step]) -> Result<u64, AllocEr
 
 /// The lines of a message, each with the sign before it and its newline.
 fn count_message(above: u64, message: &[Vec<u8>]) -> u64
-    ensures { CountsOn above (lines_text (map says.Message (messages_of message.now))) result }
+    ensures { CountsOn above (lines_text (map values.Message (messages_of message.now))) result }
 {
     let mut count = above;
     for bytes in message {

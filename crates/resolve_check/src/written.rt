@@ -2,7 +2,7 @@
 
 ghost use Rattle.std.specs.Prelude.{◌≡◌, IfOk, IfErr};
 ghost use Rattle.resolve_check.specs.Texts.{fault_text};
-ghost use Rattle.resolve_check.specs.Faults.{TellsFault};
+ghost use Rattle.resolve_check.specs.Faults.{WritesFault};
 
 use crate::outcome::{Outcome, RunFault};
 use resolvo_catalogue_core::ReadFault;
@@ -38,7 +38,7 @@ pub fn faulty(alloc: Global, which: &str, line: u32) -> Result<Written, RunFault
 
 /// The outcome and the text where a text was not read: its faulty line, or nothing.
 pub fn not_read(alloc: Global, which: &str, fault: ReadFault) -> Result<Written, RunFault>
-    ensures { TellsFault fault which.now result }
+    ensures { WritesFault fault which.now result }
 {
     match fault {
         ReadFault::Fault(line) => faulty(alloc, which, line),

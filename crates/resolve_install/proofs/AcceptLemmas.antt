@@ -19,11 +19,11 @@ use Rattle.resolvo_report.specs.Text.{numbered, report_lines, HasText, IsAnswer,
 use Rattle.resolvo_report.specs.Grammar.{part_after, may_end, IsReport}
 use Rattle.resolvo_report.specs.declared.place.Part.{Part}
 use Rattle.resolvo_report.specs.declared.place.Part.TheVariants as part
-use Rattle.resolvo_checker.specs.Proof.{every_line, may_stand, IsProof}
+use Rattle.resolvo_checker.specs.Proof.{every_line, is_valid_step, IsProof}
 use Rattle.resolvo_judge.specs.Entries.{entries_of, answer_fits}
 use Rattle.resolvo_judge.specs.Refusal.{answer_in, step_in, answers_in, steps_in, passes, ArePassed, InstallEnds, IsAccepted}
 use Rattle.resolve_install.specs.Install.{line_of}
-use Rattle.resolve_install.proofs.FitLemmas.{AreRight, told_of, from_one, inside_before, inside_after, reasoned_here}
+use Rattle.resolve_install.proofs.FitLemmas.{AreRight, reasoned_by, from_one, inside_before, inside_after, reasoned_here}
 
 -- ---- places in two lists
 
@@ -46,9 +46,9 @@ numbered_at first (s ∷ steps) (suc m) l e =
 
 -- ---- the lines of the report
 
-answers_told : (lines : List AnswerLine) → answers_in (map Answer lines) ≡ lines
-answers_told [] = refl
-answers_told (l ∷ lines) = ap (λ (xs : List AnswerLine). l ∷ xs) (answers_told lines)
+answers_written : (lines : List AnswerLine) → answers_in (map Answer lines) ≡ lines
+answers_written [] = refl
+answers_written (l ∷ lines) = ap (λ (xs : List AnswerLine). l ∷ xs) (answers_written lines)
 
 answers_above : (lines : List AnswerLine) (k : ℕ) → answers_in (take k (map Answer lines)) ≡ take k lines
 answers_above lines zero = refl
@@ -63,16 +63,16 @@ no_answers : (first : ℕ) (steps : List Step) → answers_in (numbered first st
 no_answers first [] = refl
 no_answers first (s ∷ steps) = no_answers (first + 1) steps
 
-steps_told : (first : ℕ) (steps : List Step) → steps_in (numbered first steps) ≡ steps
-steps_told first [] = refl
-steps_told first (s ∷ steps) = ap (λ (ss : List Step). s ∷ ss) (steps_told (first + 1) steps)
+steps_written : (first : ℕ) (steps : List Step) → steps_in (numbered first steps) ≡ steps
+steps_written first [] = refl
+steps_written first (s ∷ steps) = ap (λ (ss : List Step). s ∷ ss) (steps_written (first + 1) steps)
 
 -- the answers of the report's lines
 all_answers : (lines : List AnswerLine) (first : ℕ) (steps : List Step) → answers_in (map Answer lines ++ numbered first steps) ≡ lines
-all_answers lines first steps = flat_map-append answer_in (map Answer lines) (numbered first steps) ∙ (λ i. answers_told lines i ++ no_answers first steps i) ∙ append-nil lines
+all_answers lines first steps = flat_map-append answer_in (map Answer lines) (numbered first steps) ∙ (λ i. answers_written lines i ++ no_answers first steps i) ∙ append-nil lines
 
 all_steps : (lines : List AnswerLine) (first : ℕ) (steps : List Step) → steps_in (map Answer lines ++ numbered first steps) ≡ steps
-all_steps lines first steps = flat_map-append step_in (map Answer lines) (numbered first steps) ∙ (λ i. no_steps lines i ++ steps_told first steps i)
+all_steps lines first steps = flat_map-append step_in (map Answer lines) (numbered first steps) ∙ (λ i. no_steps lines i ++ steps_written first steps i)
 
 module _ (catalogue request : List Line) (lines : List AnswerLine) (steps : List Step) (fit : (k : ℕ) (a : AnswerLine) → slice_get lines k ≡ Some a → answer_fits catalogue request (take k lines) a ≡ true)
     (proof : IsProof catalogue request every_line every_line steps) where
@@ -83,7 +83,7 @@ module _ (catalogue request : List Line) (lines : List AnswerLine) (steps : List
       (subst (λ (xs : List AnswerLine). answer_fits catalogue request xs a ≡ true) (sym (answers_above lines k)) (fit k a at))
 
   step_passes : (m number : ℕ) (t : Step) → slice_get steps m ≡ Some t → passes catalogue request (InstallHead ∷ (map Answer lines ++ numbered 1 (take m steps))) (Numbered number t) ≡ true
-  step_passes m number t at = subst (λ (ss : List Step). may_stand catalogue request every_line every_line ss t ≡ true) (sym (all_steps lines 1 (take m steps))) (proof m t at)
+  step_passes m number t at = subst (λ (ss : List Step). is_valid_step catalogue request every_line every_line ss t ≡ true) (sym (all_steps lines 1 (take m steps))) (proof m t at)
 
   all_pass : ArePassed catalogue request (InstallHead ∷ (map Answer lines ++ numbered 1 steps))
   all_pass zero l e = subst (λ (x : ReportLine). passes catalogue request [] x ≡ true) (same_Some InstallHead l e) refl
@@ -130,9 +130,9 @@ all_append : {X : Type 0} (P : X → Type 0) (xs ys : List X) → AllByRecursion
 all_append P [] ys a b = b
 all_append P (x ∷ xs) ys a b = (a.0, all_append P xs ys a.1 b)
 
-one_of : {X : Type 0} (P : X → Type 0) (front : List X) (x : X) (back : List X) → AllByRecursion P (front ++ x ∷ back) → P x
+one_of : {X : Type 0} (P : X → Type 0) (prefix : List X) (x : X) (back : List X) → AllByRecursion P (prefix ++ x ∷ back) → P x
 one_of P [] x back h = h.0
-one_of P (y ∷ front) x back h = one_of P front x back h.1
+one_of P (y ∷ prefix) x back h = one_of P prefix x back h.1
 
 step_texts : (first : ℕ) (steps : List Step) → AllByRecursion IsStep steps → first + length steps ≤ 4294967296 → AllByRecursion HasText (numbered first steps)
 step_texts first [] each most = tt
@@ -141,7 +141,7 @@ step_texts first (s ∷ steps) each most = ((omega (arith, most), each.0), step_
 module _ (catalogue request : List Line) (steps : List Step) (set : Set) (lines : List AnswerLine) (single : IsSingle catalogue set) (right : AreRight catalogue request steps set lines) (grammatical : AreCatalogueLines catalogue) where
   -- a listed version has a text
   version_has : (v : Version) → Contains catalogue (Listed v) → IsVersion v
-  version_has v c = let at = at_from_contains catalogue (Listed v) c in (grammatical at.0 (Listed v) at.1).1.says.form
+  version_has v c = let at = at_from_contains catalogue (Listed v) c in (grammatical at.0 (Listed v) at.1).1.parsed.form
 
   place_has : (earlier : Set) (place : Place) → ((w : Version) → place ≡ OfVersion w → Contains earlier w) → ((w : Version) → Contains earlier w → Contains set w) → IsPlace place
   place_has earlier OfRequest owner above = tt
@@ -151,22 +151,22 @@ module _ (catalogue request : List Line) (steps : List Step) (set : Set) (lines 
       (left : (above below : List AnswerLine) (v : Version) (n step : ℕ) → lines ≡ above ++ LeftOut v n step ∷ below → Contains catalogue (Listed v) × (1 ≤ step) × IsNumber step) where
     has_text : (before : List AnswerLine) (a : AnswerLine) (below : List AnswerLine) → lines ≡ before ++ a ∷ below → IsNumber (line_of a) → IsAnswer a
     has_text before (Entry v place n) below is number =
-        let t = told_of catalogue request (entries_of before) v place n below (reasoned_here catalogue request steps set lines single right before (Entry v place n) below is) in
+        let t = reasoned_by catalogue request (entries_of before) v place n below (reasoned_here catalogue request steps set lines single right before (Entry v place n) below is) in
         let inside = inside_after catalogue request steps set lines single right before (Entry v place n) below is v (first_element v (entries_of below)) in
         (version_has v (single.listed v inside), place_has (entries_of before) place t.owner (inside_before catalogue request steps set lines single right before (Entry v place n) below is), (t.line, number))
     has_text before (Wished v n) below is number =
-        let told = reasoned_here catalogue request steps set lines single right before (Wished v n) below is in
+        let has_reason = reasoned_here catalogue request steps set lines single right before (Wished v n) below is in
         let inside = inside_after catalogue request steps set lines single right before (Wished v n) below is v (first_element v (entries_of below)) in
-        (version_has v (single.listed v inside), (from_one request n (Wish v) told.1, number))
+        (version_has v (single.listed v inside), (from_one request n (Wish v) has_reason.1, number))
     has_text before (LeftOut v n step) below is number =
         let l = left before below v n step is in
         (version_has v l.0, (from_one request n (Wish v) (right.wished before below v n step is), number), (l.1, l.2))
 
-    have_text : (front back : List AnswerLine) → lines ≡ front ++ back → AllByRecursion HasText (map Answer back)
-    have_text front [] is = tt
-    have_text front (a ∷ back) is = (
-      has_text front a back is (one_of (λ l. IsNumber (line_of l)) front a back (subst (AllByRecursion (λ l. IsNumber (line_of l))) is numbers)),
-      have_text (front ++ a ∷ []) back (is ∙ sym (append_assoc front (a ∷ []) back)),
+    have_text : (prefix back : List AnswerLine) → lines ≡ prefix ++ back → AllByRecursion HasText (map Answer back)
+    have_text prefix [] is = tt
+    have_text prefix (a ∷ back) is = (
+      has_text prefix a back is (one_of (λ l. IsNumber (line_of l)) prefix a back (subst (AllByRecursion (λ l. IsNumber (line_of l))) is numbers)),
+      have_text (prefix ++ a ∷ []) back (is ∙ sym (append_assoc prefix (a ∷ []) back)),
     )
 
     -- the report is in the grammar

@@ -17,7 +17,7 @@ use Rattle.resolvo_catalogue_core.specs.Sets.{IsSingle, IsRuleKeeping}
 use Rattle.resolve_order.proofs.Elements.{no_element, first_element, element_cases, any_from, any_element, mapped_element, member_from, member_none}
 use Rattle.resolvo_report.specs.Value.{Place, OfRequest, OfVersion, AnswerLine, Entry, Wished, LeftOut, Step}
 use Rattle.resolvo_judge.specs.Entries.{entry_of, entries_of, left_out, wish_line_of, wish_lines, may_enter, is_reason, is_wish, wishes, gives, answer_fits}
-use Rattle.resolvo_judge.specs.Refusal.{answer_of, leaves_out, step_bars, InstallEnds}
+use Rattle.resolvo_judge.specs.Refusal.{answer_of, leaves_out, step_forbids, InstallEnds}
 use Rattle.resolvo_judge.proofs.FitLemmas.{same_entries}
 use Rattle.resolvo_checker.proofs.Sets.{same_own, is_contained}
 use Rattle.resolvo_checker.proofs.ListedLemmas.{listed_in}
@@ -25,7 +25,7 @@ use Rattle.resolve_install.proofs.TurnLemmas.{IsRisingFrom}
 
 -- ---- the reason of an entry
 
-pub record IsToldOf (catalogue request : List Line) (earlier : Set) (v : Version) (place : Place) (n : ℕ) : Type 0 where
+pub record IsReasonedBy (catalogue request : List Line) (earlier : Set) (v : Version) (place : Place) (n : ℕ) : Type 0 where
   pub new : Contains earlier v → ⊥
   pub reason : is_reason catalogue request earlier place n v ≡ true
   pub owner : (w : Version) → place ≡ OfVersion w → Contains earlier w
@@ -39,14 +39,14 @@ from_one lines (suc n) l e = omega arith
 gives_from : (o : Option Line) (earlier : Set) (v : Version) → IsNeededBy earlier o v → gives o earlier v ≡ true
 gives_from o earlier v h = rw h.2 (and_from _ _ h.3 h.4)
 
-pub told_of : (catalogue request : List Line) (earlier : Set) (v : Version) (place : Place) (n : ℕ) (others : List AnswerLine) → IsReasoned catalogue request earlier (map answer_of (Entry v place n ∷ others)) → IsToldOf catalogue request earlier v place n
-told_of catalogue request earlier v OfRequest n others h = record {
+pub reasoned_by : (catalogue request : List Line) (earlier : Set) (v : Version) (place : Place) (n : ℕ) (others : List AnswerLine) → IsReasoned catalogue request earlier (map answer_of (Entry v place n ∷ others)) → IsReasonedBy catalogue request earlier v place n
+reasoned_by catalogue request earlier v OfRequest n others h = record {
   new = h.0;
   reason = gives_from (line_at request n) earlier v h.1;
   owner = λ w e. absurd cc;
   line = from_one request n _ h.1.2;
 }
-told_of catalogue request earlier v (OfVersion u) n others h = record {
+reasoned_by catalogue request earlier v (OfVersion u) n others h = record {
   new = h.0;
   reason = and_from _ _ (is_contained earlier u h.1.0) (rw (h.1.1, same_own u) (gives_from (line_at catalogue n) earlier v h.1.2));
   owner = λ w e. let is : u ≡ w = cc in subst (λ (x : Version). Contains earlier x) is h.1.0;
@@ -95,7 +95,7 @@ pub record AreRight (catalogue request : List Line) (steps : List Step) (set : S
   pub rising : IsRisingFrom 0 (wish_lines lines)
   pub wished : (above below : List AnswerLine) (v : Version) (n step : ℕ) → lines ≡ above ++ LeftOut v n step ∷ below → line_at request n ≡ Some (Wish v)
   pub unchosen : (above below : List AnswerLine) (v : Version) (n step : ℕ) → lines ≡ above ++ LeftOut v n step ∷ below → Contains set v → ⊥
-  pub barred : (above below : List AnswerLine) (v : Version) (n step : ℕ) → lines ≡ above ++ LeftOut v n step ∷ below → step_bars catalogue request steps (entries_of above) v step ≡ true
+  pub forbidden : (above below : List AnswerLine) (v : Version) (n step : ℕ) → lines ≡ above ++ LeftOut v n step ∷ below → step_forbids catalogue request steps (entries_of above) v step ≡ true
 
 module _ (catalogue request : List Line) (steps : List Step) (set : Set) (lines : List AnswerLine) (single : IsSingle catalogue set) (right : AreRight catalogue request steps set lines) where
   module _ (before : List AnswerLine) (a : AnswerLine) (below : List AnswerLine) (is : lines ≡ before ++ a ∷ below) where
@@ -139,11 +139,11 @@ module _ (catalogue request : List Line) (steps : List Step) (set : Set) (lines 
   -- each line fits after those before it
   fit : (before : List AnswerLine) (a : AnswerLine) (below : List AnswerLine) → lines ≡ before ++ a ∷ below → answer_fits catalogue request before a ≡ true
   fit before (Entry v place n) below is =
-      let t = told_of catalogue request (entries_of before) v place n below (reasoned_here before (Entry v place n) below is) in
+      let t = reasoned_by catalogue request (entries_of before) v place n below (reasoned_here before (Entry v place n) below is) in
       and_from _ _ (may_be_entry before (Entry v place n) below is v (inside_after before (Entry v place n) below is v (first_element v (entries_of below))) t.new) t.reason
   fit before (Wished v n) below is =
-      let told = reasoned_here before (Wished v n) below is in
-      and_from _ _ (may_be_entry before (Wished v n) below is v (inside_after before (Wished v n) below is v (first_element v (entries_of below))) told.0) (is_a_wish before (Wished v n) below is v n refl told.1)
+      let has_reason = reasoned_here before (Wished v n) below is in
+      and_from _ _ (may_be_entry before (Wished v n) below is v (inside_after before (Wished v n) below is v (first_element v (entries_of below))) has_reason.0) (is_a_wish before (Wished v n) below is v n refl has_reason.1)
   fit before (LeftOut v n step) below is =
       and_from _ _ (is_a_wish before (LeftOut v n step) below is v n refl (right.wished before below v n step is))
       (ap not (member_none (entries_of before) v (λ c. right.unchosen before below v n step is (inside_before before (LeftOut v n step) below is v c))))
@@ -175,5 +175,5 @@ module _ (catalogue request : List Line) (steps : List Step) (set : Set) (lines 
           or_right (is_member v (entries_of lines)) (list_any (leaves_out v n) lines) (any_from (leaves_out v n) lines l.0 l.1 (leaves_it_out l.0 v n left.0 l.2))
           )
     ];
-    barred = right.barred;
+    forbidden = right.forbidden;
   }

@@ -17,7 +17,7 @@ use Rattle.resolve_order.specs.declared.entry.Turn.{Turn}
 use Rattle.resolvo_report.specs.Value.{OfRequest, OfVersion, AnswerLine, Entry, Wished, LeftOut, Step, Install}
 use Rattle.resolvo_report.specs.Text.{report_lines}
 use Rattle.resolvo_judge.specs.Entries.{entries_of, wish_lines}
-use Rattle.resolvo_judge.specs.Refusal.{answer_of, step_bars, IsAccepted}
+use Rattle.resolvo_judge.specs.Refusal.{answer_of, step_forbids, IsAccepted}
 use Rattle.resolvo_judge.proofs.FitLemmas.{same_entries}
 use Rattle.resolvo_judge.proofs.JudgeLemmas.{claim_true}
 use Rattle.resolvo_checker.proofs.ListedLemmas.{contains_listed}
@@ -37,28 +37,28 @@ same_lines (Wished v n ∷ lines) = ap (λ (ns : List ℕ). n ∷ ns) (same_line
 same_lines (LeftOut v n step ∷ lines) = ap (λ (ns : List ℕ). n ∷ ns) (same_lines lines)
 
 module _ (catalogue request : List Line) (turns : List Turn) (steps : List Step) (serve : Serve catalogue request turns steps) (lines : List AnswerLine)
-    (told : AreTurns catalogue request [] [] (turns_of (listed catalogue) turns) (map answer_of lines)) (reasoned : IsReasoned catalogue request [] (map answer_of lines)) where
+    (in_order : AreTurns catalogue request [] [] (turns_of (listed catalogue) turns) (map answer_of lines)) (reasoned : IsReasoned catalogue request [] (map answer_of lines)) where
   exact : AreSame (all_chosen catalogue turns) (answers.entries_of (map answer_of lines))
-  exact = entries_exact catalogue request turns steps serve (map answer_of lines) told
+  exact = entries_exact catalogue request turns steps serve (map answer_of lines) in_order
 
   listed_exact : AreSame (all_chosen catalogue turns) (entries_of lines)
   listed_exact = subst (AreSame (all_chosen catalogue turns)) (same_entries lines) exact
 
-  left : (above below : List AnswerLine) (v : Version) (n step : ℕ) → lines ≡ above ++ LeftOut v n step ∷ below → IsRightlyLeftOut catalogue request turns steps serve (map answer_of lines) told (map answer_of above) v n step
-  left above below v n step is = rightly_left_out catalogue request turns steps serve (map answer_of lines) told (map answer_of above) (map answer_of below) v n step (ap (map answer_of) is ∙ map-append answer_of above (LeftOut v n step ∷ below))
+  left : (above below : List AnswerLine) (v : Version) (n step : ℕ) → lines ≡ above ++ LeftOut v n step ∷ below → IsRightlyLeftOut catalogue request turns steps serve (map answer_of lines) in_order (map answer_of above) v n step
+  left above below v n step is = rightly_left_out catalogue request turns steps serve (map answer_of lines) in_order (map answer_of above) (map answer_of below) v n step (ap (map answer_of) is ∙ map-append answer_of above (LeftOut v n step ∷ below))
 
   right : AreRight catalogue request steps (all_chosen catalogue turns) lines
   right = record {
     reasoned = reasoned;
     within = λ v c. (listed_exact v).1 c;
-    rising = subst (IsRisingFrom 0) (same_lines lines) (lines_rise catalogue request turns steps serve (map answer_of lines) told);
+    rising = subst (IsRisingFrom 0) (same_lines lines) (lines_rise catalogue request turns steps serve (map answer_of lines) in_order);
     wished = λ above below v n step is. (left above below v n step is).wished;
     unchosen = λ above below v n step is. (left above below v n step is).unchosen;
-    barred = λ above below v n step is. ap (λ (set : Set). step_bars catalogue request steps set v step) (sym (same_entries above)) ∙ (left above below v n step is).barred;
+    forbidden = λ above below v n step is. ap (λ (set : Set). step_forbids catalogue request steps set v step) (sym (same_entries above)) ∙ (left above below v n step is).forbidden;
   }
 
   each_wish : (n : ℕ) (v : Version) → line_at request n ≡ Some (Wish v) → Contains (entries_of lines) v ⊎ ((step : ℕ) × Contains (map answer_of lines) (answers.LeftOut v n step))
-  each_wish n v at = elim (accounted catalogue request turns steps serve (map answer_of lines) told n v at) [
+  each_wish n v at = elim (accounted catalogue request turns steps serve (map answer_of lines) in_order n v at) [
     | inl c ↦ inl ((listed_exact v).0 c)
     | inr out ↦ inr out
   ]
@@ -75,7 +75,7 @@ module _ (catalogue request : List Line) (turns : List Turn) (steps : List Step)
     report = in_grammar catalogue request steps (all_chosen catalogue turns) lines serve.keeping.single right grammatical numbers has serve.texts serve.numbers;
     accepted = passed;
     claim = claim_true catalogue request (Install lines steps) passed;
-    order = told;
+    order = in_order;
     entries = exact;
   }
     where

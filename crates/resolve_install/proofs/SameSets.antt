@@ -13,8 +13,8 @@ use Rattle.resolvo_catalogue_core.specs.Sets.{IsRuleKeeping}
 use Rattle.resolve_order.proofs.Elements.{no_element, first_element, later_element, element_cases, any_from, any_element}
 use Rattle.resolvo_report.specs.Value.{Atom, Chosen, AnyOf, SharedBy, OutsideOf, BitOf, Step}
 use Rattle.resolvo_checker.specs.StepClauses.{Clause, clause_of}
-use Rattle.resolvo_checker.specs.Proof.{is_among, bars}
-use Rattle.resolvo_judge.specs.Refusal.{step_bars}
+use Rattle.resolvo_checker.specs.Proof.{is_among, forbids}
+use Rattle.resolvo_judge.specs.Refusal.{step_forbids}
 
 -- The sets have the same members.
 abbrev pub AreSame : Set → Set → Type 0
@@ -97,15 +97,15 @@ module _ (a b : Set) (same : AreSame a b) where
   among_same wish (OutsideOf s) = refl
   among_same wish (BitOf bit name) = refl
 
-  bars_same : (wish : Version) (clause : Clause) → bars a wish clause ≡ bars b wish clause
-  bars_same wish [] = refl
-  bars_same wish (l ∷ clause) = λ i. (not l.positive && among_same wish l.atom i) && bars_same wish clause i
+  forbids_same : (wish : Version) (clause : Clause) → forbids a wish clause ≡ forbids b wish clause
+  forbids_same wish [] = refl
+  forbids_same wish (l ∷ clause) = λ i. (not l.positive && among_same wish l.atom i) && forbids_same wish clause i
 
-  clause_same : (wish : Version) (o : Option Clause) → option_map_or (bars a wish) o false ≡ option_map_or (bars b wish) o false
+  clause_same : (wish : Version) (o : Option Clause) → option_map_or (forbids a wish) o false ≡ option_map_or (forbids b wish) o false
   clause_same wish None = refl
-  clause_same wish (Some clause) = bars_same wish clause
+  clause_same wish (Some clause) = forbids_same wish clause
 
   -- and a step forbids the version with both, or with none
-  pub step_bars_same : (catalogue request : List Line) (steps : List Step) (wish : Version) (step : ℕ) → step_bars catalogue request steps a wish step ≡ step_bars catalogue request steps b wish step
-  step_bars_same catalogue request steps wish zero = refl
-  step_bars_same catalogue request steps wish (suc k) = clause_same wish (option_and_then (clause_of catalogue request) (slice_get steps k))
+  pub step_forbids_same : (catalogue request : List Line) (steps : List Step) (wish : Version) (step : ℕ) → step_forbids catalogue request steps a wish step ≡ step_forbids catalogue request steps b wish step
+  step_forbids_same catalogue request steps wish zero = refl
+  step_forbids_same catalogue request steps wish (suc k) = clause_same wish (option_and_then (clause_of catalogue request) (slice_get steps k))

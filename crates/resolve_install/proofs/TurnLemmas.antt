@@ -31,18 +31,18 @@ use Rattle.resolve_order.proofs.PartLemmas.{IsTurnsLine, left_out_by, accepted_p
 use Rattle.resolvo_catalogue.proofs.MarkLemmas.{one_some}
 use Rattle.resolvo_report.specs.Value.{Step}
 use Rattle.resolvo_checker.specs.StepClauses.{Clause, clause_of}
-use Rattle.resolvo_checker.specs.Proof.{bars}
-use Rattle.resolvo_checker.proofs.ProofTrue.{proof_bars}
-use Rattle.resolvo_judge.specs.Refusal.{step_bars}
+use Rattle.resolvo_checker.specs.Proof.{forbids}
+use Rattle.resolvo_checker.proofs.ProofTrue.{proof_forbids}
+use Rattle.resolvo_judge.specs.Refusal.{step_forbids}
 use Rattle.resolvo_judge.proofs.Accepted.{get_seam}
 use Rattle.resolve_install.specs.Install.{wish_of, accepted_of, chosen_before, all_chosen, Serve}
-use Rattle.resolve_install.proofs.SameSets.{AreSame, step_bars_same}
+use Rattle.resolve_install.proofs.SameSets.{AreSame, step_forbids_same}
 
 -- ---- places in lists
 
-take_seam : {X : Type 0} (front : List X) (x : X) (back : List X) → take (suc (length front)) (front ++ x ∷ back) ≡ front ++ x ∷ []
+take_seam : {X : Type 0} (prefix : List X) (x : X) (back : List X) → take (suc (length prefix)) (prefix ++ x ∷ back) ≡ prefix ++ x ∷ []
 take_seam [] x back = refl
-take_seam (y ∷ front) x back = ap (λ xs. y ∷ xs) (take_seam front x back)
+take_seam (y ∷ prefix) x back = ap (λ xs. y ∷ xs) (take_seam prefix x back)
 
 some_at : {X : Type 0} (xs : List X) (j : ℕ) (x : X) → slice_get (map Some xs) j ≡ Some (Some x) → slice_get xs j ≡ Some x
 some_at [] j x e = absurd cc
@@ -63,14 +63,14 @@ mapped_at f (x ∷ xs) (suc k) y e = mapped_at f xs k y e
 at_mapped : {X Y : Type 0} (f : X → Y) (xs : List X) (k : ℕ) (x : X) → slice_get xs k ≡ Some x → slice_get (map f xs) k ≡ Some (f x)
 at_mapped f xs k x e = slice_get-map f xs k ∙ ap (option_map f) e
 
-map_seam : {X Y : Type 0} (f : X → Y) (xs : List X) (front : List Y) (y : Y) (back : List Y) → map f xs ≡ front ++ y ∷ back → (x : X) × (slice_get xs (length front) ≡ Some x) × (f x ≡ y) × (map f (take (length front) xs) ≡ front)
+map_seam : {X Y : Type 0} (f : X → Y) (xs : List X) (prefix : List Y) (y : Y) (back : List Y) → map f xs ≡ prefix ++ y ∷ back → (x : X) × (slice_get xs (length prefix) ≡ Some x) × (f x ≡ y) × (map f (take (length prefix) xs) ≡ prefix)
 map_seam f [] [] y back e = absurd cc
-map_seam f [] (z ∷ front) y back e = absurd cc
+map_seam f [] (z ∷ prefix) y back e = absurd cc
 map_seam f (x ∷ xs) [] y back e = let head : f x ≡ y = cc in (x, refl, head, refl)
-map_seam f (x ∷ xs) (z ∷ front) y back e =
+map_seam f (x ∷ xs) (z ∷ prefix) y back e =
     let head : f x ≡ z = cc in
-    let tail : map f xs ≡ front ++ y ∷ back = cc in
-    let r = map_seam f xs front y back tail in
+    let tail : map f xs ≡ prefix ++ y ∷ back = cc in
+    let r = map_seam f xs prefix y back tail in
     (r.0, r.1, r.2, (λ i. head i ∷ r.3 i))
 
 -- ---- rising lines
@@ -106,7 +106,7 @@ line_of_turn (order.LeavesOut wish step) = wish.0 ∷ []
 
 -- a wish is listed by its line, or isn't listed
 IsPart : List ℕ → List ℕ → Type 0
-IsPart told mine = (told ≡ []) ⊎ (told ≡ mine)
+IsPart kept mine = (kept ≡ []) ⊎ (kept ≡ mine)
 
 order_lines : (catalogue request : List Line) (chosen entries : Set) (answers : List Answer) → AreInOrder catalogue request chosen entries answers → flat_map wish_line_of answers ≡ []
 order_lines catalogue request chosen entries [] h = refl
@@ -135,17 +135,17 @@ turn_part catalogue request chosen entries (order.Chose wish more) answers h =
     elim (wish_part wish entries) [ inl none ↦ inl (lines ∙ none) | inr one ↦ inr (lines ∙ one) ]
 turn_part catalogue request chosen entries (order.LeavesOut wish step) answers h = inr (ap (flat_map wish_line_of) h)
 
-rising_part : (t : order.Turn) (told rest more : List ℕ) (last : ℕ) → IsPart told (line_of_turn t) → IsRisingFrom last (line_of_turn t ++ more) → ((low : ℕ) → IsRisingFrom low more → IsRisingFrom low rest) → IsRisingFrom last (told ++ rest)
+rising_part : (t : order.Turn) (kept rest more : List ℕ) (last : ℕ) → IsPart kept (line_of_turn t) → IsRisingFrom last (line_of_turn t ++ more) → ((low : ℕ) → IsRisingFrom low more → IsRisingFrom low rest) → IsRisingFrom last (kept ++ rest)
 unfolding IsPart
-rising_part (order.Chose None chosen) told rest more last part h next = elim part [
+rising_part (order.Chose None chosen) kept rest more last part h next = elim part [
   | inl none ↦ subst (λ (ns : List ℕ). IsRisingFrom last (ns ++ rest)) (sym none) (next last h)
   | inr one ↦ subst (λ (ns : List ℕ). IsRisingFrom last (ns ++ rest)) (sym one) (next last h)
 ]
-rising_part (order.Chose (Some w) chosen) told rest more last part h next = elim part [
+rising_part (order.Chose (Some w) chosen) kept rest more last part h next = elim part [
   | inl none ↦ subst (λ (ns : List ℕ). IsRisingFrom last (ns ++ rest)) (sym none) (rising_lower last w.0 rest h.0 (next w.0 h.1))
   | inr one ↦ subst (λ (ns : List ℕ). IsRisingFrom last (ns ++ rest)) (sym one) (h.0, next w.0 h.1)
 ]
-rising_part (order.LeavesOut w step) told rest more last part h next = elim part [
+rising_part (order.LeavesOut w step) kept rest more last part h next = elim part [
   | inl none ↦ subst (λ (ns : List ℕ). IsRisingFrom last (ns ++ rest)) (sym none) (rising_lower last w.0 rest h.0 (next w.0 h.1))
   | inr one ↦ subst (λ (ns : List ℕ). IsRisingFrom last (ns ++ rest)) (sym one) (h.0, next w.0 h.1)
 ]
@@ -159,33 +159,33 @@ turns_rise catalogue request chosen entries (t ∷ turns) answers last h rising 
     (rising_part t (flat_map wish_line_of h.0) (flat_map wish_line_of h.1) (flat_map line_of_turn turns) last (turn_part catalogue request C entries t h.0 h.3) rising
     (λ low. turns_rise catalogue request C (entries ++ entries_of h.0) turns h.1 low h.4))
 
-abbrev line_told : Option (ℕ × VersionNo) → List ℕ
-line_told None = []
-line_told (Some w) = w.0 ∷ []
+abbrev wish_line : Option (ℕ × VersionNo) → List ℕ
+wish_line None = []
+wish_line (Some w) = w.0 ∷ []
 
-turn_line : (versions : List Version) (t : Turn) → line_of_turn (turn_of versions t) ≡ line_told (wish_of t)
+turn_line : (versions : List Version) (t : Turn) → line_of_turn (turn_of versions t) ≡ wish_line (wish_of t)
 turn_line versions (turn.Chose None chosen) = refl
 turn_line versions (turn.Chose (Some w) chosen) = refl
 turn_line versions (turn.LeftOut w step) = refl
 
-turn_lines : (versions : List Version) (turns : List Turn) → flat_map line_of_turn (turns_of versions turns) ≡ flat_map line_told (map wish_of turns)
+turn_lines : (versions : List Version) (turns : List Turn) → flat_map line_of_turn (turns_of versions turns) ≡ flat_map wish_line (map wish_of turns)
 turn_lines versions [] = refl
 turn_lines versions (t ∷ turns) = λ i. turn_line versions t i ++ turn_lines versions turns i
 
-told_lines : (wishes : List (ℕ × VersionNo)) → flat_map line_told (map Some wishes) ≡ map (λ f. f.0) wishes
-told_lines [] = refl
-told_lines (w ∷ wishes) = ap (λ (ns : List ℕ). w.0 ∷ ns) (told_lines wishes)
+wish_lines : (wishes : List (ℕ × VersionNo)) → flat_map wish_line (map Some wishes) ≡ map (λ f. f.0) wishes
+wish_lines [] = refl
+wish_lines (w ∷ wishes) = ap (λ (ns : List ℕ). w.0 ∷ ns) (wish_lines wishes)
 
 -- ---- a wish that is left out is listed
 
-leaves_told : (catalogue request : List Line) (chosen entries : Set) (turns : List order.Turn) (answers : List Answer) (k : ℕ) (w : ℕ × Version) (step : ℕ) → AreTurns catalogue request chosen entries turns answers → slice_get turns k ≡ Some (order.LeavesOut w step) → Contains answers (LeftOut w.1 w.0 step)
-leaves_told catalogue request chosen entries [] answers k w step h at = absurd cc
-leaves_told catalogue request chosen entries (t ∷ turns) answers zero w step h at =
+left_out_in : (catalogue request : List Line) (chosen entries : Set) (turns : List order.Turn) (answers : List Answer) (k : ℕ) (w : ℕ × Version) (step : ℕ) → AreTurns catalogue request chosen entries turns answers → slice_get turns k ≡ Some (order.LeavesOut w step) → Contains answers (LeftOut w.1 w.0 step)
+left_out_in catalogue request chosen entries [] answers k w step h at = absurd cc
+left_out_in catalogue request chosen entries (t ∷ turns) answers zero w step h at =
     let is : h.0 ≡ LeftOut w.1 w.0 step ∷ [] = subst (λ (x : order.Turn). IsOneTurn catalogue request (chosen ++ chosen_by t) entries x h.0) (one_some at) h.3 in
     subst (λ (xs : List Answer). Contains xs (LeftOut w.1 w.0 step)) (sym (h.2 ∙ ap (λ (xs : List Answer). xs ++ h.1) is)) (first_element (LeftOut w.1 w.0 step) h.1)
-leaves_told catalogue request chosen entries (t ∷ turns) answers (suc k) w step h at =
+left_out_in catalogue request chosen entries (t ∷ turns) answers (suc k) w step h at =
     subst (λ (xs : List Answer). Contains xs (LeftOut w.1 w.0 step)) (sym h.2)
-    (behind h.0 h.1 (leaves_told catalogue request (chosen ++ chosen_by t) (entries ++ entries_of h.0) turns h.1 k w step h.4 at))
+    (behind h.0 h.1 (left_out_in catalogue request (chosen ++ chosen_by t) (entries ++ entries_of h.0) turns h.1 k w step h.4 at))
   where
     behind : (one two : List Answer) → Contains two (LeftOut w.1 w.0 step) → Contains (one ++ two) (LeftOut w.1 w.0 step)
     behind [] two c = c
@@ -197,21 +197,21 @@ leaves_told catalogue request chosen entries (t ∷ turns) answers (suc k) w ste
 pub record IsStepThat (catalogue request : List Line) (steps : List Step) (entries : Set) (v : Version) (step : ℕ) : Type 0 where
   pub k : ℕ
   pub number : step ≡ suc k
-  pub said : Step
+  pub found : Step
   pub clause : Clause
-  pub there : slice_get steps k ≡ Some said
-  pub says : clause_of catalogue request said ≡ Some clause
-  pub bar : bars entries v clause ≡ true
+  pub there : slice_get steps k ≡ Some found
+  pub spelled : clause_of catalogue request found ≡ Some clause
+  pub denied : forbids entries v clause ≡ true
 
-step_that : (catalogue request : List Line) (steps : List Step) (entries : Set) (v : Version) (step : ℕ) → step_bars catalogue request steps entries v step ≡ true → IsStepThat catalogue request steps entries v step
+step_that : (catalogue request : List Line) (steps : List Step) (entries : Set) (v : Version) (step : ℕ) → step_forbids catalogue request steps entries v step ≡ true → IsStepThat catalogue request steps entries v step
 step_that catalogue request steps entries v zero h = absurd (false≢true h)
 step_that catalogue request steps entries v (suc k) h = one (slice_get steps k) refl h
   where
-    two : (s : Step) (o : Option Clause) → slice_get steps k ≡ Some s → clause_of catalogue request s ≡ o → option_map_or (bars entries v) o false ≡ true → IsStepThat catalogue request steps entries v (suc k)
+    two : (s : Step) (o : Option Clause) → slice_get steps k ≡ Some s → clause_of catalogue request s ≡ o → option_map_or (forbids entries v) o false ≡ true → IsStepThat catalogue request steps entries v (suc k)
     two s None at is b = absurd (false≢true b)
-    two s (Some clause) at is b = record { k = k; number = refl; said = s; clause = clause; there = at; says = is; bar = b }
+    two s (Some clause) at is b = record { k = k; number = refl; found = s; clause = clause; there = at; spelled = is; denied = b }
 
-    one : (o : Option Step) → slice_get steps k ≡ o → option_map_or (bars entries v) (option_and_then (clause_of catalogue request) o) false ≡ true → IsStepThat catalogue request steps entries v (suc k)
+    one : (o : Option Step) → slice_get steps k ≡ o → option_map_or (forbids entries v) (option_and_then (clause_of catalogue request) o) false ≡ true → IsStepThat catalogue request steps entries v (suc k)
     one None at b = absurd (false≢true b)
     one (Some s) at b = two s (clause_of catalogue request s) at refl b
 
@@ -242,32 +242,32 @@ module _ (catalogue request : List Line) (turns : List Turn) (steps : List Step)
           ∙ flat_map-append chosen_by (turns_of (listed catalogue) (take k turns)) (turns_of (listed catalogue) (drop k turns))
 
   -- one more turn
-  chosen_more : (front : List Turn) (t : Turn) → chosen_in (turns_of (listed catalogue) (front ++ t ∷ [])) ≡ chosen_in (turns_of (listed catalogue) front) ++ chosen_by (turn_of (listed catalogue) t)
-  chosen_more front t =
-      ap chosen_in (map-append (turn_of (listed catalogue)) front (t ∷ [])) ∙ flat_map-append chosen_by (turns_of (listed catalogue) front) (turn_of (listed catalogue) t ∷ [])
-      ∙ ap (λ (set : Set). chosen_in (turns_of (listed catalogue) front) ++ set) (append-nil (chosen_by (turn_of (listed catalogue) t)))
+  chosen_more : (prefix : List Turn) (t : Turn) → chosen_in (turns_of (listed catalogue) (prefix ++ t ∷ [])) ≡ chosen_in (turns_of (listed catalogue) prefix) ++ chosen_by (turn_of (listed catalogue) t)
+  chosen_more prefix t =
+      ap chosen_in (map-append (turn_of (listed catalogue)) prefix (t ∷ [])) ∙ flat_map-append chosen_by (turns_of (listed catalogue) prefix) (turn_of (listed catalogue) t ∷ [])
+      ∙ ap (λ (set : Set). chosen_in (turns_of (listed catalogue) prefix) ++ set) (append-nil (chosen_by (turn_of (listed catalogue) t)))
 
-  wish_here : (front : List Turn) (t : Turn) (back : List Turn) → turns ≡ front ++ t ∷ back → IsWishOf (listed catalogue) request (chosen_in (turns_of (listed catalogue) front) ++ chosen_by (turn_of (listed catalogue) t)) t
-  wish_here front t back is = go t refl
+  wish_here : (prefix : List Turn) (t : Turn) (back : List Turn) → turns ≡ prefix ++ t ∷ back → IsWishOf (listed catalogue) request (chosen_in (turns_of (listed catalogue) prefix) ++ chosen_by (turn_of (listed catalogue) t)) t
+  wish_here prefix t back is = go t refl
     where
-      at : slice_get turns (length front) ≡ Some t
-      at = ap (λ ts. slice_get ts (length front)) is ∙ get_seam front t back
+      at : slice_get turns (length prefix) ≡ Some t
+      at = ap (λ ts. slice_get ts (length prefix)) is ∙ get_seam prefix t back
 
-      upto : chosen_before catalogue turns (suc (length front)) ≡ chosen_in (turns_of (listed catalogue) front) ++ chosen_by (turn_of (listed catalogue) t)
-      upto = ap (λ (ts : List Turn). chosen_in (turns_of (listed catalogue) ts)) (ap (take (suc (length front))) is ∙ take_seam front t back) ∙ chosen_more front t
+      upto : chosen_before catalogue turns (suc (length prefix)) ≡ chosen_in (turns_of (listed catalogue) prefix) ++ chosen_by (turn_of (listed catalogue) t)
+      upto = ap (λ (ts : List Turn). chosen_in (turns_of (listed catalogue) ts)) (ap (take (suc (length prefix))) is ∙ take_seam prefix t back) ∙ chosen_more prefix t
 
-      go : (u : Turn) → t ≡ u → IsWishOf (listed catalogue) request (chosen_in (turns_of (listed catalogue) front) ++ chosen_by (turn_of (listed catalogue) t)) u
+      go : (u : Turn) → t ≡ u → IsWishOf (listed catalogue) request (chosen_in (turns_of (listed catalogue) prefix) ++ chosen_by (turn_of (listed catalogue) t)) u
       go (turn.Chose None chosen) e = tt
       go (turn.Chose (Some w) chosen) e =
-          let j = wish_in (length front) t w at (ap wish_of e) in
-          (serve.are_wishes.versions j.0 w j.2, subst (λ (set : Set). Contains set (nth (listed catalogue) w.1)) upto (serve.accepted (length front) t w at (ap accepted_of e)))
-      go (turn.LeftOut w step) e = let j = wish_in (length front) t w at (ap wish_of e) in serve.are_wishes.versions j.0 w j.2
+          let j = wish_in (length prefix) t w at (ap wish_of e) in
+          (serve.are_wishes.versions j.0 w j.2, subst (λ (set : Set). Contains set (nth (listed catalogue) w.1)) upto (serve.accepted (length prefix) t w at (ap accepted_of e)))
+      go (turn.LeftOut w step) e = let j = wish_in (length prefix) t w at (ap wish_of e) in serve.are_wishes.versions j.0 w j.2
 
-  wishes_here : (front back : List Turn) → turns ≡ front ++ back → AreWishesOf (listed catalogue) request (chosen_in (turns_of (listed catalogue) front)) back
-  wishes_here front [] is = tt
-  wishes_here front (t ∷ back) is = (
-    wish_here front t back is,
-    subst (λ (set : Set). AreWishesOf (listed catalogue) request set back) (chosen_more front t) (wishes_here (front ++ t ∷ []) back (is ∙ sym (append_assoc front (t ∷ []) back))),
+  wishes_here : (prefix back : List Turn) → turns ≡ prefix ++ back → AreWishesOf (listed catalogue) request (chosen_in (turns_of (listed catalogue) prefix)) back
+  wishes_here prefix [] is = tt
+  wishes_here prefix (t ∷ back) is = (
+    wish_here prefix t back is,
+    subst (λ (set : Set). AreWishesOf (listed catalogue) request set back) (chosen_more prefix t) (wishes_here (prefix ++ t ∷ []) back (is ∙ sym (append_assoc prefix (t ∷ []) back))),
   )
 
   pub are_turns : AreTurnsOf catalogue request turns
@@ -292,10 +292,10 @@ module _ (catalogue request : List Line) (turns : List Turn) (steps : List Step)
           below : (us : List Turn) (u : Turn) → turns ≡ u ∷ us → length us < length turns
           below us u e = let n : length turns ≡ suc (length us) = ap length e in omega (arith, n)
 
-  module _ (answers : List Answer) (told : AreTurns catalogue request [] [] (turns_of (listed catalogue) turns) answers) where
+  module _ (answers : List Answer) (kept : AreTurns catalogue request [] [] (turns_of (listed catalogue) turns) answers) where
     pub lines_rise : IsRisingFrom 0 (flat_map wish_line_of answers)
-    lines_rise = turns_rise catalogue request [] [] (turns_of (listed catalogue) turns) answers 0 told
-        (subst (IsRisingFrom 0) (sym (turn_lines (listed catalogue) turns ∙ ap (flat_map line_told) serve.in_turn ∙ told_lines serve.wishes)) (rising_from (map (λ f. f.0) serve.wishes) 0 serve.are_wishes.lines.rising first))
+    lines_rise = turns_rise catalogue request [] [] (turns_of (listed catalogue) turns) answers 0 kept
+        (subst (IsRisingFrom 0) (sym (turn_lines (listed catalogue) turns ∙ ap (flat_map wish_line) serve.in_turn ∙ wish_lines serve.wishes)) (rising_from (map (λ f. f.0) serve.wishes) 0 serve.are_wishes.lines.rising first))
       where
         from_one : (n : ℕ) (l : Line) → line_at request n ≡ Some l → 0 < n
         from_one zero l e = absurd cc
@@ -304,44 +304,44 @@ module _ (catalogue request : List Line) (turns : List Turn) (steps : List Step)
         first : (n : ℕ) → slice_get (map (λ (f : ℕ × VersionNo). f.0) serve.wishes) 0 ≡ Some n → 0 < n
         first n e =
             let w = mapped_at (λ (f : ℕ × VersionNo). f.0) serve.wishes 0 n e in
-            let says = serve.are_wishes.versions 0 w.0 w.1 in
-            subst (λ (m : ℕ). 0 < m) w.2 (from_one w.0.0 (Wish says.0) says.2)
+            let spelled = serve.are_wishes.versions 0 w.0 w.1 in
+            subst (λ (m : ℕ). 0 < m) w.2 (from_one w.0.0 (Wish spelled.0) spelled.2)
 
-    all_told : AllAccepted request [] (turns_of (listed catalogue) turns)
-    all_told = all_accepted (listed catalogue) request [] turns are_turns.wishes
+    all_accepted_in : AllAccepted request [] (turns_of (listed catalogue) turns)
+    all_accepted_in = all_accepted (listed catalogue) request [] turns are_turns.wishes
 
     -- The entries are the chosen versions.
     pub entries_exact : AreSame (all_chosen catalogue turns) (entries_of answers)
-    entries_exact = exact_entries catalogue request (turns_of (listed catalogue) turns) answers told all_told all_reached
+    entries_exact = exact_entries catalogue request (turns_of (listed catalogue) turns) answers kept all_accepted_in all_reached
 
     -- A line of a wish that is left out. It is a wish of the request, its step forbids it with the
     -- entries above, and it isn't chosen.
     pub record IsRightlyLeftOut (above : List Answer) (v : Version) (n step : ℕ) : Type 0 where
       pub wished : line_at request n ≡ Some (Wish v)
       pub known : (k : ℕ) × (slice_get (listed catalogue) k ≡ Some v)
-      pub barred : step_bars catalogue request steps (entries_of above) v step ≡ true
+      pub forbidden : step_forbids catalogue request steps (entries_of above) v step ≡ true
       pub unchosen : Contains (all_chosen catalogue turns) v → ⊥
       pub from_one : 1 ≤ step
       pub number : step ≤ length steps
 
     pub rightly_left_out : (above below : List Answer) (v : Version) (n step : ℕ) → answers ≡ above ++ LeftOut v n step ∷ below → IsRightlyLeftOut above v n step
     rightly_left_out above below v n step is = record {
-      wished = subst (λ (m : ℕ). line_at request m ≡ Some (Wish v)) left.2 (subst (λ (x : Version). line_at request wish.0 ≡ Some (Wish x)) same says.2);
-      known = (wish.1.0, subst (λ (x : Version). slice_get (listed catalogue) wish.1.0 ≡ Some x) same says.1);
-      barred = sym (step_bars_same (chosen_before catalogue turns k) (entries_of above) exact catalogue request steps v step) ∙ bar;
-      unchosen = λ c. proof_bars catalogue request steps serve.proof (chosen_before catalogue turns k) v by.k by.said by.clause by.there by.says by.bar (all_chosen catalogue turns) serve.keeping c (before_within k);
+      wished = subst (λ (m : ℕ). line_at request m ≡ Some (Wish v)) left.2 (subst (λ (x : Version). line_at request wish.0 ≡ Some (Wish x)) same spelled.2);
+      known = (wish.1.0, subst (λ (x : Version). slice_get (listed catalogue) wish.1.0 ≡ Some x) same spelled.1);
+      forbidden = sym (step_forbids_same (chosen_before catalogue turns k) (entries_of above) exact catalogue request steps v step) ∙ denied;
+      unchosen = λ c. proof_forbids catalogue request steps serve.proof (chosen_before catalogue turns k) v by.k by.found by.clause by.there by.spelled by.denied (all_chosen catalogue turns) serve.keeping c (before_within k);
       from_one = let s : step ≡ suc by.k = by.number in omega (arith, s);
-      number = let s : step ≡ suc by.k = by.number in let lt : by.k < length steps = slice_get_within steps by.k by.said by.there in omega (arith, s, lt);
+      number = let s : step ≡ suc by.k = by.number in let lt : by.k < length steps = slice_get_within steps by.k by.found by.there in omega (arith, s, lt);
     }
       where
         line : IsTurnsLine catalogue request [] [] (turns_of (listed catalogue) turns) above v n step
-        line = left_out_by catalogue request [] [] (turns_of (listed catalogue) turns) answers above below v n step told is
+        line = left_out_by catalogue request [] [] (turns_of (listed catalogue) turns) answers above below v n step kept is
 
         k : ℕ
-        k = length line.front
+        k = length line.prefix
 
-        seam : (x : Turn) × (slice_get turns k ≡ Some x) × (turn_of (listed catalogue) x ≡ order.LeavesOut (n, v) step) × (turns_of (listed catalogue) (take k turns) ≡ line.front)
-        seam = map_seam (turn_of (listed catalogue)) turns line.front (order.LeavesOut (n, v) step) line.back line.turn
+        seam : (x : Turn) × (slice_get turns k ≡ Some x) × (turn_of (listed catalogue) x ≡ order.LeavesOut (n, v) step) × (turns_of (listed catalogue) (take k turns) ≡ line.prefix)
+        seam = map_seam (turn_of (listed catalogue)) turns line.prefix (order.LeavesOut (n, v) step) line.back line.turn
 
         left : (wish : ℕ × VersionNo) × (seam.0 ≡ turn.LeftOut wish step) × (wish.0 ≡ n) × (nth (listed catalogue) wish.1 ≡ v)
         left = leaves (listed catalogue) seam.0 n v step seam.2
@@ -355,17 +355,17 @@ module _ (catalogue request : List Line) (turns : List Turn) (steps : List Step)
         place : (j : ℕ) × (k ≡ suc j) × (slice_get serve.wishes j ≡ Some wish)
         place = wish_in k (turn.LeftOut wish step) wish at refl
 
-        says : (x : Version) × (slice_get (listed catalogue) wish.1.0 ≡ Some x) × (line_at request wish.0 ≡ Some (Wish x))
-        says = serve.are_wishes.versions place.0 wish place.2
+        spelled : (x : Version) × (slice_get (listed catalogue) wish.1.0 ≡ Some x) × (line_at request wish.0 ≡ Some (Wish x))
+        spelled = serve.are_wishes.versions place.0 wish place.2
 
-        same : says.0 ≡ v
-        same = sym (numbered (listed catalogue) wish.1 says.0 says.1) ∙ left.3
+        same : spelled.0 ≡ v
+        same = sym (numbered (listed catalogue) wish.1 spelled.0 spelled.1) ∙ left.3
 
-        bar : step_bars catalogue request steps (chosen_before catalogue turns k) v step ≡ true
-        bar = subst (λ (x : Version). step_bars catalogue request steps (chosen_before catalogue turns k) x step ≡ true) left.3 (serve.barred k wish step at)
+        denied : step_forbids catalogue request steps (chosen_before catalogue turns k) v step ≡ true
+        denied = subst (λ (x : Version). step_forbids catalogue request steps (chosen_before catalogue turns k) x step ≡ true) left.3 (serve.forbidden k wish step at)
 
         by : IsStepThat catalogue request steps (chosen_before catalogue turns k) v step
-        by = step_that catalogue request steps (chosen_before catalogue turns k) v step bar
+        by = step_that catalogue request steps (chosen_before catalogue turns k) v step denied
 
         reached : AreReached catalogue request (chosen_before catalogue turns k) (wishes_in (turns_of (listed catalogue) (take k turns)))
         reached =
@@ -376,7 +376,7 @@ module _ (catalogue request : List Line) (turns : List Turn) (steps : List Step)
         exact : AreSame (chosen_before catalogue turns k) (entries_of above)
         exact = exact_entries catalogue request (turns_of (listed catalogue) (take k turns)) above (subst (λ (ts : List order.Turn). AreTurns catalogue request [] [] ts above) (sym seam.3) line.before)
             (accepted_parted request [] (turns_of (listed catalogue) (take k turns)) (order.LeavesOut (n, v) step ∷ line.back)
-            (subst (AllAccepted request []) (line.turn ∙ ap (λ (ts : List order.Turn). ts ++ order.LeavesOut (n, v) step ∷ line.back) (sym seam.3)) all_told)) reached
+            (subst (AllAccepted request []) (line.turn ∙ ap (λ (ts : List order.Turn). ts ++ order.LeavesOut (n, v) step ∷ line.back) (sym seam.3)) all_accepted_in)) reached
 
     -- Each wish is chosen or listed as left out.
     pub accounted : (n : ℕ) (v : Version) → line_at request n ≡ Some (Wish v) → Contains (all_chosen catalogue turns) v ⊎ ((step : ℕ) × Contains answers (LeftOut v n step))
@@ -391,13 +391,13 @@ module _ (catalogue request : List Line) (turns : List Turn) (steps : List Step)
         t : (x : Turn) × (slice_get turns (suc place.0) ≡ Some x) × (wish_of x ≡ Some w.0)
         t = mapped_at wish_of turns (suc place.0) (Some w.0) (ap (λ xs. slice_get xs (suc place.0)) serve.in_turn ∙ at_some serve.wishes place.0 w.0 place.1)
 
-        says : (x : Version) × (slice_get (listed catalogue) w.0.1.0 ≡ Some x) × (line_at request w.0.0 ≡ Some (Wish x))
-        says = serve.are_wishes.versions place.0 w.0 place.1
+        spelled : (x : Version) × (slice_get (listed catalogue) w.0.1.0 ≡ Some x) × (line_at request w.0.0 ≡ Some (Wish x))
+        spelled = serve.are_wishes.versions place.0 w.0 place.1
 
         same : nth (listed catalogue) w.0.1 ≡ v
-        same = numbered (listed catalogue) w.0.1 says.0 says.1 ∙ wished (one_some (sym says.2 ∙ ap (line_at request) w.2 ∙ e))
+        same = numbered (listed catalogue) w.0.1 spelled.0 spelled.1 ∙ wished (one_some (sym spelled.2 ∙ ap (line_at request) w.2 ∙ e))
           where
-            wished : Wish says.0 ≡ Wish v → says.0 ≡ v
+            wished : Wish spelled.0 ≡ Wish v → spelled.0 ≡ v
             wished h = cc
 
         go : (u : Turn) → t.0 ≡ u → Contains (all_chosen catalogue turns) v ⊎ ((step : ℕ) × Contains answers (LeftOut v n step))
@@ -407,7 +407,7 @@ module _ (catalogue request : List Line) (turns : List Turn) (steps : List Step)
         go (turn.LeftOut wish step) is =
             let is_wish : wish ≡ w.0 = one_some (sym (ap wish_of is) ∙ t.2) in
             let at : slice_get (turns_of (listed catalogue) turns) (suc place.0) ≡ Some (order.LeavesOut (wish_at (listed catalogue) wish) step) = at_mapped (turn_of (listed catalogue)) turns (suc place.0) t.0 t.1 ∙ ap (λ (x : Turn). Some (turn_of (listed catalogue) x)) is in
-            let c : Contains answers (LeftOut (nth (listed catalogue) wish.1) wish.0 step) = leaves_told catalogue request [] [] (turns_of (listed catalogue) turns) answers (suc place.0) (wish_at (listed catalogue) wish) step told at in
+            let c : Contains answers (LeftOut (nth (listed catalogue) wish.1) wish.0 step) = left_out_in catalogue request [] [] (turns_of (listed catalogue) turns) answers (suc place.0) (wish_at (listed catalogue) wish) step kept at in
             let version : nth (listed catalogue) wish.1 ≡ v = ap (λ (x : ℕ × VersionNo). nth (listed catalogue) x.1) is_wish ∙ same in
             let number : wish.0 ≡ n = ap (λ (x : ℕ × VersionNo). x.0) is_wish ∙ w.2 in
             inr (step, subst (λ (m : ℕ). Contains answers (LeftOut v m step)) number (subst (λ (x : Version). Contains answers (LeftOut x wish.0 step)) version c))

@@ -15,12 +15,12 @@ use Rattle.resolve_order.specs.View.{turns_of}
 use Rattle.resolve_order.specs.declared.entry.Turn.{Turn}
 use Rattle.resolve_order.specs.declared.entry.Turn.TheVariants.{Chose, LeftOut}
 use Rattle.resolvo_report.specs.Value.{AnswerLine, Step, Report, Install}
-use Rattle.resolvo_report.specs.Value as says
+use Rattle.resolvo_report.specs.Value as value
 use Rattle.resolvo_report.specs.Text.{report_lines, IsStep}
 use Rattle.resolvo_report.specs.Grammar.{IsReport}
 use Rattle.resolvo_checker.specs.Proof.{every_line, IsProof}
 use Rattle.resolvo_judge.specs.Judgement.{IsClaimTrue}
-use Rattle.resolvo_judge.specs.Refusal.{answer_of, step_bars, IsAccepted}
+use Rattle.resolvo_judge.specs.Refusal.{answer_of, step_forbids, IsAccepted}
 
 -- ---- wishes
 
@@ -63,7 +63,7 @@ pub record Serve (catalogue request : List Line) (turns : List Turn) (steps : Li
   pub reached : (k : ℕ) → k < length turns → AreReached catalogue request (chosen_before catalogue turns (suc k)) (wishes_in (turns_of (listed catalogue) (take (suc k) turns)))
   -- the step of a wish that is left out forbids it, with the choices of the turns before it; so it
   -- isn't chosen
-  pub barred : (k : ℕ) (wish : ℕ × VersionNo) (step : ℕ) → slice_get turns k ≡ Some (LeftOut wish step) → IsTrue (step_bars catalogue request steps (chosen_before catalogue turns k) (nth (listed catalogue) wish.1) step)
+  pub forbidden : (k : ℕ) (wish : ℕ × VersionNo) (step : ℕ) → slice_get turns k ≡ Some (LeftOut wish step) → IsTrue (step_forbids catalogue request steps (chosen_before catalogue turns k) (nth (listed catalogue) wish.1) step)
   -- each step is allowed after those before it, in a report that may rest on each line
   pub proof : IsProof catalogue request every_line every_line steps
   -- each step has a text, and so has its number
@@ -74,9 +74,9 @@ pub record Serve (catalogue request : List Line) (turns : List Turn) (steps : Li
 
 -- the line that an entry or a `left out` line names
 abbrev pub line_of : AnswerLine → ℕ
-line_of (says.Entry v place n) = n
-line_of (says.Wished v n) = n
-line_of (says.LeftOut v n step) = n
+line_of (value.Entry v place n) = n
+line_of (value.Wished v n) = n
+line_of (value.LeftOut v n step) = n
 
 -- The report lists the choices of the turns, each version with the line that asked for it, and the
 -- wishes that they leave out. The judge accepts it.

@@ -43,7 +43,7 @@ fn version_at(
 
 /// The report line of an entry.
 fn entry_line(alloc: Global, catalogue: &Catalogue, entry: Entry) -> Result<AnswerLine, AllocError>
-    ensures says { IfOk result
+    ensures written { IfOk result
         (λ line.
         answer_of (answer_line_of line)
         ≡ view.answer_of (listed catalogue.now) (answer.Entry entry)) }
@@ -74,7 +74,7 @@ fn answer_line(
     catalogue: &Catalogue,
     answer: Answer,
 ) -> Result<AnswerLine, AllocError>
-    ensures says { IfOk result
+    ensures written { IfOk result
         (λ line. answer_of (answer_line_of line) ≡ view.answer_of (listed catalogue.now) answer) }
     ensures numbered { IfOk result (λ line. IsNumber (line_of (answer_line_of line))) }
 {
@@ -98,7 +98,7 @@ fn answer_lines(
     catalogue: &Catalogue,
     answers: &[Answer],
 ) -> Result<Vec<AnswerLine>, AllocError>
-    ensures say { IfOk result
+    ensures all_written { IfOk result
         (λ lines.
         map answer_of (answer_lines_of lines.items)
         ≡ view.answers_of (listed catalogue.now) answers.now) }

@@ -10,7 +10,7 @@ use Rattle.resolvo_text.specs.Matches.{Set, is_member}
 use Rattle.resolvo_catalogue_core.specs.Answers as answers
 use Rattle.resolvo_catalogue_core.specs.Answers.{entry_of, entries_of}
 use Rattle.resolvo_catalogue_core.specs.Listed.{listed}
-use Rattle.resolvo_catalogue_core.specs.Questions.{AreAll, SaysOf, BelongsTo}
+use Rattle.resolvo_catalogue_core.specs.Questions.{AreAll, IsVersionLine, BelongsTo}
 use Rattle.resolvo_catalogue_core.specs.Table.{nth}
 use Rattle.resolvo_catalogue_core.specs.declared.rule.VersionNo.{VersionNo}
 use Rattle.resolvo_catalogue_core.proofs.Pushed.{get_push}
@@ -25,7 +25,7 @@ use Rattle.resolve_order.specs.declared.entry.Answer.{Answer}
 use Rattle.resolve_order.specs.declared.entry.Answer.TheVariants as answer
 use Rattle.resolve_order.specs.declared.install_order.Listing.{Listing}
 use Rattle.resolve_order.proofs.LineLemmas.{first_lines, more_lines}
-use Rattle.resolve_order.proofs.PickLemmas.{flag_says}
+use Rattle.resolve_order.proofs.PickLemmas.{flag_means}
 
 pub no_entries : (catalogue request : List Line) (x : Listing) (n : ℕ) → x.answers.items ≡ [] → x.lines.items ≡ lines_to n → n ≡ length request → Holds (listed catalogue) x.chosen [] [] → IsListing catalogue request x []
 no_entries catalogue request x n none lines count h = record {
@@ -48,7 +48,7 @@ entries_more catalogue before after e v at more =
     ∙ ap (λ (w : Version). entries_in catalogue before ++ w ∷ []) (numbered (listed catalogue) e.version v at)
 
 pub listing_more : (catalogue request : List Line) (chosen : Set) (before after : Listing) (e : Entry) (v : Version) (numbers : List ℕ) → slice_get (listed catalogue) e.version.0 ≡ Some v
-    → after.answers.items ≡ before.answers.items ++ answer.Entry e ∷ [] → after.lines.items ≡ before.lines.items ++ lines_for e.version numbers → AreAll numbers (SaysOf (listed catalogue) catalogue e.version.0 BelongsTo)
+    → after.answers.items ≡ before.answers.items ++ answer.Entry e ∷ [] → after.lines.items ≡ before.lines.items ++ lines_for e.version numbers → AreAll numbers (IsVersionLine (listed catalogue) catalogue e.version.0 BelongsTo)
     → Holds (listed catalogue) after.chosen chosen (entries_in catalogue before ++ v ∷ []) → IsListing catalogue request before chosen → IsListing catalogue request after chosen
 listing_more catalogue request chosen before after e v numbers at more lines all h was =
     let now = entries_more catalogue before after e v at more in
@@ -72,7 +72,7 @@ wish_listed catalogue request chosen before after line n h accepted unset more =
     let v = nth (listed catalogue) n in
     let E = entries_in catalogue before in
     let at : slice_get (listed catalogue) n.0 ≡ Some v = accepted.0.1 ∙ ap Some (sym (numbered (listed catalogue) n accepted.0.0 accepted.0.1)) in
-    let out : is_member v E ≡ false = not_true (is_member v E) (sym (flag_says (listed catalogue) before.chosen chosen E n.0 v h.holds at) ∙ unset) in
+    let out : is_member v E ≡ false = not_true (is_member v E) (sym (flag_means (listed catalogue) before.chosen chosen E n.0 v h.holds at) ∙ unset) in
     more ∙ ap (λ b. answers_in catalogue before ++ (if b then [] else answers.Entry v (answers.Wished line) ∷ [])) (sym out)
   where
     not_true : (b : _) → not b ≡ not false → b ≡ false
@@ -85,7 +85,7 @@ wish_is_entry catalogue request chosen before line n h accepted is_set =
     let v = nth (listed catalogue) n in
     let E = entries_in catalogue before in
     let at : slice_get (listed catalogue) n.0 ≡ Some v = accepted.0.1 ∙ ap Some (sym (numbered (listed catalogue) n accepted.0.0 accepted.0.1)) in
-    let among = not_false (is_member v E) (sym (flag_says (listed catalogue) before.chosen chosen E n.0 v h.holds at) ∙ is_set) in
+    let among = not_false (is_member v E) (sym (flag_means (listed catalogue) before.chosen chosen E n.0 v h.holds at) ∙ is_set) in
     sym (append-nil (answers_in catalogue before)) ∙ ap (λ b. answers_in catalogue before ++ (if b then [] else answers.Entry v (answers.Wished line) ∷ [])) (sym among)
   where
     not_false : (b : _) → not b ≡ false → b ≡ not false
@@ -95,9 +95,9 @@ wish_is_entry catalogue request chosen before line n h accepted is_set =
 pub left_out_more : (catalogue request : List Line) (chosen : Set) (before after : Listing) (line : ℕ) (n : VersionNo) (step : ℕ) → after.chosen ≡ before.chosen → after.lines ≡ before.lines
     → after.answers.items ≡ before.answers.items ++ answer.LeftOut n line step ∷ [] → n.0 < length (listed catalogue) → IsListing catalogue request before chosen → TakesTurn catalogue request chosen (LeavesOut (line, nth (listed catalogue) n) step) before after
 left_out_more catalogue request chosen before after line n step chosen_is lines_are more known h =
-    let told : answers_in catalogue after ≡ answers_in catalogue before ++ answers.LeftOut (nth (listed catalogue) n) line step ∷ [] = answers_more catalogue before after (answer.LeftOut n line step) more in
+    let added : answers_in catalogue after ≡ answers_in catalogue before ++ answers.LeftOut (nth (listed catalogue) n) line step ∷ [] = answers_more catalogue before after (answer.LeftOut n line step) more in
     let same : entries_in catalogue after ≡ entries_in catalogue before =
-    ap entries_of told ∙ flat_map-append entry_of (answers_in catalogue before) (answers.LeftOut (nth (listed catalogue) n) line step ∷ []) ∙ append-nil (entries_in catalogue before) in
+    ap entries_of added ∙ flat_map-append entry_of (answers_in catalogue before) (answers.LeftOut (nth (listed catalogue) n) line step ∷ []) ∙ append-nil (entries_in catalogue before) in
     record {
       listing = record {
         holds = subst (Holds (listed catalogue) after.chosen chosen) (sym same) (subst (λ (kept : Chosen). Holds (listed catalogue) kept chosen (entries_in catalogue before)) (sym chosen_is) h.holds);
@@ -109,6 +109,6 @@ left_out_more catalogue request chosen before after line n step chosen_is lines_
         ];
       };
       others = answers.LeftOut (nth (listed catalogue) n) line step ∷ [];
-      more = told;
+      more = added;
       is_turn = refl;
     }

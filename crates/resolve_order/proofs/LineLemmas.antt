@@ -10,7 +10,7 @@ use Rattle.resolvo_text.specs.Matches.{Set}
 use Rattle.resolvo_catalogue_core.specs.Answers as answers
 use Rattle.resolvo_catalogue_core.specs.Grammar.{owner_of}
 use Rattle.resolvo_catalogue_core.specs.Listed.{listed}
-use Rattle.resolvo_catalogue_core.specs.Questions.{AreAll, SaysOf, BelongsTo}
+use Rattle.resolvo_catalogue_core.specs.Questions.{AreAll, IsVersionLine, BelongsTo}
 use Rattle.resolvo_catalogue_core.specs.declared.rule.VersionNo.{VersionNo}
 use Rattle.resolvo_catalogue_core.proofs.TableLemmas.{belongs_owner}
 use Rattle.resolvo_catalogue_core.proofs.TableSteps.{numbered}
@@ -124,19 +124,19 @@ precedes_new catalogue entries v k (answers.ForVersion u m) asked = inl (entries
 precedes_new catalogue entries v k (answers.Wished n) asked = absurd asked
 
 -- the line is in the catalogue, and is the version's
-line_for : (catalogue : List Line) (n : VersionNo) (v : Version) (numbers : List ℕ) (r : Reason) → slice_get (listed catalogue) n.0 ≡ Some v → AreAll numbers (SaysOf (listed catalogue) catalogue n.0 BelongsTo)
+line_for : (catalogue : List Line) (n : VersionNo) (v : Version) (numbers : List ℕ) (r : Reason) → slice_get (listed catalogue) n.0 ≡ Some v → AreAll numbers (IsVersionLine (listed catalogue) catalogue n.0 BelongsTo)
     → Contains (lines_for n numbers) r → (k : ℕ) × (reason_of (listed catalogue) r ≡ answers.ForVersion v k) × (owner_of catalogue k ≡ Some v)
 line_for catalogue n v numbers r at all c =
     let m = mapped_element (λ (k : ℕ). reason.ForVersion n k) numbers r c in
-    let says = (all.all m.0).0 m.1 in
-    let same : says.0 ≡ v = (let e : slice_get (listed catalogue) n.0 ≡ Some says.0 = says.1 in cc) in (
+    let owned_by = (all.all m.0).0 m.1 in
+    let same : owned_by.0 ≡ v = (let e : slice_get (listed catalogue) n.0 ≡ Some owned_by.0 = owned_by.1 in cc) in (
       m.0,
       ap (λ (x : Reason). reason_of (listed catalogue) x) (sym m.2) ∙ ap (λ (w : Version). answers.ForVersion w m.0) (numbered (listed catalogue) n v at),
-      subst (λ (w : Version). owner_of catalogue m.0 ≡ Some w) same (belongs_owner says.0 catalogue m.0 says.2),
+      subst (λ (w : Version). owner_of catalogue m.0 ≡ Some w) same (belongs_owner owned_by.0 catalogue m.0 owned_by.2),
     )
 
 pub more_lines : (catalogue request : List Line) (entries : Set) (lines : List Reason) (n : VersionNo) (v : Version) (numbers : List ℕ) → slice_get (listed catalogue) n.0 ≡ Some v
-    → AreAll numbers (SaysOf (listed catalogue) catalogue n.0 BelongsTo) → AreLines catalogue request entries lines → AreLines catalogue request (entries ++ v ∷ []) (lines ++ lines_for n numbers)
+    → AreAll numbers (IsVersionLine (listed catalogue) catalogue n.0 BelongsTo) → AreLines catalogue request entries lines → AreLines catalogue request (entries ++ v ∷ []) (lines ++ lines_for n numbers)
 more_lines catalogue request entries lines n v numbers at all old = record {
   asked = λ r c. elim (Contains-append_cases lines (lines_for n numbers) r c) [
     | inl l ↦ asked_more catalogue entries v (reason_of (listed catalogue) r) (old.asked r l)

@@ -11,14 +11,14 @@ use Rattle.resolve_order.proofs.TurnLemmas.{AllAccepted, after_both, exact_entri
 -- ---- the first turns
 
 -- The answers of the first turns, and then those of the others.
-pub record AreParts (catalogue request : List Line) (chosen entries : Set) (front back : List Turn) (answers : List Answer) : Type 0 where
+pub record AreParts (catalogue request : List Line) (chosen entries : Set) (prefix back : List Turn) (answers : List Answer) : Type 0 where
   pub first : List Answer
   pub rest : List Answer
   pub all : answers ≡ first ++ rest
-  pub before : AreTurns catalogue request chosen entries front first
-  pub after : AreTurns catalogue request (chosen ++ chosen_in front) (entries ++ entries_of first) back rest
+  pub before : AreTurns catalogue request chosen entries prefix first
+  pub after : AreTurns catalogue request (chosen ++ chosen_in prefix) (entries ++ entries_of first) back rest
 
-pub turns_parted : (catalogue request : List Line) (chosen entries : Set) (front back : List Turn) (answers : List Answer) → AreTurns catalogue request chosen entries (front ++ back) answers → AreParts catalogue request chosen entries front back answers
+pub turns_parted : (catalogue request : List Line) (chosen entries : Set) (prefix back : List Turn) (answers : List Answer) → AreTurns catalogue request chosen entries (prefix ++ back) answers → AreParts catalogue request chosen entries prefix back answers
 turns_parted catalogue request chosen entries [] back answers h = record {
   first = [];
   rest = answers;
@@ -26,28 +26,28 @@ turns_parted catalogue request chosen entries [] back answers h = record {
   before = refl;
   after = subst (λ (set : Set). AreTurns catalogue request set (entries ++ []) back answers) (sym (append-nil chosen)) (subst (λ (set : Set). AreTurns catalogue request chosen set back answers) (sym (append-nil entries)) h);
 }
-turns_parted catalogue request chosen entries (t ∷ front) back answers h =
-    let r = turns_parted catalogue request (chosen ++ chosen_by t) (entries ++ entries_of h.0) front back h.1 h.4 in
+turns_parted catalogue request chosen entries (t ∷ prefix) back answers h =
+    let r = turns_parted catalogue request (chosen ++ chosen_by t) (entries ++ entries_of h.0) prefix back h.1 h.4 in
     let those : (entries ++ entries_of h.0) ++ entries_of r.first ≡ entries ++ entries_of (h.0 ++ r.first) = sym (after_both entries h.0 r.first) in
     record {
       first = h.0 ++ r.first;
       rest = r.rest;
       all = h.2 ∙ ap (λ (xs : List Answer). h.0 ++ xs) r.all ∙ sym (append_assoc h.0 r.first r.rest);
       before = (h.0, r.first, refl, h.3, r.before);
-      after = subst (λ (set : Set). AreTurns catalogue request set (entries ++ entries_of (h.0 ++ r.first)) back r.rest) (append_assoc chosen (chosen_by t) (chosen_in front))
-          (subst (λ (set : Set). AreTurns catalogue request ((chosen ++ chosen_by t) ++ chosen_in front) set back r.rest) those r.after);
+      after = subst (λ (set : Set). AreTurns catalogue request set (entries ++ entries_of (h.0 ++ r.first)) back r.rest) (append_assoc chosen (chosen_by t) (chosen_in prefix))
+          (subst (λ (set : Set). AreTurns catalogue request ((chosen ++ chosen_by t) ++ chosen_in prefix) set back r.rest) those r.after);
     }
 
-pub accepted_parted : (request : List Line) (chosen : Set) (front back : List Turn) → AllAccepted request chosen (front ++ back) → AllAccepted request chosen front
+pub accepted_parted : (request : List Line) (chosen : Set) (prefix back : List Turn) → AllAccepted request chosen (prefix ++ back) → AllAccepted request chosen prefix
 accepted_parted request chosen [] back h = tt
-accepted_parted request chosen (t ∷ front) back h = (h.0, accepted_parted request (chosen ++ chosen_by t) front back h.1)
+accepted_parted request chosen (t ∷ prefix) back h = (h.0, accepted_parted request (chosen ++ chosen_by t) prefix back h.1)
 
 -- Where the choices of the first turns are reached by their wishes, their entries are exactly these
 -- choices.
-pub exact_before : (catalogue request : List Line) (front back : List Turn) (answers : List Answer) (h : AreTurns catalogue request [] [] (front ++ back) answers) → AllAccepted request [] (front ++ back) → AreReached catalogue request (chosen_in front) (wishes_in front)
-    → (v : Version) → Contains (chosen_in front) v ↔ Contains (entries_of (turns_parted catalogue request [] [] front back answers h).first) v
-exact_before catalogue request front back answers h accepted reached =
-    exact_entries catalogue request front (turns_parted catalogue request [] [] front back answers h).first (turns_parted catalogue request [] [] front back answers h).before (accepted_parted request [] front back accepted) reached
+pub exact_before : (catalogue request : List Line) (prefix back : List Turn) (answers : List Answer) (h : AreTurns catalogue request [] [] (prefix ++ back) answers) → AllAccepted request [] (prefix ++ back) → AreReached catalogue request (chosen_in prefix) (wishes_in prefix)
+    → (v : Version) → Contains (chosen_in prefix) v ↔ Contains (entries_of (turns_parted catalogue request [] [] prefix back answers h).first) v
+exact_before catalogue request prefix back answers h accepted reached =
+    exact_entries catalogue request prefix (turns_parted catalogue request [] [] prefix back answers h).first (turns_parted catalogue request [] [] prefix back answers h).before (accepted_parted request [] prefix back accepted) reached
 
 -- ---- a wish that is left out
 
@@ -92,10 +92,10 @@ entries_above (LeftOut w m k ∷ first) rest above below v n step are is = absur
 
 -- The line is that of a turn, and the turns before it list the lines above.
 pub record IsTurnsLine (catalogue request : List Line) (chosen entries : Set) (turns : List Turn) (above : List Answer) (v : Version) (n step : ℕ) : Type 0 where
-  pub front : List Turn
+  pub prefix : List Turn
   pub back : List Turn
-  pub turn : turns ≡ front ++ LeavesOut (n, v) step ∷ back
-  pub before : AreTurns catalogue request chosen entries front above
+  pub turn : turns ≡ prefix ++ LeavesOut (n, v) step ∷ back
+  pub before : AreTurns catalogue request chosen entries prefix above
 
 pub left_out_by : (catalogue request : List Line) (chosen entries : Set) (turns : List Turn) (answers above below : List Answer) (v : Version) (n step : ℕ) → AreTurns catalogue request chosen entries turns answers → answers ≡ above ++ LeftOut v n step ∷ below
     → IsTurnsLine catalogue request chosen entries turns above v n step
@@ -104,21 +104,21 @@ left_out_by catalogue request chosen entries [] answers (a ∷ above) below v n 
 left_out_by catalogue request chosen entries (Chose wish more ∷ turns) answers above below v n step h is =
     let p = entries_above h.0 h.1 above below v n step (turn_entries catalogue request (chosen ++ more) entries wish h.0 h.3) (sym h.2 ∙ is) in
     let r = left_out_by catalogue request (chosen ++ more) (entries ++ entries_of h.0) turns h.1 p.0 below v n step h.4 p.2 in
-    record { front = Chose wish more ∷ r.front; back = r.back; turn = ap (λ (ts : List Turn). Chose wish more ∷ ts) r.turn; before = (h.0, p.0, p.1, h.3, r.before) }
+    record { prefix = Chose wish more ∷ r.prefix; back = r.back; turn = ap (λ (ts : List Turn). Chose wish more ∷ ts) r.turn; before = (h.0, p.0, p.1, h.3, r.before) }
 left_out_by catalogue request chosen entries (LeavesOut wish k ∷ turns) answers [] below v n step h is =
     let one : LeftOut wish.1 wish.0 k ∷ h.1 ≡ LeftOut v n step ∷ below = sym (ap (λ (xs : List Answer). xs ++ h.1) h.3) ∙ sym h.2 ∙ is in
     let versions : wish.1 ≡ v = cc in
     let lines : wish.0 ≡ n = cc in
     let steps : k ≡ step = cc in
     let same : wish ≡ (n, v) = (λ i. (lines i, versions i)) in
-    record { front = []; back = turns; turn = (λ i. LeavesOut (same i) (steps i) ∷ turns); before = refl }
+    record { prefix = []; back = turns; turn = (λ i. LeavesOut (same i) (steps i) ∷ turns); before = refl }
 left_out_by catalogue request chosen entries (LeavesOut wish k ∷ turns) answers (a ∷ above) below v n step h is =
     let one : LeftOut wish.1 wish.0 k ∷ h.1 ≡ a ∷ (above ++ LeftOut v n step ∷ below) = sym (ap (λ (xs : List Answer). xs ++ h.1) h.3) ∙ sym h.2 ∙ is in
     let head : a ≡ LeftOut wish.1 wish.0 k = cc in
     let tail : h.1 ≡ above ++ LeftOut v n step ∷ below = cc in
     let r = left_out_by catalogue request (chosen ++ []) (entries ++ entries_of h.0) turns h.1 above below v n step h.4 tail in
     record {
-      front = LeavesOut wish k ∷ r.front;
+      prefix = LeavesOut wish k ∷ r.prefix;
       back = r.back;
       turn = ap (λ (ts : List Turn). LeavesOut wish k ∷ ts) r.turn;
       before = (h.0, above, ap (λ (x : Answer). x ∷ above) head ∙ ap (λ (xs : List Answer). xs ++ above) (sym h.3), h.3, r.before);

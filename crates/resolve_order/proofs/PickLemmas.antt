@@ -163,8 +163,8 @@ pub picked_none : (versions : List Version) (chosen : Set) (s : Spec) → IsPick
 picked_none versions chosen s p = λ w c m. p w c (name_matched s w m)
 
 -- whether it is no entry, by its flag
-pub flag_says : (versions : List Version) (kept : Chosen) (chosen entries : Set) (n : ℕ) (v : Version) → Holds versions kept chosen entries → slice_get versions n ≡ Some v → is_unlisted kept.listed.items n ≡ not (is_member v entries)
-flag_says versions kept chosen entries n v h at = ap (λ (o : Option Bool). option_map_or not o false) (h.flags n v at)
+pub flag_means : (versions : List Version) (kept : Chosen) (chosen entries : Set) (n : ℕ) (v : Version) → Holds versions kept chosen entries → slice_get versions n ≡ Some v → is_unlisted kept.listed.items n ≡ not (is_member v entries)
+flag_means versions kept chosen entries n v h at = ap (λ (o : Option Bool). option_map_or not o false) (h.flags n v at)
 
 not_true : (b : Bool) → not b ≡ true → b ≡ false
 not_true true e = absurd (false≢true e)
@@ -177,12 +177,12 @@ not_false false e = absurd (false≢true (sym e))
 pub match_unlisted : (versions : List Version) (kept : Chosen) (chosen entries : Set) (s : Spec) (n : VersionNo) → Holds versions kept chosen entries → IsChosenMatch versions chosen s (Some n)
     → is_unlisted kept.listed.items n.0 ≡ true → IsUnlistedMatch versions chosen entries s (Some n)
 match_unlisted versions kept chosen entries s n h m unset =
-    (m.0, m.1, m.2, m.3, none_from_member entries m.0 (not_true (is_member m.0 entries) (sym (flag_says versions kept chosen entries n.0 m.0 h m.1) ∙ unset)))
+    (m.0, m.1, m.2, m.3, none_from_member entries m.0 (not_true (is_member m.0 entries) (sym (flag_means versions kept chosen entries n.0 m.0 h m.1) ∙ unset)))
 
 pub match_listed : (versions : List Version) (kept : Chosen) (chosen entries : Set) (s : Spec) (n : VersionNo) → Holds versions kept chosen entries → IsChosenMatch versions chosen s (Some n)
     → is_unlisted kept.listed.items n.0 ≡ false → IsUnlistedMatch versions chosen entries s None
 match_listed versions kept chosen entries s n h m is_set = λ w c is.
-    from_member entries w (subst (λ (x : Version). is_member x entries ≡ true) (sym (m.4 w c is)) (not_false (is_member m.0 entries) (sym (flag_says versions kept chosen entries n.0 m.0 h m.1) ∙ is_set)))
+    from_member entries w (subst (λ (x : Version). is_member x entries ≡ true) (sym (m.4 w c is)) (not_false (is_member m.0 entries) (sym (flag_means versions kept chosen entries n.0 m.0 h m.1) ∙ is_set)))
 
 pub no_match : (versions : List Version) (chosen entries : Set) (s : Spec) → IsChosenMatch versions chosen s None → IsUnlistedMatch versions chosen entries s None
 no_match versions chosen entries s none = λ w c is. absurd (none w c is)
@@ -196,7 +196,7 @@ not_not false = refl
 pub met_by : (versions : List Version) (kept : Chosen) (chosen entries : Set) (s : Spec) (n : VersionNo) → Holds versions kept chosen entries → IsChosenMatch versions chosen s (Some n)
     → not (is_unlisted kept.listed.items n.0) ≡ is_met s entries
 met_by versions kept chosen entries s n h m =
-    ap not (flag_says versions kept chosen entries n.0 m.0 h m.1) ∙ not_not (is_member m.0 entries) ∙ of (cases_Bool (is_member m.0 entries))
+    ap not (flag_means versions kept chosen entries n.0 m.0 h m.1) ∙ not_not (is_member m.0 entries) ∙ of (cases_Bool (is_member m.0 entries))
   where
     of : (is_member m.0 entries ≡ true) ⊎ (is_member m.0 entries ≡ false) → is_member m.0 entries ≡ is_met s entries
     of (inl e) = e ∙ sym (any_from (matches s) entries m.0 (from_member entries m.0 e) m.2)

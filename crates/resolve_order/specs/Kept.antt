@@ -9,7 +9,7 @@ use Rattle.resolvo_text.specs.Matches.{Set, is_member, matches, condition_holds}
 use Rattle.resolvo_catalogue_core.specs.Answers as answers
 use Rattle.resolvo_catalogue_core.specs.Answers.{entries_of, IsNeededBy}
 use Rattle.resolvo_catalogue_core.specs.Listed.{listed, AreDistinct}
-use Rattle.resolvo_catalogue_core.specs.Questions.{States, is_rule}
+use Rattle.resolvo_catalogue_core.specs.Questions.{IsRuleLine, is_rule}
 use Rattle.resolvo_catalogue_core.specs.Table.{nth}
 use Rattle.resolvo_catalogue_core.specs.declared.rule.VersionNo.{VersionNo}
 use Rattle.resolvo_catalogue_core.specs.declared.rule.Rule.{Rule}
@@ -78,7 +78,7 @@ IsFirstMatch versions chosen entries alternatives (Some n) = (v : Version) × (s
 -- The rule is that of the line, or the line has none.
 abbrev pub IsRuleAt : Option Line → Option Rule → Type 0
 IsRuleAt line None = (l : Line) → line ≡ Some l → is_rule l ≡ false
-IsRuleAt line (Some r) = (l : Line) × (line ≡ Some l) × ((versions : List Version) × (owner : Option Version) × States versions r owner l)
+IsRuleAt line (Some r) = (l : Line) × (line ≡ Some l) × ((versions : List Version) × (owner : Option Version) × IsRuleLine versions r owner l)
 
 -- Each match of the line among the chosen versions is an entry.
 abbrev pub IsSpent : Set → Set → Option Line → Type 0

@@ -27,7 +27,7 @@ answer_of versions (answer.Entry e) = answers.Entry (nth versions e.version) (re
 answer_of versions (answer.LeftOut version line step) = answers.LeftOut (nth versions version) line step
 
 abbrev pub answers_of : List Version → List Answer → List answers.Answer
-answers_of versions told = map (answer_of versions) told
+answers_of versions list = map (answer_of versions) list
 
 -- a wish with its version instead of the number
 abbrev pub wish_at : List Version → ℕ × VersionNo → ℕ × Version
@@ -62,7 +62,7 @@ number_of (answer.LeftOut version line step) = version.0
 
 -- The answers' numbers are those of listed versions.
 abbrev pub AreNumbered : List Version → List Answer → Type 0
-AreNumbered versions told = (i : ℕ) (a : Answer) → slice_get told i ≡ Some a → number_of a < length versions
+AreNumbered versions list = (i : ℕ) (a : Answer) → slice_get list i ≡ Some a → number_of a < length versions
 
 -- At most one version of a package is chosen, and the wishes are those of the request.
 pub record AreTurnsOf (catalogue request : List Line) (turns : List Turn) : Type 0 where

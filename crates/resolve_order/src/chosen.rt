@@ -5,11 +5,11 @@
 ghost use Rattle.std.specs.Prelude.{◌≡◌, ◌++◌, ◌∷◌, [], ◌+◌, true, Contains, slice_get, Some, List, Option, IfOk, OnOk, IfSome};
 ghost use Rattle.std.specs.BTreeMap.{get_by_text};
 ghost use Rattle.std.specs.Option.{option_copied, option_map};
-ghost use Rattle.resolvo_text.specs.Line as says;
+ghost use Rattle.resolvo_text.specs.Line as content;
 ghost use Rattle.resolvo_text.specs.Matches.{Set, is_met, holds, condition_holds};
 ghost use Rattle.resolvo_text.specs.View.{spec_of, specs_of, cond_of, condition_of};
 ghost use Rattle.resolvo_catalogue_core.specs.Listed.{listed, members, pair_version, version_at};
-ghost use Rattle.resolvo_catalogue_core.specs.Questions.{States};
+ghost use Rattle.resolvo_catalogue_core.specs.Questions.{IsRuleLine};
 ghost use Rattle.resolve_order.specs.Kept.{Holds, AreOneEach, IsChosenMatch, IsUnlistedMatch, IsFirstMatch, IsRuleAt, IsLook, IfGives, is_unlisted, unlisted};
 
 use resolvo_catalogue_core::{Catalogue, Cond, Rule, Spec, VersionNo};
@@ -101,7 +101,7 @@ impl Chosen {
     pub fn mark(&mut self, version: VersionNo)
         requires { is_unlisted self.old.listed.items version.0 ≡ true }
         ensures fewer { unlisted self.new.listed.items + 1 ≡ unlisted self.old.listed.items }
-        ensures marked { (versions : List says.Version) (chosen entries : Set) (v : says.Version)
+        ensures marked { (versions : List content.Version) (chosen entries : Set) (v : content.Version)
             → slice_get versions version.0 ≡ Some v
             → Contains chosen v
             → Holds versions self.old chosen entries
@@ -219,7 +219,7 @@ impl Chosen {
         ensures looked { (chosen entries : Set)
             → Holds (listed catalogue.now) self.now chosen entries
             → IsLook (listed catalogue.now) chosen entries
-            (Some (says.Needs (specs_of alternatives.now) (condition_of condition.now))) result }
+            (Some (content.Needs (specs_of alternatives.now) (condition_of condition.now))) result }
     {
         match self.first_match(catalogue, alternatives) {
             Some(version) => {
@@ -236,10 +236,10 @@ impl Chosen {
     /// The result of the line of this rule. A rule that is no need gives nothing.
     fn look_at_rule(&self, catalogue: &Catalogue, rule: &Rule) -> Look
         ensures unlisted { IfGives result (λ n. is_unlisted self.now.listed.items n.0 ≡ true) }
-        ensures looked { (chosen entries : Set) (versions : List says.Version)
-            (owner : Option says.Version) (line : says.Line)
+        ensures looked { (chosen entries : Set) (versions : List content.Version)
+            (owner : Option content.Version) (line : content.Line)
             → Holds (listed catalogue.now) self.now chosen entries
-            → States versions rule.now owner line
+            → IsRuleLine versions rule.now owner line
             → IsLook (listed catalogue.now) chosen entries (Some line) result }
     {
         match rule {
@@ -256,7 +256,7 @@ impl Chosen {
     /// The result of the line of this rule. A line without a rule gives nothing.
     pub fn look(&self, catalogue: &Catalogue, rule: Option<&Rule>) -> Look
         ensures unlisted { IfGives result (λ n. is_unlisted self.now.listed.items n.0 ≡ true) }
-        ensures looked { (chosen entries : Set) (line : Option says.Line)
+        ensures looked { (chosen entries : Set) (line : Option content.Line)
             → Holds (listed catalogue.now) self.now chosen entries
             → IsRuleAt line (option_copied rule.entry)
             → IsLook (listed catalogue.now) chosen entries line result }

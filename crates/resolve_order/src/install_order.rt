@@ -6,7 +6,7 @@
 
 ghost use Rattle.std.specs.Prelude.{◌≡◌, ◌↔◌, ◌++◌, ◌∷◌, [], ◌+◌, ◌<◌, length, true, List, Option, Contains, map, slice_get, Some, IfOk, IfSome, OnOk};
 ghost use Rattle.std.specs.Option.{option_copied, option_map};
-ghost use Rattle.resolvo_text.specs.Line as says;
+ghost use Rattle.resolvo_text.specs.Line as content;
 ghost use Rattle.resolvo_text.specs.Matches.{Set};
 ghost use Rattle.resolvo_catalogue_core.specs.Answers.{IsReasoned, entries_of};
 ghost use Rattle.resolvo_catalogue_core.specs.Listed.{listed, members};
@@ -95,7 +95,7 @@ impl Listing {
         ensures lines { OnOk result
             ((more : List Reason) × (self.new.lines.items ≡ self.old.lines.items ++ more)) }
         ensures listing { OnOk result
-            ((request : List says.Line) (chosen : Set) (v : says.Version)
+            ((request : List content.Line) (chosen : Set) (v : content.Version)
             → slice_get (listed catalogue.now) entry.version.0 ≡ Some v
             → Contains chosen v
             → IsListing catalogue.now request self.old chosen
@@ -182,12 +182,12 @@ impl Listing {
         wish: Option<(u32, VersionNo)>,
     ) -> Result<(), AllocError>
         ensures listing { OnOk result
-            ((request : List says.Line) (chosen : Set)
+            ((request : List content.Line) (chosen : Set)
             → IsListing catalogue.now request self.old chosen
             → IsAccepted (listed catalogue.now) request chosen wish
             → IsListing catalogue.now request self.new chosen) }
         ensures listed { OnOk result
-            ((request : List says.Line) (chosen : Set)
+            ((request : List content.Line) (chosen : Set)
             → IsListing catalogue.now request self.old chosen
             → IsAccepted (listed catalogue.now) request chosen wish
             → answers_in catalogue.now self.new
@@ -212,7 +212,7 @@ impl Listing {
     /// Lists a wish as left out.
     fn leave_out(&mut self, wish: (u32, VersionNo), step: u32) -> Result<(), AllocError>
         ensures { OnOk result
-            ((catalogue request : List says.Line) (chosen : Set)
+            ((catalogue request : List content.Line) (chosen : Set)
             → IsListing catalogue request self.old chosen
             → wish.1.0 < length (listed catalogue)
             → TakesTurn catalogue request chosen
@@ -303,7 +303,7 @@ pub fn list(
         → AreReached catalogue.now request.now.lines
         (chosen_in (turns_of (listed catalogue.now) turns.now))
         (wishes_in (turns_of (listed catalogue.now) turns.now))
-        → (v : says.Version)
+        → (v : content.Version)
         → Contains (chosen_in (turns_of (listed catalogue.now) turns.now)) v ↔ Contains
         (entries_of (answers_of (listed catalogue.now) answers.items)) v) }
     ensures numbered { IfOk result

@@ -18,16 +18,16 @@ use Rattle.resolvo_catalogue.proofs.MarkLemmas.{one_some}
 use Rattle.resolvo_report.specs.Value.{Step, Report, ReportLine, RefusedHead, CatalogueLine, RequestLine, Numbered, Refused}
 use Rattle.resolvo_report.specs.Text.{numbered, report_lines}
 use Rattle.resolvo_report.specs.Grammar.{IsReport}
-use Rattle.resolvo_checker.specs.Proof.{may_stand, is_named, ends_empty}
-use Rattle.resolvo_judge.specs.Refusal.{catalogue_line_in, request_line_in, step_in, catalogue_lines_in, request_lines_in, steps_in, states_rule, passes, ArePassed, IsAccepted}
+use Rattle.resolvo_checker.specs.Proof.{is_valid_step, is_named, ends_empty}
+use Rattle.resolvo_judge.specs.Refusal.{catalogue_line_in, request_line_in, step_in, catalogue_lines_in, request_lines_in, steps_in, has_rule, passes, ArePassed, IsAccepted}
 use Rattle.resolvo_judge.specs.Judgement.{IsClaimTrue}
 use Rattle.resolvo_judge.proofs.JudgeLemmas.{claim_true}
 use Rattle.resolve_refusal.specs.declared.named.Text.{Text}
 use Rattle.resolve_refusal.specs.declared.named.Text.TheVariants as text
 use Rattle.resolve_refusal.specs.Named.{line_in, IsNamedBy}
 use Rattle.resolve_refusal.specs.RefusedReport.{IsRefusedBy}
-use Rattle.resolve_refusal.specs.Refusal.{IsToldBy, Refutes, IsRefusalOf}
-use Rattle.resolve_refusal.proofs.FollowLemmas.{zip_right, rests, lines_in, line_stated, stands, written_ends}
+use Rattle.resolve_refusal.specs.Refusal.{IsWrittenAs, Refutes, IsRefusalOf}
+use Rattle.resolve_refusal.proofs.FollowLemmas.{zip_right, rests, lines_in, line_rule, present, written_ends}
 
 -- ---- lists, place by place
 
@@ -86,17 +86,17 @@ module _ (in_catalogue in_request : List ℕ) (earlier : List Step) where
   request_named = three request_line_in (map (λ n. CatalogueLine n) in_catalogue) (map (λ n. RequestLine n) in_request) (numbered 1 earlier)
       ∙ rw (each_none request_line_in (λ n. CatalogueLine n) (λ n. refl) in_catalogue, each_one request_line_in (λ n. RequestLine n) (λ n. refl) in_request, none_numbered request_line_in (λ n s. refl) 1 earlier) (append-nil in_request)
 
-  steps_told : steps_in (lines_to in_catalogue in_request earlier) ≡ earlier
-  steps_told = three step_in (map (λ n. CatalogueLine n) in_catalogue) (map (λ n. RequestLine n) in_request) (numbered 1 earlier)
+  steps_written : steps_in (lines_to in_catalogue in_request earlier) ≡ earlier
+  steps_written = three step_in (map (λ n. CatalogueLine n) in_catalogue) (map (λ n. RequestLine n) in_request) (numbered 1 earlier)
       ∙ rw (each_none step_in (λ n. CatalogueLine n) (λ n. refl) in_catalogue, each_none step_in (λ n. RequestLine n) (λ n. refl) in_request) (steps_numbered 1 earlier)
 
 -- a step passes below these lines where it is allowed after the steps of them
 step_passes : (catalogue request : List Line) (above : List ReportLine) (in_catalogue in_request : List ℕ) (earlier : List Step) (n : ℕ) (t : Step) → catalogue_lines_in above ≡ in_catalogue → request_lines_in above ≡ in_request → steps_in above ≡ earlier
-    → may_stand catalogue request (is_named in_catalogue) (is_named in_request) earlier t ≡ true → passes catalogue request (RefusedHead ∷ above) (Numbered n t) ≡ true
+    → is_valid_step catalogue request (is_named in_catalogue) (is_named in_request) earlier t ≡ true → passes catalogue request (RefusedHead ∷ above) (Numbered n t) ≡ true
 step_passes catalogue request above in_catalogue in_request earlier n t c r s may =
-    subst (λ (xs : List ℕ). may_stand catalogue request (is_named xs) (is_named (request_lines_in above)) (steps_in above) t ≡ true) (sym c)
-    (subst (λ (ys : List ℕ). may_stand catalogue request (is_named in_catalogue) (is_named ys) (steps_in above) t ≡ true) (sym r)
-    (subst (λ (ss : List Step). may_stand catalogue request (is_named in_catalogue) (is_named in_request) ss t ≡ true) (sym s) may))
+    subst (λ (xs : List ℕ). is_valid_step catalogue request (is_named xs) (is_named (request_lines_in above)) (steps_in above) t ≡ true) (sym c)
+    (subst (λ (ys : List ℕ). is_valid_step catalogue request (is_named in_catalogue) (is_named ys) (steps_in above) t ≡ true) (sym r)
+    (subst (λ (ss : List Step). is_valid_step catalogue request (is_named in_catalogue) (is_named in_request) ss t ≡ true) (sym s) may))
 
 -- a line of this list is named
 listed_named : (numbers : List ℕ) (n : ℕ) → Contains numbers n → is_named numbers n ≡ true
@@ -107,62 +107,62 @@ number_within : (lines : List Line) (n : ℕ) (l : Line) → line_at lines n ≡
 number_within lines zero l e = absurd cc
 number_within lines (suc k) l e = (k, refl, slice_get_within lines k l e)
 
-module _ (catalogue : List Line) (said : ReadRequest) (provider : Provider) (steps : List (ProofStep NameId SolvableId)) (refuted : Refutes catalogue said provider steps)
-    (in_catalogue in_request : List ℕ) (written : List Step) (each : AllZip (IsToldBy catalogue provider.ids said.lines) steps written)
-    (named : AreAll in_catalogue (IsNamedBy text.Catalogue (length catalogue) written)) (asked : AreAll in_request (IsNamedBy text.Request (length said.lines) written)) where
+module _ (catalogue : List Line) (source : ReadRequest) (provider : Provider) (steps : List (ProofStep NameId SolvableId)) (refuted : Refutes catalogue source provider steps)
+    (in_catalogue in_request : List ℕ) (written : List Step) (each : AllZip (IsWrittenAs catalogue provider.ids source.lines) steps written)
+    (named : AreAll in_catalogue (IsNamedBy text.Catalogue (length catalogue) written)) (asked : AreAll in_request (IsNamedBy text.Request (length source.lines) written)) where
   -- a named line has a rule
-  states : (of : Text) (numbers : List ℕ) (count n : ℕ) → AreAll numbers (IsNamedBy of count written) → Contains numbers n → states_rule (line_at (lines_in catalogue said.lines of) n) ≡ true
+  states : (of : Text) (numbers : List ℕ) (count n : ℕ) → AreAll numbers (IsNamedBy of count written) → Contains numbers n → has_rule (line_at (lines_in catalogue source.lines of) n) ≡ true
   states of numbers count n all h =
       let (k, is, below, (t, there, rests_on)) = (all.all n).0 h in
       let (m, e) = at_from_contains written t there in
-      let (s, at, tells) = zip_right (IsToldBy catalogue provider.ids said.lines) steps written each m t e in
-      let (l, stated, rule) = line_stated catalogue said provider steps refuted.proves of s t n tells rests_on in
-      ap states_rule stated ∙ rule
+      let (s, at, names_rule) = zip_right (IsWrittenAs catalogue provider.ids source.lines) steps written each m t e in
+      let (l, at_line, rule) = line_rule catalogue source provider steps refuted.proves of s t n names_rule rests_on in
+      ap has_rule at_line ∙ rule
 
   -- the line that a step rests on is named
-  names : (of : Text) (numbers : List ℕ) (m : ℕ) (t : Step) (n : ℕ) → AreAll numbers (IsNamedBy of (length (lines_in catalogue said.lines of)) written) → slice_get written m ≡ Some t → line_in of t ≡ Some n → is_named numbers n ≡ true
+  names : (of : Text) (numbers : List ℕ) (m : ℕ) (t : Step) (n : ℕ) → AreAll numbers (IsNamedBy of (length (lines_in catalogue source.lines of)) written) → slice_get written m ≡ Some t → line_in of t ≡ Some n → is_named numbers n ≡ true
   names of numbers m t n all e rests_on =
-      let (s, at, tells) = zip_right (IsToldBy catalogue provider.ids said.lines) steps written each m t e in
-      let (l, stated, rule) = line_stated catalogue said provider steps refuted.proves of s t n tells rests_on in
-      let (k, is, below) = number_within (lines_in catalogue said.lines of) n l stated in
+      let (s, at, names_rule) = zip_right (IsWrittenAs catalogue provider.ids source.lines) steps written each m t e in
+      let (l, at_line, rule) = line_rule catalogue source provider steps refuted.proves of s t n names_rule rests_on in
+      let (k, is, below) = number_within (lines_in catalogue source.lines of) n l at_line in
       listed_named numbers n ((all.all n).1 (k, is, below, (t, contains_from_at written t m e, rests_on)))
 
-  line_passes : (n : ℕ) (l : ReportLine) → slice_get (lines_to in_catalogue in_request written) n ≡ Some l → passes catalogue said.lines (RefusedHead ∷ take n (lines_to in_catalogue in_request written)) l ≡ true
+  line_passes : (n : ℕ) (l : ReportLine) → slice_get (lines_to in_catalogue in_request written) n ≡ Some l → passes catalogue source.lines (RefusedHead ∷ take n (lines_to in_catalogue in_request written)) l ≡ true
   line_passes n l e = elim (get_parts (map (λ x. CatalogueLine x) in_catalogue) (map (λ x. RequestLine x) in_request ++ numbered 1 written) n l e) [
-    | inl a ↦ (let (x, h, is) = map_contains (λ (x : ℕ). CatalogueLine x) l in_catalogue a in ap (passes catalogue said.lines (RefusedHead ∷ take n (lines_to in_catalogue in_request written))) is ∙ states text.Catalogue in_catalogue (length catalogue) x named h)
+    | inl a ↦ (let (x, h, is) = map_contains (λ (x : ℕ). CatalogueLine x) l in_catalogue a in ap (passes catalogue source.lines (RefusedHead ∷ take n (lines_to in_catalogue in_request written))) is ∙ states text.Catalogue in_catalogue (length catalogue) x named h)
     | inr (m, there, above) ↦ elim (get_parts (map (λ x. RequestLine x) in_request) (numbered 1 written) m l there) [
-      | inl a ↦ (let (x, h, is) = map_contains (λ (x : ℕ). RequestLine x) l in_request a in ap (passes catalogue said.lines (RefusedHead ∷ take n (lines_to in_catalogue in_request written))) is ∙ states text.Request in_request (length said.lines) x asked h)
+      | inl a ↦ (let (x, h, is) = map_contains (λ (x : ℕ). RequestLine x) l in_request a in ap (passes catalogue source.lines (RefusedHead ∷ take n (lines_to in_catalogue in_request written))) is ∙ states text.Request in_request (length source.lines) x asked h)
       | inr (k, at, over) ↦ (
           let (number, t, step, is, before) = numbered_at 1 written k l at in
           let whole : take n (lines_to in_catalogue in_request written) ≡ lines_to in_catalogue in_request (take k written) =
           above ∙ ap (λ ls. map (λ x. CatalogueLine x) in_catalogue ++ ls) (over ∙ ap (λ ls. map (λ x. RequestLine x) in_request ++ ls) before) in
-          let may = stands catalogue said provider steps refuted.proves written each (is_named in_catalogue) (is_named in_request) k t step
+          let may = present catalogue source provider steps refuted.proves written each (is_named in_catalogue) (is_named in_request) k t step
           (rests (is_named in_catalogue) (is_named in_request) t (λ x g. names text.Catalogue in_catalogue k t x named step g) (λ x g. names text.Request in_request k t x asked step g)) in
-          ap (passes catalogue said.lines (RefusedHead ∷ take n (lines_to in_catalogue in_request written))) is
-          ∙ (ap (λ ls. passes catalogue said.lines (RefusedHead ∷ ls) (Numbered number t)) whole
-          ∙ step_passes catalogue said.lines (lines_to in_catalogue in_request (take k written)) in_catalogue in_request (take k written) number t
-          (catalogue_named in_catalogue in_request (take k written)) (request_named in_catalogue in_request (take k written)) (steps_told in_catalogue in_request (take k written)) may)
+          ap (passes catalogue source.lines (RefusedHead ∷ take n (lines_to in_catalogue in_request written))) is
+          ∙ (ap (λ ls. passes catalogue source.lines (RefusedHead ∷ ls) (Numbered number t)) whole
+          ∙ step_passes catalogue source.lines (lines_to in_catalogue in_request (take k written)) in_catalogue in_request (take k written) number t
+          (catalogue_named in_catalogue in_request (take k written)) (request_named in_catalogue in_request (take k written)) (steps_written in_catalogue in_request (take k written)) may)
           )
     ]
   ]
 
-  all_pass : ArePassed catalogue said.lines (RefusedHead ∷ lines_to in_catalogue in_request written)
-  all_pass zero l e = (let same : RefusedHead ≡ l = one_some e in ap (passes catalogue said.lines []) (sym same))
+  all_pass : ArePassed catalogue source.lines (RefusedHead ∷ lines_to in_catalogue in_request written)
+  all_pass zero l e = (let same : RefusedHead ≡ l = one_some e in ap (passes catalogue source.lines []) (sym same))
   all_pass (suc n) l e = line_passes n l e
 
-  pub accepted : IsAccepted catalogue said.lines (report_lines (Refused in_catalogue in_request written []))
-  accepted = subst (IsAccepted catalogue said.lines) (sym (lines_are in_catalogue in_request written)) (record {
+  pub accepted : IsAccepted catalogue source.lines (report_lines (Refused in_catalogue in_request written []))
+  accepted = subst (IsAccepted catalogue source.lines) (sym (lines_are in_catalogue in_request written)) (record {
     passed = all_pass;
-    ends = ap ends_empty (steps_told in_catalogue in_request written) ∙ written_ends catalogue said provider steps refuted written each;
+    ends = ap ends_empty (steps_written in_catalogue in_request written) ∙ written_ends catalogue source provider steps refuted written each;
   })
 
-  pub claimed : IsClaimTrue catalogue said.lines (Refused in_catalogue in_request written [])
-  claimed = claim_true catalogue said.lines (Refused in_catalogue in_request written []) accepted
+  pub claimed : IsClaimTrue catalogue source.lines (Refused in_catalogue in_request written [])
+  claimed = claim_true catalogue source.lines (Refused in_catalogue in_request written []) accepted
 
 -- A refused report whose steps write the proof's is a refusal that the judge accepts.
-pub refusal_of : (catalogue : List Line) (said : ReadRequest) (provider : Provider) (steps : List (ProofStep NameId SolvableId)) → Refutes catalogue said provider steps → (r : Report) (refused : IsRefusedBy catalogue said.lines provider.ids steps r)
-    → AllZip (IsToldBy catalogue provider.ids said.lines) steps refused.written → IsReport r → IsRefusalOf catalogue said.lines provider.ids steps r
-refusal_of catalogue said provider steps refuted r refused each report = record {
+pub refusal_of : (catalogue : List Line) (source : ReadRequest) (provider : Provider) (steps : List (ProofStep NameId SolvableId)) → Refutes catalogue source provider steps → (r : Report) (refused : IsRefusedBy catalogue source.lines provider.ids steps r)
+    → AllZip (IsWrittenAs catalogue provider.ids source.lines) steps refused.written → IsReport r → IsRefusalOf catalogue source.lines provider.ids steps r
+refusal_of catalogue source provider steps refuted r refused each report = record {
   in_catalogue = refused.in_catalogue;
   in_request = refused.in_request;
   written = refused.written;
@@ -170,6 +170,6 @@ refusal_of catalogue said provider steps refuted r refused each report = record 
   each = each;
   used = record { named = refused.named; asked = refused.asked };
   report = report;
-  accepted = subst (λ (x : Report). IsAccepted catalogue said.lines (report_lines x)) (sym refused.is) (accepted catalogue said provider steps refuted refused.in_catalogue refused.in_request refused.written each refused.named refused.asked);
-  claim = subst (λ (x : Report). IsClaimTrue catalogue said.lines x) (sym refused.is) (claimed catalogue said provider steps refuted refused.in_catalogue refused.in_request refused.written each refused.named refused.asked);
+  accepted = subst (λ (x : Report). IsAccepted catalogue source.lines (report_lines x)) (sym refused.is) (accepted catalogue source provider steps refuted refused.in_catalogue refused.in_request refused.written each refused.named refused.asked);
+  claim = subst (λ (x : Report). IsClaimTrue catalogue source.lines x) (sym refused.is) (claimed catalogue source provider steps refuted refused.in_catalogue refused.in_request refused.written each refused.named refused.asked);
 }

@@ -17,22 +17,22 @@ use Rattle.resolvo_soundness.proofs.Lists.{contains_one, contains_parts, map_con
 use Rattle.resolvo_catalogue.specs.Ids.{Ids, AreEach, IsSpec, IsCondition, IsConditionOf}
 use Rattle.resolvo_catalogue.specs.Known.{condition_at}
 use Rattle.resolvo_catalogue.proofs.Elements.{flat_from, each_from_left}
-use Rattle.resolvo_catalogue.proofs.StandLemmas.{each_more}
+use Rattle.resolvo_catalogue.proofs.GrowLemmas.{each_more}
 use Rattle.resolvo_checker.specs.StepClauses.{case_at}
-use Rattle.resolve_refusal.specs.Lines.{IsLeast, SaysAt, IsNeedLine}
+use Rattle.resolve_refusal.specs.Lines.{IsLeast, IsLineAt, IsNeedLine}
 
 -- ---- each case of a condition asks for something
 
-front_nil : {X : Type 0} (xs ys : List X) → [] ≡ xs ++ ys → xs ≡ []
-front_nil [] ys e = refl
-front_nil (x ∷ xs) ys e = absurd cc
+prefix_nil : {X : Type 0} (xs ys : List X) → [] ≡ xs ++ ys → xs ≡ []
+prefix_nil [] ys e = refl
+prefix_nil (x ∷ xs) ys e = absurd cc
 
 no_empty_case : (c : Cond) → Contains (cases c) [] → ⊥
 no_empty_case (Is s) h = (let e : [] ≡ s ∷ [] = contains_one [] (s ∷ []) h in absurd cc)
 no_empty_case (And a b) h =
     let (l, has, more) = flat_from (λ (l : List Spec). map (λ r. l ++ r) (cases b)) (cases a) [] h in
     let (r, other, is) = map_contains (λ (r : List Spec). l ++ r) [] (cases b) more in
-    no_empty_case a (subst (λ (x : List Spec). Contains (cases a) x) (front_nil l r is) has)
+    no_empty_case a (subst (λ (x : List Spec). Contains (cases a) x) (prefix_nil l r is) has)
 no_empty_case (Or a b) h = elim (contains_parts [] (cases a) (cases b) h) [ inl x ↦ no_empty_case a x | inr y ↦ no_empty_case b y ]
 
 -- the empty case is that of no condition
@@ -46,14 +46,14 @@ first_of_none : (j : ℕ) → j < 1 → case_at None j ≡ Some [] → ⊥
 first_of_none zero below e = absurd cc
 first_of_none (suc j) below e = absurd (omega (arith, below))
 
-pub plain_first : (Among : ℕ → Type 0) (lines : List Line) (alternatives : List Spec) (n : ℕ) → IsLeast (Some n) (λ m. Among m × SaysAt lines (Needs alternatives None) m) → IsNeedLine Among lines alternatives [] (Some (record { line = n; case = 1 }))
-plain_first Among lines alternatives n ((among, says), first) = (
+pub plain_first : (Among : ℕ → Type 0) (lines : List Line) (alternatives : List Spec) (n : ℕ) → IsLeast (Some n) (λ m. Among m × IsLineAt lines (Needs alternatives None) m) → IsNeedLine Among lines alternatives [] (Some (record { line = n; case = 1 }))
+plain_first Among lines alternatives n ((among, is_line), first) = (
   among,
-  (Needs alternatives None, says, (None, refl, (refl, first_of_none))),
+  (Needs alternatives None, is_line, (None, refl, (refl, first_of_none))),
   λ m below here (l, there, (condition, is, has)). first m below (here, there ∙ ap (λ (x : Line). Some x) (is ∙ ap (λ (c : Option Cond). Needs alternatives c) (unconditional condition has))),
 )
 
-pub plain_none : (Among : ℕ → Type 0) (lines : List Line) (alternatives : List Spec) → IsLeast None (λ m. Among m × SaysAt lines (Needs alternatives None) m) → IsNeedLine Among lines alternatives [] None
+pub plain_none : (Among : ℕ → Type 0) (lines : List Line) (alternatives : List Spec) → IsLeast None (λ m. Among m × IsLineAt lines (Needs alternatives None) m) → IsNeedLine Among lines alternatives [] None
 plain_none Among lines alternatives none m here (l, there, (condition, is, has)) = none m (here, there ∙ ap (λ (x : Line). Some x) (is ∙ ap (λ (c : Option Cond). Needs alternatives c) (unconditional condition has)))
 
 -- ---- the cases of ids
@@ -80,8 +80,8 @@ module _ (ids : Ids) (below : AreBelow ids.conditions) where
       let under = below c.0 (Binary op a b) e in
       rw (e, (Decides-ltb a.0 c.0).1 under.0, (Decides-ltb b.0 c.0).1 under.1) refl
 
-  within_each : (n : ℕ) (c : ConditionId) (said : Cond) → c.0 < n → IsCondition ids c said → AreEach (AreEach (IsSpec ids)) (cases_within (condition_at ids) n c) (cases said)
-  within_each zero c said fits h = absurd (omega (arith, fits))
+  within_each : (n : ℕ) (c : ConditionId) (source : Cond) → c.0 < n → IsCondition ids c source → AreEach (AreEach (IsSpec ids)) (cases_within (condition_at ids) n c) (cases source)
+  within_each zero c source fits h = absurd (omega (arith, fits))
   within_each (suc n) c (Is s) fits (v, at, is) =
       subst (λ (q : Condition). AreEach (AreEach (IsSpec ids)) (cases_by (cases_within (condition_at ids) n) q) ((s ∷ []) ∷ [])) (sym (condition_is c (Requirement v) at)) ((is, tt), tt)
   within_each (suc n) c (And a b) fits (i, j, at, left, right) =
@@ -98,8 +98,8 @@ module _ (ids : Ids) (below : AreBelow ids.conditions) where
       (each_more (AreEach (IsSpec ids)) (cases_within (condition_at ids) n i) (cases_within (condition_at ids) n j) (cases a) (cases b) (within_each n i a (omega (arith, fits, first)) left) (within_each n j b (omega (arith, fits, second)) right))
 
   -- the version sets of a case represent the SPECs of one of the line's
-  pub case_said : (condition : Option ConditionId) (said : Option Cond) → IsConditionOf ids condition said → (case : List VersionSetId) → Contains (cases_under (condition_at ids) condition) case → (specs : List Spec) × Contains (condition_cases said) specs × AreEach (IsSpec ids) case specs
-  case_said None None h case among = each_from_left (AreEach (IsSpec ids)) ([] ∷ []) ([] ∷ []) (tt, tt) case among
-  case_said None (Some said) h case among = absurd h
-  case_said (Some c) None h case among = absurd h
-  case_said (Some c) (Some said) h case among = each_from_left (AreEach (IsSpec ids)) (cases_within (condition_at ids) (suc c.0) c) (cases said) (within_each (suc c.0) c said (omega arith) h) case among
+  pub case_specs : (condition : Option ConditionId) (source : Option Cond) → IsConditionOf ids condition source → (case : List VersionSetId) → Contains (cases_under (condition_at ids) condition) case → (specs : List Spec) × Contains (condition_cases source) specs × AreEach (IsSpec ids) case specs
+  case_specs None None h case among = each_from_left (AreEach (IsSpec ids)) ([] ∷ []) ([] ∷ []) (tt, tt) case among
+  case_specs None (Some source) h case among = absurd h
+  case_specs (Some c) None h case among = absurd h
+  case_specs (Some c) (Some source) h case among = each_from_left (AreEach (IsSpec ids)) (cases_within (condition_at ids) (suc c.0) c) (cases source) (within_each (suc c.0) c source (omega arith) h) case among

@@ -33,10 +33,10 @@ use Rattle.resolvo_proof.specs.Steps.{literal_in}
 use Rattle.resolvo_proof.specs.declared.step.ProofLiteral.{ProofLiteral}
 use Rattle.resolvo_catalogue.specs.Ids.{NameId, SolvableId, solvable_id, solvables_of, IsPackage, IsSpec, AreEach, IsNeed, IsSolvable}
 use Rattle.resolvo_catalogue.specs.Known.{name_text, name_of, set_at, spec_at, members_of, alternatives_at}
-use Rattle.resolvo_catalogue.specs.Told.{VersionDependencies}
-use Rattle.resolvo_catalogue.specs.Provider.{Provider, packages_of, candidates_of, matches, told_at, no_lines, needs_of, dependencies_of}
+use Rattle.resolvo_catalogue.specs.Dependencies.{VersionDependencies}
+use Rattle.resolvo_catalogue.specs.Provider.{Provider, packages_of, candidates_of, matches, deps_at, no_lines, needs_of, dependencies_of}
 use Rattle.resolvo_catalogue.specs.Over.{IsOver, AreAsked}
-use Rattle.resolvo_catalogue.specs.KeptSets.{TellsApart, root_of}
+use Rattle.resolvo_catalogue.specs.KeptSets.{DistinguishesIds, root_of}
 use Rattle.resolvo_catalogue.specs.declared.provider.RequestIds.{RequestIds}
 use Rattle.resolvo_catalogue.specs.declared.id_table.Numbers.{Numbers}
 use Rattle.resolvo_catalogue.proofs.Alike.{member_place, listed_is, is_package, match_same, in_from, in_to, outside_same}
@@ -49,8 +49,8 @@ use Rattle.resolvo_checker.specs.StepClauses as judge
 use Rattle.resolvo_checker.proofs.Sets.{is_contained}
 use Rattle.resolve_refusal.specs.RefusedReport.{version_at, place_at}
 use Rattle.resolve_refusal.specs.Lines.{NeedsAs}
-use Rattle.resolve_refusal.specs.Refusal.{IsVersion, IsRequirement, IsKnownAtom, atom_at, literal_at, AreLiterals, IsOfPlace, IsBarredBy}
-use Rattle.resolve_refusal.proofs.BarLemmas.{bar_clause}
+use Rattle.resolve_refusal.specs.Refusal.{IsVersion, IsRequirement, IsKnownAtom, atom_at, literal_at, AreLiterals, IsOfPlace, IsForbiddenBy}
+use Rattle.resolve_refusal.proofs.ForbidLemmas.{forbid_clause}
 use Rattle.resolve_refusal.proofs.RenameLemmas.{IsKnown, IsKnownClause, name, name_literal, name_clause, version_is, name_is, spec_is, specs_are, members_known}
 
 -- the digit of a place is its bit
@@ -68,10 +68,10 @@ each_contained R (z ∷ xs) (y ∷ ys) each x h = elim (contains_cases x z xs h)
 ]
 
 -- the limits of a version are among its dependencies
-pub told_limits : (told : List VersionDependencies) (k : ℕ) (v : VersionSetId) → Contains (slice_index_or told k no_lines).constrains v → slice_get told k ≡ Some (slice_index_or told k no_lines)
-told_limits [] k v h = absurd (contains_none v h)
-told_limits (t ∷ told) zero v h = refl
-told_limits (t ∷ told) (suc k) v h = told_limits told k v h
+pub limits_known : (deps : List VersionDependencies) (k : ℕ) (v : VersionSetId) → Contains (slice_index_or deps k no_lines).constrains v → slice_get deps k ≡ Some (slice_index_or deps k no_lines)
+limits_known [] k v h = absurd (contains_none v h)
+limits_known (t ∷ deps) zero v h = refl
+limits_known (t ∷ deps) (suc k) v h = limits_known deps k v h
 
 same_requirement_is : (r q : Requirement) → same_requirement r q ≡ true → r ≡ q
 same_requirement_is (Single v) (Single w) h = (let e : v.0 ≡ w.0 = eqb-true v.0 w.0 h in λ i. Single (record { 0 = e i }))
@@ -132,7 +132,7 @@ module _ (catalogue : List Line) (provider : Provider) (over : IsOver catalogue 
   fails_spelled (Some s) known = spelled_more (minus (Atom.solvable s)) (judge.not_in (version_at catalogue s)) [] [] (known s refl) refl spelled_none
 
   module _ (same : SolvableId → SolvableId → Bool) (exact : IsExact same) where
-    apart : TellsApart same
+    apart : DistinguishesIds same
     apart s t = (exact.one s t, λ e. subst (λ x. same s x ≡ true) e (exact.own s))
 
     -- a candidate is a listed version
@@ -143,10 +143,10 @@ module _ (catalogue : List Line) (provider : Provider) (over : IsOver catalogue 
         (v, subst (λ (k : ℕ). slice_get (listed catalogue) k ≡ Some v) (let e : i ≡ s.raw = omega (arith, at) in e) e)
 
     -- the candidates of a version set's package that pass a test, and the listed versions that pass one
-    tested_spelled : (w : VersionSetId) (test : SolvableId → Bool) (said : Version → Bool)
-        → ((x : SolvableId) (v : Version) → slice_get (listed catalogue) x.raw ≡ Some v → (pool_rules.is_in same (packages_of provider) (pool.listed (candidates_of provider (set_at provider.ids w).0)) x && test x) ≡ said v)
-        → Spells (solvables (filter test (pool.listed (candidates_of provider (set_at provider.ids w).0)))) (judge.each_listed catalogue said)
-    tested_spelled w test said alike = record {
+    tested_spelled : (w : VersionSetId) (test : SolvableId → Bool) (source : Version → Bool)
+        → ((x : SolvableId) (v : Version) → slice_get (listed catalogue) x.raw ≡ Some v → (pool_rules.is_in same (packages_of provider) (pool.listed (candidates_of provider (set_at provider.ids w).0)) x && test x) ≡ source v)
+        → Spells (solvables (filter test (pool.listed (candidates_of provider (set_at provider.ids w).0)))) (judge.each_listed catalogue source)
+    tested_spelled w test source alike = record {
       known = λ l h. (
           let (x, a, e) = map_contains (λ (y : SolvableId). plus (Atom.solvable y)) l (filter test candidates) h in
           subst (λ (y : pass.Literal (Atom NameId SolvableId)). IsKnown catalogue provider over y.atom) (sym e) (candidate_listed (set_at provider.ids w).0 x (filter_contains test x candidates a).0)
@@ -155,13 +155,13 @@ module _ (catalogue : List Line) (provider : Provider) (over : IsOver catalogue 
           let (x, a, e) = map_contains (λ (y : SolvableId). plus (Atom.solvable y)) l (filter test candidates) h in
           let (b, t) = filter_contains test x candidates a in
           let (v, g) = candidate_listed (set_at provider.ids w).0 x b in
-          let m : said v ≡ true = sym (alike x v g) ∙ and_from _ _ (in_to provider (listed catalogue) over.versions over.once same apart candidates x b) t in
-          let there : Contains (judge.each_listed catalogue said) (judge.is_in v) = contains_map judge.is_in v (filter said (listed catalogue)) (contains_filter said v (listed catalogue) (contains_from_at (listed catalogue) v x.raw g) m) in
-          subst (λ y. Contains (judge.each_listed catalogue said) (name_literal catalogue provider over y)) (sym e) (subst (λ (u : Version). Contains (judge.each_listed catalogue said) (judge.is_in u)) (sym (version_is catalogue provider over x v g)) there)
+          let m : source v ≡ true = sym (alike x v g) ∙ and_from _ _ (in_to provider (listed catalogue) over.versions over.once same apart candidates x b) t in
+          let there : Contains (judge.each_listed catalogue source) (judge.is_in v) = contains_map judge.is_in v (filter source (listed catalogue)) (contains_filter source v (listed catalogue) (contains_from_at (listed catalogue) v x.raw g) m) in
+          subst (λ y. Contains (judge.each_listed catalogue source) (name_literal catalogue provider over y)) (sym e) (subst (λ (u : Version). Contains (judge.each_listed catalogue source) (judge.is_in u)) (sym (version_is catalogue provider over x v g)) there)
           );
       each = λ m h. (
-          let (v, a, e) = map_contains judge.is_in m (filter said (listed catalogue)) h in
-          let (b, t) = filter_contains said v (listed catalogue) a in
+          let (v, a, e) = map_contains judge.is_in m (filter source (listed catalogue)) h in
+          let (b, t) = filter_contains source v (listed catalogue) a in
           let (k, g) = at_from_contains (listed catalogue) v b in
           let x : SolvableId = solvable_id k in
           let p = and_parts _ _ (alike x v g ∙ t) in (
@@ -213,31 +213,31 @@ module _ (catalogue : List Line) (provider : Provider) (over : IsOver catalogue 
     -- ---- rules
 
     -- a solvable with a need is a listed version, and the need is known
-    pub needed : (s : SolvableId) (need : ConditionalRequirement) → Contains (rules_of (dependencies_of provider s)).requirements need → IsVersion catalogue provider.ids s × ((said : List Spec × Option Cond) × IsNeed provider.ids need said)
-    needed s need h = go (slice_get provider.told s.raw) refl
+    pub needed : (s : SolvableId) (need : ConditionalRequirement) → Contains (rules_of (dependencies_of provider s)).requirements need → IsVersion catalogue provider.ids s × ((source : List Spec × Option Cond) × IsNeed provider.ids need source)
+    needed s need h = go (slice_get provider.deps s.raw) refl
       where
-        told_is : (o : Option VersionDependencies) → slice_get provider.told s.raw ≡ o → told_at provider s ≡ unwrap_or o no_lines
-        told_is o e = sym (unwrap_or-slice_get provider.told s.raw no_lines) ∙ ap (λ (x : Option VersionDependencies). unwrap_or x no_lines) e
+        rules_are : (o : Option VersionDependencies) → slice_get provider.deps s.raw ≡ o → deps_at provider s ≡ unwrap_or o no_lines
+        rules_are o e = sym (unwrap_or-slice_get provider.deps s.raw no_lines) ∙ ap (λ (x : Option VersionDependencies). unwrap_or x no_lines) e
 
-        stated : (t : VersionDependencies) (why : Option StringId) → Contains (rules_of (needs_of t why)).requirements need → Contains t.requirements need
-        stated t None a = a
-        stated t (Some w) a = absurd (contains_none need a)
+        line_is : (t : VersionDependencies) (why : Option StringId) → Contains (rules_of (needs_of t why)).requirements need → Contains t.requirements need
+        line_is t None a = a
+        line_is t (Some w) a = absurd (contains_none need a)
 
-        go : (o : Option VersionDependencies) → slice_get provider.told s.raw ≡ o → IsVersion catalogue provider.ids s × ((said : List Spec × Option Cond) × IsNeed provider.ids need said)
-        go None e = absurd (contains_none need (stated no_lines None (subst (λ (t : VersionDependencies). Contains (rules_of (needs_of t t.unknown)).requirements need) (told_is None e) h)))
+        go : (o : Option VersionDependencies) → slice_get provider.deps s.raw ≡ o → IsVersion catalogue provider.ids s × ((source : List Spec × Option Cond) × IsNeed provider.ids need source)
+        go None e = absurd (contains_none need (line_is no_lines None (subst (λ (t : VersionDependencies). Contains (rules_of (needs_of t t.unknown)).requirements need) (rules_are None e) h)))
         go (Some t) e =
-            let (numbers, all, tells) = over.told.each s.raw t e in
-            let (said, is) = each_contained (IsNeed provider.ids) t.requirements _ tells.requirements need (stated t t.unknown (subst (λ (x : VersionDependencies). Contains (rules_of (needs_of x x.unknown)).requirements need) (told_is (Some t) e) h)) in
-            let below : s.raw < length provider.told = slice_get_within provider.told s.raw t e in
-            let long : length provider.told ≡ length (listed catalogue) = over.told.as_many in
+            let (numbers, all, are_deps) = over.deps.each s.raw t e in
+            let (source, is) = each_contained (IsNeed provider.ids) t.requirements _ are_deps.requirements need (line_is t t.unknown (subst (λ (x : VersionDependencies). Contains (rules_of (needs_of x x.unknown)).requirements need) (rules_are (Some t) e) h)) in
+            let below : s.raw < length provider.deps = slice_get_within provider.deps s.raw t e in
+            let long : length provider.deps ≡ length (listed catalogue) = over.deps.as_many in
             let none : Version = record { name = []; number = 0 } in
-            ((_, slice_get-get_or (listed catalogue) s.raw none (omega (arith, below, long))), (said, is))
+            ((_, slice_get-get_or (listed catalogue) s.raw none (omega (arith, below, long))), (source, is))
 
     -- so is a need of the root
-    pub asked_for : (said : ReadRequest) (ids : RequestIds) → AreAsked provider.ids said ids → (parent : Option SolvableId) (need : ConditionalRequirement) → Contains (rules_for same (packages_of provider) (root_of ids) parent).requirements need
+    pub asked_for : (source : ReadRequest) (ids : RequestIds) → AreAsked provider.ids source ids → (parent : Option SolvableId) (need : ConditionalRequirement) → Contains (rules_for same (packages_of provider) (root_of ids) parent).requirements need
         → ((s : SolvableId) → parent ≡ Some s → IsVersion catalogue provider.ids s) × ((x : List Spec × Option Cond) × IsNeed provider.ids need x)
-    asked_for said ids asked None need h = (λ s e. absurd cc, each_contained (IsNeed provider.ids) ids.requirements.items _ asked.requirements need h)
-    asked_for said ids asked (Some s) need h =
+    asked_for source ids asked None need h = (λ s e. absurd cc, each_contained (IsNeed provider.ids) ids.requirements.items _ asked.requirements need h)
+    asked_for source ids asked (Some s) need h =
         let (v, r) = needed s need h in
         ((λ t e. (let at : s ≡ t = one_some e in subst (λ (x : SolvableId). IsVersion catalogue provider.ids x) at v)), r)
 
@@ -245,8 +245,8 @@ module _ (catalogue : List Line) (provider : Provider) (over : IsOver catalogue 
     gate_asked s r h =
         let (need, a, t) = any_contained (λ (n : ConditionalRequirement). not (has_condition n.condition) && same_requirement r n.requirement) _ h in
         let is : r ≡ need.requirement = same_requirement_is r need.requirement (and_parts (not (has_condition need.condition)) _ t).1 in
-        let (v, (said, (alternatives, condition))) = needed s need a in
-        (v, subst (λ (q : Requirement). IsRequirement catalogue provider.ids q) (sym is) (said.0, alternatives))
+        let (v, (source, (alternatives, condition))) = needed s need a in
+        (v, subst (λ (q : Requirement). IsRequirement catalogue provider.ids q) (sym is) (source.0, alternatives))
 
     -- ---- the clauses of steps
 
@@ -257,11 +257,11 @@ module _ (catalogue : List Line) (provider : Provider) (over : IsOver catalogue 
     pub need_spelled : (request : List Line) (parent : Option SolvableId) (r : Requirement) (case : List VersionSetId) (line k : ℕ) → ((s : SolvableId) → parent ≡ Some s → IsVersion catalogue provider.ids s) → IsRequirement catalogue provider.ids r
         → (specs : List Spec) × AreEach (IsSpec provider.ids) case specs → IsOfPlace catalogue request (place_at catalogue parent) (NeedsAs (alternatives_at provider.ids r) (map (spec_at provider.ids) case) k) line
         → IsSpelled request (parent_literals parent ++ (case_literals same (packages_of provider) case ++ candidate_literals same (packages_of provider) (alternatives_of (members_of provider.ids) r))) (in_report.Need (place_at catalogue parent) line k)
-    need_spelled request parent r case line k listed known (specs, each) (l, says, (condition, is, (at, first))) =
-        let stated : judge.line_of catalogue request (place_at catalogue parent) line ≡ Some (Needs (alternatives_at provider.ids r) condition) = says ∙ ap (λ (x : Line). Some x) is in
+    need_spelled request parent r case line k listed known (specs, each) (l, is_line, (condition, is, (at, first))) =
+        let line_is : judge.line_of catalogue request (place_at catalogue parent) line ≡ Some (Needs (alternatives_at provider.ids r) condition) = is_line ∙ ap (λ (x : Line). Some x) is in
         let cased : judge.case_at condition k ≡ Some specs = at ∙ ap (λ (ss : List Spec). Some ss) (specs_are catalogue provider over case specs each) in (
           judge.place_fails (place_at catalogue parent) ++ (judge.case_fails catalogue specs ++ judge.some_match catalogue (alternatives_at provider.ids r)),
-          ap (judge.need_clause catalogue (place_at catalogue parent) k) stated
+          ap (judge.need_clause catalogue (place_at catalogue parent) k) line_is
               ∙ ap (option_map (λ ss. judge.place_fails (place_at catalogue parent) ++ (judge.case_fails catalogue ss ++ judge.some_match catalogue (alternatives_at provider.ids r)))) cased,
           spelled_append _ _ _ _ (fails_spelled parent listed) (spelled_append _ _ _ _ (case_spelled case specs each) (alternatives_spelled r known)),
         )
@@ -294,16 +294,16 @@ module _ (catalogue : List Line) (provider : Provider) (over : IsOver catalogue 
         )
 
     -- a limit of a parent is known, and so is the parent
-    pub limited : (said : ReadRequest) (ids : RequestIds) → AreAsked provider.ids said ids → (parent : Option SolvableId) (v : VersionSetId) → Contains (rules_for same (packages_of provider) (root_of ids) parent).constraints v
+    pub limited : (source : ReadRequest) (ids : RequestIds) → AreAsked provider.ids source ids → (parent : Option SolvableId) (v : VersionSetId) → Contains (rules_for same (packages_of provider) (root_of ids) parent).constraints v
         → ((s : SolvableId) → parent ≡ Some s → IsVersion catalogue provider.ids s) × ((spec : Spec) × IsSpec provider.ids v spec)
-    limited said ids asked None v h = (let (spec, is) = each_contained (IsSpec provider.ids) ids.constraints.items _ asked.constraints v h in ((λ s e. absurd cc), (spec, is)))
-    limited said ids asked (Some s) v h =
-        let has : Contains (told_at provider s).constrains v = con_from (told_at provider s) (told_at provider s).unknown v h in
-        let there = told_limits provider.told s.raw v has in
-        let (numbers, all, tells) = over.told.each s.raw (told_at provider s) there in
-        let (spec, is) = each_contained (IsSpec provider.ids) (told_at provider s).constrains _ tells.constrains v has in
-        let below : s.raw < length provider.told = slice_get_within provider.told s.raw _ there in
-        let long : length provider.told ≡ length (listed catalogue) = over.told.as_many in
+    limited source ids asked None v h = (let (spec, is) = each_contained (IsSpec provider.ids) ids.constraints.items _ asked.constraints v h in ((λ s e. absurd cc), (spec, is)))
+    limited source ids asked (Some s) v h =
+        let has : Contains (deps_at provider s).constrains v = con_from (deps_at provider s) (deps_at provider s).unknown v h in
+        let there = limits_known provider.deps s.raw v has in
+        let (numbers, all, are_deps) = over.deps.each s.raw (deps_at provider s) there in
+        let (spec, is) = each_contained (IsSpec provider.ids) (deps_at provider s).constrains _ are_deps.constrains v has in
+        let below : s.raw < length provider.deps = slice_get_within provider.deps s.raw _ there in
+        let long : length provider.deps ≡ length (listed catalogue) = over.deps.as_many in
         let none : Version = record { name = []; number = 0 } in
         ((λ t e. (let at : s ≡ t = one_some e in subst (λ (x : SolvableId). IsVersion catalogue provider.ids x) at (_, slice_get-get_or (listed catalogue) s.raw none (omega (arith, below, long))))), (spec, is))
 
@@ -313,10 +313,10 @@ module _ (catalogue : List Line) (provider : Provider) (over : IsOver catalogue 
     is_out v spec s is out =
         let among = in_from provider (listed catalogue) over.versions over.once same apart (pool.listed (candidates_of provider (set_at provider.ids v).0)) s (and_parts _ _ out).0 in
         let (w, e) = candidate_listed (set_at provider.ids v).0 s among in
-        let told : judge.is_outside spec w ≡ true = sym (outside_same provider (listed catalogue) over.versions over.once same apart v spec s w is e) ∙ out in
+        let deps : judge.is_outside spec w ≡ true = sym (outside_same provider (listed catalogue) over.versions over.once same apart v spec s w is e) ∙ out in
         let named : spec ≡ spec_at provider.ids v = sym (spec_is catalogue provider over v spec is) in
         let at : w ≡ version_at catalogue s = sym (version_is catalogue provider over s w e) in
-        ((w, e), subst (λ (x : Spec). judge.is_outside x (version_at catalogue s) ≡ true) named (subst (λ (x : Version). judge.is_outside spec x ≡ true) at told))
+        ((w, e), subst (λ (x : Spec). judge.is_outside x (version_at catalogue s) ≡ true) named (subst (λ (x : Version). judge.is_outside spec x ≡ true) at deps))
 
     pub limit_spelled : (request : List Line) (parent : Option SolvableId) (v : VersionSetId) (line : ℕ) → ((s : SolvableId) → parent ≡ Some s → IsVersion catalogue provider.ids s) → (spec : Spec) × IsSpec provider.ids v spec
         → judge.line_of catalogue request (place_at catalogue parent) line ≡ Some (Limits (spec_at provider.ids v))
@@ -327,10 +327,10 @@ module _ (catalogue : List Line) (provider : Provider) (over : IsOver catalogue 
       spelled_append _ _ _ _ (fails_spelled parent versions) (spelled_more (minus (Atom.outside v)) _ [] [] known refl spelled_none),
     )
 
-    pub limit_bars_spelled : (request : List Line) (parent : Option SolvableId) (v : VersionSetId) (s : SolvableId) (line : ℕ) → ((s : SolvableId) → parent ≡ Some s → IsVersion catalogue provider.ids s) → (spec : Spec) × IsSpec provider.ids v spec
+    pub limit_forbids_spelled : (request : List Line) (parent : Option SolvableId) (v : VersionSetId) (s : SolvableId) (line : ℕ) → ((s : SolvableId) → parent ≡ Some s → IsVersion catalogue provider.ids s) → (spec : Spec) × IsSpec provider.ids v spec
         → pool_rules.is_outside same (packages_of provider) v s ≡ true → judge.line_of catalogue request (place_at catalogue parent) line ≡ Some (Limits (spec_at provider.ids v))
         → IsSpelled request (parent_literals parent ++ minus (Atom.solvable s) ∷ []) (in_report.LimitBars (place_at catalogue parent) line (version_at catalogue s))
-    limit_bars_spelled request parent v s line versions (spec, is) out limits =
+    limit_forbids_spelled request parent v s line versions (spec, is) out limits =
         let (version, outside) = is_out v spec s is out in
         let lists : judge.is_listed catalogue (version_at catalogue s) ≡ true = is_listed s version in
         let clause : judge.limit_bars_clause catalogue (place_at catalogue parent) (version_at catalogue s) (Some (Limits (spec_at provider.ids v))) ≡ Some (judge.place_fails (place_at catalogue parent) ++ judge.not_in (version_at catalogue s) ∷ []) = rw (lists, outside) refl in (
@@ -367,10 +367,10 @@ module _ (catalogue : List Line) (provider : Provider) (over : IsOver catalogue 
           spelled_more (minus (Atom.solvable s)) _ _ _ version refl (spelled_more (plus (Atom.any_of n)) _ [] [] ((version_at catalogue s).name, packaged) (λ i. record { atom = in_report.AnyOf (text i); positive = true }) spelled_none),
         )
 
-    pub bar_spelled : (request : List Line) (s : SolvableId) (t : in_report.Step) → IsVersion catalogue provider.ids s → IsBarredBy catalogue (version_at catalogue s) t → IsSpelled request (minus (Atom.solvable s) ∷ []) t
-    bar_spelled request s t version bars = (
+    pub forbid_spelled : (request : List Line) (s : SolvableId) (t : in_report.Step) → IsVersion catalogue provider.ids s → IsForbiddenBy catalogue (version_at catalogue s) t → IsSpelled request (minus (Atom.solvable s) ∷ []) t
+    forbid_spelled request s t version forbids = (
       judge.not_in (version_at catalogue s) ∷ [],
-      bar_clause catalogue request (version_at catalogue s) t (is_listed s version) bars,
+      forbid_clause catalogue request (version_at catalogue s) t (is_listed s version) forbids,
       spelled_more (minus (Atom.solvable s)) _ [] [] version refl spelled_none,
     )
 

@@ -11,7 +11,7 @@ use Rattle.resolvo_catalogue_core.specs.Questions.{ReadRequest, AreAll}
 use Rattle.resolvo_pool_core.specs.declared.requirement.Requirement.{Requirement}
 use Rattle.resolvo_pool_core.specs.declared.requirement.ConditionalRequirement.{ConditionalRequirement}
 use Rattle.resolvo_pool_core.specs.RuleKeeping.{rules_of}
-use Rattle.resolvo_soundness.specs.Encoding.{Bar, has_condition, same_requirement}
+use Rattle.resolvo_soundness.specs.Encoding.{ForbidReason, has_condition, same_requirement}
 use Rattle.resolvo_soundness.proofs.Lists.{contains_map, map_contains, any_contained}
 use Rattle.resolvo_proof.specs.Steps.{literal_in}
 use Rattle.resolvo_proof.specs.declared.step.ProofLiteral.{ProofLiteral}
@@ -22,9 +22,9 @@ use Rattle.resolvo_catalogue.specs.Ids.{NameId, SolvableId}
 use Rattle.resolvo_catalogue.specs.Known.{alternatives_at, word_text}
 use Rattle.resolvo_catalogue.specs.Provider.{Provider, packages_of, dependencies_of}
 use Rattle.resolvo_catalogue.specs.KeptSets.{root_of}
-use Rattle.resolvo_catalogue.proofs.CoverLemmas.{spec_stands}
+use Rattle.resolvo_catalogue.proofs.CoverLemmas.{spec_is}
 use Rattle.resolvo_report.specs.Value.{Place, OfRequest, OfVersion, Literal, Step, Report, Refused}
-use Rattle.resolvo_report.specs.Value as told
+use Rattle.resolvo_report.specs.Value as in_report
 use Rattle.resolvo_report.specs.Text.{literal_text, are_rising, IsLineNumber, IsPlace, IsAtom, IsStep}
 use Rattle.resolvo_report.specs.Text as form_of
 use Rattle.resolvo_report.specs.Grammar.{IsReport}
@@ -33,20 +33,20 @@ use Rattle.resolve_refusal.specs.declared.named.Text.{Text}
 use Rattle.resolve_refusal.specs.declared.named.Text.TheVariants as text
 use Rattle.resolve_refusal.specs.Named.{IsNamedBy}
 use Rattle.resolve_refusal.specs.RefusedReport.{version_at, place_at, IsWritten}
-use Rattle.resolve_refusal.specs.StepRules.{Tells}
-use Rattle.resolve_refusal.specs.Refusal.{IsVersion, IsKnownAtom, AreLiterals, IsBarredBy, IsToldBy, IsProofOver, Refutes, IsRefusalOf}
+use Rattle.resolve_refusal.specs.StepRules.{NamesRule}
+use Rattle.resolve_refusal.specs.Refusal.{IsVersion, IsKnownAtom, AreLiterals, IsForbiddenBy, IsWrittenAs, IsProofOver, Refutes, IsRefusalOf}
 use Rattle.resolve_refusal.proofs.RenameLemmas.{named_once}
 use Rattle.resolve_refusal.proofs.Clauses.{Spells, spelled_members, asked_for, gate_asked, limited, is_out, candidate_of, literals_spelled}
-use Rattle.resolve_refusal.proofs.Taken.{out_says}
+use Rattle.resolve_refusal.proofs.Taken.{out_is}
 use Rattle.resolve_refusal.proofs.FollowLemmas.{owned, digit_known}
-use Rattle.resolve_refusal.proofs.BarLemmas.{barred_version, lock_bars, word_bars}
+use Rattle.resolve_refusal.proofs.ForbidLemmas.{forbidden_version, lock_forbids, word_forbids}
 use Rattle.resolve_refusal.proofs.AcceptLemmas.{refusal_of}
-use Rattle.resolve_refusal.proofs.TellLemmas.{within_line, zipped, version_line, same_need, need_told, steps_told}
+use Rattle.resolve_refusal.proofs.RuleLines.{within_line, zipped, version_line, same_need, need_written, steps_written}
 use Rattle.resolve_refusal.proofs.Spelled.{version_fits, atom_fits}
 use Rattle.resolve_refusal.proofs.Grammar.{of_every, rising_sorted, atoms_once, in_grammar}
 
 -- the literals of two equal steps are the same
-one_clause : {v w : List Literal} {ms ns : List ℕ} → told.Derive v ms ≡ told.Derive w ns → v ≡ w
+one_clause : {v w : List Literal} {ms ns : List ℕ} → in_report.Derive v ms ≡ in_report.Derive w ns → v ≡ w
 one_clause e = cc
 
 -- the numbers of steps have a text
@@ -66,16 +66,16 @@ some_last [] x = omega arith
 some_last (y ∷ xs) x = omega arith
 
 -- a step that forbids a version has a text
-pub bar_text : (catalogue : List Line) → length catalogue < 4294967296 → (v : Version) (t : Step) → form.IsVersion v → IsBarredBy catalogue v t → IsStep t
-bar_text catalogue long v t fits = λ by. (let (line, l, at, is) = by_line by in text line l at is)
+pub forbid_text : (catalogue : List Line) → length catalogue < 4294967296 → (v : Version) (t : Step) → form.IsVersion v → IsForbiddenBy catalogue v t → IsStep t
+forbid_text catalogue long v t fits = λ by. (let (line, l, at, is) = by_line by in text line l at is)
   where
     -- each step that forbids names a line of the catalogue
-    by_line : IsBarredBy catalogue v t → (line : ℕ) × (l : Line) × (line_at catalogue line ≡ Some l) × ((t ≡ told.Lock line v) ⊎ ((t ≡ told.Exclude line) ⊎ (t ≡ told.Unknown line)))
+    by_line : IsForbiddenBy catalogue v t → (line : ℕ) × (l : Line) × (line_at catalogue line ≡ Some l) × ((t ≡ in_report.Lock line v) ⊎ ((t ≡ in_report.Exclude line) ⊎ (t ≡ in_report.Unknown line)))
     by_line (line, inl (is, (l, at, locks))) = (line, l, at, inl is)
     by_line (line, inr (inl (is, (l, at, out)))) = (line, l, at, inr (inl is))
     by_line (line, inr (inr (is, (l, at, unknown)))) = (line, l, at, inr (inr is))
 
-    text : (line : ℕ) (l : Line) → line_at catalogue line ≡ Some l → (t ≡ told.Lock line v) ⊎ ((t ≡ told.Exclude line) ⊎ (t ≡ told.Unknown line)) → IsStep t
+    text : (line : ℕ) (l : Line) → line_at catalogue line ≡ Some l → (t ≡ in_report.Lock line v) ⊎ ((t ≡ in_report.Exclude line) ⊎ (t ≡ in_report.Unknown line)) → IsStep t
     text line l at is =
         let (first, last) = within_line catalogue line l at in
         let numbered : IsLineNumber line = (first, omega (arith, last, long)) in
@@ -84,11 +84,11 @@ bar_text catalogue long v t fits = λ by. (let (line, l, at, is) = by_line by in
           | inr other ↦ elim other [ inl e ↦ subst (λ (x : Step). IsStep x) (sym e) numbered | inr e ↦ subst (λ (x : Step). IsStep x) (sym e) numbered ]
         ]
 
-module _ (catalogue : List Line) (said : ReadRequest) (provider : Provider) (steps : List (ProofStep NameId SolvableId)) (proves : IsProofOver catalogue said provider steps)
-    (few : length steps < 4294967296) (long : length catalogue < 4294967296) (asked : length said.lines < 4294967296) where
+module _ (catalogue : List Line) (source : ReadRequest) (provider : Provider) (steps : List (ProofStep NameId SolvableId)) (proves : IsProofOver catalogue source provider steps)
+    (few : length steps < 4294967296) (long : length catalogue < 4294967296) (asked : length source.lines < 4294967296) where
   -- a line of a place has a number of a line
-  line_fits : (place : Place) (n : ℕ) (l : Line) → judge.line_of catalogue said.lines place n ≡ Some l → IsLineNumber n
-  line_fits OfRequest n l e = (let (first, last) = within_line said.lines n l e in (first, omega (arith, last, asked)))
+  line_fits : (place : Place) (n : ℕ) (l : Line) → judge.line_of catalogue source.lines place n ≡ Some l → IsLineNumber n
+  line_fits OfRequest n l e = (let (first, last) = within_line source.lines n l e in (first, omega (arith, last, asked)))
   line_fits (OfVersion v) n l e = (let (first, last) = within_line catalogue n l (owned _ (line_at catalogue n) l e) in (first, omega (arith, last, long)))
 
   parent_fits : (parent : Option SolvableId) → ((s : SolvableId) → parent ≡ Some s → IsVersion catalogue provider.ids s) → IsPlace (place_at catalogue parent)
@@ -122,50 +122,50 @@ module _ (catalogue : List Line) (said : ReadRequest) (provider : Provider) (ste
   -- a line of the catalogue has a form
   catalogue_form : (n : ℕ) (l : Line) → line_at catalogue n ≡ Some l → form.HasForm l
   catalogue_form zero l e = absurd cc
-  catalogue_form (suc k) l e = (let (bytes, line) = proves.over.grammatical k l e in line.says.form)
+  catalogue_form (suc k) l e = (let (bytes, line) = proves.over.grammatical k l e in line.parsed.form)
 
   -- so has a step that forbids a version
-  bar_fits : (s : SolvableId) (t : Step) → IsVersion catalogue provider.ids s → IsBarredBy catalogue (version_at catalogue s) t → IsStep t
-  bar_fits s t version by = bar_text catalogue long (version_at catalogue s) t (version_fits catalogue provider proves.over s version) by
+  forbid_fits : (s : SolvableId) (t : Step) → IsVersion catalogue provider.ids s → IsForbiddenBy catalogue (version_at catalogue s) t → IsStep t
+  forbid_fits s t version by = forbid_text catalogue long (version_at catalogue s) t (version_fits catalogue provider proves.over s version) by
 
   -- the step has a text
-  pub step_fits : (n : ℕ) (s : ProofStep NameId SolvableId) (t : Step) → slice_get steps n ≡ Some s → Tells catalogue said.lines provider.ids s t → IsToldBy catalogue provider.ids said.lines s t → IsStep t
-  step_fits n (Rule (NeedsRule parent r case)) t at tells told_so =
+  pub step_fits : (n : ℕ) (s : ProofStep NameId SolvableId) (t : Step) → slice_get steps n ≡ Some s → NamesRule catalogue source.lines provider.ids s t → IsWrittenAs catalogue provider.ids source.lines s t → IsStep t
+  step_fits n (Rule (NeedsRule parent r case)) t at names_rule is_named =
       let (condition, (needs, cases)) = proves.proof n _ at in
-      let (versions, known) = asked_for catalogue provider proves.over proves.same proves.exact said proves.ids proves.asked parent (record { condition = condition; requirement = r }) needs in
-      let (line, k, number, is, first) = need_told catalogue said provider steps proves few n parent r case t at tells in
-      let (l, says, needing) = first.says in
-      subst (λ (x : Step). IsStep x) (sym is) (parent_fits parent versions, line_fits (place_at catalogue parent) line l says, number)
-  step_fits n (Rule (GateOf s r)) t at tells (line, is, first) =
+      let (versions, known) = asked_for catalogue provider proves.over proves.same proves.exact source proves.ids proves.asked parent (record { condition = condition; requirement = r }) needs in
+      let (line, k, number, is, first) = need_written catalogue source provider steps proves few n parent r case t at names_rule in
+      let (l, parsed, needing) = first.parsed in
+      subst (λ (x : Step). IsStep x) (sym is) (parent_fits parent versions, line_fits (place_at catalogue parent) line l parsed, number)
+  step_fits n (Rule (GateOf s r)) t at names_rule (line, is, first) =
       let (condition, asks) = proves.proof n _ at in
       let (version, known) = gate_asked catalogue provider proves.over proves.same proves.exact s r asks in
-      subst (λ (x : Step). IsStep x) (sym is) (version_fits catalogue provider proves.over s version, line_fits (OfVersion (version_at catalogue s)) line _ first.says)
-  step_fits n (Rule (Shared r)) t at tells is =
+      subst (λ (x : Step). IsStep x) (sym is) (version_fits catalogue provider proves.over s version, line_fits (OfVersion (version_at catalogue s)) line _ first.parsed)
+  step_fits n (Rule (Shared r)) t at names_rule is =
       let (condition, (s, asks)) = proves.proof n _ at in
       let (need, has, same) = any_contained (λ (need : ConditionalRequirement). not (has_condition need.condition) && same_requirement r need.requirement) (rules_of (dependencies_of provider s)).requirements asks in
-      let (c, stated, m, of, there) = version_line catalogue provider proves.over s need has in
+      let (c, spelled_condition, m, of, there) = version_line catalogue provider proves.over s need has in
       let spelled : form_of.AreAlternatives (alternatives_at provider.ids need.requirement) = catalogue_form m (Needs (alternatives_at provider.ids need.requirement) c) there in
       subst (λ (x : Step). IsStep x) (sym is) (subst (λ (q : Requirement). form_of.AreAlternatives (alternatives_at provider.ids q)) (ap (λ (x : ConditionalRequirement). x.requirement) (same_need need r same)) spelled)
-  step_fits n (Rule (Limit parent v None)) t at tells (line, is, first) =
+  step_fits n (Rule (Limit parent v None)) t at names_rule (line, is, first) =
       let (condition, has) = proves.proof n _ at in
-      let (versions, known) = limited catalogue provider proves.over proves.same proves.exact said proves.ids proves.asked parent v has in
-      subst (λ (x : Step). IsStep x) (sym is) (parent_fits parent versions, line_fits (place_at catalogue parent) line _ first.says)
-  step_fits n (Rule (Limit parent v (Some s))) t at tells (line, is, first) =
+      let (versions, known) = limited catalogue provider proves.over proves.same proves.exact source proves.ids proves.asked parent v has in
+      subst (λ (x : Step). IsStep x) (sym is) (parent_fits parent versions, line_fits (place_at catalogue parent) line _ first.parsed)
+  step_fits n (Rule (Limit parent v (Some s))) t at names_rule (line, is, first) =
       let (condition, (has, out)) = proves.proof n _ at in
-      let (versions, (spec, named)) = limited catalogue provider proves.over proves.same proves.exact said proves.ids proves.asked parent v has in
+      let (versions, (spec, named)) = limited catalogue provider proves.over proves.same proves.exact source proves.ids proves.asked parent v has in
       let (version, outside) = is_out catalogue provider proves.over proves.same proves.exact v spec s named out in
-      subst (λ (x : Step). IsStep x) (sym is) (parent_fits parent versions, line_fits (place_at catalogue parent) line _ first.says, version_fits catalogue provider proves.over s version)
-  step_fits n (Rule (Outside v s)) t at tells is =
+      subst (λ (x : Step). IsStep x) (sym is) (parent_fits parent versions, line_fits (place_at catalogue parent) line _ first.parsed, version_fits catalogue provider proves.over s version)
+  step_fits n (Rule (Outside v s)) t at names_rule is =
       let (condition, out) = proves.proof n _ at in
       let (spec, named, fits) = proves.known n _ at in
-      let (version, outside) = is_out catalogue provider proves.over proves.same proves.exact v spec s named (out_says proves.same (packages_of provider) (root_of proves.ids) v s out) in
-      subst (λ (x : Step). IsStep x) (sym is) (subst (λ (x : Spec). form.IsSpec x) (sym (spec_stands provider.ids v spec named)) fits, version_fits catalogue provider proves.over s version)
-  step_fits n (Rule (Locked locked s)) t at tells by = (let (condition, bars) = proves.proof n _ at in bar_fits s t (barred_version catalogue provider proves.over proves.same proves.exact s (Bar.lock locked) bars) (lock_bars catalogue (version_at catalogue s) t by))
-  step_fits n (Rule (Excluded s reason)) t at tells by = (let (condition, bars) = proves.proof n _ at in bar_fits s t (barred_version catalogue provider proves.over proves.same proves.exact s (Bar.word reason) bars) (word_bars catalogue (version_at catalogue s) (word_text provider.ids reason) t by))
-  step_fits n (Rule (Digit s place bit)) t at tells is =
-      let (version, below) = digit_known catalogue said provider steps proves n s place bit at in
-      subst (λ (x : Step). IsStep x) (sym is) (version_fits catalogue provider proves.over s version, tells, below)
-  step_fits n (Rule (AtLeastOne m s)) t at tells is =
+      let (version, outside) = is_out catalogue provider proves.over proves.same proves.exact v spec s named (out_is proves.same (packages_of provider) (root_of proves.ids) v s out) in
+      subst (λ (x : Step). IsStep x) (sym is) (subst (λ (x : Spec). form.IsSpec x) (sym (spec_is provider.ids v spec named)) fits, version_fits catalogue provider proves.over s version)
+  step_fits n (Rule (Locked locked s)) t at names_rule by = (let (condition, forbids) = proves.proof n _ at in forbid_fits s t (forbidden_version catalogue provider proves.over proves.same proves.exact s (ForbidReason.lock locked) forbids) (lock_forbids catalogue (version_at catalogue s) t by))
+  step_fits n (Rule (Excluded s reason)) t at names_rule by = (let (condition, forbids) = proves.proof n _ at in forbid_fits s t (forbidden_version catalogue provider proves.over proves.same proves.exact s (ForbidReason.word reason) forbids) (word_forbids catalogue (version_at catalogue s) (word_text provider.ids reason) t by))
+  step_fits n (Rule (Digit s place bit)) t at names_rule is =
+      let (version, below) = digit_known catalogue source provider steps proves n s place bit at in
+      subst (λ (x : Step). IsStep x) (sym is) (version_fits catalogue provider proves.over s version, names_rule, below)
+  step_fits n (Rule (AtLeastOne m s)) t at names_rule is =
       let (condition, there) = proves.proof n _ at in
       let (version, packaged) = candidate_of catalogue provider proves.over proves.same proves.exact m s there in
       subst (λ (x : Step). IsStep x) (sym is) (version_fits catalogue provider proves.over s version)
@@ -182,19 +182,19 @@ module _ (catalogue : List Line) (said : ReadRequest) (provider : Provider) (ste
 named_fit : (of : Text) (count : ℕ) (numbers : List ℕ) (written : List Step) → count < 4294967296 → AreAll numbers (IsNamedBy of count written) → (n : ℕ) → Contains numbers n → IsLineNumber n
 named_fit of count numbers written fits all n h = (let (k, is, below, rests) = (all.all n).0 h in (omega (arith, is), omega (arith, is, below, fits)))
 
-module _ (catalogue : List Line) (said : ReadRequest) (provider : Provider) (steps : List (ProofStep NameId SolvableId)) (refutes : Refutes catalogue said provider steps)
-    (few : length steps < 4294967296) (long : length catalogue < 4294967296) (asked : length said.lines < 4294967296) where
+module _ (catalogue : List Line) (source : ReadRequest) (provider : Provider) (steps : List (ProofStep NameId SolvableId)) (refutes : Refutes catalogue source provider steps)
+    (few : length steps < 4294967296) (long : length catalogue < 4294967296) (asked : length source.lines < 4294967296) where
   -- the steps that write the proof's are those of a report
-  is_report : (in_catalogue in_request : List ℕ) (written : List Step) → AllZip (Tells catalogue said.lines provider.ids) steps written → AllZip (IsToldBy catalogue provider.ids said.lines) steps written
-      → AreAll in_catalogue (IsNamedBy text.Catalogue (length catalogue) written) → AreAll in_request (IsNamedBy text.Request (length said.lines) written) → IsReport (Refused in_catalogue in_request written [])
-  is_report in_catalogue in_request written tells are of_catalogue of_request = in_grammar in_catalogue in_request steps written of_catalogue.rising of_request.rising
-      (named_fit text.Catalogue (length catalogue) in_catalogue written long of_catalogue) (named_fit text.Request (length said.lines) in_request written asked of_request)
-      (zipped steps written (step_fits catalogue said provider steps refutes.proves few long asked) tells are) (let end = refutes.empty in subst (λ (xs : List (ProofStep NameId SolvableId)). 0 < length xs) (sym end.ends) (some_last end.earlier (Derived end.literals end.causes))) few
+  is_report : (in_catalogue in_request : List ℕ) (written : List Step) → AllZip (NamesRule catalogue source.lines provider.ids) steps written → AllZip (IsWrittenAs catalogue provider.ids source.lines) steps written
+      → AreAll in_catalogue (IsNamedBy text.Catalogue (length catalogue) written) → AreAll in_request (IsNamedBy text.Request (length source.lines) written) → IsReport (Refused in_catalogue in_request written [])
+  is_report in_catalogue in_request written names_rule are of_catalogue of_request = in_grammar in_catalogue in_request steps written of_catalogue.rising of_request.rising
+      (named_fit text.Catalogue (length catalogue) in_catalogue written long of_catalogue) (named_fit text.Request (length source.lines) in_request written asked of_request)
+      (zipped steps written (step_fits catalogue source provider steps refutes.proves few long asked) names_rule are) (let end = refutes.empty in subst (λ (xs : List (ProofStep NameId SolvableId)). 0 < length xs) (sym end.ends) (some_last end.earlier (Derived end.literals end.causes))) few
 
   -- A report whose steps are written so, and which names the lines that they rest on, is a refusal of the proof.
-  pub refusal : (in_catalogue in_request : List ℕ) (written : List Step) (r : Report) → r ≡ Refused in_catalogue in_request written [] → AllZip (Tells catalogue said.lines provider.ids) steps written → AllZip (IsWritten catalogue provider.ids) steps written
-      → AreAll in_catalogue (IsNamedBy text.Catalogue (length catalogue) written) → AreAll in_request (IsNamedBy text.Request (length said.lines) written) → IsRefusalOf catalogue said.lines provider.ids steps r
-  refusal in_catalogue in_request written r is tells wrote of_catalogue of_request =
-      let each = steps_told catalogue said provider steps refutes.proves few written tells wrote in
-      refusal_of catalogue said provider steps refutes r (record { in_catalogue = in_catalogue; in_request = in_request; written = written; is = is; each = wrote; named = of_catalogue; asked = of_request }) each
-      (subst (λ (x : Report). IsReport x) (sym is) (is_report in_catalogue in_request written tells each of_catalogue of_request))
+  pub refusal : (in_catalogue in_request : List ℕ) (written : List Step) (r : Report) → r ≡ Refused in_catalogue in_request written [] → AllZip (NamesRule catalogue source.lines provider.ids) steps written → AllZip (IsWritten catalogue provider.ids) steps written
+      → AreAll in_catalogue (IsNamedBy text.Catalogue (length catalogue) written) → AreAll in_request (IsNamedBy text.Request (length source.lines) written) → IsRefusalOf catalogue source.lines provider.ids steps r
+  refusal in_catalogue in_request written r is names_rule wrote of_catalogue of_request =
+      let each = steps_written catalogue source provider steps refutes.proves few written names_rule wrote in
+      refusal_of catalogue source provider steps refutes r (record { in_catalogue = in_catalogue; in_request = in_request; written = written; is = is; each = wrote; named = of_catalogue; asked = of_request }) each
+      (subst (λ (x : Report). IsReport x) (sym is) (is_report in_catalogue in_request written names_rule each of_catalogue of_request))

@@ -12,7 +12,7 @@ use Rattle.resolvo_catalogue_core.proofs.PlaceLemmas.{contains_from_at}
 use Rattle.resolvo_catalogue.proofs.MarkLemmas.{one_some}
 use Rattle.resolvo_soundness.proofs.Lists.{contains_none, contains_cases, contains_first, contains_later, contains_map, map_contains, any_contained}
 use Rattle.resolvo_report.specs.Value.{Literal, Step, Report, ReportLine, RefusedHead, CatalogueLine, RequestLine, Numbered, Refused}
-use Rattle.resolvo_report.specs.Value as told
+use Rattle.resolvo_report.specs.Value as in_report
 use Rattle.resolvo_report.specs.Text.{atom_text, literal_text, numbered, are_rising, are_once, is_before, IsLineNumber, IsAtom, IsStep, HasText}
 use Rattle.resolvo_report.specs.Grammar.{next_part, part_after, AreLines, IsReport}
 use Rattle.resolvo_report.specs.declared.place.Part.{Part}
@@ -63,7 +63,7 @@ never_before : (t : List ℕ) → slice_cmp nat_cmp t t ≡ Less → ⊥
 never_before t e = (let twice : Less ≡ Greater = sym e ∙ (nat_list_cmp_total.antisymm t t ∙ ap ordering_reverse e) in absurd cc)
 
 -- an atom is known by its text
-one_atom : (a b : told.Atom) → IsAtom a → IsAtom b → atom_text a ≡ atom_text b → a ≡ b
+one_atom : (a b : in_report.Atom) → IsAtom a → IsAtom b → atom_text a ≡ atom_text b → a ≡ b
 one_atom a b fits suits is = ap (λ (l : Literal). l.atom) (one_literal (record { atom = a; positive = true }) (record { atom = b; positive = true }) fits suits is)
 
 -- literals in order of their texts, no atom with both signs: each atom is there once

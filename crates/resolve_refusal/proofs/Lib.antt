@@ -1,7 +1,7 @@
 pub mod NameLemmas
 pub mod RenameLemmas
 pub mod Taken
-pub mod BarLemmas
+pub mod ForbidLemmas
 pub mod Clauses
 pub mod FollowLemmas
 pub mod AcceptLemmas
@@ -9,7 +9,7 @@ pub mod FindLemmas
 pub mod Cases
 pub mod SortLemmas
 pub mod Spelled
-pub mod TellLemmas
+pub mod RuleLines
 pub mod Grammar
 pub mod FitLemmas
 pub mod InstallLemmas

@@ -47,15 +47,15 @@ rests_push of steps s n (t, h, e) = elim (contains_parts t steps (s ∷ []) h) [
 -- one more step, whose line is flagged
 pub flagged_more : (of : Text) (count : ℕ) (steps : List Step) (s : Step) (line : ℕ) (old new : List Bool) → line_in of s ≡ Some line → length new ≡ length old → ((k : ℕ) → IsFlagged old k → IsFlagged new k) → ((k : ℕ) → line ≡ suc k → k < length old → IsFlagged new k)
     → ((k : ℕ) → IsFlagged new k → IsFlagged old k ⊎ (line ≡ suc k)) → AreFlagged of count steps old → AreFlagged of count (steps ++ s ∷ []) new
-flagged_more of count steps s line old new says long kept set only are = record {
+flagged_more of count steps s line old new rests_here long kept set only are = record {
   long = long ∙ are.long;
   set = λ k below rests. elim (rests_push of steps s (suc k) rests) [
     | inl a ↦ kept k (are.set k below a)
-    | inr e ↦ set k (one_line (sym says ∙ e)) (let l : length old ≡ count = are.long in omega arith)
+    | inr e ↦ set k (one_line (sym rests_here ∙ e)) (let l : length old ≡ count = are.long in omega arith)
   ];
   only = λ k is. elim (only k is) [
     | inl a ↦ (let (t, h, e) = are.only k a in (t, contains_left t steps (s ∷ []) h, e))
-    | inr e ↦ (s, contains_right s steps (s ∷ []) (contains_first s s [] refl), says ∙ ap Some e)
+    | inr e ↦ (s, contains_right s steps (s ∷ []) (contains_first s s [] refl), rests_here ∙ ap Some e)
   ];
 }
   where
@@ -64,11 +64,11 @@ flagged_more of count steps s line old new says long kept set only are = record 
 
 -- one more step, which rests on no line of the text
 pub flagged_skip : (of : Text) (count : ℕ) (steps : List Step) (s : Step) (flags : List Bool) → line_in of s ≡ None → AreFlagged of count steps flags → AreFlagged of count (steps ++ s ∷ []) flags
-flagged_skip of count steps s flags says are = record {
+flagged_skip of count steps s flags rests_here are = record {
   long = are.long;
   set = λ k below rests. elim (rests_push of steps s (suc k) rests) [
     | inl a ↦ are.set k below a
-    | inr e ↦ (let both : None ≡ Some (suc k) = sym says ∙ e in absurd cc)
+    | inr e ↦ (let both : None ≡ Some (suc k) = sym rests_here ∙ e in absurd cc)
   ];
   only = λ k is. (let (t, h, e) = are.only k is in (t, contains_left t steps (s ∷ []) h, e));
 }

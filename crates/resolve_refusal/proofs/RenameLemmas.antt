@@ -22,8 +22,8 @@ use Rattle.resolvo_catalogue.specs.Known.{name_text, set_at, spec_at, members_of
 use Rattle.resolvo_catalogue.specs.Provider.{Provider}
 use Rattle.resolvo_catalogue.specs.Over.{IsOver}
 use Rattle.resolvo_catalogue.specs.declared.id_table.Numbers.{Numbers}
-use Rattle.resolvo_report.specs.Value as told
-use Rattle.resolvo_checker.specs.Helpers as judge
+use Rattle.resolvo_report.specs.Value as in_report
+use Rattle.resolvo_checker.specs.AtomValues as judge
 use Rattle.resolvo_checker.proofs.Atoms.{same_atom_is, atom_own}
 use Rattle.resolve_refusal.specs.RefusedReport.{version_at}
 use Rattle.resolve_refusal.specs.Refusal.{IsVersion, IsRequirement, IsName}
@@ -38,17 +38,17 @@ module _ (catalogue : List Line) (provider : Provider) (over : IsOver catalogue 
   IsKnown (Atom.digit n bit) = IsName catalogue provider.ids n
 
   -- the atom in the words of a report
-  abbrev pub name : Atom NameId SolvableId → told.Atom
-  name (Atom.solvable s) = told.Chosen (version_at catalogue s)
-  name (Atom.any_of n) = told.AnyOf (name_text provider.ids n)
-  name (Atom.gate r) = told.SharedBy (alternatives_at provider.ids r)
-  name (Atom.outside v) = told.OutsideOf (spec_at provider.ids v)
-  name (Atom.digit n bit) = told.BitOf bit (name_text provider.ids n)
+  abbrev pub name : Atom NameId SolvableId → in_report.Atom
+  name (Atom.solvable s) = in_report.Chosen (version_at catalogue s)
+  name (Atom.any_of n) = in_report.AnyOf (name_text provider.ids n)
+  name (Atom.gate r) = in_report.SharedBy (alternatives_at provider.ids r)
+  name (Atom.outside v) = in_report.OutsideOf (spec_at provider.ids v)
+  name (Atom.digit n bit) = in_report.BitOf bit (name_text provider.ids n)
 
-  abbrev pub name_literal : pass.Literal (Atom NameId SolvableId) → pass.Literal told.Atom
+  abbrev pub name_literal : pass.Literal (Atom NameId SolvableId) → pass.Literal in_report.Atom
   name_literal l = record { atom = name l.atom; positive = l.positive }
 
-  abbrev pub name_clause : List (pass.Literal (Atom NameId SolvableId)) → List (pass.Literal told.Atom)
+  abbrev pub name_clause : List (pass.Literal (Atom NameId SolvableId)) → List (pass.Literal in_report.Atom)
   name_clause c = map name_literal c
 
   -- each atom of the clause is known
@@ -128,60 +128,60 @@ module _ (catalogue : List Line) (provider : Provider) (over : IsOver catalogue 
   one_requirement (Union u) (Single w) (a, (vs, e, each)) y h =
       absurd (over.once.several u.0 w (e ∙ ap (λ (x : List VersionSetId). Some x) (sym (get_or_from_slice_get provider.ids.unions u.0 vs [] e) ∙ h)))
 
-  chosen_one : {v w : Version} → told.Chosen v ≡ told.Chosen w → v ≡ w
+  chosen_one : {v w : Version} → in_report.Chosen v ≡ in_report.Chosen w → v ≡ w
   chosen_one h = cc
 
-  any_one : {v w : List ℕ} → told.AnyOf v ≡ told.AnyOf w → v ≡ w
+  any_one : {v w : List ℕ} → in_report.AnyOf v ≡ in_report.AnyOf w → v ≡ w
   any_one h = cc
 
-  shared_one : {v w : List Spec} → told.SharedBy v ≡ told.SharedBy w → v ≡ w
+  shared_one : {v w : List Spec} → in_report.SharedBy v ≡ in_report.SharedBy w → v ≡ w
   shared_one h = cc
 
-  outside_one : {v w : Spec} → told.OutsideOf v ≡ told.OutsideOf w → v ≡ w
+  outside_one : {v w : Spec} → in_report.OutsideOf v ≡ in_report.OutsideOf w → v ≡ w
   outside_one h = cc
 
-  bit_one : {a b : ℕ} {v w : List ℕ} → told.BitOf a v ≡ told.BitOf b w → (a ≡ b) × (v ≡ w)
+  bit_one : {a b : ℕ} {v w : List ℕ} → in_report.BitOf a v ≡ in_report.BitOf b w → (a ≡ b) × (v ≡ w)
   bit_one h = (cc, cc)
 
   -- two known atoms with one name are one
-  pub told_once : (a b : Atom NameId SolvableId) → IsKnown a → IsKnown b → name a ≡ name b → a ≡ b
-  told_once (Atom.solvable s) (Atom.solvable t) x y h =
+  pub one_atom : (a b : Atom NameId SolvableId) → IsKnown a → IsKnown b → name a ≡ name b → a ≡ b
+  one_atom (Atom.solvable s) (Atom.solvable t) x y h =
       let (v, e) = x in
       let (w, g) = y in
       let same : v ≡ w = sym (version_is s v e) ∙ (chosen_one h ∙ version_is t w g) in
       let at : s.raw ≡ t.raw = over.distinct w s.raw t.raw (e ∙ ap (λ (u : Version). Some u) same) g in
       λ i. Atom.solvable (record { raw = at i; tag = s.tag })
-  told_once (Atom.solvable s) (Atom.gate q) x y h = absurd cc
-  told_once (Atom.solvable s) (Atom.outside w) x y h = absurd cc
-  told_once (Atom.solvable s) (Atom.any_of m) x y h = absurd cc
-  told_once (Atom.solvable s) (Atom.digit m other) x y h = absurd cc
-  told_once (Atom.gate r) (Atom.solvable t) x y h = absurd cc
-  told_once (Atom.gate r) (Atom.gate q) x y h =
+  one_atom (Atom.solvable s) (Atom.gate q) x y h = absurd cc
+  one_atom (Atom.solvable s) (Atom.outside w) x y h = absurd cc
+  one_atom (Atom.solvable s) (Atom.any_of m) x y h = absurd cc
+  one_atom (Atom.solvable s) (Atom.digit m other) x y h = absurd cc
+  one_atom (Atom.gate r) (Atom.solvable t) x y h = absurd cc
+  one_atom (Atom.gate r) (Atom.gate q) x y h =
       ap (λ (u : Requirement). Atom.gate u) (one_requirement r q x y (same_members r q x y (shared_one h)))
-  told_once (Atom.gate r) (Atom.outside w) x y h = absurd cc
-  told_once (Atom.gate r) (Atom.any_of m) x y h = absurd cc
-  told_once (Atom.gate r) (Atom.digit m other) x y h = absurd cc
-  told_once (Atom.outside v) (Atom.solvable t) x y h = absurd cc
-  told_once (Atom.outside v) (Atom.gate q) x y h = absurd cc
-  told_once (Atom.outside v) (Atom.outside w) x y h =
+  one_atom (Atom.gate r) (Atom.outside w) x y h = absurd cc
+  one_atom (Atom.gate r) (Atom.any_of m) x y h = absurd cc
+  one_atom (Atom.gate r) (Atom.digit m other) x y h = absurd cc
+  one_atom (Atom.outside v) (Atom.solvable t) x y h = absurd cc
+  one_atom (Atom.outside v) (Atom.gate q) x y h = absurd cc
+  one_atom (Atom.outside v) (Atom.outside w) x y h =
       let (a, e) = x in
       let (b, g) = y in
       let same : a ≡ b = sym (spec_is v a e) ∙ (outside_one h ∙ spec_is w b g) in
       ap (λ (u : VersionSetId). Atom.outside u) (one_set v w b (subst (IsSpec provider.ids v) same e) g)
-  told_once (Atom.outside v) (Atom.any_of m) x y h = absurd cc
-  told_once (Atom.outside v) (Atom.digit m other) x y h = absurd cc
-  told_once (Atom.any_of n) (Atom.solvable t) x y h = absurd cc
-  told_once (Atom.any_of n) (Atom.gate q) x y h = absurd cc
-  told_once (Atom.any_of n) (Atom.outside w) x y h = absurd cc
-  told_once (Atom.any_of n) (Atom.any_of m) x y h =
+  one_atom (Atom.outside v) (Atom.any_of m) x y h = absurd cc
+  one_atom (Atom.outside v) (Atom.digit m other) x y h = absurd cc
+  one_atom (Atom.any_of n) (Atom.solvable t) x y h = absurd cc
+  one_atom (Atom.any_of n) (Atom.gate q) x y h = absurd cc
+  one_atom (Atom.any_of n) (Atom.outside w) x y h = absurd cc
+  one_atom (Atom.any_of n) (Atom.any_of m) x y h =
       let at : n ≡ m = one_name n m x y (any_one h) in
       ap (λ (u : NameId). Atom.any_of u) at
-  told_once (Atom.any_of n) (Atom.digit m other) x y h = absurd cc
-  told_once (Atom.digit n bit) (Atom.solvable t) x y h = absurd cc
-  told_once (Atom.digit n bit) (Atom.gate q) x y h = absurd cc
-  told_once (Atom.digit n bit) (Atom.outside w) x y h = absurd cc
-  told_once (Atom.digit n bit) (Atom.any_of m) x y h = absurd cc
-  told_once (Atom.digit n bit) (Atom.digit m other) x y h =
+  one_atom (Atom.any_of n) (Atom.digit m other) x y h = absurd cc
+  one_atom (Atom.digit n bit) (Atom.solvable t) x y h = absurd cc
+  one_atom (Atom.digit n bit) (Atom.gate q) x y h = absurd cc
+  one_atom (Atom.digit n bit) (Atom.outside w) x y h = absurd cc
+  one_atom (Atom.digit n bit) (Atom.any_of m) x y h = absurd cc
+  one_atom (Atom.digit n bit) (Atom.digit m other) x y h =
       let at : n ≡ m = one_name n m x y (bit_one h).1 in
       let bits : bit ≡ other = (bit_one h).0 in
       λ i. Atom.digit (at i) (bits i)
@@ -189,17 +189,17 @@ module _ (catalogue : List Line) (provider : Provider) (over : IsOver catalogue 
   -- ---- passes
 
   -- the name of a known atom
-  abbrev Names : Atom NameId SolvableId → told.Atom → Type 0
+  abbrev Names : Atom NameId SolvableId → in_report.Atom → Type 0
   Names a i = IsKnown a × (i ≡ name a)
 
   module _ (same : Atom NameId SolvableId → Atom NameId SolvableId → Bool) (exact : IsExact same) where
-    tells : (a b : Atom NameId SolvableId) (i j : told.Atom) → Names a i → Names b j → judge.same_atom i j ≡ same a b
-    tells a b i j (x, e) (y, f) = go (judge.same_atom i j) (same a b) refl refl
+    same_value : (a b : Atom NameId SolvableId) (i j : in_report.Atom) → Names a i → Names b j → judge.same_atom i j ≡ same a b
+    same_value a b i j (x, e) (y, f) = go (judge.same_atom i j) (same a b) refl refl
       where
         go : (p q : Bool) → judge.same_atom i j ≡ p → same a b ≡ q → judge.same_atom i j ≡ same a b
         go true true g h = g ∙ sym h
         go false false g h = g ∙ sym h
-        go true false g h = absurd (both_ways (same a b) h (subst (λ t. same a t ≡ true) (told_once a b x y (sym e ∙ (same_atom_is i j g ∙ f))) (exact.own a)))
+        go true false g h = absurd (both_ways (same a b) h (subst (λ t. same a t ≡ true) (one_atom a b x y (sym e ∙ (same_atom_is i j g ∙ f))) (exact.own a)))
         go false true g h = absurd (both_ways (judge.same_atom i j) g (subst (λ t. judge.same_atom i t ≡ true) (e ∙ (ap name (exact.one a b h) ∙ sym f)) (atom_own i)))
 
     named : (c : List (pass.Literal (Atom NameId SolvableId))) → IsKnownClause c → AreNamed Names c (name_clause c)
@@ -215,14 +215,14 @@ module _ (catalogue : List Line) (provider : Provider) (over : IsOver catalogue 
     named_once c known signs l m h k e =
         let (x, a, f) = map_contains name_literal l c h in
         let (y, b, g) = map_contains name_literal m c k in
-        let same_name : name x.atom ≡ name y.atom = sym (ap (λ (z : pass.Literal told.Atom). z.atom) f) ∙ (e ∙ ap (λ (z : pass.Literal told.Atom). z.atom) g) in
-        let signed : x.positive ≡ y.positive = signs x y a b (told_once x.atom y.atom (known x a) (known y b) same_name) in
-        ap (λ (z : pass.Literal told.Atom). z.positive) f ∙ (signed ∙ sym (ap (λ (z : pass.Literal told.Atom). z.positive) g))
+        let same_name : name x.atom ≡ name y.atom = sym (ap (λ (z : pass.Literal in_report.Atom). z.atom) f) ∙ (e ∙ ap (λ (z : pass.Literal in_report.Atom). z.atom) g) in
+        let signed : x.positive ≡ y.positive = signs x y a b (one_atom x.atom y.atom (known x a) (known y b) same_name) in
+        ap (λ (z : pass.Literal in_report.Atom). z.positive) f ∙ (signed ∙ sym (ap (λ (z : pass.Literal in_report.Atom). z.positive) g))
 
     -- A pass over clauses of known atoms is one over clauses with the names of their literals, in any order.
-    pub pass_told : (c : List (pass.Literal (Atom NameId SolvableId))) (d : List (pass.Literal told.Atom)) (cs : List (List (pass.Literal (Atom NameId SolvableId)))) (ds : List (List (pass.Literal told.Atom)))
+    pub pass_alike : (c : List (pass.Literal (Atom NameId SolvableId))) (d : List (pass.Literal in_report.Atom)) (cs : List (List (pass.Literal (Atom NameId SolvableId)))) (ds : List (List (pass.Literal in_report.Atom)))
         → IsKnownClause c → ((e : List (pass.Literal (Atom NameId SolvableId))) → Contains cs e → IsKnownClause e) → HaveOneSign c → SameMembers (name_clause c) d → AllZip SameMembers (map name_clause cs) ds
         → one_pass judge.same_atom d ds ≡ one_pass same c cs
-    pass_told c d cs ds known all signs alike each =
+    pass_alike c d cs ds known all signs alike each =
         sym (one_pass_members judge.same_atom (record { one = same_atom_is; own = atom_own }) (name_clause c) d (map name_clause cs) ds alike (named_once c known signs) each)
-        ∙ one_pass_alike same judge.same_atom Names tells (name_clause c) c (map name_clause cs) cs (named c known) (all_named cs all)
+        ∙ one_pass_alike same judge.same_atom Names same_value (name_clause c) c (map name_clause cs) cs (named c known) (all_named cs all)

@@ -18,7 +18,7 @@ use Rattle.resolvo_proof.specs.declared.step.ProofLiteral.{ProofLiteral}
 use Rattle.std.proofs.lemmas.List.{take_more}
 use Rattle.resolvo_report.specs.declared.step.Atom.{Atom}
 use Rattle.resolvo_report.specs.declared.step.Literal.{Literal}
-use Rattle.resolvo_report.specs.Value as told
+use Rattle.resolvo_report.specs.Value as in_report
 use Rattle.resolvo_report.specs.View.{atom_of, literal_of, literals_of}
 use Rattle.resolvo_report.specs.Text.{literal_text, IsAtom}
 use Rattle.resolvo_report.specs.Text as text
@@ -99,31 +99,31 @@ by_text_more cmp same catalogue ids literals entries k key w spelled is are = re
 
 -- ---- one literal has the text
 
-abbrev one_step : (l : told.Literal) → told.Report
-one_step l = told.Refused [] [] (told.Derive (l ∷ []) (0 ∷ []) ∷ []) []
+abbrev one_step : (l : in_report.Literal) → in_report.Report
+one_step l = in_report.Refused [] [] (in_report.Derive (l ∷ []) (0 ∷ []) ∷ []) []
 
-one_step_report : (l : told.Literal) → IsAtom l.atom → IsReport (one_step l)
+one_step_report : (l : in_report.Literal) → IsAtom l.atom → IsReport (one_step l)
 one_step_report l fits = record {
   part = part.RefusedSteps 1;
   lines = record { each = (tt, ((omega arith, (record { each = (fits, tt); rising = refl; once = refl }, (omega arith, (omega arith, tt)))), tt)); placed = refl };
   whole = refl;
 }
 
-pub one_literal : (l m : told.Literal) → IsAtom l.atom → IsAtom m.atom → literal_text l ≡ literal_text m → l ≡ m
+pub one_literal : (l m : in_report.Literal) → IsAtom l.atom → IsAtom m.atom → literal_text l ≡ literal_text m → l ≡ m
 one_literal l m fits suits is = (let whole : one_step l ≡ one_step m = one_report (one_step l) (one_step m) (one_step_report l fits) (one_step_report m suits) texts in cc)
   where
     texts : text.report_text (one_step l) ≡ text.report_text (one_step m)
     texts = ap (λ (t : List ℕ). (codes "refused" ++ codes "\n") ++ (((codes "step " ++ decimal 1 ++ codes " " ++ join_with_byte 32 (codes "derive" ∷ (codes "[" ++ t ++ [] ++ codes "]") ∷ codes "by" ∷ decimal 0 ∷ [])) ++ codes "\n") ++ [])) is
 
 -- the values are the literals
-pub values_told : (catalogue : List Line) (ids : Ids) (literals : List (ProofLiteral NameId SolvableId)) (entries : List (String Global × Literal)) → AreByText catalogue ids literals entries → HaveForm catalogue ids literals → AreLiterals catalogue ids literals (literals_of (map (λ e. e.1) entries))
-values_told catalogue ids literals entries are form = λ l. (
+pub values_are : (catalogue : List Line) (ids : Ids) (literals : List (ProofLiteral NameId SolvableId)) (entries : List (String Global × Literal)) → AreByText catalogue ids literals entries → HaveForm catalogue ids literals → AreLiterals catalogue ids literals (literals_of (map (λ e. e.1) entries))
+values_are catalogue ids literals entries are form = λ l. (
   λ h. (let a = map_contains literal_of l (map (λ e. e.1) entries) h in let b = map_contains (λ (e : String Global × Literal). e.1) a.0 entries a.1 in let f = are.from b.0 b.1 in (f.0, f.1, a.2 ∙ (ap literal_of b.2 ∙ f.2))),
   λ (k, has, is).
       let a = are.all k has in
       let f = are.from a.0 a.1 in
-      let same : literal_of a.0.1 ≡ literal_at catalogue ids k = one_literal (literal_of a.0.1) (literal_at catalogue ids k) (subst (λ (x : told.Literal). IsAtom x.atom) (sym f.2) (form f.0 f.1)) (form k has) (sym (are.keyed a.0 a.1) ∙ a.2) in
-      subst (λ (x : told.Literal). Contains (literals_of (map (λ e. e.1) entries)) x) (same ∙ sym is) (contains_map literal_of a.0.1 (map (λ e. e.1) entries) (contains_map (λ (e : String Global × Literal). e.1) a.0 entries a.1)),
+      let same : literal_of a.0.1 ≡ literal_at catalogue ids k = one_literal (literal_of a.0.1) (literal_at catalogue ids k) (subst (λ (x : in_report.Literal). IsAtom x.atom) (sym f.2) (form f.0 f.1)) (form k has) (sym (are.keyed a.0 a.1) ∙ a.2) in
+      subst (λ (x : in_report.Literal). Contains (literals_of (map (λ e. e.1) entries)) x) (same ∙ sym is) (contains_map literal_of a.0.1 (map (λ e. e.1) entries) (contains_map (λ (e : String Global × Literal). e.1) a.0 entries a.1)),
 )
 
 -- the keys' order is that of the texts
@@ -155,4 +155,4 @@ pub by_text_step : (catalogue : List Line) (ids : Ids) (literals : List (ProofLi
 by_text_step catalogue ids literals i d old new key a within is spelled added are =
     subst (λ ks. AreByText catalogue ids ks new) (sym (take_more literals i d within))
     (subst (λ es. AreByText catalogue ids (take i literals ++ get_or literals i d ∷ []) es) (sym added)
-    (by_text_more by_bytes same_bytes catalogue ids (take i literals) old (get_or literals i d) key (written_at literals i d a) spelled (ap (λ (x : told.Atom). record { atom = x; positive = (get_or literals i d).positive }) is) are))
+    (by_text_more by_bytes same_bytes catalogue ids (take i literals) old (get_or literals i d) key (written_at literals i d a) spelled (ap (λ (x : in_report.Atom). record { atom = x; positive = (get_or literals i d).positive }) is) are))

@@ -15,7 +15,7 @@ use Rattle.resolvo_catalogue.specs.Ids.{NameId, SolvableId}
 use Rattle.resolvo_catalogue.specs.Known.{name_text}
 use Rattle.resolvo_catalogue.specs.Provider.{Provider}
 use Rattle.resolvo_catalogue.specs.Over.{IsOver}
-use Rattle.resolvo_catalogue.proofs.CoverLemmas.{alternatives_stand}
+use Rattle.resolvo_catalogue.proofs.CoverLemmas.{alternatives_are}
 use Rattle.resolvo_report.specs.Text.{AreAlternatives, IsAtom}
 use Rattle.resolve_refusal.specs.RefusedReport.{version_at}
 use Rattle.resolve_refusal.specs.Refusal.{IsVersion, IsSpelledName, IsKnownAtom, atom_at, HaveForm}
@@ -26,7 +26,7 @@ pub listed_fits : (catalogue : List Line) → AreCatalogueLines catalogue → (n
 listed_fits catalogue grammatical number v e =
     let (k, at) = at_from_contains catalogue (Listed v) (listed_from catalogue v number e) in
     let (bytes, line) = grammatical k (Listed v) at in
-    line.says.form
+    line.parsed.form
 
 module _ (catalogue : List Line) (provider : Provider) (over : IsOver catalogue provider) where
   pub version_fits : (s : SolvableId) → IsVersion catalogue provider.ids s → form.IsVersion (version_at catalogue s)
@@ -38,7 +38,7 @@ module _ (catalogue : List Line) (provider : Provider) (over : IsOver catalogue 
   pub atom_fits : (a : ProofAtom NameId SolvableId) → IsKnownAtom catalogue provider.ids a → IsAtom (atom_at catalogue provider.ids a)
   atom_fits (atom.Solvable s) h = version_fits s h
   atom_fits (atom.AtLeastOne n) h = name_fits n h
-  atom_fits (atom.Gate r) (ss, are, fits) = subst (λ (ts : List Spec). AreAlternatives ts) (sym (alternatives_stand provider.ids r ss are)) fits
+  atom_fits (atom.Gate r) (ss, are, fits) = subst (λ (ts : List Spec). AreAlternatives ts) (sym (alternatives_are provider.ids r ss are)) fits
   atom_fits (atom.Outside v) (s, is, fits) = subst (λ (t : Spec). form.IsSpec t) (sym (spec_is catalogue provider over v s is)) fits
   atom_fits (atom.Bit n bit) (name, below) = (below, name_fits n name)
 

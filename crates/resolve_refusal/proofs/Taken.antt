@@ -3,11 +3,11 @@ use Rattle.std.proofs.Common.{◌≡◌, inl, inr, Bool, true}
 use Rattle.std.proofs.lemmas.Bool.{or_cases, or_left, or_right}
 use Rattle.std.specs.Prelude.{◌||◌}
 use Rattle.resolvo_pool_core.specs.declared.id.VersionSetId.{VersionSetId}
-use Rattle.resolvo_pool_core.specs.RuleKeeping.{Packages, Rules, is_outside, is_barred, is_unknown}
-use Rattle.resolvo_soundness.specs.Encoding.{IsExact, Rule, Bar, IsRule}
+use Rattle.resolvo_pool_core.specs.RuleKeeping.{Packages, Rules, is_outside, is_forbidden, is_unknown}
+use Rattle.resolvo_soundness.specs.Encoding.{IsExact, Rule, ForbidReason, IsRule}
 use Rattle.resolvo_soundness.proofs.Members.{kept_out}
 
 module _ {N S : Type 0} (same : S → S → Bool) (p : Packages N S) (root : Rules) where
   -- the solvable is outside the version set
-  pub out_says : (v : VersionSetId) (s : S) → IsRule same p root (Rule.is_out v s) → is_outside same p v s ≡ true
-  out_says v s (parent, has, out) = out
+  pub out_is : (v : VersionSetId) (s : S) → IsRule same p root (Rule.is_out v s) → is_outside same p v s ≡ true
+  out_is v s (parent, has, out) = out

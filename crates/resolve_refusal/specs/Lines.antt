@@ -4,14 +4,14 @@ use Rattle.resolvo_text.specs.Line.{Version, Spec, Cond, Line, Skipped, Listed, 
 use Rattle.resolvo_text.specs.Cases.{condition_cases}
 use Rattle.resolvo_catalogue_core.specs.Grammar.{line_at, owner_of}
 use Rattle.resolvo_catalogue_core.specs.Listed.{listed}
-use Rattle.resolvo_catalogue_core.specs.Questions.{SaysOf, BelongsTo, LineIs, LocksAnother, Excludes, Bars}
+use Rattle.resolvo_catalogue_core.specs.Questions.{IsVersionLine, BelongsTo, LineIs, LocksAnother, Excludes, Forbids}
 use Rattle.resolvo_catalogue_core.specs.declared.rule.VersionNo.{VersionNo}
 use Rattle.resolvo_checker.specs.StepClauses.{case_at}
 use Rattle.resolve_refusal.specs.declared.lines.PlaceLines.{PlaceLines}
 use Rattle.resolve_refusal.specs.declared.lines.PlaceLines.TheVariants as of_place
 use Rattle.resolve_refusal.specs.declared.lines.NeedLine.{NeedLine}
-use Rattle.resolve_refusal.specs.declared.lines.BarringLine.{BarringLine}
-use Rattle.resolve_refusal.specs.declared.lines.BarringLine.TheVariants as barring
+use Rattle.resolve_refusal.specs.declared.lines.ForbidLine.{ForbidLine}
+use Rattle.resolve_refusal.specs.declared.lines.ForbidLine.TheVariants as forbid_by
 use Rattle.resolve_refusal.specs.declared.lines.WordLine.{WordLine}
 use Rattle.resolve_refusal.specs.declared.lines.WordLine.TheVariants as with_word
 
@@ -44,15 +44,15 @@ text_of catalogue request (Some v) = catalogue
 -- Line n is one of the request, or one that belongs to the version.
 abbrev pub IsLineOf : List Line → List Line → Option VersionNo → ℕ → Type 0
 IsLineOf catalogue request None n = (1 ≤ n) × (n ≤ length request)
-IsLineOf catalogue request (Some v) n = SaysOf (listed catalogue) catalogue v.0 BelongsTo n
+IsLineOf catalogue request (Some v) n = IsVersionLine (listed catalogue) catalogue v.0 BelongsTo n
 
 -- Line n of a text has this content.
-abbrev pub SaysAt : List Line → Line → ℕ → Type 0
-SaysAt lines line n = line_at lines n ≡ Some line
+abbrev pub IsLineAt : List Line → Line → ℕ → Type 0
+IsLineAt lines line n = line_at lines n ≡ Some line
 
 -- Line n of a text has the property.
 abbrev pub IsAt : List Line → (Line → Type 0) → ℕ → Type 0
-IsAt lines P n = (l : Line) × SaysAt lines l n × P l
+IsAt lines P n = (l : Line) × IsLineAt lines l n × P l
 
 -- The line needs these alternatives, and this is one of its cases. A line without condition has one case, which is empty;
 -- no case of a condition is.
@@ -101,14 +101,14 @@ abbrev pub MarksUnknownAt : List Line → Version → List ℕ → ℕ → Type 
 MarksUnknownAt catalogue v word n = (line_at catalogue n ≡ Some (Unknown word)) × (owner_of catalogue n ≡ Some v)
 
 -- Line n forbids the version with this word.
-abbrev pub BarsAs : List Line → Version → List ℕ → ℕ → Type 0
-BarsAs catalogue v word n = ExcludesAt catalogue v word n ⊎ MarksUnknownAt catalogue v word n
+abbrev pub ForbidsAs : List Line → Version → List ℕ → ℕ → Type 0
+ForbidsAs catalogue v word n = ExcludesAt catalogue v word n ⊎ MarksUnknownAt catalogue v word n
 
 -- It is the first line that forbids the version with this word, by its content; or none does.
 abbrev pub IsWordLine : List Line → Version → List ℕ → Option WordLine → Type 0
-IsWordLine catalogue v word None = (m : ℕ) → BarsAs catalogue v word m → ⊥
-IsWordLine catalogue v word (Some (with_word.Exclude n)) = ExcludesAt catalogue v word n × ((m : ℕ) → m < n → BarsAs catalogue v word m → ⊥)
-IsWordLine catalogue v word (Some (with_word.Unknown n)) = MarksUnknownAt catalogue v word n × ((m : ℕ) → m < n → BarsAs catalogue v word m → ⊥)
+IsWordLine catalogue v word None = (m : ℕ) → ForbidsAs catalogue v word m → ⊥
+IsWordLine catalogue v word (Some (with_word.Exclude n)) = ExcludesAt catalogue v word n × ((m : ℕ) → m < n → ForbidsAs catalogue v word m → ⊥)
+IsWordLine catalogue v word (Some (with_word.Unknown n)) = MarksUnknownAt catalogue v word n × ((m : ℕ) → m < n → ForbidsAs catalogue v word m → ⊥)
 
 -- The line locks another version of the package; or none does.
 abbrev pub IsLockLine : List Line → Version → Option ℕ → Type 0
@@ -117,17 +117,17 @@ IsLockLine catalogue v (Some n) = LineIs catalogue n (LocksAnother v)
 
 -- Nothing locks another version of the package, or excludes the version.
 abbrev pub IsFree : List Line → Version → Type 0
-IsFree catalogue v = (m : ℕ) → Bars catalogue v m → ⊥
+IsFree catalogue v = (m : ℕ) → Forbids catalogue v m → ⊥
 
 -- The line forbids the version before a search: one that locks another version of its package, else
 -- the one that excludes it; or none does.
-abbrev pub IsBarredLine : List Line → Version → Option BarringLine → Type 0
-IsBarredLine catalogue v (Some (barring.Lock n)) = LineIs catalogue n (LocksAnother v)
-IsBarredLine catalogue v (Some (barring.Exclude n)) = ((m : ℕ) → LineIs catalogue m (LocksAnother v) → ⊥) × LineIs catalogue n (Excludes v) × ((m : ℕ) → LineIs catalogue m (Excludes v) → m ≡ n)
-IsBarredLine catalogue v None = IsFree catalogue v
+abbrev pub IsForbidLine : List Line → Version → Option ForbidLine → Type 0
+IsForbidLine catalogue v (Some (forbid_by.Lock n)) = LineIs catalogue n (LocksAnother v)
+IsForbidLine catalogue v (Some (forbid_by.Exclude n)) = ((m : ℕ) → LineIs catalogue m (LocksAnother v) → ⊥) × LineIs catalogue n (Excludes v) × ((m : ℕ) → LineIs catalogue m (Excludes v) → m ≡ n)
+IsForbidLine catalogue v None = IsFree catalogue v
 
 -- The version of this number is listed, and the line forbids it so; or it isn't listed, or no line
 -- forbids it so.
-abbrev pub IsBarredLineOf : List Line → ℕ → Option BarringLine → Type 0
-IsBarredLineOf catalogue number None = (v : Version) → slice_get (listed catalogue) number ≡ Some v → IsBarredLine catalogue v None
-IsBarredLineOf catalogue number (Some line) = (v : Version) × (slice_get (listed catalogue) number ≡ Some v) × IsBarredLine catalogue v (Some line)
+abbrev pub IsForbidLineOf : List Line → ℕ → Option ForbidLine → Type 0
+IsForbidLineOf catalogue number None = (v : Version) → slice_get (listed catalogue) number ≡ Some v → IsForbidLine catalogue v None
+IsForbidLineOf catalogue number (Some line) = (v : Version) × (slice_get (listed catalogue) number ≡ Some v) × IsForbidLine catalogue v (Some line)

@@ -27,7 +27,7 @@ use Rattle.resolvo_catalogue.specs.Over.{IsOver, AreAsked}
 use Rattle.resolvo_catalogue.specs.KeptSets.{root_of}
 use Rattle.resolvo_catalogue.specs.declared.provider.RequestIds.{RequestIds}
 use Rattle.resolvo_report.specs.Value.{Place, OfVersion, Literal, Step, Report, Refused}
-use Rattle.resolvo_report.specs.Value as told
+use Rattle.resolvo_report.specs.Value as in_report
 use Rattle.resolvo_report.specs.Text.{report_lines, IsAtom}
 use Rattle.resolvo_report.specs.Text as form_of
 use Rattle.resolvo_report.specs.Grammar.{IsReport}
@@ -35,7 +35,7 @@ use Rattle.resolvo_checker.specs.StepClauses.{line_of}
 use Rattle.resolvo_judge.specs.Judgement.{IsClaimTrue}
 use Rattle.resolvo_judge.specs.Refusal.{IsAccepted}
 use Rattle.resolve_refusal.specs.RefusedReport.{version_at, place_at}
-use Rattle.resolve_refusal.specs.Lines.{NeedsIn, NeedsAs, ExcludesAt, MarksUnknownAt, BarsAs}
+use Rattle.resolve_refusal.specs.Lines.{NeedsIn, NeedsAs, ExcludesAt, MarksUnknownAt, ForbidsAs}
 use Rattle.resolve_refusal.specs.Named.{AreUsedLines}
 
 -- ---- ids that the provider knows
@@ -86,67 +86,67 @@ module _ (catalogue : List Line) (ids : Ids) where
 
 -- The step forbids the version by this line, which locks another version of its package.
 abbrev pub IsLockStep : List Line → Version → Step → ℕ → Type 0
-IsLockStep catalogue v step line = (step ≡ told.Lock line v) × LineIs catalogue line (LocksAnother v)
+IsLockStep catalogue v step line = (step ≡ in_report.Lock line v) × LineIs catalogue line (LocksAnother v)
 
 -- It does by this line, which excludes the version, and no line locks another one.
 abbrev pub IsExclusionStep : List Line → Version → Step → ℕ → Type 0
-IsExclusionStep catalogue v step line = (step ≡ told.Exclude line) × ((m : ℕ) → LineIs catalogue m (LocksAnother v) → ⊥) × LineIs catalogue line (Excludes v)
+IsExclusionStep catalogue v step line = (step ≡ in_report.Exclude line) × ((m : ℕ) → LineIs catalogue m (LocksAnother v) → ⊥) × LineIs catalogue line (Excludes v)
 
 -- The step forbids the version by a line that locks another version of its package, excludes it, or
 -- marks its needs as unknown.
-abbrev pub IsBarredBy : List Line → Version → Step → Type 0
-IsBarredBy catalogue v step = (line : ℕ) × (IsLockStep catalogue v step line ⊎ (((step ≡ told.Exclude line) × LineIs catalogue line (Excludes v)) ⊎ ((step ≡ told.Unknown line) × LineIs catalogue line (MarksUnknownOf v))))
+abbrev pub IsForbiddenBy : List Line → Version → Step → Type 0
+IsForbiddenBy catalogue v step = (line : ℕ) × (IsLockStep catalogue v step line ⊎ (((step ≡ in_report.Exclude line) × LineIs catalogue line (Excludes v)) ⊎ ((step ≡ in_report.Unknown line) × LineIs catalogue line (MarksUnknownOf v))))
 
 -- It forbids the version with this word, by the first line that does: one that excludes it, or one
 -- that marks its needs as unknown.
-abbrev pub IsBarredAs : List Line → Version → List ℕ → Step → Type 0
-IsBarredAs catalogue v word step = (line : ℕ) × (((step ≡ told.Exclude line) × ExcludesAt catalogue v word line) ⊎ ((step ≡ told.Unknown line) × MarksUnknownAt catalogue v word line)) × ((m : ℕ) → m < line → BarsAs catalogue v word m → ⊥)
+abbrev pub IsForbiddenAs : List Line → Version → List ℕ → Step → Type 0
+IsForbiddenAs catalogue v word step = (line : ℕ) × (((step ≡ in_report.Exclude line) × ExcludesAt catalogue v word line) ⊎ ((step ≡ in_report.Unknown line) × MarksUnknownAt catalogue v word line)) × ((m : ℕ) → m < line → ForbidsAs catalogue v word m → ⊥)
 
 module _ (catalogue : List Line) where
   -- line n of the place has this content
-  abbrev pub PlaceSays : List Line → Place → Line → ℕ → Type 0
-  PlaceSays request place said n = line_of catalogue request place n ≡ Some said
+  abbrev pub IsPlaceLine : List Line → Place → Line → ℕ → Type 0
+  IsPlaceLine request place source n = line_of catalogue request place n ≡ Some source
 
   -- The line has it, and none of the place before it does.
-  pub record IsFirst (request : List Line) (place : Place) (said : Line) (n : ℕ) : Type 0 where
-    pub says : PlaceSays request place said n
-    pub first : (m : ℕ) → m < n → PlaceSays request place said m → ⊥
+  pub record IsFirst (request : List Line) (place : Place) (source : Line) (n : ℕ) : Type 0 where
+    pub parsed : IsPlaceLine request place source n
+    pub first : (m : ℕ) → m < n → IsPlaceLine request place source m → ⊥
 
   -- line n of the place has the property
   abbrev pub IsOfPlace : List Line → Place → (Line → Type 0) → ℕ → Type 0
-  IsOfPlace request place P n = (l : Line) × PlaceSays request place l n × P l
+  IsOfPlace request place P n = (l : Line) × IsPlaceLine request place l n × P l
 
   -- The line needs these alternatives in this case, which is its case k and none before; and no line of the place before
   -- it does.
   pub record IsFirstNeed (request : List Line) (place : Place) (alternatives case : List Spec) (n k : ℕ) : Type 0 where
-    pub says : IsOfPlace request place (NeedsAs alternatives case k) n
+    pub parsed : IsOfPlace request place (NeedsAs alternatives case k) n
     pub first : (m : ℕ) → m < n → IsOfPlace request place (NeedsIn alternatives case) m → ⊥
 
   -- The step names the first line of its rule, a need the first of its cases too. A package is
   -- locked by one line at most. An exclusion and an unknown mark of one version are one rule where
   -- their words are the same.
-  abbrev pub TellsFirst : List Line → Step → Type 0
-  TellsFirst request (told.Need place line k) = (alternatives case : List Spec) × IsFirstNeed request place alternatives case line k
-  TellsFirst request (told.Gate v line) = (alternatives : List Spec) × IsFirst request (OfVersion v) (Needs alternatives None) line
-  TellsFirst request (told.Shared alternatives) = ⊤
-  TellsFirst request (told.LimitBars place line v) = (s : Spec) × IsFirst request place (Limits s) line
-  TellsFirst request (told.Limit place line) = (s : Spec) × IsFirst request place (Limits s) line
-  TellsFirst request (told.Outside s v) = ⊤
-  TellsFirst request (told.Lock line v) = LineIs catalogue line (LocksAnother v)
-  TellsFirst request (told.Exclude line) = (v : Version) × (word : List ℕ) × IsBarredAs catalogue v word (told.Exclude line)
-  TellsFirst request (told.Unknown line) = (v : Version) × (word : List ℕ) × IsBarredAs catalogue v word (told.Unknown line)
-  TellsFirst request (told.Digit v place bit) = ⊤
-  TellsFirst request (told.Any v) = ⊤
-  TellsFirst request (told.Derive literals causes) = ⊤
+  abbrev pub NamesFirstLine : List Line → Step → Type 0
+  NamesFirstLine request (in_report.Need place line k) = (alternatives case : List Spec) × IsFirstNeed request place alternatives case line k
+  NamesFirstLine request (in_report.Gate v line) = (alternatives : List Spec) × IsFirst request (OfVersion v) (Needs alternatives None) line
+  NamesFirstLine request (in_report.Shared alternatives) = ⊤
+  NamesFirstLine request (in_report.LimitBars place line v) = (s : Spec) × IsFirst request place (Limits s) line
+  NamesFirstLine request (in_report.Limit place line) = (s : Spec) × IsFirst request place (Limits s) line
+  NamesFirstLine request (in_report.Outside s v) = ⊤
+  NamesFirstLine request (in_report.Lock line v) = LineIs catalogue line (LocksAnother v)
+  NamesFirstLine request (in_report.Exclude line) = (v : Version) × (word : List ℕ) × IsForbiddenAs catalogue v word (in_report.Exclude line)
+  NamesFirstLine request (in_report.Unknown line) = (v : Version) × (word : List ℕ) × IsForbiddenAs catalogue v word (in_report.Unknown line)
+  NamesFirstLine request (in_report.Digit v place bit) = ⊤
+  NamesFirstLine request (in_report.Any v) = ⊤
+  NamesFirstLine request (in_report.Derive literals causes) = ⊤
 
 module _ (catalogue : List Line) (ids : Ids) where
   -- the atom in the words of a report
-  abbrev pub atom_at : ProofAtom NameId SolvableId → told.Atom
-  atom_at (atom.Solvable s) = told.Chosen (version_at catalogue s)
-  atom_at (atom.AtLeastOne n) = told.AnyOf (name_text ids n)
-  atom_at (atom.Gate r) = told.SharedBy (alternatives_at ids r)
-  atom_at (atom.Outside v) = told.OutsideOf (spec_at ids v)
-  atom_at (atom.Bit n bit) = told.BitOf bit (name_text ids n)
+  abbrev pub atom_at : ProofAtom NameId SolvableId → in_report.Atom
+  atom_at (atom.Solvable s) = in_report.Chosen (version_at catalogue s)
+  atom_at (atom.AtLeastOne n) = in_report.AnyOf (name_text ids n)
+  atom_at (atom.Gate r) = in_report.SharedBy (alternatives_at ids r)
+  atom_at (atom.Outside v) = in_report.OutsideOf (spec_at ids v)
+  atom_at (atom.Bit n bit) = in_report.BitOf bit (name_text ids n)
 
   abbrev pub literal_at : ProofLiteral NameId SolvableId → Literal
   literal_at l = record { atom = atom_at l.atom; positive = l.positive }
@@ -162,27 +162,27 @@ module _ (catalogue : List Line) (ids : Ids) where
   -- The step writes the proof's step: a rule by its first line, a need by its first such case too.
   -- A lock is written by the line that locks another version, a forbidden version with a word by
   -- that word. A derived clause is written by its literals and the numbers of its causes.
-  abbrev pub IsToldBy : List Line → ProofStep NameId SolvableId → Step → Type 0
-  IsToldBy request (Rule (NeedsRule parent r case)) step = (line k : ℕ) × (step ≡ told.Need (place_at catalogue parent) line k) × IsFirstNeed catalogue request (place_at catalogue parent) (alternatives_at ids r) (map (spec_at ids) case.items) line k
-  IsToldBy request (Rule (GateOf s r)) step = (line : ℕ) × (step ≡ told.Gate (version_at catalogue s) line) × IsFirst catalogue request (OfVersion (version_at catalogue s)) (Needs (alternatives_at ids r) None) line
-  IsToldBy request (Rule (Shared r)) step = step ≡ told.Shared (alternatives_at ids r)
-  IsToldBy request (Rule (Limit parent v None)) step = (line : ℕ) × (step ≡ told.Limit (place_at catalogue parent) line) × IsFirst catalogue request (place_at catalogue parent) (Limits (spec_at ids v)) line
-  IsToldBy request (Rule (Limit parent v (Some s))) step = (line : ℕ) × (step ≡ told.LimitBars (place_at catalogue parent) line (version_at catalogue s)) × IsFirst catalogue request (place_at catalogue parent) (Limits (spec_at ids v)) line
-  IsToldBy request (Rule (Outside v s)) step = step ≡ told.Outside (spec_at ids v) (version_at catalogue s)
-  IsToldBy request (Rule (Locked locked s)) step = (line : ℕ) × IsLockStep catalogue (version_at catalogue s) step line
-  IsToldBy request (Rule (Excluded s reason)) step = IsBarredAs catalogue (version_at catalogue s) (word_text ids reason) step
-  IsToldBy request (Rule (Digit s place bit)) step = step ≡ told.Digit (version_at catalogue s) place bit
-  IsToldBy request (Rule (AtLeastOne n s)) step = step ≡ told.Any (version_at catalogue s)
-  IsToldBy request (Derived literals causes) step = (written : List Literal) × (step ≡ told.Derive written (map suc causes.items)) × AreLiterals literals.items written
+  abbrev pub IsWrittenAs : List Line → ProofStep NameId SolvableId → Step → Type 0
+  IsWrittenAs request (Rule (NeedsRule parent r case)) step = (line k : ℕ) × (step ≡ in_report.Need (place_at catalogue parent) line k) × IsFirstNeed catalogue request (place_at catalogue parent) (alternatives_at ids r) (map (spec_at ids) case.items) line k
+  IsWrittenAs request (Rule (GateOf s r)) step = (line : ℕ) × (step ≡ in_report.Gate (version_at catalogue s) line) × IsFirst catalogue request (OfVersion (version_at catalogue s)) (Needs (alternatives_at ids r) None) line
+  IsWrittenAs request (Rule (Shared r)) step = step ≡ in_report.Shared (alternatives_at ids r)
+  IsWrittenAs request (Rule (Limit parent v None)) step = (line : ℕ) × (step ≡ in_report.Limit (place_at catalogue parent) line) × IsFirst catalogue request (place_at catalogue parent) (Limits (spec_at ids v)) line
+  IsWrittenAs request (Rule (Limit parent v (Some s))) step = (line : ℕ) × (step ≡ in_report.LimitBars (place_at catalogue parent) line (version_at catalogue s)) × IsFirst catalogue request (place_at catalogue parent) (Limits (spec_at ids v)) line
+  IsWrittenAs request (Rule (Outside v s)) step = step ≡ in_report.Outside (spec_at ids v) (version_at catalogue s)
+  IsWrittenAs request (Rule (Locked locked s)) step = (line : ℕ) × IsLockStep catalogue (version_at catalogue s) step line
+  IsWrittenAs request (Rule (Excluded s reason)) step = IsForbiddenAs catalogue (version_at catalogue s) (word_text ids reason) step
+  IsWrittenAs request (Rule (Digit s place bit)) step = step ≡ in_report.Digit (version_at catalogue s) place bit
+  IsWrittenAs request (Rule (AtLeastOne n s)) step = step ≡ in_report.Any (version_at catalogue s)
+  IsWrittenAs request (Derived literals causes) step = (written : List Literal) × (step ≡ in_report.Derive written (map suc causes.items)) × AreLiterals literals.items written
 
 -- ---- reports
 
 -- Over a provider of the catalogue, with the request's ids, the steps are a proof whose ids have
 -- texts.
-pub record IsProofOver (catalogue : List Line) (said : ReadRequest) (provider : Provider) (steps : List (ProofStep NameId SolvableId)) : Type 0 where
+pub record IsProofOver (catalogue : List Line) (source : ReadRequest) (provider : Provider) (steps : List (ProofStep NameId SolvableId)) : Type 0 where
   pub over : IsOver catalogue provider
   pub ids : RequestIds
-  pub asked : AreAsked provider.ids said ids
+  pub asked : AreAsked provider.ids source ids
   pub same_atom : Atom NameId SolvableId → Atom NameId SolvableId → Bool
   pub exact_atom : IsExact same_atom
   pub same : SolvableId → SolvableId → Bool
@@ -194,8 +194,8 @@ pub record IsProofOver (catalogue : List Line) (said : ReadRequest) (provider : 
   pub one_place : HaveOnePlace steps
 
 -- They are a proof, and end with the empty clause.
-pub record Refutes (catalogue : List Line) (said : ReadRequest) (provider : Provider) (steps : List (ProofStep NameId SolvableId)) : Type 0 where
-  pub proves : IsProofOver catalogue said provider steps
+pub record Refutes (catalogue : List Line) (source : ReadRequest) (provider : Provider) (steps : List (ProofStep NameId SolvableId)) : Type 0 where
+  pub proves : IsProofOver catalogue source provider steps
   pub empty : EndsEmpty steps
 
 -- The report is a refusal of these steps that the judge accepts, so its claim is true. It names the
@@ -205,7 +205,7 @@ pub record IsRefusalOf (catalogue request : List Line) (ids : Ids) (steps : List
   pub in_request : List ℕ
   pub written : List Step
   pub refuses : r ≡ Refused in_catalogue in_request written []
-  pub each : AllZip (IsToldBy catalogue ids request) steps written
+  pub each : AllZip (IsWrittenAs catalogue ids request) steps written
   pub used : AreUsedLines catalogue request in_catalogue in_request written
   pub report : IsReport r
   pub accepted : IsAccepted catalogue request (report_lines r)

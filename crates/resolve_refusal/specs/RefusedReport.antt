@@ -10,7 +10,7 @@ use Rattle.resolvo_proof.specs.declared.step.ProofStep.{ProofStep}
 use Rattle.resolvo_proof.specs.declared.step.ProofStep.TheVariants.{Rule, Derived}
 use Rattle.resolvo_proof.specs.declared.step.ProofRule.TheVariants.{Needs, GateOf, Shared, Limit, Outside, Locked, Excluded, Digit, AtLeastOne}
 use Rattle.resolvo_report.specs.Value.{Place, OfRequest, OfVersion, Literal, Step, Report, Refused}
-use Rattle.resolvo_report.specs.Value as told
+use Rattle.resolvo_report.specs.Value as in_report
 use Rattle.resolve_refusal.specs.declared.named.Text.TheVariants as text
 use Rattle.resolve_refusal.specs.Named.{IsNamedBy}
 
@@ -29,21 +29,21 @@ number_of place = if nat_lt place 4294967295 then place + 1 else 4294967295
 
 -- The step forbids a version by an exclusion or its unknown needs.
 abbrev pub HasWord : Step → Type 0
-HasWord step = (line : ℕ) × ((step ≡ told.Exclude line) ⊎ (step ≡ told.Unknown line))
+HasWord step = (line : ℕ) × ((step ≡ in_report.Exclude line) ⊎ (step ≡ in_report.Unknown line))
 
 -- The step writes the proof's step, by the versions, SPECs and places of its ids, and a rule by some line.
 abbrev pub IsWritten : List Line → Ids → ProofStep NameId SolvableId → Step → Type 0
-IsWritten catalogue ids (Rule (Needs parent r case)) step = (line k : ℕ) × (step ≡ told.Need (place_at catalogue parent) line k)
-IsWritten catalogue ids (Rule (GateOf s r)) step = (line : ℕ) × (step ≡ told.Gate (version_at catalogue s) line)
-IsWritten catalogue ids (Rule (Shared r)) step = step ≡ told.Shared (alternatives_at ids r)
-IsWritten catalogue ids (Rule (Limit parent v None)) step = (line : ℕ) × (step ≡ told.Limit (place_at catalogue parent) line)
-IsWritten catalogue ids (Rule (Limit parent v (Some s))) step = (line : ℕ) × (step ≡ told.LimitBars (place_at catalogue parent) line (version_at catalogue s))
-IsWritten catalogue ids (Rule (Outside v s)) step = step ≡ told.Outside (spec_at ids v) (version_at catalogue s)
-IsWritten catalogue ids (Rule (Locked locked s)) step = (line : ℕ) × (step ≡ told.Lock line (version_at catalogue s))
+IsWritten catalogue ids (Rule (Needs parent r case)) step = (line k : ℕ) × (step ≡ in_report.Need (place_at catalogue parent) line k)
+IsWritten catalogue ids (Rule (GateOf s r)) step = (line : ℕ) × (step ≡ in_report.Gate (version_at catalogue s) line)
+IsWritten catalogue ids (Rule (Shared r)) step = step ≡ in_report.Shared (alternatives_at ids r)
+IsWritten catalogue ids (Rule (Limit parent v None)) step = (line : ℕ) × (step ≡ in_report.Limit (place_at catalogue parent) line)
+IsWritten catalogue ids (Rule (Limit parent v (Some s))) step = (line : ℕ) × (step ≡ in_report.LimitBars (place_at catalogue parent) line (version_at catalogue s))
+IsWritten catalogue ids (Rule (Outside v s)) step = step ≡ in_report.Outside (spec_at ids v) (version_at catalogue s)
+IsWritten catalogue ids (Rule (Locked locked s)) step = (line : ℕ) × (step ≡ in_report.Lock line (version_at catalogue s))
 IsWritten catalogue ids (Rule (Excluded s reason)) step = HasWord step
-IsWritten catalogue ids (Rule (Digit s place bit)) step = step ≡ told.Digit (version_at catalogue s) place bit
-IsWritten catalogue ids (Rule (AtLeastOne n s)) step = step ≡ told.Any (version_at catalogue s)
-IsWritten catalogue ids (Derived literals causes) step = (written : List Literal) × (step ≡ told.Derive written (map number_of causes.items))
+IsWritten catalogue ids (Rule (Digit s place bit)) step = step ≡ in_report.Digit (version_at catalogue s) place bit
+IsWritten catalogue ids (Rule (AtLeastOne n s)) step = step ≡ in_report.Any (version_at catalogue s)
+IsWritten catalogue ids (Derived literals causes) step = (written : List Literal) × (step ≡ in_report.Derive written (map number_of causes.items))
 
 -- The report is refused, has a step for each of the proof's, in order, and has no message. It names
 -- the lines of both texts on which its steps rest.

@@ -5,9 +5,9 @@ ghost use Rattle.std.specs.Prelude.{IfOk};
 ghost use Rattle.std.specs.Option.{option_map};
 ghost use Rattle.resolvo_report.specs.View.{step_of, steps_of};
 ghost use Rattle.resolve_refusal.specs.Refusal.{IsProofOver};
-ghost use Rattle.resolve_refusal.specs.InstallSteps.{AreInstallSteps, IsBarringStepOf};
+ghost use Rattle.resolve_refusal.specs.InstallSteps.{AreInstallSteps, IsForbidStepOf};
 
-use crate::lines::{BarringLine, Texts, barred_line};
+use crate::lines::{ForbidLine, Texts, forbid_line};
 use crate::literals::version_of;
 use crate::report::write_steps;
 use resolvo_catalogue::provider::CatalogueProvider;
@@ -47,19 +47,19 @@ pub fn install_steps(
 
 /// The step that forbids a version before a search: the lock of another version of its package,
 /// else its exclusion. None where there is neither.
-pub fn barring_step(alloc: Global, catalogue: &Catalogue, version: VersionNo) -> R<Option<Step>>
-    ensures { IfOk result (λ found. IsBarringStepOf catalogue.now version.0
+pub fn forbid_step(alloc: Global, catalogue: &Catalogue, version: VersionNo) -> R<Option<Step>>
+    ensures { IfOk result (λ found. IsForbidStepOf catalogue.now version.0
         (option_map step_of found)) }
 {
     // Facts of each catalogue: its versions have texts, and its lines are counted in 32 bits.
     catalogue.lines_are_in_place();
     let _lines = catalogue.line_count();
-    match barred_line(catalogue, version) {
-        Some(BarringLine::Lock(line)) => Ok(Some(Step::Lock {
+    match forbid_line(catalogue, version) {
+        Some(ForbidLine::Lock(line)) => Ok(Some(Step::Lock {
             line,
             version: version_of(alloc, catalogue, SolvableId::from_raw(version.0))?,
         })),
-        Some(BarringLine::Exclude(line)) => Ok(Some(Step::Exclude { line })),
+        Some(ForbidLine::Exclude(line)) => Ok(Some(Step::Exclude { line })),
         None => Ok(None),
     }
 }

@@ -12,5 +12,5 @@ mod named;
 mod report;
 mod steps;
 
-pub use install::{barring_step, install_steps};
+pub use install::{forbid_step, install_steps};
 pub use report::refused_report;

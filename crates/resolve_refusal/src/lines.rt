@@ -3,12 +3,12 @@
 
 ghost use Rattle.std.specs.Prelude.{◌≡◌, ◌<◌, ℕ, List, IfOk, IfSome, IfNone, Option, Some, None, false, slice_get};
 ghost use Rattle.std.specs.Bool.{Decides};
-ghost use Rattle.resolvo_text.specs.Line as says;
+ghost use Rattle.resolvo_text.specs.Line as content;
 ghost use Rattle.resolvo_text.specs.View.{spec_of, specs_of, cases_of};
 ghost use Rattle.resolvo_catalogue_core.specs.Grammar.{line_at};
 ghost use Rattle.resolvo_catalogue_core.specs.Listed.{listed, AreDistinct};
-ghost use Rattle.resolvo_catalogue_core.specs.Questions.{States, is_rule};
-ghost use Rattle.resolve_refusal.specs.Lines.{count_of, number_at, AreLines, IsLeast, text_of, IsLineOf, SaysAt, IsCaseOf, IsCaseAt, IsNeedLine, locks, ExcludesAt, MarksUnknownAt, IsWordLine, IsLockLine, IsBarredLineOf};
+ghost use Rattle.resolvo_catalogue_core.specs.Questions.{IsRuleLine, is_rule};
+ghost use Rattle.resolve_refusal.specs.Lines.{count_of, number_at, AreLines, IsLeast, text_of, IsLineOf, IsLineAt, IsCaseOf, IsCaseAt, IsNeedLine, locks, ExcludesAt, MarksUnknownAt, IsWordLine, IsLockLine, IsForbidLineOf};
 
 use resolvo_catalogue_core::{Catalogue, Request, Rule, Spec, VersionNo};
 use resolvo_pool_core::want::{R, Want};
@@ -30,7 +30,7 @@ pub(crate) struct NeedLine {
 
 /// A line that forbids a version before a search.
 #[derive(Clone, Copy, Debug)]
-pub(crate) enum BarringLine {
+pub(crate) enum ForbidLine {
     Lock(u32),
     Exclude(u32),
 }
@@ -75,17 +75,17 @@ impl<'a> Texts<'a> {
     /// The rule of line `line` of a place, if it has one. The place is a version, or none for the
     /// request.
     fn rule(self, place: Option<VersionNo>, line: u32) -> Option<&'a Rule>
-        ensures stated { IfSome result
+        ensures of_line { IfSome result
             (λ r.
-            (l : says.Line)
-            × (versions : List says.Version)
-            × (owner : Option says.Version)
+            (l : content.Line)
+            × (versions : List content.Version)
+            × (owner : Option content.Version)
             × (line_at (text_of self.entry.catalogue.now self.entry.request.now.lines place)
             line
             ≡ Some l)
-            × States versions r.now owner l) }
+            × IsRuleLine versions r.now owner l) }
         ensures none { IfNone result
-            ((l : says.Line)
+            ((l : content.Line)
             → line_at (text_of self.entry.catalogue.now self.entry.request.now.lines place) line
             ≡ Some l
             → is_rule l ≡ false) }
@@ -112,8 +112,8 @@ impl<'a> Texts<'a> {
         ensures { IsLeast result
             (λ n.
             IsLineOf self.entry.catalogue.now self.entry.request.now.lines place n
-            × SaysAt (text_of self.entry.catalogue.now self.entry.request.now.lines place)
-            (says.Needs (specs_of alternatives.now) None) n) }
+            × IsLineAt (text_of self.entry.catalogue.now self.entry.request.now.lines place)
+            (content.Needs (specs_of alternatives.now) None) n) }
     {
         let lines = self.lines_of(place);
         for at in 0..lines.count() {
@@ -128,8 +128,8 @@ impl<'a> Texts<'a> {
     /// Whether line `line` of a place needs these alternatives without a condition.
     fn needs_plainly(self, place: Option<VersionNo>, line: u32, alternatives: &[Spec]) -> bool
         ensures { Decides result
-            (SaysAt (text_of self.entry.catalogue.now self.entry.request.now.lines place)
-            (says.Needs (specs_of alternatives.now) None) line) }
+            (IsLineAt (text_of self.entry.catalogue.now self.entry.request.now.lines place)
+            (content.Needs (specs_of alternatives.now) None) line) }
     {
         match self.rule(place, line) {
             Some(rule) => is_plain_need(rule, alternatives),
@@ -186,8 +186,8 @@ impl<'a> Texts<'a> {
         ensures { IsLeast result
             (λ n.
             IsLineOf self.entry.catalogue.now self.entry.request.now.lines place n
-            × SaysAt (text_of self.entry.catalogue.now self.entry.request.now.lines place)
-            (says.Limits (spec_of spec.now)) n) }
+            × IsLineAt (text_of self.entry.catalogue.now self.entry.request.now.lines place)
+            (content.Limits (spec_of spec.now)) n) }
     {
         let lines = self.lines_of(place);
         for at in 0..lines.count() {
@@ -202,8 +202,8 @@ impl<'a> Texts<'a> {
     /// Whether line `line` of a place limits its set to this SPEC.
     fn limits_to(self, place: Option<VersionNo>, line: u32, spec: &Spec) -> bool
         ensures { Decides result
-            (SaysAt (text_of self.entry.catalogue.now self.entry.request.now.lines place)
-            (says.Limits (spec_of spec.now)) line) }
+            (IsLineAt (text_of self.entry.catalogue.now self.entry.request.now.lines place)
+            (content.Limits (spec_of spec.now)) line) }
     {
         match self.rule(place, line) {
             Some(rule) => is_limit(rule, spec),
@@ -214,7 +214,7 @@ impl<'a> Texts<'a> {
     /// The first line that forbids the version with this word: one that excludes it, or one that
     /// marks its needs as unknown.
     pub fn word_line(self, version: VersionNo, word: &str) -> Option<WordLine>
-        ensures { (v : says.Version)
+        ensures { (v : content.Version)
             → slice_get (listed self.entry.catalogue.now) version.0 ≡ Some v
             → IsWordLine self.entry.catalogue.now v word.now result }
     {
@@ -228,7 +228,7 @@ impl<'a> Texts<'a> {
         ensures { IsLeast result
             (λ n.
             IsLineOf self.entry.catalogue.now self.entry.request.now.lines (Some version) n
-            × SaysAt self.entry.catalogue.now (says.Unknown word.now) n) }
+            × IsLineAt self.entry.catalogue.now (content.Unknown word.now) n) }
     {
         let lines = self.lines_of(Some(version));
         for at in 0..lines.count() {
@@ -242,7 +242,7 @@ impl<'a> Texts<'a> {
 
     /// Whether this line of the catalogue marks a version's needs as unknown with this word.
     fn is_unknown(self, line: u32, word: &str) -> bool
-        ensures { Decides result (SaysAt self.entry.catalogue.now (says.Unknown word.now) line) }
+        ensures { Decides result (IsLineAt self.entry.catalogue.now (content.Unknown word.now) line) }
     {
         match self.catalogue.rule(line) {
             Some(rule) => marks_unknown(rule, word),
@@ -253,22 +253,22 @@ impl<'a> Texts<'a> {
     /// The line that excludes the version with this word. Where a lock forbids the version too, all
     /// lines are searched for it.
     fn exclusion_line(self, version: VersionNo, word: &str) -> Option<u32>
-        ensures { (v : says.Version)
+        ensures { (v : content.Version)
             → slice_get (listed self.entry.catalogue.now) version.0 ≡ Some v
             → IsLeast result (ExcludesAt self.entry.catalogue.now v word.now) }
     {
-        match barred_line(self.catalogue, version) {
+        match forbid_line(self.catalogue, version) {
             None => None,
-            Some(BarringLine::Lock(_)) => self.first_exclusion(version, word),
-            Some(BarringLine::Exclude(line)) => self.this_exclusion(line, version, word),
+            Some(ForbidLine::Lock(_)) => self.first_exclusion(version, word),
+            Some(ForbidLine::Exclude(line)) => self.this_exclusion(line, version, word),
         }
     }
 
     /// The line that excludes the version, if it does so with this word.
     fn this_exclusion(self, line: u32, version: VersionNo, word: &str) -> Option<u32>
-        ensures { IsBarredLineOf self.entry.catalogue.now version.0
-            (Some (BarringLine.Exclude line))
-            → (v : says.Version)
+        ensures { IsForbidLineOf self.entry.catalogue.now version.0
+            (Some (ForbidLine.Exclude line))
+            → (v : content.Version)
             → slice_get (listed self.entry.catalogue.now) version.0 ≡ Some v
             → IsLeast result (ExcludesAt self.entry.catalogue.now v word.now) }
     {
@@ -281,7 +281,7 @@ impl<'a> Texts<'a> {
 
     /// The first line of the catalogue that excludes the version with this word.
     fn first_exclusion(self, version: VersionNo, word: &str) -> Option<u32>
-        ensures { (v : says.Version)
+        ensures { (v : content.Version)
             → slice_get (listed self.entry.catalogue.now) version.0 ≡ Some v
             → IsLeast result (ExcludesAt self.entry.catalogue.now v word.now) }
     {
@@ -295,7 +295,7 @@ impl<'a> Texts<'a> {
 
     /// Whether this line of the catalogue excludes the version with this word.
     fn excludes(self, line: u32, version: VersionNo, word: &str) -> bool
-        ensures { (v : says.Version)
+        ensures { (v : content.Version)
             → slice_get (listed self.entry.catalogue.now) version.0 ≡ Some v
             → Decides result (ExcludesAt self.entry.catalogue.now v word.now line) }
     {
@@ -310,7 +310,7 @@ impl<'a> Texts<'a> {
 
 /// The earlier one of two lines that forbid a version with one word.
 fn earlier(excludes: Option<u32>, unknown: Option<u32>) -> Option<WordLine>
-    ensures { (catalogue : List says.Line) (v : says.Version) (word : List ℕ)
+    ensures { (catalogue : List content.Line) (v : content.Version) (word : List ℕ)
         → IsLeast excludes (ExcludesAt catalogue v word)
         → IsLeast unknown (MarksUnknownAt catalogue v word)
         → IsWordLine catalogue v word result }
@@ -335,33 +335,33 @@ fn earlier(excludes: Option<u32>, unknown: Option<u32>) -> Option<WordLine>
 
 /// The line that locks another version of the version's package.
 pub(crate) fn lock_line(catalogue: &Catalogue, version: VersionNo) -> Option<u32>
-    ensures { (v : says.Version)
+    ensures { (v : content.Version)
         → slice_get (listed catalogue.now) version.0 ≡ Some v
         → IsLockLine catalogue.now v result }
 {
-    match barred_line(catalogue, version) {
-        Some(BarringLine::Lock(line)) => Some(line),
-        Some(BarringLine::Exclude(_)) => None,
+    match forbid_line(catalogue, version) {
+        Some(ForbidLine::Lock(line)) => Some(line),
+        Some(ForbidLine::Exclude(_)) => None,
         None => None,
     }
 }
 
 /// The line that forbids the version before a search: one that locks another version of its
 /// package, else one that excludes it.
-pub(crate) fn barred_line(catalogue: &Catalogue, version: VersionNo) -> Option<BarringLine>
-    ensures { IsBarredLineOf catalogue.now version.0 result }
+pub(crate) fn forbid_line(catalogue: &Catalogue, version: VersionNo) -> Option<ForbidLine>
+    ensures { IsForbidLineOf catalogue.now version.0 result }
 {
     let line = catalogue.barred(version)?;
     if is_lock(catalogue, line) {
-        Some(BarringLine::Lock(line))
+        Some(ForbidLine::Lock(line))
     } else {
-        Some(BarringLine::Exclude(line))
+        Some(ForbidLine::Exclude(line))
     }
 }
 
 /// Whether this line of a catalogue locks a version.
 fn is_lock(catalogue: &Catalogue, line: u32) -> bool
-    ensures { (l : says.Line) → line_at catalogue.now line ≡ Some l → result ≡ locks l }
+    ensures { (l : content.Line) → line_at catalogue.now line ≡ Some l → result ≡ locks l }
 {
     match catalogue.rule(line) {
         Some(rule) => locks(rule),
@@ -374,8 +374,8 @@ fn is_lock(catalogue: &Catalogue, line: u32) -> bool
 fn need_case(alloc: Global, rule: &Rule, alternatives: &[Spec], case: &[Spec]) -> R<Option<u32>>
     ensures { IfOk result
         (λ found.
-        (versions : List says.Version) (owner : Option says.Version) (line : says.Line)
-        → States versions rule.now owner line
+        (versions : List content.Version) (owner : Option content.Version) (line : content.Line)
+        → IsRuleLine versions rule.now owner line
         → IsCaseOf (specs_of alternatives.now) (specs_of case.now) line found) }
 {
     if !needs(rule, alternatives) {
@@ -405,36 +405,36 @@ fn place_of(cases: &[Vec<Spec>], case: &[Spec]) -> Option<usize>
 
 /// Whether the rule needs these alternatives without a condition.
 fn is_plain_need(rule: &Rule, alternatives: &[Spec]) -> bool
-    ensures { (versions : List says.Version) (owner : Option says.Version) (line : says.Line)
-        → States versions rule.now owner line
-        → Decides result (line ≡ says.Needs (specs_of alternatives.now) None) }
+    ensures { (versions : List content.Version) (owner : Option content.Version) (line : content.Line)
+        → IsRuleLine versions rule.now owner line
+        → Decides result (line ≡ content.Needs (specs_of alternatives.now) None) }
 {
     match rule {
         Rule::Needs {
-            alternatives: stated,
+            alternatives: of_line,
             condition: None,
             ..
-        } => same_specs(stated.as_slice(), alternatives),
+        } => same_specs(of_line.as_slice(), alternatives),
         _ => false,
     }
 }
 
 /// Whether the rule limits its set to this SPEC.
 fn is_limit(rule: &Rule, spec: &Spec) -> bool
-    ensures { (versions : List says.Version) (owner : Option says.Version) (line : says.Line)
-        → States versions rule.now owner line
-        → Decides result (line ≡ says.Limits (spec_of spec.now)) }
+    ensures { (versions : List content.Version) (owner : Option content.Version) (line : content.Line)
+        → IsRuleLine versions rule.now owner line
+        → Decides result (line ≡ content.Limits (spec_of spec.now)) }
 {
     match rule {
-        Rule::Limits { spec: stated, .. } => same_spec(stated, spec),
+        Rule::Limits { spec: of_line, .. } => same_spec(of_line, spec),
         _ => false,
     }
 }
 
 /// Whether the rule locks a version.
 fn locks(rule: &Rule) -> bool
-    ensures { (versions : List says.Version) (owner : Option says.Version) (line : says.Line)
-        → States versions rule.now owner line
+    ensures { (versions : List content.Version) (owner : Option content.Version) (line : content.Line)
+        → IsRuleLine versions rule.now owner line
         → result ≡ locks line }
 {
     match rule {
@@ -445,47 +445,47 @@ fn locks(rule: &Rule) -> bool
 
 /// Whether the rule marks a version's needs as unknown with this word.
 fn marks_unknown(rule: &Rule, word: &str) -> bool
-    ensures { (versions : List says.Version) (owner : Option says.Version) (line : says.Line)
-        → States versions rule.now owner line
-        → Decides result (line ≡ says.Unknown word.now) }
+    ensures { (versions : List content.Version) (owner : Option content.Version) (line : content.Line)
+        → IsRuleLine versions rule.now owner line
+        → Decides result (line ≡ content.Unknown word.now) }
 {
     match rule {
-        Rule::Unknown { word: said, .. } => said.as_str() == word,
+        Rule::Unknown { word: source, .. } => source.as_str() == word,
         _ => false,
     }
 }
 
 /// Whether the rule excludes the version with this word.
 fn excludes(rule: &Rule, version: VersionNo, word: &str) -> bool
-    ensures { (versions : List says.Version) (owner : Option says.Version) (line : says.Line)
-        (v : says.Version)
+    ensures { (versions : List content.Version) (owner : Option content.Version) (line : content.Line)
+        (v : content.Version)
         → AreDistinct versions
-        → States versions rule.now owner line
+        → IsRuleLine versions rule.now owner line
         → slice_get versions version.0 ≡ Some v
-        → Decides result (line ≡ says.Exclude v word.now) }
+        → Decides result (line ≡ content.Exclude v word.now) }
 {
     match rule {
         Rule::Exclude {
             version: excluded,
-            word: said,
-        } => excluded.0 == version.0 && said.as_str() == word,
+            word: source,
+        } => excluded.0 == version.0 && source.as_str() == word,
         _ => false,
     }
 }
 
 /// Whether the rule needs these alternatives, under any condition or none.
 fn needs(rule: &Rule, alternatives: &[Spec]) -> bool
-    ensures { (versions : List says.Version) (owner : Option says.Version) (line : says.Line)
-        → States versions rule.now owner line
+    ensures { (versions : List content.Version) (owner : Option content.Version) (line : content.Line)
+        → IsRuleLine versions rule.now owner line
         → Decides result
-        ((condition : Option says.Cond)
-        × (line ≡ says.Needs (specs_of alternatives.now) condition)) }
+        ((condition : Option content.Cond)
+        × (line ≡ content.Needs (specs_of alternatives.now) condition)) }
 {
     match rule {
         Rule::Needs {
-            alternatives: stated,
+            alternatives: of_line,
             ..
-        } => same_specs(stated.as_slice(), alternatives),
+        } => same_specs(of_line.as_slice(), alternatives),
         _ => false,
     }
 }

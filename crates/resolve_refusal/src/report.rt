@@ -4,7 +4,7 @@ ghost use Rattle.std.specs.Prelude.{IfOk};
 ghost use Rattle.std.specs.List.{AllZip};
 ghost use Rattle.resolvo_report.specs.View.{report_of, steps_of};
 ghost use Rattle.resolve_refusal.specs.RefusedReport.{IsWritten, IsRefusedBy};
-ghost use Rattle.resolve_refusal.specs.StepRules.{Tells};
+ghost use Rattle.resolve_refusal.specs.StepRules.{NamesRule};
 ghost use Rattle.resolve_refusal.specs.Refusal.{Refutes, IsRefusalOf};
 
 use crate::lines::Texts;
@@ -68,9 +68,9 @@ pub(crate) fn write_steps(
     provider: &CatalogueProvider,
     steps: &[ProofStep<NameId, SolvableId>],
 ) -> R<Vec<Step>>
-    ensures tells { IfOk result
+    ensures names_rule { IfOk result
         (λ v.
-        AllZip (Tells texts.entry.catalogue.now texts.entry.request.now.lines provider.now.ids)
+        AllZip (NamesRule texts.entry.catalogue.now texts.entry.request.now.lines provider.now.ids)
         steps.now (steps_of v.items)) }
     ensures written { IfOk result
         (λ v.

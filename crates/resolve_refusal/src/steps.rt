@@ -2,16 +2,16 @@
 
 ghost use Rattle.std.specs.Prelude.{◌≡◌, ℕ, [], Some, None, IfOk, map};
 ghost use Rattle.std.specs.Option.{option_map};
-ghost use Rattle.resolvo_text.specs.Line as says;
+ghost use Rattle.resolvo_text.specs.Line as content;
 ghost use Rattle.resolvo_text.specs.View.{version_of, specs_of};
-ghost use Rattle.resolvo_report.specs.Value as told;
+ghost use Rattle.resolvo_report.specs.Value as in_report;
 ghost use Rattle.resolvo_report.specs.View.{step_of, place_of};
 ghost use Rattle.resolvo_proof.specs.declared.step.ProofStep.TheVariants.{Rule as RuleStep};
 ghost use Rattle.resolvo_proof.specs.declared.step.ProofRule.TheVariants.{Limit};
 ghost use Rattle.resolvo_catalogue.specs.Known.{spec_at, alternatives_at};
 ghost use Rattle.resolve_refusal.specs.RefusedReport.{version_at, place_at, number_of, HasWord, IsWritten};
-ghost use Rattle.resolve_refusal.specs.Lines.{IsLeast, text_of, IsLineOf, SaysAt};
-ghost use Rattle.resolve_refusal.specs.StepRules.{version_no, IsFirstLine, IsNeedLineOf, TellsNeed, TellsLock, TellsWord, Tells};
+ghost use Rattle.resolve_refusal.specs.Lines.{IsLeast, text_of, IsLineOf, IsLineAt};
+ghost use Rattle.resolve_refusal.specs.StepRules.{version_no, IsFirstLine, IsNeedLineOf, NamesNeed, NamesLock, NamesWord, NamesRule};
 
 use crate::lines::{NeedLine, Texts, WordLine, lock_line};
 use crate::literals::{sorted_literals, version_of};
@@ -36,9 +36,9 @@ pub(crate) struct Writing<'a> {
 impl Writing<'_> {
     /// The report's step of a step of the proof.
     pub fn step(self, step: &ProofStep<NameId, SolvableId>) -> R<Step>
-        ensures tells { IfOk result
+        ensures names_rule { IfOk result
             (λ w.
-            Tells self.entry.texts.catalogue.now self.entry.texts.request.now.lines
+            NamesRule self.entry.texts.catalogue.now self.entry.texts.request.now.lines
             self.entry.provider.now.ids step.now (step_of w)) }
         ensures written { IfOk result
             (λ w.
@@ -61,9 +61,9 @@ impl Writing<'_> {
 
     /// The step of a rule.
     fn rule(self, rule: &ProofRule<NameId, SolvableId>) -> R<Step>
-        ensures tells { IfOk result
+        ensures names_rule { IfOk result
             (λ w.
-            Tells self.entry.texts.catalogue.now self.entry.texts.request.now.lines
+            NamesRule self.entry.texts.catalogue.now self.entry.texts.request.now.lines
             self.entry.provider.now.ids (RuleStep rule.now) (step_of w)) }
         ensures written { IfOk result
             (λ w.
@@ -119,14 +119,14 @@ impl Writing<'_> {
         requirement: Requirement,
         case: &[VersionSetId],
     ) -> R<Step>
-        ensures tells { IfOk result
+        ensures names_rule { IfOk result
             (λ w.
-            TellsNeed self.entry.texts.catalogue.now self.entry.texts.request.now.lines
+            NamesNeed self.entry.texts.catalogue.now self.entry.texts.request.now.lines
             self.entry.provider.now.ids parent requirement case.now (step_of w)) }
         ensures written { IfOk result
             (λ w.
             (line k : ℕ)
-            × (step_of w ≡ told.Need (place_at self.entry.texts.catalogue.now parent) line k)) }
+            × (step_of w ≡ in_report.Need (place_at self.entry.texts.catalogue.now parent) line k)) }
     {
         let found = if case.is_empty() {
             self.plain_need(parent, requirement)?
@@ -179,10 +179,10 @@ impl Writing<'_> {
             (λ n.
             IsLineOf self.entry.texts.catalogue.now self.entry.texts.request.now.lines
             (option_map version_no parent) n
-            × SaysAt
+            × IsLineAt
             (text_of self.entry.texts.catalogue.now self.entry.texts.request.now.lines
             (option_map version_no parent))
-            (says.Needs (alternatives_at self.entry.provider.now.ids requirement)
+            (content.Needs (alternatives_at self.entry.provider.now.ids requirement)
             None)
             n)) }
     {
@@ -196,10 +196,10 @@ impl Writing<'_> {
         ensures { IfOk result
             (λ w.
             (line : ℕ)
-            × (step_of w ≡ told.Gate (version_at self.entry.texts.catalogue.now parent) line)
+            × (step_of w ≡ in_report.Gate (version_at self.entry.texts.catalogue.now parent) line)
             × IsFirstLine self.entry.texts.catalogue.now self.entry.texts.request.now.lines
             (Some (version_no parent))
-            (says.Needs (alternatives_at self.entry.provider.now.ids requirement) None)
+            (content.Needs (alternatives_at self.entry.provider.now.ids requirement) None)
             line) }
     {
         let line = self.plain_line(Some(parent), requirement)?.unwrap_or(0);
@@ -216,9 +216,9 @@ impl Writing<'_> {
         version_set: VersionSetId,
         barred: Option<SolvableId>,
     ) -> R<Step>
-        ensures tells { IfOk result
+        ensures names_rule { IfOk result
             (λ w.
-            Tells self.entry.texts.catalogue.now self.entry.texts.request.now.lines
+            NamesRule self.entry.texts.catalogue.now self.entry.texts.request.now.lines
             self.entry.provider.now.ids (RuleStep (Limit parent version_set barred))
             (step_of w)) }
         ensures written { IfOk result
@@ -244,7 +244,7 @@ impl Writing<'_> {
             (λ line.
             IsFirstLine self.entry.texts.catalogue.now self.entry.texts.request.now.lines
             (option_map version_no parent)
-            (says.Limits (spec_at self.entry.provider.now.ids version_set)) line) }
+            (content.Limits (spec_at self.entry.provider.now.ids version_set)) line) }
     {
         let spec = self.provider.spec_of(version_set)?;
         let place = self.place_number(parent);
@@ -253,13 +253,13 @@ impl Writing<'_> {
 
     /// The step that forbids a version by the line that locks another version of its package.
     fn lock(self, solvable: SolvableId) -> R<Step>
-        ensures tells { IfOk result (λ w. TellsLock self.entry.texts.catalogue.now solvable
+        ensures names_rule { IfOk result (λ w. NamesLock self.entry.texts.catalogue.now solvable
             (step_of w)) }
         ensures written { IfOk result
             (λ w.
             (line : ℕ)
             × (step_of w
-            ≡ told.Lock line (version_at self.entry.texts.catalogue.now solvable))) }
+            ≡ in_report.Lock line (version_at self.entry.texts.catalogue.now solvable))) }
     {
         let version = self.version(solvable)?;
         let number = self.provider.version_of(solvable);
@@ -270,7 +270,7 @@ impl Writing<'_> {
     /// The step that forbids a version with the word of a reason, by the first line that does. The
     /// line excludes the version, or marks its needs as unknown.
     fn exclusion(self, solvable: SolvableId, reason: StringId) -> Step
-        ensures tells { TellsWord self.entry.texts.catalogue.now self.entry.provider.now.ids
+        ensures names_rule { NamesWord self.entry.texts.catalogue.now self.entry.provider.now.ids
             solvable reason (step_of result) }
         ensures written { HasWord (step_of result) }
     {

@@ -70,10 +70,10 @@ fn answer_to(
 }
 
 /// The lines that begin so.
-fn lines_with(alloc: Global, text: &str, fronts: &[&str]) -> Result<String, AllocError> {
+fn lines_with(alloc: Global, text: &str, prefixes: &[&str]) -> Result<String, AllocError> {
     let mut lines = String::new(alloc);
     for line in text.split_inclusive('\n') {
-        if fronts.iter().any(|front| line.starts_with(*front)) {
+        if prefixes.iter().any(|prefix| line.starts_with(*prefix)) {
             lines.push_str(line)?;
         }
     }
@@ -81,7 +81,7 @@ fn lines_with(alloc: Global, text: &str, fronts: &[&str]) -> Result<String, Allo
 }
 
 /// As much of a text as another has characters.
-fn front(alloc: Global, text: &str, wanted: &str) -> Result<String, AllocError> {
+fn prefix(alloc: Global, text: &str, wanted: &str) -> Result<String, AllocError> {
     if text.starts_with(wanted) {
         return String::from_str(alloc, wanted);
     }
@@ -115,7 +115,7 @@ fn came(
 ) -> Result<Option<String>, AllocError> {
     Ok(Some(match name {
         "prints" | "judge" | "reads" => String::from_str(alloc, text)?,
-        "begins" => front(alloc, text, wanted)?,
+        "begins" => prefix(alloc, text, wanted)?,
         "named" => lines_with(alloc, text, &["catalogue line ", "request line "])?,
         "steps" => lines_with(alloc, text, &["step "])?,
         "message" => lines_with(alloc, text, &["| "])?,

@@ -20,7 +20,7 @@ use Rattle.resolvo_judge.proofs.PlaceLaws.{upheld_nowhere}
 use Rattle.resolve_check.specs.declared.outcome.Checked.{Checked}
 use Rattle.resolve_check.specs.declared.outcome.Checked.TheVariants.{Yes as Accepted}
 use Rattle.resolve_check.specs.Check as check
-use Rattle.resolve_check.specs.Check.{IsCheck, TellsVerdict, yes_text}
+use Rattle.resolve_check.specs.Check.{IsCheck, IsVerdictText, yes_text}
 use Rattle.resolve_check.specs.declared.outcome.Outcome.{Outcome}
 use Rattle.resolve_check.specs.declared.outcome.Outcome.TheVariants as outcome
 use Rattle.resolve_run.specs.Answer as answer
@@ -48,21 +48,21 @@ judged_yes catalogue request ended output (verdict.No n) a refused = absurd (ref
 
 pub not_too_long : (catalogue request : List Line) (ended : Outcome) (output : List ℕ) (after : Option (List ℕ)) → IsAnswerOfLines catalogue request ended output → IsJudgeFault catalogue request TooLong (Some output) after (Unit {0}) → ⊥
 not_too_long catalogue request ended output after a fault =
-    let (came, rest, most, more, right) = fault output refl in
-    let parts : length output ≡ length came + length rest = ap length right.parts ∙ length-append came rest in
+    let (taken, rest, most, more, right) = fault output refl in
+    let parts : length output ≡ length taken + length rest = ap length right.parts ∙ length-append taken rest in
     let few : length output ≤ most_bytes = a.bound in
     omega (arith, most, more, parts, few)
 
 -- the text of a check for the report of a run over the same texts
-pub accepted : (c r : List ℕ) (ended : Outcome) (output : List ℕ) (checked : Checked) (told : List ℕ) → IsAnswer c r ended output → (ended ≡ outcome.Faulty → ⊥) → IsCheck c r output checked told → (checked ≡ Accepted) × (told ≡ yes_text)
-accepted c r ended output checked told (answer.catalogue_fault n faulty ends is) sound found = absurd (sound ends)
-accepted c r ended output checked told (answer.request_fault catalogue n grammatical faulty ends is) sound found = absurd (sound ends)
-accepted c r ended output checked told (answer.grammatical catalogue request is_c is_r a) sound (check.catalogue_fault n faulty how says) = absurd (catalogue_fault c catalogue n is_c faulty)
-accepted c r ended output checked told (answer.grammatical catalogue request is_c is_r a) sound (check.request_fault other n grammatical faulty how says) =
+pub accepted : (c r : List ℕ) (ended : Outcome) (output : List ℕ) (checked : Checked) (verdict_text : List ℕ) → IsAnswer c r ended output → (ended ≡ outcome.Faulty → ⊥) → IsCheck c r output checked verdict_text → (checked ≡ Accepted) × (verdict_text ≡ yes_text)
+accepted c r ended output checked verdict_text (answer.catalogue_fault n faulty ends is) sound found = absurd (sound ends)
+accepted c r ended output checked verdict_text (answer.request_fault catalogue n grammatical faulty ends is) sound found = absurd (sound ends)
+accepted c r ended output checked verdict_text (answer.grammatical catalogue request is_c is_r a) sound (check.catalogue_fault n faulty how text_is) = absurd (catalogue_fault c catalogue n is_c faulty)
+accepted c r ended output checked verdict_text (answer.grammatical catalogue request is_c is_r a) sound (check.request_fault other n grammatical faulty how text_is) =
     let same : other ≡ catalogue = one_catalogue c other catalogue grammatical is_c in
     absurd (request_fault catalogue r request n is_r (subst (λ (ls : List Line). IsFaultyAt (IsRequestLine ls) r n) same faulty))
-accepted c r ended output checked told (answer.grammatical catalogue request is_c is_r a) sound (check.judged other asked v grammatical asks judged claims tells) =
+accepted c r ended output checked verdict_text (answer.grammatical catalogue request is_c is_r a) sound (check.judged other asked v grammatical asks judged claims is_answer) =
     let same : other ≡ catalogue = one_catalogue c other catalogue grammatical is_c in
     let same_request : asked ≡ request = one_request catalogue r asked request (subst (λ (ls : List Line). IsGrammatical (IsRequestLine ls) r asked) same asks) is_r in
     let yes : v ≡ verdict.Yes = judged_yes catalogue request ended output v a (subst (λ (ls : List Line). IsVerdict catalogue ls output v) same_request (subst (λ (ls : List Line). IsVerdict ls asked output v) same judged)) in
-    subst (λ (w : Verdict). TellsVerdict w checked told) yes tells
+    subst (λ (w : Verdict). IsVerdictText w checked verdict_text) yes is_answer

@@ -16,7 +16,7 @@ use Rattle.resolve_check.specs.declared.written.Written.{Written}
 use Rattle.resolve_check.specs.declared.outcome.RunFault.{RunFault}
 use Rattle.resolve_check.specs.declared.outcome.RunFault.TheVariants.{Reader, TooLong, Memory, Ids, Writer}
 use Rattle.resolve_check.specs.Devices.{Device, StopsReading}
-use Rattle.resolve_check.specs.Faults.{TellsFault}
+use Rattle.resolve_check.specs.Faults.{WritesFault}
 use Rattle.resolve_check.proofs.Results.{if_ok, if_err, never_ids}
 use Rattle.resolve_run.specs.Run.{AnswersTexts, AreRead, IsLack, IsWriteLack, StopsBefore, StopsRun}
 use Rattle.resolvo_report.specs.Value.{Report}
@@ -27,34 +27,34 @@ use Rattle.resolve_run.specs.declared.stop.RunStop.TheVariants.{Fault, GivenUp}
 
 pub of_texts : (c r : Option (List ℕ)) (catalogue request : List Line) (outcome : Outcome) (output : List ℕ) → IfKnown c (λ t. IsGrammatical IsCatalogueLine t catalogue) → IfKnown r (λ t. IsGrammatical (IsRequestLine catalogue) t request)
     → IsAnswerOfLines catalogue request outcome output → AnswersTexts c r outcome output
-of_texts c r catalogue request outcome output says_c says_r answer = λ t is_c u is_r. grammatical catalogue request (says_c t is_c) (says_r u is_r) answer
+of_texts c r catalogue request outcome output parses_c parses_r answer = λ t is_c u is_r. grammatical catalogue request (parses_c t is_c) (parses_r u is_r) answer
 
 -- ---- a text that was not read
 
-told_ok : (P : Outcome → List ℕ → Type 0) (fault : ReadFault) (which : List ℕ) (told : Result Written RunFault) → TellsFault fault which told → ((n : ℕ) → fault ≡ read.Fault n → P Faulty (fault_text which n))
-    → IfOk told (λ a. P a.outcome a.text.items)
-told_ok P (read.Fault n) which told h f = if_ok told (λ a is. subst (λ (o : Outcome). P o a.text.items) (sym is.0) (subst (λ (t : List ℕ). P Faulty t) (sym is.1) (f n refl))) h.0
-told_ok P read.Reader which told h f = rw h tt
-told_ok P read.TooLong which told h f = rw h tt
-told_ok P read.Memory which told h f = rw h tt
-told_ok P read.Ids which told h f = rw h tt
+answered_ok : (P : Outcome → List ℕ → Type 0) (fault : ReadFault) (which : List ℕ) (answered : Result Written RunFault) → WritesFault fault which answered → ((n : ℕ) → fault ≡ read.Fault n → P Faulty (fault_text which n))
+    → IfOk answered (λ a. P a.outcome a.text.items)
+answered_ok P (read.Fault n) which answered h f = if_ok answered (λ a is. subst (λ (o : Outcome). P o a.text.items) (sym is.0) (subst (λ (t : List ℕ). P Faulty t) (sym is.1) (f n refl))) h.0
+answered_ok P read.Reader which answered h f = rw h tt
+answered_ok P read.TooLong which answered h f = rw h tt
+answered_ok P read.Memory which answered h f = rw h tt
+answered_ok P read.Ids which answered h f = rw h tt
 
-pub catalogue_told : (before after request : Option (List ℕ)) (Failed : Type 0) (fault : ReadFault) (told : Result Written RunFault) → IsTextFault IsCatalogueLine fault before after 16777216 Failed → TellsFault fault (codes "catalogue") told
-    → IfOk told (λ a. AnswersTexts before request a.outcome a.text.items)
-catalogue_told before after request Failed fault told stopped tells = told_ok (AnswersTexts before request) fault (codes "catalogue") told tells
+pub catalogue_answer : (before after request : Option (List ℕ)) (Failed : Type 0) (fault : ReadFault) (answered : Result Written RunFault) → IsTextFault IsCatalogueLine fault before after 16777216 Failed → WritesFault fault (codes "catalogue") answered
+    → IfOk answered (λ a. AnswersTexts before request a.outcome a.text.items)
+catalogue_answer before after request Failed fault answered stopped is_answer = answered_ok (AnswersTexts before request) fault (codes "catalogue") answered is_answer
     (λ n is t known u known_u. catalogue_fault n (subst (λ (f : ReadFault). IsTextFault IsCatalogueLine f before after 16777216 Failed) is stopped t known) refl refl)
 
-pub request_told : (catalogue before after : Option (List ℕ)) (lines : List Line) (Failed : Type 0) (fault : ReadFault) (told : Result Written RunFault) → IfKnown catalogue (λ t. IsGrammatical IsCatalogueLine t lines)
-    → IsTextFault (IsRequestLine lines) fault before after 16777216 Failed → TellsFault fault (codes "request") told → IfOk told (λ a. AnswersTexts catalogue before a.outcome a.text.items)
-request_told catalogue before after lines Failed fault told says stopped tells = told_ok (AnswersTexts catalogue before) fault (codes "request") told tells
-    (λ n is t known u known_u. request_fault lines n (says t known) (subst (λ (f : ReadFault). IsTextFault (IsRequestLine lines) f before after 16777216 Failed) is stopped u known_u) refl refl)
+pub request_answer : (catalogue before after : Option (List ℕ)) (lines : List Line) (Failed : Type 0) (fault : ReadFault) (answered : Result Written RunFault) → IfKnown catalogue (λ t. IsGrammatical IsCatalogueLine t lines)
+    → IsTextFault (IsRequestLine lines) fault before after 16777216 Failed → WritesFault fault (codes "request") answered → IfOk answered (λ a. AnswersTexts catalogue before a.outcome a.text.items)
+request_answer catalogue before after lines Failed fault answered parses stopped is_answer = answered_ok (AnswersTexts catalogue before) fault (codes "request") answered is_answer
+    (λ n is t known u known_u. request_fault lines n (parses t known) (subst (λ (f : ReadFault). IsTextFault (IsRequestLine lines) f before after 16777216 Failed) is stopped u known_u) refl refl)
 
-pub told_err : (catalogue request : Device) (fault : ReadFault) (which : List ℕ) (told : Result Written RunFault) → TellsFault fault which told → StopsReading fault catalogue request → IfErr told (λ e. StopsBefore e catalogue request)
-told_err catalogue request (read.Fault n) which told h stops = if_err told (λ e is. subst (λ (x : RunFault). StopsBefore x catalogue request) (sym is) tt) h.1
-told_err catalogue request read.Reader which told h stops = rw h stops
-told_err catalogue request read.TooLong which told h stops = rw h (inl stops)
-told_err catalogue request read.Memory which told h stops = rw h tt
-told_err catalogue request read.Ids which told h stops = absurd (never_ids catalogue request stops)
+pub answered_err : (catalogue request : Device) (fault : ReadFault) (which : List ℕ) (answered : Result Written RunFault) → WritesFault fault which answered → StopsReading fault catalogue request → IfErr answered (λ e. StopsBefore e catalogue request)
+answered_err catalogue request (read.Fault n) which answered h stops = if_err answered (λ e is. subst (λ (x : RunFault). StopsBefore x catalogue request) (sym is) tt) h.1
+answered_err catalogue request read.Reader which answered h stops = rw h stops
+answered_err catalogue request read.TooLong which answered h stops = rw h (inl stops)
+answered_err catalogue request read.Memory which answered h stops = rw h tt
+answered_err catalogue request read.Ids which answered h stops = absurd (never_ids catalogue request stops)
 
 -- ---- the run
 

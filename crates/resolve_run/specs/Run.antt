@@ -1,7 +1,7 @@
 -- The effect of a run on its devices: a text is written, or a prefix of one, or nothing, and why.
 use Rattle.std.specs.Prelude.{◌≡◌, ◌⊎◌, ◌<◌, ℕ, List, length, Option}
 use Rattle.std.specs.Io.KnownBytes.{Appends}
-use Rattle.resolvo_text.specs.Device.{IfKnown, TakesFront}
+use Rattle.resolvo_text.specs.Device.{IfKnown, TakesPrefix}
 use Rattle.resolvo_text.specs.Line.{Line}
 use Rattle.resolvo_text.specs.Texts.{IsGrammatical}
 use Rattle.resolvo_text.specs.declared.lines.ReadFault.TheVariants as read
@@ -59,5 +59,5 @@ StopsBefore Writer catalogue request = ⊥
 -- Why a run ends without its whole text, and the bytes that were written: none, or after a failed
 -- write a prefix of an answer.
 abbrev pub StopsRun : RunFault → Device → Device → Device → Type 0
-StopsRun Writer catalogue request writer = writer.Failed × ((outcome : Outcome) × (output : List ℕ) × AnswersTexts catalogue.before request.before outcome output × TakesFront writer.before writer.after output)
+StopsRun Writer catalogue request writer = writer.Failed × ((outcome : Outcome) × (output : List ℕ) × AnswersTexts catalogue.before request.before outcome output × TakesPrefix writer.before writer.after output)
 StopsRun e catalogue request writer = StopsBefore e catalogue request × (writer.after ≡ writer.before)

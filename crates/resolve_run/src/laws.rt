@@ -40,9 +40,9 @@ pub fn the_judge_accepts_each_report()
         → IsAnswerOfLines catalogue request ended output
         → IsJudgeFault catalogue request TooLong (Some output) after (Unit {0})
         → ⊥ }
-    ensures checked { (c r : List ℕ) (ended : Outcome) (output : List ℕ) (checked : Checked) (told : List ℕ)
+    ensures checked { (c r : List ℕ) (ended : Outcome) (output : List ℕ) (checked : Checked) (verdict_text : List ℕ)
         → IsAnswer c r ended output
         → (ended ≡ Faulty → ⊥)
-        → IsCheck c r output checked told
-        → (checked ≡ Accepted) × (told ≡ yes_text) }
+        → IsCheck c r output checked verdict_text
+        → (checked ≡ Accepted) × (verdict_text ≡ yes_text) }
 {}

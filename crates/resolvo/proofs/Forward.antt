@@ -3,7 +3,7 @@ use Rattle.std.proofs.Common.{◌≡◌, ℕ, suc, Bool, reverse, List, [], ◌�
 use Rattle.std.proofs.lemmas.List.{append-nil, length-reverse, reverse-append}
 use Rattle.resolvo_pool_core.specs.RuleKeeping.{Packages, Rules}
 use Rattle.resolvo.specs.declared.turns.Turn.{Turn}
-use Rattle.resolvo.specs.Turns.{AreInTurn, AreTurns, AreWished, accepted_of, end_of}
+use Rattle.resolvo.specs.Turns.{AreInTurn, AreTurns, AreSolvedByTurn, accepted_of, end_of}
 
 reverse_shift : {X : Type 0} (x : X) (xs ys : List X) → reverse (x ∷ xs) ++ ys ≡ reverse xs ++ x ∷ ys
 reverse_shift x xs ys = ap (λ zs. zs ++ ys) (reverse-append (x ∷ []) xs) ∙ append_assoc (reverse xs) (x ∷ []) ys
@@ -26,14 +26,14 @@ module _ {N S : Type 0} (same : S → S → Bool) (p : Packages N S) (root : Rul
       (rest, (begin, one, later))
 
   -- there is a turn for each soft requirement
-  pub one_each : (wishes : List S) (turns : List (Turn S)) → AreWished same p root chosen first wishes turns → length wishes ≡ length turns
-  one_each wishes turns h = sym (length-reverse wishes) ∙ same_long (reverse wishes) (reverse turns) h.turns ∙ length-reverse turns
+  pub one_each : (softs : List S) (turns : List (Turn S)) → AreSolvedByTurn same p root chosen first softs turns → length softs ≡ length turns
+  one_each softs turns h = sym (length-reverse softs) ∙ same_long (reverse softs) (reverse turns) h.turns ∙ length-reverse turns
 
   -- the turns of the soft requirements are in their order
-  pub wished_in_turn : (wishes : List S) (turns : List (Turn S)) → AreWished same p root chosen first wishes turns → AreInTurn same p root chosen first [] wishes turns
-  wished_in_turn wishes turns h =
-      let (none, all) = from_first wishes [] turns [] (one_each wishes turns h)
-      (subst (λ (xs : List S). AreTurns same p root chosen first xs (reverse turns ++ [])) (sym (append-nil (reverse wishes))) (subst (λ (xs : List (Turn S)). AreTurns same p root chosen first (reverse wishes) xs) (sym (append-nil (reverse turns))) h.turns)) in
+  pub turns_in_order : (softs : List S) (turns : List (Turn S)) → AreSolvedByTurn same p root chosen first softs turns → AreInTurn same p root chosen first [] softs turns
+  turns_in_order softs turns h =
+      let (none, all) = from_first softs [] turns [] (one_each softs turns h)
+      (subst (λ (xs : List S). AreTurns same p root chosen first xs (reverse turns ++ [])) (sym (append-nil (reverse softs))) (subst (λ (xs : List (Turn S)). AreTurns same p root chosen first (reverse softs) xs) (sym (append-nil (reverse turns))) h.turns)) in
       all
 
 -- the number of choices after these turns, and before them so many

@@ -7,7 +7,7 @@ use Rattle.resolvo_pool_core.specs.declared.requirement.Requirement.{Requirement
 use Rattle.resolvo_pool_core.specs.declared.solver_id.SolvableIdOrRoot.{SolvableIdOrRoot}
 use Rattle.resolvo_pool_core.specs.declared.solver_id.SolvableIdOrRoot.TheVariants.{Root}
 use Rattle.resolvo_pool_core.specs.RuleKeeping.{Packages, Rules, IsLawful}
-use Rattle.resolvo_store_core.specs.AtMostOne.{IsFrontOf}
+use Rattle.resolvo_store_core.specs.AtMostOne.{IsPrefixOf}
 use Rattle.resolvo_store_core.specs.Signed.{Signed, has}
 use Rattle.resolvo_sat.specs.declared.analyze.FinalConflict.{FinalConflict}
 use Rattle.resolvo_sat.specs.Analysis.{IsRefusal}
@@ -32,7 +32,7 @@ use Rattle.resolvo.specs.declared.search.SearchResult.TheVariants.{Chosen, Clash
 use Rattle.resolvo.specs.declared.turns.Turn.{Turn}
 use Rattle.resolvo.specs.declared.turns.Turns.{Turns}
 use Rattle.resolvo_turn.specs.Turn.{IsRooted, IsTurn}
-use Rattle.resolvo.specs.Turns.{AreRight, AreTurns, AreWished, HasReason, HaveReasons, IsNextRight, StandSo, accepted_of, end_of, first_of}
+use Rattle.resolvo.specs.Turns.{AreRight, AreTurns, AreSolvedByTurn, HasReason, HaveReasons, IsNextRight, AreAtOrRefused, accepted_of, end_of, first_of}
 use Rattle.resolvo_turn.specs.Encoder.{IsInOrder}
 use Rattle.resolvo.specs.Solution.{IsSolution, IsUnsolvable}
 use Rattle.resolvo.specs.Solve.{IsFoundIn, IsFound, IsListedIn, IsPreferred, IsDenial}
@@ -55,14 +55,14 @@ last_begin same p root chosen first t [] (u ∷ later) h = absurd h
 last_begin same p root chosen first t (w ∷ ws) (u ∷ later) (begin, one, rest) = last_begin same p root chosen first t ws later rest
 
 -- the number of choices in the root's turn
-pub first_is : {N S : Type 0} (same : S → S → Bool) (p : Packages N S) (root : Rules) (chosen : List S) (first : ℕ) (wishes : List S) (turns : List (Turn S)) → AreWished same p root chosen first wishes turns → first ≡ first_of chosen turns
-first_is same p root chosen first wishes [] h = h.whole
-first_is same p root chosen first wishes (t ∷ later) h = sym (last_begin same p root chosen first t (reverse wishes) (reverse later) (subst (λ (ts : List (Turn _)). AreTurns same p root chosen first (reverse wishes) ts) (reverse-append (t ∷ []) later) h.turns))
+pub first_is : {N S : Type 0} (same : S → S → Bool) (p : Packages N S) (root : Rules) (chosen : List S) (first : ℕ) (softs : List S) (turns : List (Turn S)) → AreSolvedByTurn same p root chosen first softs turns → first ≡ first_of chosen turns
+first_is same p root chosen first softs [] h = h.whole
+first_is same p root chosen first softs (t ∷ later) h = sym (last_begin same p root chosen first t (reverse softs) (reverse later) (subst (λ (ts : List (Turn _)). AreTurns same p root chosen first (reverse softs) ts) (reverse-append (t ∷ []) later) h.turns))
 
 -- a prefix of a list is its first items
-first_front : {X : Type 0} (xs ys : List X) → IsFrontOf xs ys → take (length xs) ys ≡ xs
-first_front [] ys h = refl
-first_front (x ∷ xs) ys (more, is) = ap (take (suc (length xs))) is ∙ ap (λ zs. x ∷ zs) (first_front xs (xs ++ more) (more, refl))
+first_prefix : {X : Type 0} (xs ys : List X) → IsPrefixOf xs ys → take (length xs) ys ≡ xs
+first_prefix [] ys h = refl
+first_prefix (x ∷ xs) ys (more, is) = ap (take (suc (length xs))) is ∙ ap (λ zs. x ∷ zs) (first_prefix xs (xs ++ more) (more, refl))
 
 -- no turn, no reason
 pub no_reasons : {N S : Type 0} (c : SolverState N S) (t : Turns S) → t.turns.items ≡ [] → HaveReasons c t
@@ -70,10 +70,10 @@ no_reasons {N} {S} c t none turn h = absurd (contains_none turn (subst (λ (ts :
 
 module _ {N S : Type 0} (same_name : N → N → Bool) (names : IsExact same_name) (same : S → S → Bool) (exact : IsExact same) (p : Packages N S) (orders : Requirement → List S → Type 0) (root : Rules) (lawful : IsLawful p) (e : Encoder N S) where
   -- the end of the root's turn: its choices are right, and preferred
-  pub root_right : IsInOrder same p orders root e → e.noted.wishes.items ≡ [] → IsTurn same None e None → (t : Turns S) → t.turns.items ≡ [] → AreChosen e.coding.atoms.keys (made_true (history e.coding.search)) t.chosen.keys
+  pub root_right : IsInOrder same p orders root e → e.recorded.softs.items ≡ [] → IsTurn same None e None → (t : Turns S) → t.turns.items ≡ [] → AreChosen e.coding.atoms.keys (made_true (history e.coding.search)) t.chosen.keys
       → AreRight same p root (length t.chosen.keys) [] t × ArePreferred same p orders root t.chosen.keys
-  root_right holds alone (settled, whole, spent, wish) t none chosen =
-      let (keeping, reached, inside) = turn_keeps same exact p root lawful e same_name names holds.encoding spent settled.values settled.score settled.agree settled.quiet settled.decided t.chosen.keys chosen (whole t.chosen.keys chosen) alone in
+  root_right holds alone (is_done, whole, spent, soft) t none chosen =
+      let (keeping, reached, inside) = turn_keeps same exact p root lawful e same_name names holds.encoding spent is_done.values is_done.score is_done.agree is_done.quiet is_done.decided t.chosen.keys chosen (whole t.chosen.keys chosen) alone in
       let all : take (length t.chosen.keys) t.chosen.keys ≡ t.chosen.keys = take_all (length t.chosen.keys) t.chosen.keys (omega arith) in (
         record {
           wished = record {
@@ -83,47 +83,47 @@ module _ {N S : Type 0} (same_name : N → N → Bool) (names : IsExact same_nam
             whole = ap (λ (ts : List (Turn S)). end_of (length t.chosen.keys) (reverse ts)) none;
           };
           accepted = subst (λ (ts : List (Turn S)). IsAccepted same p root (accepted_of (reverse ts)) t.chosen.keys) (sym none)
-              (subst (λ (ws : List S). IsAccepted same p root ws t.chosen.keys) alone (chosen_accepted same exact p root same_name names lawful orders e None t.chosen.keys holds (settled, whole, spent, wish) chosen));
+              (subst (λ (ws : List S). IsAccepted same p root ws t.chosen.keys) alone (chosen_accepted same exact p root same_name names lawful orders e None t.chosen.keys holds (is_done, whole, spent, soft) chosen));
         },
-        turn_preferred same exact p root lawful e same_name names holds.encoding spent orders holds.ordered settled.values settled.score settled.agree settled.quiet settled.decided t.chosen.keys chosen (whole t.chosen.keys chosen) alone,
+        turn_preferred same exact p root lawful e same_name names holds.encoding spent orders holds.ordered is_done.values is_done.score is_done.agree is_done.quiet is_done.decided t.chosen.keys chosen (whole t.chosen.keys chosen) alone,
       )
 
   -- a refusal of the root's turn leaves no rule-keeping set
   pub root_refused : IsInOrder same p orders root e → e.coding.search.base_level ≡ 1 → (r : FinalConflict) → IsRefusal e.coding.search r.literals.items r.causes.items → IsUnsolvable same p root
   root_refused holds first r refusal = λ chosen keeping. refused same exact p root lawful e same_name names holds.encoding first r.literals.items r.causes.items refusal chosen keeping
 
-module _ {N S : Type 0} (same : S → S → Bool) (p : Packages N S) (orders : Requirement → List S → Type 0) (root : Rules) (wishes : List S) (e : Encoder N S) (old t : Turns S) (front : IsFrontOf old.chosen.keys t.chosen.keys) where
+module _ {N S : Type 0} (same : S → S → Bool) (p : Packages N S) (orders : Requirement → List S → Type 0) (root : Rules) (softs : List S) (e : Encoder N S) (old t : Turns S) (prefix : IsPrefixOf old.chosen.keys t.chosen.keys) where
   -- the result of all turns
-  pub turns_found : ArePreferred same p orders root old.chosen.keys → (o : Option FinalConflict) → IsNextRight same p root (length old.chosen.keys) wishes e t o → StandSo e t o → (f : SearchResult S) → IsFoundIn t o f → IsFound same p root wishes e f × IsPreferred same p orders root f
-  turns_found preferred None (right, reasons) at (Chosen v turns) (solvables, told) =
-      let first : length old.chosen.keys ≡ first_of v.items turns.items = first_is same p root t.chosen.keys (length old.chosen.keys) wishes t.turns.items right.wished ∙ ap (λ (xs : List S). first_of xs t.turns.items) (sym solvables) ∙ ap (λ (ts : Vec (Turn S) Global). first_of v.items ts.items) (sym told) in
-      let whole : take (first_of v.items turns.items) v.items ≡ old.chosen.keys = ap (λ (n : ℕ). take n v.items) (sym first) ∙ ap (take (length old.chosen.keys)) solvables ∙ first_front old.chosen.keys t.chosen.keys front in (
+  pub turns_found : ArePreferred same p orders root old.chosen.keys → (o : Option FinalConflict) → IsNextRight same p root (length old.chosen.keys) softs e t o → AreAtOrRefused e t o → (f : SearchResult S) → IsFoundIn t o f → IsFound same p root softs e f × IsPreferred same p orders root f
+  turns_found preferred None (right, reasons) at (Chosen v turns) (solvables, same_turns) =
+      let first : length old.chosen.keys ≡ first_of v.items turns.items = first_is same p root t.chosen.keys (length old.chosen.keys) softs t.turns.items right.wished ∙ ap (λ (xs : List S). first_of xs t.turns.items) (sym solvables) ∙ ap (λ (ts : Vec (Turn S) Global). first_of v.items ts.items) (sym same_turns) in
+      let whole : take (first_of v.items turns.items) v.items ≡ old.chosen.keys = ap (λ (n : ℕ). take n v.items) (sym first) ∙ ap (take (length old.chosen.keys)) solvables ∙ first_prefix old.chosen.keys t.chosen.keys prefix in (
         (
-          subst (λ (n : ℕ). AreWished same p root v.items n wishes turns.items) first
-              (subst (λ (ts : Vec (Turn S) Global). AreWished same p root v.items (length old.chosen.keys) wishes ts.items) (sym told) (subst (λ (xs : List S). AreWished same p root xs (length old.chosen.keys) wishes t.turns.items) (sym solvables) right.wished)),
-          λ turn h. subst (λ (xs : List S). HasReason e.coding xs turn) (sym solvables) (reasons turn (subst (λ (ts : Vec (Turn S) Global). Contains ts.items turn) told h)),
+          subst (λ (n : ℕ). AreSolvedByTurn same p root v.items n softs turns.items) first
+              (subst (λ (ts : Vec (Turn S) Global). AreSolvedByTurn same p root v.items (length old.chosen.keys) softs ts.items) (sym same_turns) (subst (λ (xs : List S). AreSolvedByTurn same p root xs (length old.chosen.keys) softs t.turns.items) (sym solvables) right.wished)),
+          λ turn h. subst (λ (xs : List S). HasReason e.coding xs turn) (sym solvables) (reasons turn (subst (λ (ts : Vec (Turn S) Global). Contains ts.items turn) same_turns h)),
         ),
         subst (λ (xs : List S). ArePreferred same p orders root xs) (sym whole) preferred,
       )
   turns_found preferred None right at (Clash q) h = absurd h
-  turns_found preferred (Some r) right stands (Chosen v turns) h = absurd h
+  turns_found preferred (Some r) right at_or_refused (Chosen v turns) h = absurd h
   turns_found preferred (Some r) right (refusal, none) (Clash q) is = (
     (right, subst (λ (x : FinalConflict). IsRefusal e.coding.search x.literals.items x.causes.items) (sym is) refusal),
     tt,
   )
 
 -- all turns list the choices of the trail
-pub later_listed : {N S : Type 0} (e : Encoder N S) (t : Turns S) (o : Option FinalConflict) → IsCoding e.coding → StandSo e t o → (f : SearchResult S) → IsFoundIn t o f → IsListedIn e f
-later_listed e t None coding at (Chosen v turns) (solvables, told) = let is = solvables ∙ at.chosen in record { in_order = is; once = subst AreOnce (sym is) (trail_once e coding); encoded = subst (AreAmongEncoded e) (sym solvables) at.encoded }
+pub later_listed : {N S : Type 0} (e : Encoder N S) (t : Turns S) (o : Option FinalConflict) → IsCoding e.coding → AreAtOrRefused e t o → (f : SearchResult S) → IsFoundIn t o f → IsListedIn e f
+later_listed e t None coding at (Chosen v turns) (solvables, same_turns) = let is = solvables ∙ at.chosen in record { in_order = is; once = subst AreOnce (sym is) (trail_once e coding); encoded = subst (AreAmongEncoded e) (sym solvables) at.encoded }
 later_listed e t None coding at (Clash q) h = absurd h
-later_listed e t (Some r) coding stands (Chosen v turns) h = absurd h
-later_listed e t (Some r) coding stands (Clash q) h = tt
+later_listed e t (Some r) coding at_or_refused (Chosen v turns) h = absurd h
+later_listed e t (Some r) coding at_or_refused (Clash q) h = tt
 
 -- a clash in a soft requirement's turn denies only the root
-pub later_denial : {N S : Type 0} (e : Encoder N S) (t : Turns S) (o : Option FinalConflict) → StandSo e t o → (f : SearchResult S) → IsFoundIn t o f → IsDenial e.coding f
+pub later_denial : {N S : Type 0} (e : Encoder N S) (t : Turns S) (o : Option FinalConflict) → AreAtOrRefused e t o → (f : SearchResult S) → IsFoundIn t o f → IsDenial e.coding f
 later_denial e t None at (Chosen v turns) h = tt
 later_denial e t None at (Clash q) h = absurd h
-later_denial e t (Some r) stands (Chosen v turns) h = absurd h
+later_denial e t (Some r) at_or_refused (Chosen v turns) h = absurd h
 later_denial e t (Some r) (refusal, none) (Clash q) is =
     subst (λ (x : FinalConflict). IsRefusal e.coding.search x.literals.items x.causes.items × DenyRoot x.literals.items) (sym is)
     (refusal, λ l h. absurd (both_ways false refl (subst (λ (ls : List Signed). has ls l ≡ true) none h)))

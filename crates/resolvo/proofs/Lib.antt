@@ -1,7 +1,7 @@
 pub mod Found
 pub mod Solved
 pub mod Answered
-pub mod Wishes
+pub mod Soft
 pub mod TrailLemmas
 pub mod ListLemmas
 pub mod Next

@@ -24,7 +24,7 @@ use Rattle.resolvo_encoder.specs.Steps.{IsBegunEncoding, IsNextEncoded}
 use Rattle.resolvo.specs.declared.search.SearchResult.TheVariants.{Chosen}
 use Rattle.resolvo.specs.declared.turns.Turn.{Turn}
 use Rattle.resolvo.specs.Solution.{IsSolution}
-use Rattle.resolvo.specs.Turns.{AreWished, first_of, on_trail}
+use Rattle.resolvo.specs.Turns.{AreSolvedByTurn, first_of, on_trail}
 use Rattle.resolvo.specs.Solve.{AreOnTrail, IsFound, IsPreferred}
 use Rattle.resolvo.proofs.Found.{begun_rooted}
 
@@ -52,7 +52,7 @@ module _ {N S : Type 0} (same : S → S → Bool) (p : Packages N S) (root : Rul
   empty_keeps = record {
     single = record { listed = λ s h. absurd (both_ways false refl h); one = λ s t h i e. absurd (both_ways false refl h) };
     obeys = record { requirements_met = λ parent need member h binds. absurd (no_member_needs parent need member h); constraints_kept = λ parent v s member h there. absurd (both_ways false refl there) };
-    unbarred = λ s h. absurd (both_ways false refl h);
+    allowed = λ s h. absurd (both_ways false refl h);
     known = λ s h. absurd (both_ways false refl h);
   }
 
@@ -61,27 +61,27 @@ module _ {N S : Type 0} (same : S → S → Bool) (p : Packages N S) (root : Rul
   none_reached set s h = both_ways false refl (h [] (record {
     inside = λ t a. absurd (both_ways false refl a);
     wished = λ t a b. absurd (both_ways false refl a);
-    matches = λ parent need t member stated binds meets there. absurd (no_member_needs parent need member stated);
+    matches = λ parent need t member kinds binds meets there. absurd (no_member_needs parent need member kinds);
   }))
 
   empty_solves : IsSolution same p root []
   empty_solves = record { keeping = empty_keeps; reached = λ s h. absurd (both_ways false refl h); inside = λ s h. absurd (none_reached [] s h) }
 
-  empty_wished : AreWished same p root [] 0 [] []
-  empty_wished = record { solution = empty_solves; within = omega arith; turns = tt; whole = refl }
+  empty_turns : AreSolvedByTurn same p root [] 0 [] []
+  empty_turns = record { solution = empty_solves; within = omega arith; turns = tt; whole = refl }
 
   empty_preferred : (orders : Requirement → List S → Type 0) → ArePreferred same p orders root []
   empty_preferred orders = record {
     within = λ set unbeaten s h. absurd (both_ways false refl h);
     whole = λ set unbeaten once s. sym (is_none (is_in same p set s) (λ h. none_reached set s (once.reached s h)));
-    first = λ tried tries by set firsts s. sym (is_none (is_in same p set s) (λ h. both_ways false refl (firsts.least [] (λ parent need t member stated binds is. absurd (no_member_needs parent need member stated)) s h)));
+    first = λ tried tries by set firsts s. sym (is_none (is_in same p set s) (λ h. both_ways false refl (firsts.least [] (λ parent need t member kinds binds is. absurd (no_member_needs parent need member kinds)) s h)));
   }
 
   -- so the empty set is the result
   pub nothing_found : (orders : Requirement → List S → Type 0) (e : Encoder N S) (v : Vec S Global) (turns : Vec (Turn S) Global) → v.items ≡ [] → turns.items ≡ [] → IsFound same p root [] e (Chosen v turns) × IsPreferred same p orders root (Chosen v turns)
   nothing_found orders e v turns empty none = (
     (
-      subst (λ (ts : List (Turn S)). AreWished same p root v.items (first_of v.items ts) [] ts) (sym none) (subst (λ (xs : List S). AreWished same p root xs (length xs) [] []) (sym empty) empty_wished),
+      subst (λ (ts : List (Turn S)). AreSolvedByTurn same p root v.items (first_of v.items ts) [] ts) (sym none) (subst (λ (xs : List S). AreSolvedByTurn same p root xs (length xs) [] []) (sym empty) empty_turns),
       λ t h. absurd (contains_none t (subst (λ (ts : List (Turn S)). Contains ts t) none h)),
     ),
     subst (λ (ts : List (Turn S)). ArePreferred same p orders root (take (first_of v.items ts) v.items)) (sym none) (subst (λ (xs : List S). ArePreferred same p orders root (take (length xs) xs)) (sym empty) (empty_preferred orders)),
@@ -128,5 +128,5 @@ root_alone (c ∷ []) h = refl
 root_alone (c ∷ d ∷ cs) h = absurd h
 
 -- the root's clause is the only one
-pub nothing_stated : {N S : Type 0} (a b : Encoder N S) → IsBegunEncoding a → b ≡ record a { encoded = a.encoded + 1 } → length b.coding.search.clauses ≡ 1
-nothing_stated {N} {S} a b begun is = ap (λ (x : Encoder N S). length x.coding.search.clauses) is ∙ root_alone a.coding.search.clauses begun.coding.clause
+pub only_root : {N S : Type 0} (a b : Encoder N S) → IsBegunEncoding a → b ≡ record a { encoded = a.encoded + 1 } → length b.coding.search.clauses ≡ 1
+only_root {N} {S} a b begun is = ap (λ (x : Encoder N S). length x.coding.search.clauses) is ∙ root_alone a.coding.search.clauses begun.coding.clause

@@ -18,7 +18,7 @@ use Rattle.resolvo_packages.specs.PackageSource.{AreOffered, offered_solvables}
 use Rattle.resolvo_packages.specs.declared.package_source.Offered.{Offered}
 use Rattle.resolvo_graph.specs.Graph.{Graph}
 use Rattle.resolvo_proof.specs.declared.step.ProofStep.{ProofStep}
-use Rattle.resolvo_conflict.specs.Truth.{TellsTruth}
+use Rattle.resolvo_conflict.specs.Truth.{IsTrueConflictGraph}
 use Rattle.resolvo.specs.Conflicts.{Left, IsRightOffer}
 use Rattle.resolvo.specs.Solver.{Kept, IsTrueOf}
 use Rattle.resolvo_conflict.specs.Offered.{was_offered, offered_by, IsOffered}
@@ -37,18 +37,18 @@ want_ends may (Err f) w h = subst (IsCancelledBy may) (sym h) (want_stops may w)
 -- the offers of the answers are right, and of the answers before, which are the same
 pub right_from : {A N S : Type 0} (same : S → S → Bool) (packages : A → Packages N S) (orders : A → Requirement → List S → Type 0) (old now : A) (q : Requirement) (items : List (Offered N S)) (list : List S) → now ≡ old → list ≡ offered_solvables items
     → AreOffered same (packages now) q items → orders now q (offered_solvables items) → IsRightOffer same (packages old) (orders old) q list
-right_from same packages orders old now q items list tells is offered ordered =
-    subst (IsRightOffer same (packages old) (orders old) q) (sym is) (subst (λ a. IsRightOffer same (packages a) (orders a) q (offered_solvables items)) tells (record { ordered = ordered; matches = offered.matches }))
+right_from same packages orders old now q items list matching is offered ordered =
+    subst (IsRightOffer same (packages old) (orders old) q) (sym is) (subst (λ a. IsRightOffer same (packages a) (orders a) q (offered_solvables items)) matching (record { ordered = ordered; matches = offered.matches }))
 
 -- each requirement so far is recorded
-pub noted_more : {S : Type 0} (qs : List Requirement) (i : ℕ) (d : Requirement) (old new : Offers S) (candidates : List S) → i < length qs → IsOffered old (get_or qs i d) candidates new → ((r : Requirement) → Contains (take i qs) r → was_offered old r ≡ true)
+pub offered_more : {S : Type 0} (qs : List Requirement) (i : ℕ) (d : Requirement) (old new : Offers S) (candidates : List S) → i < length qs → IsOffered old (get_or qs i d) candidates new → ((r : Requirement) → Contains (take i qs) r → was_offered old r ≡ true)
     → (r : Requirement) → Contains (take (i + 1) qs) r → was_offered new r ≡ true
-noted_more qs i d old new candidates low is noted r h = elim (contains_parts r (take i qs) (get_or qs i d ∷ []) (subst (λ (xs : List Requirement). Contains xs r) (take_more qs i d low) h)) [
+offered_more qs i d old new candidates low is recorded r h = elim (contains_parts r (take i qs) (get_or qs i d ∷ []) (subst (λ (xs : List Requirement). Contains xs r) (take_more qs i d low) h)) [
   | inl earlier ↦ elim (cases_Bool (same_requirement r (get_or qs i d))) [
-    | inl e ↦ ap (was_offered new) (same_requirement_true r (get_or qs i d) e) ∙ is.noted
-    | inr e ↦ (is.others r (λ same. both_ways _ (subst (λ (x : Requirement). same_requirement r x ≡ false) (sym same) e) (same_requirement-self r))).0 ∙ noted r earlier
+    | inl e ↦ ap (was_offered new) (same_requirement_true r (get_or qs i d) e) ∙ is.recorded
+    | inr e ↦ (is.others r (λ same. both_ways _ (subst (λ (x : Requirement). same_requirement r x ≡ false) (sym same) e) (same_requirement-self r))).0 ∙ recorded r earlier
   ]
-  | inr now ↦ ap (was_offered new) (contains_one r (get_or qs i d) now) ∙ is.noted
+  | inr now ↦ ap (was_offered new) (contains_one r (get_or qs i d) now) ∙ is.recorded
 ]
 
 module _ {S : Type 0} (Q : Requirement → List S → Type 0) where
@@ -66,7 +66,7 @@ module _ {S : Type 0} (Q : Requirement → List S → Type 0) where
       at_it false e = subst (Q q) (sym (is.given ∙ ap (λ (x : Bool). cond x (offered_by old q) candidates) e)) this
 
 -- a true graph of the kept offers and steps
-pub kept_true : {P N S : Type 0} (same : S → S → Bool) (name_of : S → N) (k : Kept P N S) (r : Result (Graph S) Want) (offers : Offers S) (steps : List (ProofStep N S)) → ((l : Left S) → k.conflict ≡ Some l → offers ≡ l.offers) → steps ≡ k.proof → IfOk r (TellsTruth same name_of (offered_by offers) steps) → IfOk r (IsTrueOf same name_of k)
-kept_true same name_of k (Err w) offers steps given is told = tt
-kept_true same name_of k (Ok g) offers steps given is told = λ l at.
-    subst (λ (o : Offers _). TellsTruth same name_of (offered_by o) k.proof g) (given l at) (subst (λ (xs : List (ProofStep _ _)). TellsTruth same name_of (offered_by offers) xs g) is told)
+pub kept_true : {P N S : Type 0} (same : S → S → Bool) (name_of : S → N) (k : Kept P N S) (r : Result (Graph S) Want) (offers : Offers S) (steps : List (ProofStep N S)) → ((l : Left S) → k.conflict ≡ Some l → offers ≡ l.offers) → steps ≡ k.proof → IfOk r (IsTrueConflictGraph same name_of (offered_by offers) steps) → IfOk r (IsTrueOf same name_of k)
+kept_true same name_of k (Err w) offers steps given is holds = tt
+kept_true same name_of k (Ok g) offers steps given is holds = λ l at.
+    subst (λ (o : Offers _). IsTrueConflictGraph same name_of (offered_by o) k.proof g) (given l at) (subst (λ (xs : List (ProofStep _ _)). IsTrueConflictGraph same name_of (offered_by offers) xs g) is holds)

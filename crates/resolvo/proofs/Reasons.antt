@@ -8,20 +8,20 @@ use Rattle.resolvo_pool_core.specs.OnePass.{Literal}
 use Rattle.resolvo_soundness.specs.Encoding.{Atom}
 use Rattle.resolvo_soundness.specs.Numbered.{meanings, Means}
 use Rattle.resolvo_soundness.proofs.Lists.{contains_map}
-use Rattle.resolvo_soundness.proofs.Meanings.{stands_meaning}
+use Rattle.resolvo_soundness.proofs.Meanings.{meaning_from}
 use Rattle.resolvo_state.specs.declared.atom.ProofAtom.TheVariants.{Solvable}
 use Rattle.resolvo_state.specs.declared.solver_state.SolverState.{SolverState}
-use Rattle.resolvo_state.specs.declared.clause_kind.Stated.{Stated}
-use Rattle.resolvo_state.specs.declared.clause_kind.Stated.TheVariants as Says
+use Rattle.resolvo_state.specs.declared.clause_kind.ClauseKind.{ClauseKind}
+use Rattle.resolvo_state.specs.declared.clause_kind.ClauseKind.TheVariants as Kind
 use Rattle.resolvo_state.specs.Atoms.{origin}
-use Rattle.resolvo_state.proofs.Origins.{atom_of_one, origin_stands}
+use Rattle.resolvo_state.proofs.Origins.{atom_of_one, origin_represents}
 use Rattle.resolvo_state.proofs.Positions.{get_below}
 use Rattle.resolvo_proof.specs.declared.step.ProofLiteral.{ProofLiteral}
 use Rattle.resolvo_proof.specs.declared.step.ProofStep.{ProofStep}
 use Rattle.resolvo_proof.specs.Steps.{literal_in}
-use Rattle.resolvo_proof.specs.Written.{AreSteps, IsDerivation, IsStepAt, IsStepOf, IsTold}
+use Rattle.resolvo_proof.specs.Written.{AreSteps, IsDerivation, IsStepAt, IsStepOf, IsRuleOf}
 use Rattle.resolvo.specs.declared.turns.Turn.{Turn}
-use Rattle.resolvo.specs.Wished.{DeniesOne, IsReasonOf}
+use Rattle.resolvo.specs.SoftTurns.{DeniesOne, IsReasonOf}
 use Rattle.resolvo.specs.Turns.{HasReason, IsDeniable}
 use Rattle.resolvo.specs.Solve.{DeniesOnly, HasProof}
 
@@ -29,9 +29,9 @@ module _ {N S : Type 0} (c : SolverState N S) (steps : List (ProofStep N S)) (ar
   -- a literal denies a solvable if its meaning is that of one that does
   denies_one : (among : S → Type 0) (x : Signed) (l : ProofLiteral N S) → DeniesOne c among x → Means (origin c.atoms.keys) x (literal_in l) → (l.positive ≡ false) × ((s : S) × (l.atom ≡ Solvable s) × among s)
   denies_one among x l (inl root) (other, is) = absurd (let later : 0 < x.variable.0 = other in let first : x.variable.0 ≡ 0 = ap (λ (y : Signed). y.variable.0) root in omega arith)
-  denies_one among x l (inr (s, u, no_u, stands, inside)) (other, is) = (
+  denies_one among x l (inr (s, u, no_u, present, inside)) (other, is) = (
     ap (λ (m : Literal (Atom N S)). m.positive) is ∙ ap (λ (y : Signed). y.positive) no_u,
-    (s, atom_of_one l.atom (Solvable s) (ap (λ (m : Literal (Atom N S)). m.atom) is ∙ ap (λ (y : Signed). origin c.atoms.keys y.variable.0) no_u ∙ origin_stands c.atoms.keys u (Solvable s) stands), inside),
+    (s, atom_of_one l.atom (Solvable s) (ap (λ (m : Literal (Atom N S)). m.atom) is ∙ ap (λ (y : Signed). origin c.atoms.keys y.variable.0) no_u ∙ origin_represents c.atoms.keys u (Solvable s) present), inside),
   )
 
   -- a derived step of such a clause
@@ -42,26 +42,26 @@ module _ {N S : Type 0} (c : SolverState N S) (steps : List (ProofStep N S)) (ar
     causes = d.causes;
     derived = at ∙ ap Some d.derived;
     denies = λ l h. (
-        let stands : Contains (meanings (origin c.atoms.keys) held.literals.items) (literal_in l) = subst (λ ms. Contains ms (literal_in l)) d.means (contains_map literal_in l d.literals.items h) in
-        let (x, known, means) = stands_meaning (origin c.atoms.keys) held.literals.items (literal_in l) stands in
+        let present : Contains (meanings (origin c.atoms.keys) held.literals.items) (literal_in l) = subst (λ ms. Contains ms (literal_in l)) d.means (contains_map literal_in l d.literals.items h) in
+        let (x, known, means) = meaning_from (origin c.atoms.keys) held.literals.items (literal_in l) present in
         denies_one among x l (denies x known) means);
   }
 
   -- a learnt clause encodes no rule
-  learnt_step : (x : Stated N S) (held : SatClause) (step : ProofStep N S) → x ≡ Says.Learnt → IsStepOf c.atoms.keys x held step → IsDerivation c.atoms.keys held.literals.items held.causes.items step
-  learnt_step x held step is (inl (r, rule, told)) = absurd (let none : Some r ≡ None = subst (λ (y : Stated N S). IsTold y (Some r)) is told in cc)
+  learnt_step : (x : ClauseKind N S) (held : SatClause) (step : ProofStep N S) → x ≡ Kind.Learnt → IsStepOf c.atoms.keys x held step → IsDerivation c.atoms.keys held.literals.items held.causes.items step
+  learnt_step x held step is (inl (r, rule, encodes)) = absurd (let none : Some r ≡ None = subst (λ (y : ClauseKind N S). IsRuleOf y (Some r)) is encodes in cc)
   learnt_step x held step is (inr (learnt, derivation)) = derivation
 
   -- the step of a reason denies what it denies
   reason_step : (among : S → Type 0) (k : ℕ) → IsReasonOf c among (suc k) → DeniesOnly steps among k
   reason_step among k reason =
-      let low : suc k < length c.search.clauses = slice_get_within c.search.clauses (suc k) reason.held reason.stands in
+      let low : suc k < length c.search.clauses = slice_get_within c.search.clauses (suc k) reason.held reason.present in
       let count : length steps + 1 ≡ length c.search.clauses = are.count in
       let (step, at) = get_below steps k (omega arith) in
       let its : IsStepAt c (suc k) step = are.each k step at in
-      let is : its.stated ≡ Says.Learnt = same_Some its.stated Says.Learnt (sym its.states ∙ reason.learnt) in
-      let held : its.clause ≡ reason.held = same_Some its.clause reason.held (sym its.stands ∙ reason.stands) in
-      denies_only among k step at its.clause (λ l h. reason.denies l (subst (λ (x : SatClause). has x.literals.items l ≡ true) held h)) (learnt_step its.stated its.clause step is its.writes)
+      let is : its.kinds ≡ Kind.Learnt = same_Some its.kinds Kind.Learnt (sym its.kind_is ∙ reason.learnt) in
+      let held : its.clause ≡ reason.held = same_Some its.clause reason.held (sym its.present ∙ reason.present) in
+      denies_only among k step at its.clause (λ l h. reason.denies l (subst (λ (x : SatClause). has x.literals.items l ≡ true) held h)) (learnt_step its.kinds its.clause step is its.writes)
 
   pub reason_proof : (chosen : List S) (t : Turn S) → HasReason c chosen t → HasProof steps chosen t
   reason_proof chosen t r = record {

@@ -42,23 +42,23 @@ steps_counted e (Clash r) steps clauses is are place step low at =
     let count : length are.earlier + 1 ≡ length e.coding.search.clauses = are.clauses.count in
     are.clauses.each place step (get_old are.earlier (are.final ∷ []) place step (omega arith) (subst (λ (xs : List (ProofStep _ _)). slice_get xs place ≡ Some step) are.ends at))
 
-module _ {N S : Type 0} (same : S → S → Bool) (p : Packages N S) (orders : Requirement → List S → Type 0) (root : Rules) (wishes : List S) where
-  found_holds : (e : Encoder N S) (f : SearchResult S) → IsFound same p root wishes e f → Holds same p root wishes f
+module _ {N S : Type 0} (same : S → S → Bool) (p : Packages N S) (orders : Requirement → List S → Type 0) (root : Rules) (softs : List S) where
+  found_holds : (e : Encoder N S) (f : SearchResult S) → IsFound same p root softs e f → Holds same p root softs f
   found_holds e (Chosen v turns) h = h.0
   found_holds e (Clash r) h = h.0
 
   -- each turn has its step
-  found_proofs : (e : Encoder N S) (f : SearchResult S) (steps : List (ProofStep N S)) → HasSteps e.coding f steps → IsFound same p root wishes e f → HaveProofs steps f
+  found_proofs : (e : Encoder N S) (f : SearchResult S) (steps : List (ProofStep N S)) → HasSteps e.coding f steps → IsFound same p root softs e f → HaveProofs steps f
   found_proofs e (Chosen v turns) steps are h = λ t there. reason_proof e.coding steps are v.items t (h.1 t there)
   found_proofs e (Clash r) steps are h = tt
 
   -- the result, with the steps of its clauses
-  pub search_solved : (e : Encoder N S) (f : SearchResult S) (x : Solved N S) → IsSearch same p orders root wishes e f → x.found ≡ f → Proves e.coding x.proof.items
+  pub search_solved : (e : Encoder N S) (f : SearchResult S) (x : Solved N S) → IsSearch same p orders root softs e f → x.found ≡ f → Proves e.coding x.proof.items
       → ((alike : S → S → Bool) (q : Packages N S) → Spelled alike q e.coding → AreDrawn alike q x.proof.items) → HaveOneSigns x.proof.items
       → ((r : Registry N) (package_of : S → N) → AreTied r e.coding → AreNamedBy r e.coding package_of → HaveOnePlace x.proof.items) → HasSteps e.coding f x.proof.items
-      → x.clause_count ≡ length e.coding.search.clauses → x.deferred_count ≡ waiting_count e → IsListedIn e f → IsSolved same p orders root wishes x
+      → x.clause_count ≡ length e.coding.search.clauses → x.deferred_count ≡ waiting_count e → IsListedIn e f → IsSolved same p orders root softs x
   search_solved e f x search is proves drawn signs places clauses count deferred listed = record {
-    found = subst (λ (g : SearchResult S). Holds same p root wishes g) (sym is) (found_holds e f search.found);
+    found = subst (λ (g : SearchResult S). Holds same p root softs g) (sym is) (found_holds e f search.found);
     proof = λ same_atom exact. proves same_atom exact same p root search.encoding.spelled search.encoding.rule;
     drawn = drawn same p search.encoding.spelled;
     signs = signs;

@@ -5,7 +5,7 @@ use Rattle.std.proofs.lemmas.List.{reverse-reverse}
 use Rattle.std.proofs.lemmas.List.Sums.{fold-append}
 use Rattle.std.proofs.lemmas.Option.{slice_get_within}
 use Rattle.indexmap.specs.IndexSet.{insert_key, insert_all}
-use Rattle.resolvo_store_core.specs.AtMostOne.{IsFrontOf}
+use Rattle.resolvo_store_core.specs.AtMostOne.{IsPrefixOf}
 use Rattle.resolvo_store_core.specs.declared.decision.Entry.{Entry}
 use Rattle.resolvo_sat.specs.Entries.{made_true}
 use Rattle.resolvo_sat.specs.State.{count_of, history, clauses_of}
@@ -18,10 +18,10 @@ use Rattle.resolvo_state.proofs.ChosenLemmas.{choices_chosen}
 use Rattle.resolvo_state.proofs.Choices.{choices_once, choices_kept, choices_go_on}
 use Rattle.resolvo_state.proofs.KeyLemmas.{pushed_is}
 use Rattle.resolvo_state.proofs.Origins.{count_is}
-use Rattle.resolvo_state.proofs.Positions.{get_front, get_last}
+use Rattle.resolvo_state.proofs.Positions.{get_in_prefix, get_last}
 use Rattle.resolvo_encoder.specs.declared.encoder.Encoder.{Encoder}
 use Rattle.resolvo.specs.Turns.{on_trail}
-use Rattle.resolvo.specs.Wished.{KeepsTrail}
+use Rattle.resolvo.specs.SoftTurns.{KeepsTrail}
 
 -- ---- insertion into a list
 
@@ -29,8 +29,8 @@ use Rattle.resolvo.specs.Wished.{KeepsTrail}
 fresh : {X : Type 0} (keys : List X) (x : X) (xs : List X) → AreOnce (keys ++ x ∷ xs) → IsPlace keys x None
 fresh keys x xs once k at =
     let low : k < length keys = slice_get_within keys k x at in
-    let here : slice_get ((keys ++ x ∷ []) ++ xs) (length keys) ≡ Some x = get_front (keys ++ x ∷ []) xs (length keys) x (get_last keys x) in
-    let same : k ≡ length keys = once k (length keys) x (get_front keys (x ∷ xs) k x at) (subst (λ (ys : List _). slice_get ys (length keys) ≡ Some x) (append_assoc keys (x ∷ []) xs) here) in
+    let here : slice_get ((keys ++ x ∷ []) ++ xs) (length keys) ≡ Some x = get_in_prefix (keys ++ x ∷ []) xs (length keys) x (get_last keys x) in
+    let same : k ≡ length keys = once k (length keys) x (get_in_prefix keys (x ∷ xs) k x at) (subst (λ (ys : List _). slice_get ys (length keys) ≡ Some x) (append_assoc keys (x ∷ []) xs) here) in
     omega arith
 
 -- one more value is inserted
@@ -53,7 +53,7 @@ module _ {X : Type 0} (same : X → X → Bool) (exact : IsExact same) where
       ap (λ (ks : List X). insert_all same ks xs) one ∙ inserted_fresh (keys ++ x ∷ []) xs (subst AreOnce (sym (append_assoc keys (x ∷ []) xs)) once) ∙ append_assoc keys (x ∷ []) xs
 
   -- a list without repeats that extends the listed ones replaces them
-  pub all_inserted : (keys xs : List X) → AreOnce xs → IsFrontOf keys xs → insert_all same keys xs ≡ xs
+  pub all_inserted : (keys xs : List X) → AreOnce xs → IsPrefixOf keys xs → insert_all same keys xs ≡ xs
   all_inserted keys xs once (more, is) =
       ap (insert_all same keys) is ∙ fold-append (insert_key same) keys keys more ∙ ap (λ (ks : List X). insert_all same ks more) (inserted_there keys keys (λ x h. h)) ∙ inserted_fresh keys more (subst AreOnce is once) ∙ sym is
 
@@ -71,10 +71,10 @@ module _ {N S : Type 0} where
   trail_once e coding = subst (λ (es : List Entry). AreOnce (choices e.coding.atoms.keys es)) (reverse-reverse e.coding.search.tracker.trail) (choices_once e.coding.atoms.keys (count_of e.coding.search) (clauses_of e.coding.search) (history e.coding.search) coding.distinct coding.ready.state.trail)
 
   -- newer variables are on no earlier trail
-  trail_kept : (a b : Encoder N S) → IsCoding a.coding → IsFrontOf a.coding.atoms.keys b.coding.atoms.keys → choices b.coding.atoms.keys a.coding.search.tracker.trail ≡ on_trail a
-  trail_kept a b coding front =
+  trail_kept : (a b : Encoder N S) → IsCoding a.coding → IsPrefixOf a.coding.atoms.keys b.coding.atoms.keys → choices b.coding.atoms.keys a.coding.search.tracker.trail ≡ on_trail a
+  trail_kept a b coding prefix =
       let back : reverse (history a.coding.search) ≡ a.coding.search.tracker.trail = reverse-reverse a.coding.search.tracker.trail in
-      ap (choices b.coding.atoms.keys) (sym back) ∙ choices_kept a.coding.atoms.keys b.coding.atoms.keys (count_of a.coding.search) (clauses_of a.coding.search) (history a.coding.search) coding.ready.state.trail (count_is a.coding coding) front ∙ ap (choices a.coding.atoms.keys) back
+      ap (choices b.coding.atoms.keys) (sym back) ∙ choices_kept a.coding.atoms.keys b.coding.atoms.keys (count_of a.coding.search) (clauses_of a.coding.search) (history a.coding.search) coding.ready.state.trail (count_is a.coding coding) prefix ∙ ap (choices a.coding.atoms.keys) back
 
   -- an unchanged trail has the same choices
   pub trail_stays : (a b : Encoder N S) → IsCoding a.coding → KeepsTrail a b → history b.coding.search ≡ history a.coding.search → on_trail b ≡ on_trail a
@@ -85,8 +85,8 @@ module _ {N S : Type 0} where
   -- where the trail was extended, the listed solvables are its choices
   pub listed_on_trail : (same : S → S → Bool) → IsExact same → (a b : Encoder N S) (old new : List S) → IsCoding a.coding → IsCoding b.coding → KeepsTrail a b → old ≡ on_trail a → new ≡ insert_all same old (on_trail b) → new ≡ on_trail b
   listed_on_trail same exact a b old new coding after keeps at listed =
-      let goes_on : IsFrontOf (choices b.coding.atoms.keys a.coding.search.tracker.trail) (on_trail b) = choices_go_on b.coding.atoms.keys a.coding.search.tracker.trail b.coding.search.tracker.trail keeps.ends in
-      listed ∙ all_inserted same exact old (on_trail b) (trail_once b after) (subst (λ (xs : List S). IsFrontOf xs (on_trail b)) (trail_kept a b coding keeps.atoms ∙ sym at) goes_on)
+      let goes_on : IsPrefixOf (choices b.coding.atoms.keys a.coding.search.tracker.trail) (on_trail b) = choices_go_on b.coding.atoms.keys a.coding.search.tracker.trail b.coding.search.tracker.trail keeps.ends in
+      listed ∙ all_inserted same exact old (on_trail b) (trail_once b after) (subst (λ (xs : List S). IsPrefixOf xs (on_trail b)) (trail_kept a b coding keeps.atoms ∙ sym at) goes_on)
 
   -- so are those that are listed first
   pub first_on_trail : (same : S → S → Bool) → IsExact same → (e : Encoder N S) (old new : List S) → IsCoding e.coding → old ≡ [] → new ≡ insert_all same old (on_trail e) → new ≡ on_trail e

@@ -40,5 +40,5 @@ AreOffers same p orders steps offers = (r : Requirement) → Contains (requireme
 
 -- the record of a clash: its clauses, which are returned too, and the offers; otherwise none
 abbrev pub IsLeft : {N S : Type 0} → (S → S → Bool) → Packages N S → (Requirement → List S → Type 0) → SearchResult S → List (ProofStep N S) → List ClauseId → Option (KeptConflict S) → Type 0
-IsLeft same p orders (Chosen v turns) steps told left = left ≡ None
-IsLeft {N} {S} same p orders (Clash r) steps told left = (k : KeptConflict S) × (left ≡ Some k) × (k.clauses.items ≡ told) × (told ≡ conflict_clauses steps) × AreOffers same p orders steps k.offers
+IsLeft same p orders (Chosen v turns) steps ids left = left ≡ None
+IsLeft {N} {S} same p orders (Clash r) steps ids left = (k : KeptConflict S) × (left ≡ Some k) × (k.clauses.items ≡ ids) × (ids ≡ conflict_clauses steps) × AreOffers same p orders steps k.offers

@@ -1,5 +1,5 @@
 pub mod Solution
-pub mod Wished
+pub mod SoftTurns
 pub mod Turns
 pub mod Solve
 pub mod Conflicts

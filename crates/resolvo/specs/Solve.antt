@@ -25,7 +25,7 @@ use Rattle.resolvo_proof.specs.declared.step.ProofStep.TheVariants.{Derived}
 use Rattle.resolvo_proof.specs.Written.{AreSteps, AreStepsThen, IsStepAt}
 use Rattle.resolvo_encoder.specs.declared.encoder.Encoder.{Encoder}
 use Rattle.resolvo.specs.Solution.{IsUnsolvable}
-use Rattle.resolvo.specs.Turns.{AreWished, HasReason, IsDeniable, first_of, on_trail}
+use Rattle.resolvo.specs.Turns.{AreSolvedByTurn, HasReason, IsDeniable, first_of, on_trail}
 use Rattle.resolvo.specs.declared.turns.Turn.{Turn}
 use Rattle.resolvo.specs.declared.turns.Turns.{Turns}
 use Rattle.resolvo.specs.declared.search.SearchResult.{SearchResult}
@@ -34,7 +34,7 @@ use Rattle.resolvo.specs.declared.prove.Solved.{Solved}
 
 -- the root has no requirements and no constraints, and there are no soft requirements
 abbrev pub AskNothing : {S : Type 0} → List ConditionalRequirement → List VersionSetId → List S → Type 0
-AskNothing requirements constraints wishes = (requirements ≡ []) × (constraints ≡ []) × (wishes ≡ [])
+AskNothing requirements constraints softs = (requirements ≡ []) × (constraints ≡ []) × (softs ≡ [])
 
 -- the result of turns: their choices, or the conflict
 abbrev pub IsFoundIn : {S : Type 0} → Turns S → Option FinalConflict → SearchResult S → Type 0
@@ -93,16 +93,16 @@ abbrev pub HaveClauses : {N S : Type 0} → SolverState N S → SearchResult S �
 HaveClauses {N} {S} c (Chosen v turns) = (t : Turn S) → Contains turns.items t → HasReason c v.items t
 HaveClauses {N} {S} c (Clash r) = ⊤
 
-module _ {N S : Type 0} (same : S → S → Bool) (p : Packages N S) (root : Rules) (wishes : List S) where
+module _ {N S : Type 0} (same : S → S → Bool) (p : Packages N S) (root : Rules) (softs : List S) where
   -- The result: the turns of the soft requirements, each with its reason. Or a clause that denies
   -- the root alone, and no solvables keep all rules.
   abbrev pub IsFound : Encoder N S → SearchResult S → Type 0
-  IsFound e (Chosen v turns) = AreWished same p root v.items (first_of v.items turns.items) wishes turns.items × HaveClauses e.coding (Chosen v turns)
+  IsFound e (Chosen v turns) = AreSolvedByTurn same p root v.items (first_of v.items turns.items) softs turns.items × HaveClauses e.coding (Chosen v turns)
   IsFound e (Clash r) = IsUnsolvable same p root × IsRefusal e.coding.search r.literals.items r.causes.items
 
   -- the result holds: the choices of the turns, or that no solvables keep all rules
   abbrev pub Holds : SearchResult S → Type 0
-  Holds (Chosen v turns) = AreWished same p root v.items (first_of v.items turns.items) wishes turns.items
+  Holds (Chosen v turns) = AreSolvedByTurn same p root v.items (first_of v.items turns.items) softs turns.items
   Holds (Clash r) = IsUnsolvable same p root
 
 module _ {N S : Type 0} (same : S → S → Bool) (p : Packages N S) (root : Rules) where
@@ -134,16 +134,16 @@ module _ {N S : Type 0} (same : S → S → Bool) (p : Packages N S) (orders : R
 
   -- The encoding and the result are those of the problem, by an order in which each requirement's
   -- candidates may be tried.
-  pub record IsSearch (wishes : List S) (e : Encoder N S) (f : SearchResult S) : Type 0 where
+  pub record IsSearch (softs : List S) (e : Encoder N S) (f : SearchResult S) : Type 0 where
     pub encoding : IsEncoding same p root e
-    pub found : IsFound same p root wishes e f
+    pub found : IsFound same p root softs e f
     pub preferred : IsPreferred f
 
   -- The result holds, and the steps of the proof are right. Candidates were chosen in the order in
   -- which they are tried, and each refused soft requirement has a step. The counts are those of an
   -- encoding, whose trail chooses these solvables.
-  pub record IsSolved (wishes : List S) (s : Solved N S) : Type 0 where
-    pub found : Holds same p root wishes s.found
+  pub record IsSolved (softs : List S) (s : Solved N S) : Type 0 where
+    pub found : Holds same p root softs s.found
     pub proof : AreProved same p root s.proof.items
     pub drawn : AreDrawn same p s.proof.items
     pub signs : HaveOneSigns s.proof.items

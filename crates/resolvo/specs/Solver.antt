@@ -16,9 +16,9 @@ use Rattle.resolvo_graph.specs.declared.line.MessageLine.{MessageLine}
 use Rattle.resolvo_conflict.specs.Draw.{conflict_drawing}
 use Rattle.resolvo_conflict.specs.Offered.{offered_by}
 use Rattle.resolvo_conflict.specs.Order.{conflict_rules}
-use Rattle.resolvo_conflict.specs.Truth.{TellsTruth}
+use Rattle.resolvo_conflict.specs.Truth.{IsTrueConflictGraph}
 use Rattle.resolvo.specs.Conflicts.{Left, AreOffers, conflict_clauses}
-use Rattle.resolvo.specs.Turns.{AreWished, first_of}
+use Rattle.resolvo.specs.Turns.{AreSolvedByTurn, first_of}
 use Rattle.resolvo.specs.Solve.{AreOnTrail, AreRightSteps, HasProof, IsCounted}
 use Rattle.resolvo.specs.declared.prove.Solved.{Solved}
 use Rattle.resolvo.specs.declared.turns.Turn.{Turn}
@@ -50,11 +50,11 @@ IsGraphOf {P} {N} {S} same_name same name_of k g = (l : Left S) → k.conflict �
 -- Each edge of the graph is true of packages with these names, and of a root, where the kept steps
 -- are a proof. The offers must be right.
 abbrev pub IsTrueOf : {P N S : Type 0} → (S → S → Bool) → (S → N) → Kept P N S → Graph S → Type 0
-IsTrueOf {P} {N} {S} same name_of k g = (l : Left S) → k.conflict ≡ Some l → TellsTruth same name_of (offered_by l.offers) k.proof g
+IsTrueOf {P} {N} {S} same name_of k g = (l : Left S) → k.conflict ≡ Some l → IsTrueConflictGraph same name_of (offered_by l.offers) k.proof g
 
 -- the lines are those of that graph's message
-abbrev pub TellsConflict : {P N S : Type 0} → (N → N → Bool) → (S → S → Bool) → (S → N) → Kept P N S → List (MessageLine S) → Type 0
-TellsConflict {P} {N} {S} same_name same name_of k lines = (g : Graph S) × IsGraphOf same_name same name_of k g × IsMessage same_name same name_of g lines
+abbrev pub IsConflictMessage : {P N S : Type 0} → (N → N → Bool) → (S → S → Bool) → (S → N) → Kept P N S → List (MessageLine S) → Type 0
+IsConflictMessage {P} {N} {S} same_name same name_of k lines = (g : Graph S) × IsGraphOf same_name same name_of k g × IsMessage same_name same name_of g lines
 
 -- no clause, no case, no turn, no step and no conflict are left
 pub record HasNothing {P N S : Type 0} (k : Kept P N S) : Type 0 where
@@ -84,14 +84,14 @@ IsStopped may (Err (Cancelled value)) = may value
 IsStopped may (Err Memory) = ⊤
 IsStopped may (Err Ids) = ⊤
 
-module _ {N S : Type 0} (same : S → S → Bool) (p : Packages N S) (root : Rules) (orders : Requirement → List S → Type 0) (wishes : List S) where
+module _ {N S : Type 0} (same : S → S → Bool) (p : Packages N S) (root : Rules) (orders : Requirement → List S → Type 0) (softs : List S) where
   -- The answer for these soft requirements: the turns chose these solvables, in the root's turn by
   -- an order in which candidates may be tried. Each refused soft requirement has a step as its
   -- reason. Or there is no solution, and the offers of the conflict are right. The steps of the
   -- proof are right. The counts are those of an encoding of the problem with these steps, whose
   -- trail chooses these solvables.
   abbrev pub IsAnswer : {C P : Type 0} → Result (Vec S) (UnsolvableOrCancelled C) → Kept P N S → Type 0
-  IsAnswer (Ok v) k = AreWished same p root v.items (first_of v.items k.turns) wishes k.turns × ArePreferred same p orders root (take (first_of v.items k.turns) v.items)
+  IsAnswer (Ok v) k = AreSolvedByTurn same p root v.items (first_of v.items k.turns) softs k.turns × ArePreferred same p orders root (take (first_of v.items k.turns) v.items)
       × ((t : Turn S) → Contains k.turns t → HasProof k.proof v.items t) × AreRightSteps same p root k.proof
       × ((e : Encoder N S) × IsCounted same p root e k.clause_count k.deferred_count k.proof × AreOnTrail e v.items)
   IsAnswer (Err (Unsolvable conflict)) k = IsUnsolvable same p root × AreRightSteps same p root k.proof × ((e : Encoder N S) × IsCounted same p root e k.clause_count k.deferred_count k.proof)
@@ -112,11 +112,11 @@ Leaves (Err Ids) k = HasNothing k
 
 -- the results of a search are kept, and returned
 abbrev pub Keeps : {P N S C : Type 0} → Solved N S → Vec ClauseId → Option (Left S) → Kept P N S → Result (Vec S) (UnsolvableOrCancelled C) → Kept P N S → Type 0
-Keeps {P} {N} {S} {C} s told left old (Ok v) new = (turns : Vec (Turn S)) × (s.found ≡ Chosen v turns) × (new ≡ record old { clause_count = s.clause_count; deferred_count = s.deferred_count; turns = turns.items; proof = s.proof.items; conflict = left })
-Keeps {P} {N} {S} {C} s told left old (Err (Unsolvable conflict)) new = (r : FinalConflict) × (s.found ≡ Clash r) × (conflict.clauses ≡ told) × (new ≡ record old { clause_count = s.clause_count; deferred_count = s.deferred_count; proof = s.proof.items; conflict = left })
-Keeps {P} {N} {S} {C} s told left old (Err (Cancelled value)) new = ⊥
-Keeps {P} {N} {S} {C} s told left old (Err Memory) new = ⊥
-Keeps {P} {N} {S} {C} s told left old (Err Ids) new = ⊥
+Keeps {P} {N} {S} {C} s ids left old (Ok v) new = (turns : Vec (Turn S)) × (s.found ≡ Chosen v turns) × (new ≡ record old { clause_count = s.clause_count; deferred_count = s.deferred_count; turns = turns.items; proof = s.proof.items; conflict = left })
+Keeps {P} {N} {S} {C} s ids left old (Err (Unsolvable conflict)) new = (r : FinalConflict) × (s.found ≡ Clash r) × (conflict.clauses ≡ ids) × (new ≡ record old { clause_count = s.clause_count; deferred_count = s.deferred_count; proof = s.proof.items; conflict = left })
+Keeps {P} {N} {S} {C} s ids left old (Err (Cancelled value)) new = ⊥
+Keeps {P} {N} {S} {C} s ids left old (Err Memory) new = ⊥
+Keeps {P} {N} {S} {C} s ids left old (Err Ids) new = ⊥
 
 -- the same reason
 abbrev pub stopped_by : {C : Type 0} → CacheFault C → UnsolvableOrCancelled C

@@ -2,7 +2,7 @@
 use Rattle.std.specs.Prelude.{◌≡◌, ℕ, suc, ◌-◌, ◌≤◌, ◌⊎◌, cond, Bool, true, false, take, reverse, List, [], ◌∷◌, ◌++◌, length, Option, Some, None, Contains}
 use Rattle.indexmap.specs.IndexSet.{insert_all}
 use Rattle.resolvo_pool_core.specs.RuleKeeping.{Packages, Rules, is_in, IsRuleKeeping}
-use Rattle.resolvo_store_core.specs.AtMostOne.{IsFrontOf}
+use Rattle.resolvo_store_core.specs.AtMostOne.{IsPrefixOf}
 use Rattle.resolvo_sat.specs.declared.analyze.FinalConflict.{FinalConflict}
 use Rattle.resolvo_sat.specs.Analysis.{IsRefusal}
 use Rattle.resolvo_soundness.specs.SearchEnd.{IsAccepted}
@@ -12,9 +12,9 @@ use Rattle.resolvo_encoder.specs.TurnLevels.{AreAmongEncoded}
 use Rattle.resolvo_encoder.specs.declared.encoder.Encoder.{Encoder}
 use Rattle.resolvo_turn.specs.Encoder.{IsRoot}
 use Rattle.resolvo.specs.Solution.{IsSolution, IsUnsolvable}
-use Rattle.resolvo.specs.Wished.{IsReasonOf}
+use Rattle.resolvo.specs.SoftTurns.{IsReasonOf}
 use Rattle.resolvo.specs.declared.soft_requirements.SoftOutcome.{SoftOutcome}
-use Rattle.resolvo.specs.declared.soft_requirements.SoftOutcome.TheVariants.{Stood, Chosen, Refused, Clash}
+use Rattle.resolvo.specs.declared.soft_requirements.SoftOutcome.TheVariants.{AlreadyChosen, Chosen, Refused, Clash}
 use Rattle.resolvo.specs.declared.turn_input.TurnInput.{TurnInput}
 use Rattle.resolvo.specs.declared.turns.Turn.{Turn}
 use Rattle.resolvo.specs.declared.turns.Turns.{Turns}
@@ -49,14 +49,14 @@ module _ {N S : Type 0} (same : S → S → Bool) (p : Packages N S) (root : Rul
   -- and the accepted ones reach. The soft requirement is accepted if it is among them. It is
   -- refused only if no rule-keeping set includes it with those chosen before the turn, and then
   -- nothing is chosen in it.
-  pub record IsTurnOf (accepted : List S) (wish : S) (t : Turn S) : Type 0 where
-    pub solvable : t.solvable ≡ wish
+  pub record IsTurnOf (accepted : List S) (soft : S) (t : Turn S) : Type 0 where
+    pub solvable : t.solvable ≡ soft
     pub grows : t.begin ≤ t.end
     pub within : t.end ≤ length chosen
     pub ended : IsAccepted same p root (accepted_by accepted t) (take t.end chosen)
-    pub told : t.accepted ≡ is_in same p (take t.end chosen) wish
+    pub decided : t.accepted ≡ is_in same p (take t.end chosen) soft
     pub still : t.accepted ≡ false → t.end ≡ t.begin
-    pub refused : t.accepted ≡ false → (set : List S) → IsRuleKeeping same p root set → ((s : S) → is_in same p (take t.begin chosen) s ≡ true → is_in same p set s ≡ true) → is_in same p set wish ≡ true → ⊥
+    pub refused : t.accepted ≡ false → (set : List S) → IsRuleKeeping same p root set → ((s : S) → is_in same p (take t.begin chosen) s ≡ true → is_in same p set s ≡ true) → is_in same p set soft ≡ true → ⊥
 
   -- the turns of the soft requirements, both newest first; each begins where the one before it
   -- ended
@@ -76,11 +76,11 @@ module _ {N S : Type 0} (same : S → S → Bool) (p : Packages N S) (root : Rul
 
   -- The first choices are a solution, in the root's turn; the others were chosen in the turns of
   -- the soft requirements.
-  pub record AreWished (first : ℕ) (wishes : List S) (told : List (Turn S)) : Type 0 where
+  pub record AreSolvedByTurn (first : ℕ) (softs : List S) (decided : List (Turn S)) : Type 0 where
     pub solution : IsSolution same p root (take first chosen)
     pub within : first ≤ length chosen
-    pub turns : AreTurns first (reverse wishes) (reverse told)
-    pub whole : end_of first (reverse told) ≡ length chosen
+    pub turns : AreTurns first (reverse softs) (reverse decided)
+    pub whole : end_of first (reverse decided) ≡ length chosen
 
 -- the solvables that the trail chooses, in its order
 abbrev pub on_trail : {N S : Type 0} → Encoder N S → List S
@@ -91,11 +91,11 @@ on_trail e = choices e.coding.atoms.keys e.coding.search.tracker.trail
 pub record AreAt {N S : Type 0} (e : Encoder N S) (t : Turns S) : Type 0 where
   pub chosen : t.chosen.keys ≡ on_trail e
   pub encoded : AreAmongEncoded e t.chosen.keys
-  pub wishes : e.noted.wishes.items ≡ accepted_of (reverse t.turns.items)
+  pub softs : e.recorded.softs.items ≡ accepted_of (reverse t.turns.items)
 
 -- the choices are right, turn by turn
-pub record AreRight {N S : Type 0} (same : S → S → Bool) (p : Packages N S) (root : Rules) (first : ℕ) (wishes : List S) (t : Turns S) : Type 0 where
-  pub wished : AreWished same p root t.chosen.keys first wishes t.turns.items
+pub record AreRight {N S : Type 0} (same : S → S → Bool) (p : Packages N S) (root : Rules) (first : ℕ) (softs : List S) (t : Turns S) : Type 0 where
+  pub wished : AreSolvedByTurn same p root t.chosen.keys first softs t.turns.items
   pub accepted : IsAccepted same p root (accepted_of (reverse t.turns.items)) t.chosen.keys
 
 -- An accepted soft requirement has no step. The step of a refused one is that of a learnt clause,
@@ -110,43 +110,43 @@ HaveReasons {N} {S} c t = (turn : Turn S) → Contains t.turns.items turn → Ha
 
 -- whether the turn accepted its soft requirement
 abbrev pub was_accepted : SoftOutcome → Bool
-was_accepted Stood = true
+was_accepted AlreadyChosen = true
 was_accepted Chosen = true
 was_accepted (Refused clause) = false
 was_accepted (Clash r) = false
 
 -- the proof's step of the clause that is the reason of a refusal
 abbrev pub step_of : SoftOutcome → Option ℕ
-step_of Stood = None
+step_of AlreadyChosen = None
 step_of Chosen = None
 step_of (Refused clause) = Some (clause.0 - 1)
 step_of (Clash r) = None
 
 -- the fields of the turn, by its outcome
-pub record Tells {S : Type 0} (wish : S) (begin end_ : ℕ) (wished : SoftOutcome) (t : Turn S) : Type 0 where
-  pub solvable : t.solvable ≡ wish
+pub record IsTurnRecord {S : Type 0} (soft : S) (begin end_ : ℕ) (wished : SoftOutcome) (t : Turn S) : Type 0 where
+  pub solvable : t.solvable ≡ soft
   pub begin_is : t.begin ≡ begin
   pub end_is : t.end ≡ end_
   pub accepted : t.accepted ≡ was_accepted wished
   pub step : t.step ≡ step_of wished
 
 -- the turn is added after the others
-pub record Records {S : Type 0} (wish : S) (begin : ℕ) (wished : SoftOutcome) (old new : Turns S) : Type 0 where
+pub record Records {S : Type 0} (soft : S) (begin : ℕ) (wished : SoftOutcome) (old new : Turns S) : Type 0 where
   pub turn : Turn S
-  pub tells : Tells wish begin (length old.chosen.keys) wished turn
+  pub fields : IsTurnRecord soft begin (length old.chosen.keys) wished turn
   pub chosen : new.chosen ≡ old.chosen
   pub turns : new.turns.items ≡ old.turns.items ++ turn ∷ []
 
 -- the choices are right after these soft requirements, and each turn has its reason; or the rules
 -- can't all be kept
 abbrev pub IsNextRight : {N S : Type 0} → (S → S → Bool) → Packages N S → Rules → ℕ → List S → Encoder N S → Turns S → Option FinalConflict → Type 0
-IsNextRight same p root first wishes e t None = AreRight same p root first wishes t × HaveReasons e.coding t
-IsNextRight same p root first wishes e t (Some r) = IsUnsolvable same p root
+IsNextRight same p root first softs e t None = AreRight same p root first softs t × HaveReasons e.coding t
+IsNextRight same p root first softs e t (Some r) = IsUnsolvable same p root
 
 -- the turns list the choices of the trail; or the problem is refuted
-abbrev pub StandSo : {N S : Type 0} → Encoder N S → Turns S → Option FinalConflict → Type 0
-StandSo e t None = AreAt e t
-StandSo e t (Some r) = IsRefusal e.coding.search r.literals.items r.causes.items × (r.literals.items ≡ [])
+abbrev pub AreAtOrRefused : {N S : Type 0} → Encoder N S → Turns S → Option FinalConflict → Type 0
+AreAtOrRefused e t None = AreAt e t
+AreAtOrRefused e t (Some r) = IsRefusal e.coding.search r.literals.items r.causes.items × (r.literals.items ≡ [])
 
 -- the root has the requirements and constraints that turns are given
 abbrev pub IsRootOf : TurnInput → Rules → Type 0
@@ -154,12 +154,12 @@ IsRootOf input root = IsRoot input.requirements.now input.constraints.now root
 
 -- The turn is added after the others, and the choices of the trail are listed if it was chosen in
 -- it. Or nothing changed, and this is the conflict of the problem.
-abbrev pub NotesOutcome : {N S : Type 0} → (S → S → Bool) → S → Encoder N S → Turns S → Turns S → SoftOutcome → Option FinalConflict → Type 0
-NotesOutcome same s e old new Stood None = Records s (length old.chosen.keys) Stood old new
-NotesOutcome same s e old new Stood (Some q) = ⊥
-NotesOutcome {N} {S} same s e old new Chosen None = (m : Turns S) × IsFrontOf old.chosen.keys m.chosen.keys × (m.chosen.keys ≡ insert_all same old.chosen.keys (on_trail e)) × (m.turns ≡ old.turns) × Records s (length old.chosen.keys) Chosen m new
-NotesOutcome same s e old new Chosen (Some q) = ⊥
-NotesOutcome same s e old new (Refused clause) None = Records s (length old.chosen.keys) (Refused clause) old new
-NotesOutcome same s e old new (Refused clause) (Some q) = ⊥
-NotesOutcome same s e old new (Clash r) None = ⊥
-NotesOutcome same s e old new (Clash r) (Some q) = (q ≡ r) × (new ≡ old)
+abbrev pub RecordsOutcome : {N S : Type 0} → (S → S → Bool) → S → Encoder N S → Turns S → Turns S → SoftOutcome → Option FinalConflict → Type 0
+RecordsOutcome same s e old new AlreadyChosen None = Records s (length old.chosen.keys) AlreadyChosen old new
+RecordsOutcome same s e old new AlreadyChosen (Some q) = ⊥
+RecordsOutcome {N} {S} same s e old new Chosen None = (m : Turns S) × IsPrefixOf old.chosen.keys m.chosen.keys × (m.chosen.keys ≡ insert_all same old.chosen.keys (on_trail e)) × (m.turns ≡ old.turns) × Records s (length old.chosen.keys) Chosen m new
+RecordsOutcome same s e old new Chosen (Some q) = ⊥
+RecordsOutcome same s e old new (Refused clause) None = Records s (length old.chosen.keys) (Refused clause) old new
+RecordsOutcome same s e old new (Refused clause) (Some q) = ⊥
+RecordsOutcome same s e old new (Clash r) None = ⊥
+RecordsOutcome same s e old new (Clash r) (Some q) = (q ≡ r) × (new ≡ old)

@@ -4,10 +4,10 @@ ghost use Rattle.resolvo_pool_core.specs.RuleKeeping.{Rules};
 ghost use Rattle.resolvo_packages.specs.PackageSource.{offered_solvables};
 ghost use Rattle.resolvo_pool.specs.Cached.{IsCancelledBy};
 ghost use Rattle.resolvo.specs.Conflicts.{AreOffers, IsLeft, clause_of_step, conflict_clauses};
-ghost use Rattle.resolvo.specs.Solver.{HoldsConflict, IsGraphOf, IsTrueOf, TellsConflict};
+ghost use Rattle.resolvo.specs.Solver.{HoldsConflict, IsGraphOf, IsTrueOf, IsConflictMessage};
 ghost use Rattle.resolvo_turn.specs.Encoder.{IsRoot};
 ghost use Rattle.resolvo.specs.Solve.{AreChosenOnce, AskNothing, IsSolved, EndsSo, Counts};
-ghost use Rattle.resolvo.specs.Wished.{AreCandidates};
+ghost use Rattle.resolvo.specs.SoftTurns.{AreCandidates};
 
 use crate::prove::{Solved, solve};
 use crate::search::SearchResult;
@@ -66,17 +66,17 @@ impl Conflict {
         requires { HoldsConflict solver.now self.now.clauses.items }
         ensures lines { IfOk result
             (λ d.
-            TellsConflict D.NameId.eq D.SolvableId.eq (D.name_of_solvable solver.now.provider)
+            IsConflictMessage D.NameId.eq D.SolvableId.eq (D.name_of_solvable solver.now.provider)
             solver.now d.lines.items) }
         ensures interner { IfOk result (λ d. d.interner.now ≡ solver.now.provider) }
     {
         let graph = self.graph(alloc, solver)?;
-        told_over(alloc, &graph, solver)
+        message_of_graph(alloc, &graph, solver)
     }
 }
 
 /// The message of a graph of the conflict that the solver keeps.
-fn told_over<'a, D: DependencyProvider>(
+fn message_of_graph<'a, D: DependencyProvider>(
     alloc: Global,
     graph: &ConflictGraph<D::SolvableId>,
     solver: &'a Solver<D>,
@@ -85,7 +85,7 @@ fn told_over<'a, D: DependencyProvider>(
         graph.now }
     ensures lines { IfOk result
         (λ d.
-        TellsConflict D.NameId.eq D.SolvableId.eq (D.name_of_solvable solver.now.provider)
+        IsConflictMessage D.NameId.eq D.SolvableId.eq (D.name_of_solvable solver.now.provider)
         solver.now d.lines.items) }
     ensures interner { IfOk result (λ d. d.interner.now ≡ solver.now.provider) }
 {
@@ -172,9 +172,9 @@ fn conflict_left<A: PackageSource>(
         SearchResult::Chosen { .. } => Ok((Vec::new(alloc), None)),
         SearchResult::Clash(_) => {
             let offers = offers_for(alloc, answers, solved.proof.as_slice())?;
-            let told = conflict_clauses(alloc, solved.proof.as_slice())?;
-            let clauses = Vec::from_slice(alloc, told.as_slice())?;
-            Ok((told, Some(KeptConflict { clauses, offers })))
+            let ids = conflict_clauses(alloc, solved.proof.as_slice())?;
+            let clauses = Vec::from_slice(alloc, ids.as_slice())?;
+            Ok((ids, Some(KeptConflict { clauses, offers })))
         }
     }
 }
@@ -186,7 +186,7 @@ pub(crate) fn solve_to_conflict<A: PackageSource, C: ScoreMap<A::NameId> + Drop>
     activity: Activity,
     requirements: &[ConditionalRequirement],
     constraints: &[VersionSetId],
-    wishes: &[A::SolvableId],
+    softs: &[A::SolvableId],
 ) -> Result<
     (
         Solved<A::NameId, A::SolvableId>,
@@ -202,12 +202,12 @@ pub(crate) fn solve_to_conflict<A: PackageSource, C: ScoreMap<A::NameId> + Drop>
         (λ s.
         (root : Rules)
         → IsRoot requirements.now constraints.now root
-        → AreCandidates A.SolvableId.eq (A.packages answers.old) wishes.now
+        → AreCandidates A.SolvableId.eq (A.packages answers.old) softs.now
         → IsSolved A.SolvableId.eq (A.packages answers.old) (A.orders answers.old) root
-        wishes.now s.0) }
+        softs.now s.0) }
     ensures once { IfOk result (λ s. AreChosenOnce s.0.found) }
     ensures alone { IfOk result
-        (λ s. AskNothing requirements.now constraints.now wishes.now → s.0.clause_count ≡ 1) }
+        (λ s. AskNothing requirements.now constraints.now softs.now → s.0.clause_count ≡ 1) }
     ensures ends { IfOk result (λ s. EndsSo s.0.found s.0.proof.items) }
     ensures count { IfOk result (λ s. Counts s.0.found s.0.clause_count (length s.0.proof.items)) }
     ensures left { IfOk result
@@ -217,7 +217,7 @@ pub(crate) fn solve_to_conflict<A: PackageSource, C: ScoreMap<A::NameId> + Drop>
     // After a refusal.
     ensures cancelled { IfErr result (IsCancelledBy (A.may_cancel answers.old)) }
 {
-    let solved = solve::<A, C>(alloc, answers, activity, requirements, constraints, wishes)?;
+    let solved = solve::<A, C>(alloc, answers, activity, requirements, constraints, softs)?;
     let (clauses, conflict) = conflict_left(alloc, answers, &solved)?;
     Ok((solved, clauses, conflict))
 }

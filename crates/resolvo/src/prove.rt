@@ -14,7 +14,7 @@ ghost use Rattle.resolvo_proof.specs.Drawn.{AreDrawn, HaveOneSigns};
 ghost use Rattle.resolvo_proof.specs.Places.{HaveOnePlace, AreNamedBy};
 ghost use Rattle.resolvo_proof.specs.Proof.{Proves};
 ghost use Rattle.resolvo_turn.specs.Encoder.{IsRoot};
-ghost use Rattle.resolvo.specs.Wished.{AreCandidates};
+ghost use Rattle.resolvo.specs.SoftTurns.{AreCandidates};
 ghost use Rattle.resolvo.specs.Solve.{AreChosenOnce, AskNothing, IsDenial, IsProvable, IsSolved, EndsSo, Counts, HasSteps};
 
 use crate::search::{SearchResult, search};
@@ -120,7 +120,7 @@ fn solve_in<A: PackageSource, C: ScoreMap<A::NameId> + Drop>(
     activity: Activity,
     requirements: &[ConditionalRequirement],
     constraints: &[VersionSetId],
-    wishes: &[A::SolvableId],
+    softs: &[A::SolvableId],
 ) -> Result<Solved<A::NameId, A::SolvableId>, CacheFault<A::Cancel>>
     requires { IsBegunEncoding encoding.old }
     // Whatever the answer.
@@ -130,13 +130,13 @@ fn solve_in<A: PackageSource, C: ScoreMap<A::NameId> + Drop>(
         (λ s.
         (root : Rules)
         → IsRoot requirements.now constraints.now root
-        → AreCandidates A.SolvableId.eq (A.packages answers.old) wishes.now
+        → AreCandidates A.SolvableId.eq (A.packages answers.old) softs.now
         → IsEncoding A.SolvableId.eq (A.packages answers.old) root encoding.old
         → IsSolved A.SolvableId.eq (A.packages answers.old) (A.orders answers.old) root
-        wishes.now s) }
+        softs.now s) }
     ensures once { IfOk result (λ s. AreChosenOnce s.found) }
     ensures alone { IfOk result
-        (λ s. AskNothing requirements.now constraints.now wishes.now → s.clause_count ≡ 1) }
+        (λ s. AskNothing requirements.now constraints.now softs.now → s.clause_count ≡ 1) }
     ensures ends { IfOk result (λ s. EndsSo s.found s.proof.items) }
     ensures count { IfOk result (λ s. Counts s.found s.clause_count (length s.proof.items)) }
     // After a refusal.
@@ -149,7 +149,7 @@ fn solve_in<A: PackageSource, C: ScoreMap<A::NameId> + Drop>(
         activity,
         requirements,
         constraints,
-        wishes,
+        softs,
     ) {
         Ok(found) => {
             let solved = prove(alloc, encoding, found)?;
@@ -168,7 +168,7 @@ pub fn solve<A: PackageSource, C: ScoreMap<A::NameId> + Drop>(
     activity: Activity,
     requirements: &[ConditionalRequirement],
     constraints: &[VersionSetId],
-    wishes: &[A::SolvableId],
+    softs: &[A::SolvableId],
 ) -> Result<Solved<A::NameId, A::SolvableId>, CacheFault<A::Cancel>>
     // Whatever the answer.
     ensures same { answers.new ≡ answers.old }
@@ -177,12 +177,12 @@ pub fn solve<A: PackageSource, C: ScoreMap<A::NameId> + Drop>(
         (λ s.
         (root : Rules)
         → IsRoot requirements.now constraints.now root
-        → AreCandidates A.SolvableId.eq (A.packages answers.old) wishes.now
+        → AreCandidates A.SolvableId.eq (A.packages answers.old) softs.now
         → IsSolved A.SolvableId.eq (A.packages answers.old) (A.orders answers.old) root
-        wishes.now s) }
+        softs.now s) }
     ensures once { IfOk result (λ s. AreChosenOnce s.found) }
     ensures alone { IfOk result
-        (λ s. AskNothing requirements.now constraints.now wishes.now → s.clause_count ≡ 1) }
+        (λ s. AskNothing requirements.now constraints.now softs.now → s.clause_count ≡ 1) }
     ensures ends { IfOk result (λ s. EndsSo s.found s.proof.items) }
     ensures count { IfOk result (λ s. Counts s.found s.clause_count (length s.proof.items)) }
     // After a refusal.
@@ -196,6 +196,6 @@ pub fn solve<A: PackageSource, C: ScoreMap<A::NameId> + Drop>(
         activity,
         requirements,
         constraints,
-        wishes,
+        softs,
     )
 }

@@ -8,7 +8,7 @@ ghost use Rattle.resolvo_encoder.specs.Steps.{IsBegunEncoding, IsBuilt};
 ghost use Rattle.resolvo_turn.specs.Encoder.{IsInOrder, IsRoot};
 ghost use Rattle.resolvo_turn.specs.Turn.{IsRooted, IsTurn};
 ghost use Rattle.resolvo.specs.Turns.{IsRootOf};
-ghost use Rattle.resolvo.specs.Wished.{AreCandidates};
+ghost use Rattle.resolvo.specs.SoftTurns.{AreCandidates};
 ghost use Rattle.resolvo.specs.Solve.{AskNothing, IsFound, IsFoundIn, IsListedIn, IsPreferred, IsSearch, IsDenial, IsProvable};
 
 use crate::soft_requirements::run_soft_requirements;
@@ -69,12 +69,12 @@ fn run_others<A: PackageSource, C: ScoreMap<A::NameId>>(
     encoding: &mut Encoder<A::NameId, A::SolvableId>,
     scores: &mut Scores<A::NameId, C>,
     input: &TurnInput<'_>,
-    wishes: &[A::SolvableId],
+    softs: &[A::SolvableId],
 ) -> Result<SearchResult<A::SolvableId>, CacheFault<A::Cancel>>
     requires built { IsBuilt encoding.old }
     requires rooted { IsRooted encoding.old }
     requires ended { IsTurn A.SolvableId.eq None encoding.old None }
-    requires first { encoding.old.noted.wishes.items ≡ [] }
+    requires first { encoding.old.recorded.softs.items ≡ [] }
     // Whatever the answer.
     ensures same { answers.new ≡ answers.old }
     // After an answer.
@@ -82,12 +82,12 @@ fn run_others<A: PackageSource, C: ScoreMap<A::NameId>>(
         (λ f.
         (root : Rules)
         → IsRootOf input.now root
-        → AreCandidates A.SolvableId.eq (A.packages answers.old) wishes.now
+        → AreCandidates A.SolvableId.eq (A.packages answers.old) softs.now
         → IsInOrder A.SolvableId.eq (A.packages answers.old) (A.orders answers.old) root
         encoding.old
         → IsInOrder A.SolvableId.eq (A.packages answers.old) (A.orders answers.old) root
         encoding.new
-        × IsFound A.SolvableId.eq (A.packages answers.old) root wishes.now encoding.new f
+        × IsFound A.SolvableId.eq (A.packages answers.old) root softs.now encoding.new f
         × IsPreferred A.SolvableId.eq (A.packages answers.old) (A.orders answers.old) root f) }
     ensures listed { IfOk result (IsListedIn encoding.new) }
     ensures denial { IfOk result (IsDenial encoding.new.coding) }
@@ -97,7 +97,7 @@ fn run_others<A: PackageSource, C: ScoreMap<A::NameId>>(
 {
     let mut turns = Turns::new(alloc);
     turns.list(alloc, encoding)?;
-    let clash = run_soft_requirements(alloc, answers, encoding, scores, input, wishes, &mut turns)?;
+    let clash = run_soft_requirements(alloc, answers, encoding, scores, input, softs, &mut turns)?;
     let found = found_in(alloc, turns, clash)?;
     Ok(found)
 }
@@ -109,7 +109,7 @@ fn run_turns<A: PackageSource, C: ScoreMap<A::NameId>>(
     encoding: &mut Encoder<A::NameId, A::SolvableId>,
     scores: &mut Scores<A::NameId, C>,
     input: &TurnInput<'_>,
-    wishes: &[A::SolvableId],
+    softs: &[A::SolvableId],
 ) -> Result<SearchResult<A::SolvableId>, CacheFault<A::Cancel>>
     requires { IsBegunEncoding encoding.old }
     // Whatever the answer.
@@ -119,12 +119,12 @@ fn run_turns<A: PackageSource, C: ScoreMap<A::NameId>>(
         (λ f.
         (root : Rules)
         → IsRootOf input.now root
-        → AreCandidates A.SolvableId.eq (A.packages answers.old) wishes.now
+        → AreCandidates A.SolvableId.eq (A.packages answers.old) softs.now
         → IsInOrder A.SolvableId.eq (A.packages answers.old) (A.orders answers.old) root
         encoding.old
         → IsInOrder A.SolvableId.eq (A.packages answers.old) (A.orders answers.old) root
         encoding.new
-        × IsFound A.SolvableId.eq (A.packages answers.old) root wishes.now encoding.new f
+        × IsFound A.SolvableId.eq (A.packages answers.old) root softs.now encoding.new f
         × IsPreferred A.SolvableId.eq (A.packages answers.old) (A.orders answers.old) root f) }
     ensures listed { IfOk result (IsListedIn encoding.new) }
     ensures denial { IfOk result (IsDenial encoding.new.coding) }
@@ -145,7 +145,7 @@ fn run_turns<A: PackageSource, C: ScoreMap<A::NameId>>(
     if let Some(refusal) = turn {
         return Ok(SearchResult::Clash(refusal));
     }
-    let found = run_others(alloc, answers, encoding, scores, input, wishes)?;
+    let found = run_others(alloc, answers, encoding, scores, input, softs)?;
     Ok(found)
 }
 
@@ -153,11 +153,11 @@ fn run_turns<A: PackageSource, C: ScoreMap<A::NameId>>(
 fn asks_nothing<S>(
     requirements: &[ConditionalRequirement],
     constraints: &[VersionSetId],
-    wishes: &[S],
+    softs: &[S],
 ) -> bool
-    ensures { Decides result (AskNothing requirements.now constraints.now wishes.now) }
+    ensures { Decides result (AskNothing requirements.now constraints.now softs.now) }
 {
-    requirements.is_empty() && constraints.is_empty() && wishes.is_empty()
+    requirements.is_empty() && constraints.is_empty() && softs.is_empty()
 }
 
 /// The result of a problem without requirements, over a new encoding. It stops with the value of a
@@ -202,7 +202,7 @@ pub fn search<A: PackageSource, C: ScoreMap<A::NameId> + Drop>(
     activity: Activity,
     requirements: &[ConditionalRequirement],
     constraints: &[VersionSetId],
-    wishes: &[A::SolvableId],
+    softs: &[A::SolvableId],
 ) -> Result<SearchResult<A::SolvableId>, CacheFault<A::Cancel>>
     requires { IsBegunEncoding encoding.old }
     // Whatever the answer.
@@ -212,19 +212,19 @@ pub fn search<A: PackageSource, C: ScoreMap<A::NameId> + Drop>(
         (λ f.
         (root : Rules)
         → IsRoot requirements.now constraints.now root
-        → AreCandidates A.SolvableId.eq (A.packages answers.old) wishes.now
+        → AreCandidates A.SolvableId.eq (A.packages answers.old) softs.now
         → IsEncoding A.SolvableId.eq (A.packages answers.old) root encoding.old
         → IsSearch A.SolvableId.eq (A.packages answers.old) (A.orders answers.old) root
-        wishes.now encoding.new f) }
+        softs.now encoding.new f) }
     ensures listed { IfOk result (IsListedIn encoding.new) }
     ensures provable { IfOk result (IsProvable encoding.new) }
     ensures alone { OnOk result
-        (AskNothing requirements.now constraints.now wishes.now
+        (AskNothing requirements.now constraints.now softs.now
         → length encoding.new.coding.search.clauses ≡ 1) }
     // After a refusal.
     ensures cancelled { IfErr result (IsCancelledBy (A.may_cancel answers.old)) }
 {
-    if asks_nothing(requirements, constraints, wishes) {
+    if asks_nothing(requirements, constraints, softs) {
         let nothing = find_nothing(alloc, answers, encoding)?;
         return Ok(nothing);
     }
@@ -234,6 +234,6 @@ pub fn search<A: PackageSource, C: ScoreMap<A::NameId> + Drop>(
         constraints,
     };
     let mut scores = Scores::<A::NameId, C>::new(alloc);
-    let found = run_turns(alloc, answers, encoding, &mut scores, &input, wishes)?;
+    let found = run_turns(alloc, answers, encoding, &mut scores, &input, softs)?;
     Ok(found)
 }

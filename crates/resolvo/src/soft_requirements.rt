@@ -4,7 +4,7 @@
 ghost use Rattle.std.specs.Prelude.{◌≡◌, ◌<◌, ℕ, [], false, length, Some, IfOk, IfErr, IfSome, OnOk};
 ghost use Rattle.resolvo_pool.specs.Cached.{IsCancelledBy};
 ghost use Rattle.resolvo_pool_core.specs.RuleKeeping.{Rules};
-ghost use Rattle.resolvo_store_core.specs.AtMostOne.{IsFrontOf};
+ghost use Rattle.resolvo_store_core.specs.AtMostOne.{IsPrefixOf};
 ghost use Rattle.resolvo_store_core.specs.Clauses.{yes};
 ghost use Rattle.resolvo_store_core.specs.Signed.{has};
 ghost use Rattle.resolvo_sat.specs.Entries.{made_true};
@@ -12,11 +12,11 @@ ghost use Rattle.resolvo_sat.specs.State.{history};
 ghost use Rattle.resolvo_encoder.specs.Base.{base_of, IsOpen};
 ghost use Rattle.resolvo_encoder.specs.Encoded.{StaysEncoding};
 ghost use Rattle.resolvo_encoder.specs.Steps.{IsBuilt};
-ghost use Rattle.resolvo_encoder.specs.SoftRequirement.{turn_of, IsWish};
+ghost use Rattle.resolvo_encoder.specs.SoftRequirement.{turn_of, IsSoft};
 ghost use Rattle.resolvo_turn.specs.Encoder.{IsInOrder, AddsParents, StaysInOrderOf};
 ghost use Rattle.resolvo_turn.specs.Turn.{IsRooted, IsTurn};
-ghost use Rattle.resolvo.specs.Turns.{AreAt, AreRight, HaveReasons, IsNextRight, IsRootOf, NotesOutcome, StandSo};
-ghost use Rattle.resolvo.specs.Wished.{AreCandidates, IsCandidate, IsClosed, IsOutcome, IsRefusable, IsTold, IsTurnedDown, KeepsRest, KeepsTrail};
+ghost use Rattle.resolvo.specs.Turns.{AreAt, AreRight, HaveReasons, IsNextRight, IsRootOf, RecordsOutcome, AreAtOrRefused};
+ghost use Rattle.resolvo.specs.SoftTurns.{AreCandidates, IsCandidate, IsClosed, IsOutcome, IsRefusable, IsJustified, IsRejected, KeepsRest, KeepsTrail};
 ghost use Rattle.resolvo.specs.declared.soft_requirements.SoftOutcome.TheVariants.{Refused};
 
 use crate::turn_input::TurnInput;
@@ -39,7 +39,7 @@ use std::hash::Hash;
 #[derive(Debug, Drop)]
 pub enum SoftOutcome {
     /// It was true already.
-    Stood,
+    AlreadyChosen,
     /// It was chosen, with its dependencies.
     Chosen,
     /// It conflicts with the earlier choices: this learnt clause is the reason.
@@ -55,12 +55,12 @@ fn run_open<A: PackageSource, C: ScoreMap<A::NameId>>(
     encoding: &mut Encoder<A::NameId, A::SolvableId>,
     scores: &mut Scores<A::NameId, C>,
     input: &TurnInput<'_>,
-    wish: A::SolvableId,
+    soft: A::SolvableId,
     variable: VariableId,
 ) -> Result<Option<FinalConflict>, CacheFault<A::Cancel>>
     requires built { IsBuilt encoding.old }
     requires rooted { IsRooted encoding.old }
-    requires wish { IsWish encoding.old variable }
+    requires soft { IsSoft encoding.old variable }
     requires open { has (made_true (history encoding.old.coding.search)) (yes variable) ≡ false }
     // Whatever the answer.
     ensures same { answers.new ≡ answers.old }
@@ -79,7 +79,7 @@ fn run_open<A: PackageSource, C: ScoreMap<A::NameId>>(
     ensures cancelled { IfErr result (IsCancelledBy (A.may_cancel answers.old)) }
 {
     encoding.begin_turn();
-    encoding.add_parent(wish)?;
+    encoding.add_parent(soft)?;
     let refusal = run_turn(
         alloc,
         answers,
@@ -104,7 +104,7 @@ fn refuse<N: Copy + Exact + Hash + Debug, S: Copy + Exact + Hash + Debug>(
     // After an answer.
     ensures stays { OnOk result (StaysEncoding S.eq encoding.old encoding.new) }
     ensures rest { OnOk result (KeepsRest encoding.old encoding.new) }
-    ensures refused { IfOk result (λ clause. IsTurnedDown refusal encoding.old encoding.new (Refused clause)) }
+    ensures refused { IfOk result (λ clause. IsRejected refusal encoding.old encoding.new (Refused clause)) }
     ensures built { OnOk result (IsBuilt encoding.new) }
 {
     encoding.undo_turn();
@@ -146,7 +146,7 @@ pub fn run_soft_requirement<A: PackageSource, C: ScoreMap<A::NameId>>(
     encoding: &mut Encoder<A::NameId, A::SolvableId>,
     scores: &mut Scores<A::NameId, C>,
     input: &TurnInput<'_>,
-    wish: A::SolvableId,
+    soft: A::SolvableId,
 ) -> Result<SoftOutcome, CacheFault<A::Cancel>>
     requires built { IsBuilt encoding.old }
     requires rooted { IsRooted encoding.old }
@@ -157,62 +157,62 @@ pub fn run_soft_requirement<A: PackageSource, C: ScoreMap<A::NameId>>(
         (λ w.
         (root : Rules)
         → IsRootOf input.now root
-        → IsCandidate A.SolvableId.eq (A.packages answers.old) wish
+        → IsCandidate A.SolvableId.eq (A.packages answers.old) soft
         → IsInOrder A.SolvableId.eq (A.packages answers.old) (A.orders answers.old) root
         encoding.old
         → IsInOrder A.SolvableId.eq (A.packages answers.old) (A.orders answers.old) root
         encoding.new
-        × IsTold A.SolvableId.eq (A.packages answers.old) root encoding.old encoding.new wish
+        × IsJustified A.SolvableId.eq (A.packages answers.old) root encoding.old encoding.new soft
         w) }
-    ensures outcome { IfOk result (IsOutcome A.SolvableId.eq wish encoding.old encoding.new) }
+    ensures outcome { IfOk result (IsOutcome A.SolvableId.eq soft encoding.old encoding.new) }
     ensures keeps { OnOk result (KeepsTrail encoding.old encoding.new) }
     ensures built { OnOk result (IsBuilt encoding.new) }
     // After a refusal.
     ensures cancelled { IfErr result (IsCancelledBy (A.may_cancel answers.old)) }
 {
-    let name = answers.package(wish);
+    let name = answers.package(soft);
     let offered = Offered {
-        solvable: wish,
+        solvable: soft,
         name,
     };
-    let variable = encoding.note_soft(alloc, offered)?;
+    let variable = encoding.record_soft(alloc, offered)?;
     if encoding
         .coding
         .search
         .is_true(Literal::new(variable, false))
     {
-        return Ok(SoftOutcome::Stood);
+        return Ok(SoftOutcome::AlreadyChosen);
     }
-    let turn = run_open(alloc, answers, encoding, scores, input, wish, variable)?;
-    let wished = close_turn(encoding, turn)?;
-    Ok(wished)
+    let turn = run_open(alloc, answers, encoding, scores, input, soft, variable)?;
+    let status = close_turn(encoding, turn)?;
+    Ok(status)
 }
 
 /// Records the outcome of a soft requirement's turn, after its choices. The conflict, if
 /// no solvables keep all rules.
-fn note_outcome<N: Copy + Exact + Hash + Debug, S: Copy + Exact + Hash + Debug>(
+fn record_outcome<N: Copy + Exact + Hash + Debug, S: Copy + Exact + Hash + Debug>(
     alloc: Global,
     encoding: &Encoder<N, S>,
     turns: &mut Turns<S>,
-    wish: S,
-    wished: SoftOutcome,
+    soft: S,
+    status: SoftOutcome,
 ) -> R<Option<FinalConflict>>
-    ensures { IfOk result (NotesOutcome S.eq wish encoding.now turns.old turns.new wished) }
+    ensures { IfOk result (RecordsOutcome S.eq soft encoding.now turns.old turns.new status) }
 {
     let begin = turns.chosen.len();
-    match wished {
+    match status {
         SoftOutcome::Clash(refusal) => Ok(Some(refusal)),
-        SoftOutcome::Stood => {
-            turns.record(wish, begin, SoftOutcome::Stood)?;
+        SoftOutcome::AlreadyChosen => {
+            turns.record(soft, begin, SoftOutcome::AlreadyChosen)?;
             Ok(None)
         }
         SoftOutcome::Refused(clause) => {
-            turns.record(wish, begin, SoftOutcome::Refused(clause))?;
+            turns.record(soft, begin, SoftOutcome::Refused(clause))?;
             Ok(None)
         }
         SoftOutcome::Chosen => {
             turns.list(alloc, encoding)?;
-            turns.record(wish, begin, SoftOutcome::Chosen)?;
+            turns.record(soft, begin, SoftOutcome::Chosen)?;
             Ok(None)
         }
     }
@@ -226,7 +226,7 @@ pub fn run_soft_requirements<A: PackageSource, C: ScoreMap<A::NameId>>(
     encoding: &mut Encoder<A::NameId, A::SolvableId>,
     scores: &mut Scores<A::NameId, C>,
     input: &TurnInput<'_>,
-    wishes: &[A::SolvableId],
+    softs: &[A::SolvableId],
     turns: &mut Turns<A::SolvableId>,
 ) -> Result<Option<FinalConflict>, CacheFault<A::Cancel>>
     requires built { IsBuilt encoding.old }
@@ -239,24 +239,24 @@ pub fn run_soft_requirements<A: PackageSource, C: ScoreMap<A::NameId>>(
         (λ o.
         (root : Rules) (first : ℕ)
         → IsRootOf input.now root
-        → AreCandidates A.SolvableId.eq (A.packages answers.old) wishes.now
+        → AreCandidates A.SolvableId.eq (A.packages answers.old) softs.now
         → IsInOrder A.SolvableId.eq (A.packages answers.old) (A.orders answers.old) root
         encoding.old
         → AreRight A.SolvableId.eq (A.packages answers.old) root first [] turns.old
         → HaveReasons encoding.old.coding turns.old
         → IsInOrder A.SolvableId.eq (A.packages answers.old) (A.orders answers.old) root
         encoding.new
-        × IsNextRight A.SolvableId.eq (A.packages answers.old) root first wishes.now
+        × IsNextRight A.SolvableId.eq (A.packages answers.old) root first softs.now
         encoding.new turns.new o) }
-    ensures stands { IfOk result (StandSo encoding.new turns.new) }
-    ensures front { OnOk result (IsFrontOf turns.old.chosen.keys turns.new.chosen.keys) }
+    ensures at_or_refused { IfOk result (AreAtOrRefused encoding.new turns.new) }
+    ensures prefix { OnOk result (IsPrefixOf turns.old.chosen.keys turns.new.chosen.keys) }
     ensures built { OnOk result (IsBuilt encoding.new) }
     // After a refusal.
     ensures cancelled { IfErr result (IsCancelledBy (A.may_cancel answers.old)) }
 {
-    for wish in wishes {
-        let wished = run_soft_requirement(alloc, answers, encoding, scores, input, *wish)?;
-        let clash = note_outcome(alloc, encoding, turns, *wish, wished)?;
+    for soft in softs {
+        let status = run_soft_requirement(alloc, answers, encoding, scores, input, *soft)?;
+        let clash = record_outcome(alloc, encoding, turns, *soft, status)?;
         if let Some(refusal) = clash {
             return Ok(Some(refusal));
         }

@@ -7,7 +7,7 @@ ghost use Rattle.std.specs.Iterator.Runs.{WholeRun};
 ghost use Rattle.resolvo_packages.specs.PackageSource.{packages_by, orders_by};
 ghost use Rattle.resolvo_state.specs.Keys.{AreOnce};
 ghost use Rattle.resolvo.specs.Solve.{AskNothing};
-ghost use Rattle.resolvo.specs.Wished.{AreCandidates};
+ghost use Rattle.resolvo.specs.SoftTurns.{AreCandidates};
 ghost use Rattle.resolvo.specs.Conflicts.{Left, left_of};
 ghost use Rattle.resolvo.specs.Solver.{HoldsConflict, Kept, IfEnded, IsAnswer, IsStopped, Keeps, Leaves, root_of, stopped_by};
 
@@ -246,17 +246,17 @@ impl<D: DependencyProvider> Solver<D> {
         &mut self,
         problem: Problem<D::SolvableId, I>,
     ) -> Result<Vec<D::SolvableId>, UnsolvableOrCancelled<D::Cancel>>
-        requires wishes { I.can_next problem.soft_requirements }
+        requires softs { I.can_next problem.soft_requirements }
         requires finite { IsFinite (I.remaining problem.soft_requirements) }
         // What the call promises.
         ensures provider { self.new.provider ≡ self.old.provider }
         ensures answer { IfEnded result
-            ((wishes : List D.SolvableId)
-            × WholeRun I.next_gives problem.soft_requirements (λ p. wishes ≡ p.items)
+            ((softs : List D.SolvableId)
+            × WholeRun I.next_gives problem.soft_requirements (λ p. softs ≡ p.items)
             × (AreCandidates D.SolvableId.eq
             (packages_by D.name_of_solvable D.name_of_version_set D.members_of
             D.condition_of D.candidates_of D.matches D.dependencies_of self.old.provider)
-            wishes
+            softs
             → IsAnswer D.SolvableId.eq
             (packages_by D.name_of_solvable D.name_of_version_set D.members_of
             D.condition_of D.candidates_of D.matches D.dependencies_of
@@ -264,8 +264,8 @@ impl<D: DependencyProvider> Solver<D> {
             (root_of problem)
             (orders_by D.name_of_version_set D.members_of D.candidates_of D.matches
             D.sorts D.SolvableId.eq self.old.provider)
-            wishes result self.new)
-            × (AskNothing problem.requirements.items problem.constraints.items wishes
+            softs result self.new)
+            × (AskNothing problem.requirements.items problem.constraints.items softs
             → self.new.clause_count ≡ 1)) }
         ensures once { IfOk result (λ v. AreOnce v.items) }
         ensures leaves { Leaves result self.new }
@@ -279,8 +279,8 @@ impl<D: DependencyProvider> Solver<D> {
             soft_requirements,
             of: _,
         } = problem;
-        let wishes: Vec<D::SolvableId> = match soft_requirements.collect(self.alloc) {
-            Ok(wishes) => wishes,
+        let softs: Vec<D::SolvableId> = match soft_requirements.collect(self.alloc) {
+            Ok(softs) => softs,
             Err(_) => return Err(UnsolvableOrCancelled::Memory),
         };
         match solve_to_conflict::<CachedPackages<D>, <D::NameId as SolverId>::Scores>(
@@ -289,7 +289,7 @@ impl<D: DependencyProvider> Solver<D> {
             self.activity,
             requirements.as_slice(),
             constraints.as_slice(),
-            wishes.as_slice(),
+            softs.as_slice(),
         ) {
             Ok((solved, clauses, conflict)) => self.keep(solved, clauses, conflict),
             Err(fault) => Err(UnsolvableOrCancelled::from(fault)),

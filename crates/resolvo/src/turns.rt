@@ -2,8 +2,8 @@
 //! them.
 ghost use Rattle.std.specs.Prelude.{◌≡◌, [], OnOk, IfOk};
 ghost use Rattle.indexmap.specs.IndexSet.{insert_all};
-ghost use Rattle.resolvo_store_core.specs.AtMostOne.{IsFrontOf};
-ghost use Rattle.resolvo.specs.Turns.{Records, Tells, on_trail};
+ghost use Rattle.resolvo_store_core.specs.AtMostOne.{IsPrefixOf};
+ghost use Rattle.resolvo.specs.Turns.{Records, IsTurnRecord, on_trail};
 
 use crate::soft_requirements::SoftOutcome;
 use indexmap::IndexSet;
@@ -54,7 +54,7 @@ impl<S: Copy + Exact + Hash + Debug> Turns<S> {
         alloc: Global,
         encoding: &Encoder<N, S>,
     ) -> R<()>
-        ensures listed { OnOk result (IsFrontOf self.old.chosen.keys self.new.chosen.keys) }
+        ensures listed { OnOk result (IsPrefixOf self.old.chosen.keys self.new.chosen.keys) }
         ensures in_order { OnOk result
             (self.new.chosen.keys ≡ insert_all S.eq self.old.chosen.keys (on_trail encoding.now)) }
         ensures turns { OnOk result (self.new.turns ≡ self.old.turns) }
@@ -65,27 +65,27 @@ impl<S: Copy + Exact + Hash + Debug> Turns<S> {
     }
 
     /// Records the turn of a soft requirement that began with so many chosen solvables.
-    pub fn record(&mut self, wish: S, begin: usize, wished: SoftOutcome) -> R<()>
-        ensures { OnOk result (Records wish begin wished self.old self.new) }
+    pub fn record(&mut self, soft: S, begin: usize, status: SoftOutcome) -> R<()>
+        ensures { OnOk result (Records soft begin status self.old self.new) }
     {
         let end = self.chosen.len();
-        self.turns.push(turn_of(wish, begin, end, wished))?;
+        self.turns.push(turn_of(soft, begin, end, status))?;
         Ok(())
     }
 }
 
 /// The turn of a soft requirement, by its outcome.
-fn turn_of<S>(wish: S, begin: usize, end: usize, wished: SoftOutcome) -> Turn<S>
-    ensures { Tells wish begin end wished result }
+fn turn_of<S>(soft: S, begin: usize, end: usize, status: SoftOutcome) -> Turn<S>
+    ensures { IsTurnRecord soft begin end status result }
 {
-    let (accepted, step) = match wished {
-        SoftOutcome::Stood => (true, None),
+    let (accepted, step) = match status {
+        SoftOutcome::AlreadyChosen => (true, None),
         SoftOutcome::Chosen => (true, None),
         SoftOutcome::Refused(clause) => (false, Some((clause.0 as usize).saturating_sub(1))),
         SoftOutcome::Clash(_) => (false, None),
     };
     Turn {
-        solvable: wish,
+        solvable: soft,
         begin,
         end,
         accepted,
@@ -95,7 +95,7 @@ fn turn_of<S>(wish: S, begin: usize, end: usize, wished: SoftOutcome) -> Turn<S>
 
 /// Lists these after the others, in their order and each once.
 fn list_each<S: Copy + Exact + Hash + Debug>(listed: &mut IndexSet<S>, chosen: &[S]) -> R<()>
-    ensures adds { OnOk result (IsFrontOf listed.old.keys listed.new.keys) }
+    ensures adds { OnOk result (IsPrefixOf listed.old.keys listed.new.keys) }
     ensures in_order { OnOk result (listed.new.keys ≡ insert_all S.eq listed.old.keys chosen.now) }
 {
     for solvable in chosen {

@@ -25,7 +25,7 @@ use Rattle.resolvo_catalogue.specs.Ids.{Ids, NameId, SolvableId, solvable_id, so
 use Rattle.resolvo_catalogue.specs.Known.{solvable_at, name_of, set_at, condition_at}
 use Rattle.resolvo_catalogue.specs.Laws.{operands_below, candidates_named}
 use Rattle.resolvo_catalogue.specs.Provider.{Provider, candidates_of, listing_if_any, matches, packages_of}
-use Rattle.resolvo_catalogue.specs.KeptSets.{StandsFor, TellsApart}
+use Rattle.resolvo_catalogue.specs.KeptSets.{Represents, DistinguishesIds}
 use Rattle.resolvo_catalogue.proofs.Places.{each_right}
 use Rattle.resolvo_catalogue.proofs.MarkLemmas.{one_some}
 use Rattle.resolvo_catalogue.proofs.PassLemmas.{any_from, any_to, same_bool}
@@ -66,7 +66,7 @@ pub listed_is : (p : Provider) (ss : List SolvableId) → pool.listed (listing_i
 listed_is p [] = refl
 listed_is p (s ∷ ss) = refl
 
-module _ (p : Provider) (versions : List Version) (are : AreVersions p.ids versions) (once : AreSound p.ids) (same : SolvableId → SolvableId → Bool) (apart : TellsApart same) where
+module _ (p : Provider) (versions : List Version) (are : AreVersions p.ids versions) (once : AreSound p.ids) (same : SolvableId → SolvableId → Bool) (apart : DistinguishesIds same) where
   -- a version's solvable has its number, and its package
   pub at_version : (s : SolvableId) (v : Version) → slice_get versions s.raw ≡ Some v → (x : Solvable ℕ) × (slice_get p.ids.solvables s.raw ≡ Some x) × (solvable_at p.ids s ≡ x) × (x.version ≡ v.number) × IsPackage p.ids x.name v.name × (name_of p.ids s ≡ x.name)
   at_version s v e =
@@ -124,14 +124,14 @@ module _ (p : Provider) (versions : List Version) (are : AreVersions p.ids versi
 
   -- ---- conditions and needs, in a set
 
-  module _ (chosen : List SolvableId) (set : Set) (stands : StandsFor versions chosen set) (below : AreBelow p.ids.conditions) where
+  module _ (chosen : List SolvableId) (set : Set) (represents : Represents versions chosen set) (below : AreBelow p.ids.conditions) where
     pub met_same : (w : VersionSetId) (s : Spec) → IsSpec p.ids w s → is_met same (packages_of p) chosen w ≡ lines.is_met s set
     met_same w s spec = same_bool _ _
         (λ h. let f = any_from (is_match same (packages_of p) w) chosen h in
-        let v = stands.each f.0 f.1 in
+        let v = represents.each f.0 f.1 in
         any_to (lines.matches s) set v.0 v.2 (sym (match_same w s f.0 v.0 spec v.1) ∙ f.2))
         (λ h. let f = any_from (lines.matches s) set h in
-        let x = stands.all f.0 f.1 in
+        let x = represents.all f.0 f.1 in
         any_to (is_match same (packages_of p) w) chosen x.0 x.1 (match_same w s x.0 f.0 spec x.2 ∙ f.2))
 
     lawful : IsLawful (packages_of p)
@@ -154,8 +154,8 @@ module _ (p : Provider) (versions : List Version) (are : AreVersions p.ids versi
     binds_same (Some c) None h = absurd h
     binds_same (Some c) (Some cond) h = holds_same c cond h
 
-    pub need_binds : (need : ConditionalRequirement) (said : List Spec × Option Cond) → IsNeed p.ids need said → binds same (packages_of p) chosen need ≡ lines.condition_holds said.1 set
-    need_binds need said h = binds_same need.condition said.1 h.1
+    pub need_binds : (need : ConditionalRequirement) (written : List Spec × Option Cond) → IsNeed p.ids need written → binds same (packages_of p) chosen need ≡ lines.condition_holds written.1 set
+    need_binds need written h = binds_same need.condition written.1 h.1
 
     -- some alternative is matched
     any_alternative : (vs : List VersionSetId) (ss : List Spec) (x : SolvableId) (v : Version) → AreEach (IsSpec p.ids) vs ss → slice_get versions x.raw ≡ Some v → list_any (λ w. is_match same (packages_of p) w x) vs ≡ list_any (λ s. lines.matches s v) ss

@@ -6,10 +6,10 @@ use Rattle.std.proofs.lemmas.List.Concat.{flat_map-cons}
 use Rattle.std.proofs.lemmas.List.Elements.{Contains-append_left, Contains-append_right, Contains-append_cases}
 use Rattle.resolvo_text.specs.Line.{Version, Spec, Cond, Line, Skipped, Listed, Needs, Limits, Unknown, Lock, Favour, Exclude, Wish}
 use Rattle.resolvo_catalogue_core.specs.Grammar.{line_at, owner_of}
-use Rattle.resolvo_catalogue_core.specs.Questions.{AreAll, SaysOf, BelongsTo}
+use Rattle.resolvo_catalogue_core.specs.Questions.{AreAll, IsVersionLine, BelongsTo}
 use Rattle.resolvo_catalogue_core.proofs.PlaceLemmas.{at_from_contains, contains_from_at}
 use Rattle.resolvo_catalogue.specs.Ids.{AreEach}
-use Rattle.resolvo_catalogue.specs.Told.{need_in, limit_in, reason_in, lines_at}
+use Rattle.resolvo_catalogue.specs.Dependencies.{need_in, limit_in, reason_in, lines_at}
 use Rattle.resolvo_catalogue.proofs.Places.{no_element, first_element, later_element, element_cases, each_left, each_right}
 use Rattle.resolvo_catalogue.proofs.MarkLemmas.{one_some}
 
@@ -44,16 +44,16 @@ each_from_right R xs ys h y c = let at = at_from_contains ys y c in let e = each
 
 -- ---- the need or limit of a line
 
-pub need_from : (l : Line) (said : List Spec × Option Cond) → Contains (need_in l) said → l ≡ Needs said.0 said.1
-need_from (Needs ss c) said h = elim (element_cases (ss, c) [] said h) [ inl same ↦ ap (λ (x : List Spec × Option Cond). Needs x.0 x.1) same | inr more ↦ absurd (no_element said more) ]
-need_from Skipped said h = absurd (no_element said h)
-need_from (Listed v) said h = absurd (no_element said h)
-need_from (Limits s) said h = absurd (no_element said h)
-need_from (Unknown r) said h = absurd (no_element said h)
-need_from (Lock v) said h = absurd (no_element said h)
-need_from (Favour v) said h = absurd (no_element said h)
-need_from (Exclude v r) said h = absurd (no_element said h)
-need_from (Wish v) said h = absurd (no_element said h)
+pub need_from : (l : Line) (written : List Spec × Option Cond) → Contains (need_in l) written → l ≡ Needs written.0 written.1
+need_from (Needs ss c) written h = elim (element_cases (ss, c) [] written h) [ inl same ↦ ap (λ (x : List Spec × Option Cond). Needs x.0 x.1) same | inr more ↦ absurd (no_element written more) ]
+need_from Skipped written h = absurd (no_element written h)
+need_from (Listed v) written h = absurd (no_element written h)
+need_from (Limits s) written h = absurd (no_element written h)
+need_from (Unknown r) written h = absurd (no_element written h)
+need_from (Lock v) written h = absurd (no_element written h)
+need_from (Favour v) written h = absurd (no_element written h)
+need_from (Exclude v r) written h = absurd (no_element written h)
+need_from (Wish v) written h = absurd (no_element written h)
 
 pub limit_from : (l : Line) (s : Spec) → Contains (limit_in l) s → l ≡ Limits s
 limit_from (Limits t) s h = elim (element_cases t [] s h) [ inl same ↦ ap (λ (x : Spec). Limits x) same | inr more ↦ absurd (no_element s more) ]
@@ -79,15 +79,15 @@ reason_from (Wish v) reason h = absurd (no_element reason h)
 
 -- ---- the lines of a version
 
-module _ (versions : List Version) (lines : List Line) (k : ℕ) (v : Version) (at : slice_get versions k ≡ Some v) (numbers : List ℕ) (all : AreAll numbers (SaysOf versions lines k BelongsTo)) where
+module _ (versions : List Version) (lines : List Line) (k : ℕ) (v : Version) (at : slice_get versions k ≡ Some v) (numbers : List ℕ) (all : AreAll numbers (IsVersionLine versions lines k BelongsTo)) where
   pub from_lines : (l : Line) → Contains (lines_at lines numbers) l → (n : ℕ) × (line_at lines n ≡ Some l) × BelongsTo v (owner_of lines n) l
   from_lines l h =
       let f = flat_from (λ n. option_to_list (line_at lines n)) numbers l h in
       let there = option_from (line_at lines f.0) l f.2 in
-      let says = (all.all f.0).0 f.1 in
-      let same : says.2.0 ≡ l = one_some (sym says.2.1 ∙ there) in
-      let is : says.0 ≡ v = one_some (sym says.1 ∙ at) in
-      (f.0, there, subst (λ (w : Version). BelongsTo w (owner_of lines f.0) l) is (subst (λ (x : Line). BelongsTo says.0 (owner_of lines f.0) x) same says.2.2))
+      let line_is = (all.all f.0).0 f.1 in
+      let same : line_is.2.0 ≡ l = one_some (sym line_is.2.1 ∙ there) in
+      let is : line_is.0 ≡ v = one_some (sym line_is.1 ∙ at) in
+      (f.0, there, subst (λ (w : Version). BelongsTo w (owner_of lines f.0) l) is (subst (λ (x : Line). BelongsTo line_is.0 (owner_of lines f.0) x) same line_is.2.2))
 
   pub to_lines : (n : ℕ) (l : Line) → line_at lines n ≡ Some l → BelongsTo v (owner_of lines n) l → Contains (lines_at lines numbers) l
   to_lines n l there belongs = flat_to (λ m. option_to_list (line_at lines m)) numbers n l ((all.all n).1 (v, at, (l, there, belongs))) (option_to (line_at lines n) l there)

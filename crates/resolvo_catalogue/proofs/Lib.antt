@@ -1,6 +1,6 @@
 pub mod FoundLemmas
-pub mod StandLemmas
-pub mod TellLemmas
+pub mod GrowLemmas
+pub mod DependencyLemmas
 pub mod Places
 pub mod MarkLemmas
 pub mod ListLemmas

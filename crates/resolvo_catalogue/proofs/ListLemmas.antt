@@ -4,7 +4,7 @@ use Rattle.std.proofs.lemmas.List.{map-append, append-nil}
 use Rattle.resolvo_text.specs.Line.{Version}
 use Rattle.resolvo_pool_core.specs.declared.pool.Solvable.{Solvable}
 use Rattle.resolvo_catalogue.specs.Ids.{Ids, SolvableId, solvable_id, AreEach, IsSolvable, IsPlaced, Grows, places_from, solvables_of}
-use Rattle.resolvo_catalogue.proofs.StandLemmas.{each_as}
+use Rattle.resolvo_catalogue.proofs.GrowLemmas.{each_as}
 use Rattle.resolvo_catalogue.proofs.Places.{places_push}
 
 pub versions_stay : (a b : Ids) → Grows a b → (ss : List (Solvable ℕ)) (vs : List Version) → AreEach (IsSolvable a) ss vs → AreEach (IsSolvable b) ss vs

@@ -7,7 +7,7 @@ use Rattle.std.proofs.lemmas.Bool.Decides.{Decides-eqb}
 use Rattle.std.proofs.lemmas.Option.{slice_get_within}
 use Rattle.std.specs.List.{flat_map}
 use Rattle.std.proofs.lemmas.List.{append-nil, take_more}
-use Rattle.resolvo_catalogue.proofs.TellLemmas.{last_piece}
+use Rattle.resolvo_catalogue.proofs.DependencyLemmas.{last_piece}
 use Rattle.resolvo_catalogue_core.specs.declared.rule.VersionNo.{VersionNo}
 use Rattle.resolvo_catalogue_core.specs.Questions.{is_rule, AreAll, LineIs, IsFavour, FavoursAt}
 use Rattle.std.proofs.lemmas.List.Elements.{Contains-append_left, Contains-push, Contains-push_cases}
@@ -92,11 +92,11 @@ module _ (ids : Ids) (lines favours : List Line) (versions : List Version) (mark
   }
 
   pub marked_lock : (line : Line) (k : ℕ) (m : CandidateFlags) (v : Version) → line ≡ Lock v → slice_get marks k ≡ Some m → slice_get versions k ≡ Some v → AreMarked ids (lines ++ line ∷ []) favours versions (slice_set marks k (record m { locked = true }))
-  marked_lock line k m v says at there = rw says (one_marked (Lock v) k m _ v at there (mark_locked ids lines favours v m (h.each k m v at there)) (λ w e. cc) (λ w word e. absurd cc))
+  marked_lock line k m v line_is at there = rw line_is (one_marked (Lock v) k m _ v at there (mark_locked ids lines favours v m (h.each k m v at there)) (λ w e. cc) (λ w word e. absurd cc))
 
   pub marked_exclude : (line : Line) (k : ℕ) (m : CandidateFlags) (v : Version) (word : List ℕ) (w : StringId) → line ≡ Exclude v word → IsWord ids w word → slice_get marks k ≡ Some m → slice_get versions k ≡ Some v
       → AreMarked ids (lines ++ line ∷ []) favours versions (slice_set marks k (record m { excluded = Some w }))
-  marked_exclude line k m v word w says is at there = rw says (one_marked (Exclude v word) k m _ v at there (mark_excluded ids lines favours v m (h.each k m v at there) word w is) (λ u e. absurd cc) (λ u other e. cc))
+  marked_exclude line k m v word w line_is is at there = rw line_is (one_marked (Exclude v word) k m _ v at there (mark_excluded ids lines favours v m (h.each k m v at there) word w is) (λ u e. absurd cc) (λ u other e. cc))
 
   -- a listed version has its marks
   pub not_past : {P : Type 0} (k : ℕ) (v : Version) → slice_get versions k ≡ Some v → length marks ≤ k → P

@@ -17,7 +17,7 @@ use Rattle.resolvo_pool_core.specs.declared.requirement.ConditionalRequirement.{
 use Rattle.resolvo_pool_core.specs.Provider as pool
 use Rattle.resolvo_pool_core.specs.RuleKeeping.{rules_of, is_unknown, locks_out}
 use Rattle.resolvo_catalogue.specs.Ids.{Ids, SolvableId}
-use Rattle.resolvo_catalogue.specs.Told.{VersionDependencies, IsReason}
+use Rattle.resolvo_catalogue.specs.Dependencies.{VersionDependencies, IsReason}
 use Rattle.resolvo_catalogue.specs.Marked.{IsExclusion}
 use Rattle.resolvo_catalogue.specs.Provider.{Provider, listing_if_any, listing_of, needs_of}
 use Rattle.resolvo_catalogue.proofs.MarkLemmas.{one_some}

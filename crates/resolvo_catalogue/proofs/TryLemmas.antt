@@ -20,7 +20,7 @@ use Rattle.resolvo_pool_core.specs.Provider.{favoured_first, tried_first, IsTrie
 use Rattle.resolvo_catalogue.specs.Ids.{NameId, SolvableId, solvable_id, solvables_of, places_from, IsSolvable, IsSpec}
 use Rattle.resolvo_catalogue.specs.Known.{solvable_at, set_at}
 use Rattle.resolvo_catalogue.specs.Provider.{Provider, candidates_of, matches, age_of, IsSorted}
-use Rattle.resolvo_catalogue.specs.KeptSets.{TellsApart}
+use Rattle.resolvo_catalogue.specs.KeptSets.{DistinguishesIds}
 use Rattle.resolvo_catalogue.specs.Over.{IsOver}
 use Rattle.resolvo_catalogue.specs.CandidateOrder.{matching, IsOrder, placed, sorted_by, order_of}
 use Rattle.resolvo_catalogue.proofs.Alike.{member_place, listed_is, at_version, admits}
@@ -111,16 +111,16 @@ sooner {X} same age favoured ys list before after s f up is splits differs unles
     plain : list ≡ ys → (favoured ≡ Some s) ⊎ (age s ≤ age f)
     plain e = inr (rises_split age before after s f (subst (λ xs. Rises age xs) (sym e ∙ splits) up) last)
 
-    front : (g : X) → favoured ≡ Some g → (before : List X) → g ∷ remove_key (λ x. same x g) ys ≡ before ++ s ∷ after → (favoured ≡ Some s) ⊎ (age s ≤ age f)
-    front g one [] e = inl (one ∙ ap (λ x. Some x) (same_tail g s (remove_key (λ x. same x g) ys) after e).0)
-    front g one (b ∷ bs) e = inr (rises_split age bs after s f (subst (λ xs. Rises age xs) (same_tail g b (remove_key (λ x. same x g) ys) (bs ++ s ∷ after) e).1 (rises_remove age (λ x. same x g) ys up)) last)
+    first_is : (g : X) → favoured ≡ Some g → (before : List X) → g ∷ remove_key (λ x. same x g) ys ≡ before ++ s ∷ after → (favoured ≡ Some s) ⊎ (age s ≤ age f)
+    first_is g one [] e = inl (one ∙ ap (λ x. Some x) (same_tail g s (remove_key (λ x. same x g) ys) after e).0)
+    first_is g one (b ∷ bs) e = inr (rises_split age bs after s f (subst (λ xs. Rises age xs) (same_tail g b (remove_key (λ x. same x g) ys) (bs ++ s ∷ after) e).1 (rises_remove age (λ x. same x g) ys up)) last)
 
     go : (o : Option X) → favoured ≡ o → list ≡ favoured_first same o ys → (favoured ≡ Some s) ⊎ (age s ≤ age f)
     go None one e = plain e
     go (Some g) one e = with_one g one (list_any (λ x. same x g) ys) e
       where
         with_one : (g : X) → favoured ≡ Some g → (b : Bool) → list ≡ cond b (g ∷ remove_key (λ x. same x g) ys) ys → (favoured ≡ Some s) ⊎ (age s ≤ age f)
-        with_one g one true e = front g one before (sym e ∙ splits)
+        with_one g one true e = first_is g one before (sym e ∙ splits)
         with_one g one false e = plain e
 
 -- no element is in it twice
@@ -226,7 +226,7 @@ places_once t at (x ∷ xs) = go (t x) (places_once t (suc at) xs)
     go true rest = (λ c. (let later : suc at ≤ at = places_later t (suc at) xs (solvable_id at) c in omega arith), rest)
     go false rest = rest
 
-module _ (same : SolvableId → SolvableId → Bool) (apart : TellsApart same) where
+module _ (same : SolvableId → SolvableId → Bool) (apart : DistinguishesIds same) where
   flips : (s t : SolvableId) → same s t ≡ same t s
   flips s t = same_bool (same s t) (same t s) (λ e. (apart t s).1 (sym ((apart s t).0 e))) (λ e. (apart s t).1 (sym ((apart t s).0 e)))
 
@@ -250,9 +250,9 @@ module _ (same : SolvableId → SolvableId → Bool) (apart : TellsApart same) w
   once_permuted : (xs ys : List SolvableId) → IsPermutation xs ys → Once xs → Once ys
   once_permuted xs ys moved h = once_distinct ys (IsDistinct-IsPermutation same flips xs ys moved (distinct_once xs h))
 
-  front_from : (favoured : Option SolvableId) (ys : List SolvableId) (s : SolvableId) → Contains (favoured_first same favoured ys) s → Contains ys s
-  front_from None ys s c = c
-  front_from (Some g) ys s c = go (list_any (λ x. same x g) ys) refl c
+  favoured_or_later : (favoured : Option SolvableId) (ys : List SolvableId) (s : SolvableId) → Contains (favoured_first same favoured ys) s → Contains ys s
+  favoured_or_later None ys s c = c
+  favoured_or_later (Some g) ys s c = go (list_any (λ x. same x g) ys) refl c
     where
       go : (b : Bool) → list_any (λ x. same x g) ys ≡ b → Contains (cond b (g ∷ remove_key (λ x. same x g) ys) ys) s → Contains ys s
       go true e d = elim (element_cases g (remove_key (λ x. same x g) ys) s d) [
@@ -274,7 +274,7 @@ module _ (same : SolvableId → SolvableId → Bool) (apart : TellsApart same) w
     number_fits : (v : Version) (k : ℕ) → slice_get (listed lines) k ≡ Some v → v.number ≤ 4294967295
     number_fits v k e =
         let at = at_from_contains lines (Listed v) (listed_from lines v k e) in
-        let small : v.number < 2 ^ 32 = (over.grammatical at.0 (Listed v) at.1).1.says.form.number in
+        let small : v.number < 2 ^ 32 = (over.grammatical at.0 (Listed v) at.1).1.parsed.form.number in
         omega arith
 
     -- matches of one number are one
@@ -292,7 +292,7 @@ module _ (same : SolvableId → SolvableId → Bool) (apart : TellsApart same) w
     -- each tried candidate is a match
     order_match : (list : List SolvableId) (s : SolvableId) → IsOrder p same w list → Contains list s → Contains (matching p w) s
     order_match list s (ys, sorted, is) c =
-        Contains-permutation ys (matching p w) s (IsPermutation-sym (matching p w) ys sorted.permutation) (front_from (tried_first (λ v. (set_at p.ids v).0) (candidates_of p) w) ys s (subst (λ xs. Contains xs s) is c))
+        Contains-permutation ys (matching p w) s (IsPermutation-sym (matching p w) ys sorted.permutation) (favoured_or_later (tried_first (λ v. (set_at p.ids v).0) (candidates_of p) w) ys s (subst (λ xs. Contains xs s) is c))
 
     number_at : (s : SolvableId) (x : Version) → slice_get (listed lines) s.raw ≡ Some x → (solvable_at p.ids s).version ≡ x.number
     number_at s x e = let a = at_version p (listed lines) over.versions over.once same apart s x e in ap (λ (z : Solvable ℕ). z.version) a.2 ∙ a.3

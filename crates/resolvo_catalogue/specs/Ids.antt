@@ -74,7 +74,7 @@ module _ (ids : Ids) where
 
   -- The requirement is that of a need with these alternatives under this condition.
   abbrev pub IsNeed : ConditionalRequirement → List Spec × Option Cond → Type 0
-  IsNeed need said = AreAlternatives need.requirement said.0 × IsConditionOf need.condition said.1
+  IsNeed need written = AreAlternatives need.requirement written.0 × IsConditionOf need.condition written.1
 
 -- ---- more is interned
 

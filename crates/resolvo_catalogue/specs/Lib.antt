@@ -1,6 +1,6 @@
 pub mod Ids
 pub mod Found
-pub mod Told
+pub mod Dependencies
 pub mod Marked
 pub mod Known
 pub mod Provider

@@ -9,7 +9,7 @@ use Rattle.resolvo_pool_core.specs.Provider.{Listing, Hint, none, all, Needs, kn
 use Rattle.resolvo_pool_core.specs.RuleKeeping.{Packages}
 use Rattle.resolvo_catalogue.specs.Ids.{Ids, NameId, SolvableId, solvables_of}
 use Rattle.resolvo_catalogue.specs.Known.{solvable_at, name_of, set_at, members_of, condition_at}
-use Rattle.resolvo_catalogue.specs.Told.{VersionDependencies}
+use Rattle.resolvo_catalogue.specs.Dependencies.{VersionDependencies}
 use Rattle.resolvo_catalogue.specs.declared.candidate_flags.CandidateFlags.{CandidateFlags}
 use Rattle.resolvo_catalogue.specs.declared.provider.Hint as hints
 use Rattle.resolvo_catalogue.specs.declared.provider.Hint.TheVariants as hint
@@ -17,7 +17,7 @@ use Rattle.resolvo_catalogue.specs.declared.provider.Hint.TheVariants as hint
 -- The model of a provider: the interned values, the dependencies and marks of each version, and whether it may cancel.
 pub record Provider : Type 0 where
   pub ids : Ids
-  pub told : List VersionDependencies
+  pub deps : List VersionDependencies
   pub marks : List CandidateFlags
   pub hint : hints.Hint
   pub has_budget : Bool
@@ -65,17 +65,17 @@ candidates_of p n = listing_if_any p (solvables_of p.ids n.raw)
 
 -- an unknown version's needs aren't handed out
 abbrev pub needs_of : VersionDependencies → Option StringId → Needs
-needs_of told (Some why) = unknown why
-needs_of told None = known told.requirements told.constrains
+needs_of deps (Some why) = unknown why
+needs_of deps None = known deps.requirements deps.constrains
 
 abbrev pub no_lines : VersionDependencies
 no_lines = record { requirements = []; constrains = []; unknown = None }
 
-abbrev pub told_at : Provider → SolvableId → VersionDependencies
-told_at p s = slice_index_or p.told s.raw no_lines
+abbrev pub deps_at : Provider → SolvableId → VersionDependencies
+deps_at p s = slice_index_or p.deps s.raw no_lines
 
 abbrev pub dependencies_of : Provider → SolvableId → Needs
-dependencies_of p s = needs_of (told_at p s) (told_at p s).unknown
+dependencies_of p s = needs_of (deps_at p s) (deps_at p s).unknown
 
 -- ---- sorting
 

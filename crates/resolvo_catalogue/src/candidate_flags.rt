@@ -3,7 +3,7 @@
 ghost use Rattle.std.specs.Prelude.{◌≡◌, ◌<◌, ◌++◌, ◌∷◌, [], IfOk, IsErrOf, IsOkUnless, OnOk, List, Option, Some, length, slice_get};
 ghost use Rattle.resolvo_pool_core.specs.declared.want.Want.TheVariants.{Ids as NoIds, Memory};
 ghost use Rattle.resolvo_text.specs.Line.{Version, Line, Favour};
-ghost use Rattle.resolvo_catalogue_core.specs.Questions.{States};
+ghost use Rattle.resolvo_catalogue_core.specs.Questions.{IsRuleLine};
 ghost use Rattle.resolvo_catalogue_core.specs.Listed.{listed, AreDistinct};
 ghost use Rattle.resolvo_catalogue.specs.Ids.{Ids, Interns, LacksNumber};
 ghost use Rattle.resolvo_catalogue.specs.Marked.{AreMarked};
@@ -71,7 +71,7 @@ fn mark(ids: &mut IdTable, marks: &mut Vec<CandidateFlags>, rule: &Rule) -> R<()
         ((versions : List Version) (owner : Option Version) (line : Line)
         (lines favours : List Line)
         → AreDistinct versions
-        → States versions rule.now owner line
+        → IsRuleLine versions rule.now owner line
         → AreMarked ids.old lines favours versions marks.old.items
         → AreMarked ids.new (lines ++ line ∷ []) favours versions marks.new.items) }
     ensures interns { Interns ids.old ids.new }

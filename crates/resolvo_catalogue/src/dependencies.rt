@@ -21,12 +21,12 @@ pub struct VersionDependencies {
 
 impl VersionDependencies {
     ghost use Rattle.resolvo_text.specs.Line.{Version, Line};
-    ghost use Rattle.resolvo_catalogue_core.specs.Questions.{States};
+    ghost use Rattle.resolvo_catalogue_core.specs.Questions.{IsRuleLine};
     ghost use Rattle.resolvo_catalogue.specs.Ids.{Interns, LacksNumber};
-    ghost use Rattle.resolvo_catalogue.specs.Told.{Tells, told_of, lines_at};
+    ghost use Rattle.resolvo_catalogue.specs.Dependencies.{AreDependenciesOf, deps_of, lines_at};
 
     fn new(alloc: Global) -> VersionDependencies
-        ensures { told_of result ≡ record { requirements = []; constrains = []; unknown = None } }
+        ensures { deps_of result ≡ record { requirements = []; constrains = []; unknown = None } }
     {
         VersionDependencies {
             requirements: Vec::new(alloc),
@@ -37,11 +37,11 @@ impl VersionDependencies {
 
     /// Adds the requirement or constraint of a rule. A lock and an exclusion add nothing.
     fn add(&mut self, ids: &mut IdTable, rule: &Rule) -> R<()>
-        ensures tells { OnOk result
+        ensures as_ids { OnOk result
             ((versions : List Version) (owner : Option Version) (line : Line) (lines : List Line)
-            → States versions rule.now owner line
-            → Tells ids.old lines (told_of self.old)
-            → Tells ids.new (lines ++ line ∷ []) (told_of self.new)) }
+            → IsRuleLine versions rule.now owner line
+            → AreDependenciesOf ids.old lines (deps_of self.old)
+            → AreDependenciesOf ids.new (lines ++ line ∷ []) (deps_of self.new)) }
         ensures interns { Interns ids.old ids.new }
         ensures ids { IsErrOf result Ids → LacksNumber ids.new }
     {
@@ -74,31 +74,31 @@ impl VersionDependencies {
         catalogue: &Catalogue,
         lines: &[u32],
     ) -> R<VersionDependencies>
-        ensures tells { IfOk result (λ told. Tells ids.new (lines_at catalogue.now lines.now) (told_of told)) }
+        ensures as_ids { IfOk result (λ deps. AreDependenciesOf ids.new (lines_at catalogue.now lines.now) (deps_of deps)) }
         ensures interns { Interns ids.old ids.new }
         ensures ids { IsErrOf result Ids → LacksNumber ids.new }
     {
-        let mut told = VersionDependencies::new(alloc);
+        let mut deps = VersionDependencies::new(alloc);
         for line in lines {
             if let Some(rule) = catalogue.rule(*line) {
-                told.add(ids, rule)?;
+                deps.add(ids, rule)?;
             }
         }
-        Ok(told)
+        Ok(deps)
     }
 
     /// The requirements and constraints of a request.
     pub fn of_request(alloc: Global, ids: &mut IdTable, request: &Request) -> R<VersionDependencies>
-        ensures tells { IfOk result (λ told. Tells ids.new request.now.lines (told_of told)) }
+        ensures as_ids { IfOk result (λ deps. AreDependenciesOf ids.new request.now.lines (deps_of deps)) }
         ensures interns { Interns ids.old ids.new }
         ensures ids { IsErrOf result Ids → LacksNumber ids.new }
     {
-        let mut told = VersionDependencies::new(alloc);
+        let mut deps = VersionDependencies::new(alloc);
         for line in 0..request.line_count() {
             if let Some(rule) = request.rule(line + 1) {
-                told.add(ids, rule)?;
+                deps.add(ids, rule)?;
             }
         }
-        Ok(told)
+        Ok(deps)
     }
 }

@@ -149,7 +149,7 @@ impl IdTable {
     }
 
     /// The id of a SPEC.
-    #[tactic(auto, using(crate::proofs::StandLemmas::interns_on))]
+    #[tactic(auto, using(crate::proofs::GrowLemmas::interns_on))]
     pub fn spec(&mut self, spec: &Spec) -> R<VersionSetId>
         ensures spec { IfOk result (λ v. IsSpec self.new v (spec_of spec.now)) }
         ensures interns { Interns self.old self.new }
@@ -203,7 +203,7 @@ impl IdTable {
     }
 
     /// The requirement that one of the alternatives is matched.
-    #[tactic(auto, using(crate::proofs::StandLemmas::interns_on, crate::proofs::StandLemmas::specs_stay))]
+    #[tactic(auto, using(crate::proofs::GrowLemmas::interns_on, crate::proofs::GrowLemmas::specs_stay))]
     pub fn alternatives(&mut self, alternatives: &[Spec]) -> R<Requirement>
         ensures alternatives { IfOk result (λ r. AreAlternatives self.new r (specs_of alternatives.now)) }
         ensures interns { Interns self.old self.new }
@@ -217,7 +217,7 @@ impl IdTable {
     }
 
     /// The id of the condition that a SPEC is met.
-    #[tactic(auto, using(crate::proofs::StandLemmas::spec_stays, crate::proofs::StandLemmas::interns_on))]
+    #[tactic(auto, using(crate::proofs::GrowLemmas::spec_stays, crate::proofs::GrowLemmas::interns_on))]
     fn condition_of_spec(&mut self, spec: &Spec) -> R<ConditionId>
         ensures condition { IfOk result (λ c. IsCondition self.new c (Is (spec_of spec.now))) }
         ensures interns { Interns self.old self.new }
@@ -242,7 +242,7 @@ impl IdTable {
     }
 
     /// The id of a condition, whose operands are interned first.
-    #[tactic(auto, using(crate::proofs::StandLemmas::interns_on, crate::proofs::StandLemmas::condition_stays, crate::proofs::StandLemmas::condition_within))]
+    #[tactic(auto, using(crate::proofs::GrowLemmas::interns_on, crate::proofs::GrowLemmas::condition_stays, crate::proofs::GrowLemmas::condition_within))]
     pub fn condition(&mut self, condition: &Cond) -> R<ConditionId>
         ensures condition { IfOk result (λ c. IsCondition self.new c (cond_of condition.now)) }
         ensures interns { Interns self.old self.new }
@@ -280,7 +280,7 @@ impl IdTable {
     }
 
     /// The requirement of a need.
-    #[tactic(auto, using(crate::proofs::StandLemmas::interns_on, crate::proofs::StandLemmas::alternatives_stay))]
+    #[tactic(auto, using(crate::proofs::GrowLemmas::interns_on, crate::proofs::GrowLemmas::alternatives_stay))]
     pub fn need(
         &mut self,
         alternatives: &[Spec],

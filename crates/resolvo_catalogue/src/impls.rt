@@ -189,17 +189,17 @@ impl DependencyProvider for CatalogueProvider {
     }
 
     fn get_dependencies(&self, alloc: Global, solvable: SolvableId) -> R<Dependencies> {
-        let Some(told) = self.told.get(solvable.to_index()) else {
+        let Some(deps) = self.deps.get(solvable.to_index()) else {
             return Ok(Dependencies::Known(KnownDependencies {
                 requirements: Vec::new(alloc),
                 constrains: Vec::new(alloc),
             }));
         };
-        match told.unknown {
+        match deps.unknown {
             Some(why) => Ok(Dependencies::Unknown(why)),
             None => Ok(Dependencies::Known(KnownDependencies {
-                requirements: Vec::from_slice(alloc, told.requirements.as_slice())?,
-                constrains: Vec::from_slice(alloc, told.constrains.as_slice())?,
+                requirements: Vec::from_slice(alloc, deps.requirements.as_slice())?,
+                constrains: Vec::from_slice(alloc, deps.constrains.as_slice())?,
             })),
         }
     }

@@ -6,8 +6,8 @@ ghost use Rattle.std.specs.Prelude.{◌≡◌, [], Bool, false, true, map, IfOk,
 ghost use Rattle.resolvo_pool_core.specs.declared.want.Want.TheVariants.{Ids, Memory};
 ghost use Rattle.resolvo_catalogue.specs.declared.provider.Hint.{Hint};
 ghost use Rattle.resolvo_catalogue.specs.Ids.{AreByPackage, Interns, LacksNumber};
-ghost use Rattle.resolvo_catalogue.specs.Told.{told_of};
-ghost use Rattle.resolvo_catalogue.specs.Over.{AreTold, IsOver};
+ghost use Rattle.resolvo_catalogue.specs.Dependencies.{deps_of};
+ghost use Rattle.resolvo_catalogue.specs.Over.{AreDependencies, IsOver};
 
 use crate::candidate_flags::{CandidateFlags, marks_of};
 use crate::dependencies::VersionDependencies;
@@ -33,7 +33,7 @@ pub struct CatalogueProvider {
     pub(crate) ids: IdTable,
     /// The versions of each package, by its id, in the order of their lines.
     pub(crate) packages: Vec<Vec<SolvableId>>,
-    pub(crate) told: Vec<VersionDependencies>,
+    pub(crate) deps: Vec<VersionDependencies>,
     pub(crate) marks: Vec<CandidateFlags>,
     pub(crate) hint: Hint,
     /// How many more calls of `should_cancel_with_value` don't cancel; without it none cancels.
@@ -47,7 +47,7 @@ impl Drop for CatalogueProvider {
         let CatalogueProvider {
             ids: _,
             packages: _,
-            told: _,
+            deps: _,
             marks: _,
             hint: _,
             budget: _,
@@ -58,7 +58,7 @@ impl Drop for CatalogueProvider {
 
 impl Model for CatalogueProvider {
     ghost use Rattle.std.specs.Prelude.{map, is_some};
-    ghost use Rattle.resolvo_catalogue.specs.Told.{told_of};
+    ghost use Rattle.resolvo_catalogue.specs.Dependencies.{deps_of};
     ghost use Rattle.resolvo_catalogue.specs.Ids.{AreByPackage};
     ghost use Rattle.resolvo_catalogue.specs.Provider.{Provider};
 
@@ -66,7 +66,7 @@ impl Model for CatalogueProvider {
 
     ghost view = { λ p.
         record
-        { ids = p.ids; told = map told_of p.told.items; marks = p.marks.items; hint = p.hint; has_budget = is_some p.budget } };
+        { ids = p.ids; deps = map deps_of p.deps.items; marks = p.marks.items; hint = p.hint; has_budget = is_some p.budget } };
 
     ghost invariant = { λ p. AreByPackage p.ids p.packages.items };
 }
@@ -75,7 +75,7 @@ impl Model for CatalogueProvider {
 #[derive(Drop)]
 struct Tables {
     packages: Vec<Vec<SolvableId>>,
-    told: Vec<VersionDependencies>,
+    deps: Vec<VersionDependencies>,
     marks: Vec<CandidateFlags>,
 }
 
@@ -90,7 +90,7 @@ pub struct RequestIds {
 
 impl CatalogueProvider {
     ghost use Rattle.std.specs.Prelude.{List};
-    ghost use Rattle.resolvo_text.specs.Line as says;
+    ghost use Rattle.resolvo_text.specs.Line as parsed;
     ghost use Rattle.resolvo_text.specs.View.{spec_of, specs_of};
     ghost use Rattle.resolvo_catalogue.specs.Ids.{IsSpec, AreAlternatives, solvable_id};
     ghost use Rattle.resolvo_catalogue.specs.Known.{spec_at, alternatives_at, name_text, word_text};
@@ -107,13 +107,13 @@ impl CatalogueProvider {
         let mut ids = IdTable::new(alloc);
         let Tables {
             packages,
-            told,
+            deps,
             marks,
         } = tables_of(alloc, &mut ids, catalogue)?;
         Ok(CatalogueProvider {
             ids,
             packages,
-            told,
+            deps,
             marks,
             hint,
             budget: None,
@@ -128,7 +128,7 @@ impl CatalogueProvider {
         let CatalogueProvider {
             ids,
             packages,
-            told,
+            deps,
             marks,
             hint,
             budget: _,
@@ -137,7 +137,7 @@ impl CatalogueProvider {
         CatalogueProvider {
             ids,
             packages,
-            told,
+            deps,
             marks,
             hint,
             budget: Some(Cell::new(budget)),
@@ -150,25 +150,25 @@ impl CatalogueProvider {
     pub fn intern_request(&mut self, request: &Request) -> R<RequestIds>
         ensures asked { IfOk result (λ asked. AreAsked self.new.ids request.now asked) }
         ensures interns { ChangesIds self.old self.new }
-        ensures over { (catalogue : List says.Line) → IsOver catalogue self.old → IsOver catalogue self.new }
+        ensures over { (catalogue : List parsed.Line) → IsOver catalogue self.old → IsOver catalogue self.new }
         ensures ids { IsErrOf result Ids → LacksNumber self.new.ids }
         ensures rules { IfOk result
             (λ asked.
-            (catalogue : List says.Line)
+            (catalogue : List parsed.Line)
             → IsOver catalogue self.old
             → AreRequestLines catalogue request.now.lines
             → KeepsAlike catalogue request.now.lines self.new (root_of asked)) }
         ensures exempt { IfOk result
             (λ asked.
-            (catalogue : List says.Line)
+            (catalogue : List parsed.Line)
             → IsOver catalogue self.old
             → AreRequestLines catalogue request.now.lines
             → KeepsAlikeExempt catalogue request.now.lines self.new (root_of asked)
             asked.wishes.items) }
     {
-        let told = VersionDependencies::of_request(self.alloc, &mut self.ids, request);
+        let deps = VersionDependencies::of_request(self.alloc, &mut self.ids, request);
         self.ids.ids_are_once();
-        let told = told?;
+        let deps = deps?;
         let mut wishes = Vec::new(self.alloc);
         for (_, version) in request.wishes() {
             wishes.push(SolvableId::from_raw(version.0))?;
@@ -177,7 +177,7 @@ impl CatalogueProvider {
             requirements,
             constrains,
             ..
-        } = told;
+        } = deps;
         Ok(RequestIds {
             requirements,
             constraints: constrains,
@@ -200,10 +200,10 @@ impl CatalogueProvider {
     }
 
     /// The SPEC of a version set.
-    #[tactic(auto, using(crate::proofs::CoverLemmas::spec_stands))]
+    #[tactic(auto, using(crate::proofs::CoverLemmas::spec_is))]
     pub fn spec_of(&self, version_set: VersionSetId) -> R<Spec>
         ensures spec { IfOk result (λ found. spec_of found ≡ spec_at self.now.ids version_set) }
-        ensures stands { (s : says.Spec)
+        ensures exact { (s : parsed.Spec)
             → IsSpec self.now.ids version_set s
             → spec_at self.now.ids version_set ≡ s }
         ensures refusal { IsOkUnless result Memory }
@@ -216,10 +216,10 @@ impl CatalogueProvider {
     }
 
     /// The alternatives of a requirement, in order.
-    #[tactic(auto, using(crate::proofs::CoverLemmas::alternatives_stand))]
+    #[tactic(auto, using(crate::proofs::CoverLemmas::alternatives_are))]
     pub fn alternatives_of(&self, requirement: Requirement) -> R<Vec<Spec>>
         ensures specs { IfOk result (λ found. specs_of found.items ≡ alternatives_at self.now.ids requirement) }
-        ensures stands { (ss : List says.Spec)
+        ensures exact { (ss : List parsed.Spec)
             → AreAlternatives self.now.ids requirement ss
             → alternatives_at self.now.ids requirement ≡ ss }
         ensures refusal { IsOkUnless result Memory }
@@ -266,37 +266,37 @@ fn tables_of(alloc: Global, ids: &mut IdTable, catalogue: &Catalogue) -> R<Table
         (hint : Hint) (has_budget : Bool)
         → IsOver catalogue.now
         (record
-        { ids = ids.new; told = map told_of t.told.items; marks = t.marks.items; hint = hint; has_budget = has_budget })) }
+        { ids = ids.new; deps = map deps_of t.deps.items; marks = t.marks.items; hint = hint; has_budget = has_budget })) }
     ensures packages { IfOk result (λ t. AreByPackage ids.new t.packages.items) }
 {
     catalogue.lines_are_in_place();
     let packages = list_versions(alloc, ids, catalogue.versions())?;
-    let told = lines_told(alloc, ids, catalogue)?;
+    let deps = deps_of_lines(alloc, ids, catalogue)?;
     let marks = marks_of(alloc, ids, catalogue)?;
     ids.ids_are_once();
     Ok(Tables {
         packages,
-        told,
+        deps,
         marks,
     })
 }
 
 /// The dependencies of each version, by its number.
-fn lines_told(
+fn deps_of_lines(
     alloc: Global,
     ids: &mut IdTable,
     catalogue: &Catalogue,
 ) -> R<Vec<VersionDependencies>>
-    ensures told { IfOk result (λ told. AreTold ids.new catalogue.now (map told_of told.items)) }
+    ensures deps { IfOk result (λ deps. AreDependencies ids.new catalogue.now (map deps_of deps.items)) }
     ensures interns { Interns ids.old ids.new }
 {
-    let mut told = Vec::new(alloc);
+    let mut deps = Vec::new(alloc);
     let Ok(count) = u32::try_from(catalogue.versions().len()) else {
         return Err(Want::Ids);
     };
     for number in 0..count {
         let lines = catalogue.lines_of(VersionNo(number));
-        told.push(VersionDependencies::of_lines(alloc, ids, catalogue, lines)?)?;
+        deps.push(VersionDependencies::of_lines(alloc, ids, catalogue, lines)?)?;
     }
-    Ok(told)
+    Ok(deps)
 }

@@ -13,7 +13,7 @@ use Rattle.resolvo_text.specs.Line.{Version, Line, Skipped, Listed, Needs, Limit
 use Rattle.resolvo_text.specs.declared.spec.Version as code
 use Rattle.resolvo_catalogue_core.specs.Grammar.{line_at, owner_below, MayFollowInRequest, IsRequestLine, AreRequestLines}
 use Rattle.resolvo_catalogue_core.specs.Listed.{listed, AreDistinct}
-use Rattle.resolvo_catalogue_core.specs.Questions.{AreAll, LineIs, SaysOf, Wishes, WishesAt, IsWish, States, is_rule, wished_in}
+use Rattle.resolvo_catalogue_core.specs.Questions.{AreAll, LineIs, IsVersionLine, Wishes, WishesAt, IsWish, IsRuleLine, is_rule, wished_in}
 use Rattle.resolvo_catalogue_core.specs.Table.{rule_line}
 use Rattle.resolvo_catalogue_core.specs.RequestLines.{asked, asked_lines, IsAsk, IsAskedRule, KeepsAsks, AreAsks, AddsAsk, ask_at, rule_asked, wish_asked}
 use Rattle.resolvo_catalogue_core.specs.declared.rule.VersionNo.{VersionNo}
@@ -22,7 +22,7 @@ use Rattle.resolvo_catalogue_core.specs.declared.rule.Rule.TheVariants as rule
 use Rattle.resolvo_catalogue_core.specs.declared.request_lines.RequestLine.{RequestLine}
 use Rattle.resolvo_catalogue_core.specs.declared.request_lines.RequestLine.TheVariants as ask
 use Rattle.resolvo_catalogue_core.specs.declared.request_lines.RequestLines.{RequestLines}
-use Rattle.resolvo_catalogue_core.proofs.Pushed.{get_new, get_push, at_kept, Grows, only_other, all_other, all_new, keyed_new, line_grows, line_within, says_grows}
+use Rattle.resolvo_catalogue_core.proofs.Pushed.{get_new, get_push, at_kept, Grows, only_other, all_other, all_new, keyed_new, line_grows, line_within, version_line_grows}
 use Rattle.resolvo_catalogue_core.proofs.TableLemmas.{listed_from}
 use Rattle.resolvo_catalogue_core.proofs.PlaceLemmas.{none_from, some_from, line_from_contains, contains_from_line}
 
@@ -46,7 +46,7 @@ plain vs a b x l keeps more is ok no_wish not_wish =
     let lines = asked_lines a in
     adds_from vs a (record a { asks = b.asks }) x l more is (record {
       asks = rw more (asks_push a.asks.items x keeps.asks ok);
-      wished = λ k. only_other (keeps.wished k) (says_grows vs lines l k Wishes) (λ h. no_wish h.0 (owner_below lines) h.2);
+      wished = λ k. only_other (keeps.wished k) (version_line_grows vs lines l k Wishes) (λ h. no_wish h.0 (owner_below lines) h.2);
       wish_lines = all_other keeps.wish_lines (line_grows lines l IsWish) (not_wish (owner_below lines));
       wish_versions = λ i f at. wishes_kept vs lines l f (keeps.wish_versions i f at);
     })
@@ -55,14 +55,14 @@ plain vs a b x l keeps more is ok no_wish not_wish =
 
 pub wish : (vs : List Version) → AreDistinct vs → (a b : RequestLines) (line : ℕ) (k : VersionNo) (v : code.Version) → AreAsks vs a → line ≡ length (asked_lines a) + 1 → slice_get vs k.0 ≡ Some (version_of v) → is_some (get nat_cmp a.wished k.0) ≡ false
     → b.asks.items ≡ a.asks.items ++ ask.Wish v ∷ [] → b.wishes.items ≡ a.wishes.items ++ (line, k) ∷ [] → ((j : ℕ) → get nat_cmp b.wished j ≡ update nat_eq (get nat_cmp a.wished) k.0 (Some line) j) → AddsAsk vs a (Wish (version_of v)) b
-wish vs distinct a b line k v keeps number at untold more pushed marked =
+wish vs distinct a b line k v keeps number at absent more pushed marked =
     let lines = asked_lines a in
     let l : Line = Wish (version_of v) in
     let grows : Grows (λ n. LineIs lines n IsWish) (λ n. LineIs (lines ++ l ∷ []) n IsWish) line (IsWish (owner_below lines) l) = rw number (line_grows lines l IsWish) in
     adds_from vs a b (ask.Wish v) l more refl (record {
       asks = rw more (asks_push a.asks.items (ask.Wish v) keeps.asks tt);
-      wished = keyed_new nat_eq Decides-eqb (get nat_cmp a.wished) (get nat_cmp b.wished) k.0 line (λ j. SaysOf vs lines j Wishes) (λ j. SaysOf vs (lines ++ l ∷ []) j Wishes) (λ j. (w : Version) × (slice_get vs j ≡ Some w) × (version_of v ≡ w))
-          marked (none_from (get nat_cmp a.wished k.0) untold) keeps.wished (λ j. rw number (says_grows vs lines l j Wishes)) (version_of v, at, refl) (λ j h. distinct (version_of v) k.0 j at (h.1 ∙ ap (λ (x : Version). Some x) (sym h.2)));
+      wished = keyed_new nat_eq Decides-eqb (get nat_cmp a.wished) (get nat_cmp b.wished) k.0 line (λ j. IsVersionLine vs lines j Wishes) (λ j. IsVersionLine vs (lines ++ l ∷ []) j Wishes) (λ j. (w : Version) × (slice_get vs j ≡ Some w) × (version_of v ≡ w))
+          marked (none_from (get nat_cmp a.wished k.0) absent) keeps.wished (λ j. rw number (version_line_grows vs lines l j Wishes)) (version_of v, at, refl) (λ j h. distinct (version_of v) k.0 j at (h.1 ∙ ap (λ (x : Version). Some x) (sym h.2)));
       wish_lines = subst (λ (xs : List ℕ). AreAll xs (λ n. LineIs (lines ++ l ∷ []) n IsWish)) (sym (ap (map (λ (f : ℕ × VersionNo). f.0)) pushed ∙ map_push (λ (f : ℕ × VersionNo). f.0) a.wishes.items (line, k)))
           (all_new keeps.wish_lines grows (λ n is. rw number (line_within lines IsWish n is)) tt);
       wish_versions = λ i f at_f.
@@ -73,8 +73,8 @@ wish vs distinct a b line k v keeps number at untold more pushed marked =
     })
 
 pub wish_placed : (catalogue : List Line) (a : RequestLines) → AreAsks (listed catalogue) a → (v : Version) (k : ℕ) → slice_get (listed catalogue) k ≡ Some v → is_some (get nat_cmp a.wished k) ≡ false → MayFollowInRequest catalogue (asked_lines a) (Wish v)
-wish_placed catalogue a keeps v k at untold =
-    let none = none_from (get nat_cmp a.wished k) untold in (
+wish_placed catalogue a keeps v k at absent =
+    let none = none_from (get nat_cmp a.wished k) absent in (
       listed_from catalogue v k at,
       λ has.
           let h = line_from_contains (asked_lines a) (Wish v) (Wishes v) has (λ owner. refl) in
@@ -85,8 +85,8 @@ wish_placed catalogue a keeps v k at untold =
     none_is_some n e = cc
 
 pub wished_twice : (catalogue : List Line) (a : RequestLines) → AreAsks (listed catalogue) a → (v : Version) (k : ℕ) → slice_get (listed catalogue) k ≡ Some v → is_some (get nat_cmp a.wished k) ≡ true → MayFollowInRequest catalogue (asked_lines a) (Wish v) → ⊥
-wished_twice catalogue a keeps v k here told may =
-    let some = some_from (get nat_cmp a.wished k) told in
+wished_twice catalogue a keeps v k here present may =
+    let some = some_from (get nat_cmp a.wished k) present in
     of_version some.0 ((keeps.wished k some.0).0 some.1)
   where
     from_line : (n : ℕ) (w : Version) → w ≡ v → LineIs (asked_lines a) n (Wishes w) → ⊥
@@ -100,19 +100,19 @@ wished_twice catalogue a keeps v k here told may =
     from_line n w is (Favour x, at, same) = same
     from_line n w is (Exclude x r, at, same) = same
 
-    of_version : (n : ℕ) → SaysOf (listed catalogue) (asked_lines a) k Wishes n → ⊥
+    of_version : (n : ℕ) → IsVersionLine (listed catalogue) (asked_lines a) k Wishes n → ⊥
     of_version n (w, there, line) = let same : w ≡ v = cc in from_line n w same line
 
 -- ---- rules
 
-asked_states : (versions : List Version) (r : Rule) → IsAskedRule r → States versions r None (rule_line [] r)
-asked_states versions (rule.Needs None ss c) h = (refl, refl)
-asked_states versions (rule.Needs (Some n) ss c) h = absurd cc
-asked_states versions (rule.Limits None s) h = (refl, refl)
-asked_states versions (rule.Limits (Some n) s) h = absurd cc
-asked_states versions (rule.Unknown of w) h = absurd h
-asked_states versions (rule.Lock k) h = absurd h
-asked_states versions (rule.Exclude k w) h = absurd h
+asked_rule_is_line : (versions : List Version) (r : Rule) → IsAskedRule r → IsRuleLine versions r None (rule_line [] r)
+asked_rule_is_line versions (rule.Needs None ss c) h = (refl, refl)
+asked_rule_is_line versions (rule.Needs (Some n) ss c) h = absurd cc
+asked_rule_is_line versions (rule.Limits None s) h = (refl, refl)
+asked_rule_is_line versions (rule.Limits (Some n) s) h = absurd cc
+asked_rule_is_line versions (rule.Unknown of w) h = absurd h
+asked_rule_is_line versions (rule.Lock k) h = absurd h
+asked_rule_is_line versions (rule.Exclude k w) h = absurd h
 
 asked_by : (o : Option RequestLine) (r : Rule) → option_and_then rule_asked o ≡ Some r → o ≡ Some (ask.Rule r)
 asked_by None r e = absurd cc
@@ -122,11 +122,11 @@ asked_by (Some (ask.Wish v)) r e = absurd cc
 
 -- where a rule is stored for a line, it is that line's rule
 pub asked_rule : (a : RequestLines) (lines : List Line) → asked_lines a ≡ lines → ((n : ℕ) (x : RequestLine) → slice_get a.asks.items n ≡ Some x → IsAsk x) → (n : ℕ) (r : Rule) → option_and_then rule_asked (ask_at a.asks.items n) ≡ Some r
-    → (l : Line) × (line_at lines n ≡ Some l) × ((versions : List Version) → States versions r None l)
+    → (l : Line) × (line_at lines n ≡ Some l) × ((versions : List Version) → IsRuleLine versions r None l)
 asked_rule a lines is ok zero r e = absurd cc
 asked_rule a lines is ok (suc n) r e =
     let at = asked_by (slice_get a.asks.items n) r e in
-    (rule_line [] r, ap (λ (ls : List Line). slice_get ls n) (sym is) ∙ slice_get-map asked a.asks.items n ∙ ap (λ (o : Option RequestLine). option_map asked o) at, λ versions. asked_states versions r (ok n (ask.Rule r) at))
+    (rule_line [] r, ap (λ (ls : List Line). slice_get ls n) (sym is) ∙ slice_get-map asked a.asks.items n ∙ ap (λ (o : Option RequestLine). option_map asked o) at, λ versions. asked_rule_is_line versions r (ok n (ask.Rule r) at))
 
 no_asked_rule : (x : RequestLine) → rule_asked x ≡ None → is_rule (asked x) ≡ false
 no_asked_rule ask.Nothing e = refl

@@ -11,13 +11,13 @@ use Rattle.resolvo_text.specs.Line.{Version, Line, Skipped, Listed, Needs, Limit
 use Rattle.resolvo_catalogue_core.specs.Grammar.{line_at, owner_of, IsCatalogueLine, AreCatalogueLines}
 use Rattle.resolvo_catalogue_core.specs.Rules.{obeys, keeps, keeps_in_request}
 use Rattle.resolvo_catalogue_core.specs.Listed.{listed, AreDistinct}
-use Rattle.resolvo_catalogue_core.specs.Questions.{States, is_rule, cases_of_line}
-use Rattle.resolvo_catalogue_core.specs.Table.{nth, nowhere, told, rule_line, IsRuleOf, Keeps, IsTable, lines_in, versions_in, saids_in}
+use Rattle.resolvo_catalogue_core.specs.Questions.{IsRuleLine, is_rule, cases_of_line}
+use Rattle.resolvo_catalogue_core.specs.Table.{nth, nowhere, line_of, rule_line, IsRuleOf, Keeps, IsTable, lines_in, versions_in, kinds_in}
 use Rattle.resolvo_catalogue_core.specs.declared.rule.Rule.{Rule}
 use Rattle.resolvo_catalogue_core.specs.declared.rule.Rule.TheVariants as rule
-use Rattle.resolvo_catalogue_core.specs.Held.{said_at, rule_of}
+use Rattle.resolvo_catalogue_core.specs.Held.{kind_at, rule_of}
 use Rattle.resolvo_catalogue_core.specs.declared.line_table.LineKind.{LineKind}
-use Rattle.resolvo_catalogue_core.specs.declared.line_table.LineKind.TheVariants as said
+use Rattle.resolvo_catalogue_core.specs.declared.line_table.LineKind.TheVariants as line_kinds
 use Rattle.resolvo_catalogue_core.specs.declared.table.Table.{Table}
 use Rattle.resolvo_catalogue_core.proofs.TableSteps.{one_number}
 
@@ -30,46 +30,46 @@ distinct t keeps v j k = one_number t (versions_in t) (lines_in t) keeps v j k
 
 -- ---- rules
 
-states_line : (vs : List Version) (owner : Option Version) (r : Rule) → IsRuleOf vs owner r → States vs r owner (rule_line vs r)
-states_line vs owner (rule.Needs of ss c) h = (refl, h)
-states_line vs owner (rule.Limits of s) h = (refl, h)
-states_line vs owner (rule.Unknown of w) h = (refl, h)
-states_line vs owner (rule.Lock k) h = (nth vs k, slice_get-get_or vs k.0 nowhere h, refl)
-states_line vs owner (rule.Exclude k w) h = (nth vs k, slice_get-get_or vs k.0 nowhere h, refl)
+rule_line_is : (vs : List Version) (owner : Option Version) (r : Rule) → IsRuleOf vs owner r → IsRuleLine vs r owner (rule_line vs r)
+rule_line_is vs owner (rule.Needs of ss c) h = (refl, h)
+rule_line_is vs owner (rule.Limits of s) h = (refl, h)
+rule_line_is vs owner (rule.Unknown of w) h = (refl, h)
+rule_line_is vs owner (rule.Lock k) h = (nth vs k, slice_get-get_or vs k.0 nowhere h, refl)
+rule_line_is vs owner (rule.Exclude k w) h = (nth vs k, slice_get-get_or vs k.0 nowhere h, refl)
 
 -- where a rule is stored for a line, it is that line's rule
-rule_stated : (t : Table) → IsTable t → (n : ℕ) (r : Rule) → said_at (saids_in t) n ≡ Some (said.Rule r) → (l : Line) × (line_at (lines_in t) n ≡ Some l) × States (versions_in t) r (owner_of (lines_in t) n) l
-rule_stated t keeps zero r at = absurd cc
-rule_stated t keeps (suc n) r at =
+rule_of_line : (t : Table) → IsTable t → (n : ℕ) (r : Rule) → kind_at (kinds_in t) n ≡ Some (line_kinds.Rule r) → (l : Line) × (line_at (lines_in t) n ≡ Some l) × IsRuleLine (versions_in t) r (owner_of (lines_in t) n) l
+rule_of_line t keeps zero r at = absurd cc
+rule_of_line t keeps (suc n) r at =
     let vs = versions_in t in
-    (rule_line vs r, slice_get-map (told vs) (saids_in t) n ∙ ap (λ (o : Option LineKind). option_map (told vs) o) at, states_line vs (owner_of (lines_in t) (suc n)) r (keeps.saids n (said.Rule r) at))
+    (rule_line vs r, slice_get-map (line_of vs) (kinds_in t) n ∙ ap (λ (o : Option LineKind). option_map (line_of vs) o) at, rule_line_is vs (owner_of (lines_in t) (suc n)) r (keeps.kinds n (line_kinds.Rule r) at))
 
-stated_by : (o : Option LineKind) (r : Rule) → option_and_then rule_of o ≡ Some r → o ≡ Some (said.Rule r)
-stated_by None r e = absurd cc
-stated_by (Some (said.Rule x)) r e = cc
-stated_by (Some said.Nothing) r e = absurd cc
-stated_by (Some (said.Listed v)) r e = absurd cc
-stated_by (Some (said.Favour v)) r e = absurd cc
+kind_of_option : (o : Option LineKind) (r : Rule) → option_and_then rule_of o ≡ Some r → o ≡ Some (line_kinds.Rule r)
+kind_of_option None r e = absurd cc
+kind_of_option (Some (line_kinds.Rule x)) r e = cc
+kind_of_option (Some line_kinds.Nothing) r e = absurd cc
+kind_of_option (Some (line_kinds.Listed v)) r e = absurd cc
+kind_of_option (Some (line_kinds.Favour v)) r e = absurd cc
 
-pub rule_states : (t : Table) (lines : List Line) → lines_in t ≡ lines → IsTable t → (n : ℕ) (r : Rule) → option_and_then rule_of (said_at (saids_in t) n) ≡ Some r → (l : Line) × (line_at lines n ≡ Some l) × States (listed lines) r (owner_of lines n) l
-rule_states t lines is keeps n r e =
-    let h = rule_stated t keeps n r (stated_by (said_at (saids_in t) n) r e) in
-    subst (λ (ls : List Line). (l : Line) × (line_at ls n ≡ Some l) × States (listed ls) r (owner_of ls n) l) is (subst (λ (vs : List Version). (l : Line) × (line_at (lines_in t) n ≡ Some l) × States vs r (owner_of (lines_in t) n) l) (sym keeps.listing) h)
+pub rule_is_line : (t : Table) (lines : List Line) → lines_in t ≡ lines → IsTable t → (n : ℕ) (r : Rule) → option_and_then rule_of (kind_at (kinds_in t) n) ≡ Some r → (l : Line) × (line_at lines n ≡ Some l) × IsRuleLine (listed lines) r (owner_of lines n) l
+rule_is_line t lines is keeps n r e =
+    let h = rule_of_line t keeps n r (kind_of_option (kind_at (kinds_in t) n) r e) in
+    subst (λ (ls : List Line). (l : Line) × (line_at ls n ≡ Some l) × IsRuleLine (listed ls) r (owner_of ls n) l) is (subst (λ (vs : List Version). (l : Line) × (line_at (lines_in t) n ≡ Some l) × IsRuleLine vs r (owner_of (lines_in t) n) l) (sym keeps.listing) h)
 
-no_rule_line : (vs : List Version) (s : LineKind) → rule_of s ≡ None → is_rule (told vs s) ≡ false
-no_rule_line vs said.Nothing e = refl
-no_rule_line vs (said.Listed v) e = refl
-no_rule_line vs (said.Favour v) e = refl
-no_rule_line vs (said.Rule r) e = absurd cc
+no_rule_line : (vs : List Version) (s : LineKind) → rule_of s ≡ None → is_rule (line_of vs s) ≡ false
+no_rule_line vs line_kinds.Nothing e = refl
+no_rule_line vs (line_kinds.Listed v) e = refl
+no_rule_line vs (line_kinds.Favour v) e = refl
+no_rule_line vs (line_kinds.Rule r) e = absurd cc
 
 -- where no rule is stored for a line, the line has none
-pub no_rule : (t : Table) (lines : List Line) → lines_in t ≡ lines → (n : ℕ) → option_and_then rule_of (said_at (saids_in t) n) ≡ None → (l : Line) → line_at lines n ≡ Some l → is_rule l ≡ false
+pub no_rule : (t : Table) (lines : List Line) → lines_in t ≡ lines → (n : ℕ) → option_and_then rule_of (kind_at (kinds_in t) n) ≡ None → (l : Line) → line_at lines n ≡ Some l → is_rule l ≡ false
 no_rule t lines is zero e l at = absurd cc
-no_rule t lines is (suc n) e l at = from_said (slice_get (saids_in t) n) e (sym (slice_get-map (told (versions_in t)) (saids_in t) n) ∙ ap (λ (ls : List Line). slice_get ls n) is ∙ at)
+no_rule t lines is (suc n) e l at = from_kind (slice_get (kinds_in t) n) e (sym (slice_get-map (line_of (versions_in t)) (kinds_in t) n) ∙ ap (λ (ls : List Line). slice_get ls n) is ∙ at)
   where
-    from_said : (o : Option LineKind) → option_and_then rule_of o ≡ None → option_map (told (versions_in t)) o ≡ Some l → is_rule l ≡ false
-    from_said None e at = absurd cc
-    from_said (Some s) e at = let same : told (versions_in t) s ≡ l = cc in subst (λ (x : Line). is_rule x ≡ false) same (no_rule_line (versions_in t) s e)
+    from_kind : (o : Option LineKind) → option_and_then rule_of o ≡ None → option_map (line_of (versions_in t)) o ≡ Some l → is_rule l ≡ false
+    from_kind None e at = absurd cc
+    from_kind (Some s) e at = let same : line_of (versions_in t) s ≡ l = cc in subst (λ (x : Line). is_rule x ≡ false) same (no_rule_line (versions_in t) s e)
 
 -- ---- a set that keeps a line
 

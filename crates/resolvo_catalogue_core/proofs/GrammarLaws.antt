@@ -3,15 +3,15 @@ use Rattle.std.proofs.Common.{◌≡◌, ℕ, List, []}
 use Rattle.resolvo_text.specs.Line.{Line}
 use Rattle.resolvo_text.specs.Lines.{lines_of}
 use Rattle.resolvo_text.specs.Texts.{IsFaultyAt, IsGrammatical}
-use Rattle.resolvo_text.proofs.ReadTo.{SaysOne, same_lines, no_fault}
+use Rattle.resolvo_text.proofs.ReadTo.{IsUnambiguous, same_lines, no_fault}
 use Rattle.resolvo_text.proofs.TextLaws.{one_line}
 use Rattle.resolvo_catalogue_core.specs.Grammar.{IsCatalogueLine, IsRequestLine}
 
-one_catalogue_line : SaysOne IsCatalogueLine
-one_catalogue_line before text a b p q = one_line text a b p.says q.says
+one_catalogue_line : IsUnambiguous IsCatalogueLine
+one_catalogue_line before text a b p q = one_line text a b p.parsed q.parsed
 
-one_request_line : (catalogue : List Line) → SaysOne (IsRequestLine catalogue)
-one_request_line catalogue before text a b p q = one_line text a b p.says q.says
+one_request_line : (catalogue : List Line) → IsUnambiguous (IsRequestLine catalogue)
+one_request_line catalogue before text a b p q = one_line text a b p.parsed q.parsed
 
 pub one_catalogue : (text : List ℕ) (a b : List Line) → IsGrammatical IsCatalogueLine text a → IsGrammatical IsCatalogueLine text b → a ≡ b
 one_catalogue text a b p q = same_lines IsCatalogueLine one_catalogue_line [] (lines_of text) a b p q

@@ -8,8 +8,8 @@ use Rattle.std.proofs.lemmas.Option.{slice_get-map}
 use Rattle.resolvo_catalogue_core.specs.declared.rule.Rule.{Rule}
 use Rattle.resolvo_catalogue_core.specs.declared.line_table.StoredLine.{StoredLine}
 use Rattle.resolvo_catalogue_core.specs.declared.line_table.LineKind.{LineKind}
-use Rattle.resolvo_catalogue_core.specs.declared.line_table.LineKind.TheVariants as said
-use Rattle.resolvo_catalogue_core.specs.Held.{is_held, are_held, said_rule, said_in, said_list, held_at, said_at, rule_of}
+use Rattle.resolvo_catalogue_core.specs.declared.line_table.LineKind.TheVariants as line_kinds
+use Rattle.resolvo_catalogue_core.specs.Held.{is_held, are_held, kind_of_rule, kind_in, kind_list, held_at, kind_at, rule_of}
 use Rattle.resolvo_catalogue_core.proofs.Pushed.{get_new}
 
 below : (a b : ℕ) → nat_lt a b ≡ true → a < b
@@ -20,17 +20,17 @@ get_more [] r n h = absurd (omega arith)
 get_more (x ∷ rs) r zero h = refl
 get_more (x ∷ rs) r (suc n) h = get_more rs r n (omega arith)
 
-same_said : (rs : List Rule) (r : Rule) (h : StoredLine) → is_held (length rs) h ≡ true → said_in (rs ++ r ∷ []) h ≡ said_in rs h
-same_said rs r StoredLine.Nothing e = refl
-same_said rs r (StoredLine.Listed v) e = refl
-same_said rs r (StoredLine.Favour v) e = refl
-same_said rs r (StoredLine.Rule place) e = ap said_rule (get_more rs r place (below place (length rs) e))
+same_kind : (rs : List Rule) (r : Rule) (h : StoredLine) → is_held (length rs) h ≡ true → kind_in (rs ++ r ∷ []) h ≡ kind_in rs h
+same_kind rs r StoredLine.Nothing e = refl
+same_kind rs r (StoredLine.Listed v) e = refl
+same_kind rs r (StoredLine.Favour v) e = refl
+same_kind rs r (StoredLine.Rule place) e = ap kind_of_rule (get_more rs r place (below place (length rs) e))
 
-pub same_list : (rs : List Rule) (r : Rule) (hs : List StoredLine) → are_held (length rs) hs ≡ true → said_list (rs ++ r ∷ []) hs ≡ said_list rs hs
+pub same_list : (rs : List Rule) (r : Rule) (hs : List StoredLine) → are_held (length rs) hs ≡ true → kind_list (rs ++ r ∷ []) hs ≡ kind_list rs hs
 same_list rs r [] e = refl
 same_list rs r (h ∷ hs) e =
     let parts = and_parts (is_held (length rs) h) (are_held (length rs) hs) e in
-    rw (same_said rs r h parts.0, same_list rs r hs parts.1) refl
+    rw (same_kind rs r h parts.0, same_list rs r hs parts.1) refl
 
 still_held : (count : ℕ) (h : StoredLine) → is_held count h ≡ true → is_held (count + 1) h ≡ true
 still_held count StoredLine.Nothing e = refl
@@ -62,25 +62,25 @@ pub held_place : (count place : ℕ) → place < count → is_held count (Stored
 held_place count place h = grind (arith, nat_tests)
 
 -- one more line, with a new rule
-pub pushes_rule : (rs : List Rule) (r : Rule) (hs : List StoredLine) (place : ℕ) → are_held (length rs) hs ≡ true → place ≡ length rs → said_list (rs ++ r ∷ []) (hs ++ StoredLine.Rule place ∷ []) ≡ said_list rs hs ++ said.Rule r ∷ []
+pub pushes_rule : (rs : List Rule) (r : Rule) (hs : List StoredLine) (place : ℕ) → are_held (length rs) hs ≡ true → place ≡ length rs → kind_list (rs ++ r ∷ []) (hs ++ StoredLine.Rule place ∷ []) ≡ kind_list rs hs ++ line_kinds.Rule r ∷ []
 pushes_rule rs r hs place e last =
-    let here : said_in (rs ++ r ∷ []) (StoredLine.Rule place) ≡ said.Rule r = ap said_rule (ap (slice_get (rs ++ r ∷ [])) last ∙ get_new rs r) in
-    map_push (said_in (rs ++ r ∷ [])) hs (StoredLine.Rule place) ∙ rw (here, same_list rs r hs e) refl
+    let here : kind_in (rs ++ r ∷ []) (StoredLine.Rule place) ≡ line_kinds.Rule r = ap kind_of_rule (ap (slice_get (rs ++ r ∷ [])) last ∙ get_new rs r) in
+    map_push (kind_in (rs ++ r ∷ [])) hs (StoredLine.Rule place) ∙ rw (here, same_list rs r hs e) refl
 
 -- the rule of a line, from its stored form
-pub rule_held : (rs : List Rule) (hs : List StoredLine) (line : ℕ) → option_and_then rule_of (said_at (said_list rs hs) line) ≡ option_and_then (λ h. rule_of (said_in rs h)) (held_at hs line)
+pub rule_held : (rs : List Rule) (hs : List StoredLine) (line : ℕ) → option_and_then rule_of (kind_at (kind_list rs hs) line) ≡ option_and_then (λ h. rule_of (kind_in rs h)) (held_at hs line)
 rule_held rs hs zero = refl
-rule_held rs hs (suc n) = ap (λ (o : Option LineKind). option_and_then rule_of o) (slice_get-map (said_in rs) hs n) ∙ of_mapped (slice_get hs n)
+rule_held rs hs (suc n) = ap (λ (o : Option LineKind). option_and_then rule_of o) (slice_get-map (kind_in rs) hs n) ∙ of_mapped (slice_get hs n)
   where
-    of_mapped : (o : Option StoredLine) → option_and_then rule_of (option_map (said_in rs) o) ≡ option_and_then (λ h. rule_of (said_in rs h)) o
+    of_mapped : (o : Option StoredLine) → option_and_then rule_of (option_map (kind_in rs) o) ≡ option_and_then (λ h. rule_of (kind_in rs h)) o
     of_mapped None = refl
     of_mapped (Some h) = refl
 
-pub rule_placed : (o : Option Rule) → rule_of (said_rule o) ≡ o
+pub rule_placed : (o : Option Rule) → rule_of (kind_of_rule o) ≡ o
 rule_placed None = refl
 rule_placed (Some r) = refl
 
-pub no_rule_held : (rs : List Rule) (h : StoredLine) → ((place : ℕ) → h ≡ StoredLine.Rule place → ⊥) → rule_of (said_in rs h) ≡ None
+pub no_rule_held : (rs : List Rule) (h : StoredLine) → ((place : ℕ) → h ≡ StoredLine.Rule place → ⊥) → rule_of (kind_in rs h) ≡ None
 no_rule_held rs StoredLine.Nothing not = refl
 no_rule_held rs (StoredLine.Listed v) not = refl
 no_rule_held rs (StoredLine.Favour v) not = refl

@@ -1,6 +1,6 @@
 pub mod Pushed
 pub mod Sorted
-pub mod BelongingLemmas
+pub mod OwnedLemmas
 pub mod HeldLemmas
 pub mod NumberedLemmas
 pub mod PickedLemmas
@@ -9,6 +9,6 @@ pub mod TableSteps
 pub mod PlaceLemmas
 pub mod Members
 pub mod CatalogueFacts
-pub mod BarLemmas
+pub mod ForbidLemmas
 pub mod AskSteps
 pub mod GrammarLaws

@@ -44,8 +44,8 @@ each_member p vs (n ∷ set) = rw (first_member vs n set, list_all-append p (opt
     of_one p (Some v) rest = rw (and_true (p v)) refl
 
 -- a version of which no other has the number is a member exactly if its number is in the list
-pub is_told : (vs : List Version) → AreDistinct vs → (k : ℕ) (v : Version) → slice_get vs k ≡ Some v → (set : List VersionNo) → list_any (λ n. n.0 == k) set ≡ is_member v (members vs set)
-is_told vs distinct k v at set = same_tests set ∙ some_member (same_version v) vs set
+pub has_number : (vs : List Version) → AreDistinct vs → (k : ℕ) (v : Version) → slice_get vs k ≡ Some v → (set : List VersionNo) → list_any (λ n. n.0 == k) set ≡ is_member v (members vs set)
+has_number vs distinct k v at set = same_tests set ∙ some_member (same_version v) vs set
   where
     absent : (n : ℕ) (o : Option Version) → slice_get vs n ≡ o → (n ≡ k → ⊥) → false ≡ option_map_or (same_version v) o false
     absent n None is apart = refl

@@ -8,12 +8,12 @@ use Rattle.std.proofs.lemmas.List.{length-map}
 use Rattle.resolvo_text.specs.Line.{Version, Line, Skipped, Listed, Needs, Limits, Unknown, Lock, Favour, Exclude, Wish}
 use Rattle.resolvo_catalogue_core.specs.Grammar.{line_at, owner_of, owner_below, MayFollow}
 use Rattle.resolvo_catalogue_core.specs.Questions.{LineIs, MarksUnknownOf, Locks, Favours, Excludes, number_of}
-use Rattle.resolvo_catalogue_core.specs.Table.{IsTable, nowhere, lines_in, versions_in, number_in, saids_in}
+use Rattle.resolvo_catalogue_core.specs.Table.{IsTable, nowhere, lines_in, versions_in, number_in, kinds_in}
 use Rattle.resolvo_catalogue_core.specs.Listed.{pair_version}
-use Rattle.resolvo_catalogue_core.specs.Questions.{SaysOf}
+use Rattle.resolvo_catalogue_core.specs.Questions.{IsVersionLine}
 use Rattle.resolvo_catalogue_core.specs.declared.rule.VersionNo.{VersionNo}
 use Rattle.resolvo_catalogue_core.specs.declared.table.Table.{Table}
-use Rattle.resolvo_catalogue_core.proofs.TableLemmas.{listed_has, listed_from, owner_is_last, fewer_listed, said_at, excluded_at}
+use Rattle.resolvo_catalogue_core.proofs.TableLemmas.{listed_has, listed_from, owner_is_last, fewer_listed, kind_at, excluded_at}
 
 -- ---- elements by their places
 
@@ -87,8 +87,8 @@ unlisted_by_number t keeps v is has =
 -- ---- locks, favours, exclusions
 
 pub lock_placed : (t : Table) → IsTable t → (v : Version) (name : List ℕ) (k : ℕ) → name ≡ v.name → slice_get (versions_in t) k ≡ Some v → is_some (get_by_text t.locks name) ≡ false → MayFollow (lines_in t) (Lock v)
-lock_placed t keeps v name k same at untold =
-    let none : get_by_text t.locks v.name ≡ None = subst (λ (x : List ℕ). get_by_text t.locks x ≡ None) same (none_from (get_by_text t.locks name) untold) in (
+lock_placed t keeps v name k same at absent =
+    let none : get_by_text t.locks v.name ≡ None = subst (λ (x : List ℕ). get_by_text t.locks x ≡ None) same (none_from (get_by_text t.locks name) absent) in (
       found_listed t keeps v k at,
       λ n has.
           let h = line_from_contains (lines_in t) (Lock (record { name = v.name; number = n })) (Locks v.name) has (λ owner. refl) in
@@ -96,8 +96,8 @@ lock_placed t keeps v name k same at untold =
     )
 
 pub locked_twice : (t : Table) → IsTable t → (v : Version) (name : List ℕ) → name ≡ v.name → is_some (get_by_text t.locks name) ≡ true → MayFollow (lines_in t) (Lock v) → ⊥
-locked_twice t keeps v name same told may =
-    let some = some_from (get_by_text t.locks name) told in
+locked_twice t keeps v name same present may =
+    let some = some_from (get_by_text t.locks name) present in
     from_line some.0 ((keeps.locks v.name some.0).0 (ap (λ (x : List ℕ). get_by_text t.locks x) (sym same) ∙ some.1))
   where
     from_line : (n : ℕ) → LineIs (lines_in t) n (Locks v.name) → ⊥
@@ -112,8 +112,8 @@ locked_twice t keeps v name same told may =
     from_line n (Wish w, at, is) = is
 
 pub favour_placed : (t : Table) → IsTable t → (v : Version) (name : List ℕ) (k : ℕ) → name ≡ v.name → slice_get (versions_in t) k ≡ Some v → is_some (get_by_text t.favoured name) ≡ false → MayFollow (lines_in t) (Favour v)
-favour_placed t keeps v name k same at untold =
-    let none : get_by_text t.favoured v.name ≡ None = subst (λ (x : List ℕ). get_by_text t.favoured x ≡ None) same (none_from (get_by_text t.favoured name) untold) in (
+favour_placed t keeps v name k same at absent =
+    let none : get_by_text t.favoured v.name ≡ None = subst (λ (x : List ℕ). get_by_text t.favoured x ≡ None) same (none_from (get_by_text t.favoured name) absent) in (
       found_listed t keeps v k at,
       λ n has.
           let h = line_from_contains (lines_in t) (Favour (record { name = v.name; number = n })) (Favours v.name) has (λ owner. refl) in
@@ -121,8 +121,8 @@ favour_placed t keeps v name k same at untold =
     )
 
 pub favoured_twice : (t : Table) → IsTable t → (v : Version) (name : List ℕ) → name ≡ v.name → is_some (get_by_text t.favoured name) ≡ true → MayFollow (lines_in t) (Favour v) → ⊥
-favoured_twice t keeps v name same told may =
-    let some = some_from (get_by_text t.favoured name) told in
+favoured_twice t keeps v name same present may =
+    let some = some_from (get_by_text t.favoured name) present in
     from_line some.0 ((keeps.favoured v.name some.0).0 (ap (λ (x : List ℕ). get_by_text t.favoured x) (sym same) ∙ some.1))
   where
     from_line : (n : ℕ) → LineIs (lines_in t) n (Favours v.name) → ⊥
@@ -137,8 +137,8 @@ favoured_twice t keeps v name same told may =
     from_line n (Wish w, at, is) = is
 
 pub exclude_placed : (t : Table) → IsTable t → (v : Version) (word : List ℕ) (k : ℕ) → slice_get (versions_in t) k ≡ Some v → is_some (get nat_cmp t.excluded k) ≡ false → MayFollow (lines_in t) (Exclude v word)
-exclude_placed t keeps v word k at untold =
-    let none = none_from (get nat_cmp t.excluded k) untold in (
+exclude_placed t keeps v word k at absent =
+    let none = none_from (get nat_cmp t.excluded k) absent in (
       found_listed t keeps v k at,
       λ other has.
           let h = line_from_contains (lines_in t) (Exclude v other) (Excludes v) has (λ owner. refl) in
@@ -146,7 +146,7 @@ exclude_placed t keeps v word k at untold =
     )
 
 pub excluded_twice : (t : Table) → IsTable t → (v : Version) (word : List ℕ) (k : ℕ) → slice_get (versions_in t) k ≡ Some v → is_some (get nat_cmp t.excluded k) ≡ true → MayFollow (lines_in t) (Exclude v word) → ⊥
-excluded_twice t keeps v word k here told may = let some = some_from (get nat_cmp t.excluded k) told in of_version some.0 ((keeps.excluded k some.0).0 some.1)
+excluded_twice t keeps v word k here present may = let some = some_from (get nat_cmp t.excluded k) present in of_version some.0 ((keeps.excluded k some.0).0 some.1)
   where
     from_line : (n : ℕ) (w : Version) → w ≡ v → LineIs (lines_in t) n (Excludes w) → ⊥
     from_line n w is (Exclude x r, at, same) = may.1 r (subst (λ (y : Version). Contains (lines_in t) (Exclude y r)) (same ∙ is) (contains_from_line (lines_in t) n (Exclude x r) at))
@@ -159,14 +159,14 @@ excluded_twice t keeps v word k here told may = let some = some_from (get nat_cm
     from_line n w is (Favour x, at, same) = same
     from_line n w is (Wish x, at, same) = same
 
-    of_version : (n : ℕ) → SaysOf (versions_in t) (lines_in t) k Excludes n → ⊥
+    of_version : (n : ℕ) → IsVersionLine (versions_in t) (lines_in t) k Excludes n → ⊥
     of_version n (w, there, line) = let same : w ≡ v = cc in from_line n w same line
 
 -- ---- unknown marks
 
 pub unknown_placed : (t : Table) → IsTable t → (v : Version) (word : List ℕ) (k : ℕ) → slice_get (versions_in t) k ≡ Some v → owner_below (lines_in t) ≡ Some v → is_some (get nat_cmp t.unknown k) ≡ false → MayFollow (lines_in t) (Unknown word)
-unknown_placed t keeps v word k at owner untold =
-    let none = none_from (get nat_cmp t.unknown k) untold in (
+unknown_placed t keeps v word k at owner absent =
+    let none = none_from (get nat_cmp t.unknown k) absent in (
       v,
       owner,
       λ n marks.
@@ -174,7 +174,7 @@ unknown_placed t keeps v word k at owner untold =
     )
 
 pub unknown_twice : (t : Table) → IsTable t → (v : Version) (word : List ℕ) (k : ℕ) → slice_get (versions_in t) k ≡ Some v → owner_below (lines_in t) ≡ Some v → is_some (get nat_cmp t.unknown k) ≡ true → MayFollow (lines_in t) (Unknown word) → ⊥
-unknown_twice t keeps v word k here owner told may = let some = some_from (get nat_cmp t.unknown k) told in of_version some.0 ((keeps.unknown k some.0).0 some.1)
+unknown_twice t keeps v word k here owner present may = let some = some_from (get nat_cmp t.unknown k) present in of_version some.0 ((keeps.unknown k some.0).0 some.1)
   where
     from_line : (n : ℕ) (w : Version) → w ≡ may.0 → LineIs (lines_in t) n (MarksUnknownOf w) → ⊥
     from_line n w is (Unknown r, at, same) = may.2 n (r, at, same ∙ ap (λ (x : Version). Some x) is)
@@ -187,7 +187,7 @@ unknown_twice t keeps v word k here owner told may = let some = some_from (get n
     from_line n w is (Exclude x r, at, same) = same
     from_line n w is (Wish x, at, same) = same
 
-    of_version : (n : ℕ) → SaysOf (versions_in t) (lines_in t) k MarksUnknownOf n → ⊥
+    of_version : (n : ℕ) → IsVersionLine (versions_in t) (lines_in t) k MarksUnknownOf n → ⊥
     of_version n (w, there, line) = let same : w ≡ may.0 = cc (there, here, owner, may.1) in from_line n w same line
 
 -- ---- owners
@@ -220,8 +220,8 @@ no_number t keeps v unlisted = from_option (number_in (get_by_text t.packages v.
 pub excluded_listed : (t : Table) → IsTable t → (v : Version) (n : ℕ) → LineIs (lines_in t) n (Excludes v) → Contains (lines_in t) (Listed v)
 excluded_listed t keeps v zero (x, at, is) = absurd cc
 excluded_listed t keeps v (suc n) (Exclude w r, at, is) =
-    let s = said_at (versions_in t) (saids_in t) n (Exclude w r) at in
-    let h = excluded_at (versions_in t) (owner_below (take n (lines_in t))) s.0 w r (keeps.saids n s.0 s.1) s.2 in
+    let s = kind_at (versions_in t) (kinds_in t) n (Exclude w r) at in
+    let h = excluded_at (versions_in t) (owner_below (take n (lines_in t))) s.0 w r (keeps.kinds n s.0 s.1) s.2 in
     subst (λ (x : Version). Contains (lines_in t) (Listed x)) is (found_listed t keeps w h.0 h.1)
 excluded_listed t keeps v (suc n) (Skipped, at, is) = absurd is
 excluded_listed t keeps v (suc n) (Listed w, at, is) = absurd is

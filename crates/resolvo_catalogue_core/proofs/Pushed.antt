@@ -13,7 +13,7 @@ use Rattle.std.proofs.lemmas.Option.{slice_get_within}
 use Rattle.resolvo_text.specs.Line.{Version, Line}
 use Rattle.resolvo_catalogue_core.specs.Grammar.{line_at, owner_below}
 use Rattle.resolvo_catalogue_core.specs.Questions.{IsOnly, AreAll, LineIs}
-use Rattle.resolvo_catalogue_core.specs.Questions.{SaysOf}
+use Rattle.resolvo_catalogue_core.specs.Questions.{IsVersionLine}
 
 -- ---- lists
 
@@ -149,22 +149,22 @@ line_grows lines l Q = record { kept = line_kept lines l Q; cases = line_push li
 
 -- ---- lines of a version
 
-pub says_grows : (versions : List Version) (lines : List Line) (l : Line) (k : ℕ) (Q : Version → Option Version → Line → Type 0)
-    → Grows (SaysOf versions lines k Q) (SaysOf versions (lines ++ l ∷ []) k Q) (length lines + 1) ((v : Version) × (slice_get versions k ≡ Some v) × Q v (owner_below lines) l)
-says_grows versions lines l k Q = record {
+pub version_line_grows : (versions : List Version) (lines : List Line) (l : Line) (k : ℕ) (Q : Version → Option Version → Line → Type 0)
+    → Grows (IsVersionLine versions lines k Q) (IsVersionLine versions (lines ++ l ∷ []) k Q) (length lines + 1) ((v : Version) × (slice_get versions k ≡ Some v) × Q v (owner_below lines) l)
+version_line_grows versions lines l k Q = record {
   kept = λ n h. (h.0, h.1, line_kept lines l (Q h.0) n h.2);
   cases = λ n h. elim (line_push lines l (Q h.0) n h.2) [ inl old ↦ inl (h.0, h.1, old) | inr new ↦ inr (new.0, (h.0, h.1, new.1)) ];
   added = λ h. (h.0, h.1, line_new lines l (Q h.0) h.2);
 }
 
-pub says_within : (versions : List Version) (lines : List Line) (k : ℕ) (Q : Version → Option Version → Line → Type 0) (n : ℕ) → SaysOf versions lines k Q n → n < length lines + 1
-says_within versions lines k Q n h = line_within lines (Q h.0) n h.2
+pub version_line_within : (versions : List Version) (lines : List Line) (k : ℕ) (Q : Version → Option Version → Line → Type 0) (n : ℕ) → IsVersionLine versions lines k Q n → n < length lines + 1
+version_line_within versions lines k Q n h = line_within lines (Q h.0) n h.2
 
 -- a newly listed version, of which there is no line
-pub says_of_listed : (versions : List Version) (lines : List Line) (w : Version) (l : Line) (k : ℕ) (Q : Version → Option Version → Line → Type 0)
+pub version_line_of_listed : (versions : List Version) (lines : List Line) (w : Version) (l : Line) (k : ℕ) (Q : Version → Option Version → Line → Type 0)
     → ((n : ℕ) → LineIs lines n (Q w) → ⊥) → ((v : Version) → Q v (owner_below lines) l → ⊥)
-    → Grows (SaysOf versions lines k Q) (SaysOf (versions ++ w ∷ []) (lines ++ l ∷ []) k Q) 0 ⊥
-says_of_listed versions lines w l k Q none not = record {
+    → Grows (IsVersionLine versions lines k Q) (IsVersionLine (versions ++ w ∷ []) (lines ++ l ∷ []) k Q) 0 ⊥
+version_line_of_listed versions lines w l k Q none not = record {
   kept = λ n h. (h.0, get_kept versions w h.0 k h.1, line_kept lines l (Q h.0) n h.2);
   cases = λ n h. elim (line_push lines l (Q h.0) n h.2) [
     | inl old ↦ elim (get_push versions w h.0 k h.1) [ inl had ↦ inl (h.0, had, old) | inr new ↦ absurd (none n (subst (λ (v : Version). LineIs lines n (Q v)) (sym new.1) old)) ]

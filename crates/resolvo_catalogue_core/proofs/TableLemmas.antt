@@ -11,12 +11,12 @@ use Rattle.resolvo_text.specs.Line.{Version, Line, Skipped, Listed, Needs, Limit
 use Rattle.resolvo_catalogue_core.specs.Grammar.{owner_of, owner_below, later, version_of}
 use Rattle.resolvo_catalogue_core.specs.Listed.{listed}
 use Rattle.resolvo_catalogue_core.specs.Questions.{LineIs, BelongsTo, MarksUnknownOf, IsOwner}
-use Rattle.resolvo_catalogue_core.specs.Table.{nowhere, told, IsSaid, AreSaid}
+use Rattle.resolvo_catalogue_core.specs.Table.{nowhere, line_of, IsKindOf, AreKindsOf}
 use Rattle.resolvo_catalogue_core.specs.Questions.{FavoursAt}
 use Rattle.resolvo_catalogue_core.specs.declared.rule.VersionNo.{VersionNo}
 use Rattle.resolvo_catalogue_core.specs.declared.rule.Rule.TheVariants as rule
 use Rattle.resolvo_catalogue_core.specs.declared.line_table.LineKind.{LineKind}
-use Rattle.resolvo_catalogue_core.specs.declared.line_table.LineKind.TheVariants as said
+use Rattle.resolvo_catalogue_core.specs.declared.line_table.LineKind.TheVariants as line_kinds
 use Rattle.resolvo_catalogue_core.proofs.Pushed.{get_kept, get_push, at_kept}
 
 -- ---- listed versions
@@ -85,46 +85,46 @@ listed_more lines v = filter_map-append version_of lines (Listed v ∷ [])
 
 -- ---- lines
 
-pub told_more : (vs : List Version) (w : Version) (above : Option Version) (s : LineKind) → IsSaid vs above s → told (vs ++ w ∷ []) s ≡ told vs s
-told_more vs w above said.Nothing h = refl
-told_more vs w above (said.Listed v) h = ap (λ (x : Version). Listed x) (get_or-append vs (w ∷ []) nowhere v.0 h)
-told_more vs w above (said.Favour v) h = ap (λ (x : Version). Favour x) (get_or-append vs (w ∷ []) nowhere v.0 h)
-told_more vs w above (said.Rule (rule.Needs of ss c)) h = refl
-told_more vs w above (said.Rule (rule.Limits of s)) h = refl
-told_more vs w above (said.Rule (rule.Unknown of r)) h = refl
-told_more vs w above (said.Rule (rule.Lock v)) h = ap (λ (x : Version). Lock x) (get_or-append vs (w ∷ []) nowhere v.0 h)
-told_more vs w above (said.Rule (rule.Exclude v r)) h = ap (λ (x : Version). Exclude x (string_bytes r)) (get_or-append vs (w ∷ []) nowhere v.0 h)
+pub line_of_more : (vs : List Version) (w : Version) (above : Option Version) (s : LineKind) → IsKindOf vs above s → line_of (vs ++ w ∷ []) s ≡ line_of vs s
+line_of_more vs w above line_kinds.Nothing h = refl
+line_of_more vs w above (line_kinds.Listed v) h = ap (λ (x : Version). Listed x) (get_or-append vs (w ∷ []) nowhere v.0 h)
+line_of_more vs w above (line_kinds.Favour v) h = ap (λ (x : Version). Favour x) (get_or-append vs (w ∷ []) nowhere v.0 h)
+line_of_more vs w above (line_kinds.Rule (rule.Needs of ss c)) h = refl
+line_of_more vs w above (line_kinds.Rule (rule.Limits of s)) h = refl
+line_of_more vs w above (line_kinds.Rule (rule.Unknown of r)) h = refl
+line_of_more vs w above (line_kinds.Rule (rule.Lock v)) h = ap (λ (x : Version). Lock x) (get_or-append vs (w ∷ []) nowhere v.0 h)
+line_of_more vs w above (line_kinds.Rule (rule.Exclude v r)) h = ap (λ (x : Version). Exclude x (string_bytes r)) (get_or-append vs (w ∷ []) nowhere v.0 h)
 
-pub all_told_more : (vs : List Version) (w : Version) (saids : List LineKind) → ((n : ℕ) (s : LineKind) → slice_get saids n ≡ Some s → (above : Option Version) × IsSaid vs above s) → map (told (vs ++ w ∷ [])) saids ≡ map (told vs) saids
-all_told_more vs w [] h = refl
-all_told_more vs w (s ∷ saids) h =
+pub lines_of_more : (vs : List Version) (w : Version) (kinds : List LineKind) → ((n : ℕ) (s : LineKind) → slice_get kinds n ≡ Some s → (above : Option Version) × IsKindOf vs above s) → map (line_of (vs ++ w ∷ [])) kinds ≡ map (line_of vs) kinds
+lines_of_more vs w [] h = refl
+lines_of_more vs w (s ∷ kinds) h =
     let first = h 0 s refl in
-    rw (told_more vs w first.0 s first.1, all_told_more vs w saids (λ n x e. h (suc n) x e)) refl
+    rw (line_of_more vs w first.0 s first.1, lines_of_more vs w kinds (λ n x e. h (suc n) x e)) refl
 
 is_owner_more : (vs : List Version) (w : Version) (of : Option VersionNo) (above : Option Version) → IsOwner vs of above → IsOwner (vs ++ w ∷ []) of above
 is_owner_more vs w None above h = h
 is_owner_more vs w (Some n) above h = (h.0, get_kept vs w h.0 n.0 h.1, h.2)
 
-is_said_more : (vs : List Version) (w : Version) (above : Option Version) (s : LineKind) → IsSaid vs above s → IsSaid (vs ++ w ∷ []) above s
-is_said_more vs w above said.Nothing h = h
-is_said_more vs w above (said.Listed v) h = omega (arith, length-append vs (w ∷ []), h)
-is_said_more vs w above (said.Favour v) h = omega (arith, length-append vs (w ∷ []), h)
-is_said_more vs w above (said.Rule (rule.Needs of ss c)) h = is_owner_more vs w of above h
-is_said_more vs w above (said.Rule (rule.Limits of s)) h = is_owner_more vs w of above h
-is_said_more vs w above (said.Rule (rule.Unknown of r)) h = is_owner_more vs w (Some of) above h
-is_said_more vs w above (said.Rule (rule.Lock v)) h = omega (arith, length-append vs (w ∷ []), h)
-is_said_more vs w above (said.Rule (rule.Exclude v r)) h = omega (arith, length-append vs (w ∷ []), h)
+is_kind_more : (vs : List Version) (w : Version) (above : Option Version) (s : LineKind) → IsKindOf vs above s → IsKindOf (vs ++ w ∷ []) above s
+is_kind_more vs w above line_kinds.Nothing h = h
+is_kind_more vs w above (line_kinds.Listed v) h = omega (arith, length-append vs (w ∷ []), h)
+is_kind_more vs w above (line_kinds.Favour v) h = omega (arith, length-append vs (w ∷ []), h)
+is_kind_more vs w above (line_kinds.Rule (rule.Needs of ss c)) h = is_owner_more vs w of above h
+is_kind_more vs w above (line_kinds.Rule (rule.Limits of s)) h = is_owner_more vs w of above h
+is_kind_more vs w above (line_kinds.Rule (rule.Unknown of r)) h = is_owner_more vs w (Some of) above h
+is_kind_more vs w above (line_kinds.Rule (rule.Lock v)) h = omega (arith, length-append vs (w ∷ []), h)
+is_kind_more vs w above (line_kinds.Rule (rule.Exclude v r)) h = omega (arith, length-append vs (w ∷ []), h)
 
-pub are_said_more : (vs : List Version) (w : Version) (lines : List Line) (saids : List LineKind) → AreSaid vs lines saids → AreSaid (vs ++ w ∷ []) lines saids
-are_said_more vs w lines saids h = λ n s at. is_said_more vs w (owner_below (take n lines)) s (h n s at)
+pub are_kinds_more : (vs : List Version) (w : Version) (lines : List Line) (kinds : List LineKind) → AreKindsOf vs lines kinds → AreKindsOf (vs ++ w ∷ []) lines kinds
+are_kinds_more vs w lines kinds h = λ n s at. is_kind_more vs w (owner_below (take n lines)) s (h n s at)
 
-pub are_said_push : (vs : List Version) (lines : List Line) (saids : List LineKind) (l : Line) (s : LineKind) → length saids ≡ length lines → AreSaid vs lines saids → IsSaid vs (owner_below lines) s → AreSaid vs (lines ++ l ∷ []) (saids ++ s ∷ [])
-are_said_push vs lines saids l s same h new = λ n x at.
-    elim (get_push saids s x n at) [
-      | inl old ↦ subst (λ (ls : List Line). IsSaid vs (owner_below ls) x) (sym (take-append-le n lines (l ∷ []) (omega (arith, slice_get_within saids n x old)))) (h n x old)
+pub are_kinds_push : (vs : List Version) (lines : List Line) (kinds : List LineKind) (l : Line) (s : LineKind) → length kinds ≡ length lines → AreKindsOf vs lines kinds → IsKindOf vs (owner_below lines) s → AreKindsOf vs (lines ++ l ∷ []) (kinds ++ s ∷ [])
+are_kinds_push vs lines kinds l s same h new = λ n x at.
+    elim (get_push kinds s x n at) [
+      | inl old ↦ subst (λ (ls : List Line). IsKindOf vs (owner_below ls) x) (sym (take-append-le n lines (l ∷ []) (omega (arith, slice_get_within kinds n x old)))) (h n x old)
       | inr here ↦
           let above : take n (lines ++ l ∷ []) ≡ lines = rw (here.0, same) (take-append_seam lines (l ∷ [])) in
-          subst (λ (ls : List Line). IsSaid vs (owner_below ls) x) (sym above) (subst (λ (y : LineKind). IsSaid vs (owner_below lines) y) here.1 new)
+          subst (λ (ls : List Line). IsKindOf vs (owner_below ls) x) (sym above) (subst (λ (y : LineKind). IsKindOf vs (owner_below lines) y) here.1 new)
     ]
 
 pub favours_kept : (vs : List Version) (lines : List Line) (l : Line) (f : ℕ × VersionNo) → FavoursAt vs lines f → FavoursAt vs (lines ++ l ∷ []) f
@@ -172,16 +172,16 @@ some_mapped f None y e = absurd cc
 some_mapped f (Some x) y e = (x, refl, cc)
 
 -- the kind that is kept for a line, and the line
-pub said_at : (vs : List Version) (saids : List LineKind) (n : ℕ) (l : Line) → slice_get (map (told vs) saids) n ≡ Some l → (s : LineKind) × (slice_get saids n ≡ Some s) × (told vs s ≡ l)
-said_at vs saids n l at = some_mapped (told vs) (slice_get saids n) l (sym (slice_get-map (told vs) saids n) ∙ at)
+pub kind_at : (vs : List Version) (kinds : List LineKind) (n : ℕ) (l : Line) → slice_get (map (line_of vs) kinds) n ≡ Some l → (s : LineKind) × (slice_get kinds n ≡ Some s) × (line_of vs s ≡ l)
+kind_at vs kinds n l at = some_mapped (line_of vs) (slice_get kinds n) l (sym (slice_get-map (line_of vs) kinds n) ∙ at)
 
 -- a version that a line excludes has a number
-pub excluded_at : (vs : List Version) (above : Option Version) (s : LineKind) (v : Version) (word : List ℕ) → IsSaid vs above s → told vs s ≡ Exclude v word → (k : ℕ) × (slice_get vs k ≡ Some v)
-excluded_at vs above (said.Rule (rule.Exclude k r)) v word is e = (k.0, slice_get-get_or vs k.0 nowhere is ∙ cc)
-excluded_at vs above said.Nothing v word is e = absurd cc
-excluded_at vs above (said.Listed k) v word is e = absurd cc
-excluded_at vs above (said.Favour k) v word is e = absurd cc
-excluded_at vs above (said.Rule (rule.Needs of ss c)) v word is e = absurd cc
-excluded_at vs above (said.Rule (rule.Limits of s)) v word is e = absurd cc
-excluded_at vs above (said.Rule (rule.Unknown of r)) v word is e = absurd cc
-excluded_at vs above (said.Rule (rule.Lock k)) v word is e = absurd cc
+pub excluded_at : (vs : List Version) (above : Option Version) (s : LineKind) (v : Version) (word : List ℕ) → IsKindOf vs above s → line_of vs s ≡ Exclude v word → (k : ℕ) × (slice_get vs k ≡ Some v)
+excluded_at vs above (line_kinds.Rule (rule.Exclude k r)) v word is e = (k.0, slice_get-get_or vs k.0 nowhere is ∙ cc)
+excluded_at vs above line_kinds.Nothing v word is e = absurd cc
+excluded_at vs above (line_kinds.Listed k) v word is e = absurd cc
+excluded_at vs above (line_kinds.Favour k) v word is e = absurd cc
+excluded_at vs above (line_kinds.Rule (rule.Needs of ss c)) v word is e = absurd cc
+excluded_at vs above (line_kinds.Rule (rule.Limits of s)) v word is e = absurd cc
+excluded_at vs above (line_kinds.Rule (rule.Unknown of r)) v word is e = absurd cc
+excluded_at vs above (line_kinds.Rule (rule.Lock k)) v word is e = absurd cc

@@ -23,29 +23,29 @@ use Rattle.resolvo_text.specs.declared.condition.Cond.{Cond}
 use Rattle.resolvo_text.specs.Line.{Version, Line, Skipped, Listed, Needs, Limits, Unknown, Lock, Favour, Exclude}
 use Rattle.resolvo_catalogue_core.specs.Grammar.{owner_below}
 use Rattle.resolvo_catalogue_core.specs.Questions.{IsOnly, AreAll, LineIs, BelongsTo, MarksUnknownOf, Locks, Favours, Excludes, IsFavour}
-use Rattle.resolvo_catalogue_core.specs.Table.{nth, nowhere, told, Keeps, IsTable, Adds, lines_in, versions_in, saids_in, number_in}
+use Rattle.resolvo_catalogue_core.specs.Table.{nth, nowhere, line_of, Keeps, IsTable, Adds, lines_in, versions_in, kinds_in, number_in}
 use Rattle.resolvo_catalogue_core.specs.LinesByVersion.{kept_of}
 use Rattle.resolvo_catalogue_core.specs.Numbered.{beside, IsNumbered}
-use Rattle.resolvo_catalogue_core.specs.Questions.{SaysOf, FavoursAt}
+use Rattle.resolvo_catalogue_core.specs.Questions.{IsVersionLine, FavoursAt}
 use Rattle.resolvo_catalogue_core.specs.declared.rule.VersionNo.{VersionNo}
 use Rattle.resolvo_catalogue_core.specs.declared.rule.Rule.TheVariants as rule
 use Rattle.resolvo_catalogue_core.specs.declared.line_table.LineKind.{LineKind}
-use Rattle.resolvo_catalogue_core.specs.declared.line_table.LineKind.TheVariants as said
+use Rattle.resolvo_catalogue_core.specs.declared.line_table.LineKind.TheVariants as line_kinds
 use Rattle.resolvo_catalogue_core.specs.declared.table.Table.{Table}
-use Rattle.resolvo_catalogue_core.proofs.Pushed.{get_new, get_kept, get_push, Grows, only_other, all_other, all_new, keyed_new, keyed_more, line_grows, line_within, says_grows, says_within, says_of_listed, get_grows}
+use Rattle.resolvo_catalogue_core.proofs.Pushed.{get_new, get_kept, get_push, Grows, only_other, all_other, all_new, keyed_new, keyed_more, line_grows, line_within, version_line_grows, version_line_within, version_line_of_listed, get_grows}
 use Rattle.resolvo_catalogue_core.proofs.PlaceLemmas.{none_from, excluded_listed, no_number}
-use Rattle.resolvo_catalogue_core.proofs.TableLemmas.{listed_same, listed_more, are_said_push, are_said_more, all_told_more, favours_kept, favours_more, owner_listed, belongs_owner, marks_owner}
+use Rattle.resolvo_catalogue_core.proofs.TableLemmas.{listed_same, listed_more, are_kinds_push, are_kinds_more, lines_of_more, favours_kept, favours_more, owner_listed, belongs_owner, marks_owner}
 
 -- ---- any line
 
-pub as_long : (t : Table) → length (saids_in t) ≡ length (lines_in t)
-as_long t = sym (length-map (saids_in t) (told (versions_in t)))
+pub as_long : (t : Table) → length (kinds_in t) ≡ length (lines_in t)
+as_long t = sym (length-map (kinds_in t) (line_of (versions_in t)))
 
 -- the table has the new line
-pub adds_from : (t u : Table) (s : LineKind) (l : Line) → u.versions ≡ t.versions → saids_in u ≡ saids_in t ++ s ∷ [] → told (versions_in t) s ≡ l → Keeps u (versions_in t) (lines_in t ++ l ∷ []) → Adds t l u
+pub adds_from : (t u : Table) (s : LineKind) (l : Line) → u.versions ≡ t.versions → kinds_in u ≡ kinds_in t ++ s ∷ [] → line_of (versions_in t) s ≡ l → Keeps u (versions_in t) (lines_in t ++ l ∷ []) → Adds t l u
 adds_from t u s l same more is keeps =
     let vs : versions_in u ≡ versions_in t = ap (λ x. versions_in (record u { versions = x })) same in
-    let lines : lines_in u ≡ lines_in t ++ l ∷ [] = rw (vs, more, ← is) (map_push (told (versions_in t)) (saids_in t) s) in
+    let lines : lines_in u ≡ lines_in t ++ l ∷ [] = rw (vs, more, ← is) (map_push (line_of (versions_in t)) (kinds_in t) s) in
     (rw (lines, vs) keeps, lines)
 
 -- a version has one number
@@ -59,19 +59,19 @@ one_number t vs lines keeps v j k at_j at_k =
 pub numbered : (vs : List Version) (n : VersionNo) (v : Version) → slice_get vs n.0 ≡ Some v → nth vs n ≡ v
 numbered vs n v at = get_or_from_slice_get vs n.0 v nowhere at
 
-pub skip : (t u : Table) → IsTable t → saids_in u ≡ saids_in t ++ said.Nothing ∷ [] → Adds t Skipped (record t { said = u.said })
+pub skip : (t u : Table) → IsTable t → kinds_in u ≡ kinds_in t ++ line_kinds.Nothing ∷ [] → Adds t Skipped (record t { line_kinds = u.line_kinds })
 skip t u keeps more =
     let vs = versions_in t in
     let lines = lines_in t in
-    adds_from t (record t { said = u.said }) said.Nothing Skipped refl more refl (record {
+    adds_from t (record t { line_kinds = u.line_kinds }) line_kinds.Nothing Skipped refl more refl (record {
       listing = listed_same lines Skipped refl ∙ keeps.listing;
-      saids = rw more (are_said_push vs lines (saids_in t) Skipped said.Nothing (as_long t) keeps.saids tt);
+      kinds = rw more (are_kinds_push vs lines (kinds_in t) Skipped line_kinds.Nothing (as_long t) keeps.kinds tt);
       packages = keeps.packages;
       locks = λ name. only_other (keeps.locks name) (line_grows lines Skipped (Locks name)) (λ x. x);
       favoured = λ name. only_other (keeps.favoured name) (line_grows lines Skipped (Favours name)) (λ x. x);
-      excluded = λ k. only_other (keeps.excluded k) (says_grows vs lines Skipped k Excludes) (λ x. x.2);
-      unknown = λ k. only_other (keeps.unknown k) (says_grows vs lines Skipped k MarksUnknownOf) (λ x. x.2);
-      belonging = λ k. all_other (keeps.belonging k) (says_grows vs lines Skipped k BelongsTo) (λ x. x.2);
+      excluded = λ k. only_other (keeps.excluded k) (version_line_grows vs lines Skipped k Excludes) (λ x. x.2);
+      unknown = λ k. only_other (keeps.unknown k) (version_line_grows vs lines Skipped k MarksUnknownOf) (λ x. x.2);
+      owned = λ k. all_other (keeps.owned k) (version_line_grows vs lines Skipped k BelongsTo) (λ x. x.2);
       as_many = keeps.as_many;
       favour_lines = all_other keeps.favour_lines (line_grows lines Skipped IsFavour) (λ x. x);
       favour_versions = λ i f at. favours_kept vs lines Skipped f (keeps.favour_versions i f at);
@@ -80,22 +80,22 @@ skip t u keeps more =
 -- ---- a lock
 
 pub lock : (t u : Table) (line : ℕ) (k : VersionNo) (v : Version) (name : List ℕ) → IsTable t → line ≡ length (lines_in t) + 1 → slice_get (versions_in t) k.0 ≡ Some v → name ≡ v.name → is_some (get_by_text t.locks name) ≡ false
-    → saids_in u ≡ saids_in t ++ said.Rule (rule.Lock k) ∷ [] → ((name : List ℕ) → get_by_text u.locks name ≡ update bytes_eq (get_by_text t.locks) v.name (Some line) name) → Adds t (Lock v) (record t { said = u.said; locks = u.locks })
-lock t u line k v name keeps number at same untold more locked =
-    let none : get_by_text t.locks v.name ≡ None = subst (λ (x : List ℕ). get_by_text t.locks x ≡ None) same (none_from (get_by_text t.locks name) untold) in
+    → kinds_in u ≡ kinds_in t ++ line_kinds.Rule (rule.Lock k) ∷ [] → ((name : List ℕ) → get_by_text u.locks name ≡ update bytes_eq (get_by_text t.locks) v.name (Some line) name) → Adds t (Lock v) (record t { line_kinds = u.line_kinds; locks = u.locks })
+lock t u line k v name keeps number at same absent more locked =
+    let none : get_by_text t.locks v.name ≡ None = subst (λ (x : List ℕ). get_by_text t.locks x ≡ None) same (none_from (get_by_text t.locks name) absent) in
     let vs = versions_in t in
     let lines = lines_in t in
     let l = Lock v in
-    adds_from t (record t { said = u.said; locks = u.locks }) (said.Rule (rule.Lock k)) l refl more (ap (λ (x : Version). Lock x) (numbered vs k v at)) (record {
+    adds_from t (record t { line_kinds = u.line_kinds; locks = u.locks }) (line_kinds.Rule (rule.Lock k)) l refl more (ap (λ (x : Version). Lock x) (numbered vs k v at)) (record {
       listing = listed_same lines l refl ∙ keeps.listing;
-      saids = rw more (are_said_push vs lines (saids_in t) l (said.Rule (rule.Lock k)) (as_long t) keeps.saids (slice_get_within vs k.0 v at));
+      kinds = rw more (are_kinds_push vs lines (kinds_in t) l (line_kinds.Rule (rule.Lock k)) (as_long t) keeps.kinds (slice_get_within vs k.0 v at));
       packages = keeps.packages;
       locks = keyed_new bytes_eq bytes_eq-Decides (get_by_text t.locks) (get_by_text u.locks) v.name line (λ name n. LineIs lines n (Locks name)) (λ name n. LineIs (lines ++ l ∷ []) n (Locks name)) (λ name. v.name ≡ name)
           locked none keeps.locks (λ name. rw number (line_grows lines l (Locks name))) refl (λ name same. same);
       favoured = λ name. only_other (keeps.favoured name) (line_grows lines l (Favours name)) (λ x. x);
-      excluded = λ j. only_other (keeps.excluded j) (says_grows vs lines l j Excludes) (λ x. x.2);
-      unknown = λ j. only_other (keeps.unknown j) (says_grows vs lines l j MarksUnknownOf) (λ x. x.2);
-      belonging = λ j. all_other (keeps.belonging j) (says_grows vs lines l j BelongsTo) (λ x. x.2);
+      excluded = λ j. only_other (keeps.excluded j) (version_line_grows vs lines l j Excludes) (λ x. x.2);
+      unknown = λ j. only_other (keeps.unknown j) (version_line_grows vs lines l j MarksUnknownOf) (λ x. x.2);
+      owned = λ j. all_other (keeps.owned j) (version_line_grows vs lines l j BelongsTo) (λ x. x.2);
       as_many = keeps.as_many;
       favour_lines = all_other keeps.favour_lines (line_grows lines l IsFavour) (λ x. x);
       favour_versions = λ i f at. favours_kept vs lines l f (keeps.favour_versions i f at);
@@ -110,69 +110,69 @@ owner_only t keeps v k at owner j h =
     one_number t (versions_in t) (lines_in t) keeps v k j at (h.1 ∙ ap (λ (x : Version). Some x) same)
 
 pub need : (t u : Table) (line : ℕ) (k : VersionNo) (v : Version) (vec : Vec code.Spec) (condition : Option Cond) → IsTable t → line ≡ length (lines_in t) + 1 → slice_get (versions_in t) k.0 ≡ Some v → owner_below (lines_in t) ≡ Some v
-    → saids_in u ≡ saids_in t ++ said.Rule (rule.Needs (Some k) vec condition) ∷ [] → ((j : ℕ) → kept_of u.belonging j ≡ (if k.0 == j then kept_of t.belonging j ++ line ∷ [] else kept_of t.belonging j)) → length u.belonging ≡ length t.belonging
-    → Adds t (Needs (specs_of vec.items) (condition_of condition)) (record t { said = u.said; belonging = u.belonging })
-need t u line k v vec condition keeps number at owner more noted as_many =
+    → kinds_in u ≡ kinds_in t ++ line_kinds.Rule (rule.Needs (Some k) vec condition) ∷ [] → ((j : ℕ) → kept_of u.owned j ≡ (if k.0 == j then kept_of t.owned j ++ line ∷ [] else kept_of t.owned j)) → length u.owned ≡ length t.owned
+    → Adds t (Needs (specs_of vec.items) (condition_of condition)) (record t { line_kinds = u.line_kinds; owned = u.owned })
+need t u line k v vec condition keeps number at owner more recorded as_many =
     let vs = versions_in t in
     let lines = lines_in t in
     let l : Line = Needs (specs_of vec.items) (condition_of condition) in
-    adds_from t (record t { said = u.said; belonging = u.belonging }) (said.Rule (rule.Needs (Some k) vec condition)) l refl more refl (record {
+    adds_from t (record t { line_kinds = u.line_kinds; owned = u.owned }) (line_kinds.Rule (rule.Needs (Some k) vec condition)) l refl more refl (record {
       listing = listed_same lines l refl ∙ keeps.listing;
-      saids = rw more (are_said_push vs lines (saids_in t) l (said.Rule (rule.Needs (Some k) vec condition)) (as_long t) keeps.saids (v, at, owner));
+      kinds = rw more (are_kinds_push vs lines (kinds_in t) l (line_kinds.Rule (rule.Needs (Some k) vec condition)) (as_long t) keeps.kinds (v, at, owner));
       packages = keeps.packages;
       locks = λ name. only_other (keeps.locks name) (line_grows lines l (Locks name)) (λ x. x);
       favoured = λ name. only_other (keeps.favoured name) (line_grows lines l (Favours name)) (λ x. x);
-      excluded = λ j. only_other (keeps.excluded j) (says_grows vs lines l j Excludes) (λ x. x.2);
-      unknown = λ j. only_other (keeps.unknown j) (says_grows vs lines l j MarksUnknownOf) (λ x. x.2);
-      belonging = keyed_more nat_eq Decides-eqb (kept_of t.belonging) (kept_of u.belonging) k.0 line (λ j. SaysOf vs lines j BelongsTo) (λ j. SaysOf vs (lines ++ l ∷ []) j BelongsTo) (λ j. (w : Version) × (slice_get vs j ≡ Some w) × (owner_below lines ≡ Some w))
-          noted keeps.belonging (λ j. rw number (says_grows vs lines l j BelongsTo)) (λ j n says. rw number (says_within vs lines j BelongsTo n says)) (v, at, owner) (owner_only t keeps v k.0 at owner);
+      excluded = λ j. only_other (keeps.excluded j) (version_line_grows vs lines l j Excludes) (λ x. x.2);
+      unknown = λ j. only_other (keeps.unknown j) (version_line_grows vs lines l j MarksUnknownOf) (λ x. x.2);
+      owned = keyed_more nat_eq Decides-eqb (kept_of t.owned) (kept_of u.owned) k.0 line (λ j. IsVersionLine vs lines j BelongsTo) (λ j. IsVersionLine vs (lines ++ l ∷ []) j BelongsTo) (λ j. (w : Version) × (slice_get vs j ≡ Some w) × (owner_below lines ≡ Some w))
+          recorded keeps.owned (λ j. rw number (version_line_grows vs lines l j BelongsTo)) (λ j n parsed. rw number (version_line_within vs lines j BelongsTo n parsed)) (v, at, owner) (owner_only t keeps v k.0 at owner);
       as_many = as_many ∙ keeps.as_many;
       favour_lines = all_other keeps.favour_lines (line_grows lines l IsFavour) (λ x. x);
       favour_versions = λ i f at. favours_kept vs lines l f (keeps.favour_versions i f at);
     })
 
 pub limit : (t u : Table) (line : ℕ) (k : VersionNo) (v : Version) (spec : code.Spec) → IsTable t → line ≡ length (lines_in t) + 1 → slice_get (versions_in t) k.0 ≡ Some v → owner_below (lines_in t) ≡ Some v
-    → saids_in u ≡ saids_in t ++ said.Rule (rule.Limits (Some k) spec) ∷ [] → ((j : ℕ) → kept_of u.belonging j ≡ (if k.0 == j then kept_of t.belonging j ++ line ∷ [] else kept_of t.belonging j)) → length u.belonging ≡ length t.belonging
-    → Adds t (Limits (spec_of spec)) (record t { said = u.said; belonging = u.belonging })
-limit t u line k v spec keeps number at owner more noted as_many =
+    → kinds_in u ≡ kinds_in t ++ line_kinds.Rule (rule.Limits (Some k) spec) ∷ [] → ((j : ℕ) → kept_of u.owned j ≡ (if k.0 == j then kept_of t.owned j ++ line ∷ [] else kept_of t.owned j)) → length u.owned ≡ length t.owned
+    → Adds t (Limits (spec_of spec)) (record t { line_kinds = u.line_kinds; owned = u.owned })
+limit t u line k v spec keeps number at owner more recorded as_many =
     let vs = versions_in t in
     let lines = lines_in t in
     let l : Line = Limits (spec_of spec) in
-    adds_from t (record t { said = u.said; belonging = u.belonging }) (said.Rule (rule.Limits (Some k) spec)) l refl more refl (record {
+    adds_from t (record t { line_kinds = u.line_kinds; owned = u.owned }) (line_kinds.Rule (rule.Limits (Some k) spec)) l refl more refl (record {
       listing = listed_same lines l refl ∙ keeps.listing;
-      saids = rw more (are_said_push vs lines (saids_in t) l (said.Rule (rule.Limits (Some k) spec)) (as_long t) keeps.saids (v, at, owner));
+      kinds = rw more (are_kinds_push vs lines (kinds_in t) l (line_kinds.Rule (rule.Limits (Some k) spec)) (as_long t) keeps.kinds (v, at, owner));
       packages = keeps.packages;
       locks = λ name. only_other (keeps.locks name) (line_grows lines l (Locks name)) (λ x. x);
       favoured = λ name. only_other (keeps.favoured name) (line_grows lines l (Favours name)) (λ x. x);
-      excluded = λ j. only_other (keeps.excluded j) (says_grows vs lines l j Excludes) (λ x. x.2);
-      unknown = λ j. only_other (keeps.unknown j) (says_grows vs lines l j MarksUnknownOf) (λ x. x.2);
-      belonging = keyed_more nat_eq Decides-eqb (kept_of t.belonging) (kept_of u.belonging) k.0 line (λ j. SaysOf vs lines j BelongsTo) (λ j. SaysOf vs (lines ++ l ∷ []) j BelongsTo) (λ j. (w : Version) × (slice_get vs j ≡ Some w) × (owner_below lines ≡ Some w))
-          noted keeps.belonging (λ j. rw number (says_grows vs lines l j BelongsTo)) (λ j n says. rw number (says_within vs lines j BelongsTo n says)) (v, at, owner) (owner_only t keeps v k.0 at owner);
+      excluded = λ j. only_other (keeps.excluded j) (version_line_grows vs lines l j Excludes) (λ x. x.2);
+      unknown = λ j. only_other (keeps.unknown j) (version_line_grows vs lines l j MarksUnknownOf) (λ x. x.2);
+      owned = keyed_more nat_eq Decides-eqb (kept_of t.owned) (kept_of u.owned) k.0 line (λ j. IsVersionLine vs lines j BelongsTo) (λ j. IsVersionLine vs (lines ++ l ∷ []) j BelongsTo) (λ j. (w : Version) × (slice_get vs j ≡ Some w) × (owner_below lines ≡ Some w))
+          recorded keeps.owned (λ j. rw number (version_line_grows vs lines l j BelongsTo)) (λ j n parsed. rw number (version_line_within vs lines j BelongsTo n parsed)) (v, at, owner) (owner_only t keeps v k.0 at owner);
       as_many = as_many ∙ keeps.as_many;
       favour_lines = all_other keeps.favour_lines (line_grows lines l IsFavour) (λ x. x);
       favour_versions = λ i f at. favours_kept vs lines l f (keeps.favour_versions i f at);
     })
 
 pub mark_unknown : (t u : Table) (line : ℕ) (k : VersionNo) (v : Version) (word : String Global) → IsTable t → line ≡ length (lines_in t) + 1 → slice_get (versions_in t) k.0 ≡ Some v → owner_below (lines_in t) ≡ Some v
-    → is_some (get nat_cmp t.unknown k.0) ≡ false → saids_in u ≡ saids_in t ++ said.Rule (rule.Unknown k word) ∷ []
-    → ((j : ℕ) → kept_of u.belonging j ≡ (if k.0 == j then kept_of t.belonging j ++ line ∷ [] else kept_of t.belonging j)) → length u.belonging ≡ length t.belonging
+    → is_some (get nat_cmp t.unknown k.0) ≡ false → kinds_in u ≡ kinds_in t ++ line_kinds.Rule (rule.Unknown k word) ∷ []
+    → ((j : ℕ) → kept_of u.owned j ≡ (if k.0 == j then kept_of t.owned j ++ line ∷ [] else kept_of t.owned j)) → length u.owned ≡ length t.owned
     → ((j : ℕ) → get nat_cmp u.unknown j ≡ update nat_eq (get nat_cmp t.unknown) k.0 (Some line) j)
-    → Adds t (Unknown (string_bytes word)) (record t { said = u.said; belonging = u.belonging; unknown = u.unknown })
-mark_unknown t u line k v word keeps number at owner untold more noted as_many marked =
+    → Adds t (Unknown (string_bytes word)) (record t { line_kinds = u.line_kinds; owned = u.owned; unknown = u.unknown })
+mark_unknown t u line k v word keeps number at owner absent more recorded as_many marked =
     let vs = versions_in t in
     let lines = lines_in t in
     let l : Line = Unknown (string_bytes word) in
-    adds_from t (record t { said = u.said; belonging = u.belonging; unknown = u.unknown }) (said.Rule (rule.Unknown k word)) l refl more refl (record {
+    adds_from t (record t { line_kinds = u.line_kinds; owned = u.owned; unknown = u.unknown }) (line_kinds.Rule (rule.Unknown k word)) l refl more refl (record {
       listing = listed_same lines l refl ∙ keeps.listing;
-      saids = rw more (are_said_push vs lines (saids_in t) l (said.Rule (rule.Unknown k word)) (as_long t) keeps.saids (v, at, owner));
+      kinds = rw more (are_kinds_push vs lines (kinds_in t) l (line_kinds.Rule (rule.Unknown k word)) (as_long t) keeps.kinds (v, at, owner));
       packages = keeps.packages;
       locks = λ name. only_other (keeps.locks name) (line_grows lines l (Locks name)) (λ x. x);
       favoured = λ name. only_other (keeps.favoured name) (line_grows lines l (Favours name)) (λ x. x);
-      excluded = λ j. only_other (keeps.excluded j) (says_grows vs lines l j Excludes) (λ x. x.2);
-      unknown = keyed_new nat_eq Decides-eqb (get nat_cmp t.unknown) (get nat_cmp u.unknown) k.0 line (λ j. SaysOf vs lines j MarksUnknownOf) (λ j. SaysOf vs (lines ++ l ∷ []) j MarksUnknownOf) (λ j. (w : Version) × (slice_get vs j ≡ Some w) × (owner_below lines ≡ Some w))
-          marked (none_from (get nat_cmp t.unknown k.0) untold) keeps.unknown (λ j. rw number (says_grows vs lines l j MarksUnknownOf)) (v, at, owner) (owner_only t keeps v k.0 at owner);
-      belonging = keyed_more nat_eq Decides-eqb (kept_of t.belonging) (kept_of u.belonging) k.0 line (λ j. SaysOf vs lines j BelongsTo) (λ j. SaysOf vs (lines ++ l ∷ []) j BelongsTo) (λ j. (w : Version) × (slice_get vs j ≡ Some w) × (owner_below lines ≡ Some w))
-          noted keeps.belonging (λ j. rw number (says_grows vs lines l j BelongsTo)) (λ j n says. rw number (says_within vs lines j BelongsTo n says)) (v, at, owner) (owner_only t keeps v k.0 at owner);
+      excluded = λ j. only_other (keeps.excluded j) (version_line_grows vs lines l j Excludes) (λ x. x.2);
+      unknown = keyed_new nat_eq Decides-eqb (get nat_cmp t.unknown) (get nat_cmp u.unknown) k.0 line (λ j. IsVersionLine vs lines j MarksUnknownOf) (λ j. IsVersionLine vs (lines ++ l ∷ []) j MarksUnknownOf) (λ j. (w : Version) × (slice_get vs j ≡ Some w) × (owner_below lines ≡ Some w))
+          marked (none_from (get nat_cmp t.unknown k.0) absent) keeps.unknown (λ j. rw number (version_line_grows vs lines l j MarksUnknownOf)) (v, at, owner) (owner_only t keeps v k.0 at owner);
+      owned = keyed_more nat_eq Decides-eqb (kept_of t.owned) (kept_of u.owned) k.0 line (λ j. IsVersionLine vs lines j BelongsTo) (λ j. IsVersionLine vs (lines ++ l ∷ []) j BelongsTo) (λ j. (w : Version) × (slice_get vs j ≡ Some w) × (owner_below lines ≡ Some w))
+          recorded keeps.owned (λ j. rw number (version_line_grows vs lines l j BelongsTo)) (λ j n parsed. rw number (version_line_within vs lines j BelongsTo n parsed)) (v, at, owner) (owner_only t keeps v k.0 at owner);
       as_many = as_many ∙ keeps.as_many;
       favour_lines = all_other keeps.favour_lines (line_grows lines l IsFavour) (λ x. x);
       favour_versions = λ i f at. favours_kept vs lines l f (keeps.favour_versions i f at);
@@ -181,45 +181,45 @@ mark_unknown t u line k v word keeps number at owner untold more noted as_many m
 -- ---- exclusions and favours
 
 pub exclude : (t u : Table) (line : ℕ) (k : VersionNo) (v : Version) (word : String Global) → IsTable t → line ≡ length (lines_in t) + 1 → slice_get (versions_in t) k.0 ≡ Some v → is_some (get nat_cmp t.excluded k.0) ≡ false
-    → saids_in u ≡ saids_in t ++ said.Rule (rule.Exclude k word) ∷ [] → ((j : ℕ) → get nat_cmp u.excluded j ≡ update nat_eq (get nat_cmp t.excluded) k.0 (Some line) j) → Adds t (Exclude v (string_bytes word)) (record t { said = u.said; excluded = u.excluded })
-exclude t u line k v word keeps number at untold more marked =
+    → kinds_in u ≡ kinds_in t ++ line_kinds.Rule (rule.Exclude k word) ∷ [] → ((j : ℕ) → get nat_cmp u.excluded j ≡ update nat_eq (get nat_cmp t.excluded) k.0 (Some line) j) → Adds t (Exclude v (string_bytes word)) (record t { line_kinds = u.line_kinds; excluded = u.excluded })
+exclude t u line k v word keeps number at absent more marked =
     let vs = versions_in t in
     let lines = lines_in t in
     let l : Line = Exclude v (string_bytes word) in
-    adds_from t (record t { said = u.said; excluded = u.excluded }) (said.Rule (rule.Exclude k word)) l refl more (ap (λ (x : Version). Exclude x (string_bytes word)) (numbered vs k v at)) (record {
+    adds_from t (record t { line_kinds = u.line_kinds; excluded = u.excluded }) (line_kinds.Rule (rule.Exclude k word)) l refl more (ap (λ (x : Version). Exclude x (string_bytes word)) (numbered vs k v at)) (record {
       listing = listed_same lines l refl ∙ keeps.listing;
-      saids = rw more (are_said_push vs lines (saids_in t) l (said.Rule (rule.Exclude k word)) (as_long t) keeps.saids (slice_get_within vs k.0 v at));
+      kinds = rw more (are_kinds_push vs lines (kinds_in t) l (line_kinds.Rule (rule.Exclude k word)) (as_long t) keeps.kinds (slice_get_within vs k.0 v at));
       packages = keeps.packages;
       locks = λ name. only_other (keeps.locks name) (line_grows lines l (Locks name)) (λ x. x);
       favoured = λ name. only_other (keeps.favoured name) (line_grows lines l (Favours name)) (λ x. x);
-      excluded = keyed_new nat_eq Decides-eqb (get nat_cmp t.excluded) (get nat_cmp u.excluded) k.0 line (λ j. SaysOf vs lines j Excludes) (λ j. SaysOf vs (lines ++ l ∷ []) j Excludes) (λ j. (w : Version) × (slice_get vs j ≡ Some w) × (v ≡ w))
-          marked (none_from (get nat_cmp t.excluded k.0) untold) keeps.excluded (λ j. rw number (says_grows vs lines l j Excludes)) (v, at, refl) (λ j h. one_number t vs lines keeps v k.0 j at (h.1 ∙ ap (λ (x : Version). Some x) (sym h.2)));
-      unknown = λ j. only_other (keeps.unknown j) (says_grows vs lines l j MarksUnknownOf) (λ x. x.2);
-      belonging = λ j. all_other (keeps.belonging j) (says_grows vs lines l j BelongsTo) (λ x. x.2);
+      excluded = keyed_new nat_eq Decides-eqb (get nat_cmp t.excluded) (get nat_cmp u.excluded) k.0 line (λ j. IsVersionLine vs lines j Excludes) (λ j. IsVersionLine vs (lines ++ l ∷ []) j Excludes) (λ j. (w : Version) × (slice_get vs j ≡ Some w) × (v ≡ w))
+          marked (none_from (get nat_cmp t.excluded k.0) absent) keeps.excluded (λ j. rw number (version_line_grows vs lines l j Excludes)) (v, at, refl) (λ j h. one_number t vs lines keeps v k.0 j at (h.1 ∙ ap (λ (x : Version). Some x) (sym h.2)));
+      unknown = λ j. only_other (keeps.unknown j) (version_line_grows vs lines l j MarksUnknownOf) (λ x. x.2);
+      owned = λ j. all_other (keeps.owned j) (version_line_grows vs lines l j BelongsTo) (λ x. x.2);
       as_many = keeps.as_many;
       favour_lines = all_other keeps.favour_lines (line_grows lines l IsFavour) (λ x. x);
       favour_versions = λ i f at. favours_kept vs lines l f (keeps.favour_versions i f at);
     })
 
 pub favour : (t u : Table) (line : ℕ) (k : VersionNo) (v : Version) (name : List ℕ) → IsTable t → line ≡ length (lines_in t) + 1 → slice_get (versions_in t) k.0 ≡ Some v → name ≡ v.name → is_some (get_by_text t.favoured name) ≡ false
-    → saids_in u ≡ saids_in t ++ said.Favour k ∷ [] → ((name : List ℕ) → get_by_text u.favoured name ≡ update bytes_eq (get_by_text t.favoured) v.name (Some line) name) → u.favours.items ≡ t.favours.items ++ (line, k) ∷ []
-    → Adds t (Favour v) (record t { said = u.said; favoured = u.favoured; favours = u.favours })
-favour t u line k v name keeps number at same untold more favoured pushed =
-    let none : get_by_text t.favoured v.name ≡ None = subst (λ (x : List ℕ). get_by_text t.favoured x ≡ None) same (none_from (get_by_text t.favoured name) untold) in
+    → kinds_in u ≡ kinds_in t ++ line_kinds.Favour k ∷ [] → ((name : List ℕ) → get_by_text u.favoured name ≡ update bytes_eq (get_by_text t.favoured) v.name (Some line) name) → u.favours.items ≡ t.favours.items ++ (line, k) ∷ []
+    → Adds t (Favour v) (record t { line_kinds = u.line_kinds; favoured = u.favoured; favours = u.favours })
+favour t u line k v name keeps number at same absent more favoured pushed =
+    let none : get_by_text t.favoured v.name ≡ None = subst (λ (x : List ℕ). get_by_text t.favoured x ≡ None) same (none_from (get_by_text t.favoured name) absent) in
     let vs = versions_in t in
     let lines = lines_in t in
     let l : Line = Favour v in
     let grows : Grows (λ n. LineIs lines n IsFavour) (λ n. LineIs (lines ++ l ∷ []) n IsFavour) line (IsFavour (owner_below lines) l) = rw number (line_grows lines l IsFavour) in
-    adds_from t (record t { said = u.said; favoured = u.favoured; favours = u.favours }) (said.Favour k) l refl more (ap (λ (x : Version). Favour x) (numbered vs k v at)) (record {
+    adds_from t (record t { line_kinds = u.line_kinds; favoured = u.favoured; favours = u.favours }) (line_kinds.Favour k) l refl more (ap (λ (x : Version). Favour x) (numbered vs k v at)) (record {
       listing = listed_same lines l refl ∙ keeps.listing;
-      saids = rw more (are_said_push vs lines (saids_in t) l (said.Favour k) (as_long t) keeps.saids (slice_get_within vs k.0 v at));
+      kinds = rw more (are_kinds_push vs lines (kinds_in t) l (line_kinds.Favour k) (as_long t) keeps.kinds (slice_get_within vs k.0 v at));
       packages = keeps.packages;
       locks = λ name. only_other (keeps.locks name) (line_grows lines l (Locks name)) (λ x. x);
       favoured = keyed_new bytes_eq bytes_eq-Decides (get_by_text t.favoured) (get_by_text u.favoured) v.name line (λ name n. LineIs lines n (Favours name)) (λ name n. LineIs (lines ++ l ∷ []) n (Favours name)) (λ name. v.name ≡ name)
           favoured none keeps.favoured (λ name. rw number (line_grows lines l (Favours name))) refl (λ name same. same);
-      excluded = λ j. only_other (keeps.excluded j) (says_grows vs lines l j Excludes) (λ x. x.2);
-      unknown = λ j. only_other (keeps.unknown j) (says_grows vs lines l j MarksUnknownOf) (λ x. x.2);
-      belonging = λ j. all_other (keeps.belonging j) (says_grows vs lines l j BelongsTo) (λ x. x.2);
+      excluded = λ j. only_other (keeps.excluded j) (version_line_grows vs lines l j Excludes) (λ x. x.2);
+      unknown = λ j. only_other (keeps.unknown j) (version_line_grows vs lines l j MarksUnknownOf) (λ x. x.2);
+      owned = λ j. all_other (keeps.owned j) (version_line_grows vs lines l j BelongsTo) (λ x. x.2);
       as_many = keeps.as_many;
       favour_lines = subst (λ (xs : List ℕ). AreAll xs (λ n. LineIs (lines ++ l ∷ []) n IsFavour)) (sym (ap (map (λ (f : ℕ × VersionNo). f.0)) pushed ∙ map_push (λ (f : ℕ × VersionNo). f.0) t.favours.items (line, k)))
           (all_new keeps.favour_lines grows (λ n is. rw number (line_within lines IsFavour n is)) tt);
@@ -283,8 +283,8 @@ number_updated before after v k adds w =
       | inl same_name ↦
           let same : v.name ≡ w.name = (bytes_eq-Decides v.name w.name).0 same_name in
           let new : number_in (after w.name) w.number ≡ number_in (Some adds.added.0) w.number = ap (λ (o : Option Package). number_in o w.number) (ap after (sym same) ∙ adds.added.1) in
-          let told : number_in (Some adds.added.0) w.number ≡ (if v.number == w.number then Some k.0 else number_in (before w.name) w.number) = rw (← same) (adds.added.2.numbers w.number) in
-          new ∙ told ∙ rw same_name refl
+          let line_of : number_in (Some adds.added.0) w.number ≡ (if v.number == w.number then Some k.0 else number_in (before w.name) w.number) = rw (← same) (adds.added.2.numbers w.number) in
+          new ∙ line_of ∙ rw same_name refl
       | inr apart ↦ ap (λ (o : Option Package). number_in o w.number) (adds.others w.name apart) ∙ rw apart refl
     ]
 
@@ -318,23 +318,23 @@ of_package_grows vs v name = record {
 }
 
 pub list : (t u : Table) (k : VersionNo) (v : Version) → IsTable t → k.0 ≡ length (versions_in t) → (Contains (lines_in t) (Listed v) → ⊥) → AddsVersion (λ name. get_by_text t.packages name) v k (λ name. get_by_text u.packages name)
-    → versions_in u ≡ versions_in t ++ v ∷ [] → saids_in u ≡ saids_in t ++ said.Listed k ∷ [] → ((j : ℕ) → kept_of u.belonging j ≡ kept_of t.belonging j) → length u.belonging ≡ length t.belonging + 1
-    → Adds t (Listed v) (record t { versions = u.versions; said = u.said; packages = u.packages; belonging = u.belonging })
+    → versions_in u ≡ versions_in t ++ v ∷ [] → kinds_in u ≡ kinds_in t ++ line_kinds.Listed k ∷ [] → ((j : ℕ) → kept_of u.owned j ≡ kept_of t.owned j) → length u.owned ≡ length t.owned + 1
+    → Adds t (Listed v) (record t { versions = u.versions; line_kinds = u.line_kinds; packages = u.packages; owned = u.owned })
 list t u k v keeps number unlisted adds versions more kept as_many =
     let vs = versions_in t in
     let lines = lines_in t in
     let l : Line = Listed v in
-    let w : Table = record t { versions = u.versions; said = u.said; packages = u.packages; belonging = u.belonging } in
+    let w : Table = record t { versions = u.versions; line_kinds = u.line_kinds; packages = u.packages; owned = u.owned } in
     let here : slice_get (vs ++ v ∷ []) k.0 ≡ Some v = rw number (get_new vs v) in
-    let old : map (told (vs ++ v ∷ [])) (saids_in t) ≡ lines = all_told_more vs v (saids_in t) (λ n s at. (owner_below (take n lines), keeps.saids n s at)) in
-    let pushed : lines_in w ≡ map (told (vs ++ v ∷ [])) (saids_in t) ++ Listed (nth (vs ++ v ∷ []) k) ∷ [] = rw (versions, more) (map_push (told (vs ++ v ∷ [])) (saids_in t) (said.Listed k)) in
-    let said_now : lines_in w ≡ lines ++ l ∷ [] = pushed ∙ ap (λ (ls : List Line). ls ++ Listed (nth (vs ++ v ∷ []) k) ∷ []) old ∙ ap (λ (x : Version). lines ++ Listed x ∷ []) (numbered (vs ++ v ∷ []) k v here) in
+    let old : map (line_of (vs ++ v ∷ [])) (kinds_in t) ≡ lines = lines_of_more vs v (kinds_in t) (λ n s at. (owner_below (take n lines), keeps.kinds n s at)) in
+    let pushed : lines_in w ≡ map (line_of (vs ++ v ∷ [])) (kinds_in t) ++ Listed (nth (vs ++ v ∷ []) k) ∷ [] = rw (versions, more) (map_push (line_of (vs ++ v ∷ [])) (kinds_in t) (line_kinds.Listed k)) in
+    let lines_now : lines_in w ≡ lines ++ l ∷ [] = pushed ∙ ap (λ (ls : List Line). ls ++ Listed (nth (vs ++ v ∷ []) k) ∷ []) old ∙ ap (λ (x : Version). lines ++ Listed x ∷ []) (numbered (vs ++ v ∷ []) k v here) in
     let above = λ (n : ℕ) (is : LineIs lines n (BelongsTo v)). unlisted (owner_listed lines n v (belongs_owner v lines n is)) in
-    let none_bar = λ (n : ℕ) (is : LineIs lines n (Excludes v)). unlisted (excluded_listed t keeps v n is) in
+    let none_forbids = λ (n : ℕ) (is : LineIs lines n (Excludes v)). unlisted (excluded_listed t keeps v n is) in
     let none_mark = λ (n : ℕ) (is : LineIs lines n (MarksUnknownOf v)). unlisted (owner_listed lines n v (marks_owner v lines n is)) in
     let keeps_new : Keeps w (vs ++ v ∷ []) (lines ++ l ∷ []) = record {
       listing = listed_more lines v ∙ rw keeps.listing refl;
-      saids = rw more (are_said_push (vs ++ v ∷ []) lines (saids_in t) l (said.Listed k) (as_long t) (are_said_more vs v lines (saids_in t) keeps.saids) (slice_get_within (vs ++ v ∷ []) k.0 v here));
+      kinds = rw more (are_kinds_push (vs ++ v ∷ []) lines (kinds_in t) l (line_kinds.Listed k) (as_long t) (are_kinds_more vs v lines (kinds_in t) keeps.kinds) (slice_get_within (vs ++ v ∷ []) k.0 v here));
       packages = λ name. record {
         kept = packages_kept (λ nm. get_by_text t.packages nm) (λ nm. get_by_text u.packages nm) v k adds (λ nm p is. (keeps.packages nm).kept p is) name;
         numbers = λ q. keyed_new same_version same_version_is (λ x. number_in (get_by_text t.packages x.name) x.number) (λ x. number_in (get_by_text u.packages x.name) x.number) v (length vs) (λ x n. slice_get vs n ≡ Some x) (λ x n. slice_get (vs ++ v ∷ []) n ≡ Some x) (λ x. v ≡ x)
@@ -344,14 +344,14 @@ list t u k v keeps number unlisted adds versions more kept as_many =
       };
       locks = λ name. only_other (keeps.locks name) (line_grows lines l (Locks name)) (λ x. x);
       favoured = λ name. only_other (keeps.favoured name) (line_grows lines l (Favours name)) (λ x. x);
-      excluded = λ j. only_other (keeps.excluded j) (says_of_listed vs lines v l j Excludes none_bar (λ x h. h)) (λ x. x);
-      unknown = λ j. only_other (keeps.unknown j) (says_of_listed vs lines v l j MarksUnknownOf none_mark (λ x h. h)) (λ x. x);
-      belonging = λ j. rw (kept j) (all_other (keeps.belonging j) (says_of_listed vs lines v l j BelongsTo above (λ x h. h)) (λ x. x));
+      excluded = λ j. only_other (keeps.excluded j) (version_line_of_listed vs lines v l j Excludes none_forbids (λ x h. h)) (λ x. x);
+      unknown = λ j. only_other (keeps.unknown j) (version_line_of_listed vs lines v l j MarksUnknownOf none_mark (λ x h. h)) (λ x. x);
+      owned = λ j. rw (kept j) (all_other (keeps.owned j) (version_line_of_listed vs lines v l j BelongsTo above (λ x h. h)) (λ x. x));
       as_many = omega (arith, as_many, keeps.as_many, length-append vs (v ∷ []));
       favour_lines = all_other keeps.favour_lines (line_grows lines l IsFavour) (λ x. x);
       favour_versions = λ i f at. favours_more vs v (lines ++ l ∷ []) f (favours_kept vs lines l f (keeps.favour_versions i f at));
     } in
-    (rw (said_now, versions) keeps_new, said_now)
+    (rw (lines_now, versions) keeps_new, lines_now)
 
 -- an empty list more
 pub empty_more : (lists more : List (List ℕ)) → more ≡ lists ++ [] ∷ [] → (j : ℕ) → kept_of more j ≡ kept_of lists j
@@ -379,20 +379,20 @@ no_line Q zero h = absurd cc
 no_line Q (suc n) h = absurd cc
 
 -- a table of no line
-pub empty : (t : Table) → t.versions.items ≡ [] → saids_in t ≡ [] → t.packages.entries ≡ [] → t.locks.entries ≡ [] → t.favoured.entries ≡ [] → t.excluded.entries ≡ [] → t.unknown.entries ≡ [] → t.belonging ≡ [] → t.favours.items ≡ [] → IsTable t
-empty t versions saids packages locks favoured excluded unknown belonging favours =
+pub empty : (t : Table) → t.versions.items ≡ [] → kinds_in t ≡ [] → t.packages.entries ≡ [] → t.locks.entries ≡ [] → t.favoured.entries ≡ [] → t.excluded.entries ≡ [] → t.unknown.entries ≡ [] → t.owned ≡ [] → t.favours.items ≡ [] → IsTable t
+empty t versions kinds packages locks favoured excluded unknown owned favours =
     let vs : versions_in t ≡ [] = rw versions refl in
-    let lines : lines_in t ≡ [] = rw saids refl in
+    let lines : lines_in t ≡ [] = rw kinds refl in
     let keeps : Keeps t [] [] = record {
       listing = refl;
-      saids = λ n s at. absurd (not_said n s (rw saids at at));
+      kinds = λ n s at. absurd (no_kind n s (rw kinds at at));
       packages = λ name. record { kept = λ p is. no_package (get_by_text t.packages name) p (rw packages refl) is; numbers = λ k. no_only _ _ (rw packages refl) (λ n at. none_got n (record { name = name; number = k }) at); all = rw packages (no_all (IsOfPackage [] name) (λ n h. none_got n h.0 h.1)) };
       locks = λ name. no_only _ _ (rw locks refl) (no_line (Locks name));
       favoured = λ name. no_only _ _ (rw favoured refl) (no_line (Favours name));
       excluded = λ k. no_only _ _ (rw excluded refl) (λ n h. none_got k h.0 h.1);
       unknown = λ k. no_only _ _ (rw unknown refl) (λ n h. none_got k h.0 h.1);
-      belonging = λ k. rw belonging (no_all (SaysOf [] [] k BelongsTo) (λ n h. none_got k h.0 h.1));
-      as_many = rw belonging refl;
+      owned = λ k. rw owned (no_all (IsVersionLine [] [] k BelongsTo) (λ n h. none_got k h.0 h.1));
+      as_many = rw owned refl;
       favour_lines = rw favours (no_all (λ n. LineIs [] n IsFavour) (no_line IsFavour));
       favour_versions = λ i f at. absurd (no_favour i f (rw favours at at));
     } in
@@ -404,8 +404,8 @@ empty t versions saids packages locks favoured excluded unknown belonging favour
     no_package : (o : Option Package) (p : Package) → o ≡ None → o ≡ Some p → IsNumbered p
     no_package o p none is = absurd cc
 
-    not_said : (n : ℕ) (s : LineKind) → slice_get [] n ≡ Some s → ⊥
-    not_said n s e = cc
+    no_kind : (n : ℕ) (s : LineKind) → slice_get [] n ≡ Some s → ⊥
+    no_kind n s e = cc
 
     no_favour : (i : ℕ) (f : ℕ × VersionNo) → slice_get [] i ≡ Some f → ⊥
     no_favour i f e = cc

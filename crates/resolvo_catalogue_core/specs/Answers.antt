@@ -71,7 +71,7 @@ pub record AccountsForWishes (catalogue request : List Line) (answers : List Ans
   -- each one left out is a wish
   pub wished : (n : ℕ) (v : Version) → IsLeftOut answers v n → line_at request n ≡ Some (Wish v)
   -- and no rule-keeping set holds it together with all entries above its line
-  pub barred : (above below : List Answer) (v : Version) (n step : ℕ) → answers ≡ above ++ LeftOut v n step ∷ below
+  pub forbidden : (above below : List Answer) (v : Version) (n step : ℕ) → answers ≡ above ++ LeftOut v n step ∷ below
       → (set : Set) → IsRuleKeeping catalogue request set → Contains set v
       → ((w : Version) → Contains (entries_of above) w → Contains set w) → ⊥
 

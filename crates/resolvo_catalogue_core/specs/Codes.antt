@@ -135,5 +135,5 @@ lines_code = coded_list line_code
 abbrev pub number_code : Coded VersionNo
 number_code = code_by ℕ coded_ℕ (λ v. v.0) (λ n. record { 0 = n }) (λ _. refl)
 
-abbrev pub said_code : Coded ReadRequest
-said_code = code_by (List Line × List (ℕ × VersionNo)) (coded× lines_code (coded_list (coded× coded_ℕ number_code))) (λ r. (r.lines, r.wishes)) (λ p. record { lines = p.0; wishes = p.1 }) (λ _. refl)
+abbrev pub kind_code : Coded ReadRequest
+kind_code = code_by (List Line × List (ℕ × VersionNo)) (coded× lines_code (coded_list (coded× coded_ℕ number_code))) (λ r. (r.lines, r.wishes)) (λ p. record { lines = p.0; wishes = p.1 }) (λ _. refl)

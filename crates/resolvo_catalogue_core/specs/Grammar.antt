@@ -1,7 +1,7 @@
 -- The grammar of a catalogue and of a request: which line may follow which lines.
 use Rattle.std.specs.Prelude.{◌≡◌, ℕ, zero, suc, ⊤, List, [], ◌∷◌, take, Option, Some, None, slice_get, Contains}
 use Rattle.resolvo_text.specs.Line.{Version, Line, Skipped, Listed, Needs, Limits, Unknown, Lock, Favour, Exclude, Wish}
-use Rattle.resolvo_text.specs.Spelling.{SaysLine}
+use Rattle.resolvo_text.specs.Spelling.{SpellsLine}
 
 -- ---- lines by their numbers, from 1
 
@@ -66,11 +66,11 @@ MayFollowInRequest catalogue before (Exclude v reason) = ⊥
 
 -- After these lines the text spells this line.
 pub record IsCatalogueLine (before : List Line) (text : List ℕ) (line : Line) : Type 0 where
-  pub says : SaysLine text line
+  pub parsed : SpellsLine text line
   pub place : MayFollow before line
 
 pub record IsRequestLine (catalogue before : List Line) (text : List ℕ) (line : Line) : Type 0 where
-  pub says : SaysLine text line
+  pub parsed : SpellsLine text line
   pub place : MayFollowInRequest catalogue before line
 
 -- ---- lines that were read

@@ -3,7 +3,7 @@ use Rattle.std.specs.Prelude.{ℕ, zero, suc, nat_lt, Bool, true, List, map, Opt
 use Rattle.std.specs.List.{list_all}
 use Rattle.resolvo_catalogue_core.specs.declared.rule.Rule.{Rule}
 use Rattle.resolvo_catalogue_core.specs.declared.line_table.LineKind.{LineKind}
-use Rattle.resolvo_catalogue_core.specs.declared.line_table.LineKind.TheVariants as said
+use Rattle.resolvo_catalogue_core.specs.declared.line_table.LineKind.TheVariants as line_kinds
 use Rattle.resolvo_catalogue_core.specs.declared.line_table.StoredLine.{StoredLine}
 
 -- a rule's place is one of so many
@@ -16,19 +16,19 @@ is_held count (StoredLine.Rule place) = nat_lt place count
 abbrev pub are_held : ℕ → List StoredLine → Bool
 are_held count held = list_all (is_held count) held
 
-abbrev pub said_rule : Option Rule → LineKind
-said_rule None = said.Nothing
-said_rule (Some r) = said.Rule r
+abbrev pub kind_of_rule : Option Rule → LineKind
+kind_of_rule None = line_kinds.Nothing
+kind_of_rule (Some r) = line_kinds.Rule r
 
 -- the line in whose place this is kept
-abbrev pub said_in : List Rule → StoredLine → LineKind
-said_in rules StoredLine.Nothing = said.Nothing
-said_in rules (StoredLine.Listed v) = said.Listed v
-said_in rules (StoredLine.Favour v) = said.Favour v
-said_in rules (StoredLine.Rule place) = said_rule (slice_get rules place)
+abbrev pub kind_in : List Rule → StoredLine → LineKind
+kind_in rules StoredLine.Nothing = line_kinds.Nothing
+kind_in rules (StoredLine.Listed v) = line_kinds.Listed v
+kind_in rules (StoredLine.Favour v) = line_kinds.Favour v
+kind_in rules (StoredLine.Rule place) = kind_of_rule (slice_get rules place)
 
-abbrev pub said_list : List Rule → List StoredLine → List LineKind
-said_list rules held = map (said_in rules) held
+abbrev pub kind_list : List Rule → List StoredLine → List LineKind
+kind_list rules held = map (kind_in rules) held
 
 -- the stored form of line n, from 1
 abbrev pub held_at : List StoredLine → ℕ → Option StoredLine
@@ -36,12 +36,12 @@ held_at held zero = None
 held_at held (suc n) = slice_get held n
 
 -- line n, from 1
-abbrev pub said_at : List LineKind → ℕ → Option LineKind
-said_at saids zero = None
-said_at saids (suc n) = slice_get saids n
+abbrev pub kind_at : List LineKind → ℕ → Option LineKind
+kind_at kinds zero = None
+kind_at kinds (suc n) = slice_get kinds n
 
 abbrev pub rule_of : LineKind → Option Rule
-rule_of (said.Rule r) = Some r
-rule_of said.Nothing = None
-rule_of (said.Listed v) = None
-rule_of (said.Favour v) = None
+rule_of (line_kinds.Rule r) = Some r
+rule_of line_kinds.Nothing = None
+rule_of (line_kinds.Listed v) = None
+rule_of (line_kinds.Favour v) = None

@@ -73,8 +73,8 @@ IsWish owner (Wish w) = ⊤
 IsWish owner _ = ⊥
 
 -- a line of version k with this content
-abbrev pub SaysOf : List Version → List Line → ℕ → (Version → Option Version → Line → Type 0) → ℕ → Type 0
-SaysOf versions lines k Q n = (v : Version) × (slice_get versions k ≡ Some v) × LineIs lines n (Q v)
+abbrev pub IsVersionLine : List Version → List Line → ℕ → (Version → Option Version → Line → Type 0) → ℕ → Type 0
+IsVersionLine versions lines k Q n = (v : Version) × (slice_get versions k ≡ Some v) × LineIs lines n (Q v)
 
 -- This line favours this version.
 abbrev pub FavoursAt : List Version → List Line → ℕ × VersionNo → Type 0
@@ -90,8 +90,8 @@ abbrev pub WishesAt : List Version → List Line → ℕ × VersionNo → Type 0
 WishesAt versions lines f = (v : Version) × (slice_get versions f.1.0 ≡ Some v) × (line_at lines f.0 ≡ Some (Wish v))
 
 -- the line that forbids the version: one that locks another version of its package, or else one that excludes it
-abbrev pub Bars : List Line → Version → ℕ → Type 0
-Bars lines v n = LineIs lines n (LocksAnother v) ⊎ (((m : ℕ) → LineIs lines m (LocksAnother v) → ⊥) × LineIs lines n (Excludes v))
+abbrev pub Forbids : List Line → Version → ℕ → Type 0
+Forbids lines v n = LineIs lines n (LocksAnother v) ⊎ (((m : ℕ) → LineIs lines m (LocksAnother v) → ⊥) × LineIs lines n (Excludes v))
 
 -- ---- requests
 
@@ -119,12 +119,12 @@ IsOwner versions None owner = owner ≡ None
 IsOwner versions (Some n) owner = (v : Version) × (slice_get versions n.0 ≡ Some v) × (owner ≡ Some v)
 
 -- It is the rule of this line with this owner, versions being named by their numbers.
-abbrev pub States : List Version → Rule → Option Version → Line → Type 0
-States versions (rule.Needs of alternatives condition) owner line = (line ≡ Needs (specs_of alternatives.items) (condition_of condition)) × IsOwner versions of owner
-States versions (rule.Limits of spec) owner line = (line ≡ Limits (spec_of spec)) × IsOwner versions of owner
-States versions (rule.Unknown of word) owner line = (line ≡ Unknown (string_bytes word)) × IsOwner versions (Some of) owner
-States versions (rule.Lock locked) owner line = (v : Version) × (slice_get versions locked.0 ≡ Some v) × (line ≡ Lock v)
-States versions (rule.Exclude excluded word) owner line = (v : Version) × (slice_get versions excluded.0 ≡ Some v) × (line ≡ Exclude v (string_bytes word))
+abbrev pub IsRuleLine : List Version → Rule → Option Version → Line → Type 0
+IsRuleLine versions (rule.Needs of alternatives condition) owner line = (line ≡ Needs (specs_of alternatives.items) (condition_of condition)) × IsOwner versions of owner
+IsRuleLine versions (rule.Limits of spec) owner line = (line ≡ Limits (spec_of spec)) × IsOwner versions of owner
+IsRuleLine versions (rule.Unknown of word) owner line = (line ≡ Unknown (string_bytes word)) × IsOwner versions (Some of) owner
+IsRuleLine versions (rule.Lock locked) owner line = (v : Version) × (slice_get versions locked.0 ≡ Some v) × (line ≡ Lock v)
+IsRuleLine versions (rule.Exclude excluded word) owner line = (v : Version) × (slice_get versions excluded.0 ≡ Some v) × (line ≡ Exclude v (string_bytes word))
 
 -- the version that a line wishes: none, if it isn't a `wish` line
 abbrev pub wished_in : Option Line → Option Version

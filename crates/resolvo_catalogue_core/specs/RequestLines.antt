@@ -2,11 +2,11 @@
 use Rattle.std.specs.Prelude.{◌≡◌, ℕ, zero, suc, ⊤, List, [], ◌++◌, ◌∷◌, map, Option, Some, None, slice_get}
 use Rattle.std.specs.BTreeMap.{get}
 use Rattle.std.specs.Ordering.{nat_cmp}
-use Rattle.resolvo_text.specs.Line as says
+use Rattle.resolvo_text.specs.Line as parsed
 use Rattle.resolvo_text.specs.Line.{Version, Line}
 use Rattle.resolvo_text.specs.View.{version_of}
 use Rattle.resolvo_text.specs.declared.spec.Version as code
-use Rattle.resolvo_catalogue_core.specs.Questions.{IsOnly, AreAll, LineIs, SaysOf, Wishes, WishesAt, IsWish}
+use Rattle.resolvo_catalogue_core.specs.Questions.{IsOnly, AreAll, LineIs, IsVersionLine, Wishes, WishesAt, IsWish}
 use Rattle.resolvo_catalogue_core.specs.Table.{rule_line}
 use Rattle.resolvo_catalogue_core.specs.declared.rule.VersionNo.{VersionNo}
 use Rattle.resolvo_catalogue_core.specs.declared.rule.Rule.{Rule}
@@ -16,8 +16,8 @@ use Rattle.resolvo_catalogue_core.specs.declared.request_lines.RequestLine.TheVa
 use Rattle.resolvo_catalogue_core.specs.declared.request_lines.RequestLines.{RequestLines}
 
 abbrev pub asked : RequestLine → Line
-asked ask.Nothing = says.Skipped
-asked (ask.Wish v) = says.Wish (version_of v)
+asked ask.Nothing = parsed.Skipped
+asked (ask.Wish v) = parsed.Wish (version_of v)
 asked (ask.Rule r) = rule_line [] r
 
 abbrev pub asked_lines : RequestLines → List Line
@@ -54,7 +54,7 @@ wish_asked (ask.Rule r) = None
 -- These lines are kept of a request over a catalogue that lists these versions.
 pub record KeepsAsks (a : RequestLines) (versions : List Version) (lines : List Line) : Type 0 where
   pub asks : (n : ℕ) (x : RequestLine) → slice_get a.asks.items n ≡ Some x → IsAsk x
-  pub wished : (k : ℕ) → IsOnly (get nat_cmp a.wished k) (SaysOf versions lines k Wishes)
+  pub wished : (k : ℕ) → IsOnly (get nat_cmp a.wished k) (IsVersionLine versions lines k Wishes)
   pub wish_lines : AreAll (map (λ f. f.0) a.wishes.items) (λ n. LineIs lines n IsWish)
   pub wish_versions : (i : ℕ) (f : ℕ × VersionNo) → slice_get a.wishes.items i ≡ Some f → WishesAt versions lines f
 

@@ -2,19 +2,19 @@
 use Rattle.std.specs.Prelude.{◌≡◌, ℕ, ◌<◌, ◌==◌, if◌then◌else◌, bytes_eq, Bool, false, not, ⊤, List, [], ◌++◌, ◌∷◌, map, length, take, Option, Some, None, slice_get, slice_index_or, string_bytes, option_map}
 use Rattle.std.specs.BTreeMap.{get, get_by_text}
 use Rattle.std.specs.Ordering.{nat_cmp}
-use Rattle.resolvo_text.specs.Line as says
+use Rattle.resolvo_text.specs.Line as parsed
 use Rattle.resolvo_text.specs.Line.{Version, Line}
 use Rattle.resolvo_text.specs.View.{spec_of, specs_of, condition_of}
 use Rattle.resolvo_catalogue_core.specs.Grammar.{owner_below}
 use Rattle.resolvo_catalogue_core.specs.Listed.{listed, pair_versions}
-use Rattle.resolvo_catalogue_core.specs.Questions.{IsOnly, AreAll, LineIs, BelongsTo, MarksUnknownOf, Locks, Favours, Excludes, IsFavour, IsOwner, IsOfPackage, SaysOf, FavoursAt, number_of}
+use Rattle.resolvo_catalogue_core.specs.Questions.{IsOnly, AreAll, LineIs, BelongsTo, MarksUnknownOf, Locks, Favours, Excludes, IsFavour, IsOwner, IsOfPackage, IsVersionLine, FavoursAt, number_of}
 use Rattle.resolvo_catalogue_core.specs.LinesByVersion.{kept_of}
 use Rattle.resolvo_catalogue_core.specs.declared.rule.VersionNo.{VersionNo}
 use Rattle.resolvo_catalogue_core.specs.declared.rule.Rule.{Rule}
 use Rattle.resolvo_catalogue_core.specs.declared.rule.Rule.TheVariants as rule
 use Rattle.resolvo_catalogue_core.specs.declared.line_table.LineKind.{LineKind}
-use Rattle.resolvo_catalogue_core.specs.declared.line_table.LineKind.TheVariants as said
-use Rattle.resolvo_catalogue_core.specs.Held.{said_list}
+use Rattle.resolvo_catalogue_core.specs.declared.line_table.LineKind.TheVariants as line_kinds
+use Rattle.resolvo_catalogue_core.specs.Held.{kind_list}
 use Rattle.resolvo_catalogue_core.specs.declared.package.Package.{Package}
 use Rattle.resolvo_catalogue_core.specs.Numbered.{beside, IsNumbered}
 use Rattle.resolvo_catalogue_core.specs.declared.table.Table.{Table}
@@ -29,26 +29,26 @@ abbrev pub nth : List Version → VersionNo → Version
 nth versions n = slice_index_or versions n.0 nowhere
 
 abbrev pub rule_line : List Version → Rule → Line
-rule_line versions (rule.Needs of alternatives condition) = says.Needs (specs_of alternatives.items) (condition_of condition)
-rule_line versions (rule.Limits of spec) = says.Limits (spec_of spec)
-rule_line versions (rule.Unknown of word) = says.Unknown (string_bytes word)
-rule_line versions (rule.Lock locked) = says.Lock (nth versions locked)
-rule_line versions (rule.Exclude excluded word) = says.Exclude (nth versions excluded) (string_bytes word)
+rule_line versions (rule.Needs of alternatives condition) = parsed.Needs (specs_of alternatives.items) (condition_of condition)
+rule_line versions (rule.Limits of spec) = parsed.Limits (spec_of spec)
+rule_line versions (rule.Unknown of word) = parsed.Unknown (string_bytes word)
+rule_line versions (rule.Lock locked) = parsed.Lock (nth versions locked)
+rule_line versions (rule.Exclude excluded word) = parsed.Exclude (nth versions excluded) (string_bytes word)
 
-abbrev pub told : List Version → LineKind → Line
-told versions said.Nothing = says.Skipped
-told versions (said.Listed v) = says.Listed (nth versions v)
-told versions (said.Favour v) = says.Favour (nth versions v)
-told versions (said.Rule r) = rule_line versions r
+abbrev pub line_of : List Version → LineKind → Line
+line_of versions line_kinds.Nothing = parsed.Skipped
+line_of versions (line_kinds.Listed v) = parsed.Listed (nth versions v)
+line_of versions (line_kinds.Favour v) = parsed.Favour (nth versions v)
+line_of versions (line_kinds.Rule r) = rule_line versions r
 
 abbrev pub versions_in : Table → List Version
 versions_in t = pair_versions t.versions.items
 
-abbrev pub saids_in : Table → List LineKind
-saids_in t = said_list t.said.rules.items t.said.held.items
+abbrev pub kinds_in : Table → List LineKind
+kinds_in t = kind_list t.line_kinds.rules.items t.line_kinds.held.items
 
 abbrev pub lines_in : Table → List Line
-lines_in t = map (told (versions_in t)) (saids_in t)
+lines_in t = map (line_of (versions_in t)) (kinds_in t)
 
 -- ---- invariants of the lines
 
@@ -60,14 +60,14 @@ IsRuleOf versions owner (rule.Unknown of word) = IsOwner versions (Some of) owne
 IsRuleOf versions owner (rule.Lock locked) = locked.0 < length versions
 IsRuleOf versions owner (rule.Exclude excluded word) = excluded.0 < length versions
 
-abbrev pub IsSaid : List Version → Option Version → LineKind → Type 0
-IsSaid versions owner said.Nothing = ⊤
-IsSaid versions owner (said.Listed v) = v.0 < length versions
-IsSaid versions owner (said.Favour v) = v.0 < length versions
-IsSaid versions owner (said.Rule r) = IsRuleOf versions owner r
+abbrev pub IsKindOf : List Version → Option Version → LineKind → Type 0
+IsKindOf versions owner line_kinds.Nothing = ⊤
+IsKindOf versions owner (line_kinds.Listed v) = v.0 < length versions
+IsKindOf versions owner (line_kinds.Favour v) = v.0 < length versions
+IsKindOf versions owner (line_kinds.Rule r) = IsRuleOf versions owner r
 
-abbrev pub AreSaid : List Version → List Line → List LineKind → Type 0
-AreSaid versions lines saids = (n : ℕ) (s : LineKind) → slice_get saids n ≡ Some s → IsSaid versions (owner_below (take n lines)) s
+abbrev pub AreKindsOf : List Version → List Line → List LineKind → Type 0
+AreKindsOf versions lines kinds = (n : ℕ) (s : LineKind) → slice_get kinds n ≡ Some s → IsKindOf versions (owner_below (take n lines)) s
 
 -- a lock of another version than this one
 abbrev pub is_lock_of_another : Rule → ℕ → Bool
@@ -107,14 +107,14 @@ pub record AddsVersion (before : List ℕ → Option Package) (version : Version
 -- The table keeps these lines, of which these versions are listed.
 pub record Keeps (t : Table) (versions : List Version) (lines : List Line) : Type 0 where
   pub listing : listed lines ≡ versions
-  pub saids : AreSaid versions lines (saids_in t)
+  pub kinds : AreKindsOf versions lines (kinds_in t)
   pub packages : (name : List ℕ) → IsPackage versions name (get_by_text t.packages name)
   pub locks : (name : List ℕ) → IsOnly (get_by_text t.locks name) (λ n. LineIs lines n (Locks name))
   pub favoured : (name : List ℕ) → IsOnly (get_by_text t.favoured name) (λ n. LineIs lines n (Favours name))
-  pub excluded : (k : ℕ) → IsOnly (get nat_cmp t.excluded k) (SaysOf versions lines k Excludes)
-  pub unknown : (k : ℕ) → IsOnly (get nat_cmp t.unknown k) (SaysOf versions lines k MarksUnknownOf)
-  pub belonging : (k : ℕ) → AreAll (kept_of t.belonging k) (SaysOf versions lines k BelongsTo)
-  pub as_many : length t.belonging ≡ length versions
+  pub excluded : (k : ℕ) → IsOnly (get nat_cmp t.excluded k) (IsVersionLine versions lines k Excludes)
+  pub unknown : (k : ℕ) → IsOnly (get nat_cmp t.unknown k) (IsVersionLine versions lines k MarksUnknownOf)
+  pub owned : (k : ℕ) → AreAll (kept_of t.owned k) (IsVersionLine versions lines k BelongsTo)
+  pub as_many : length t.owned ≡ length versions
   pub favour_lines : AreAll (map (λ f. f.0) t.favours.items) (λ n. LineIs lines n IsFavour)
   pub favour_versions : (i : ℕ) (f : ℕ × VersionNo) → slice_get t.favours.items i ≡ Some f → FavoursAt versions lines f
 

@@ -50,14 +50,14 @@ impl Model for Catalogue {
 
 impl Catalogue {
     ghost use Rattle.std.specs.Prelude.{◌≡◌, ℕ, false, List, map, option_map, slice_get, Some, None, length, IfOk, IfSome, IfNone, OnErr, Contains, IfErr};
-    ghost use Rattle.resolvo_text.specs.Line as says;
+    ghost use Rattle.resolvo_text.specs.Line as parsed;
     ghost use Rattle.resolvo_text.specs.View.{version_of, spec_of, cases_of};
     ghost use Rattle.resolvo_catalogue_core.specs.Grammar.{line_at, owner_of, IsCatalogueLine, AreCatalogueLines};
     ghost use Rattle.resolvo_text.specs.Device.{IfKnown, DeviceFailed};
     ghost use Rattle.resolvo_text.specs.Texts.{IsGrammatical, IsTextFault};
     ghost use Rattle.resolvo_catalogue_core.specs.Rules.{keeps};
     ghost use Rattle.resolvo_catalogue_core.specs.Listed.{listed, version_at, members, is_match, pair_versions, AreDistinct};
-    ghost use Rattle.resolvo_catalogue_core.specs.Questions.{IsOnly, AreAll, IsOfPackage, SaysOf, BelongsTo, States, LineIs, IsFavour, FavoursAt, Bars, is_rule, cases_of_line, number_of};
+    ghost use Rattle.resolvo_catalogue_core.specs.Questions.{IsOnly, AreAll, IsOfPackage, IsVersionLine, BelongsTo, IsRuleLine, LineIs, IsFavour, FavoursAt, Forbids, is_rule, cases_of_line, number_of};
     ghost use Rattle.resolvo_catalogue_core.specs.Picked.{IsPicked};
 
     /// A lemma on the lines of each catalogue; the function does nothing.
@@ -87,7 +87,7 @@ impl Catalogue {
     pub(crate) fn listed(&self, version: &Version) -> Result<VersionNo, LineFault>
         ensures found { IfOk result (λ n. version_at self.now n.0 ≡ Some (version_of version.now)) }
         ensures distinct { AreDistinct (listed self.now) }
-        ensures absent { OnErr result (Contains self.now (says.Listed (version_of version.now)) → ⊥) }
+        ensures absent { OnErr result (Contains self.now (parsed.Listed (version_of version.now)) → ⊥) }
     {
         self.table.listed(version)
     }
@@ -122,7 +122,7 @@ impl Catalogue {
 
     /// The `needs`, `limits` and `unknown` lines of a version.
     pub fn lines_of(&self, version: VersionNo) -> &[u32]
-        ensures { AreAll result.now (SaysOf (listed self.now) self.now version.0 BelongsTo) }
+        ensures { AreAll result.now (IsVersionLine (listed self.now) self.now version.0 BelongsTo) }
     {
         self.table.lines_of(version)
     }
@@ -132,7 +132,7 @@ impl Catalogue {
     pub fn barred(&self, version: VersionNo) -> Option<u32>
         ensures { IsOnly result
             (λ n.
-            (v : says.Version) × (version_at self.now version.0 ≡ Some v) × Bars self.now v n) }
+            (v : parsed.Version) × (version_at self.now version.0 ≡ Some v) × Forbids self.now v n) }
     {
         self.table.barred(version)
     }
@@ -140,17 +140,17 @@ impl Catalogue {
     pub fn line_count(&self) -> u32
         ensures { result ≡ length self.now }
     {
-        self.table.said.len() as u32
+        self.table.line_kinds.len() as u32
     }
 
     /// The rule of the line, if it has one.
     pub fn rule(&self, line: u32) -> Option<&Rule>
-        ensures stated { IfSome result
+        ensures of_line { IfSome result
             (λ r.
-            (l : says.Line)
+            (l : parsed.Line)
             × (line_at self.now line ≡ Some l)
-            × States (listed self.now) r.now (owner_of self.now line) l) }
-        ensures none { IfNone result ((l : says.Line) → line_at self.now line ≡ Some l → is_rule l ≡ false) }
+            × IsRuleLine (listed self.now) r.now (owner_of self.now line) l) }
+        ensures none { IfNone result ((l : parsed.Line) → line_at self.now line ≡ Some l → is_rule l ≡ false) }
     {
         self.table.rule(line)
     }

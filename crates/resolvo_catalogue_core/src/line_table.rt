@@ -2,8 +2,8 @@
 //! memory. The model is `kind_list`, the list of the parsed lines. Used by `table`.
 
 ghost use Rattle.std.specs.Prelude.{◌≡◌, ◌++◌, ◌∷◌, [], length, true, OnOk, option_and_then, option_copied, slice_get};
-ghost use Rattle.resolvo_catalogue_core.specs.Held.{is_held, are_held, held_at, said_in, said_list, said_at, rule_of};
-ghost use Rattle.resolvo_catalogue_core.specs.declared.line_table.LineKind.TheVariants as said;
+ghost use Rattle.resolvo_catalogue_core.specs.Held.{is_held, are_held, held_at, kind_in, kind_list, kind_at, rule_of};
+ghost use Rattle.resolvo_catalogue_core.specs.declared.line_table.LineKind.TheVariants as kind;
 
 use crate::rule::{Rule, VersionNo};
 use std::alloc::{AllocError, Global};
@@ -35,7 +35,7 @@ pub struct LineTable {
 
 impl LineTable {
     pub fn new(alloc: Global) -> Self
-        ensures { said_list result.rules.items result.held.items ≡ [] }
+        ensures { kind_list result.rules.items result.held.items ≡ [] }
     {
         LineTable {
             held: Vec::new(alloc),
@@ -45,19 +45,19 @@ impl LineTable {
 
     /// How many lines there are.
     pub fn len(&self) -> usize
-        ensures { result ≡ length (said_list self.now.rules.items self.now.held.items) }
+        ensures { result ≡ length (kind_list self.now.rules.items self.now.held.items) }
     {
         self.held.len()
     }
 
     /// Adds a line.
-    pub fn push(&mut self, said: LineKind) -> Result<(), AllocError>
+    pub fn push(&mut self, kind: LineKind) -> Result<(), AllocError>
         ensures { OnOk result
-            (said_list self.new.rules.items self.new.held.items
-            ≡ said_list self.old.rules.items self.old.held.items ++ said
+            (kind_list self.new.rules.items self.new.held.items
+            ≡ kind_list self.old.rules.items self.old.held.items ++ kind
             ∷ []) }
     {
-        match said {
+        match kind {
             LineKind::Nothing => self.hold(StoredLine::Nothing),
             LineKind::Listed(version) => self.hold(StoredLine::Listed(version)),
             LineKind::Favour(version) => self.hold(StoredLine::Favour(version)),
@@ -68,8 +68,8 @@ impl LineTable {
     fn hold(&mut self, held: StoredLine) -> Result<(), AllocError>
         requires { is_held (length self.old.rules.items) held ≡ true }
         ensures { OnOk result
-            (said_list self.new.rules.items self.new.held.items
-            ≡ said_list self.old.rules.items self.old.held.items ++ said_in self.old.rules.items
+            (kind_list self.new.rules.items self.new.held.items
+            ≡ kind_list self.old.rules.items self.old.held.items ++ kind_in self.old.rules.items
             held
             ∷ []) }
     {
@@ -79,8 +79,8 @@ impl LineTable {
 
     fn push_rule(&mut self, rule: Rule) -> Result<(), AllocError>
         ensures { OnOk result
-            (said_list self.new.rules.items self.new.held.items
-            ≡ said_list self.old.rules.items self.old.held.items ++ said.Rule rule
+            (kind_list self.new.rules.items self.new.held.items
+            ≡ kind_list self.old.rules.items self.old.held.items ++ kind.Rule rule
             ∷ []) }
     {
         let place = self.rules.len();
@@ -109,7 +109,7 @@ impl LineTable {
     pub fn rule(&self, line: u32) -> Option<&Rule>
         ensures { option_copied result
             ≡ option_and_then rule_of
-            (said_at (said_list self.now.rules.items self.now.held.items) line) }
+            (kind_at (kind_list self.now.rules.items self.now.held.items) line) }
     {
         match self.held_at(line)? {
             StoredLine::Rule(place) => self.rule_at(*place),

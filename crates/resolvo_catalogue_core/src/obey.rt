@@ -11,7 +11,7 @@ ghost use Rattle.resolvo_text.specs.Matches.{matches, is_met, is_met_by_one, is_
 ghost use Rattle.resolvo_catalogue_core.specs.Rules.{binds, obeys};
 ghost use Rattle.resolvo_catalogue_core.specs.Listed.{pair_version, pair_versions, members, AreDistinct, is_match};
 ghost use Rattle.resolvo_text.specs.Line.{Version, Line, Lock};
-ghost use Rattle.resolvo_catalogue_core.specs.Questions.{IsOwner, States};
+ghost use Rattle.resolvo_catalogue_core.specs.Questions.{IsOwner, IsRuleLine};
 
 use crate::rule::{Rule, VersionNo};
 use resolvo_text::{Cond, Spec, is_in_span};
@@ -81,7 +81,7 @@ fn is_met_by_one(alternatives: &[Spec], versions: &[(String, u32)], set: &[Versi
     any_is_met(alternatives, versions, set)
 }
 
-fn is_told(number: VersionNo, set: &[VersionNo]) -> bool
+fn has_number(number: VersionNo, set: &[VersionNo]) -> bool
     ensures { result ≡ list_any (λ n. n.0 == number.0) set.now }
 {
     set.iter().any(|member| member.0 == number.0)
@@ -93,7 +93,7 @@ fn is_member(number: VersionNo, set: &[VersionNo]) -> bool
         → slice_get versions number.0 ≡ Some v
         → result ≡ is_member v (members versions set.now) }
 {
-    is_told(number, set)
+    has_number(number, set)
 }
 
 /// Whether the version is of another package, or matches.
@@ -213,7 +213,7 @@ fn binds(owner: Option<VersionNo>, set: &[VersionNo]) -> bool
 pub fn obeys(rule: &Rule, versions: &[(String, u32)], set: &[VersionNo]) -> bool
     requires { AreDistinct (pair_versions versions.now) }
     ensures { (owner : Option Version) (line : Line)
-        → States (pair_versions versions.now) rule.now owner line
+        → IsRuleLine (pair_versions versions.now) rule.now owner line
         → result ≡ obeys owner line (members (pair_versions versions.now) set.now) }
 {
     match rule {

@@ -28,9 +28,9 @@ impl Model for Request {
 
     ghost Value = { ReadRequest };
 
-    ghost use Rattle.resolvo_catalogue_core.specs.Codes.{said_code};
+    ghost use Rattle.resolvo_catalogue_core.specs.Codes.{kind_code};
 
-    ghost coded = { said_code };
+    ghost coded = { kind_code };
 
     ghost use Rattle.resolvo_catalogue_core.specs.RequestLines.{asked_lines, IsAsk};
     ghost use Rattle.resolvo_catalogue_core.specs.declared.request_lines.RequestLine.{RequestLine};
@@ -45,14 +45,14 @@ impl Model for Request {
 
 impl Request {
     ghost use Rattle.std.specs.Prelude.{◌≡◌, ℕ, false, List, map, slice_get, option_map, option_copied, Some, None, length, IfOk, IfSome, IfNone, IfErr};
-    ghost use Rattle.resolvo_text.specs.Line as says;
+    ghost use Rattle.resolvo_text.specs.Line as parsed;
     ghost use Rattle.resolvo_text.specs.View.{version_of, cases_of};
     ghost use Rattle.resolvo_text.specs.Device.{IfKnown, DeviceFailed};
     ghost use Rattle.resolvo_text.specs.Texts.{IsGrammatical, IsTextFault};
     ghost use Rattle.resolvo_catalogue_core.specs.Grammar.{line_at, IsRequestLine, AreRequestLines};
     ghost use Rattle.resolvo_catalogue_core.specs.Rules.{keeps_in_request};
     ghost use Rattle.resolvo_catalogue_core.specs.Listed.{listed, members};
-    ghost use Rattle.resolvo_catalogue_core.specs.Questions.{AreAll, LineIs, IsWish, WishesAt, States, is_rule, wished_in, cases_of_line};
+    ghost use Rattle.resolvo_catalogue_core.specs.Questions.{AreAll, LineIs, IsWish, WishesAt, IsRuleLine, is_rule, wished_in, cases_of_line};
 
     pub fn line_count(&self) -> u32
         ensures { result ≡ length self.now.lines }
@@ -62,13 +62,13 @@ impl Request {
 
     /// The rule of the line, if it has one.
     pub fn rule(&self, line: u32) -> Option<&Rule>
-        ensures stated { IfSome result
+        ensures of_line { IfSome result
             (λ r.
-            (l : says.Line)
+            (l : parsed.Line)
             × (line_at self.now.lines line ≡ Some l)
-            × ((versions : List says.Version) → States versions r.now None l)) }
+            × ((versions : List parsed.Version) → IsRuleLine versions r.now None l)) }
         ensures none { IfNone result
-            ((l : says.Line) → line_at self.now.lines line ≡ Some l → is_rule l ≡ false) }
+            ((l : parsed.Line) → line_at self.now.lines line ≡ Some l → is_rule l ≡ false) }
     {
         self.asks.rule(line)
     }

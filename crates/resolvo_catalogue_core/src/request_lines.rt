@@ -5,7 +5,7 @@
 ghost use Rattle.std.specs.Prelude.{◌≡◌, ℕ, ◌+◌, ◌∷◌, ◌++◌, [], option_and_then, option_copied, length, is_some, slice_get, OnOk, IfOk, OnErr, Contains, Err, Some, List};
 ghost use Rattle.std.specs.BTreeMap.{get};
 ghost use Rattle.std.specs.Ordering.{nat_cmp};
-ghost use Rattle.resolvo_text.specs.Line as says;
+ghost use Rattle.resolvo_text.specs.Line as parsed;
 ghost use Rattle.resolvo_text.specs.View.{version_of, spec_of, specs_of, condition_of, view};
 ghost use Rattle.resolvo_text.specs.declared.line.LineFault.TheVariants.{Fault};
 ghost use Rattle.resolvo_catalogue_core.specs.Grammar.{MayFollowInRequest, IsRequestLine};
@@ -47,7 +47,7 @@ impl RequestLines {
     ghost use Rattle.resolvo_catalogue_core.specs.RequestLines.{AreAsks, AddsAsk, asked_lines, ask_at, rule_asked, wish_asked};
 
     pub fn new(alloc: Global) -> Self
-        ensures asks { (versions : List says.Version) → AreAsks versions result }
+        ensures asks { (versions : List parsed.Version) → AreAsks versions result }
         ensures empty { asked_lines result ≡ [] }
     {
         RequestLines {
@@ -93,7 +93,7 @@ impl RequestLines {
 
     fn skip(&mut self, catalogue: &Catalogue) -> Result<(), LineFault>
         requires { AreAsks (listed catalogue.now) self.old }
-        ensures ok { OnOk result (AddsAsk (listed catalogue.now) self.old says.Skipped self.new) }
+        ensures ok { OnOk result (AddsAsk (listed catalogue.now) self.old parsed.Skipped self.new) }
         ensures memory { result ≡ Err Fault → ⊥ }
     {
         self.asks.push(RequestLine::Nothing)?;
@@ -109,7 +109,7 @@ impl RequestLines {
         requires { AreAsks (listed catalogue.now) self.old }
         ensures ok { OnOk result
             (AddsAsk (listed catalogue.now) self.old
-            (says.Needs (specs_of alternatives.items) (condition_of condition)) self.new) }
+            (parsed.Needs (specs_of alternatives.items) (condition_of condition)) self.new) }
         ensures memory { result ≡ Err Fault → ⊥ }
     {
         self.asks.push(RequestLine::Rule(Rule::Needs {
@@ -123,7 +123,7 @@ impl RequestLines {
     fn limit(&mut self, catalogue: &Catalogue, spec: Spec) -> Result<(), LineFault>
         requires { AreAsks (listed catalogue.now) self.old }
         ensures ok { OnOk result
-            (AddsAsk (listed catalogue.now) self.old (says.Limits (spec_of spec)) self.new) }
+            (AddsAsk (listed catalogue.now) self.old (parsed.Limits (spec_of spec)) self.new) }
         ensures memory { result ≡ Err Fault → ⊥ }
     {
         self.asks
@@ -135,13 +135,13 @@ impl RequestLines {
         requires asks { AreAsks (listed catalogue.now) self.old }
         requires line { line ≡ length (asked_lines self.old) + 1 }
         ensures ok { OnOk result
-            (AddsAsk (listed catalogue.now) self.old (says.Wish (version_of version)) self.new) }
+            (AddsAsk (listed catalogue.now) self.old (parsed.Wish (version_of version)) self.new) }
         ensures placed { OnOk result
             (MayFollowInRequest catalogue.now (asked_lines self.old)
-            (says.Wish (version_of version))) }
+            (parsed.Wish (version_of version))) }
         ensures fault { result ≡ Err Fault
             → MayFollowInRequest catalogue.now (asked_lines self.old)
-            (says.Wish (version_of version))
+            (parsed.Wish (version_of version))
             → ⊥ }
     {
         let number = catalogue.listed(&version)?;
@@ -191,11 +191,11 @@ impl RequestLines {
         requires asks { AreAsks (listed catalogue.now) self.old }
         requires number { number ≡ length (asked_lines self.old) + 1 }
         ensures ok { OnOk result
-            ((line : says.Line)
+            ((line : parsed.Line)
             × IsRequestLine catalogue.now (asked_lines self.old) text.now line
             × AddsAsk (listed catalogue.now) self.old line self.new) }
         ensures fault { result ≡ Err Fault
-            → (line : says.Line)
+            → (line : parsed.Line)
             → IsRequestLine catalogue.now (asked_lines self.old) text.now line
             → ⊥ }
     {

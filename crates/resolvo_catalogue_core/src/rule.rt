@@ -43,7 +43,7 @@ pub enum Rule {
 }
 
 impl Rule {
-    ghost use Rattle.resolvo_catalogue_core.specs.Questions.{States, cases_of_line};
+    ghost use Rattle.resolvo_catalogue_core.specs.Questions.{IsRuleLine, cases_of_line};
     ghost use Rattle.resolvo_catalogue_core.specs.Table.{is_lock_of_another};
 
     /// The cases of a need; another rule has none.
@@ -51,7 +51,7 @@ impl Rule {
         ensures { IfOk result
             (λ v.
             (versions : List Version) (owner : Option Version) (line : Line)
-            → States versions self.now owner line
+            → IsRuleLine versions self.now owner line
             → cases_of v.items ≡ cases_of_line (Some line)) }
     {
         match self {

@@ -7,11 +7,11 @@ ghost use Rattle.std.specs.BTreeMap.{get, get_by_text};
 ghost use Rattle.std.specs.Ordering.{nat_cmp};
 ghost use Rattle.std.specs.Option.{option_map_or};
 ghost use Rattle.std.specs.String.{string_bytes};
-ghost use Rattle.resolvo_text.specs.Line as says;
+ghost use Rattle.resolvo_text.specs.Line as parsed;
 ghost use Rattle.resolvo_text.specs.View.{version_of, spec_of, specs_of, condition_of, view};
 ghost use Rattle.resolvo_text.specs.declared.line.LineFault.TheVariants.{Fault};
 ghost use Rattle.resolvo_catalogue_core.specs.Grammar.{MayFollow, IsCatalogueLine, line_at, owner_below};
-ghost use Rattle.resolvo_catalogue_core.specs.Questions.{number_of, AreAll, IsOwner, IsOnly, LineIs, LocksAnother, Bars};
+ghost use Rattle.resolvo_catalogue_core.specs.Questions.{number_of, AreAll, IsOwner, IsOnly, LineIs, LocksAnother, Forbids};
 ghost use Rattle.resolvo_catalogue_core.specs.Picked.{IsPicked};
 ghost use Rattle.resolvo_catalogue_core.specs.Table.{AddsVersion, number_in};
 ghost use Rattle.resolvo_catalogue_core.specs.Numbered.{IsNumbered};
@@ -28,7 +28,7 @@ use std::collections::{BTreeMap, BTreeSet};
 
 pub struct Table {
     pub versions: Vec<(String, u32)>,
-    pub said: LineTable,
+    pub line_kinds: LineTable,
     pub packages: BTreeMap<String, Package>,
     /// The line that locks a version of the package.
     pub locks: BTreeMap<String, u32>,
@@ -39,7 +39,7 @@ pub struct Table {
     /// The line that marks the version as unknown.
     pub unknown: BTreeMap<u32, u32>,
     /// The lines that belong to each version.
-    pub belonging: LinesByVersion,
+    pub owned: LinesByVersion,
     pub favours: Vec<(u32, VersionNo)>,
 }
 
@@ -48,13 +48,13 @@ impl Drop for Table {
     fn drop(self) {
         let Table {
             versions: _,
-            said: _,
+            line_kinds: _,
             packages: _,
             locks: _,
             favoured: _,
             excluded: _,
             unknown: _,
-            belonging: _,
+            owned: _,
             favours: _,
         } = self;
     }
@@ -92,8 +92,8 @@ fn add_version(
 
 impl Table {
     ghost use Rattle.resolvo_catalogue_core.specs.LinesByVersion.{kept_of};
-    ghost use Rattle.resolvo_catalogue_core.specs.Table.{IsTable, Adds, lines_in, versions_in, saids_in, numbers_in, is_lock_of_another};
-    ghost use Rattle.resolvo_catalogue_core.specs.Held.{said_at, rule_of};
+    ghost use Rattle.resolvo_catalogue_core.specs.Table.{IsTable, Adds, lines_in, versions_in, kinds_in, numbers_in, is_lock_of_another};
+    ghost use Rattle.resolvo_catalogue_core.specs.Held.{kind_at, rule_of};
 
     pub fn new(alloc: Global) -> Self
         ensures table { IsTable result }
@@ -101,13 +101,13 @@ impl Table {
     {
         Table {
             versions: Vec::new(alloc),
-            said: LineTable::new(alloc),
+            line_kinds: LineTable::new(alloc),
             packages: BTreeMap::new(alloc),
             locks: BTreeMap::new(alloc),
             favoured: BTreeMap::new(alloc),
             excluded: BTreeMap::new(alloc),
             unknown: BTreeMap::new(alloc),
-            belonging: LinesByVersion::new(alloc),
+            owned: LinesByVersion::new(alloc),
             favours: Vec::new(alloc),
         }
     }
@@ -147,15 +147,15 @@ impl Table {
     }
 
     pub fn lines_of(&self, version: VersionNo) -> &[u32]
-        ensures { result.now ≡ kept_of self.now.belonging version.0 }
+        ensures { result.now ≡ kept_of self.now.owned version.0 }
     {
-        self.belonging.lines_of(version)
+        self.owned.lines_of(version)
     }
 
     pub fn rule(&self, line: u32) -> Option<&Rule>
-        ensures { option_copied result ≡ option_and_then rule_of (said_at (saids_in self.now) line) }
+        ensures { option_copied result ≡ option_and_then rule_of (kind_at (kinds_in self.now) line) }
     {
-        self.said.rule(line)
+        self.line_kinds.rule(line)
     }
 
     fn lock_of(&self, name: &str) -> Option<u32>
@@ -174,7 +174,7 @@ impl Table {
     fn locks_another(&self, line: u32, version: VersionNo) -> bool
         ensures { result
             ≡ option_map_or (λ r. is_lock_of_another r version.0)
-            (option_and_then rule_of (said_at (saids_in self.now) line)) false }
+            (option_and_then rule_of (kind_at (kinds_in self.now) line)) false }
     {
         match self.rule(line) {
             Some(rule) => rule.is_lock_of_another(version),
@@ -185,7 +185,7 @@ impl Table {
     /// The line that locks another version of the package.
     fn other_lock(&self, name: &str, version: VersionNo) -> Option<u32>
         requires { IsTable self.now }
-        ensures { (v : says.Version)
+        ensures { (v : parsed.Version)
             → slice_get (versions_in self.now) version.0 ≡ Some v
             → name.now ≡ v.name
             → IsOnly result (λ n. LineIs (lines_in self.now) n (LocksAnother v)) }
@@ -202,12 +202,12 @@ impl Table {
         }
     }
 
-    fn barred_as(&self, name: &str, version: VersionNo) -> Option<u32>
+    fn forbidden_as(&self, name: &str, version: VersionNo) -> Option<u32>
         requires { IsTable self.now }
-        ensures { (v : says.Version)
+        ensures { (v : parsed.Version)
             → slice_get (versions_in self.now) version.0 ≡ Some v
             → name.now ≡ v.name
-            → IsOnly result (λ n. Bars (lines_in self.now) v n) }
+            → IsOnly result (λ n. Forbids (lines_in self.now) v n) }
     {
         match self.other_lock(name, version) {
             Some(line) => Some(line),
@@ -219,12 +219,12 @@ impl Table {
         requires { IsTable self.now }
         ensures { IsOnly result
             (λ n.
-            (v : says.Version)
+            (v : parsed.Version)
             × (slice_get (versions_in self.now) version.0 ≡ Some v)
-            × Bars (lines_in self.now) v n) }
+            × Forbids (lines_in self.now) v n) }
     {
         match version_at(&self.versions, version) {
-            Some(found) => self.barred_as(&found.0, version),
+            Some(found) => self.forbidden_as(&found.0, version),
             None => None,
         }
     }
@@ -233,7 +233,7 @@ impl Table {
     pub fn listed(&self, version: &Version) -> Result<VersionNo, LineFault>
         requires { IsTable self.now }
         ensures found { IfOk result (λ n. slice_get (versions_in self.now) n.0 ≡ Some (version_of version.now)) }
-        ensures absent { OnErr result (Contains (lines_in self.now) (says.Listed (version_of version.now)) → ⊥) }
+        ensures absent { OnErr result (Contains (lines_in self.now) (parsed.Listed (version_of version.now)) → ⊥) }
     {
         match self.find(&version.name, version.number) {
             Some(number) => Ok(number),
@@ -283,29 +283,29 @@ impl Table {
 
     fn skip(&mut self) -> Result<(), LineFault>
         requires table { IsTable self.old }
-        ensures ok { OnOk result (Adds self.old says.Skipped self.new) }
+        ensures ok { OnOk result (Adds self.old parsed.Skipped self.new) }
         ensures memory { result ≡ Err Fault → ⊥ }
     {
-        self.said.push(LineKind::Nothing)?;
+        self.line_kinds.push(LineKind::Nothing)?;
         Ok(())
     }
 
     fn list(&mut self, alloc: Global, version: Version) -> Result<(), LineFault>
         requires table { IsTable self.old }
         requires short { length (lines_in self.old) < 16777216 }
-        ensures ok { OnOk result (Adds self.old (says.Listed (version_of version)) self.new) }
-        ensures placed { OnOk result (MayFollow (lines_in self.old) (says.Listed (version_of version))) }
+        ensures ok { OnOk result (Adds self.old (parsed.Listed (version_of version)) self.new) }
+        ensures placed { OnOk result (MayFollow (lines_in self.old) (parsed.Listed (version_of version))) }
         ensures fault { result ≡ Err Fault
-            → MayFollow (lines_in self.old) (says.Listed (version_of version))
+            → MayFollow (lines_in self.old) (parsed.Listed (version_of version))
             → ⊥ }
     {
         let number = VersionNo(self.versions.len() as u32);
         if !add_version(&mut self.packages, alloc, &version, number)? {
             return Err(LineFault::Fault);
         }
-        self.belonging.add_version()?;
+        self.owned.add_version()?;
         self.versions.push((version.name, version.number))?;
-        self.said.push(LineKind::Listed(number))?;
+        self.line_kinds.push(LineKind::Listed(number))?;
         Ok(())
     }
 
@@ -320,19 +320,19 @@ impl Table {
         requires short { line < 16777217 }
         // After an answer.
         ensures ok { OnOk result
-            (Adds self.old (says.Needs (specs_of alternatives.items) (condition_of condition))
+            (Adds self.old (parsed.Needs (specs_of alternatives.items) (condition_of condition))
             self.new) }
         ensures placed { OnOk result
             (MayFollow (lines_in self.old)
-            (says.Needs (specs_of alternatives.items) (condition_of condition))) }
+            (parsed.Needs (specs_of alternatives.items) (condition_of condition))) }
         ensures fault { result ≡ Err Fault
             → MayFollow (lines_in self.old)
-            (says.Needs (specs_of alternatives.items) (condition_of condition))
+            (parsed.Needs (specs_of alternatives.items) (condition_of condition))
             → ⊥ }
     {
         let owner = self.owner()?;
-        self.belonging.add_line(owner, line)?;
-        self.said.push(LineKind::Rule(Rule::Needs {
+        self.owned.add_line(owner, line)?;
+        self.line_kinds.push(LineKind::Rule(Rule::Needs {
             owner: Some(owner),
             alternatives,
             condition,
@@ -345,13 +345,13 @@ impl Table {
         requires line { line ≡ length (lines_in self.old) + 1 }
         requires short { line < 16777217 }
         // After an answer.
-        ensures ok { OnOk result (Adds self.old (says.Limits (spec_of spec)) self.new) }
-        ensures placed { OnOk result (MayFollow (lines_in self.old) (says.Limits (spec_of spec))) }
-        ensures fault { result ≡ Err Fault → MayFollow (lines_in self.old) (says.Limits (spec_of spec)) → ⊥ }
+        ensures ok { OnOk result (Adds self.old (parsed.Limits (spec_of spec)) self.new) }
+        ensures placed { OnOk result (MayFollow (lines_in self.old) (parsed.Limits (spec_of spec))) }
+        ensures fault { result ≡ Err Fault → MayFollow (lines_in self.old) (parsed.Limits (spec_of spec)) → ⊥ }
     {
         let owner = self.owner()?;
-        self.belonging.add_line(owner, line)?;
-        self.said.push(LineKind::Rule(Rule::Limits {
+        self.owned.add_line(owner, line)?;
+        self.line_kinds.push(LineKind::Rule(Rule::Limits {
             owner: Some(owner),
             spec,
         }))?;
@@ -363,10 +363,10 @@ impl Table {
         requires line { line ≡ length (lines_in self.old) + 1 }
         requires short { line < 16777217 }
         // After an answer.
-        ensures ok { OnOk result (Adds self.old (says.Unknown (string_bytes word)) self.new) }
-        ensures placed { OnOk result (MayFollow (lines_in self.old) (says.Unknown (string_bytes word))) }
+        ensures ok { OnOk result (Adds self.old (parsed.Unknown (string_bytes word)) self.new) }
+        ensures placed { OnOk result (MayFollow (lines_in self.old) (parsed.Unknown (string_bytes word))) }
         ensures fault { result ≡ Err Fault
-            → MayFollow (lines_in self.old) (says.Unknown (string_bytes word))
+            → MayFollow (lines_in self.old) (parsed.Unknown (string_bytes word))
             → ⊥ }
     {
         let version = self.owner()?;
@@ -374,8 +374,8 @@ impl Table {
             return Err(LineFault::Fault);
         }
         self.unknown.insert(version.0, line)?;
-        self.belonging.add_line(version, line)?;
-        self.said
+        self.owned.add_line(version, line)?;
+        self.line_kinds
             .push(LineKind::Rule(Rule::Unknown { version, word }))?;
         Ok(())
     }
@@ -384,12 +384,12 @@ impl Table {
         requires table { IsTable self.old }
         requires line { line ≡ length (lines_in self.old) + 1 }
         ensures ok { OnOk result
-            (Adds self.old (says.Exclude (version_of version) (string_bytes word)) self.new) }
+            (Adds self.old (parsed.Exclude (version_of version) (string_bytes word)) self.new) }
         ensures placed { OnOk result
             (MayFollow (lines_in self.old)
-            (says.Exclude (version_of version) (string_bytes word))) }
+            (parsed.Exclude (version_of version) (string_bytes word))) }
         ensures fault { result ≡ Err Fault
-            → MayFollow (lines_in self.old) (says.Exclude (version_of version) (string_bytes word))
+            → MayFollow (lines_in self.old) (parsed.Exclude (version_of version) (string_bytes word))
             → ⊥ }
     {
         let version = self.listed(&version)?;
@@ -397,7 +397,7 @@ impl Table {
             return Err(LineFault::Fault);
         }
         self.excluded.insert(version.0, line)?;
-        self.said
+        self.line_kinds
             .push(LineKind::Rule(Rule::Exclude { version, word }))?;
         Ok(())
     }
@@ -405,10 +405,10 @@ impl Table {
     fn favour(&mut self, line: u32, version: Version) -> Result<(), LineFault>
         requires table { IsTable self.old }
         requires line { line ≡ length (lines_in self.old) + 1 }
-        ensures ok { OnOk result (Adds self.old (says.Favour (version_of version)) self.new) }
-        ensures placed { OnOk result (MayFollow (lines_in self.old) (says.Favour (version_of version))) }
+        ensures ok { OnOk result (Adds self.old (parsed.Favour (version_of version)) self.new) }
+        ensures placed { OnOk result (MayFollow (lines_in self.old) (parsed.Favour (version_of version))) }
         ensures fault { result ≡ Err Fault
-            → MayFollow (lines_in self.old) (says.Favour (version_of version))
+            → MayFollow (lines_in self.old) (parsed.Favour (version_of version))
             → ⊥ }
     {
         let favoured = self.listed(&version)?;
@@ -417,23 +417,23 @@ impl Table {
         }
         self.favoured.insert(version.name, line)?;
         self.favours.push((line, favoured))?;
-        self.said.push(LineKind::Favour(favoured))?;
+        self.line_kinds.push(LineKind::Favour(favoured))?;
         Ok(())
     }
 
     fn lock(&mut self, line: u32, version: Version) -> Result<(), LineFault>
         requires table { IsTable self.old }
         requires line { line ≡ length (lines_in self.old) + 1 }
-        ensures ok { OnOk result (Adds self.old (says.Lock (version_of version)) self.new) }
-        ensures placed { OnOk result (MayFollow (lines_in self.old) (says.Lock (version_of version))) }
-        ensures fault { result ≡ Err Fault → MayFollow (lines_in self.old) (says.Lock (version_of version)) → ⊥ }
+        ensures ok { OnOk result (Adds self.old (parsed.Lock (version_of version)) self.new) }
+        ensures placed { OnOk result (MayFollow (lines_in self.old) (parsed.Lock (version_of version))) }
+        ensures fault { result ≡ Err Fault → MayFollow (lines_in self.old) (parsed.Lock (version_of version)) → ⊥ }
     {
         let locked = self.listed(&version)?;
         if self.is_locked(&version.name) {
             return Err(LineFault::Fault);
         }
         self.locks.insert(version.name, line)?;
-        self.said
+        self.line_kinds
             .push(LineKind::Rule(Rule::Lock { version: locked }))?;
         Ok(())
     }
@@ -470,11 +470,11 @@ impl Table {
         requires number { number ≡ length (lines_in self.old) + 1 }
         requires short { number < 16777217 }
         ensures ok { OnOk result
-            ((line : says.Line)
+            ((line : parsed.Line)
             × IsCatalogueLine (lines_in self.old) text.now line
             × Adds self.old line self.new) }
         ensures fault { result ≡ Err Fault
-            → (line : says.Line)
+            → (line : parsed.Line)
             → IsCatalogueLine (lines_in self.old) text.now line
             → ⊥ }
     {

@@ -7,7 +7,7 @@ use Rattle.resolvo_text.specs.declared.spec.Span.{Span}
 use Rattle.resolvo_text.specs.declared.spec.Span.TheVariants as span
 use Rattle.resolvo_text.specs.Line.{Spec}
 use Rattle.resolvo_report.specs.Value.{Atom, Chosen, AnyOf, SharedBy, OutsideOf, BitOf}
-use Rattle.resolvo_checker.specs.Helpers.{same_span, same_spec, same_specs, same_atom}
+use Rattle.resolvo_checker.specs.AtomValues.{same_span, same_spec, same_specs, same_atom}
 use Rattle.resolvo_checker.proofs.Sets.{same_own, same_is}
 
 pub bytes_is : (m n : List ℕ) → bytes_eq m n ≡ true → m ≡ n

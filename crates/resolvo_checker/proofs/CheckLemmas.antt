@@ -26,12 +26,12 @@ use Rattle.resolvo_checker.specs.Literals.{literals_of, clause_at}
 use Rattle.resolvo_checker.specs.Numbers.{AreNumbers, Keeps}
 use Rattle.resolvo_checker.specs.Rup.{is_earlier}
 use Rattle.resolvo_checker.specs.StepClauses.{Clause, is_listed, is_atom, literal, literal_of, not_in, digit_clause, clause_of}
-use Rattle.resolvo_checker.specs.Helpers.{same_atom}
+use Rattle.resolvo_checker.specs.AtomValues.{same_atom}
 use Rattle.resolvo_checker.specs.Proof.{allows_place, cause_of, follows}
 use Rattle.resolvo_checker.specs.Keys.{Names, Numbered, Extends}
-use Rattle.resolvo_checker.specs.CheckStep.{allows, clause_or_none, Given, AtomIds, StandFor}
+use Rattle.resolvo_checker.specs.CheckStep.{allows, clause_or_none, Given, AtomIds, CheckerInvariant}
 use Rattle.resolvo_checker.proofs.Sets.{same_own, same_is}
-use Rattle.resolvo_checker.proofs.NameLemmas.{tells, clauses_kept, clauses_push, extends_then, extends_all}
+use Rattle.resolvo_checker.proofs.NameLemmas.{names_agree, clauses_kept, clauses_push, extends_then, extends_all}
 
 -- ---- literals of a derived clause
 
@@ -41,9 +41,9 @@ atoms_at c l = is_atom c (view.atom_of l.atom)
 more : {B : Type 0} (f : List code.Literal → B) (ls : List code.Literal) (i : ℕ) (l : code.Literal) → i < length ls → l ≡ get_or ls i l → f (take (i + 1) ls) ≡ f (take i ls ++ l ∷ [])
 more f ls i l h is = ap f (take_more ls i l h ∙ ap (λ (x : code.Literal). take i ls ++ x ∷ []) (sym is))
 
-pub said_more : (c : List Line) (ls : List code.Literal) (i : ℕ) (l : code.Literal) → i < length ls → l ≡ get_or ls i l → list_all (λ x. is_atom c x.atom) (view.literals_of (take i ls)) ≡ true → is_atom c (view.atom_of l.atom) ≡ true
+pub derived_more : (c : List Line) (ls : List code.Literal) (i : ℕ) (l : code.Literal) → i < length ls → l ≡ get_or ls i l → list_all (λ x. is_atom c x.atom) (view.literals_of (take i ls)) ≡ true → is_atom c (view.atom_of l.atom) ≡ true
     → list_all (λ x. is_atom c x.atom) (view.literals_of (take (i + 1) ls)) ≡ true
-said_more c ls i l h is before fine =
+derived_more c ls i l h is before fine =
     more (λ xs. list_all (λ x. is_atom c x.atom) (view.literals_of xs)) ls i l h is
     ∙ (ap (list_all (λ x. is_atom c x.atom)) (map-append view.literal_of (take i ls) (l ∷ []))
     ∙ (list_all-append (λ x. is_atom c x.atom) (view.literals_of (take i ls)) (view.literal_of l ∷ [])
@@ -54,13 +54,13 @@ fails_at p [] i l h is e = absurd (omega arith)
 fails_at p (x ∷ xs) zero l h is e = and_left _ _ (ap (λ (y : code.Literal). p (view.literal_of y)) (sym is) ∙ e)
 fails_at p (x ∷ xs) (suc i) l h is e = and_right _ _ (fails_at p xs i l (omega arith) is e)
 
-pub said_fails : (c : List Line) (ls : List code.Literal) (i : ℕ) (l : code.Literal) → i < length ls → l ≡ get_or ls i l → is_atom c (view.atom_of l.atom) ≡ false → false ≡ list_all (λ x. is_atom c x.atom) (view.literals_of ls)
-said_fails c ls i l h is e = sym (fails_at (λ x. is_atom c x.atom) ls i l h is e)
+pub derived_fails : (c : List Line) (ls : List code.Literal) (i : ℕ) (l : code.Literal) → i < length ls → l ≡ get_or ls i l → is_atom c (view.atom_of l.atom) ≡ false → false ≡ list_all (λ x. is_atom c x.atom) (view.literals_of ls)
+derived_fails c ls i l h is e = sym (fails_at (λ x. is_atom c x.atom) ls i l h is e)
 
-pub said_extends : (vs : List Version) (old middle : List (Vec ℕ × ℕ)) (before : List Literal) (new : List (Vec ℕ × ℕ)) (after : List Literal) (ls : List code.Literal) (i : ℕ) (l : code.Literal) → i < length ls → l ≡ get_or ls i l
+pub derived_extends : (vs : List Version) (old middle : List (Vec ℕ × ℕ)) (before : List Literal) (new : List (Vec ℕ × ℕ)) (after : List Literal) (ls : List code.Literal) (i : ℕ) (l : code.Literal) → i < length ls → l ≡ get_or ls i l
     → Extends vs old [] middle before (map literal_of (view.literals_of (take i ls))) → Extends vs middle before new after (literal_of (view.literal_of l) ∷ [])
     → Extends vs old [] new after (map literal_of (view.literals_of (take (i + 1) ls)))
-said_extends vs old middle before new after ls i l h is e f =
+derived_extends vs old middle before new after ls i l h is e f =
     let joined : map literal_of (view.literals_of (take i ls ++ l ∷ [])) ≡ map literal_of (view.literals_of (take i ls)) ++ literal_of (view.literal_of l) ∷ [] =
     ap (map literal_of) (map-append view.literal_of (take i ls) (l ∷ [])) ∙ map-append literal_of (view.literals_of (take i ls)) (view.literal_of l ∷ []) in
     subst (Extends vs old [] new after) (sym (more (λ xs. map literal_of (view.literals_of xs)) ls i l h is ∙ joined))
@@ -110,7 +110,7 @@ module _ (catalogue request : List Line) (entries : List (Vec ℕ × ℕ)) where
       ∙ one (list_all (is_earlier (length earlier)) causes) refl where
         one : (b : Bool) → list_all (is_earlier (length earlier)) causes ≡ b → (b && one_pass nat_eq (literals_of ids) (map (clause_at clauses) causes)) ≡ (b && one_pass same_atom clause (map (cause_of catalogue request earlier) causes))
         one false e = refl
-        one true e = one_pass_alike same_atom nat_eq (Names (listed catalogue) entries) (tells (listed catalogue) distinct entries count numbers) (literals_of ids) clause (map (clause_at clauses) causes) (map (cause_of catalogue request earlier) causes) numbered (causes_named earlier clauses causes e kept)
+        one true e = one_pass_alike same_atom nat_eq (Names (listed catalogue) entries) (names_agree (listed catalogue) distinct entries count numbers) (literals_of ids) clause (map (clause_at clauses) causes) (map (cause_of catalogue request earlier) causes) numbered (causes_named earlier clauses causes e kept)
 
 -- the clause of a derived step that has one is that of its literals
 pub derived_is : (catalogue request : List Line) (literals : List step.Literal) (causes : List ℕ) → is_some (clause_of catalogue request (step.Derive literals causes)) ≡ true → clause_or_none catalogue request (step.Derive literals causes) ≡ map literal_of literals
@@ -170,13 +170,13 @@ digit_given catalogue places earlier w q b k distinct there long all given = λ 
 
 -- ---- one step more
 
-pub stand_more : (catalogue request : List Line) (old new : List (Vec ℕ × ℕ)) (clauses : List (List Literal)) (places after : List (Option ℕ)) (ids : List Literal) (earlier : List Step) (s : Step)
-    → StandFor catalogue request old clauses places earlier → Keeps old new → Numbered (listed catalogue) new (clause_or_none catalogue request s) ids → Given catalogue after (earlier ++ s ∷ [])
-    → StandFor catalogue request new (clauses ++ ids ∷ []) after (earlier ++ s ∷ [])
-stand_more catalogue request old new clauses places after ids earlier s stands keeps numbered given = record {
+pub invariant_push : (catalogue request : List Line) (old new : List (Vec ℕ × ℕ)) (clauses : List (List Literal)) (places after : List (Option ℕ)) (ids : List Literal) (earlier : List Step) (s : Step)
+    → CheckerInvariant catalogue request old clauses places earlier → Keeps old new → Numbered (listed catalogue) new (clause_or_none catalogue request s) ids → Given catalogue after (earlier ++ s ∷ [])
+    → CheckerInvariant catalogue request new (clauses ++ ids ∷ []) after (earlier ++ s ∷ [])
+invariant_push catalogue request old new clauses places after ids earlier s represents keeps numbered given = record {
   numbered = subst (λ ds. AreNamedClauses (Names (listed catalogue) new) ds (map literals_of (clauses ++ ids ∷ []))) (sym (map-append (clause_or_none catalogue request) earlier (s ∷ [])))
       (subst (AreNamedClauses (Names (listed catalogue) new) (map (clause_or_none catalogue request) earlier ++ clause_or_none catalogue request s ∷ [])) (sym (map-append literals_of clauses (ids ∷ [])))
-      (clauses_push (listed catalogue) new (map (clause_or_none catalogue request) earlier) (map literals_of clauses) (clause_or_none catalogue request s) (literals_of ids) (clauses_kept (listed catalogue) old new keeps (map (clause_or_none catalogue request) earlier) (map literals_of clauses) stands.numbered) numbered));
+      (clauses_push (listed catalogue) new (map (clause_or_none catalogue request) earlier) (map literals_of clauses) (clause_or_none catalogue request s) (literals_of ids) (clauses_kept (listed catalogue) old new keeps (map (clause_or_none catalogue request) earlier) (map literals_of clauses) represents.numbered) numbered));
   placed = given;
 }
 
@@ -189,11 +189,11 @@ digit_listed catalogue v place bit h = one (is_listed catalogue v) refl h where
   one false e k = absurd (false≢true k)
 
 pub follows_derived : (catalogue request : List Line) (entries : List (Vec ℕ × ℕ)) (clauses : List (List Literal)) (places : List (Option ℕ)) (ids : List Literal) (earlier : List Step) (count : ℕ) → AreNumbers entries count → AreDistinct (listed catalogue)
-    → (literals : List step.Literal) (causes : List ℕ) → is_some (clause_of catalogue request (step.Derive literals causes)) ≡ true → StandFor catalogue request entries clauses places earlier
+    → (literals : List step.Literal) (causes : List ℕ) → is_some (clause_of catalogue request (step.Derive literals causes)) ≡ true → CheckerInvariant catalogue request entries clauses places earlier
     → Numbered (listed catalogue) entries (clause_or_none catalogue request (step.Derive literals causes)) ids
     → (list_all (is_earlier (length clauses)) causes && one_pass nat_eq (literals_of ids) (map (clause_at clauses) causes)) ≡ follows catalogue request earlier (step.Derive literals causes)
-follows_derived catalogue request entries clauses places ids earlier count numbers distinct literals causes there stands numbered =
-    derived_alike catalogue request entries count numbers distinct earlier clauses causes (map literal_of literals) ids stands.numbered
+follows_derived catalogue request entries clauses places ids earlier count numbers distinct literals causes there represents numbered =
+    derived_alike catalogue request entries count numbers distinct earlier clauses causes (map literal_of literals) ids represents.numbered
     (subst (λ (x : Clause). Numbered (listed catalogue) entries x ids) (derived_is catalogue request literals causes there) numbered)
 
 pub other_step : (s : CodeStep) → ((v : CodeVersion) (place bit : ℕ) → s ≡ codestep.Digit v place bit → ⊥) → (v : Version) (place : ℕ) → allows_place v place (view.step_of s) ≡ true
@@ -224,10 +224,10 @@ pub numbers_are : (o : Option Clause) (there : Bool) (vs : List Version) (old ne
 numbers_are None there vs old new ids n e = absurd (false≢true (sym n ∙ e))
 numbers_are (Some clause) there vs old new ids n e = extends_all vs old new ids clause n.1
 
-pub stands_after : (catalogue request : List Line) (old new : List (Vec ℕ × ℕ)) (clauses : List (List Literal)) (places : List (Option ℕ)) (earlier : List Step) → Keeps old new → StandFor catalogue request old clauses places earlier → StandFor catalogue request new clauses places earlier
-stands_after catalogue request old new clauses places earlier keeps stands = record {
-  numbered = clauses_kept (listed catalogue) old new keeps (map (clause_or_none catalogue request) earlier) (map literals_of clauses) stands.numbered;
-  placed = stands.placed;
+pub invariant_kept : (catalogue request : List Line) (old new : List (Vec ℕ × ℕ)) (clauses : List (List Literal)) (places : List (Option ℕ)) (earlier : List Step) → Keeps old new → CheckerInvariant catalogue request old clauses places earlier → CheckerInvariant catalogue request new clauses places earlier
+invariant_kept catalogue request old new clauses places earlier keeps represents = record {
+  numbered = clauses_kept (listed catalogue) old new keeps (map (clause_or_none catalogue request) earlier) (map literals_of clauses) represents.numbered;
+  placed = represents.placed;
 }
 
 pub all_three : (a b c d : Bool) → a ≡ true → b ≡ true → d ≡ c → d ≡ (a && (b && c))

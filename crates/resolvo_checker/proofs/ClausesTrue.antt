@@ -20,12 +20,12 @@ use Rattle.resolvo_pool_core.specs.OnePass as pass
 use Rattle.resolvo_pool_core.specs.OnePass.{is_true_at, clause_true}
 use Rattle.resolvo_report.specs.Value.{Place, OfRequest, OfVersion, Atom, AnyOf, SharedBy, OutsideOf, BitOf}
 use Rattle.resolvo_checker.specs.StepClauses.{Clause, is_in, not_in, literal, is_listed, is_of, is_outside, is_locked_out, each_listed, place_fails, case_fails, some_match, case_at, need_clause, gate_clause, limit_bars_clause, limit_clause, lock_clause, exclude_clause, unknown_clause, shared_clause, outside_clause, digit_clause, any_clause}
-use Rattle.resolvo_checker.specs.Helpers.{value_of}
+use Rattle.resolvo_checker.specs.AtomValues.{value_of}
 use Rattle.resolvo_checker.proofs.Sets.{found, failing, none_at, held, each_held, none_held, member, contained, list_any-map, list_any-flat_map, any_kept}
 use Rattle.resolvo_checker.proofs.Atoms.{bytes_is, bytes_own}
 
-nothing_said : {P : Type 0} {A : Type 0} (x : A) → None ≡ Some x → P
-nothing_said x h = absurd (none-some x h)
+no_clause : {P : Type 0} {A : Type 0} (x : A) → None ≡ Some x → P
+no_clause x h = absurd (none-some x h)
 
 beq_false : (b : Bool) → b ≡ false → beq b false ≡ true
 beq_false true h = absurd (false≢true (sym h))
@@ -72,11 +72,11 @@ module _ (catalogue : List Line) (set : Set) (place : Version → ℕ) where
   ]
 
   -- The version of the place is the line's owner. A place of the request has none.
-  abbrev pub Stands : Place → Option Version → Type 0
-  Stands OfRequest owner = owner ≡ None
-  Stands (OfVersion v) owner = owner ≡ Some v
+  abbrev pub IsOwnerOf : Place → Option Version → Type 0
+  IsOwnerOf OfRequest owner = owner ≡ None
+  IsOwnerOf (OfVersion v) owner = owner ≡ Some v
 
-  bound : (p : Place) (owner : Option Version) → Stands p owner → binds owner set ≡ false → True (place_fails p)
+  bound : (p : Place) (owner : Option Version) → IsOwnerOf p owner → binds owner set ≡ false → True (place_fails p)
   bound OfRequest owner s h = absurd (false≢true (sym h ∙ ap (λ o. binds o set) s))
   bound (OfVersion v) owner s h = out v [] (sym (ap (λ o. binds o set) s) ∙ h)
 
@@ -112,9 +112,9 @@ module _ (catalogue : List Line) (set : Set) (place : Version → ℕ) where
         (spec_fails f.item (not-true (is_met f.item set) f.passes))
 
     -- need
-    need_parts : (p : Place) (owner : Option Version) (alternatives : List Spec) (condition : Option Cond) (case : ℕ) (specs : List Spec) → Stands p owner → case_at condition case ≡ Some specs
+    need_parts : (p : Place) (owner : Option Version) (alternatives : List Spec) (condition : Option Cond) (case : ℕ) (specs : List Spec) → IsOwnerOf p owner → case_at condition case ≡ Some specs
         → obeys owner (Needs alternatives condition) set ≡ true → True (place_fails p ++ (case_fails catalogue specs ++ some_match catalogue alternatives))
-    need_parts p owner alternatives condition zero specs s g h = nothing_said specs g
+    need_parts p owner alternatives condition zero specs s g h = no_clause specs g
     need_parts p owner alternatives condition (suc k) specs s g h = elim (or_cases (not (binds owner set) || not (condition_holds condition set)) (is_met_by_one alternatives set) h) [
       | inl less ↦ elim (or_cases (not (binds owner set)) (not (condition_holds condition set)) less) [
         | inl n ↦ left (place_fails p) _ (bound p owner s (not-true (binds owner set) n))
@@ -124,19 +124,19 @@ module _ (catalogue : List Line) (set : Set) (place : Version → ℕ) where
       | inr m ↦ right (place_fails p) _ (right (case_fails catalogue specs) (some_match catalogue alternatives) (match_true alternatives m))
     ]
 
-    pub need_true : (p : Place) (owner : Option Version) (case : ℕ) (line : Line) (c : Clause) → Stands p owner → obeys owner line set ≡ true → need_clause catalogue p case (Some line) ≡ Some c → True c
+    pub need_true : (p : Place) (owner : Option Version) (case : ℕ) (line : Line) (c : Clause) → IsOwnerOf p owner → obeys owner line set ≡ true → need_clause catalogue p case (Some line) ≡ Some c → True c
     need_true p owner case (Needs alternatives condition) c s kept h = one (case_at condition case) refl h where
       one : (o : Option (List Spec)) → case_at condition case ≡ o → option_map (λ specs. place_fails p ++ (case_fails catalogue specs ++ some_match catalogue alternatives)) o ≡ Some c → True c
-      one None g k = nothing_said c k
+      one None g k = no_clause c k
       one (Some specs) g k = subst True (same_Some _ _ k) (need_parts p owner alternatives condition case specs s g kept)
-    need_true p owner case Skipped c s kept h = nothing_said c h
-    need_true p owner case (Listed v) c s kept h = nothing_said c h
-    need_true p owner case (Limits x) c s kept h = nothing_said c h
-    need_true p owner case (Unknown reason) c s kept h = nothing_said c h
-    need_true p owner case (Lock v) c s kept h = nothing_said c h
-    need_true p owner case (Favour v) c s kept h = nothing_said c h
-    need_true p owner case (Exclude v reason) c s kept h = nothing_said c h
-    need_true p owner case (Wish v) c s kept h = nothing_said c h
+    need_true p owner case Skipped c s kept h = no_clause c h
+    need_true p owner case (Listed v) c s kept h = no_clause c h
+    need_true p owner case (Limits x) c s kept h = no_clause c h
+    need_true p owner case (Unknown reason) c s kept h = no_clause c h
+    need_true p owner case (Lock v) c s kept h = no_clause c h
+    need_true p owner case (Favour v) c s kept h = no_clause c h
+    need_true p owner case (Exclude v reason) c s kept h = no_clause c h
+    need_true p owner case (Wish v) c s kept h = no_clause c h
 
     -- gate
     pub gate_true : (v : Version) (owner : Option Version) (line : Line) (c : Clause) → owner ≡ Some v → obeys owner line set ≡ true → gate_clause v (Some line) ≡ Some c → True c
@@ -147,15 +147,15 @@ module _ (catalogue : List Line) (set : Set) (place : Version → ℕ) where
       ]
       | inr m ↦ next (not_in v) (literal (SharedBy alternatives) true ∷ []) (first (literal (SharedBy alternatives) true) [] (beq_true _ m))
     ])
-    gate_true v owner (Needs alternatives (Some condition)) c s kept h = nothing_said c h
-    gate_true v owner Skipped c s kept h = nothing_said c h
-    gate_true v owner (Listed w) c s kept h = nothing_said c h
-    gate_true v owner (Limits x) c s kept h = nothing_said c h
-    gate_true v owner (Unknown reason) c s kept h = nothing_said c h
-    gate_true v owner (Lock w) c s kept h = nothing_said c h
-    gate_true v owner (Favour w) c s kept h = nothing_said c h
-    gate_true v owner (Exclude w reason) c s kept h = nothing_said c h
-    gate_true v owner (Wish w) c s kept h = nothing_said c h
+    gate_true v owner (Needs alternatives (Some condition)) c s kept h = no_clause c h
+    gate_true v owner Skipped c s kept h = no_clause c h
+    gate_true v owner (Listed w) c s kept h = no_clause c h
+    gate_true v owner (Limits x) c s kept h = no_clause c h
+    gate_true v owner (Unknown reason) c s kept h = no_clause c h
+    gate_true v owner (Lock w) c s kept h = no_clause c h
+    gate_true v owner (Favour w) c s kept h = no_clause c h
+    gate_true v owner (Exclude w reason) c s kept h = no_clause c h
+    gate_true v owner (Wish w) c s kept h = no_clause c h
 
     -- shared
     pub shared_true : (alternatives : List Spec) → True (shared_clause catalogue alternatives)
@@ -176,36 +176,36 @@ module _ (catalogue : List Line) (set : Set) (place : Version → ℕ) where
           ])
     ]
 
-    pub limit_bars_true : (p : Place) (owner : Option Version) (v : Version) (line : Line) (c : Clause) → Stands p owner → obeys owner line set ≡ true → limit_bars_clause catalogue p v (Some line) ≡ Some c → True c
+    pub limit_bars_true : (p : Place) (owner : Option Version) (v : Version) (line : Line) (c : Clause) → IsOwnerOf p owner → obeys owner line set ≡ true → limit_bars_clause catalogue p v (Some line) ≡ Some c → True c
     limit_bars_true p owner v (Limits x) c s kept h =
         let e = cond_some (is_listed catalogue v && is_outside x v) (place_fails p ++ not_in v ∷ []) c h in
         subst True e.1 (elim (or_cases (not (binds owner set)) _ kept) [
           | inl n ↦ left (place_fails p) (not_in v ∷ []) (bound p owner s (not-true (binds owner set) n))
           | inr all ↦ right (place_fails p) (not_in v ∷ []) (out v [] (none_outside x all v (and_parts (is_listed catalogue v) (is_outside x v) e.0).1))
         ])
-    limit_bars_true p owner v (Needs alternatives condition) c s kept h = nothing_said c h
-    limit_bars_true p owner v Skipped c s kept h = nothing_said c h
-    limit_bars_true p owner v (Listed w) c s kept h = nothing_said c h
-    limit_bars_true p owner v (Unknown reason) c s kept h = nothing_said c h
-    limit_bars_true p owner v (Lock w) c s kept h = nothing_said c h
-    limit_bars_true p owner v (Favour w) c s kept h = nothing_said c h
-    limit_bars_true p owner v (Exclude w reason) c s kept h = nothing_said c h
-    limit_bars_true p owner v (Wish w) c s kept h = nothing_said c h
+    limit_bars_true p owner v (Needs alternatives condition) c s kept h = no_clause c h
+    limit_bars_true p owner v Skipped c s kept h = no_clause c h
+    limit_bars_true p owner v (Listed w) c s kept h = no_clause c h
+    limit_bars_true p owner v (Unknown reason) c s kept h = no_clause c h
+    limit_bars_true p owner v (Lock w) c s kept h = no_clause c h
+    limit_bars_true p owner v (Favour w) c s kept h = no_clause c h
+    limit_bars_true p owner v (Exclude w reason) c s kept h = no_clause c h
+    limit_bars_true p owner v (Wish w) c s kept h = no_clause c h
 
-    pub limit_true : (p : Place) (owner : Option Version) (line : Line) (c : Clause) → Stands p owner → obeys owner line set ≡ true → limit_clause p (Some line) ≡ Some c → True c
+    pub limit_true : (p : Place) (owner : Option Version) (line : Line) (c : Clause) → IsOwnerOf p owner → obeys owner line set ≡ true → limit_clause p (Some line) ≡ Some c → True c
     limit_true p owner (Limits x) c s kept h = subst True (same_Some _ _ h) (elim (or_cases (not (binds owner set)) _ kept) [
       | inl n ↦ left (place_fails p) (literal (OutsideOf x) false ∷ []) (bound p owner s (not-true (binds owner set) n))
       | inr all ↦ right (place_fails p) (literal (OutsideOf x) false ∷ []) (first (literal (OutsideOf x) false) [] (beq_false _
           (none_held (is_outside x) set (λ v m. elim (cases_Bool (is_outside x v)) [ inr e ↦ e | inl e ↦ absurd (false≢true (sym (none_outside x all v e) ∙ m)) ]))))
     ])
-    limit_true p owner (Needs alternatives condition) c s kept h = nothing_said c h
-    limit_true p owner Skipped c s kept h = nothing_said c h
-    limit_true p owner (Listed w) c s kept h = nothing_said c h
-    limit_true p owner (Unknown reason) c s kept h = nothing_said c h
-    limit_true p owner (Lock w) c s kept h = nothing_said c h
-    limit_true p owner (Favour w) c s kept h = nothing_said c h
-    limit_true p owner (Exclude w reason) c s kept h = nothing_said c h
-    limit_true p owner (Wish w) c s kept h = nothing_said c h
+    limit_true p owner (Needs alternatives condition) c s kept h = no_clause c h
+    limit_true p owner Skipped c s kept h = no_clause c h
+    limit_true p owner (Listed w) c s kept h = no_clause c h
+    limit_true p owner (Unknown reason) c s kept h = no_clause c h
+    limit_true p owner (Lock w) c s kept h = no_clause c h
+    limit_true p owner (Favour w) c s kept h = no_clause c h
+    limit_true p owner (Exclude w reason) c s kept h = no_clause c h
+    limit_true p owner (Wish w) c s kept h = no_clause c h
 
     pub lock_true : (owner : Option Version) (v : Version) (line : Line) (c : Clause) → obeys owner line set ≡ true → lock_clause catalogue v (Some line) ≡ Some c → True c
     lock_true owner v (Lock locked) c kept h =
@@ -218,37 +218,37 @@ module _ (catalogue : List Line) (set : Set) (place : Version → ℕ) where
             | inr n ↦ false≢true (sym (not-true _ o.1) ∙ n)
           ])
         ]))
-    lock_true owner v (Needs alternatives condition) c kept h = nothing_said c h
-    lock_true owner v Skipped c kept h = nothing_said c h
-    lock_true owner v (Listed w) c kept h = nothing_said c h
-    lock_true owner v (Limits x) c kept h = nothing_said c h
-    lock_true owner v (Unknown reason) c kept h = nothing_said c h
-    lock_true owner v (Favour w) c kept h = nothing_said c h
-    lock_true owner v (Exclude w reason) c kept h = nothing_said c h
-    lock_true owner v (Wish w) c kept h = nothing_said c h
+    lock_true owner v (Needs alternatives condition) c kept h = no_clause c h
+    lock_true owner v Skipped c kept h = no_clause c h
+    lock_true owner v (Listed w) c kept h = no_clause c h
+    lock_true owner v (Limits x) c kept h = no_clause c h
+    lock_true owner v (Unknown reason) c kept h = no_clause c h
+    lock_true owner v (Favour w) c kept h = no_clause c h
+    lock_true owner v (Exclude w reason) c kept h = no_clause c h
+    lock_true owner v (Wish w) c kept h = no_clause c h
 
     pub exclude_true : (owner : Option Version) (line : Line) (c : Clause) → obeys owner line set ≡ true → exclude_clause (Some line) ≡ Some c → True c
     exclude_true owner (Exclude v reason) c kept h = subst True (same_Some _ _ h) (out v [] (not-true _ kept))
-    exclude_true owner (Needs alternatives condition) c kept h = nothing_said c h
-    exclude_true owner Skipped c kept h = nothing_said c h
-    exclude_true owner (Listed w) c kept h = nothing_said c h
-    exclude_true owner (Limits x) c kept h = nothing_said c h
-    exclude_true owner (Unknown reason) c kept h = nothing_said c h
-    exclude_true owner (Lock w) c kept h = nothing_said c h
-    exclude_true owner (Favour w) c kept h = nothing_said c h
-    exclude_true owner (Wish w) c kept h = nothing_said c h
+    exclude_true owner (Needs alternatives condition) c kept h = no_clause c h
+    exclude_true owner Skipped c kept h = no_clause c h
+    exclude_true owner (Listed w) c kept h = no_clause c h
+    exclude_true owner (Limits x) c kept h = no_clause c h
+    exclude_true owner (Unknown reason) c kept h = no_clause c h
+    exclude_true owner (Lock w) c kept h = no_clause c h
+    exclude_true owner (Favour w) c kept h = no_clause c h
+    exclude_true owner (Wish w) c kept h = no_clause c h
 
     pub unknown_true : (owner : Option Version) (line : Line) (c : Clause) → obeys owner line set ≡ true → unknown_clause owner (Some line) ≡ Some c → True c
-    unknown_true None (Unknown reason) c kept h = nothing_said c h
+    unknown_true None (Unknown reason) c kept h = no_clause c h
     unknown_true (Some v) (Unknown reason) c kept h = subst True (same_Some _ _ h) (out v [] (not-true _ kept))
-    unknown_true owner (Exclude v reason) c kept h = nothing_said c h
-    unknown_true owner (Needs alternatives condition) c kept h = nothing_said c h
-    unknown_true owner Skipped c kept h = nothing_said c h
-    unknown_true owner (Listed w) c kept h = nothing_said c h
-    unknown_true owner (Limits x) c kept h = nothing_said c h
-    unknown_true owner (Lock w) c kept h = nothing_said c h
-    unknown_true owner (Favour w) c kept h = nothing_said c h
-    unknown_true owner (Wish w) c kept h = nothing_said c h
+    unknown_true owner (Exclude v reason) c kept h = no_clause c h
+    unknown_true owner (Needs alternatives condition) c kept h = no_clause c h
+    unknown_true owner Skipped c kept h = no_clause c h
+    unknown_true owner (Listed w) c kept h = no_clause c h
+    unknown_true owner (Limits x) c kept h = no_clause c h
+    unknown_true owner (Lock w) c kept h = no_clause c h
+    unknown_true owner (Favour w) c kept h = no_clause c h
+    unknown_true owner (Wish w) c kept h = no_clause c h
 
     -- ---- auxiliary atoms
 

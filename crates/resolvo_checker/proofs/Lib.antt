@@ -10,7 +10,7 @@ pub mod ProofTrue
 pub mod Packages
 pub mod NameLemmas
 pub mod BuiltLemmas
-pub mod StatedLemmas
+pub mod RuleLineLemmas
 pub mod StepLines
 pub mod CheckLemmas
 pub mod WholeProofs

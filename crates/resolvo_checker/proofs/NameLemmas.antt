@@ -17,7 +17,7 @@ use Rattle.resolvo_checker.specs.declared.literal.Literal.{Literal}
 use Rattle.resolvo_checker.specs.Literals.{literal_of, literals_of}
 use Rattle.resolvo_checker.specs.Numbers.{number_in, AreNumbers, Keeps}
 use Rattle.resolvo_checker.specs.StepClauses.{Clause, literal}
-use Rattle.resolvo_checker.specs.Helpers.{same_atom}
+use Rattle.resolvo_checker.specs.AtomValues.{same_atom}
 use Rattle.resolvo_checker.specs.Keys.{span_key, spec_key, IsKey, Names, Numbered, Extends}
 use Rattle.resolvo_checker.proofs.Atoms.{same_atom_is, atom_own}
 
@@ -124,8 +124,8 @@ module _ (versions : List Version) (distinct : AreDistinct versions) where
   key_is (BitOf i m) (OutsideOf t) k p q = other_heads 4 3 (i ∷ m) (spec_key t) k p q refl
 
   -- two numbers are one exactly if their atoms are
-  pub tells : (entries : List (Vec ℕ × ℕ)) (count : ℕ) → AreNumbers entries count → (a b : Atom) (i j : ℕ) → Names versions entries a i → Names versions entries b j → eqb i j ≡ same_atom a b
-  tells entries count numbers a b i j p q = elim (cases_Bool (eqb i j)) [
+  pub names_agree : (entries : List (Vec ℕ × ℕ)) (count : ℕ) → AreNumbers entries count → (a b : Atom) (i j : ℕ) → Names versions entries a i → Names versions entries b j → eqb i j ≡ same_atom a b
+  names_agree entries count numbers a b i j p q = elim (cases_Bool (eqb i j)) [
     | inl e ↦
         let same : i ≡ j = eqb-true i j e in
         let k : p.0 ≡ q.0 = numbers.apart p.0 q.0 i p.2 (q.2 ∙ ap Some (sym same)) in

@@ -13,7 +13,7 @@ use Rattle.std.specs.Option.{option_map}
 use Rattle.resolvo_pool_core.specs.OnePass as pass
 use Rattle.resolvo_report.specs.Value.{Atom}
 use Rattle.resolvo_checker.specs.StepClauses.{is_in}
-use Rattle.resolvo_checker.specs.Built.{told, somes, passes}
+use Rattle.resolvo_checker.specs.Built.{positive_at, somes, passes}
 
 -- ---- members of rising lists
 
@@ -55,14 +55,14 @@ in_above m n (x ∷ xs) a i = elim i [
 
 -- ---- a list after a prefix
 
-get_seam : (front : List Version) (v : Version) (vs : List Version) → slice_get (front ++ v ∷ vs) (length front) ≡ Some v
+get_seam : (prefix : List Version) (v : Version) (vs : List Version) → slice_get (prefix ++ v ∷ vs) (length prefix) ≡ Some v
 get_seam [] v vs = refl
-get_seam (w ∷ front) v vs = get_seam front v vs
+get_seam (w ∷ prefix) v vs = get_seam prefix v vs
 
-get_end : (front : List Version) (n : ℕ) (v : Version) → length front ≤ n → slice_get (front ++ []) n ≡ Some v → ⊥
+get_end : (prefix : List Version) (n : ℕ) (v : Version) → length prefix ≤ n → slice_get (prefix ++ []) n ≡ Some v → ⊥
 get_end [] n v l e = cc
-get_end (w ∷ front) zero v l e = omega arith
-get_end (w ∷ front) (suc n) v l e = get_end front n v (omega arith) e
+get_end (w ∷ prefix) zero v l e = omega arith
+get_end (w ∷ prefix) (suc n) v l e = get_end prefix n v (omega arith) e
 
 module _ (whole : List Version) (q : Version → Bool) where
   -- a version of this number passes
@@ -76,7 +76,7 @@ module _ (whole : List Version) (q : Version → Bool) where
     pub all : (n : ℕ) → m ≤ n → IsNumbered n → In n xs
 
   abbrev chosen : List ℕ → List (Option (pass.Literal Atom))
-  chosen xs = map (told whole) xs
+  chosen xs = map (positive_at whole) xs
 
   one_more : (b : Bool) (x : Version) (xs : List Version) → map (λ v. Some (is_in v)) (cond b (x ∷ xs) xs) ≡ cond b (Some (is_in x) ∷ map (λ v. Some (is_in v)) xs) (map (λ v. Some (is_in v)) xs)
   one_more true x xs = refl
@@ -134,17 +134,17 @@ module _ (whole : List Version) (q : Version → Bool) where
       ih xs (skip m xs a (λ p. false≢true (sym fails ∙ ap q (same_Some v p.0 (sym at ∙ p.1)) ∙ p.2)))
       ∙ sym (ap (λ b. map (λ w. Some (is_in w)) (cond b (v ∷ filter q vs) (filter q vs))) fails)
 
-  chosen_is : (front vs : List Version) (xs : List ℕ) → whole ≡ front ++ vs → AreFrom (length front) xs → chosen xs ≡ map (λ w. Some (is_in w)) (filter q vs)
-  chosen_is front [] xs is a =
-      ap chosen (none_left (length front) xs a (λ n l p. get_end front n p.0 l (sym (ap (λ ws. slice_get ws n) is) ∙ p.1)))
-  chosen_is front (v ∷ vs) xs is a =
-      let at : slice_get whole (length front) ≡ Some v = ap (λ ws. slice_get ws (length front)) is ∙ get_seam front v vs in
-      let moved : whole ≡ (front ++ v ∷ []) ++ vs = is ∙ sym (append_assoc front (v ∷ []) vs) in
-      let long : suc (length front) ≡ length (front ++ v ∷ []) = omega (arith, length-append front (v ∷ [])) in
-      let ih : (ys : List ℕ) → AreFrom (suc (length front)) ys → chosen ys ≡ map (λ w. Some (is_in w)) (filter q vs) = λ ys b. chosen_is (front ++ v ∷ []) vs ys moved (subst (λ k. AreFrom k ys) long b) in
+  chosen_is : (prefix vs : List Version) (xs : List ℕ) → whole ≡ prefix ++ vs → AreFrom (length prefix) xs → chosen xs ≡ map (λ w. Some (is_in w)) (filter q vs)
+  chosen_is prefix [] xs is a =
+      ap chosen (none_left (length prefix) xs a (λ n l p. get_end prefix n p.0 l (sym (ap (λ ws. slice_get ws n) is) ∙ p.1)))
+  chosen_is prefix (v ∷ vs) xs is a =
+      let at : slice_get whole (length prefix) ≡ Some v = ap (λ ws. slice_get ws (length prefix)) is ∙ get_seam prefix v vs in
+      let moved : whole ≡ (prefix ++ v ∷ []) ++ vs = is ∙ sym (append_assoc prefix (v ∷ []) vs) in
+      let long : suc (length prefix) ≡ length (prefix ++ v ∷ []) = omega (arith, length-append prefix (v ∷ [])) in
+      let ih : (ys : List ℕ) → AreFrom (suc (length prefix)) ys → chosen ys ≡ map (λ w. Some (is_in w)) (filter q vs) = λ ys b. chosen_is (prefix ++ v ∷ []) vs ys moved (subst (λ k. AreFrom k ys) long b) in
       elim (cases_Bool (q v)) [
-        | inl e ↦ there (length front) v vs xs at e a ih
-        | inr e ↦ other (length front) v vs xs at e a ih
+        | inl e ↦ there (length prefix) v vs xs at e a ih
+        | inr e ↦ other (length prefix) v vs xs at e a ih
       ]
 
 twice : (xs : List Version) → map (λ w. Some (is_in w)) xs ≡ somes (map is_in xs)
@@ -167,7 +167,7 @@ name_is s true v h = (bytes_eq-Decides v.name s.name).0 (and_parts _ _ h).0
 name_is s false v h = (bytes_eq-Decides v.name s.name).0 (and_parts _ _ h).0
 
 -- The literals of the versions that a SPEC picks are those of the listed versions that pass.
-pub picked_are : (vs : List Version) (s : Spec) (outside : Bool) (numbers : List ℕ) → AreAll numbers (IsPicked vs s outside) → map (told vs) numbers ≡ somes (map is_in (filter (passes s outside) vs))
+pub picked_are : (vs : List Version) (s : Spec) (outside : Bool) (numbers : List ℕ) → AreAll numbers (IsPicked vs s outside) → map (positive_at vs) numbers ≡ somes (map is_in (filter (passes s outside) vs))
 picked_are vs s outside numbers all =
     chosen_is vs (passes s outside) [] vs numbers refl (record {
       rising = above_from 0 numbers all.rising (λ h. omega arith);

@@ -20,12 +20,12 @@ use Rattle.resolvo_report.specs.Value.{Place, OfRequest, OfVersion, Atom, Chosen
 use Rattle.resolvo_report.specs.Value as step
 use Rattle.resolvo_checker.specs.Rup.{is_earlier}
 use Rattle.resolvo_checker.specs.StepClauses.{Clause, clause_of, literal_of, is_atom, is_owner, line_of, need_clause, gate_clause, limit_bars_clause, limit_clause, lock_clause, exclude_clause, unknown_clause}
-use Rattle.resolvo_checker.specs.Helpers.{value_of, same_atom}
-use Rattle.resolvo_checker.specs.Proof.{rests_on, rests_on_named, allows_place, cause_of, follows, may_stand, IsProof, derives_empty, ends_empty, is_among, bars, AreApart, ObeysTested}
+use Rattle.resolvo_checker.specs.AtomValues.{value_of, same_atom}
+use Rattle.resolvo_checker.specs.Proof.{rests_on, rests_on_named, allows_place, cause_of, follows, is_valid_step, IsProof, derives_empty, ends_empty, is_among, forbids, AreApart, ObeysTested}
 use Rattle.resolvo_checker.proofs.Sets.{all_at, same_own, same_is, contained, is_contained}
 use Rattle.resolvo_checker.proofs.Atoms.{same_atom_is}
 use Rattle.resolvo_checker.proofs.ListedLemmas.{listed_in}
-use Rattle.resolvo_checker.proofs.ClausesTrue.{True, Stands, need_true, gate_true, shared_true, limit_bars_true, limit_true, outside_true, lock_true, exclude_true, unknown_true, digit_true, any_true}
+use Rattle.resolvo_checker.proofs.ClausesTrue.{True, IsOwnerOf, need_true, gate_true, shared_true, limit_bars_true, limit_true, outside_true, lock_true, exclude_true, unknown_true, digit_true, any_true}
 
 -- ---- the place that the first digit step of a version gives it
 
@@ -79,9 +79,9 @@ get_seam : {X : Type 0} (xs : List X) (y : X) (ys : List X) → slice_get (xs ++
 get_seam [] y ys = refl
 get_seam (x ∷ xs) y ys = get_seam xs y ys
 
-take_front : {X : Type 0} (xs ys : List X) → take (length xs) (xs ++ ys) ≡ xs
-take_front [] ys = refl
-take_front (x ∷ xs) ys = ap (λ zs. x ∷ zs) (take_front xs ys)
+take_prefix : {X : Type 0} (xs ys : List X) → take (length xs) (xs ++ ys) ≡ xs
+take_prefix [] ys = refl
+take_prefix (x ∷ xs) ys = ap (λ zs. x ∷ zs) (take_prefix xs ys)
 
 module _ (catalogue request : List Line) (catalogue_line request_line : ℕ → Bool) (set : Set) (place : Version → ℕ) (single : IsSingle catalogue set) (named : ObeysTested catalogue request catalogue_line request_line set) where
   -- the step's clause is true
@@ -118,7 +118,7 @@ module _ (catalogue request : List Line) (catalogue_line request_line : ℕ → 
 
   -- the clause of a place's line is true
   at_place : (p : Place) (n : ℕ) (line : Line) → line_of catalogue request p n ≡ Some line → rests_on catalogue_line request_line p n ≡ true
-      → (owner : Option Version) × Stands catalogue set place p owner × (obeys owner line set ≡ true)
+      → (owner : Option Version) × IsOwnerOf catalogue set place p owner × (obeys owner line set ≡ true)
   at_place OfRequest n line e r = (None, refl, obeyed_in_request n line r e)
   at_place (OfVersion v) n line e r =
       let q = cond_line (is_owner v (owner_of catalogue n)) (line_at catalogue n) line e in
@@ -132,7 +132,7 @@ module _ (catalogue request : List Line) (catalogue_line request_line : ℕ → 
   NoneOf f = (c : Clause) → f None ≡ Some c → ⊥
 
   by_place : (p : Place) (n : ℕ) (f : Option Line → Option Clause) (c : Clause) → rests_on catalogue_line request_line p n ≡ true → NoneOf f
-      → ((owner : Option Version) (line : Line) → Stands catalogue set place p owner → obeys owner line set ≡ true → f (Some line) ≡ Some c → True catalogue set place c)
+      → ((owner : Option Version) (line : Line) → IsOwnerOf catalogue set place p owner → obeys owner line set ≡ true → f (Some line) ≡ Some c → True catalogue set place c)
       → f (line_of catalogue request p n) ≡ Some c → True catalogue set place c
   by_place p n f c r none is h = one (line_of catalogue request p n) refl h where
     one : (o : Option Line) → line_of catalogue request p n ≡ o → f o ≡ Some c → True catalogue set place c
@@ -183,7 +183,7 @@ module _ (catalogue request : List Line) (catalogue_line request_line : ℕ → 
       subst (λ (d : Clause). clause_true (value_of set place) d ≡ true) e.1
       (one_pass_true same_atom (value_of set place) alike (map literal_of literals) (map (cause_of catalogue request earlier) causes) (causes_true earlier t causes q.0) q.1)
 
-  right_is_true : (s : Step) (earlier : List Step) → may_stand catalogue request catalogue_line request_line earlier s ≡ true → list_all step_true earlier ≡ true → Placed s → step_true s ≡ true
+  right_is_true : (s : Step) (earlier : List Step) → is_valid_step catalogue request catalogue_line request_line earlier s ≡ true → list_all step_true earlier ≡ true → Placed s → step_true s ≡ true
   right_is_true s earlier r t p =
       let q = and_parts (is_some (clause_of catalogue request s)) (rests_on_named catalogue_line request_line s && follows catalogue request earlier s) r in
       let o = and_parts (rests_on_named catalogue_line request_line s) (follows catalogue request earlier s) q.1 in
@@ -212,8 +212,8 @@ module _ (catalogue request : List Line) (catalogue_line request_line : ℕ → 
   steps_true whole earlier [] proof is e t = ap (list_all step_true) (is ∙ append-nil earlier) ∙ t
   steps_true whole earlier (s ∷ steps) proof is e t =
       let at : slice_get whole (length earlier) ≡ Some s = ap (λ xs. slice_get xs (length earlier)) is ∙ get_seam earlier s steps in
-      let above : take (length earlier) whole ≡ earlier = ap (take (length earlier)) is ∙ take_front earlier (s ∷ steps) in
-      let right = subst (λ (xs : List Step). may_stand catalogue request catalogue_line request_line xs s ≡ true) above (proof (length earlier) s at) in
+      let above : take (length earlier) whole ≡ earlier = ap (take (length earlier)) is ∙ take_prefix earlier (s ∷ steps) in
+      let right = subst (λ (xs : List Step). is_valid_step catalogue request catalogue_line request_line xs s ≡ true) above (proof (length earlier) s at) in
       let r = and_parts (is_some (clause_of catalogue request s)) (rests_on_named catalogue_line request_line s && follows catalogue request earlier s) right in
       let f = and_parts (rests_on_named catalogue_line request_line s) (follows catalogue request earlier s) r.1 in
       let joined : (earlier ++ s ∷ []) ++ steps ≡ earlier ++ s ∷ steps = append_assoc earlier (s ∷ []) steps in
@@ -259,14 +259,14 @@ proof_refutes catalogue request catalogue_line request_line steps h e set single
     ends_false catalogue request (value_of set (place_given steps)) steps e (proof_true catalogue request catalogue_line request_line steps h set single named)
 
 -- a clause of literals that are `not` of members has no true one
-barring_false : (value : Atom → Bool) (entries : Set) (wish : Version) → ((v : Version) → ((same_version v wish || is_member v entries) ≡ true) → value (Chosen v) ≡ true) → (clause : Clause) → bars entries wish clause ≡ true → clause_true value clause ≡ true → ⊥
-barring_false value entries wish in_set [] h t = false≢true t
-barring_false value entries wish in_set (l ∷ ls) h t =
+forbidden_false : (value : Atom → Bool) (entries : Set) (wish : Version) → ((v : Version) → ((same_version v wish || is_member v entries) ≡ true) → value (Chosen v) ≡ true) → (clause : Clause) → forbids entries wish clause ≡ true → clause_true value clause ≡ true → ⊥
+forbidden_false value entries wish in_set [] h t = false≢true t
+forbidden_false value entries wish in_set (l ∷ ls) h t =
     let p = and_parts (not l.positive && is_among entries wish l.atom) (list_all (λ x. not x.positive && is_among entries wish x.atom) ls) h in
     let q = and_parts (not l.positive) (is_among entries wish l.atom) p.0 in
     elim (or_cases (is_true_at value l) (clause_true value ls) t) [
       | inl e ↦ one l.atom l.positive (not-true l.positive q.0) q.1 e
-      | inr e ↦ barring_false value entries wish in_set ls p.1 e
+      | inr e ↦ forbidden_false value entries wish in_set ls p.1 e
     ] where
       flip : (b p : Bool) → p ≡ false → b ≡ true → beq b p ≡ true → ⊥
       flip b p e f g = false≢true (sym (ap (λ x. beq x p) f ∙ ap (λ x. beq true x) e) ∙ g)
@@ -279,10 +279,10 @@ barring_false value entries wish in_set (l ∷ ls) h t =
       one (BitOf i n) p e m g = false≢true m
 
 -- a proof from all lines, a clause of which has no literal but `not` of the wish and of entries, keeps the wish and these apart
-pub proof_bars : (catalogue request : List Line) (steps : List Step) → IsProof catalogue request (λ _. true) (λ _. true) steps → (entries : Set) (wish : Version) (n : ℕ) (s : Step) (clause : Clause)
-    → slice_get steps n ≡ Some s → clause_of catalogue request s ≡ Some clause → bars entries wish clause ≡ true → AreApart catalogue request entries wish
-proof_bars catalogue request steps h entries wish n s clause at is b set keeping w e =
-    barring_false (value_of set (place_given steps)) entries wish in_set clause b
+pub proof_forbids : (catalogue request : List Line) (steps : List Step) → IsProof catalogue request (λ _. true) (λ _. true) steps → (entries : Set) (wish : Version) (n : ℕ) (s : Step) (clause : Clause)
+    → slice_get steps n ≡ Some s → clause_of catalogue request s ≡ Some clause → forbids entries wish clause ≡ true → AreApart catalogue request entries wish
+proof_forbids catalogue request steps h entries wish n s clause at is b set keeping w e =
+    forbidden_false (value_of set (place_given steps)) entries wish in_set clause b
     (sym (ap (λ x. clause_true (value_of set (place_given steps)) (unwrap_or x [])) is)
     ∙ all_at (λ x. clause_true (value_of set (place_given steps)) (unwrap_or (clause_of catalogue request x) [])) steps n s
     (proof_true catalogue request (λ _. true) (λ _. true) steps h set keeping.single (record { in_catalogue = λ k _. keeping.catalogue_lines k; in_request = λ k _. keeping.request_lines k })) at) where

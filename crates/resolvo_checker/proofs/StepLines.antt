@@ -13,7 +13,7 @@ use Rattle.resolvo_text.specs.declared.spec.Spec as code
 use Rattle.resolvo_catalogue_core.specs.Questions.{is_rule}
 use Rattle.resolvo_report.specs.Value.{Place}
 use Rattle.resolvo_checker.specs.StepClauses.{Clause, case_at, need_clause, gate_clause, limit_bars_clause, limit_clause, lock_clause, exclude_clause, unknown_clause}
-use Rattle.resolvo_checker.specs.Stated.{rule_line, is_owned, owned_line}
+use Rattle.resolvo_checker.specs.RuleLines.{rule_line, is_owned, owned_line}
 use Rattle.resolvo_checker.proofs.Sets.{same_own, same_is}
 
 -- ---- lines without such a rule give no clause

@@ -11,8 +11,8 @@ use Rattle.resolvo_report.specs.Value.{Step}
 use Rattle.resolvo_report.specs.View.{step_of, steps_of}
 use Rattle.resolvo_report.specs.declared.step.Step.{Step as CodeStep}
 use Rattle.resolvo_checker.specs.declared.literal.Literal.{Literal}
-use Rattle.resolvo_checker.specs.Proof.{may_stand, IsProof, IsWrongAt}
-use Rattle.resolvo_checker.specs.CheckStep.{allows, causes_in, count_causes, StandFor}
+use Rattle.resolvo_checker.specs.Proof.{is_valid_step, IsProof, IsWrongAt}
+use Rattle.resolvo_checker.specs.CheckStep.{allows, causes_in, count_causes, CheckerInvariant}
 
 -- at first every place is allowed
 none_given : (n v place : ℕ) → allows (slice_get (replicate n None) v) place ≡ true
@@ -20,10 +20,10 @@ none_given zero v place = refl
 none_given (suc n) zero place = refl
 none_given (suc n) (suc v) place = none_given n v place
 
-pub stand_none : (catalogue request : List Line) (entries : List (Vec ℕ × ℕ)) (clauses : List (List Literal)) (places : List (Option ℕ)) (n : ℕ) → clauses ≡ [] → places ≡ replicate n None → StandFor catalogue request entries clauses places []
-stand_none catalogue request entries clauses places n e f =
-    subst (λ (cs : List (List Literal)). StandFor catalogue request entries cs places []) (sym e)
-    (subst (λ (ps : List (Option ℕ)). StandFor catalogue request entries [] ps []) (sym f) (record { numbered = tt; placed = λ v k place at. sym (none_given n k place) }))
+pub invariant_empty : (catalogue request : List Line) (entries : List (Vec ℕ × ℕ)) (clauses : List (List Literal)) (places : List (Option ℕ)) (n : ℕ) → clauses ≡ [] → places ≡ replicate n None → CheckerInvariant catalogue request entries clauses places []
+invariant_empty catalogue request entries clauses places n e f =
+    subst (λ (cs : List (List Literal)). CheckerInvariant catalogue request entries cs places []) (sym e)
+    (subst (λ (ps : List (Option ℕ)). CheckerInvariant catalogue request entries [] ps []) (sym f) (record { numbered = tt; placed = λ v k place at. sym (none_given n k place) }))
 
 -- one step more
 pub steps_more : (steps : List CodeStep) (i : ℕ) (s : CodeStep) → i < length steps → s ≡ get_or steps i s → steps_of (take (i + 1) steps) ≡ steps_of (take i steps) ++ step_of s ∷ []
@@ -49,23 +49,23 @@ count_take (s ∷ steps) (suc n) = omega (arith, count_take steps n)
 pub room_for : (steps : List CodeStep) (i : ℕ) (s : CodeStep) → i < length steps → s ≡ get_or steps i s → count_causes (steps_of (take i steps)) + causes_in (step_of s) ≤ count_causes (steps_of steps)
 room_for steps i s h is = omega (arith, count_more steps i s h is, count_take steps (i + 1))
 
-pub take_front : {X : Type 0} (xs ys : List X) → take (length xs) (xs ++ ys) ≡ xs
-take_front [] ys = refl
-take_front (x ∷ xs) ys = ap (λ zs. x ∷ zs) (take_front xs ys)
+pub take_prefix : {X : Type 0} (xs ys : List X) → take (length xs) (xs ++ ys) ≡ xs
+take_prefix [] ys = refl
+take_prefix (x ∷ xs) ys = ap (λ zs. x ∷ zs) (take_prefix xs ys)
 
-pub proof_push : (catalogue request : List Line) (c r : ℕ → Bool) (xs : List Step) (s : Step) → IsProof catalogue request c r xs → may_stand catalogue request c r xs s ≡ true → IsProof catalogue request c r (xs ++ s ∷ [])
+pub proof_push : (catalogue request : List Line) (c r : ℕ → Bool) (xs : List Step) (s : Step) → IsProof catalogue request c r xs → is_valid_step catalogue request c r xs s ≡ true → IsProof catalogue request c r (xs ++ s ∷ [])
 proof_push catalogue request c r xs s proof fine n t at = elim (get_push xs s t n at) [
-  | inl e ↦ subst (λ (ys : List Step). may_stand catalogue request c r ys t ≡ true) (sym (take-append-le n xs (s ∷ []) (let w = slice_get_within xs n t e in omega (arith, w)))) (proof n t e)
-  | inr e ↦ subst (λ (ys : List Step). may_stand catalogue request c r ys t ≡ true) (sym (ap (λ k. take k (xs ++ s ∷ [])) e.0 ∙ take_front xs (s ∷ []))) (subst (λ (u : Step). may_stand catalogue request c r xs u ≡ true) e.1 fine)
+  | inl e ↦ subst (λ (ys : List Step). is_valid_step catalogue request c r ys t ≡ true) (sym (take-append-le n xs (s ∷ []) (let w = slice_get_within xs n t e in omega (arith, w)))) (proof n t e)
+  | inr e ↦ subst (λ (ys : List Step). is_valid_step catalogue request c r ys t ≡ true) (sym (ap (λ k. take k (xs ++ s ∷ [])) e.0 ∙ take_prefix xs (s ∷ []))) (subst (λ (u : Step). is_valid_step catalogue request c r xs u ≡ true) e.1 fine)
 ]
 
-pub wrong_at : (catalogue request : List Line) (c r : ℕ → Bool) (steps : List CodeStep) (i : ℕ) (s : CodeStep) → i < length steps → s ≡ get_or steps i s → IsProof catalogue request c r (steps_of (take i steps)) → may_stand catalogue request c r (steps_of (take i steps)) (step_of s) ≡ false
+pub wrong_at : (catalogue request : List Line) (c r : ℕ → Bool) (steps : List CodeStep) (i : ℕ) (s : CodeStep) → i < length steps → s ≡ get_or steps i s → IsProof catalogue request c r (steps_of (take i steps)) → is_valid_step catalogue request c r (steps_of (take i steps)) (step_of s) ≡ false
     → IsWrongAt catalogue request c r (steps_of steps) i
 wrong_at catalogue request c r steps i s h is proof refused = record {
   before = subst (IsProof catalogue request c r) (sym (taken steps i)) proof;
   wrong = step_of s;
   there = slice_get-map step_of steps i ∙ ap (λ o. option_map step_of o) (slice_get_read steps (length steps) i s refl h is);
-  refused = subst (λ (xs : List Step). may_stand catalogue request c r xs (step_of s) ≡ false) (sym (taken steps i)) refused;
+  refused = subst (λ (xs : List Step). is_valid_step catalogue request c r xs (step_of s) ≡ false) (sym (taken steps i)) refused;
 }
 
 pub none_then : {X P Q : Type 0} (o : Option X) → IfNone o P → (P → Q) → IfNone o Q

@@ -59,6 +59,6 @@ abbrev pub Given : List Line → List (Option ℕ) → List Step → Type 0
 Given catalogue places earlier = (v : Version) (n place : ℕ) → slice_get (listed catalogue) n ≡ Some v → list_all (allows_place v place) earlier ≡ allows (slice_get places n) place
 
 -- the checker's state is that after the earlier steps
-pub record StandFor (catalogue request : List Line) (entries : List (Vec ℕ × ℕ)) (clauses : List (List Literal)) (places : List (Option ℕ)) (earlier : List Step) : Type 0 where
+pub record CheckerInvariant (catalogue request : List Line) (entries : List (Vec ℕ × ℕ)) (clauses : List (List Literal)) (places : List (Option ℕ)) (earlier : List Step) : Type 0 where
   pub numbered : AreNamedClauses (Names (listed catalogue) entries) (map (clause_or_none catalogue request) earlier) (map literals_of clauses)
   pub placed : Given catalogue places earlier

@@ -4,9 +4,9 @@ pub mod Literals
 pub mod Rup
 pub mod Numbers
 pub mod StepClauses
-pub mod Helpers
+pub mod AtomValues
 pub mod Proof
 pub mod Built
 pub mod Keys
-pub mod Stated
+pub mod RuleLines
 pub mod CheckStep

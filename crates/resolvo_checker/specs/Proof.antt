@@ -10,7 +10,7 @@ use Rattle.resolvo_pool_core.specs.OnePass.{one_pass, clause_true}
 use Rattle.resolvo_report.specs.Value.{Place, OfRequest, OfVersion, Atom, Chosen, AnyOf, SharedBy, OutsideOf, BitOf, Step}
 use Rattle.resolvo_report.specs.Value as step
 use Rattle.resolvo_checker.specs.Rup.{is_earlier}
-use Rattle.resolvo_checker.specs.Helpers.{same_atom, value_of}
+use Rattle.resolvo_checker.specs.AtomValues.{same_atom, value_of}
 use Rattle.resolvo_checker.specs.StepClauses.{Clause, clause_of, literal_of}
 
 -- The line of the step's rule is named, by tests for the lines of the two texts.
@@ -51,8 +51,8 @@ follows catalogue request earlier (step.Derive literals causes) =
 follows catalogue request earlier s = true
 
 -- The step is valid after the earlier ones.
-abbrev pub may_stand : List Line → List Line → (ℕ → Bool) → (ℕ → Bool) → List Step → Step → Bool
-may_stand catalogue request catalogue_line request_line earlier s =
+abbrev pub is_valid_step : List Line → List Line → (ℕ → Bool) → (ℕ → Bool) → List Step → Step → Bool
+is_valid_step catalogue request catalogue_line request_line earlier s =
     is_some (clause_of catalogue request s) && (rests_on_named catalogue_line request_line s && follows catalogue request earlier s)
 
 -- which lines are named: those of a list, or all
@@ -65,14 +65,14 @@ every_line n = true
 -- The steps are a proof from the lines that the tests name: each is valid after those before it.
 abbrev pub IsProof : List Line → List Line → (ℕ → Bool) → (ℕ → Bool) → List Step → Type 0
 IsProof catalogue request catalogue_line request_line steps =
-    (n : ℕ) (s : Step) → slice_get steps n ≡ Some s → may_stand catalogue request catalogue_line request_line (take n steps) s ≡ true
+    (n : ℕ) (s : Step) → slice_get steps n ≡ Some s → is_valid_step catalogue request catalogue_line request_line (take n steps) s ≡ true
 
 -- Step n, from 0, is the first that is invalid after those before it.
 pub record IsWrongAt (catalogue request : List Line) (catalogue_line request_line : ℕ → Bool) (steps : List Step) (n : ℕ) : Type 0 where
   pub before : IsProof catalogue request catalogue_line request_line (take n steps)
   pub wrong : Step
   pub there : slice_get steps n ≡ Some wrong
-  pub refused : may_stand catalogue request catalogue_line request_line (take n steps) wrong ≡ false
+  pub refused : is_valid_step catalogue request catalogue_line request_line (take n steps) wrong ≡ false
 
 -- ---- what a proof implies
 
@@ -92,8 +92,8 @@ is_among entries wish (Chosen v) = same_version v wish || is_member v entries
 is_among entries wish a = false
 
 -- Each literal is `not` of the wish or of an entry.
-abbrev pub bars : Set → Version → Clause → Bool
-bars entries wish clause = list_all (λ l. not l.positive && is_among entries wish l.atom) clause
+abbrev pub forbids : Set → Version → Clause → Bool
+forbids entries wish clause = list_all (λ l. not l.positive && is_among entries wish l.atom) clause
 
 -- No rule-keeping set holds the wish together with the entries.
 abbrev pub AreApart : List Line → List Line → Set → Version → Type 0

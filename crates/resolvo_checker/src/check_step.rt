@@ -5,19 +5,19 @@ ghost use Rattle.std.specs.Prelude.{◌≡◌, ◌+◌, ◌^◌, ◌<◌, ◌≤
 ghost use Rattle.std.specs.Global.{Vec};
 ghost use Rattle.std.specs.Bool.{nat_eq};
 ghost use Rattle.std.specs.List.{list_all};
-ghost use Rattle.resolvo_text.specs.Line as says;
+ghost use Rattle.resolvo_text.specs.Line as spelled;
 ghost use Rattle.resolvo_text.specs.View.{version_of};
 ghost use Rattle.resolvo_catalogue_core.specs.Listed.{listed, AreDistinct};
 ghost use Rattle.resolvo_pool_core.specs.OnePass.{one_pass};
-ghost use Rattle.resolvo_report.specs.Value.{Step as SaidStep};
-ghost use Rattle.resolvo_report.specs.View.{step_of, atom_of, literal_of, literals_of as said_literals};
+ghost use Rattle.resolvo_report.specs.Value.{Step as StepValue};
+ghost use Rattle.resolvo_report.specs.View.{step_of, atom_of, literal_of, literals_of as report_literals};
 ghost use Rattle.resolvo_checker.specs.Literals.{literals_of, clause_at};
 ghost use Rattle.resolvo_checker.specs.Rup.{is_earlier};
 ghost use Rattle.resolvo_checker.specs.StepClauses.{is_atom, is_listed, literal_of as plain_literal, clause_of as clause_of_lem};
-ghost use Rattle.resolvo_checker.specs.Proof.{rests_on_named, allows_place, follows as follows_lem, may_stand};
+ghost use Rattle.resolvo_checker.specs.Proof.{rests_on_named, allows_place, follows as follows_lem, is_valid_step};
 ghost use Rattle.resolvo_checker.specs.Keys.{Extends, Numbered};
 ghost use Rattle.resolvo_checker.specs.Numbers.{AreNumbers};
-ghost use Rattle.resolvo_checker.specs.CheckStep.{flag_at, names_catalogue, names_request, allows, causes_in, clause_or_none, AtomIds as NumbersOf, StandFor, Given};
+ghost use Rattle.resolvo_checker.specs.CheckStep.{flag_at, names_catalogue, names_request, allows, causes_in, clause_or_none, AtomIds as NumbersOf, CheckerInvariant, Given};
 ghost use Rattle.resolvo_checker.specs.Built.{rule_clause_of};
 
 use crate::assignment::Assignment;
@@ -107,7 +107,7 @@ fn is_named(scope: &Premises, step: &Step) -> bool
 }
 
 /// Numbers a literal of a derived clause. False where it names an unlisted version.
-fn push_said(
+fn push_derived(
     alloc: Global,
     catalogue: &Catalogue,
     numbers: &mut AtomIds,
@@ -138,7 +138,7 @@ fn push_said(
 }
 
 /// Numbers the literals of a derived clause. False where one names an unlisted version.
-fn number_said(
+fn number_derived(
     alloc: Global,
     catalogue: &Catalogue,
     numbers: &mut AtomIds,
@@ -146,16 +146,16 @@ fn number_said(
     literals: &[report::Literal],
 ) -> Result<bool, AllocError>
     ensures fine { IfOk result
-        (λ fine. fine ≡ list_all (λ l. is_atom catalogue.now l.atom) (said_literals literals.now)) }
+        (λ fine. fine ≡ list_all (λ l. is_atom catalogue.now l.atom) (report_literals literals.now)) }
     ensures extends { IfOk result
         (λ fine.
         IsTrue fine
         → Extends (listed catalogue.now) numbers.old [] numbers.new out.new.items
-        (map plain_literal (said_literals literals.now))) }
+        (map plain_literal (report_literals literals.now))) }
 {
     out.clear();
     for literal in literals {
-        if !push_said(alloc, catalogue, numbers, out, literal)? {
+        if !push_derived(alloc, catalogue, numbers, out, literal)? {
             return Ok(false);
         }
     }
@@ -200,7 +200,7 @@ fn number_step(
         (listed catalogue.now) numbers.old numbers.new out.new.items) }
 {
     if let Step::Derive { literals, .. } = step {
-        return number_said(alloc, catalogue, numbers, out, literals);
+        return number_derived(alloc, catalogue, numbers, out, literals);
     }
     number_rule(alloc, catalogue, request, numbers, out, step)
 }
@@ -274,7 +274,7 @@ fn has_no_other(
     version: &Version,
     place: u32,
 ) -> bool
-    ensures { (earlier : List SaidStep)
+    ensures { (earlier : List StepValue)
         → is_listed catalogue.now (version_of version.now) ≡ true
         → Given catalogue.now places.now earlier
         → result ≡ list_all (allows_place (version_of version.now) place) earlier }
@@ -301,12 +301,12 @@ fn follows(
     // After an answer.
     ensures answer { IfOk result
         (λ fine.
-        (request : List says.Line) (entries : List (Vec ℕ × ℕ)) (earlier : List SaidStep)
+        (request : List spelled.Line) (entries : List (Vec ℕ × ℕ)) (earlier : List StepValue)
         (count : ℕ)
         → AreNumbers entries count
         → AreDistinct (listed catalogue.now)
         → is_some (clause_of_lem catalogue.now request (step_of step.now)) ≡ true
-        → StandFor catalogue.now request entries clauses.old.kept places.now earlier
+        → CheckerInvariant catalogue.now request entries clauses.old.kept places.now earlier
         → Numbered (listed catalogue.now) entries
         (clause_or_none catalogue.now request (step_of step.now)) literals.now
         → fine ≡ follows_lem catalogue.now request earlier (step_of step.now)) }
@@ -338,10 +338,10 @@ fn follows(
 }
 
 /// Records the place that a digit step gives.
-fn note_place(catalogue: &Catalogue, places: &mut Vec<Option<u32>>, step: &Step)
+fn record_place(catalogue: &Catalogue, places: &mut Vec<Option<u32>>, step: &Step)
     requires { length places.old.items ≡ length (listed catalogue.now) }
     ensures long { length places.new.items ≡ length (listed catalogue.now) }
-    ensures given { (request : List says.Line) (earlier : List SaidStep)
+    ensures given { (request : List spelled.Line) (earlier : List StepValue)
         → AreDistinct (listed catalogue.now)
         → is_some (clause_of_lem catalogue.now request (step_of step.now)) ≡ true
         → follows_lem catalogue.now request earlier (step_of step.now) ≡ true
@@ -374,19 +374,19 @@ pub fn advance(
     // After an answer.
     ensures answer { IfOk result
         (λ fine.
-        (earlier : List SaidStep)
-        → StandFor catalogue.now request.now.lines checker.old.numbers clauses.old.kept
+        (earlier : List StepValue)
+        → CheckerInvariant catalogue.now request.now.lines checker.old.numbers clauses.old.kept
         checker.old.places.items earlier
         → fine
-        ≡ may_stand catalogue.now request.now.lines (names_catalogue scope.now)
+        ≡ is_valid_step catalogue.now request.now.lines (names_catalogue scope.now)
         (names_request scope.now) earlier (step_of step.now)) }
-    ensures stands { IfOk result
+    ensures represents { IfOk result
         (λ fine.
         IsTrue fine
-        → (earlier : List SaidStep)
-        → StandFor catalogue.now request.now.lines checker.old.numbers clauses.old.kept
+        → (earlier : List StepValue)
+        → CheckerInvariant catalogue.now request.now.lines checker.old.numbers clauses.old.kept
         checker.old.places.items earlier
-        → StandFor catalogue.now request.now.lines checker.new.numbers clauses.new.kept
+        → CheckerInvariant catalogue.now request.now.lines checker.new.numbers clauses.new.kept
         checker.new.places.items (earlier ++ step_of step.now ∷ [])) }
     ensures later { IfOk result (λ fine. IsTrue fine → checker.new.truth.pass ≤ length clauses.new.kept) }
     ensures long { IfOk result
@@ -427,6 +427,6 @@ pub fn advance(
         return Ok(false);
     }
     clauses.push(&checker.literals)?;
-    note_place(catalogue, &mut checker.places, step);
+    record_place(catalogue, &mut checker.places, step);
     Ok(true)
 }

@@ -2,12 +2,12 @@
 
 ghost use Rattle.std.specs.Prelude.{◌≡◌, [], ◌∷◌, ◌++◌, List, OnOk, IfOk, Some};
 ghost use Rattle.std.specs.List.{flat_map};
-ghost use Rattle.resolvo_text.specs.Line as says;
+ghost use Rattle.resolvo_text.specs.Line as spelled;
 ghost use Rattle.resolvo_text.specs.View.{spec_of, specs_of};
 ghost use Rattle.resolvo_catalogue_core.specs.Listed.{listed};
-ghost use Rattle.resolvo_report.specs.Value.{Atom as SaidAtom, AnyOf, SharedBy, OutsideOf, BitOf};
+ghost use Rattle.resolvo_report.specs.Value.{Atom as AtomValue, AnyOf, SharedBy, OutsideOf, BitOf};
 ghost use Rattle.resolvo_report.specs.View.{atom_of};
-ghost use Rattle.resolvo_checker.specs.StepClauses.{Clause as SaidClause, literal, is_atom};
+ghost use Rattle.resolvo_checker.specs.StepClauses.{Clause as ClauseValue, literal, is_atom};
 ghost use Rattle.resolvo_checker.specs.Built.{literals_in, member_of, somes, literal_of};
 ghost use Rattle.resolvo_checker.specs.Keys.{IsKey, Extends, spec_key};
 
@@ -26,7 +26,7 @@ fn push_key(
     positive: bool,
 ) -> Result<(), AllocError>
     ensures { OnOk result
-        ((vs : List says.Version) (a : SaidAtom)
+        ((vs : List spelled.Version) (a : AtomValue)
         → IsKey vs a key.now
         → Extends vs numbers.old out.old.items numbers.new out.new.items
         (literal a positive ∷ [])) }
@@ -45,7 +45,7 @@ pub fn push_version(
     positive: bool,
 ) -> Result<(), AllocError>
     ensures { OnOk result
-        ((vs : List says.Version) (clause : SaidClause)
+        ((vs : List spelled.Version) (clause : ClauseValue)
         → somes clause ≡ member_of vs positive version.0 ∷ []
         → Extends vs numbers.old out.old.items numbers.new out.new.items clause) }
 {
@@ -71,7 +71,7 @@ pub fn push_any(
     positive: bool,
 ) -> Result<(), AllocError>
     ensures { OnOk result
-        ((vs : List says.Version)
+        ((vs : List spelled.Version)
         → Extends vs numbers.old out.old.items numbers.new out.new.items
         (literal (AnyOf name.now) positive ∷ [])) }
 {
@@ -90,7 +90,7 @@ pub fn push_bit(
     positive: bool,
 ) -> Result<(), AllocError>
     ensures { OnOk result
-        ((vs : List says.Version)
+        ((vs : List spelled.Version)
         → Extends vs numbers.old out.old.items numbers.new out.new.items
         (literal (BitOf bit name.now) positive ∷ [])) }
 {
@@ -129,7 +129,7 @@ pub fn push_outside(
     positive: bool,
 ) -> Result<(), AllocError>
     ensures { OnOk result
-        ((vs : List says.Version)
+        ((vs : List spelled.Version)
         → Extends vs numbers.old out.old.items numbers.new out.new.items
         (literal (OutsideOf (spec_of spec.now)) positive ∷ [])) }
 {
@@ -157,7 +157,7 @@ pub fn push_shared(
     positive: bool,
 ) -> Result<(), AllocError>
     ensures { OnOk result
-        ((vs : List says.Version)
+        ((vs : List spelled.Version)
         → Extends vs numbers.old out.old.items numbers.new out.new.items
         (literal (SharedBy (specs_of alternatives.now)) positive ∷ [])) }
 {
@@ -173,7 +173,7 @@ fn push_literal(
     built: &Built,
 ) -> Result<(), AllocError>
     ensures { OnOk result
-        ((vs : List says.Version) (clause : SaidClause)
+        ((vs : List spelled.Version) (clause : ClauseValue)
         → somes clause ≡ literal_of vs built.now.atom built.now.positive ∷ []
         → Extends vs numbers.old out.old.items numbers.new out.new.items clause) }
 {
@@ -197,7 +197,7 @@ pub fn number_all(
     built: &[Built],
 ) -> Result<(), AllocError>
     ensures { OnOk result
-        ((vs : List says.Version) (clause : SaidClause)
+        ((vs : List spelled.Version) (clause : ClauseValue)
         → somes clause ≡ literals_in vs built.now
         → Extends vs numbers.old [] numbers.new out.new.items clause) }
 {

@@ -1,12 +1,12 @@
 //! Literals and groups of literals, added to a clause.
 
 ghost use Rattle.std.specs.Prelude.{◌≡◌, [], ◌∷◌, ◌++◌, List, Some, OnOk, IfOk, map};
-ghost use Rattle.resolvo_text.specs.Line as says;
+ghost use Rattle.resolvo_text.specs.Line as spelled;
 ghost use Rattle.resolvo_text.specs.View.{spec_of, specs_of};
 ghost use Rattle.resolvo_catalogue_core.specs.Listed.{listed};
 ghost use Rattle.resolvo_report.specs.Value.{AnyOf, SharedBy, OutsideOf, BitOf};
 ghost use Rattle.resolvo_checker.specs.StepClauses.{literal, each_listed, some_match, case_fails};
-ghost use Rattle.resolvo_checker.specs.Built.{literals_in, member_of, told, somes, passes};
+ghost use Rattle.resolvo_checker.specs.Built.{literals_in, member_of, positive_at, somes, passes};
 
 use crate::atom::{Atom, Built};
 use resolvo_catalogue_core::{Catalogue, Spec, VersionNo};
@@ -17,7 +17,7 @@ pub type Clause = Vec<Built>;
 
 pub fn push_version(out: &mut Clause, version: VersionNo, positive: bool) -> Result<(), AllocError>
     ensures { OnOk result
-        ((vs : List says.Version)
+        ((vs : List spelled.Version)
         → literals_in vs out.new.items
         ≡ literals_in vs out.old.items ++ member_of vs positive version.0
         ∷ []) }
@@ -36,7 +36,7 @@ pub fn push_any(
     positive: bool,
 ) -> Result<(), AllocError>
     ensures { OnOk result
-        ((vs : List says.Version)
+        ((vs : List spelled.Version)
         → literals_in vs out.new.items
         ≡ literals_in vs out.old.items ++ Some (literal (AnyOf name.now) positive)
         ∷ []) }
@@ -57,7 +57,7 @@ pub fn push_bit(
     positive: bool,
 ) -> Result<(), AllocError>
     ensures { OnOk result
-        ((vs : List says.Version)
+        ((vs : List spelled.Version)
         → literals_in vs out.new.items
         ≡ literals_in vs out.old.items ++ Some (literal (BitOf bit name.now) positive)
         ∷ []) }
@@ -87,7 +87,7 @@ pub fn push_shared(
     positive: bool,
 ) -> Result<(), AllocError>
     ensures { OnOk result
-        ((vs : List says.Version)
+        ((vs : List spelled.Version)
         → literals_in vs out.new.items
         ≡ literals_in vs out.old.items ++ Some
         (literal (SharedBy (specs_of alternatives.now)) positive)
@@ -103,7 +103,7 @@ pub fn push_shared(
 
 pub fn push_outside(out: &mut Clause, spec: &Spec, positive: bool) -> Result<(), AllocError>
     ensures { OnOk result
-        ((vs : List says.Version)
+        ((vs : List spelled.Version)
         → literals_in vs out.new.items
         ≡ literals_in vs out.old.items ++ Some
         (literal (OutsideOf (spec_of spec.now)) positive)
@@ -120,9 +120,9 @@ pub fn push_outside(out: &mut Clause, spec: &Spec, positive: bool) -> Result<(),
 /// Adds the versions of these numbers.
 fn push_numbers(out: &mut Clause, numbers: &BTreeSet<u32>) -> Result<(), AllocError>
     ensures { OnOk result
-        ((vs : List says.Version)
+        ((vs : List spelled.Version)
         → literals_in vs out.new.items
-        ≡ literals_in vs out.old.items ++ map (told vs) numbers.now.keys) }
+        ≡ literals_in vs out.old.items ++ map (positive_at vs) numbers.now.keys) }
 {
     for number in numbers {
         push_version(out, VersionNo(*number), true)?;

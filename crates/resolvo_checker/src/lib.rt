@@ -11,5 +11,5 @@ pub mod clauses;
 pub mod literal;
 pub mod proof;
 mod rup;
-pub mod stated;
+pub mod of_line;
 pub mod steps;

@@ -5,11 +5,11 @@ ghost use Rattle.resolvo_text.specs.Line.{Version};
 ghost use Rattle.resolvo_text.specs.Matches.{Set};
 ghost use Rattle.resolvo_catalogue_core.specs.Listed.{listed};
 ghost use Rattle.resolvo_catalogue_core.specs.Sets.{IsSingle};
-ghost use Rattle.resolvo_report.specs.Value.{Step as SaidStep};
+ghost use Rattle.resolvo_report.specs.Value.{Step as StepValue};
 ghost use Rattle.resolvo_report.specs.View.{step_of, steps_of};
 ghost use Rattle.resolvo_checker.specs.StepClauses.{Clause, clause_of};
-ghost use Rattle.resolvo_checker.specs.Proof.{IsProof, IsWrongAt, ObeysTested, ends_empty, bars, AreApart};
-ghost use Rattle.resolvo_checker.specs.CheckStep.{names_catalogue, names_request, causes_in as causes_in_lem, count_causes, StandFor};
+ghost use Rattle.resolvo_checker.specs.Proof.{IsProof, IsWrongAt, ObeysTested, ends_empty, forbids, AreApart};
+ghost use Rattle.resolvo_checker.specs.CheckStep.{names_catalogue, names_request, causes_in as causes_in_lem, count_causes, CheckerInvariant};
 
 use crate::assignment::Assignment;
 use crate::atom_ids::AtomIds;
@@ -39,7 +39,7 @@ pub fn nothing_each<T: Copy>(alloc: Global, count: usize) -> Result<Vec<Option<T
 
 /// The checker's state before the first step.
 pub fn begin(alloc: Global, catalogue: &Catalogue, request: &Request) -> Result<Checker, AllocError>
-    ensures stands { IfOk result (λ c. StandFor catalogue.now request.now.lines c.numbers [] c.places.items []) }
+    ensures represents { IfOk result (λ c. CheckerInvariant catalogue.now request.now.lines c.numbers [] c.places.items []) }
     ensures pass { IfOk result (λ c. c.truth.pass ≡ 0) }
     ensures long { IfOk result (λ c. length c.places.items ≡ length (listed catalogue.now)) }
 {
@@ -84,7 +84,7 @@ fn check_from(
     clauses: &mut Clauses,
     steps: &[Step],
 ) -> Result<Option<usize>, AllocError>
-    requires stands { StandFor catalogue.now request.now.lines checker.old.numbers clauses.old.kept
+    requires represents { CheckerInvariant catalogue.now request.now.lines checker.old.numbers clauses.old.kept
         checker.old.places.items [] }
     requires pass { checker.old.truth.pass ≡ 0 }
     requires count { clauses.old.kept ≡ [] }

@@ -3,20 +3,20 @@
 ghost use Rattle.std.specs.Prelude.{◌≡◌, [], ◌∷◌, ◌++◌, ◌==◌, ◌<◌, List, Option, OnOk, IfOk, IfSome, Some, None, true, false, is_some, slice_get};
 ghost use Rattle.std.specs.Option.{option_map, option_map_or, option_and_then, option_copied};
 ghost use Rattle.std.specs.Int.{bit_at};
-ghost use Rattle.resolvo_text.specs.Line as says;
+ghost use Rattle.resolvo_text.specs.Line as spelled;
 ghost use Rattle.resolvo_text.specs.View.{version_of, spec_of, specs_of, condition_of};
 ghost use Rattle.resolvo_catalogue_core.specs.Grammar.{line_at, owner_of};
 ghost use Rattle.resolvo_catalogue_core.specs.Listed.{listed, version_at, pair_version, pair_versions};
-ghost use Rattle.resolvo_report.specs.Value.{Place as SaidPlace, OfVersion};
+ghost use Rattle.resolvo_report.specs.Value.{Place as PlaceValue, OfVersion};
 ghost use Rattle.resolvo_report.specs.View.{place_of, step_of};
 ghost use Rattle.resolvo_checker.specs.StepClauses.{is_listed, is_outside as is_outside_lem, is_locked_out as is_locked_out_lem, place_fails, case_fails, some_match, case_at as case_at_lem, line_of, need_clause, gate_clause, limit_bars_clause, limit_clause, lock_clause, exclude_clause, unknown_clause, shared_clause, outside_clause, digit_clause, any_clause};
 ghost use Rattle.resolvo_checker.specs.Built.{literals_in, member_of, somes, seen, rule_clause_of};
-ghost use Rattle.resolvo_checker.specs.Stated.{line_said, owner_in, owner_literals, IsValid};
+ghost use Rattle.resolvo_checker.specs.RuleLines.{line_of_rule, owner_in, owner_literals, IsValid};
 
 use crate::clause_parts::{
     Clause, push_any, push_bit, push_case, push_matches, push_outside, push_shared, push_version,
 };
-use crate::stated::{rule_at, rule_of, rule_owned};
+use crate::of_line::{rule_at, rule_of, rule_owned};
 use resolvo_catalogue_core::{
     Catalogue, Cond, Request, Rule, Spec, Version, VersionNo, is_in_span,
 };
@@ -91,7 +91,7 @@ fn case_at(
 /// Adds that the owner isn't in the set.
 fn push_owner(out: &mut Clause, owner: Option<VersionNo>) -> Result<(), AllocError>
     ensures { OnOk result
-        ((vs : List says.Version)
+        ((vs : List spelled.Version)
         → literals_in vs out.new.items ≡ literals_in vs out.old.items ++ owner_literals vs owner) }
 {
     if let Some(version) = owner {
@@ -104,7 +104,7 @@ fn push_owner(out: &mut Clause, owner: Option<VersionNo>) -> Result<(), AllocErr
 fn absent(alloc: Global, version: VersionNo) -> Result<Clause, AllocError>
     ensures { IfOk result
         (λ c.
-        (vs : List says.Version) → literals_in vs c.items ≡ member_of vs false version.0 ∷ []) }
+        (vs : List spelled.Version) → literals_in vs c.items ≡ member_of vs false version.0 ∷ []) }
 {
     let mut out = Vec::new(alloc);
     push_version(&mut out, version, false)?;
@@ -139,7 +139,7 @@ fn need_in(
     rule: Option<&Rule>,
     case: u32,
 ) -> Result<Option<Clause>, AllocError>
-    ensures { (p : SaidPlace)
+    ensures { (p : PlaceValue)
         → IfSome (option_copied rule.entry)
         (λ r. owner_literals (listed catalogue.now) (owner_in r) ≡ somes (place_fails p))
         → IfOk result
@@ -147,7 +147,7 @@ fn need_in(
         seen (listed catalogue.now) o
         ≡ option_map somes
         (need_clause catalogue.now p case
-        (option_and_then (line_said (listed catalogue.now))
+        (option_and_then (line_of_rule (listed catalogue.now))
         (option_copied rule.entry)))) }
 {
     let Some(
@@ -171,7 +171,7 @@ fn gate_in(
     catalogue: &Catalogue,
     rule: Option<&Rule>,
 ) -> Result<Option<Clause>, AllocError>
-    ensures { (v : says.Version)
+    ensures { (v : spelled.Version)
         → IfSome (option_copied rule.entry)
         (λ r.
         owner_literals (listed catalogue.now) (owner_in r)
@@ -181,7 +181,7 @@ fn gate_in(
         seen (listed catalogue.now) o
         ≡ option_map somes
         (gate_clause v
-        (option_and_then (line_said (listed catalogue.now))
+        (option_and_then (line_of_rule (listed catalogue.now))
         (option_copied rule.entry)))) }
 {
     match rule {
@@ -206,7 +206,7 @@ fn limit_in(
     catalogue: &Catalogue,
     rule: Option<&Rule>,
 ) -> Result<Option<Clause>, AllocError>
-    ensures { (p : SaidPlace)
+    ensures { (p : PlaceValue)
         → IfSome (option_copied rule.entry)
         (λ r. owner_literals (listed catalogue.now) (owner_in r) ≡ somes (place_fails p))
         → IfOk result
@@ -214,7 +214,7 @@ fn limit_in(
         seen (listed catalogue.now) o
         ≡ option_map somes
         (limit_clause p
-        (option_and_then (line_said (listed catalogue.now))
+        (option_and_then (line_of_rule (listed catalogue.now))
         (option_copied rule.entry)))) }
 {
     match rule {
@@ -234,7 +234,7 @@ fn limit_bars_in(
     rule: Option<&Rule>,
     version: &Version,
 ) -> Result<Option<Clause>, AllocError>
-    ensures { (p : SaidPlace)
+    ensures { (p : PlaceValue)
         → IfSome (option_copied rule.entry)
         (λ r. owner_literals (listed catalogue.now) (owner_in r) ≡ somes (place_fails p))
         → IfOk result
@@ -242,7 +242,7 @@ fn limit_bars_in(
         seen (listed catalogue.now) o
         ≡ option_map somes
         (limit_bars_clause catalogue.now p (version_of version.now)
-        (option_and_then (line_said (listed catalogue.now))
+        (option_and_then (line_of_rule (listed catalogue.now))
         (option_copied rule.entry)))) }
 {
     let Some(number) = number_of(catalogue, version) else {
@@ -273,7 +273,7 @@ fn lock_in(
         seen (listed catalogue.now) o
         ≡ option_map somes
         (lock_clause catalogue.now (version_of version.now)
-        (option_and_then (line_said (listed catalogue.now))
+        (option_and_then (line_of_rule (listed catalogue.now))
         (option_copied rule.entry)))) }
 {
     let Some(number) = number_of(catalogue, version) else {
@@ -295,14 +295,14 @@ fn exclude_in(
     catalogue: &Catalogue,
     rule: Option<&Rule>,
 ) -> Result<Option<Clause>, AllocError>
-    ensures { (owner : Option says.Version)
+    ensures { (owner : Option spelled.Version)
         → IfSome (option_copied rule.entry) (IsValid (listed catalogue.now) owner)
         → IfOk result
         (λ o.
         seen (listed catalogue.now) o
         ≡ option_map somes
         (exclude_clause
-        (option_and_then (line_said (listed catalogue.now))
+        (option_and_then (line_of_rule (listed catalogue.now))
         (option_copied rule.entry)))) }
 {
     match rule {
@@ -316,14 +316,14 @@ fn unknown_in(
     catalogue: &Catalogue,
     rule: Option<&Rule>,
 ) -> Result<Option<Clause>, AllocError>
-    ensures { (owner : Option says.Version)
+    ensures { (owner : Option spelled.Version)
         → IfSome (option_copied rule.entry) (IsValid (listed catalogue.now) owner)
         → IfOk result
         (λ o.
         seen (listed catalogue.now) o
         ≡ option_map somes
         (unknown_clause owner
-        (option_and_then (line_said (listed catalogue.now))
+        (option_and_then (line_of_rule (listed catalogue.now))
         (option_copied rule.entry)))) }
 {
     match rule {
@@ -443,7 +443,7 @@ fn gate_at(
     version: &Version,
     line: u32,
 ) -> Result<Option<Clause>, AllocError>
-    ensures { (request : List says.Line)
+    ensures { (request : List spelled.Line)
         → IfOk result
         (λ o.
         seen (listed catalogue.now) o

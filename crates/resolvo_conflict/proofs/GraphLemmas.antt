@@ -159,11 +159,11 @@ module _ {S : Type 0} (same : S → S → Bool) (own : (s : S) → same s s ≡ 
 
   pub drawn_edge : (old n1 n2 : List (ConflictNode S)) (l : Link S) (s t : ConflictNode S) (i j : NodeIndex) (w : ConflictEdge S) → source_of l ≡ Some s → t ≡ target_of l → n1 ≡ insert_key (same_node same) old s → n2 ≡ insert_key (same_node same) n1 t
       → i ≡ index_among same n1 s → j ≡ index_among same n2 t → w ≡ weight_of l → (let e : Edge S = record { source = i; target = j; weight = w } in e) ∷ [] ≡ edges_in same n2 l
-  drawn_edge old n1 n2 l s t i j w at to first second from into says =
+  drawn_edge old n1 n2 l s t i j w at to first second from into is_true =
       let there : Has (same_node same) own_test n1 s = subst (λ ns. Has (same_node same) own_test ns s) (sym first) (has_inserted (same_node same) own_test old s) in
       let stays : position_or_len (same_node same s) n1 ≡ position_or_len (same_node same s) n2 = sym (ap (position_or_len (same_node same s)) second ∙ position-insert_key (same_node same) own_test n1 t s there) in
       let begins : i ≡ index_among same n2 s = from ∙ ap (λ (k : ℕ). record { 0 = k }) stays in
-      (λ k. (let e : Edge S = record { source = begins k; target = (into ∙ ap (index_among same n2) to) k; weight = says k } in e) ∷ [])
+      (λ k. (let e : Edge S = record { source = begins k; target = (into ∙ ap (index_among same n2) to) k; weight = is_true k } in e) ∷ [])
       ∙ ap (λ o. map (edge_from same n2 l) (option_to_list o)) (sym at)
 
   pub longer : (nodes : List (ConflictNode S)) (n : ConflictNode S) → length nodes ≤ length (insert_key (same_node same) nodes n)

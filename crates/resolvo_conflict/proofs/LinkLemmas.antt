@@ -59,8 +59,8 @@ module _ {N S : Type 0} (same_name : N → N → Bool) (package_of : S → N) wh
       → gates ≡ filter_map gate_in rules → limits ≡ filter_map limit_in rules → outsides ≡ filter_map outside_in rules → before ≡ before_in same_name package_of last r → ((n : N) → last n ≡ last_instance same_name package_of earlier n)
       → new ≡ old ++ links_at offered gates limits outsides before r
       → new ++ links_after same_name package_of offered rules (earlier ++ r ∷ []) rest ≡ old ++ links_after same_name package_of offered rules earlier (r ∷ rest)
-  links_more offered rules earlier rest r old new gates limits outsides before last g l o b noted put =
-      let known : last ≡ last_instance same_name package_of earlier = λ i n. noted n i in
+  links_more offered rules earlier rest r old new gates limits outsides before last g l o b recorded put =
+      let known : last ≡ last_instance same_name package_of earlier = λ i n. recorded n i in
       let own : links_at offered gates limits outsides before r ≡ links_at offered (filter_map gate_in rules) (filter_map limit_in rules) (filter_map outside_in rules) (before_in same_name package_of (last_instance same_name package_of earlier) r) r =
       λ i. links_at offered (g i) (l i) (o i) ((b ∙ ap (λ f. before_in same_name package_of f r) known) i) r in
       ap (λ xs. xs ++ links_after same_name package_of offered rules (earlier ++ r ∷ []) rest) (put ∙ ap (λ xs. old ++ xs) own) ∙ append_assoc old _ _
@@ -74,8 +74,8 @@ module _ {S : Type 0} (same : S → S → Bool) where
   pub once_new : (joined next : List (Option S × VersionSetId × S)) (links kept more : List (Link S)) (i : ℕ) (x : Link S) → i < length links → x ≡ get_or links i x → is_new same joined (limited_in x) ≡ true
       → next ≡ cond (is_new same joined (limited_in x)) (joined ++ option_to_list (limited_in x)) joined → more ≡ kept ++ x ∷ []
       → more ++ once_after same next (drop (i + 1) links) ≡ kept ++ once_after same joined (drop i links)
-  once_new joined next links kept more i x l at new noted put =
-      let now : next ≡ joined ++ option_to_list (limited_in x) = noted ∙ ap (λ b. cond b (joined ++ option_to_list (limited_in x)) joined) new in
+  once_new joined next links kept more i x l at new recorded put =
+      let now : next ≡ joined ++ option_to_list (limited_in x) = recorded ∙ ap (λ b. cond b (joined ++ option_to_list (limited_in x)) joined) new in
       let left : once_after same joined (drop i links) ≡ x ∷ once_after same (joined ++ option_to_list (limited_in x)) (drop (i + 1) links) =
       once_more joined links i x l at ∙ ap (λ b. cond b (x ∷ once_after same (joined ++ option_to_list (limited_in x)) (drop (i + 1) links)) (once_after same joined (drop (i + 1) links))) new in
       (λ j. put j ++ once_after same (now j) (drop (i + 1) links)) ∙ append_assoc kept (x ∷ []) _ ∙ ap (λ xs. kept ++ xs) (sym left)
@@ -84,8 +84,8 @@ module _ {S : Type 0} (same : S → S → Bool) where
   pub once_again : (joined next : List (Option S × VersionSetId × S)) (links kept : List (Link S)) (i : ℕ) (x : Link S) → i < length links → x ≡ get_or links i x → is_new same joined (limited_in x) ≡ false
       → next ≡ cond (is_new same joined (limited_in x)) (joined ++ option_to_list (limited_in x)) joined
       → kept ++ once_after same next (drop (i + 1) links) ≡ kept ++ once_after same joined (drop i links)
-  once_again joined next links kept i x l at old noted =
-      let now : next ≡ joined = noted ∙ ap (λ b. cond b (joined ++ option_to_list (limited_in x)) joined) old in
+  once_again joined next links kept i x l at old recorded =
+      let now : next ≡ joined = recorded ∙ ap (λ b. cond b (joined ++ option_to_list (limited_in x)) joined) old in
       let left : once_after same joined (drop i links) ≡ once_after same joined (drop (i + 1) links) =
       once_more joined links i x l at ∙ ap (λ b. cond b (x ∷ once_after same (joined ++ option_to_list (limited_in x)) (drop (i + 1) links)) (once_after same joined (drop (i + 1) links))) old in
       ap (λ js. kept ++ once_after same js (drop (i + 1) links)) now ∙ ap (λ xs. kept ++ xs) (sym left)

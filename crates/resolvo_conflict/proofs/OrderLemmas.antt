@@ -83,7 +83,7 @@ module _ {N S : Type 0} (steps : List (ProofStep N S)) where
   Gives stack order = insert_all nat_eq order (flat_map (rules_under steps) stack) ≡ conflict_order steps
 
   -- The rules of the step are listed, or follow from the earlier steps that were stacked above it.
-  pub record IsSettled (stack order : List ℕ) (place : ℕ) : Type 0 where
+  pub record IsProcessed (stack order : List ℕ) (place : ℕ) : Type 0 where
     pub pending : List ℕ
     pub base : List ℕ
     pub splits : stack ≡ pending ++ base
@@ -100,8 +100,8 @@ module _ {N S : Type 0} (steps : List (ProofStep N S)) where
   has_cases xs ys x h = or_cases _ _ (sym (list_any-append (nat_eq x) xs ys) ∙ h)
 
   -- a processed step that is visited again adds nothing
-  pub settled_top : (place : ℕ) (rest order : List ℕ) → IsSettled (place ∷ rest) order place → (x : ℕ) → has (rules_under steps place) x → has order x
-  settled_top place rest order s x h = by s.pending s.splits s.below (s.covered x h)
+  pub processed_top : (place : ℕ) (rest order : List ℕ) → IsProcessed (place ∷ rest) order place → (x : ℕ) → has (rules_under steps place) x → has order x
+  processed_top place rest order s x h = by s.pending s.splits s.below (s.covered x h)
     where
       by : (pending : List ℕ) → place ∷ rest ≡ pending ++ s.base → All (λ cause. cause < place) pending → has (order ++ flat_map (rules_under steps) pending) x → has order x
       by [] e b c = subst (λ xs. has xs x) (append-nil order) c
@@ -110,11 +110,11 @@ module _ {N S : Type 0} (steps : List (ProofStep N S)) where
           absurd (omega (arith, top, All-head (λ cause. cause < place) y ys b))
 
   -- A step stays processed where the top of the stack is replaced by earlier steps, its causes.
-  pub settled_next : (place c : ℕ) (rest more old new : List ℕ) → IsSettled (place ∷ rest) old c → ((x : ℕ) → has old x → has new x)
-      → ((x : ℕ) → has (rules_under steps place) x → has (new ++ flat_map (rules_under steps) more) x) → All (λ cause. cause < place) more → IsSettled (more ++ rest) new c
-  settled_next place c rest more old new s keeps passes under = by s.pending s.splits s.below s.covered
+  pub processed_next : (place c : ℕ) (rest more old new : List ℕ) → IsProcessed (place ∷ rest) old c → ((x : ℕ) → has old x → has new x)
+      → ((x : ℕ) → has (rules_under steps place) x → has (new ++ flat_map (rules_under steps) more) x) → All (λ cause. cause < place) more → IsProcessed (more ++ rest) new c
+  processed_next place c rest more old new s keeps passes under = by s.pending s.splits s.below s.covered
     where
-      by : (pending : List ℕ) → place ∷ rest ≡ pending ++ s.base → All (λ cause. cause < c) pending → ((x : ℕ) → has (rules_under steps c) x → has (old ++ flat_map (rules_under steps) pending) x) → IsSettled (more ++ rest) new c
+      by : (pending : List ℕ) → place ∷ rest ≡ pending ++ s.base → All (λ cause. cause < c) pending → ((x : ℕ) → has (rules_under steps c) x → has (old ++ flat_map (rules_under steps) pending) x) → IsProcessed (more ++ rest) new c
       by [] e b cov = record {
         pending = [];
         base = more ++ rest;
@@ -150,8 +150,8 @@ module _ {N S : Type 0} (steps : List (ProofStep N S)) where
               step (inr (inr a)) = has_right (new ++ flat_map (rules_under steps) more) (flat_map (rules_under steps) ys) x a
 
   -- a new step is processed once its rules are listed or stacked
-  pub settled_new : (place : ℕ) (rest more order : List ℕ) → ((x : ℕ) → has (rules_under steps place) x → has (order ++ flat_map (rules_under steps) more) x) → All (λ cause. cause < place) more → IsSettled (more ++ rest) order place
-  settled_new place rest more order passes under = record { pending = more; base = rest; splits = refl; below = under; covered = passes }
+  pub processed_new : (place : ℕ) (rest more order : List ℕ) → ((x : ℕ) → has (rules_under steps place) x → has (order ++ flat_map (rules_under steps) more) x) → All (λ cause. cause < place) more → IsProcessed (more ++ rest) order place
+  processed_new place rest more order passes under = record { pending = more; base = rest; splits = refl; below = under; covered = passes }
 
   insert_known : (order xs : List ℕ) → ((x : ℕ) → has xs x → has order x) → insert_all nat_eq order xs ≡ order
   insert_known order [] h = refl

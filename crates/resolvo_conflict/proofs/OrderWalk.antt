@@ -16,7 +16,7 @@ use Rattle.resolvo_proof.specs.declared.step.ProofLiteral.{ProofLiteral}
 use Rattle.resolvo_proof.specs.declared.step.ProofStep.{ProofStep}
 use Rattle.resolvo_proof.specs.declared.step.ProofStep.TheVariants.{Rule, Derived}
 use Rattle.resolvo_conflict.specs.Order.{is_earlier, rules_under, conflict_order}
-use Rattle.resolvo_conflict.proofs.OrderLemmas.{has, IsSeen, left, left-seen, width, Gives, IsSettled, has_left, has_right, has_cases, settled_top, settled_next, settled_new, gives_again, gives_rule, gives_derived, under-rule, under-derived, earlier_causes}
+use Rattle.resolvo_conflict.proofs.OrderLemmas.{has, IsSeen, left, left-seen, width, Gives, IsProcessed, has_left, has_right, has_cases, processed_top, processed_next, processed_new, gives_again, gives_rule, gives_derived, under-rule, under-derived, earlier_causes}
 
 -- The remaining steps complete the order. The rules of a visited step are listed, or follow from
 -- the steps that were stacked above it.
@@ -25,7 +25,7 @@ pub record IsWalk {N S : Type 0} (steps : List (ProofStep N S)) (stack : List �
   pub within : All (λ place. place < length steps) stack
   pub gives : Gives steps (reverse stack) order
   pub listed : (place : ℕ) → has order place → IsSeen seen place
-  pub settled : (place : ℕ) → IsSeen seen place → IsSettled steps (reverse stack) order place
+  pub processed : (place : ℕ) → IsSeen seen place → IsProcessed steps (reverse stack) order place
 
 reverse-push : (below : List ℕ) (place : ℕ) → reverse (below ++ place ∷ []) ≡ place ∷ reverse below
 reverse-push below place = reverse-append below (place ∷ [])
@@ -60,7 +60,7 @@ module _ {N S : Type 0} (steps : List (ProofStep N S)) where
     within = All-cons (λ place. place < length steps) last [] (omega arith) (All-nil (λ place. place < length steps));
     gives = ap (λ xs. insert_all nat_eq xs (rules_under steps last ++ [])) none ∙ ap (insert_all nat_eq []) (append-nil (rules_under steps last)) ∙ ap (λ n. insert_all nat_eq [] (rules_under steps n)) (sym at);
     listed = λ place h. absurd (both_ways false refl (sym (ap (list_any (nat_eq place)) none) ∙ h));
-    settled = λ place h. absurd (none_seen (length steps) place (subst (λ xs. IsSeen xs place) new h));
+    processed = λ place h. absurd (none_seen (length steps) place (subst (λ xs. IsSeen xs place) new h));
   }
 
   -- there is nothing to traverse
@@ -71,7 +71,7 @@ module _ {N S : Type 0} (steps : List (ProofStep N S)) where
     within = All-same (λ place. place < length steps) stack [] empty (All-nil (λ place. place < length steps));
     gives = ap (λ xs. insert_all nat_eq order (flat_map (rules_under steps) (reverse xs))) empty ∙ none ∙ sym (ap (λ xs. insert_all nat_eq [] (rules_under xs (length xs - 1))) (nil_from_length steps (omega arith)));
     listed = λ place h. absurd (both_ways false refl (sym (ap (list_any (nat_eq place)) none) ∙ h));
-    settled = λ place h. absurd (none_seen (length steps) place (subst (λ xs. IsSeen xs place) new h));
+    processed = λ place h. absurd (none_seen (length steps) place (subst (λ xs. IsSeen xs place) new h));
   }
 
   module _ (stack below : List ℕ) (seen : List Bool) (order : List ℕ) (place : ℕ) (walk : IsWalk steps stack seen order) (top : stack ≡ below ++ place ∷ []) where
@@ -84,8 +84,8 @@ module _ {N S : Type 0} (steps : List (ProofStep N S)) where
     gave : Gives steps (place ∷ reverse below) order
     gave = subst (λ xs. Gives steps xs order) turned walk.gives
 
-    was_settled : (c : ℕ) → IsSeen seen c → IsSettled steps (place ∷ reverse below) order c
-    was_settled c h = subst (λ xs. IsSettled steps xs order c) turned (walk.settled c h)
+    was_processed : (c : ℕ) → IsSeen seen c → IsProcessed steps (place ∷ reverse below) order c
+    was_processed c h = subst (λ xs. IsProcessed steps xs order c) turned (walk.processed c h)
 
     pub top_within : place < length steps
     top_within = inside.1
@@ -93,23 +93,23 @@ module _ {N S : Type 0} (steps : List (ProofStep N S)) where
     -- a step that was visited
     pub walk_again : IsSeen seen place → IsWalk steps below seen order
     walk_again met =
-        let known : (x : ℕ) → has (rules_under steps place) x → has order x = settled_top steps place (reverse below) order (was_settled place met) in
+        let known : (x : ℕ) → has (rules_under steps place) x → has order x = processed_top steps place (reverse below) order (was_processed place met) in
         record {
           long = walk.long;
           within = inside.0;
           gives = gives_again steps place (reverse below) order gave known;
           listed = walk.listed;
-          settled = λ c h. settled_next steps place c (reverse below) [] order order (was_settled c h) (λ x k. k) (λ x k. has_left steps order [] x (known x k)) (All-nil (λ cause. cause < place));
+          processed = λ c h. processed_next steps place c (reverse below) [] order order (was_processed c h) (λ x k. k) (λ x k. has_left steps order [] x (known x k)) (All-nil (λ cause. cause < place));
         }
 
     -- an unvisited step, which is replaced by others on the stack
-    settled_by : (more new : List ℕ) → ((x : ℕ) → has order x → has new x) → ((x : ℕ) → has (rules_under steps place) x → has (new ++ flat_map (rules_under steps) more) x) → All (λ cause. cause < place) more
-        → (c : ℕ) → IsSeen (set seen place true) c → IsSettled steps (more ++ reverse below) new c
-    settled_by more new keeps passes under c h = by (seen_now seen place c h)
+    processed_by : (more new : List ℕ) → ((x : ℕ) → has order x → has new x) → ((x : ℕ) → has (rules_under steps place) x → has (new ++ flat_map (rules_under steps) more) x) → All (λ cause. cause < place) more
+        → (c : ℕ) → IsSeen (set seen place true) c → IsProcessed steps (more ++ reverse below) new c
+    processed_by more new keeps passes under c h = by (seen_now seen place c h)
       where
-        by : (c ≡ place) ⊎ IsSeen seen c → IsSettled steps (more ++ reverse below) new c
-        by (inl e) = subst (IsSettled steps (more ++ reverse below) new) (sym e) (settled_new steps place (reverse below) more new passes under)
-        by (inr met) = settled_next steps place c (reverse below) more order new (was_settled c met) keeps passes under
+        by : (c ≡ place) ⊎ IsSeen seen c → IsProcessed steps (more ++ reverse below) new c
+        by (inl e) = subst (IsProcessed steps (more ++ reverse below) new) (sym e) (processed_new steps place (reverse below) more new passes under)
+        by (inr met) = processed_next steps place c (reverse below) more order new (was_processed c met) keeps passes under
 
     -- an unvisited rule
     pub walk_rule : (r : ProofRule N S) (new : List ℕ) → slice_get steps place ≡ Some (Rule r) → (IsSeen seen place → ⊥) → new ≡ order ++ place ∷ [] → IsWalk steps below (set seen place true) new
@@ -124,7 +124,7 @@ module _ {N S : Type 0} (steps : List (ProofStep N S)) where
           within = inside.0;
           gives = subst (Gives steps (reverse below)) (sym put) (gives_rule steps place (reverse below) order gave own fresh);
           listed = λ c h. listed_by c l (has_cases steps order (place ∷ []) c (subst (λ xs. has xs c) put h));
-          settled = settled_by [] new keeps (λ x h. has_left steps new [] x (last x h)) (All-nil (λ cause. cause < place));
+          processed = processed_by [] new keeps (λ x h. has_left steps new [] x (last x h)) (All-nil (λ cause. cause < place));
         }
       where
         listed_by : (c : ℕ) → place < length seen → has order c ⊎ has (place ∷ []) c → IsSeen (set seen place true) c
@@ -149,7 +149,7 @@ module _ {N S : Type 0} (steps : List (ProofStep N S)) where
               (All-weaker (λ cause. is_earlier place cause ≡ true) (λ cause. cause < length steps) (λ cause h. omega (arith, ltb-true cause place h, inside.1)) (filter (is_earlier place) causes.items) (filter_passes (is_earlier place) causes.items)));
           gives = subst (λ xs. Gives steps xs order) (sym next) (gives_derived steps place (reverse below) more order gave own);
           listed = λ c h. seen_still seen place c l (walk.listed c h);
-          settled = λ c h. subst (λ xs. IsSettled steps xs order c) (sym next) (settled_by more order (λ x k. k) passes (earlier_causes place causes.items) c h);
+          processed = λ c h. subst (λ xs. IsProcessed steps xs order c) (sym next) (processed_by more order (λ x k. k) passes (earlier_causes place causes.items) c h);
         }
 
   -- the measure falls where an unvisited step is popped, and at most its width is pushed

@@ -32,7 +32,7 @@ use Rattle.resolvo_conflict.specs.Tests.{same_node}
 use Rattle.resolvo_conflict.specs.Links.{parent_node, target_of, weight_of, ends_of}
 use Rattle.resolvo_conflict.specs.LinkRules.{all_links, each_limit_once}
 use Rattle.resolvo_conflict.specs.Draw.{nodes_of, edge_from, edges_in, drawn, conflict_drawing}
-use Rattle.resolvo_conflict.specs.Truth.{IsTrue, IsTrueEdge, IsTrueGraph, TellsTruth}
+use Rattle.resolvo_conflict.specs.Truth.{IsTrue, IsTrueEdge, IsTrueGraph, IsTrueConflictGraph}
 use Rattle.resolvo_conflict.proofs.GraphLemmas.{position_within, Has, HasAll, has_all_inserted, has_all_left, has_all_right, has_all-at, own_test}
 use Rattle.resolvo_conflict.proofs.TruthLemmas.{AreRules, AreNamed, IsTrueLink, all_filter_map, all_true, kept_true}
 
@@ -56,8 +56,8 @@ one_node same exact (Excluded v) UnresolvedDependency h = absurd (both_ways fals
 one_node same exact (Excluded v) (Excluded w) h = ap (λ (n : ℕ). Excluded (record { 0 = n })) (eqb-true v.0 w.0 h)
 
 module _ {N S : Type 0} (same_name : N → N → Bool) (names : IsExact same_name) (same : S → S → Bool) (exact : IsExact same) (name_of : S → N) (p : Packages N S) (root : Rules) (of : (s : S) → p.package_of s ≡ name_of s) where
-  abbrev Says : Link S → Type 0
-  Says l = IsTrueLink same_name names same exact name_of p root of l
+  abbrev IsLinkTrue : Link S → Type 0
+  IsLinkTrue l = IsTrueLink same_name names same exact name_of p root of l
 
   node_at : (nodes : List (ConflictNode S)) (n : ConflictNode S) → Has (same_node same) (own_test same exact.own) nodes n → slice_get nodes (position_or_len (same_node same n) nodes) ≡ Some n
   node_at nodes n h =
@@ -65,10 +65,10 @@ module _ {N S : Type 0} (same_name : N → N → Bool) (names : IsExact same_nam
       slice_get-get_or nodes (position_or_len (same_node same n) nodes) n within ∙ ap Some (sym (one_node same exact n (get_or nodes (position_or_len (same_node same n) nodes) n) (passes_at_first (same_node same n) nodes n within)))
 
   edge_true : (nodes : List (ConflictNode S)) (l : Link S) (s : ConflictNode S) → Has (same_node same) (own_test same exact.own) nodes s → Has (same_node same) (own_test same exact.own) nodes (target_of l) → IsTrue same p root (weight_of l) s (target_of l) → All (IsTrueEdge same p root nodes) (edge_from same nodes l s ∷ [])
-  edge_true nodes l s a b says =
-      All-cons (IsTrueEdge same p root nodes) (edge_from same nodes l s) [] (record { source = s; target = target_of l; from = node_at nodes s a; to = node_at nodes (target_of l) b; says = says }) (All-nil (IsTrueEdge same p root nodes))
+  edge_true nodes l s a b is_true =
+      All-cons (IsTrueEdge same p root nodes) (edge_from same nodes l s) [] (record { source = s; target = target_of l; from = node_at nodes s a; to = node_at nodes (target_of l) b; is_true = is_true }) (All-nil (IsTrueEdge same p root nodes))
 
-  link_edges : (nodes : List (ConflictNode S)) (l : Link S) → HasAll (same_node same) (own_test same exact.own) nodes (ends_of l) → Says l → All (IsTrueEdge same p root nodes) (edges_in same nodes l)
+  link_edges : (nodes : List (ConflictNode S)) (l : Link S) → HasAll (same_node same) (own_test same exact.own) nodes (ends_of l) → IsLinkTrue l → All (IsTrueEdge same p root nodes) (edges_in same nodes l)
   link_edges nodes (Links.Excluded s why) h k = edge_true nodes (Links.Excluded s why) (Solvable s) h.0 h.1.0 (s, why, refl, refl, k)
   link_edges nodes (Links.Requires parent q None) h k = edge_true nodes (Links.Requires parent q None) (parent_node parent) h.0 h.1.0 (record { parent = parent; from = refl; asks = k.0; to = inr (refl, k.1) })
   link_edges nodes (Links.Requires parent q (Some t)) h k = edge_true nodes (Links.Requires parent q (Some t)) (parent_node parent) h.0 h.1.0 (record { parent = parent; from = refl; asks = k.0; to = inl (t, refl, k.1) })
@@ -77,14 +77,14 @@ module _ {N S : Type 0} (same_name : N → N → Bool) (names : IsExact same_nam
   link_edges nodes (Links.Instance (Some b) s) h k = edge_true nodes (Links.Instance (Some b) s) (Solvable b) h.0 h.1.0 (b, s, refl, refl, k)
   link_edges nodes (Links.Constrains parent v s) h k = edge_true nodes (Links.Constrains parent v s) (parent_node parent) h.0 h.1.0 (parent, s, refl, refl, k.0, k.1)
 
-  all_edges : (nodes : List (ConflictNode S)) (links : List (Link S)) → HasAll (same_node same) (own_test same exact.own) nodes (flat_map ends_of links) → All Says links → All (IsTrueEdge same p root nodes) (flat_map (edges_in same nodes) links)
+  all_edges : (nodes : List (ConflictNode S)) (links : List (Link S)) → HasAll (same_node same) (own_test same exact.own) nodes (flat_map ends_of links) → All IsLinkTrue links → All (IsTrueEdge same p root nodes) (flat_map (edges_in same nodes) links)
   all_edges nodes [] h k = All-nil (IsTrueEdge same p root nodes)
   all_edges nodes (l ∷ ls) h k =
       All-append (IsTrueEdge same p root nodes) (edges_in same nodes l) (flat_map (edges_in same nodes) ls)
-      (link_edges nodes l (has_all_left (same_node same) (own_test same exact.own) nodes (ends_of l) (flat_map ends_of ls) h) (All-head Says l ls k))
-      (all_edges nodes ls (has_all_right (same_node same) (own_test same exact.own) nodes (ends_of l) (flat_map ends_of ls) h) (All-tail Says l ls k))
+      (link_edges nodes l (has_all_left (same_node same) (own_test same exact.own) nodes (ends_of l) (flat_map ends_of ls) h) (All-head IsLinkTrue l ls k))
+      (all_edges nodes ls (has_all_right (same_node same) (own_test same exact.own) nodes (ends_of l) (flat_map ends_of ls) h) (All-tail IsLinkTrue l ls k))
 
-  pub drawn_true : (links : List (Link S)) → All Says links → IsTrueGraph same p root (drawn same links)
+  pub drawn_true : (links : List (Link S)) → All IsLinkTrue links → IsTrueGraph same p root (drawn same links)
   drawn_true links k = all_edges (nodes_of same links) links (has_all_inserted (same_node same) (own_test same exact.own) (Root ∷ UnresolvedDependency ∷ []) (flat_map ends_of links)) k
 
 below : (u x m : ℕ) → u < m + 1 → x ≡ m → (x ≡ u → ⊥) → u < m
@@ -122,7 +122,7 @@ module _ {N S : Type 0} (same : S → S → Bool) (p : Packages N S) (root : Rul
     target = t.target;
     from = moved_node nodes u.0 e.source.0 t.source l t.from (or_parts (e.source.0 == u.0) (e.target.0 == u.0) apart).0;
     to = moved_node nodes u.0 e.target.0 t.target l t.to (or_parts (e.source.0 == u.0) (e.target.0 == u.0) apart).1;
-    says = t.says;
+    is_true = t.is_true;
   }
 
   moved_edges : (nodes : List (ConflictNode S)) (u : NodeIndex) (es : List (Edge S)) → u.0 < length nodes → list_any (touches u) es ≡ false → All (IsTrueEdge same p root nodes) es → All (IsTrueEdge same p root (swap_remove nodes u.0 UnresolvedDependency)) (map (with_ends_moved (length nodes - 1) u.0) es)
@@ -148,24 +148,24 @@ module _ {N S : Type 0} (same : S → S → Bool) (p : Packages N S) (root : Rul
 drawing_true : {N S : Type 0} (same_name : N → N → Bool) → IsExact same_name → (same : S → S → Bool) → IsExact same → (name_of : S → N) (offered : Requirement → List S) (rules : List (ProofRule N S)) (p : Packages N S) (root : Rules)
     → ((s : S) → p.package_of s ≡ name_of s) → AreRules same p root rules → AreNamed same p offered rules → IsTrueGraph same p root (conflict_drawing same_name same name_of offered rules)
 unfolding conflict_drawing
-drawing_true same_name names same exact name_of offered rules p root of stated given =
+drawing_true same_name names same exact name_of offered rules p root of are_rules given =
     removal_true same p root (drawn same (each_limit_once same (all_links same_name name_of offered rules)))
     (drawn_true same_name names same exact name_of p root of (each_limit_once same (all_links same_name name_of offered rules))
-    (kept_true same (IsTrueLink same_name names same exact name_of p root of) (all_links same_name name_of offered rules) (all_true same_name names same exact name_of p root of offered rules stated given)))
+    (kept_true same (IsTrueLink same_name names same exact name_of p root of) (all_links same_name name_of offered rules) (all_true same_name names same exact name_of p root of offered rules are_rules given)))
 
 -- the rule is one of the provider's or the root's, perhaps under a condition
-abbrev IsStated : {N S : Type 0} → (S → S → Bool) → Packages N S → Rules → ProofRule N S → Type 0
-IsStated {N} {S} same p root r = (condition : Option ConditionId) × IsRule same p root (rule_under condition r)
+abbrev IsSomeRule : {N S : Type 0} → (S → S → Bool) → Packages N S → Rules → ProofRule N S → Type 0
+IsSomeRule {N} {S} same p root r = (condition : Option ConditionId) × IsRule same p root (rule_under condition r)
 
 -- the rules of a proof's conflict are right
-rules_stated : {N S : Type 0} (same : S → S → Bool) (p : Packages N S) (root : Rules) (same_atom : Atom N S → Atom N S → Bool) (steps : List (ProofStep N S)) → IsProof same_atom same p root steps → AreRules same p root (conflict_rules steps)
-rules_stated {N} {S} same p root same_atom steps proof r c =
-    All-contains (IsStated same p root) (conflict_rules steps) r (all_filter_map (IsStated same p root) (λ place. rule_in (slice_get steps place)) (conflict_order steps) (λ place h s e. stated place (slice_get steps place) refl s e)) c
+rules_right : {N S : Type 0} (same : S → S → Bool) (p : Packages N S) (root : Rules) (same_atom : Atom N S → Atom N S → Bool) (steps : List (ProofStep N S)) → IsProof same_atom same p root steps → AreRules same p root (conflict_rules steps)
+rules_right {N} {S} same p root same_atom steps proof r c =
+    All-contains (IsSomeRule same p root) (conflict_rules steps) r (all_filter_map (IsSomeRule same p root) (λ place. rule_in (slice_get steps place)) (conflict_order steps) (λ place h s e. are_rules place (slice_get steps place) refl s e)) c
   where
-    stated : (place : ℕ) (o : Option (ProofStep N S)) → slice_get steps place ≡ o → (s : ProofRule N S) → rule_in o ≡ Some s → IsStated same p root s
-    stated place None at s e = cc
-    stated place (Some (Rule t)) at s e = subst (IsStated same p root) (same_Some t s e) (proof place (Rule t) at)
-    stated place (Some (Derived literals causes)) at s e = cc
+    are_rules : (place : ℕ) (o : Option (ProofStep N S)) → slice_get steps place ≡ o → (s : ProofRule N S) → rule_in o ≡ Some s → IsSomeRule same p root s
+    are_rules place None at s e = cc
+    are_rules place (Some (Rule t)) at s e = subst (IsSomeRule same p root) (same_Some t s e) (proof place (Rule t) at)
+    are_rules place (Some (Derived literals causes)) at s e = cc
 
 contains_filter_map : {A X : Type 0} (f : A → Option X) (xs : List A) (x : A) (y : X) → Contains xs x → f x ≡ Some y → Contains (filter_map f xs) y
 contains_filter_map f [] x y c e = absurd (contains_none x c)
@@ -190,6 +190,6 @@ named_there rules r q c e =
 
 -- the graph of the steps' conflict is true
 pub conflict_true : {N S : Type 0} (same_name : N → N → Bool) → IsExact same_name → (same : S → S → Bool) → IsExact same → (name_of : S → N) (offered : Requirement → List S) (steps : List (ProofStep N S))
-    → TellsTruth same name_of offered steps (conflict_drawing same_name same name_of offered (conflict_rules steps))
+    → IsTrueConflictGraph same name_of offered steps (conflict_drawing same_name same name_of offered (conflict_rules steps))
 conflict_true same_name names same exact name_of offered steps p root of same_atom proof given =
-    drawing_true same_name names same exact name_of offered (conflict_rules steps) p root of (rules_stated same p root same_atom steps proof) (λ r c q e. given q (named_there (conflict_rules steps) r q c e))
+    drawing_true same_name names same exact name_of offered (conflict_rules steps) p root of (rules_right same p root same_atom steps proof) (λ r c q e. given q (named_there (conflict_rules steps) r q c e))

@@ -67,10 +67,10 @@ asked_need list q h =
 module _ {N S : Type 0} (same_name : N → N → Bool) (names : IsExact same_name) (same : S → S → Bool) (exact : IsExact same) (name_of : S → N) (p : Packages N S) (root : Rules) (of : (s : S) → p.package_of s ≡ name_of s) where
   -- the claim of a link
   abbrev pub IsTrueLink : Link S → Type 0
-  IsTrueLink (Links.Excluded s why) = KeepsOut same p (Encoder.Bar.word why) s
+  IsTrueLink (Links.Excluded s why) = KeepsOut same p (Encoder.ForbidReason.word why) s
   IsTrueLink (Links.Requires parent q None) = Asks same p root parent q × ((s : S) → meets same p q s ≡ false)
   IsTrueLink (Links.Requires parent q (Some t)) = Asks same p root parent q × (meets same p q t ≡ true)
-  IsTrueLink (Links.Locked locked s) = KeepsOut same p (Encoder.Bar.lock locked) s
+  IsTrueLink (Links.Locked locked s) = KeepsOut same p (Encoder.ForbidReason.lock locked) s
   IsTrueLink (Links.Instance None s) = Unit {0}
   IsTrueLink (Links.Instance (Some b) s) = p.package_of b ≡ p.package_of s
   IsTrueLink (Links.Constrains parent v s) = Contains (rules_for same p root parent).constraints v × (is_outside same p v s ≡ true)
@@ -107,7 +107,7 @@ module _ {N S : Type 0} (same_name : N → N → Bool) (names : IsExact same_nam
   instance_true None s h = tt
   instance_true (Some b) s h = of b ∙ h ∙ sym (of s)
 
-  module _ (offered : Requirement → List S) (rules : List (ProofRule N S)) (stated : AreRules same p root rules) (given : AreNamed same p offered rules) where
+  module _ (offered : Requirement → List S) (rules : List (ProofRule N S)) (are_rules : AreRules same p root rules) (given : AreNamed same p offered rules) where
     gates_true : All (λ g. Asks same p root (Some g.1) g.0) (filter_map gate_in rules)
     gates_true = all_filter_map (λ (g : Requirement × S). Asks same p root (Some g.1) g.0) gate_in rules by
       where
@@ -115,7 +115,7 @@ module _ {N S : Type 0} (same_name : N → N → Bool) (names : IsExact same_nam
         by (Needs parent q case) c g e = cc
         by (GateOf s q) c g e =
             let is : (q, s) ≡ g = cc in
-            subst (λ (g : Requirement × S). Asks same p root (Some g.1) g.0) is (asked_need (rules_of (p.dependencies_of s)).requirements q (stated (GateOf s q) c).1)
+            subst (λ (g : Requirement × S). Asks same p root (Some g.1) g.0) is (asked_need (rules_of (p.dependencies_of s)).requirements q (are_rules (GateOf s q) c).1)
         by (Shared q) c g e = cc
         by (Limit parent v barred) c g e = cc
         by (Outside v s) c g e = cc
@@ -133,7 +133,7 @@ module _ {N S : Type 0} (same_name : N → N → Bool) (names : IsExact same_nam
         by (Shared q) c l e = cc
         by (Limit parent v None) c l e =
             let is : (v, parent) ≡ l = cc in
-            subst (λ (l : VersionSetId × Option S). Contains (rules_for same p root l.1).constraints l.0) is (stated (Limit parent v None) c).1
+            subst (λ (l : VersionSetId × Option S). Contains (rules_for same p root l.1).constraints l.0) is (are_rules (Limit parent v None) c).1
         by (Limit parent v (Some s)) c l e = cc
         by (Outside v s) c l e = cc
         by (Locked locked s) c l e = cc
@@ -151,7 +151,7 @@ module _ {N S : Type 0} (same_name : N → N → Bool) (names : IsExact same_nam
         by (Limit parent v barred) c o e = cc
         by (Outside v s) c o e =
             let is : (v, s) ≡ o = cc in
-            subst (λ (o : VersionSetId × S). is_outside same p o.0 o.1 ≡ true) is (stated (Outside v s) c).1.2
+            subst (λ (o : VersionSetId × S). is_outside same p o.0 o.1 ≡ true) is (are_rules (Outside v s) c).1.2
         by (Locked locked s) c o e = cc
         by (Excluded s why) c o e = cc
         by (Digit s place bit) c o e = cc
@@ -162,8 +162,8 @@ module _ {N S : Type 0} (same_name : N → N → Bool) (names : IsExact same_nam
 
     rule_true : (earlier : List (ProofRule N S)) (r : ProofRule N S) → Contains rules r → All IsTrueLink (links_at offered (filter_map gate_in rules) (filter_map limit_in rules) (filter_map outside_in rules) (before_in same_name name_of (last_instance same_name name_of earlier) r) r)
     rule_true earlier (Needs parent q case) c =
-        let rule = (stated (Needs parent q case) c).1 in
-        needed_true parent q (offered q) (record { condition = (stated (Needs parent q case) c).0; requirement = q }, rule.0, refl) (given (Needs parent q case) c q refl)
+        let rule = (are_rules (Needs parent q case) c).1 in
+        needed_true parent q (offered q) (record { condition = (are_rules (Needs parent q case) c).0; requirement = q }, rule.0, refl) (given (Needs parent q case) c q refl)
     rule_true earlier (GateOf s q) c = All-nil IsTrueLink
     rule_true earlier (Shared q) c =
         all_flat_map IsTrueLink (λ s. needed (Some s) q (offered q)) (requirers (filter_map gate_in rules) q)
@@ -172,14 +172,14 @@ module _ {N S : Type 0} (same_name : N → N → Bool) (names : IsExact same_nam
     rule_true earlier (Limit parent v None) c =
         All-map IsTrueLink (λ s. Links.Constrains parent v s) (under_set (filter_map outside_in rules) v)
         (all_picked (λ (o : VersionSetId × S). is_outside same p o.0 o.1 ≡ true) (λ s. IsTrueLink (Links.Constrains parent v s)) (λ (o : VersionSetId × S). same_set o.0 v) (λ (o : VersionSetId × S). o.1) (filter_map outside_in rules) outsides_true
-        (λ o a e. ((stated (Limit parent v None) c).1, subst (λ w. is_outside same p w o.1 ≡ true) (one_set o.0 v e) a)))
-    rule_true earlier (Limit parent v (Some s)) c = alone (Links.Constrains parent v s) (stated (Limit parent v (Some s)) c).1
+        (λ o a e. ((are_rules (Limit parent v None) c).1, subst (λ w. is_outside same p w o.1 ≡ true) (one_set o.0 v e) a)))
+    rule_true earlier (Limit parent v (Some s)) c = alone (Links.Constrains parent v s) (are_rules (Limit parent v (Some s)) c).1
     rule_true earlier (Outside v s) c =
         All-map IsTrueLink (λ parent. Links.Constrains parent v s) (under_set (filter_map limit_in rules) v)
         (all_picked (λ (l : VersionSetId × Option S). Contains (rules_for same p root l.1).constraints l.0) (λ parent. IsTrueLink (Links.Constrains parent v s)) (λ (l : VersionSetId × Option S). same_set l.0 v) (λ (l : VersionSetId × Option S). l.1) (filter_map limit_in rules) limits_true
-        (λ l a e. (subst (Contains (rules_for same p root l.1).constraints) (one_set l.0 v e) a, (stated (Outside v s) c).1.2)))
-    rule_true earlier (Locked locked s) c = alone (Links.Locked locked s) (stated (Locked locked s) c).1
-    rule_true earlier (Excluded s why) c = alone (Links.Excluded s why) (stated (Excluded s why) c).1
+        (λ l a e. (subst (Contains (rules_for same p root l.1).constraints) (one_set l.0 v e) a, (are_rules (Outside v s) c).1.2)))
+    rule_true earlier (Locked locked s) c = alone (Links.Locked locked s) (are_rules (Locked locked s) c).1
+    rule_true earlier (Excluded s why) c = alone (Links.Excluded s why) (are_rules (Excluded s why) c).1
     rule_true earlier (Digit s place bit) c = alone (Links.Instance (last_instance same_name name_of earlier (name_of s)) s) (instance_true (last_instance same_name name_of earlier (name_of s)) s (last_named earlier (name_of s)))
     rule_true earlier (AtLeastOne n s) c = All-nil IsTrueLink
 

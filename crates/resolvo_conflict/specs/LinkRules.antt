@@ -67,7 +67,7 @@ requirers gates q = map (λ g. g.1) (filter (λ g. same_requirement g.0 q) gates
 
 -- the entries of the version set
 abbrev pub under_set : {X : Type 0} → List (VersionSetId × X) → VersionSetId → List X
-under_set noted v = map (λ l. l.1) (filter (λ l. same_set l.0 v) noted)
+under_set recorded v = map (λ l. l.1) (filter (λ l. same_set l.0 v) recorded)
 
 -- a parent is linked to each candidate of its requirement, or to none where there is none
 abbrev pub needed : {S : Type 0} → Option S → Requirement → List S → List (Link S)

@@ -21,6 +21,6 @@ offered_by o r = items_or_none (slot_of o.lists r)
 -- in new these are recorded for the requirement, unless others were in old, and all else is as in
 -- old
 pub record IsOffered {S : Type 0} (old : Offers S) (q : Requirement) (candidates : List S) (new : Offers S) : Type 0 where
-  pub noted : was_offered new q ≡ true
+  pub recorded : was_offered new q ≡ true
   pub given : offered_by new q ≡ cond (was_offered old q) (offered_by old q) candidates
   pub others : (r : Requirement) → (r ≡ q → ⊥) → (was_offered new r ≡ was_offered old r) × (offered_by new r ≡ offered_by old r)

@@ -36,9 +36,9 @@ module _ {N S : Type 0} (same : S → S → Bool) (p : Packages N S) (root : Rul
   abbrev pub IsTrue : ConflictEdge S → ConflictNode S → ConflictNode S → Type 0
   IsTrue (Edges.Requires q) source target = IsTrueNeed q source target
   IsTrue (Edges.Conflict (Causes.Constrains v)) source target = (parent : Option S) × (s : S) × (source ≡ parent_node parent) × (target ≡ Nodes.Solvable s) × Contains (rules_for same p root parent).constraints v × (is_outside same p v s ≡ true)
-  IsTrue (Edges.Conflict (Causes.Locked locked)) source target = (s : S) × (source ≡ Nodes.Root) × (target ≡ Nodes.Solvable s) × KeepsOut same p (Encoder.Bar.lock locked) s
+  IsTrue (Edges.Conflict (Causes.Locked locked)) source target = (s : S) × (source ≡ Nodes.Root) × (target ≡ Nodes.Solvable s) × KeepsOut same p (Encoder.ForbidReason.lock locked) s
   IsTrue (Edges.Conflict Causes.ForbidMultipleInstances) source target = (s t : S) × (source ≡ Nodes.Solvable s) × (target ≡ Nodes.Solvable t) × (p.package_of s ≡ p.package_of t)
-  IsTrue (Edges.Conflict Causes.Excluded) source target = (s : S) × (why : StringId) × (source ≡ Nodes.Solvable s) × (target ≡ Nodes.Excluded why) × KeepsOut same p (Encoder.Bar.word why) s
+  IsTrue (Edges.Conflict Causes.Excluded) source target = (s : S) × (why : StringId) × (source ≡ Nodes.Solvable s) × (target ≡ Nodes.Excluded why) × KeepsOut same p (Encoder.ForbidReason.word why) s
 
   -- the ends of the edge are nodes, and its claim is true
   pub record IsTrueEdge (nodes : List (ConflictNode S)) (e : Edge S) : Type 0 where
@@ -46,7 +46,7 @@ module _ {N S : Type 0} (same : S → S → Bool) (p : Packages N S) (root : Rul
     pub target : ConflictNode S
     pub from : slice_get nodes e.source.0 ≡ Some source
     pub to : slice_get nodes e.target.0 ≡ Some target
-    pub says : IsTrue e.weight source target
+    pub is_true : IsTrue e.weight source target
 
   -- each edge of the graph is true
   abbrev pub IsTrueGraph : Graph S → Type 0
@@ -58,5 +58,5 @@ module _ {N S : Type 0} (same : S → S → Bool) (p : Packages N S) (root : Rul
 
 -- The claim of a graph of the steps' conflict, for packages with these names and a root. Each edge
 -- is true if the steps are a proof and the offers are exactly what meets each requirement.
-abbrev pub TellsTruth : {N S : Type 0} → (S → S → Bool) → (S → N) → (Requirement → List S) → List (ProofStep N S) → Graph S → Type 0
-TellsTruth {N} {S} same name_of offered steps g = (p : Packages N S) (root : Rules) → ((s : S) → p.package_of s ≡ name_of s) → (same_atom : Atom N S → Atom N S → Bool) → IsProof same_atom same p root steps → AreOffered same p root offered steps → IsTrueGraph same p root g
+abbrev pub IsTrueConflictGraph : {N S : Type 0} → (S → S → Bool) → (S → N) → (Requirement → List S) → List (ProofStep N S) → Graph S → Type 0
+IsTrueConflictGraph {N} {S} same name_of offered steps g = (p : Packages N S) (root : Rules) → ((s : S) → p.package_of s ≡ name_of s) → (same_atom : Atom N S → Atom N S → Bool) → IsProof same_atom same p root steps → AreOffered same p root offered steps → IsTrueGraph same p root g

@@ -8,7 +8,7 @@ ghost use Rattle.resolvo_conflict.specs.Offered.{offered_by};
 ghost use Rattle.resolvo_conflict.specs.Order.{conflict_rules};
 ghost use Rattle.resolvo_conflict.specs.Tests.{same_node};
 ghost use Rattle.resolvo_conflict.specs.Links.{ends_of};
-ghost use Rattle.resolvo_conflict.specs.Truth.{TellsTruth};
+ghost use Rattle.resolvo_conflict.specs.Truth.{IsTrueConflictGraph};
 ghost use Rattle.resolvo_conflict.specs.Draw.{index_among, edges_in, drawn, conflict_drawing};
 
 use crate::link::Link;
@@ -38,7 +38,7 @@ pub fn conflict_graph<I: Interner>(
         ≡ conflict_drawing I.NameId.eq I.SolvableId.eq (I.name_of_solvable interner.now)
         (offered_by offers.now) (conflict_rules steps.now)) }
     ensures truth { IfOk result
-        (TellsTruth I.SolvableId.eq (I.name_of_solvable interner.now) (offered_by offers.now)
+        (IsTrueConflictGraph I.SolvableId.eq (I.name_of_solvable interner.now) (offered_by offers.now)
         steps.now) }
     ensures refusal { IsOkUnless result Memory }
 {

@@ -119,7 +119,7 @@ pub(crate) fn links_of<I: Interner>(
     let mut links = Vec::new(alloc);
     for place in order {
         if let Some(rule) = rule_at(steps, *place) {
-            let before = note_instance(interner, rule, &mut instances)?;
+            let before = record_instance(interner, rule, &mut instances)?;
             link(offers, &shares, before, rule, &mut links)?;
         }
     }
@@ -127,7 +127,7 @@ pub(crate) fn links_of<I: Interner>(
 }
 
 /// Records the version whose digit a rule encodes as the last of its package. The one before it.
-fn note_instance<I: Interner>(
+fn record_instance<I: Interner>(
     interner: &I,
     rule: &ProofRule<I::NameId, I::SolvableId>,
     instances: &mut HashMap<I::NameId, I::SolvableId>,
@@ -137,7 +137,7 @@ fn note_instance<I: Interner>(
         b
         ≡ before_in I.NameId.eq (I.name_of_solvable interner.now)
         (get I.NameId.eq instances.old) rule.now) }
-    ensures noted { OnOk result
+    ensures recorded { OnOk result
         ((n : I.NameId)
         → get I.NameId.eq instances.new n
         ≡ option_or
@@ -351,7 +351,7 @@ fn is_new<S: Copy + Exact + Hash + Debug>(
     link: Link<S>,
 ) -> R<bool>
     ensures new { IfOk result (λ b. b ≡ is_new S.eq limits.old.keys (limited_in link)) }
-    ensures noted { OnOk result
+    ensures recorded { OnOk result
         (limits.new.keys
         ≡ cond (is_new S.eq limits.old.keys (limited_in link))
         (limits.old.keys ++ option_to_list (limited_in link)) limits.old.keys) }

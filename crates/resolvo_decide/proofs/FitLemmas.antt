@@ -23,45 +23,45 @@ use Rattle.resolvo_decide.specs.declared.clause_states.ClauseState.{ClauseState}
 use Rattle.resolvo_decide.specs.declared.clause_states.ClauseState.TheVariants.{Open, Met, Idle}
 use Rattle.resolvo_decide.specs.declared.undecided_clauses.UndecidedClauses.{UndecidedClauses}
 use Rattle.resolvo_decide.specs.States.{state_at, reopened, is_open_state}
-use Rattle.resolvo_decide.specs.Needs.{literals_in, is_met, places_at, IsMetNow, IsSo, Fits, KeepsFitting, AddsNeed}
+use Rattle.resolvo_decide.specs.Needs.{literals_in, is_met, places_at, IsMetNow, IsSoundState, Fits, KeepsFitting, AddsNeed}
 use Rattle.resolvo_decide.proofs.Positions.{state_end, state_map, state_out, state_put, state_set_other}
 use Rattle.resolvo_decide.proofs.Seen.{met_take, met_whole, take_less, idle_take, idle_more}
 
 module _ (literals : Requirement → List Signed) (q : NeedClause) where
   -- under a prefix of the trail
-  so_back : (common : ℕ) (es : List Entry) (s : ClauseState) → IsSo literals es q s → IsSo literals (take common es) q (reopened common s)
-  so_back common es Open h = tt
-  so_back common es Idle h = idle_take common es q.parent.0 h
-  so_back common es (Met within) h = go (nat_lt common within) refl
+  sound_back : (common : ℕ) (es : List Entry) (s : ClauseState) → IsSoundState literals es q s → IsSoundState literals (take common es) q (reopened common s)
+  sound_back common es Open h = tt
+  sound_back common es Idle h = idle_take common es q.parent.0 h
+  sound_back common es (Met within) h = go (nat_lt common within) refl
     where
-      go : (b : Bool) → nat_lt common within ≡ b → IsSo literals (take common es) q (cond b Open (Met within))
+      go : (b : Bool) → nat_lt common within ≡ b → IsSoundState literals (take common es) q (cond b Open (Met within))
       go true is = tt
       go false is = subst (λ (xs : List Entry). is_met xs (literals q.requirement) ≡ true) (sym (take_less within common es (ltb-false common within is))) h
 
   -- after an entry that makes no parent of an idle clause true
-  so_on : (es : List Entry) (e : Entry) (s : ClauseState) → IsSo literals es q s → (e.decision.value ≡ true → e.decision.variable.0 ≡ q.parent.0 → s ≡ Idle → ⊥) → IsSo literals (es ++ e ∷ []) q s
-  so_on es e Open h other = tt
-  so_on es e (Met within) h other = met_take within es (e ∷ []) (literals q.requirement) h
-  so_on es e Idle h other = idle_more es e q.parent.0 h (λ same. go e.decision.value refl same)
+  sound_on : (es : List Entry) (e : Entry) (s : ClauseState) → IsSoundState literals es q s → (e.decision.value ≡ true → e.decision.variable.0 ≡ q.parent.0 → s ≡ Idle → ⊥) → IsSoundState literals (es ++ e ∷ []) q s
+  sound_on es e Open h other = tt
+  sound_on es e (Met within) h other = met_take within es (e ∷ []) (literals q.requirement) h
+  sound_on es e Idle h other = idle_more es e q.parent.0 h (λ same. go e.decision.value refl same)
     where
       go : (b : Bool) → e.decision.value ≡ b → e.decision.variable.0 ≡ q.parent.0 → b ≡ false
       go true is same = absurd (other is same refl)
       go false is same = refl
 
   -- an open state is right
-  so_open : (es : List Entry) (s : ClauseState) → s ≡ Open → IsSo literals es q s
-  so_open es s is = subst (IsSo literals es q) (sym is) tt
+  sound_open : (es : List Entry) (s : ClauseState) → s ≡ Open → IsSoundState literals es q s
+  sound_open es s is = subst (IsSoundState literals es q) (sym is) tt
 
 -- a state that was found, or none
-pub so_put : (literals : Requirement → List Signed) (es : List Entry) (q : NeedClause) (found new : ClauseState) → IsSo literals es q found → (new ≡ found) ⊎ (new ≡ Open) → IsSo literals es q new
-so_put literals es q found new so (inl is) = subst (IsSo literals es q) (sym is) so
-so_put literals es q found new so (inr is) = so_open literals q es new is
+pub sound_put : (literals : Requirement → List Signed) (es : List Entry) (q : NeedClause) (found new : ClauseState) → IsSoundState literals es q found → (new ≡ found) ⊎ (new ≡ Open) → IsSoundState literals es q new
+sound_put literals es q found new so (inl is) = subst (IsSoundState literals es q) (sym is) so
+sound_put literals es q found new so (inr is) = sound_open literals q es new is
 
 pub fits_back : (common : ℕ) (old new : UndecidedClauses) → new.seen.items ≡ take common old.seen.items → new.states ≡ map (reopened common) old.states → new.places ≡ old.places → KeepsFitting old new
 fits_back common old new seen states places = λ literals queue f. record {
   count = ap length states ∙ length-map old.states (reopened common) ∙ f.count;
-  each = λ i q at. subst (λ (es : List Entry). IsSo literals es q (state_at new.states i)) (sym seen)
-      (subst (IsSo literals (take common old.seen.items) q) (sym (ap (λ ss. state_at ss i) states ∙ state_map common old.states i)) (so_back literals q common old.seen.items (state_at old.states i) (f.each i q at)));
+  each = λ i q at. subst (λ (es : List Entry). IsSoundState literals es q (state_at new.states i)) (sym seen)
+      (subst (IsSoundState literals (take common old.seen.items) q) (sym (ap (λ ss. state_at ss i) states ∙ state_map common old.states i)) (sound_back literals q common old.seen.items (state_at old.states i) (f.each i q at)));
   placed = λ i q at. subst (λ ps. Contains (places_at ps.items q.parent.0) i) (sym places) (f.placed i q at);
 }
 
@@ -71,17 +71,17 @@ pub fits_on : (e : Entry) (old new : UndecidedClauses) → new.seen.items ≡ ol
     → (e.decision.value ≡ true → (i : ℕ) → Contains (places_at old.places.items e.decision.variable.0) i → state_at new.states i ≡ Open) → KeepsFitting old new
 fits_on e old new seen places long others opened = λ literals queue f. record {
   count = long ∙ f.count;
-  each = λ i q at. subst (λ (es : List Entry). IsSo literals es q (state_at new.states i)) (sym seen) (each literals queue f i q at);
+  each = λ i q at. subst (λ (es : List Entry). IsSoundState literals es q (state_at new.states i)) (sym seen) (each literals queue f i q at);
   placed = λ i q at. subst (λ ps. Contains (places_at ps.items q.parent.0) i) (sym places) (f.placed i q at);
 }
   where
     open_not : (s : ClauseState) → s ≡ Open → s ≡ Idle → ⊥
     open_not s a b = (let no : Open ≡ Idle = sym a ∙ b in absurd cc)
 
-    each : (literals : Requirement → List Signed) (queue : List NeedClause) → Fits literals old queue → (i : ℕ) (q : NeedClause) → slice_get queue i ≡ Some q → IsSo literals (old.seen.items ++ e ∷ []) q (state_at new.states i)
+    each : (literals : Requirement → List Signed) (queue : List NeedClause) → Fits literals old queue → (i : ℕ) (q : NeedClause) → slice_get queue i ≡ Some q → IsSoundState literals (old.seen.items ++ e ∷ []) q (state_at new.states i)
     each literals queue f i q at = elim (others i) [
-      | inr open_ ↦ so_open literals q (old.seen.items ++ e ∷ []) (state_at new.states i) open_
-      | inl same ↦ so_on literals q old.seen.items e (state_at new.states i) (subst (IsSo literals old.seen.items q) (sym same) (f.each i q at))
+      | inr open_ ↦ sound_open literals q (old.seen.items ++ e ∷ []) (state_at new.states i) open_
+      | inl same ↦ sound_on literals q old.seen.items e (state_at new.states i) (subst (IsSoundState literals old.seen.items q) (sym same) (f.each i q at))
           (λ is parent. open_not (state_at new.states i) (opened is i (subst (λ v. Contains (places_at old.places.items v) i) (sym parent) (f.placed i q at))))
     ]
 
@@ -89,7 +89,7 @@ fits_on e old new seen places long others opened = λ literals queue f. record {
 pub fits_add : (literals : Requirement → List Signed) (q : NeedClause) (old new : UndecidedClauses) (queue : List NeedClause) → Fits literals old queue → AddsNeed q.parent old new → Fits literals new (queue ++ q ∷ [])
 fits_add literals q old new queue f a = record {
   count = ap length a.states ∙ length-append old.states (Open ∷ []) ∙ ap (λ n. n + 1) f.count ∙ sym (length-append queue (q ∷ []));
-  each = λ i r at. subst (λ (es : List Entry). IsSo literals es r (state_at new.states i)) (sym (ap (λ v. v.items) a.seen)) (each i r (at_end queue i r at));
+  each = λ i r at. subst (λ (es : List Entry). IsSoundState literals es r (state_at new.states i)) (sym (ap (λ v. v.items) a.seen)) (each i r (at_end queue i r at));
   placed = λ i r at. placed i r (at_end queue i r at);
 }
   where
@@ -102,9 +102,9 @@ fits_add literals q old new queue f a = record {
     same : (i : ℕ) → state_at new.states i ≡ state_at old.states i
     same i = ap (λ ss. state_at ss i) a.states ∙ state_end old.states i
 
-    each : (i : ℕ) (r : NeedClause) → (slice_get queue i ≡ Some r) ⊎ ((i ≡ length queue) × (r ≡ q) × (slice_get queue i ≡ None)) → IsSo literals old.seen.items r (state_at new.states i)
-    each i r (inl before) = subst (IsSo literals old.seen.items r) (sym (same i)) (f.each i r before)
-    each i r (inr (last, is, none)) = so_open literals r old.seen.items (state_at new.states i) (same i ∙ state_out old.states i (let a : length old.states ≡ length queue = f.count in omega arith))
+    each : (i : ℕ) (r : NeedClause) → (slice_get queue i ≡ Some r) ⊎ ((i ≡ length queue) × (r ≡ q) × (slice_get queue i ≡ None)) → IsSoundState literals old.seen.items r (state_at new.states i)
+    each i r (inl before) = subst (IsSoundState literals old.seen.items r) (sym (same i)) (f.each i r before)
+    each i r (inr (last, is, none)) = sound_open literals r old.seen.items (state_at new.states i) (same i ∙ state_out old.states i (let a : length old.states ≡ length queue = f.count in omega arith))
 
     placed : (i : ℕ) (r : NeedClause) → (slice_get queue i ≡ Some r) ⊎ ((i ≡ length queue) × (r ≡ q) × (slice_get queue i ≡ None)) → Contains (places_at new.places.items r.parent.0) i
     placed i r (inl before) = a.kept r.parent.0 i (f.placed i r before)
@@ -118,16 +118,16 @@ module _ {N : Type 0} (lists : FixedLists N) (values : ℕ → Option Bool) (es 
       ap (λ o. is_true (option_map (λ v. beq v c.literal.positive) o) || list_any (λ d. is_true (value_under values d.literal)) cs) (agree c.literal.variable.0)
       ∙ ap (λ b. is_true (value_under (value_in es) c.literal) || b) (met_agrees cs)
 
-  pub so_met : (q : NeedClause) (s : ClauseState) → IsMetNow (length es) s → list_any (λ c. is_true (value_under values c.literal)) (candidates_in lists q.requirement) ≡ true → IsSo (literals_in lists) es q s
-  so_met q Open h met = tt
-  so_met q Idle h met = absurd h
-  so_met q (Met within) h met = subst (λ n. is_met (take n es) (literals_in lists q.requirement) ≡ true) (sym h)
+  pub sound_met : (q : NeedClause) (s : ClauseState) → IsMetNow (length es) s → list_any (λ c. is_true (value_under values c.literal)) (candidates_in lists q.requirement) ≡ true → IsSoundState (literals_in lists) es q s
+  sound_met q Open h met = tt
+  sound_met q Idle h met = absurd h
+  sound_met q (Met within) h met = subst (λ n. is_met (take n es) (literals_in lists q.requirement) ≡ true) (sym h)
       (subst (λ (xs : List Entry). is_met xs (literals_in lists q.requirement) ≡ true) (sym (take-length es)) (sym (met_agrees (candidates_in lists q.requirement)) ∙ met))
 
-  pub so_nothing : (q : NeedClause) (s : ClauseState) → IsSo (literals_in lists) es q s → is_open_state s ≡ false → (score : N → ℕ) → offer lists values score q ≡ None
-  so_nothing q Open h shut score = cc
-  so_nothing q Idle h shut score = ap (λ b. cond (b && list_all (λ l. is_false (value_under values l)) (condition_in lists q.condition)) (offer_of (named_by lists) values score q (candidates_in lists q.requirement)) None) (ap is_true (agree q.parent.0) ∙ h)
-  so_nothing q (Met within) h shut score = ap (λ b. cond (is_eligible lists values q) (cond b None (option_map (decision_for (named_by lists) values score q (candidates_in lists q.requirement)) (find (λ c. is_open (value_under values c.literal)) (candidates_in lists q.requirement)))) None)
+  pub sound_nothing : (q : NeedClause) (s : ClauseState) → IsSoundState (literals_in lists) es q s → is_open_state s ≡ false → (score : N → ℕ) → offer lists values score q ≡ None
+  sound_nothing q Open h closed score = cc
+  sound_nothing q Idle h closed score = ap (λ b. cond (b && list_all (λ l. is_false (value_under values l)) (condition_in lists q.condition)) (offer_of (named_by lists) values score q (candidates_in lists q.requirement)) None) (ap is_true (agree q.parent.0) ∙ h)
+  sound_nothing q (Met within) h closed score = ap (λ b. cond (is_eligible lists values q) (cond b None (option_map (decision_for (named_by lists) values score q (candidates_in lists q.requirement)) (find (λ c. is_open (value_under values c.literal)) (candidates_in lists q.requirement)))) None)
       (met_agrees (candidates_in lists q.requirement) ∙ met_whole within es (literals_in lists q.requirement) h) ∙ either (is_eligible lists values q)
     where
       either : (b : Bool) → cond {A = Option NextDecision} b None None ≡ None
@@ -144,20 +144,20 @@ some_one x y h = cc
 
 -- the state of one clause is set
 pub fits_found : (literals : Requirement → List Signed) (needs : UndecidedClauses) (queue : List NeedClause) (position : ℕ) (q : NeedClause) (found : ClauseState) → Fits literals needs queue → slice_get queue position ≡ Some q
-    → IsSo literals needs.seen.items q found → Fits literals (record needs { states = slice_set needs.states position found }) queue
+    → IsSoundState literals needs.seen.items q found → Fits literals (record needs { states = slice_set needs.states position found }) queue
 fits_found literals needs queue position q found f here so = record { count = length-set needs.states position found ∙ f.count; each = each; placed = f.placed }
   where
-    each : (i : ℕ) (r : NeedClause) → slice_get queue i ≡ Some r → IsSo literals needs.seen.items r (state_at (slice_set needs.states position found) i)
+    each : (i : ℕ) (r : NeedClause) → slice_get queue i ≡ Some r → IsSoundState literals needs.seen.items r (state_at (slice_set needs.states position found) i)
     each i r at = elim (state_set_other needs.states position found i) [
-      | inl same ↦ subst (IsSo literals needs.seen.items r) (sym same) (f.each i r at)
+      | inl same ↦ subst (IsSoundState literals needs.seen.items r) (sym same) (f.each i r at)
       | inr is ↦ (let one : r ≡ q = some_one r q (sym at ∙ ap (slice_get queue) is ∙ here) in
-          subst (λ (x : NeedClause). IsSo literals needs.seen.items x (state_at (slice_set needs.states position found) i)) (sym one)
-          (subst (λ j. IsSo literals needs.seen.items q (state_at (slice_set needs.states position found) j)) (sym is) (so_put literals needs.seen.items q found (state_at (slice_set needs.states position found) position) so (state_put needs.states position found))))
+          subst (λ (x : NeedClause). IsSoundState literals needs.seen.items x (state_at (slice_set needs.states position found) i)) (sym one)
+          (subst (λ j. IsSoundState literals needs.seen.items q (state_at (slice_set needs.states position found) j)) (sym is) (sound_put literals needs.seen.items q found (state_at (slice_set needs.states position found) position) so (state_put needs.states position found))))
     ]
 
 -- two steps in turn
-pub keeps_then : (a b c : UndecidedClauses) → KeepsFitting a b → KeepsFitting b c → KeepsFitting a c
-keeps_then a b c f g = λ literals queue h. g literals queue (f literals queue h)
+pub keeps_both : (a b c : UndecidedClauses) → KeepsFitting a b → KeepsFitting b c → KeepsFitting a c
+keeps_both a b c f g = λ literals queue h. g literals queue (f literals queue h)
 
 -- the pick continues after a clause
 module _ {N : Type 0} (lists : FixedLists N) (values : ℕ → Option Bool) (score : N → ℕ) where
@@ -209,15 +209,15 @@ module _ {N : Type 0} (lists : FixedLists N) (values : ℕ → Option Bool) (sco
       stays (Some next) is = final next (offer_bounded q next is)
 
 -- the pick continues after clauses that aren't open
-pub pick_shut : {N : Type 0} (lists : FixedLists N) (values : ℕ → Option Bool) (score : N → ℕ) (needs : UndecidedClauses) (queue : List NeedClause) → Fits (literals_in lists) needs queue → ((v : ℕ) → values v ≡ value_in needs.seen.items v) → (best : Option NextDecision) (from to : ℕ) → from ≤ to
+pub pick_closed : {N : Type 0} (lists : FixedLists N) (values : ℕ → Option Bool) (score : N → ℕ) (needs : UndecidedClauses) (queue : List NeedClause) → Fits (literals_in lists) needs queue → ((v : ℕ) → values v ≡ value_in needs.seen.items v) → (best : Option NextDecision) (from to : ℕ) → from ≤ to
     → ((i : ℕ) → from ≤ i → i < to → is_open_state (state_at needs.states i) ≡ false) → pick_after lists values score best (drop from queue) ≡ pick_after lists values score best (drop to queue)
-pick_shut lists values score needs queue f agree best from to order shut = pick_behind lists values score best queue (to - from) from to (omega arith) (λ i above below q at. so_nothing lists values needs.seen.items agree q (state_at needs.states i) (f.each i q at) (shut i above below) score)
+pick_closed lists values score needs queue f agree best from to order closed = pick_behind lists values score best queue (to - from) from to (omega arith) (λ i above below q at. sound_nothing lists values needs.seen.items agree q (state_at needs.states i) (f.each i q at) (closed i above below) score)
 
 -- the fit depends on the states, not on their marks
 pub fits_same : (literals : Requirement → List Signed) (needs : UndecidedClauses) (queue : List NeedClause) (states : List ClauseState) → states ≡ needs.states → Fits literals needs queue → Fits literals (record needs { states = states }) queue
 fits_same literals needs queue states is f = record {
   count = ap length is ∙ f.count;
-  each = λ i q at. subst (λ (ss : List ClauseState). IsSo literals needs.seen.items q (state_at ss i)) (sym is) (f.each i q at);
+  each = λ i q at. subst (λ (ss : List ClauseState). IsSoundState literals needs.seen.items q (state_at ss i)) (sym is) (f.each i q at);
   placed = f.placed;
 }
 
@@ -228,12 +228,12 @@ read_at (x ∷ qs) zero d h = refl
 read_at (x ∷ qs) (suc i) d h = read_at qs i d (omega arith)
 
 -- the clause read offers no decision, unless its state is open
-pub read_nothing : {N : Type 0} (lists : FixedLists N) (values : ℕ → Option Bool) (es : List Entry) → ((v : ℕ) → values v ≡ value_in es v) → (qs : List NeedClause) (i : ℕ) (d : NeedClause) → i < length qs → (s : ClauseState) → IsSo (literals_in lists) es (get_or qs i d) s
+pub read_nothing : {N : Type 0} (lists : FixedLists N) (values : ℕ → Option Bool) (es : List Entry) → ((v : ℕ) → values v ≡ value_in es v) → (qs : List NeedClause) (i : ℕ) (d : NeedClause) → i < length qs → (s : ClauseState) → IsSoundState (literals_in lists) es (get_or qs i d) s
     → is_open_state s ≡ false → (score : N → ℕ) (q : NeedClause) → slice_get qs i ≡ Some q → offer lists values score q ≡ None
-read_nothing lists values es agree qs i d h s so shut score q at = so_nothing lists values es agree q s (subst (λ (x : NeedClause). IsSo (literals_in lists) es x s) (some_one (get_or qs i d) q (sym (read_at qs i d h) ∙ at)) so) shut score
+read_nothing lists values es agree qs i d h s so closed score q at = sound_nothing lists values es agree q s (subst (λ (x : NeedClause). IsSoundState (literals_in lists) es x s) (some_one (get_or qs i d) q (sym (read_at qs i d h) ∙ at)) so) closed score
 
 -- and the state is set
-pub read_fits : (literals : Requirement → List Signed) (old new : UndecidedClauses) (queue : List NeedClause) (i : ℕ) (d : NeedClause) → i < length queue → Fits literals old queue → (found : ClauseState) → IsSo literals old.seen.items (get_or queue i d) found
+pub read_fits : (literals : Requirement → List Signed) (old new : UndecidedClauses) (queue : List NeedClause) (i : ℕ) (d : NeedClause) → i < length queue → Fits literals old queue → (found : ClauseState) → IsSoundState literals old.seen.items (get_or queue i d) found
     → new ≡ record old { states = slice_set old.states i found } → Fits literals new queue
 read_fits literals old new queue i d h f found so is = subst (λ (n : UndecidedClauses). Fits literals n queue) (sym is) (fits_found literals old queue i (get_or queue i d) found f (read_at queue i d h) so)
 
@@ -251,7 +251,7 @@ seen_all n i es seen low is end =
 pub fits_more : (old new : Requirement → List Signed) (needs : UndecidedClauses) (queue : List NeedClause) → ((r : Requirement) (es : List Entry) → is_met es (old r) ≡ true → is_met es (new r) ≡ true) → Fits old needs queue → Fits new needs queue
 fits_more old new needs queue more f = record { count = f.count; each = λ i q at. so q (state_at needs.states i) (f.each i q at); placed = f.placed }
   where
-    so : (q : NeedClause) (s : ClauseState) → IsSo old needs.seen.items q s → IsSo new needs.seen.items q s
+    so : (q : NeedClause) (s : ClauseState) → IsSoundState old needs.seen.items q s → IsSoundState new needs.seen.items q s
     so q Open h = tt
     so q (Met within) h = more q.requirement (take within needs.seen.items) h
     so q Idle h = h

@@ -12,16 +12,16 @@ use Rattle.resolvo_store_core.specs.declared.decision_map.Assignment.{Assignment
 use Rattle.resolvo_decide.specs.Needs.{is_met}
 
 -- a value stays where the trail grows
-value_front : (xs ys : List Entry) (v : ℕ) (b : Bool) → value_in xs v ≡ Some b → value_in (xs ++ ys) v ≡ Some b
-value_front [] ys v b h = cc
-value_front (x ∷ xs) ys v b h = go (x.decision.variable.0 == v) h (value_front xs ys v b)
+value_prefix : (xs ys : List Entry) (v : ℕ) (b : Bool) → value_in xs v ≡ Some b → value_in (xs ++ ys) v ≡ Some b
+value_prefix [] ys v b h = cc
+value_prefix (x ∷ xs) ys v b h = go (x.decision.variable.0 == v) h (value_prefix xs ys v b)
   where
     go : (c : Bool) → option_map (λ (a : Assignment). a.value) (cond c (Some (assignment_of x)) (assigned xs v)) ≡ Some b → (value_in xs v ≡ Some b → value_in (xs ++ ys) v ≡ Some b) → option_map (λ (a : Assignment). a.value) (cond c (Some (assignment_of x)) (assigned (xs ++ ys) v)) ≡ Some b
     go true h more = h
     go false h more = more h
 
 pub value_take : (n : ℕ) (es : List Entry) (v : ℕ) (b : Bool) → value_in (take n es) v ≡ Some b → value_in es v ≡ Some b
-value_take n es v b h = subst (λ (xs : List Entry). value_in xs v ≡ Some b) (take-append-drop n es) (value_front (take n es) (drop n es) v b h)
+value_take n es v b h = subst (λ (xs : List Entry). value_in xs v ≡ Some b) (take-append-drop n es) (value_prefix (take n es) (drop n es) v b h)
 
 value_take_more : (n : ℕ) (xs ys : List Entry) (v : ℕ) (b : Bool) → value_in (take n xs) v ≡ Some b → value_in (take n (xs ++ ys)) v ≡ Some b
 value_take_more zero [] ys v b h = h

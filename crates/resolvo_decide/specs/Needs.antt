@@ -40,15 +40,15 @@ IsMetNow count (Met within) = within ≡ count
 IsMetNow count Idle = ⊥
 
 -- the state of the clause is right under the trail, where requirements have these literals
-abbrev pub IsSo : (Requirement → List Signed) → List Entry → NeedClause → ClauseState → Type 0
-IsSo literals trail q Open = ⊤
-IsSo literals trail q (Met within) = is_met (take within trail) (literals q.requirement) ≡ true
-IsSo literals trail q Idle = is_true (value_in trail q.parent.0) ≡ false
+abbrev pub IsSoundState : (Requirement → List Signed) → List Entry → NeedClause → ClauseState → Type 0
+IsSoundState literals trail q Open = ⊤
+IsSoundState literals trail q (Met within) = is_met (take within trail) (literals q.requirement) ≡ true
+IsSoundState literals trail q Idle = is_true (value_in trail q.parent.0) ≡ false
 
 -- the state of each clause of the queue is right, and the clauses of each parent are listed
 pub record Fits (literals : Requirement → List Signed) (needs : UndecidedClauses) (queue : List NeedClause) : Type 0 where
   pub count : length needs.states ≡ length queue
-  pub each : (i : ℕ) (q : NeedClause) → slice_get queue i ≡ Some q → IsSo literals needs.seen.items q (state_at needs.states i)
+  pub each : (i : ℕ) (q : NeedClause) → slice_get queue i ≡ Some q → IsSoundState literals needs.seen.items q (state_at needs.states i)
   pub placed : (i : ℕ) (q : NeedClause) → slice_get queue i ≡ Some q → Contains (places_at needs.places.items q.parent.0) i
 
 -- the new states fit each queue that the old ones fit

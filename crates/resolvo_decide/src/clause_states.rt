@@ -118,7 +118,7 @@ impl ClauseStates {
         let mut position = from;
         while !self.state(position).is_open() {
             let next = self.pass(position);
-            self.shut_group(from, position, next);
+            self.close_group(from, position, next);
             position = next;
         }
         position
@@ -127,7 +127,7 @@ impl ClauseStates {
     /// The position of the first open clause after a closed one, or the end of its block.
     fn pass(&mut self, position: usize) -> usize
         requires within { position < length self.old }
-        requires shut { is_open_state (state_at self.old position) ≡ false }
+        requires closed { is_open_state (state_at self.old position) ≡ false }
         // After each call.
         ensures behind { position < result }
         ensures within { result ≤ length self.old }
@@ -145,7 +145,7 @@ impl ClauseStates {
         }
         let found = first_open(&self.states, position + 1, end);
         if found == end && position == start {
-            note(&mut self.marks, block, false);
+            set_mark(&mut self.marks, block, false);
         }
         found
     }
@@ -164,13 +164,13 @@ impl ClauseStates {
 
     /// Clears the mark of a position's group, if all of it is between two positions without an open
     /// clause.
-    fn shut_group(&mut self, from: usize, position: usize, next: usize)
+    fn close_group(&mut self, from: usize, position: usize, next: usize)
         requires within { position < length self.old }
         requires passed { (i : ℕ) → from ≤ i → i < next → is_open_state (state_at self.old i) ≡ false }
         ensures { self.new ≡ self.old }
     {
         if from <= position / GROUP * GROUP && self.group_end(position) <= next {
-            note(&mut self.groups, position / GROUP, false);
+            set_mark(&mut self.groups, position / GROUP, false);
         }
     }
 
@@ -181,8 +181,8 @@ impl ClauseStates {
         if position < self.states.len() {
             self.states[position] = state;
             if state.is_open() {
-                note(&mut self.marks, position / BLOCK, true);
-                note(&mut self.groups, position / GROUP, true);
+                set_mark(&mut self.marks, position / BLOCK, true);
+                set_mark(&mut self.groups, position / GROUP, true);
             }
             raise(&mut self.bounds, position / BLOCK, state.within());
         }
@@ -238,7 +238,7 @@ impl ClauseStates {
         let block = start / BLOCK;
         let first = block * BLOCK;
         let end = first + BLOCK.min(self.len() - first);
-        if does_stay(&self.bounds, block, common) {
+        if is_bounded(&self.bounds, block, common) {
             return end;
         }
         for position in start..end {
@@ -271,7 +271,7 @@ fn is_marked(marks: &[bool], block: usize) -> bool
 }
 
 /// Sets whether a block may have an open clause.
-fn note(marks: &mut [bool], block: usize, mark: bool)
+fn set_mark(marks: &mut [bool], block: usize, mark: bool)
     ensures { marks.new ≡ slice_set marks.old block mark }
 {
     if block < marks.len() {
@@ -288,7 +288,7 @@ fn mark(marks: &mut Vec<bool>, block: usize) -> R<()>
     if marks.len() <= block {
         marks.push(true)?;
     }
-    note(marks, block, true);
+    set_mark(marks, block, true);
     Ok(())
 }
 
@@ -304,7 +304,7 @@ fn make_bound(bounds: &mut Vec<u32>, block: usize) -> R<()>
 }
 
 /// Whether a block has a bound of at most this prefix.
-fn does_stay(bounds: &[u32], block: usize, common: usize) -> bool
+fn is_bounded(bounds: &[u32], block: usize, common: usize) -> bool
     ensures bounded { result ≡ true → bound_at bounds.now block ≤ common }
     ensures known { result ≡ true → bound_at bounds.now block < 4294967295 }
 {

@@ -5,7 +5,7 @@ ghost use Rattle.std.specs.Prelude.{◌≡◌, ℕ, ◌<◌, ◌≤◌, ◌++◌
 ghost use Rattle.resolvo_pool_core.specs.declared.want.Want.TheVariants.{Memory};
 ghost use Rattle.std.specs.List.{find, list_any};
 ghost use Rattle.std.specs.Option.{option_copied};
-ghost use Rattle.resolvo_store_core.specs.AtMostOne.{IsFrontOf};
+ghost use Rattle.resolvo_store_core.specs.AtMostOne.{IsPrefixOf};
 ghost use Rattle.resolvo_store_core.specs.Signed.{value_under, is_true, is_open};
 ghost use Rattle.resolvo_store_core.specs.Values.{value_at};
 ghost use Rattle.resolvo_store_core.specs.Trail.{value_in};
@@ -13,7 +13,7 @@ ghost use Rattle.resolvo_store_core.specs.Pick.{pick, offer, later};
 ghost use Rattle.resolvo_store_core.specs.declared.decide_queue.NeedClause.{NeedClause};
 ghost use Rattle.resolvo_decide.specs.declared.clause_states.ClauseState.TheVariants.{Open};
 ghost use Rattle.resolvo_decide.specs.States.{state_at};
-ghost use Rattle.resolvo_decide.specs.Needs.{literals_in, places_at, IsMetNow, IsSo, Fits, KeepsFitting, IsPick, AddsNeed};
+ghost use Rattle.resolvo_decide.specs.Needs.{literals_in, places_at, IsMetNow, IsSoundState, Fits, KeepsFitting, IsPick, AddsNeed};
 
 use crate::clause_states::{ClauseState, ClauseStates};
 use crate::offer::offered;
@@ -77,7 +77,7 @@ impl UndecidedClauses {
     where
         N: Drop,
         requires fits { Fits (literals_in lists.now) self.old queue.now }
-        requires seen { IsFrontOf self.old.seen.items trail.now.trail }
+        requires seen { IsPrefixOf self.old.seen.items trail.now.trail }
         // After an answer.
         ensures picked { IfOk result (IsPick lists.now trail.now.trail (C.score_of scores.now.map) queue.now) }
         ensures fits { OnOk result (Fits (literals_in lists.now) self.new queue.now) }
@@ -85,7 +85,7 @@ impl UndecidedClauses {
         // After a refusal.
         ensures refusal { IsOkUnless result Memory }
     {
-        self.go_on(trail.stack())?;
+        self.see_rest(trail.stack())?;
         Ok(self.pick(
             queue.registered(),
             lists,
@@ -97,23 +97,23 @@ impl UndecidedClauses {
 
     /// Drops the seen entries behind the common prefix of the seen trail and this one.
     pub fn follow(&mut self, trail: &[Entry])
-        ensures seen { IsFrontOf self.new.seen.items trail.now }
+        ensures seen { IsPrefixOf self.new.seen.items trail.now }
         ensures fits { KeepsFitting self.old self.new }
     {
         let common = self.common(trail);
-        self.go_back(common);
+        self.undo_to(common);
     }
 
     /// Adds the new entries of this trail.
-    fn go_on(&mut self, trail: &[Entry]) -> R<()>
-        requires { IsFrontOf self.old.seen.items trail.now }
+    fn see_rest(&mut self, trail: &[Entry]) -> R<()>
+        requires { IsPrefixOf self.old.seen.items trail.now }
         ensures seen { OnOk result (self.new.seen.items ≡ trail.now) }
         ensures fits { OnOk result (KeepsFitting self.old self.new) }
         ensures refusal { IsOkUnless result Memory }
     {
         let seen = self.seen.len();
         for entry in &trail[seen..] {
-            self.see(*entry)?;
+            self.see_entry(*entry)?;
         }
         Ok(())
     }
@@ -140,7 +140,7 @@ impl UndecidedClauses {
     }
 
     /// Drops the seen entries behind a prefix of this length.
-    fn go_back(&mut self, common: usize)
+    fn undo_to(&mut self, common: usize)
         ensures seen { self.new.seen.items ≡ take common self.old.seen.items }
         ensures fits { KeepsFitting self.old self.new }
     {
@@ -151,7 +151,7 @@ impl UndecidedClauses {
     }
 
     /// Adds one entry, and opens the clauses of a variable that it makes true.
-    fn see(&mut self, entry: Entry) -> R<()>
+    fn see_entry(&mut self, entry: Entry) -> R<()>
         ensures seen { OnOk result (self.new.seen.items ≡ self.old.seen.items ++ entry ∷ []) }
         ensures fits { OnOk result (KeepsFitting self.old self.new) }
         ensures refusal { IsOkUnless result Memory }
@@ -254,7 +254,7 @@ impl UndecidedClauses {
     where
         N: Drop,
         requires values { (v : ℕ) → value_at values.now v ≡ value_in self.now.seen.items v }
-        ensures { IsSo (literals_in lists.now) self.now.seen.items need.now result }
+        ensures { IsSoundState (literals_in lists.now) self.now.seen.items need.now result }
     {
         if values.value(need.parent) != Some(true) {
             return ClauseState::Idle;

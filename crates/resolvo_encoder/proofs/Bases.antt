@@ -9,7 +9,7 @@ use Rattle.resolvo_store_core.specs.Clauses.{yes}
 use Rattle.resolvo_store_core.specs.declared.decision.Entry.{Entry}
 use Rattle.resolvo_sat.specs.declared.propagate_and_learn.StepResult.{StepResult}
 use Rattle.resolvo_sat.specs.PropagateAndLearn.{IsProgress}
-use Rattle.resolvo_sat.specs.Entries.{made_true, top_level, StandsOn, IsTrail, IsUndone, EndsWith}
+use Rattle.resolvo_sat.specs.Entries.{made_true, top_level, IsOnTrail, IsTrail, IsUndone, EndsWith}
 use Rattle.resolvo_sat.specs.State.{count_of, history, clauses_of}
 use Rattle.resolvo_sat.specs.Steps.{Chooses, Undoes, choice_entry}
 use Rattle.resolvo_sat.proofs.ImproveLemmas.{extends_earlier, choice_earlier}
@@ -17,12 +17,12 @@ use Rattle.resolvo_sat.proofs.Trails.{level_steps}
 use Rattle.resolvo_sat.proofs.StepLemmas.{reverse_push}
 use Rattle.resolvo_state.specs.declared.solver_state.SolverState.{SolverState}
 use Rattle.resolvo_state.specs.SolverState.{Advances, Grows, SameTrail}
-use Rattle.resolvo_state.proofs.Growth.{below_or_not, stands_grow}
+use Rattle.resolvo_state.proofs.Growth.{below_or_not, represents_grow}
 use Rattle.resolvo_encoder.specs.declared.encoder.Encoder.{Encoder}
 use Rattle.resolvo_encoder.specs.declared.encoder.EncodedOnce.{EncodedOnce}
 use Rattle.resolvo_encoder.specs.Base.{below, base_of, IsFirst, IsOpen, HasTurn, KeepsTurn, KeepsTurns, KeepsFirst}
 use Rattle.resolvo_encoder.specs.Progress.{GoesOn}
-use Rattle.resolvo_encoder.specs.SoftRequirement.{turn_of, IsWish}
+use Rattle.resolvo_encoder.specs.SoftRequirement.{turn_of, IsSoft}
 
 -- ---- the part of a trail below a level
 
@@ -78,13 +78,13 @@ below_choice count cs level (d ∷ q) e base t high low =
     below_further level d (q ++ e ∷ base) (omega arith) ∙ below_choice count cs level q e base t.1 high low
 
 -- an entry below the level is in the part below it
-pub stands_below_level : (level : ℕ) (h : List Entry) (d : Entry) (older : List Entry) → StandsOn h d older → d.level < level → StandsOn (below level h) d older
-stands_below_level level [] d older s low = absurd s
-stands_below_level level (e ∷ rest) d older s low = elim (at_or_above e.level level) [
-  | inl here ↦ subst (λ (x : List Entry). StandsOn x d older) (sym (below_here level e rest here)) s
-  | inr high ↦ subst (λ (x : List Entry). StandsOn x d older) (sym (below_further level e rest high)) (elim s [
+pub on_trail_below : (level : ℕ) (h : List Entry) (d : Entry) (older : List Entry) → IsOnTrail h d older → d.level < level → IsOnTrail (below level h) d older
+on_trail_below level [] d older s low = absurd s
+on_trail_below level (e ∷ rest) d older s low = elim (at_or_above e.level level) [
+  | inl here ↦ subst (λ (x : List Entry). IsOnTrail x d older) (sym (below_here level e rest here)) s
+  | inr high ↦ subst (λ (x : List Entry). IsOnTrail x d older) (sym (below_further level e rest high)) (elim s [
     | inl (is, same) ↦ (let one : e.level ≡ d.level = ap (λ (x : Entry). x.level) is in absurd (omega arith))
-    | inr s ↦ stands_below_level level rest d older s low
+    | inr s ↦ on_trail_below level rest d older s low
   ])
 ]
 
@@ -95,9 +95,9 @@ one_above base_level two = omega arith
 
 module _ {N S : Type 0} where
   -- the turn of a soft requirement, over another encoding with the same trail below the level
-  open_kept : (old new : Encoder N S) (v : VariableId) → IsOpen old v → IsWish new v → new.coding.search.base_level ≡ old.coding.search.base_level → base_of new ≡ base_of old → (has (made_true (history new.coding.search)) (yes v) ≡ true → IsFirst new v) → IsOpen new v
-  open_kept old new v o wish base_level base first = record {
-    wish = wish;
+  open_kept : (old new : Encoder N S) (v : VariableId) → IsOpen old v → IsSoft new v → new.coding.search.base_level ≡ old.coding.search.base_level → base_of new ≡ base_of old → (has (made_true (history new.coding.search)) (yes v) ≡ true → IsFirst new v) → IsOpen new v
+  open_kept old new v o soft base_level base first = record {
+    soft = soft;
     later = subst (λ n. 2 ≤ n) (sym base_level) o.later;
     begun = ap (λ (h : List Entry). top_level h + 1) base ∙ o.begun ∙ sym base_level;
     before = subst (λ (h : List Entry). has (made_true h) (yes v) ≡ false) (sym base) o.before;
@@ -107,35 +107,35 @@ module _ {N S : Type 0} where
   first_kept : (old new : Encoder N S) (v : VariableId) (c : ClauseId) → base_of new ≡ base_of old → EndsWith (choice_entry v c (base_of old) ∷ base_of old) (history new.coding.search) → IsFirst new v
   first_kept old new v c base ends = (c, subst (λ (h : List Entry). EndsWith (choice_entry v c h ∷ h) (history new.coding.search)) (sym base) ends)
 
-  wish_grows : (old new : Encoder N S) (v : VariableId) → Grows old.coding new.coding → new.noted.wishes.items ≡ old.noted.wishes.items → IsWish old v → IsWish new v
-  wish_grows old new v grows wishes w = record {
+  soft_grows : (old new : Encoder N S) (v : VariableId) → Grows old.coding new.coding → new.recorded.softs.items ≡ old.recorded.softs.items → IsSoft old v → IsSoft new v
+  soft_grows old new v grows softs w = record {
     solvable = w.solvable;
-    stands = stands_grow old.coding new.coding v _ grows w.stands;
-    wished = subst (λ (xs : List S). Contains xs w.solvable) (sym wishes) w.wished;
+    present = represents_grow old.coding new.coding v _ grows w.present;
+    wished = subst (λ (xs : List S). Contains xs w.solvable) (sym softs) w.wished;
   }
 
   -- where the trail is unchanged
-  pub same_turns : (old new : Encoder N S) → Grows old.coding new.coding → SameTrail old.coding new.coding → new.noted.wishes.items ≡ old.noted.wishes.items → KeepsTurns old new
-  same_turns old new grows trail wishes None = λ first. grows.base_level ∙ first
-  same_turns old new grows trail wishes (Some v) = λ o.
+  pub same_turns : (old new : Encoder N S) → Grows old.coding new.coding → SameTrail old.coding new.coding → new.recorded.softs.items ≡ old.recorded.softs.items → KeepsTurns old new
+  same_turns old new grows trail softs None = λ first. grows.base_level ∙ first
+  same_turns old new grows trail softs (Some v) = λ o.
       let same : history new.coding.search ≡ history old.coding.search = ap (λ t. reverse t.trail) trail.tracker in
       let base : base_of new ≡ base_of old = ap (λ n. below n (history new.coding.search)) grows.base_level ∙ ap (λ (h : List Entry). below old.coding.search.base_level h) same in (
-        open_kept old new v o (wish_grows old new v grows wishes o.wish) grows.base_level base (λ known. (let (c, ends) = o.first (subst (λ (h : List Entry). has (made_true h) (yes v) ≡ true) same known) in first_kept old new v c base (subst (λ (h : List Entry). EndsWith (choice_entry v c (base_of old) ∷ base_of old) h) (sym same) ends))),
+        open_kept old new v o (soft_grows old new v grows softs o.soft) grows.base_level base (λ known. (let (c, ends) = o.first (subst (λ (h : List Entry). has (made_true h) (yes v) ≡ true) same known) in first_kept old new v c base (subst (λ (h : List Entry). EndsWith (choice_entry v c (base_of old) ∷ base_of old) h) (sym same) ends))),
         base,
       )
 
-  pub turn_then : (wish : Option VariableId) (a b c : Encoder N S) → KeepsTurn wish a b → KeepsTurn wish b c → KeepsTurn wish a c
+  pub turn_then : (soft : Option VariableId) (a b c : Encoder N S) → KeepsTurn soft a b → KeepsTurn soft b c → KeepsTurn soft a c
   turn_then None a b c f g = λ h. g (f h)
   turn_then (Some v) a b c f g = λ h. (let (o, base) = f h in let (o', base') = g o in (o', base' ∙ base))
 
   pub turns_then : (a b c : Encoder N S) → KeepsTurns a b → KeepsTurns b c → KeepsTurns a c
-  turns_then a b c f g wish = turn_then wish a b c (f wish) (g wish)
+  turns_then a b c f g soft = turn_then soft a b c (f soft) (g soft)
 
-  pub turn_same : (wish : Option VariableId) (a : Encoder N S) → KeepsTurn wish a a
+  pub turn_same : (soft : Option VariableId) (a : Encoder N S) → KeepsTurn soft a a
   turn_same None a = λ h. h
   turn_same (Some v) a = λ h. (h, refl)
 
-  pub turn_has : (wish : Option VariableId) (a b : Encoder N S) → HasTurn wish a → KeepsTurn wish a b → HasTurn wish b
+  pub turn_has : (soft : Option VariableId) (a b : Encoder N S) → HasTurn soft a → KeepsTurn soft a b → HasTurn soft b
   turn_has None a b h k = k h
   turn_has (Some v) a b h k = (k h).0
 
@@ -148,7 +148,7 @@ module _ {N S : Type 0} where
       let left : history new.coding.search ≡ base_of old = undone_below (max (old.coding.search.base_level - 1) 1) (history old.coding.search) (history new.coding.search) undoes.undone undoes.low ∙ ap (λ n. below n (history old.coding.search)) level in
       let low : top_level (history new.coding.search) < new.coding.search.base_level = (let base_level : new.coding.search.base_level ≡ old.coding.search.base_level = goes.grows.base_level in let ends : top_level (history new.coding.search) ≤ max (old.coding.search.base_level - 1) 1 = undoes.low in omega arith) in
       let base : base_of new ≡ base_of old = below_all new.coding.search.base_level (history new.coding.search) low ∙ left in (
-        open_kept old new v o (wish_grows old new v goes.grows (ap (λ (n : EncodedOnce N S). n.wishes.items) goes.rest.noted) o.wish) goes.grows.base_level base
+        open_kept old new v o (soft_grows old new v goes.grows (ap (λ (n : EncodedOnce N S). n.softs.items) goes.rest.recorded) o.soft) goes.grows.base_level base
             (λ known. absurd (both_ways _ o.before (subst (λ (h : List Entry). has (made_true h) (yes v) ≡ true) left known))),
         base,
       )
@@ -161,7 +161,7 @@ module _ {N S : Type 0} where
       let base_level : new.coding.search.base_level ≡ old.coding.search.base_level = goes.grows.base_level in
       let begun : top_level (base_of old) + 1 ≡ old.coding.search.base_level = o.begun in
       let base : base_of new ≡ base_of old = ap (λ (h : List Entry). below new.coding.search.base_level h) pushed ∙ below_further new.coding.search.base_level (choice_entry v c (base_of old)) (base_of old) (omega arith) ∙ below_all new.coding.search.base_level (base_of old) (omega arith) in (
-        open_kept old new v o (wish_grows old new v goes.grows (ap (λ (n : EncodedOnce N S). n.wishes.items) goes.rest.noted) o.wish) base_level base (λ known. first_kept old new v c base ([], pushed)),
+        open_kept old new v o (soft_grows old new v goes.grows (ap (λ (n : EncodedOnce N S). n.softs.items) goes.rest.recorded) o.soft) base_level base (λ known. first_kept old new v c base ([], pushed)),
         base,
       )
 
@@ -174,16 +174,16 @@ module _ {N S : Type 0} where
       let (q, is) = first (choice_entry v c (base_of old) ∷ base_of old) (omega arith) ends in
       let trail : IsTrail (count_of new.coding.search) (clauses_of new.coding.search) (q ++ choice_entry v c (base_of old) ∷ base_of old) = subst (λ (h : List Entry). IsTrail (count_of new.coding.search) (clauses_of new.coding.search) h) is goes.coding.ready.state.trail in
       let base : base_of new ≡ base_of old = ap (λ (h : List Entry). below new.coding.search.base_level h) is ∙ below_choice (count_of new.coding.search) (clauses_of new.coding.search) new.coding.search.base_level q (choice_entry v c (base_of old)) (base_of old) trail (omega arith) (omega arith) in (
-        open_kept old new v o (wish_grows old new v goes.grows (ap (λ (n : EncodedOnce N S). n.wishes.items) goes.rest.noted) o.wish) base_level base (λ now. first_kept old new v c base (q, is)),
+        open_kept old new v o (soft_grows old new v goes.grows (ap (λ (n : EncodedOnce N S). n.softs.items) goes.rest.recorded) o.soft) base_level base (λ now. first_kept old new v c base (q, is)),
         base,
       )
 
   -- a turn begins
-  pub turn_begun : (e : Encoder N S) (v : VariableId) → IsWish e v → 1 ≤ top_level (history e.coding.search) → has (made_true (history e.coding.search)) (yes v) ≡ false → IsOpen (turn_of e) v × (base_of (turn_of e) ≡ history e.coding.search)
-  turn_begun e v wish one unchosen =
+  pub turn_begun : (e : Encoder N S) (v : VariableId) → IsSoft e v → 1 ≤ top_level (history e.coding.search) → has (made_true (history e.coding.search)) (yes v) ≡ false → IsOpen (turn_of e) v × (base_of (turn_of e) ≡ history e.coding.search)
+  turn_begun e v soft one unchosen =
       let base : base_of (turn_of e) ≡ history e.coding.search = below_all (top_level (history e.coding.search) + 1) (history e.coding.search) (omega arith) in (
         record {
-          wish = record { solvable = wish.solvable; stands = wish.stands; wished = wish.wished };
+          soft = record { solvable = soft.solvable; present = soft.present; wished = soft.wished };
           later = omega arith;
           begun = ap (λ (h : List Entry). top_level h + 1) base;
           before = subst (λ (h : List Entry). has (made_true h) (yes v) ≡ false) (sym base) unchosen;

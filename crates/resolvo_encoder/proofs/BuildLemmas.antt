@@ -8,7 +8,7 @@ use Rattle.resolvo_pool_core.specs.declared.id.DisjunctionTag.{DisjunctionTag}
 use Rattle.resolvo_pool_core.specs.declared.id.VariableId.{VariableId}
 use Rattle.resolvo_pool_core.specs.declared.requirement.Requirement.{Requirement}
 use Rattle.resolvo_pool_core.specs.ByRequirement.{slot_of, PutsAt}
-use Rattle.resolvo_store_core.specs.AtMostOne.{IsFrontOf}
+use Rattle.resolvo_store_core.specs.AtMostOne.{IsPrefixOf}
 use Rattle.resolvo_store_core.specs.Signed.{Signed}
 use Rattle.resolvo_store_core.specs.Clauses.{yes, no, candidate_literals}
 use Rattle.resolvo_store_core.specs.Lists.{named_by, candidates_in, condition_in, FixesDisjunction}
@@ -29,17 +29,17 @@ use Rattle.resolvo_sat.proofs.Literals.{has-cons, has-append}
 use Rattle.resolvo_state.specs.declared.atom.ProofAtom.{ProofAtom}
 use Rattle.resolvo_state.specs.declared.atom.ProofAtom.TheVariants.{Solvable, Gate}
 use Rattle.resolvo_state.specs.declared.registry.Registry.{Registry}
-use Rattle.resolvo_state.specs.declared.clause_kind.Stated.{Stated}
-use Rattle.resolvo_state.specs.declared.clause_kind.Stated.TheVariants.{Digit}
-use Rattle.resolvo_state.specs.Atoms.{StandsFor}
+use Rattle.resolvo_state.specs.declared.clause_kind.ClauseKind.{ClauseKind}
+use Rattle.resolvo_state.specs.declared.clause_kind.ClauseKind.TheVariants.{Digit}
+use Rattle.resolvo_state.specs.Atoms.{Represents}
 use Rattle.resolvo_state.specs.declared.solver_state.SolverState.{SolverState}
 use Rattle.resolvo_state.specs.SolverState.{IsCoding, Grows, SameTrail, Gives}
 use Rattle.resolvo_state.specs.Registered.{AreTied}
-use Rattle.resolvo_state.proofs.Growth.{stands_grow, stands_in_range}
-use Rattle.resolvo_state.proofs.Positions.{front_equal, front_long, front_then}
+use Rattle.resolvo_state.proofs.Growth.{represents_grow, represents_in_range}
+use Rattle.resolvo_state.proofs.Positions.{prefix_equal, prefix_long, prefix_then}
 use Rattle.resolvo_state.proofs.RegisterLemmas.{KeepsDigits, digits_more, digits_same, ties_grow, nothing_tied}
 use Rattle.resolvo_soundness.proofs.Lists.{contains_none}
-use Rattle.resolvo_encoder.specs.Steps.{StatesNeed, SameButCoding, IsBuilt, IsBegunEncoding, AddsParent}
+use Rattle.resolvo_encoder.specs.Steps.{EncodesNeed, SameButCoding, IsBuilt, IsBegunEncoding, AddsParent}
 use Rattle.resolvo_encoder.specs.Conditions.{Defers, Fires}
 use Rattle.resolvo_encoder.specs.TurnLevels.{AreValues}
 use Rattle.resolvo_encoder.specs.declared.encoder.Encoder.{Encoder}
@@ -48,32 +48,32 @@ use Rattle.resolvo_encoder.proofs.NeedLemmas.{literal_in}
 use Rattle.resolvo_encoder.proofs.RequireLemmas.{put_at, put_other, some_one}
 
 -- the scanned part of the trail is unchanged where the trail is
-pub trail_on : {N S : Type 0} (old new : SolverState N S) → SameTrail old new → IsFrontOf old.search.tracker.trail new.search.tracker.trail
-trail_on old new same = front_equal old.search.tracker.trail new.search.tracker.trail (ap (λ t. t.trail) same.tracker)
+pub trail_on : {N S : Type 0} (old new : SolverState N S) → SameTrail old new → IsPrefixOf old.search.tracker.trail new.search.tracker.trail
+trail_on old new same = prefix_equal old.search.tracker.trail new.search.tracker.trail (ap (λ t. t.trail) same.tracker)
 
-pub seen_same : {N S : Type 0} (old new : Encoder N S) → IsBuilt old → SameTrail old.coding new.coding → new.needs.seen ≡ old.needs.seen → IsFrontOf new.needs.seen.items new.coding.search.tracker.trail
-seen_same old new b same seen = subst (λ (es : Vec Entry Global). IsFrontOf es.items new.coding.search.tracker.trail) (sym seen) (front_then old.needs.seen.items old.coding.search.tracker.trail new.coding.search.tracker.trail b.seen (trail_on old.coding new.coding same))
+pub seen_same : {N S : Type 0} (old new : Encoder N S) → IsBuilt old → SameTrail old.coding new.coding → new.needs.seen ≡ old.needs.seen → IsPrefixOf new.needs.seen.items new.coding.search.tracker.trail
+seen_same old new b same seen = subst (λ (es : Vec Entry Global). IsPrefixOf es.items new.coding.search.tracker.trail) (sym seen) (prefix_then old.needs.seen.items old.coding.search.tracker.trail new.coding.search.tracker.trail b.seen (trail_on old.coding new.coding same))
 
 -- where only clauses, variables and the queue change
 pub built_grows : {N S : Type 0} (old new : Encoder N S) → IsBuilt old → IsCoding new.coding → Grows old.coding new.coding → new.registry ≡ old.registry → new.lists ≡ old.lists → new.gates ≡ old.gates
-    → new.parents ≡ old.parents → new.encoded ≡ old.encoded → KeepsDigits old.coding new.coding → Fits (literals_in old.lists) new.needs new.queue → IsFrontOf new.needs.seen.items new.coding.search.tracker.trail → IsBuilt new
+    → new.parents ≡ old.parents → new.encoded ≡ old.encoded → KeepsDigits old.coding new.coding → Fits (literals_in old.lists) new.needs new.queue → IsPrefixOf new.needs.seen.items new.coding.search.tracker.trail → IsBuilt new
 built_grows {N} {S} old new b coding grows registry lists gates parents encoded digits needs seen = record {
   coding = coding;
   tied = subst (λ (t : Registry N). AreTied t new.coding) (sym registry) (ties_grow old.registry old.coding new.coding grows digits b.tied);
-  candidates = λ r c a. (let (positive, (s, stands)) = b.candidates r c (subst (λ ls. Contains (candidates_in ls r) c) lists a) in (positive, (s, stands_grow old.coding new.coding c.literal.variable (Solvable s) grows stands)));
-  gates = λ r v at. stands_grow old.coding new.coding v (Gate r) grows (b.gates r v (sym (ap (λ gs. slot_of gs r) gates) ∙ at));
+  candidates = λ r c a. (let (positive, (s, present)) = b.candidates r c (subst (λ ls. Contains (candidates_in ls r) c) lists a) in (positive, (s, represents_grow old.coding new.coding c.literal.variable (Solvable s) grows present)));
+  gates = λ r v at. represents_grow old.coding new.coding v (Gate r) grows (b.gates r v (sym (ap (λ gs. slot_of gs r) gates) ∙ at));
   within = subst (λ n. n ≤ length new.parents.keys) (sym encoded) (subst (λ ps. old.encoded ≤ length ps.keys) (sym parents) b.within);
   needs = subst (λ ls. Fits (literals_in ls) new.needs new.queue) (sym lists) needs;
   seen = seen;
 }
 
-pub built_rest : {N S : Type 0} (old new : Encoder N S) → IsBuilt old → IsCoding new.coding → Grows old.coding new.coding → KeepsDigits old.coding new.coding → SameButCoding old new → new.needs ≡ old.needs → IsFrontOf old.coding.search.tracker.trail new.coding.search.tracker.trail → IsBuilt new
+pub built_rest : {N S : Type 0} (old new : Encoder N S) → IsBuilt old → IsCoding new.coding → Grows old.coding new.coding → KeepsDigits old.coding new.coding → SameButCoding old new → new.needs ≡ old.needs → IsPrefixOf old.coding.search.tracker.trail new.coding.search.tracker.trail → IsBuilt new
 built_rest old new b coding grows digits rest needs on = built_grows old new b coding grows rest.registry rest.lists rest.gates rest.parents rest.encoded digits
     (subst (λ (n : UndecidedClauses). Fits (literals_in old.lists) n new.queue) (sym needs) (subst (λ qs. Fits (literals_in old.lists) old.needs qs) (sym rest.queue) b.needs))
-    (subst (λ (n : UndecidedClauses). IsFrontOf n.seen.items new.coding.search.tracker.trail) (sym needs) (front_then old.needs.seen.items old.coding.search.tracker.trail new.coding.search.tracker.trail b.seen on))
+    (subst (λ (n : UndecidedClauses). IsPrefixOf n.seen.items new.coding.search.tracker.trail) (sym needs) (prefix_then old.needs.seen.items old.coding.search.tracker.trail new.coding.search.tracker.trail b.seen on))
 
-pub built_states : {N S : Type 0} (x : Stated N S) (v : VariableId) (condition : Option (DenseId DisjunctionTag ℕ)) (r : Requirement) (old new : Encoder N S) → IsBuilt old → ((name : N) (s : S) (place bit : ℕ) → x ≡ Digit name s place bit → ⊥) → StatesNeed x v condition r old new → IsBuilt new
-built_states x v condition r old new b other s = built_grows old new b s.states.coding s.states.grows s.registry s.lists s.gates s.parents s.encoded (digits_more x old.coding new.coding s.states.stated other)
+pub built_encodes : {N S : Type 0} (x : ClauseKind N S) (v : VariableId) (condition : Option (DenseId DisjunctionTag ℕ)) (r : Requirement) (old new : Encoder N S) → IsBuilt old → ((name : N) (s : S) (place bit : ℕ) → x ≡ Digit name s place bit → ⊥) → EncodesNeed x v condition r old new → IsBuilt new
+built_encodes x v condition r old new b other s = built_grows old new b s.states.coding s.states.grows s.registry s.lists s.gates s.parents s.encoded (digits_more x old.coding new.coding s.states.kinds other)
     (let q : NeedClause = record { parent = v; requirement = r; condition = condition; clause = s.number } in subst (λ qs. Fits (literals_in old.lists) new.needs qs) (sym s.queue) (fits_add (literals_in old.lists) q old.needs new.needs old.queue b.needs s.needs))
     (seen_same old new b s.states.trail s.needs.seen)
 
@@ -81,10 +81,10 @@ built_states x v condition r old new b other s = built_grows old new b s.states.
 pub built_gives : {N S : Type 0} (atom : ProofAtom N S) (v : VariableId) (old : Encoder N S) (c : SolverState N S) → IsBuilt old → Gives atom v old.coding c → IsBuilt (record old { coding = c })
 built_gives atom v old c b gives =
     let new : Encoder _ _ = record old { coding = c } in
-    built_grows old new b gives.coding gives.grows refl refl refl refl refl (digits_same old.coding c gives.stated) b.needs (seen_same old new b gives.trail refl)
+    built_grows old new b gives.coding gives.grows refl refl refl refl refl (digits_same old.coding c gives.kinds) b.needs (seen_same old new b gives.trail refl)
 
 -- where entries were undone, and the states of requires clauses were reset to those left
-pub built_back : {N S : Type 0} (old : Encoder N S) (c : SolverState N S) (n : UndecidedClauses) → IsBuilt old → IsCoding c → Grows old.coding c → KeepsDigits old.coding c → KeepsFitting old.needs n → IsFrontOf n.seen.items c.search.tracker.trail → IsBuilt (record old { coding = c; needs = n })
+pub built_back : {N S : Type 0} (old : Encoder N S) (c : SolverState N S) (n : UndecidedClauses) → IsBuilt old → IsCoding c → Grows old.coding c → KeepsDigits old.coding c → KeepsFitting old.needs n → IsPrefixOf n.seen.items c.search.tracker.trail → IsBuilt (record old { coding = c; needs = n })
 built_back old c n b coding grows digits fits seen = built_grows old (record old { coding = c; needs = n }) b coding grows refl refl refl refl refl digits (fits (literals_in old.lists) old.queue b.needs) seen
 
 -- where a disjunction was added
@@ -100,14 +100,14 @@ built_disjunction number given old ls b f = record {
 }
 
 -- where a gate was recorded
-pub built_gate : {N S : Type 0} (old new : Encoder N S) (r : Requirement) (v : VariableId) → IsBuilt old → StandsFor old.coding.atoms.keys v (Gate r) → PutsAt old.gates new.gates r v → new ≡ record old { gates = new.gates } → IsBuilt new
-built_gate {N} {S} old new r v b stands puts is = subst (λ (x : Encoder N S). IsBuilt x) (sym is) (record {
+pub built_gate : {N S : Type 0} (old new : Encoder N S) (r : Requirement) (v : VariableId) → IsBuilt old → Represents old.coding.atoms.keys v (Gate r) → PutsAt old.gates new.gates r v → new ≡ record old { gates = new.gates } → IsBuilt new
+built_gate {N} {S} old new r v b present puts is = subst (λ (x : Encoder N S). IsBuilt x) (sym is) (record {
   coding = b.coding;
   tied = b.tied;
   candidates = b.candidates;
   gates = λ q u at. elim (put_other old.gates new.gates r q v puts) [
     | inl same_one ↦ (let one : v ≡ u = some_one v u (sym (ap (slot_of new.gates) same_one ∙ put_at old.gates new.gates r v puts) ∙ at) in
-        subst (λ y. StandsFor old.coding.atoms.keys u (Gate y)) (sym same_one) (subst (λ w. StandsFor old.coding.atoms.keys w (Gate r)) one stands))
+        subst (λ y. Represents old.coding.atoms.keys u (Gate y)) (sym same_one) (subst (λ w. Represents old.coding.atoms.keys w (Gate r)) one present))
     | inr stays ↦ b.gates q u (sym stays ∙ at)
   ];
   within = b.within;
@@ -122,7 +122,7 @@ built_parents {N} {S} old new b added = subst (λ (x : Encoder N S). IsBuilt x) 
   tied = b.tied;
   candidates = b.candidates;
   gates = b.gates;
-  within = (let a : length old.parents.keys ≤ length new.parents.keys = front_long old.parents.keys new.parents.keys added.front in let c : old.encoded ≤ length old.parents.keys = b.within in omega arith);
+  within = (let a : length old.parents.keys ≤ length new.parents.keys = prefix_long old.parents.keys new.parents.keys added.prefix in let c : old.encoded ≤ length old.parents.keys = b.within in omega arith);
   needs = b.needs;
   seen = b.seen;
 })
@@ -142,16 +142,16 @@ built_fires {N} {S} index old new b f = subst (λ (x : Encoder N S). IsBuilt x) 
 pub built_begun : {N S : Type 0} (e : Encoder N S) → IsBegunEncoding e → IsBuilt e
 built_begun {N} {S} e begun = record {
   coding = begun.coding.coding;
-  tied = nothing_tied e.registry e.coding begun.registry.names begun.registry.trackers begun.coding.stated;
+  tied = nothing_tied e.registry e.coding begun.registry.names begun.registry.trackers begun.coding.kinds;
   candidates = λ r c a. absurd (contains_none c (subst (λ x. Contains (items_or_none x) c) (begun.lists.candidates r) a));
   gates = λ r v at. (let none : None ≡ Some v = sym (begun.gates r) ∙ at in absurd cc);
   within = (let none : e.encoded ≡ 0 = begun.encoded in omega arith);
   needs = subst (λ qs. Fits (literals_in e.lists) e.needs qs) (sym begun.queue) (fits_none (literals_in e.lists) e.needs begun.needs);
-  seen = subst (λ es. IsFrontOf es e.coding.search.tracker.trail) (sym begun.seen) (e.coding.search.tracker.trail, refl);
+  seen = subst (λ es. IsPrefixOf es e.coding.search.tracker.trail) (sym begun.seen) (e.coding.search.tracker.trail, refl);
 }
 
 -- where the states of requires clauses changed
-pub built_needs : {N S : Type 0} (e : Encoder N S) (n : UndecidedClauses) → IsBuilt e → Fits (literals_in e.lists) n e.queue → IsFrontOf n.seen.items e.coding.search.tracker.trail → IsBuilt (record e { needs = n })
+pub built_needs : {N S : Type 0} (e : Encoder N S) (n : UndecidedClauses) → IsBuilt e → Fits (literals_in e.lists) n e.queue → IsPrefixOf n.seen.items e.coding.search.tracker.trail → IsBuilt (record e { needs = n })
 built_needs e n b fits seen = record { coding = b.coding; tied = b.tied; candidates = b.candidates; gates = b.gates; within = b.within; needs = fits; seen = seen }
 
 -- ---- preconditions of calls
@@ -165,8 +165,8 @@ built_in_range e v condition r b below conditioned l h = elim (has-cons (no v) (
     | inl c ↦ conditioned l c
     | inr c ↦
         let (x, there, one) = literal_in (candidates_in e.lists r) l c in
-        let (positive, (s, stands)) = b.candidates r x there in
-        subst (λ (y : Signed). y.variable.0 < count_of e.coding.search) one (stands_in_range e.coding x.literal.variable (Solvable s) b.coding stands)
+        let (positive, (s, present)) = b.candidates r x there in
+        subst (λ (y : Signed). y.variable.0 < count_of e.coding.search) one (represents_in_range e.coding x.literal.variable (Solvable s) b.coding present)
   ]
 ]
 
@@ -178,11 +178,11 @@ none_in_range count l h = absurd (both_ways false refl h)
 pub built_choice : {N S : Type 0} (e : Encoder N S) (values : ℕ → Option Bool) (score : N → ℕ) (d : NextDecision) → IsBuilt e → AreValues values (made_true (history e.coding.search)) → pick_by (named_by e.lists) values score e.queue ≡ Some d
     → IsUndecided (made_true (history e.coding.search)) (yes d.candidate) × (d.candidate.0 < count_of e.coding.search)
 built_choice e values score d b agree h =
-    let (q, stands, offered) = picked (named_by e.lists) values score e.queue d h in
+    let (q, present, offered) = picked (named_by e.lists) values score e.queue d h in
     let (eligible, offer) = offers (named_by e.lists) values score q d offered in
     let c = offer.candidate in
     let (positive, (s, known)) = b.candidates q.requirement c (for_listed (named_by e.lists) values score (candidates_in e.lists q.requirement) d offer) in
     let literal : c.literal ≡ yes d.candidate = λ i. record { variable = offer.is i; positive = positive i } in (
       subst (λ (x : Signed). IsUndecided (made_true (history e.coding.search)) x) literal (open_undecided values (made_true (history e.coding.search)) agree c.literal offer.undecided),
-      subst (λ (v : VariableId). v.0 < count_of e.coding.search) offer.is (stands_in_range e.coding c.literal.variable (Solvable s) b.coding known),
+      subst (λ (v : VariableId). v.0 < count_of e.coding.search) offer.is (represents_in_range e.coding c.literal.variable (Solvable s) b.coding known),
     )

@@ -13,15 +13,15 @@ use Rattle.resolvo_soundness.proofs.GrowLemmas.{spells_agree}
 use Rattle.resolvo_packages.specs.declared.package_source.Offered.{Offered}
 use Rattle.resolvo_packages.specs.PackageSource.{offered_solvables}
 use Rattle.resolvo_state.specs.declared.atom.ProofAtom.TheVariants.{Solvable}
-use Rattle.resolvo_state.specs.declared.clause_kind.Stated.TheVariants.{Digit}
+use Rattle.resolvo_state.specs.declared.clause_kind.ClauseKind.TheVariants.{Digit}
 use Rattle.resolvo_state.specs.declared.solver_state.SolverState.{SolverState}
 use Rattle.resolvo_state.specs.declared.registry.Registry.{Registry}
-use Rattle.resolvo_state.specs.Atoms.{origin, StandsFor}
+use Rattle.resolvo_state.specs.Atoms.{origin, Represents}
 use Rattle.resolvo_state.specs.SolverState.{IsCoding, Grows}
 use Rattle.resolvo_state.specs.Registered.{AreTied, IsTracked, IsDigitClause, Registers, digit_literals}
 use Rattle.resolvo_encoder.specs.Steps.{IsOfferedAs, RegistersOne, RegistersAll}
 use Rattle.resolvo_encoder.proofs.PickLemmas.{candidates_grow, candidates_more}
-use Rattle.resolvo_state.proofs.Growth.{grows_same, grows_then, trail_same, trail_then, stands_grow, stated_grows, clause_grows, origin_grows}
+use Rattle.resolvo_state.proofs.Growth.{grows_same, grows_then, trail_same, trail_then, represents_grow, kind_grows, clause_grows, origin_grows}
 
 -- the number is below the other, or it is not
 pub split_at : (n k : ℕ) → (n < k) ⊎ (k ≤ n)
@@ -45,22 +45,22 @@ registers_none r c coding tied = record {
 -- a clause that encodes a digit still does
 digit_stays : {N S : Type 0} (r t : Registry N) (old new : SolverState N S) (name : N) (n : ℕ) → IsCoding old → Grows old new → ((m : N) (u : VariableId) → IsTracked r m u → IsTracked t m u) → IsDigitClause r old name n → IsDigitClause t new name n
 digit_stays {N} {S} r t old new name n coding grows keeps d =
-    let within : n < length old.stated.items = slice_get_within old.stated.items n (Digit name d.solvable d.place d.bit) d.stated in
-    let long : length old.stated.items ≡ length old.search.clauses = coding.each in
-    let (v, stands, tracked) = d.registered in
+    let within : n < length old.kinds.items = slice_get_within old.kinds.items n (Digit name d.solvable d.place d.bit) d.kinds in
+    let long : length old.kinds.items ≡ length old.search.clauses = coding.each in
+    let (v, present, tracked) = d.registered in
     record {
       solvable = d.solvable;
       place = d.place;
       bit = d.bit;
       few = d.few;
-      registered = (v, stands_grow old new v (Solvable d.solvable) grows stands, keeps name v tracked);
-      stated = stated_grows old new grows n (Digit name d.solvable d.place d.bit) d.stated;
+      registered = (v, represents_grow old new v (Solvable d.solvable) grows present, keeps name v tracked);
+      kinds = kind_grows old new grows n (Digit name d.solvable d.place d.bit) d.kinds;
       spells = subst (λ (clause : List Signed). Spells (origin new.atoms.keys) clause (digit_literals name d.solvable d.bit (digit d.place d.bit))) (sym (clause_grows old new grows n (omega arith)))
           (spells_agree (origin old.atoms.keys) (origin new.atoms.keys) (count_of old.search) (origin_grows old new coding grows) _ (digit_literals name d.solvable d.bit (digit d.place d.bit)) (coding.ready.state.in_range n) d.spells);
     }
 
 offered_stays : {N S : Type 0} (r t : Registry N) (old new : SolverState N S) (o : Offered N S) (c : Candidate N) → Grows old new → ((m : N) (u : VariableId) → IsTracked r m u → IsTracked t m u) → IsOfferedAs r old o c → IsOfferedAs t new o c
-offered_stays r t old new o c grows keeps h = record { positive = h.positive; stands = stands_grow old new c.literal.variable (Solvable o.solvable) grows h.stands; tracked = keeps o.name c.literal.variable h.tracked }
+offered_stays r t old new o c grows keeps h = record { positive = h.positive; present = represents_grow old new c.literal.variable (Solvable o.solvable) grows h.present; tracked = keeps o.name c.literal.variable h.tracked }
 
 -- one more is registered
 pub registers_more : {N S : Type 0} (xs : List (Offered N S)) (given : List (Candidate N)) (o : Offered N S) (candidate : Candidate N) (r s t : Registry N) (a b c : SolverState N S)
@@ -74,27 +74,27 @@ registers_more {N} {S} xs given o candidate r s t a b c all one = record {
   only = λ m u h. elim (step.only m u h) [
     | inl k ↦ elim (all.only m u k) [
       | inl j ↦ inl j
-      | inr (x, stands, e, f) ↦ inr (x, contains_left x xs (o ∷ []) stands, e, stands_grow b c u (Solvable x.solvable) step.grows f)
+      | inr (x, present, e, f) ↦ inr (x, contains_left x xs (o ∷ []) present, e, represents_grow b c u (Solvable x.solvable) step.grows f)
     ]
-    | inr (e, f) ↦ inr (o, contains_right o xs (o ∷ []) (contains_only o), e, subst (λ v. StandsFor c.atoms.keys v (Solvable o.solvable)) (sym f) step.stands)
+    | inr (e, f) ↦ inr (o, contains_right o xs (o ∷ []) (contains_only o), e, subst (λ v. Represents c.atoms.keys v (Solvable o.solvable)) (sym f) step.present)
   ];
   digits = λ n low high. elim (split_at n (length b.search.clauses)) [
     | inl below ↦ let (name, d) = all.digits n low below in (name, digit_stays s t b c name n all.coding step.grows step.keeps d)
     | inr past ↦ (o.name, step.digits n past high)
   ];
   each = λ x h. elim (contains_parts x xs (o ∷ []) h) [
-    | inl k ↦ let (d, stands, e) = all.each x k in (d, contains_left d given (candidate ∷ []) stands, offered_stays s t b c x d step.grows step.keeps e)
+    | inl k ↦ let (d, present, e) = all.each x k in (d, contains_left d given (candidate ∷ []) present, offered_stays s t b c x d step.grows step.keeps e)
     | inr k ↦ (candidate, contains_right candidate given (candidate ∷ []) (contains_only candidate), subst (λ y. IsOfferedAs t c y candidate) (sym (contains_one x o k)) here)
   ];
   all = λ d h. elim (contains_parts d given (candidate ∷ []) h) [
-    | inl k ↦ let (x, stands, e) = all.all d k in (x, contains_left x xs (o ∷ []) stands, offered_stays s t b c x d step.grows step.keeps e)
+    | inl k ↦ let (x, present, e) = all.all d k in (x, contains_left x xs (o ∷ []) present, offered_stays s t b c x d step.grows step.keeps e)
     | inr k ↦ (o, contains_right o xs (o ∷ []) (contains_only o), subst (λ y. IsOfferedAs t c o y) (sym (contains_one d candidate k)) here)
   ];
-  ordered = candidates_more c.atoms.keys given xs candidate o (candidates_grow b c given (offered_solvables xs) step.grows all.ordered) one.literal step.stands;
+  ordered = candidates_more c.atoms.keys given xs candidate o (candidates_grow b c given (offered_solvables xs) step.grows all.ordered) one.literal step.present;
 }
   where
     step : Registers o.name o.solvable candidate.literal.variable s b t c
     step = one.registers
 
     here : IsOfferedAs t c o candidate
-    here = record { positive = one.literal; stands = step.stands; tracked = step.registered }
+    here = record { positive = one.literal; present = step.present; tracked = step.registered }

@@ -7,7 +7,7 @@ use Rattle.resolvo_pool_core.specs.declared.id.DisjunctionTag.{DisjunctionTag}
 use Rattle.resolvo_pool_core.specs.declared.id.VersionSetId.{VersionSetId}
 use Rattle.resolvo_pool_core.specs.OnePass.{Literal}
 use Rattle.resolvo_pool_core.specs.RuleKeeping.{Packages}
-use Rattle.resolvo_store_core.specs.AtMostOne.{IsFrontOf}
+use Rattle.resolvo_store_core.specs.AtMostOne.{IsPrefixOf}
 use Rattle.resolvo_store_core.specs.Signed.{Signed, has}
 use Rattle.resolvo_store_core.specs.Lists.{condition_in, literals_or_none, HasDisjunction}
 use Rattle.resolvo_store_core.specs.declared.decide_queue.NeedClause.{NeedClause}
@@ -20,54 +20,54 @@ use Rattle.resolvo_soundness.proofs.Lists.{contains_left, contains_right, contai
 use Rattle.resolvo_soundness.proofs.GrowLemmas.{spells_agree}
 use Rattle.resolvo_state.specs.declared.atom.ProofAtom.TheVariants.{Solvable, Gate}
 use Rattle.resolvo_state.specs.declared.solver_state.SolverState.{SolverState}
-use Rattle.resolvo_state.specs.declared.clause_kind.Stated.{Stated}
-use Rattle.resolvo_state.specs.declared.clause_kind.Stated.TheVariants as Says
+use Rattle.resolvo_state.specs.declared.clause_kind.ClauseKind.{ClauseKind}
+use Rattle.resolvo_state.specs.declared.clause_kind.ClauseKind.TheVariants as Kind
 use Rattle.resolvo_state.specs.Atoms.{origin}
 use Rattle.resolvo_state.specs.SolverState.{Grows}
-use Rattle.resolvo_state.proofs.Growth.{stands_grow}
-use Rattle.resolvo_state.proofs.Origins.{origin_front}
-use Rattle.resolvo_state.proofs.Positions.{get_below, front_get, front_long}
+use Rattle.resolvo_state.proofs.Growth.{represents_grow}
+use Rattle.resolvo_state.proofs.Origins.{origin_prefix}
+use Rattle.resolvo_state.proofs.Positions.{get_below, prefix_get, prefix_long}
 use Rattle.resolvo_encoder.specs.Encoded.{IsCondition, IsQueuedFor}
 
 -- a condition keeps its literals where others are added behind it
-condition_there : {N : Type 0} (old new : FixedLists N) (c : Option (DenseId DisjunctionTag ℕ)) → IsFrontOf old.disjunctions new.disjunctions → HasDisjunction old c → HasDisjunction new c
-condition_there old new None front h = h
-condition_there old new (Some d) front h = let long : length old.disjunctions ≤ length new.disjunctions = front_long old.disjunctions new.disjunctions front in omega (arith, h)
+condition_there : {N : Type 0} (old new : FixedLists N) (c : Option (DenseId DisjunctionTag ℕ)) → IsPrefixOf old.disjunctions new.disjunctions → HasDisjunction old c → HasDisjunction new c
+condition_there old new None prefix h = h
+condition_there old new (Some d) prefix h = let long : length old.disjunctions ≤ length new.disjunctions = prefix_long old.disjunctions new.disjunctions prefix in omega (arith, h)
 
-condition_stays : {N : Type 0} (old new : FixedLists N) (c : Option (DenseId DisjunctionTag ℕ)) → IsFrontOf old.disjunctions new.disjunctions → HasDisjunction old c → condition_in new c ≡ condition_in old c
-condition_stays old new None front h = refl
-condition_stays old new (Some d) front h =
+condition_stays : {N : Type 0} (old new : FixedLists N) (c : Option (DenseId DisjunctionTag ℕ)) → IsPrefixOf old.disjunctions new.disjunctions → HasDisjunction old c → condition_in new c ≡ condition_in old c
+condition_stays old new None prefix h = refl
+condition_stays old new (Some d) prefix h =
     let (x, at) = get_below old.disjunctions d.raw h in
-    ap literals_or_none (front_get old.disjunctions new.disjunctions d.raw x front at ∙ sym at)
+    ap literals_or_none (prefix_get old.disjunctions new.disjunctions d.raw x prefix at ∙ sym at)
 
-module _ {N S : Type 0} (same : S → S → Bool) (p : Packages N S) (lists more : FixedLists N) (old new : SolverState N S) (front : IsFrontOf lists.disjunctions more.disjunctions) (grows : Grows old new) where
+module _ {N S : Type 0} (same : S → S → Bool) (p : Packages N S) (lists more : FixedLists N) (old new : SolverState N S) (prefix : IsPrefixOf lists.disjunctions more.disjunctions) (grows : Grows old new) where
   condition_grows : (c : Option (DenseId DisjunctionTag ℕ)) (case : List VersionSetId) → IsCondition same p lists old.atoms.keys c case → IsCondition same p more new.atoms.keys c case
   condition_grows c case h = record {
-    there = condition_there lists more c front h.there;
-    in_range = subst (AreInRange (suc (length new.atoms.keys))) (sym literals) (λ l a. (let below : l.variable.0 < suc (length old.atoms.keys) = h.in_range l a in let long : length old.atoms.keys ≤ length new.atoms.keys = front_long old.atoms.keys new.atoms.keys grows.atoms in omega arith));
+    there = condition_there lists more c prefix h.there;
+    in_range = subst (AreInRange (suc (length new.atoms.keys))) (sym literals) (λ l a. (let below : l.variable.0 < suc (length old.atoms.keys) = h.in_range l a in let long : length old.atoms.keys ≤ length new.atoms.keys = prefix_long old.atoms.keys new.atoms.keys grows.atoms in omega arith));
     spells = subst (λ (ls : List Signed). Spells (origin new.atoms.keys) ls (case_literals same p case)) (sym literals)
-        (spells_agree (origin old.atoms.keys) (origin new.atoms.keys) (suc (length old.atoms.keys)) (λ n low high. origin_front old.atoms.keys new.atoms.keys n grows.atoms low high) (condition_in lists c) (case_literals same p case) h.in_range h.spells);
+        (spells_agree (origin old.atoms.keys) (origin new.atoms.keys) (suc (length old.atoms.keys)) (λ n low high. origin_prefix old.atoms.keys new.atoms.keys n grows.atoms low high) (condition_in lists c) (case_literals same p case) h.in_range h.spells);
   }
     where
       literals : condition_in more c ≡ condition_in lists c
-      literals = condition_stays lists more c front h.there
+      literals = condition_stays lists more c prefix h.there
 
   -- the clause has the same decision where variables and lists are added
-  pub queued_grows : (x : Option (Stated N S)) (q : NeedClause) → IsQueuedFor same p lists old.atoms.keys x q → IsQueuedFor same p more new.atoms.keys x q
+  pub queued_grows : (x : Option (ClauseKind N S)) (q : NeedClause) → IsQueuedFor same p lists old.atoms.keys x q → IsQueuedFor same p more new.atoms.keys x q
   queued_grows None q h = h
-  queued_grows (Some Says.Root) q h = h
-  queued_grows (Some (Says.Needs None need case)) q (a, b, c) = (a, condition_grows q.condition case.items b, c)
-  queued_grows (Some (Says.Needs (Some s) need case)) q (a, b, c) = (a, condition_grows q.condition case.items b, stands_grow old new q.parent (Solvable s) grows c)
-  queued_grows (Some (Says.Gated s r)) q h = h
-  queued_grows (Some (Says.Shared r)) q (a, b, c) = (a, b, stands_grow old new q.parent (Gate r) grows c)
-  queued_grows (Some (Says.Limits parent v s)) q h = h
-  queued_grows (Some (Says.LimitsOutside parent v)) q h = h
-  queued_grows (Some (Says.IsOut v s)) q h = h
-  queued_grows (Some (Says.Locked locked s)) q h = h
-  queued_grows (Some (Says.Excluded s why)) q h = h
-  queued_grows (Some (Says.Digit n s place bit)) q h = h
-  queued_grows (Some (Says.IsThere n s)) q h = h
-  queued_grows (Some Says.Learnt) q h = h
+  queued_grows (Some Kind.Root) q h = h
+  queued_grows (Some (Kind.Needs None need case)) q (a, b, c) = (a, condition_grows q.condition case.items b, c)
+  queued_grows (Some (Kind.Needs (Some s) need case)) q (a, b, c) = (a, condition_grows q.condition case.items b, represents_grow old new q.parent (Solvable s) grows c)
+  queued_grows (Some (Kind.Gated s r)) q h = h
+  queued_grows (Some (Kind.Shared r)) q (a, b, c) = (a, b, represents_grow old new q.parent (Gate r) grows c)
+  queued_grows (Some (Kind.Limits parent v s)) q h = h
+  queued_grows (Some (Kind.LimitsOutside parent v)) q h = h
+  queued_grows (Some (Kind.IsOut v s)) q h = h
+  queued_grows (Some (Kind.Locked locked s)) q h = h
+  queued_grows (Some (Kind.Excluded s why)) q h = h
+  queued_grows (Some (Kind.Digit n s place bit)) q h = h
+  queued_grows (Some (Kind.IsThere n s)) q h = h
+  queued_grows (Some Kind.Learnt) q h = h
 
 -- ---- clauses in parts
 
@@ -79,8 +79,8 @@ spells_join origin xs ys ms ns f g = record {
     | inr a ↦ elim (g.only l a) [ inl z ↦ inl z | inr (z, c) ↦ inr (z, contains_right (meaning origin l) ms ns c) ]
   ];
   each = λ m h. elim (contains_parts m ms ns h) [
-    | inl a ↦ (let (l, stands, means) = f.each m a in (l, has_left xs ys l stands, means))
-    | inr a ↦ (let (l, stands, means) = g.each m a in (l, has_right xs ys l stands, means))
+    | inl a ↦ (let (l, present, means) = f.each m a in (l, has_left xs ys l present, means))
+    | inr a ↦ (let (l, present, means) = g.each m a in (l, has_right xs ys l present, means))
   ];
 }
 

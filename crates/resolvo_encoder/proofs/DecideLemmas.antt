@@ -33,15 +33,15 @@ use Rattle.resolvo_soundness.specs.First.{IsFirstPick}
 use Rattle.resolvo_soundness.specs.Numbered.{meaning, Means, known_of, AreCalledFor}
 use Rattle.resolvo_soundness.proofs.FirstLemmas.{first_called_for}
 use Rattle.resolvo_soundness.proofs.Lists.{contains_none, contains_first, contains_later, contains_left, contains_right, contains_cases, any_contained, none_contained}
-use Rattle.resolvo_soundness.proofs.Meanings.{meaning_stands}
+use Rattle.resolvo_soundness.proofs.Meanings.{meaning_in}
 use Rattle.resolvo_state.specs.declared.atom.ProofAtom.{ProofAtom}
 use Rattle.resolvo_state.specs.declared.atom.ProofAtom.TheVariants.{Solvable, Gate}
-use Rattle.resolvo_state.specs.declared.clause_kind.Stated.{Stated}
-use Rattle.resolvo_state.specs.declared.clause_kind.Stated.TheVariants as Says
-use Rattle.resolvo_state.specs.Atoms.{atom_of, origin, StandsFor}
-use Rattle.resolvo_state.specs.Statements.{stated_at}
-use Rattle.resolvo_state.proofs.Rules.{rule_stated}
-use Rattle.resolvo_state.proofs.Origins.{means_atom, solvable_means, solvable_stands}
+use Rattle.resolvo_state.specs.declared.clause_kind.ClauseKind.{ClauseKind}
+use Rattle.resolvo_state.specs.declared.clause_kind.ClauseKind.TheVariants as Kind
+use Rattle.resolvo_state.specs.Atoms.{atom_of, origin, Represents}
+use Rattle.resolvo_state.specs.ClauseKinds.{kind_at}
+use Rattle.resolvo_state.proofs.Rules.{rule_at_kind}
+use Rattle.resolvo_state.proofs.Origins.{means_atom, solvable_means, solvable_represents}
 use Rattle.resolvo_encoder.specs.Encoded.{IsParentVariable, IsCondition, AreCandidates, HasOrder, IsQueuedFor, IsEncoding}
 use Rattle.resolvo_encoder.specs.Encoded as E
 use Rattle.resolvo_encoder.specs.TurnLevels.{AreValues}
@@ -157,7 +157,7 @@ module _ {N : Type 0} (names : Named N) (values : ℕ → Option Bool) (score : 
   -- where an eligible clause with an undecided candidate has nothing to decide, a candidate is true
   pub nothing_offered : (q : NeedClause) (c : Candidate N) → offer_by names values score q ≡ None → is_eligible_by names values q ≡ true → Contains (names.candidates q.requirement) c → is_open (value_under values c.literal) ≡ true
       → (d : Candidate N) × Contains (names.candidates q.requirement) d × (is_true (value_under values d.literal) ≡ true)
-  nothing_offered q c h eligible stands undecided = go (list_any (λ d. is_true (value_under values d.literal)) (names.candidates q.requirement)) refl (all (is_eligible_by names values q) h eligible)
+  nothing_offered q c h eligible present undecided = go (list_any (λ d. is_true (value_under values d.literal)) (names.candidates q.requirement)) refl (all (is_eligible_by names values q) h eligible)
     where
       all : (b : Bool) → cond b (offer_of names values score q (names.candidates q.requirement)) None ≡ None → b ≡ true → offer_of names values score q (names.candidates q.requirement) ≡ None
       all true e i = e
@@ -169,7 +169,7 @@ module _ {N : Type 0} (names : Named N) (values : ℕ → Option Bool) (score : 
       go true e i = any_contained (λ (d : Candidate N). is_true (value_under values d.literal)) (names.candidates q.requirement) e
       go false e i =
           let none = map_none (decision_for names values score q (names.candidates q.requirement)) (find (λ d. is_open (value_under values d.literal)) (names.candidates q.requirement)) i in
-          absurd (both_ways _ (not_found (λ (d : Candidate N). is_open (value_under values d.literal)) (names.candidates q.requirement) c none stands) undecided)
+          absurd (both_ways _ (not_found (λ (d : Candidate N). is_open (value_under values d.literal)) (names.candidates q.requirement) c none present) undecided)
 
 -- ---- values and literals
 
@@ -274,10 +274,10 @@ module _ {N S : Type 0} (same : S → S → Bool) (p : Packages N S) (root : Rul
   search_values holds map mapped = trail_values (count_of e.coding.search) (clauses_of e.coding.search) e.coding.search.tracker.trail map holds.coding.ready.state.trail mapped
 
   -- a variable's origin is known where the variable is true
-  pub atom_known : (v : VariableId) (a : ProofAtom N S) → StandsFor e.coding.atoms.keys v a → has (made_true (history e.coding.search)) (yes v) ≡ true → Contains (known_of (origin e.coding.atoms.keys) (history e.coding.search)) (plus (atom_of a))
-  atom_known v a stands t =
-      let means : Means (origin e.coding.atoms.keys) (yes v) (plus (atom_of a)) = means_atom e.coding.atoms.keys (yes v) a stands in
-      subst (Contains (known_of (origin e.coding.atoms.keys) (history e.coding.search))) (sym means.1) (meaning_stands (origin e.coding.atoms.keys) (made_true (history e.coding.search)) (yes v) t means.0)
+  pub atom_known : (v : VariableId) (a : ProofAtom N S) → Represents e.coding.atoms.keys v a → has (made_true (history e.coding.search)) (yes v) ≡ true → Contains (known_of (origin e.coding.atoms.keys) (history e.coding.search)) (plus (atom_of a))
+  atom_known v a present t =
+      let means : Means (origin e.coding.atoms.keys) (yes v) (plus (atom_of a)) = means_atom e.coding.atoms.keys (yes v) a present in
+      subst (Contains (known_of (origin e.coding.atoms.keys) (history e.coding.search))) (sym means.1) (meaning_in (origin e.coding.atoms.keys) (made_true (history e.coding.search)) (yes v) t means.0)
 
   parent_true : (parent : Option S) (v : VariableId) → IsParentVariable e.coding.atoms.keys parent v → has (made_true (history e.coding.search)) (yes v) ≡ true → IsTrueParent (known_of (origin e.coding.atoms.keys) (history e.coding.search)) parent
   parent_true None v h t = tt
@@ -287,103 +287,103 @@ module _ {N S : Type 0} (same : S → S → Bool) (p : Packages N S) (root : Rul
   case_false : (condition : Option (DenseId DisjunctionTag ℕ)) (case : List VersionSetId) → IsCondition same p e.lists e.coding.atoms.keys condition case → ((l : Signed) → has (condition_in e.lists condition) l ≡ true → has (made_true (history e.coding.search)) (negation l) ≡ true)
       → AreFalse (known_of (origin e.coding.atoms.keys) (history e.coding.search)) (case_literals same p case)
   case_false condition case h fell m a =
-      let (l, stands, means) = h.spells.each m a in
-      subst (λ (x : Literal (Atom N S)). Contains (known_of (origin e.coding.atoms.keys) (history e.coding.search)) (negate x)) (sym means.1) (meaning_stands (origin e.coding.atoms.keys) (made_true (history e.coding.search)) (negation l) (fell l stands) means.0)
+      let (l, present, means) = h.spells.each m a in
+      subst (λ (x : Literal (Atom N S)). Contains (known_of (origin e.coding.atoms.keys) (history e.coding.search)) (negate x)) (sym means.1) (meaning_in (origin e.coding.atoms.keys) (made_true (history e.coding.search)) (negation l) (fell l present) means.0)
 
   -- A clause of the queue encodes a requirement of a chosen parent, where its parent is true and
   -- its condition's literals are false.
-  queue_asks : (q : NeedClause) (x : Option (Stated N S)) → stated_at e.coding.stated.items q.clause.0 ≡ x → IsQueuedFor same p e.lists e.coding.atoms.keys x q → has (made_true (history e.coding.search)) (yes q.parent) ≡ true
+  queue_asks : (q : NeedClause) (x : Option (ClauseKind N S)) → kind_at e.coding.kinds.items q.clause.0 ≡ x → IsQueuedFor same p e.lists e.coding.atoms.keys x q → has (made_true (history e.coding.search)) (yes q.parent) ≡ true
       → ((l : Signed) → has (condition_in e.lists q.condition) l ≡ true → has (made_true (history e.coding.search)) (negation l) ≡ true)
       → IsAsked same p (E.rules_of e) (known_of (origin e.coding.atoms.keys) (history e.coding.search)) q.requirement
-  queue_asks q (Some (Says.Needs parent need case)) at (is, conditioned, stands) t fell = inl (record {
+  queue_asks q (Some (Kind.Needs parent need case)) at (is, conditioned, present) t fell = inl (record {
     parent = parent;
     need = need;
     case = case.items;
-    stands = (q.clause.0, rule_stated e.coding.stated.items q.clause.0 (Says.Needs parent need case) at);
-    chosen = parent_true parent q.parent stands t;
+    present = (q.clause.0, rule_at_kind e.coding.kinds.items q.clause.0 (Kind.Needs parent need case) at);
+    chosen = parent_true parent q.parent present t;
     holds = case_false q.condition case.items conditioned fell;
     asks = is;
   })
-  queue_asks q (Some (Says.Shared r)) at (is, free, stands) t fell = inr (record {
-    stands = subst (λ y. E.rules_of e (Rule.shared y)) (sym is) (q.clause.0, rule_stated e.coding.stated.items q.clause.0 (Says.Shared r) at);
-    opened = subst (λ y. Contains (known_of (origin e.coding.atoms.keys) (history e.coding.search)) (plus (Atom.gate y))) (sym is) (atom_known q.parent (Gate r) stands t);
+  queue_asks q (Some (Kind.Shared r)) at (is, free, present) t fell = inr (record {
+    present = subst (λ y. E.rules_of e (Rule.shared y)) (sym is) (q.clause.0, rule_at_kind e.coding.kinds.items q.clause.0 (Kind.Shared r) at);
+    opened = subst (λ y. Contains (known_of (origin e.coding.atoms.keys) (history e.coding.search)) (plus (Atom.gate y))) (sym is) (atom_known q.parent (Gate r) present t);
   })
   queue_asks q None at h t fell = absurd h
-  queue_asks q (Some Says.Root) at h t fell = absurd h
-  queue_asks q (Some (Says.Gated s r)) at h t fell = absurd h
-  queue_asks q (Some (Says.Limits parent v s)) at h t fell = absurd h
-  queue_asks q (Some (Says.LimitsOutside parent v)) at h t fell = absurd h
-  queue_asks q (Some (Says.IsOut v s)) at h t fell = absurd h
-  queue_asks q (Some (Says.Locked locked s)) at h t fell = absurd h
-  queue_asks q (Some (Says.Excluded s why)) at h t fell = absurd h
-  queue_asks q (Some (Says.Digit n s place bit)) at h t fell = absurd h
-  queue_asks q (Some (Says.IsThere n s)) at h t fell = absurd h
-  queue_asks q (Some Says.Learnt) at h t fell = absurd h
+  queue_asks q (Some Kind.Root) at h t fell = absurd h
+  queue_asks q (Some (Kind.Gated s r)) at h t fell = absurd h
+  queue_asks q (Some (Kind.Limits parent v s)) at h t fell = absurd h
+  queue_asks q (Some (Kind.LimitsOutside parent v)) at h t fell = absurd h
+  queue_asks q (Some (Kind.IsOut v s)) at h t fell = absurd h
+  queue_asks q (Some (Kind.Locked locked s)) at h t fell = absurd h
+  queue_asks q (Some (Kind.Excluded s why)) at h t fell = absurd h
+  queue_asks q (Some (Kind.Digit n s place bit)) at h t fell = absurd h
+  queue_asks q (Some (Kind.IsThere n s)) at h t fell = absurd h
+  queue_asks q (Some Kind.Learnt) at h t fell = absurd h
 
   -- a requirement of a chosen parent has a requires clause
   pub has_clause : (r : Requirement) → IsAsked same p (E.rules_of e) (known_of (origin e.coding.atoms.keys) (history e.coding.search)) r → HasClause same p (E.rules_of e) r
-  has_clause r (inl k) = inl (k.parent, k.need, k.case, k.stands, k.asks)
-  has_clause r (inr k) = inr k.stands
+  has_clause r (inl k) = inl (k.parent, k.need, k.case, k.present, k.asks)
+  has_clause r (inr k) = inr k.present
 
   -- a false candidate's solvable is denied
-  candidate_fell : (c : Candidate N) (s : S) → c.literal.positive ≡ true → StandsFor e.coding.atoms.keys c.literal.variable (Solvable s) → has (made_true (history e.coding.search)) (negation c.literal) ≡ true
+  candidate_fell : (c : Candidate N) (s : S) → c.literal.positive ≡ true → Represents e.coding.atoms.keys c.literal.variable (Solvable s) → has (made_true (history e.coding.search)) (negation c.literal) ≡ true
       → Contains (known_of (origin e.coding.atoms.keys) (history e.coding.search)) (minus (Atom.solvable s))
-  candidate_fell c s positive stands h =
+  candidate_fell c s positive present h =
       let denied : negation c.literal ≡ no c.literal.variable = λ i. record { variable = c.literal.variable; positive = not (positive i) } in
-      let means : Means (origin e.coding.atoms.keys) (no c.literal.variable) (minus (Atom.solvable s)) = means_atom e.coding.atoms.keys (no c.literal.variable) (Solvable s) stands in
+      let means : Means (origin e.coding.atoms.keys) (no c.literal.variable) (minus (Atom.solvable s)) = means_atom e.coding.atoms.keys (no c.literal.variable) (Solvable s) present in
       subst (Contains (known_of (origin e.coding.atoms.keys) (history e.coding.search))) (sym means.1)
-      (meaning_stands (origin e.coding.atoms.keys) (made_true (history e.coding.search)) (no c.literal.variable) (subst (λ (x : Signed). has (made_true (history e.coding.search)) x ≡ true) denied h) means.0)
+      (meaning_in (origin e.coding.atoms.keys) (made_true (history e.coding.search)) (no c.literal.variable) (subst (λ (x : Signed). has (made_true (history e.coding.search)) x ≡ true) denied h) means.0)
 
   -- The next decision is justified: it is the first candidate that isn't false, of a requirement of
   -- a chosen parent.
   pub choice_taken : IsEncoding same p root e → (values : ℕ → Option Bool) (score : N → ℕ) (d : NextDecision) → AreValues values (made_true (history e.coding.search)) → pick_by (named_by e.lists) values score e.queue ≡ Some d
       → IsFirstPick same p (HasOrder e) (E.rules_of e) (known_of (origin e.coding.atoms.keys) (history e.coding.search)) (meaning (origin e.coding.atoms.keys) (yes d.candidate))
   choice_taken holds values score d agree h =
-      let (q, stands, offered) = picked (named_by e.lists) values score e.queue d h in
+      let (q, present, offered) = picked (named_by e.lists) values score e.queue d h in
       let (eligible, offer) = offers (named_by e.lists) values score q d offered in
       let c = offer.candidate in
       let (s, fits, meets_it) = holds.listed q.requirement c (for_listed (named_by e.lists) values score (candidates_in e.lists q.requirement) d offer) in
       let parent : has (made_true (history e.coding.search)) (yes q.parent) ≡ true = parent_known values (made_true (history e.coding.search)) agree q.parent (and_parts (is_true (values q.parent.0)) _ eligible).0 in
       let fell : (l : Signed) → has (condition_in e.lists q.condition) l ≡ true → has (made_true (history e.coding.search)) (negation l) ≡ true =
       λ l a. false_known values (made_true (history e.coding.search)) agree l (all_has (λ (x : Signed). is_false (value_under values x)) (condition_in e.lists q.condition) l (and_parts (is_true (values q.parent.0)) _ eligible).1 a) in
-      let asked = queue_asks q (stated_at e.coding.stated.items q.clause.0) refl (holds.queued q stands) parent fell in
+      let asked = queue_asks q (kind_at e.coding.kinds.items q.clause.0) refl (holds.queued q present) parent fell in
       let literal : c.literal ≡ yes d.candidate = λ i. record { variable = offer.is i; positive = fits.positive i } in
-      let means : Means (origin e.coding.atoms.keys) (yes d.candidate) (plus (Atom.solvable s)) = subst (λ (x : Signed). Means (origin e.coding.atoms.keys) x (plus (Atom.solvable s))) literal (solvable_means e.coding.atoms.keys c.literal s fits.positive fits.stands) in
-      let (front, back, sooner, whole) = listed_at e.coding.atoms.keys offer.before offer.after c s
+      let means : Means (origin e.coding.atoms.keys) (yes d.candidate) (plus (Atom.solvable s)) = subst (λ (x : Signed). Means (origin e.coding.atoms.keys) x (plus (Atom.solvable s))) literal (solvable_means e.coding.atoms.keys c.literal s fits.positive fits.present) in
+      let (prefix, back, sooner, whole) = listed_at e.coding.atoms.keys offer.before offer.after c s
       (λ x a. each q.requirement x (subst (λ ys. Contains ys x) (sym offer.splits) (contains_left x offer.before (c ∷ offer.after) a)))
       (λ x a. each q.requirement x (subst (λ ys. Contains ys x) (sym offer.splits) (contains_right x offer.before (c ∷ offer.after) (contains_later x c offer.after a))))
-      fits.positive fits.stands in
+      fits.positive fits.present in
       record {
         requirement = q.requirement;
         asked = asked;
         solvable = s;
         is = sym means.1;
         first = record {
-          list = front ++ s ∷ back;
-          ordered = (holds.fixed q.requirement (has_clause q.requirement asked), subst (λ cs. AreCandidates e.coding.atoms.keys cs (front ++ s ∷ back)) (sym offer.splits) whole);
-          before = front;
+          list = prefix ++ s ∷ back;
+          ordered = (holds.fixed q.requirement (has_clause q.requirement asked), subst (λ cs. AreCandidates e.coding.atoms.keys cs (prefix ++ s ∷ back)) (sym offer.splits) whole);
+          before = prefix;
           after = back;
           splits = refl;
           fell = λ t a.
-              let (x, there, positive, known) = candidate_of e.coding.atoms.keys offer.before front t sooner a in
+              let (x, there, positive, known) = candidate_of e.coding.atoms.keys offer.before prefix t sooner a in
               let (decided, untrue) = offer.passed x there in
               candidate_fell x t positive known (passed_known values (made_true (history e.coding.search)) agree x.literal decided untrue);
         };
       }
     where
-      each : (r : Requirement) (x : Candidate N) → Contains (candidates_in e.lists r) x → (t : S) × (x.literal.positive ≡ true) × StandsFor e.coding.atoms.keys x.literal.variable (Solvable t)
-      each r x a = let (t, fits, m) = holds.listed r x a in (t, fits.positive, fits.stands)
+      each : (r : Requirement) (x : Candidate N) → Contains (candidates_in e.lists r) x → (t : S) × (x.literal.positive ≡ true) × Represents e.coding.atoms.keys x.literal.variable (Solvable t)
+      each r x a = let (t, fits, m) = holds.listed r x a in (t, fits.positive, fits.present)
 
   -- each decision of the trail is for a match of a requirement of a chosen parent
-  pub choices_called : IsExact same → IsEncoding same p root e → AreCalledFor (origin e.coding.atoms.keys) (IsCalledFor same p (E.rules_of e) e.noted.wishes.items) (history e.coding.search)
-  choices_called exact holds x older stands is other = elim (holds.called x older stands is other) [
-    | inl wish ↦ inl wish
-    | inr pick ↦ first_called_for same exact p (HasOrder e) (E.rules_of e) e.noted.wishes.items _ _ matches pick
+  pub choices_called : IsExact same → IsEncoding same p root e → AreCalledFor (origin e.coding.atoms.keys) (IsCalledFor same p (E.rules_of e) e.recorded.softs.items) (history e.coding.search)
+  choices_called exact holds x older present is other = elim (holds.called x older present is other) [
+    | inl soft ↦ inl soft
+    | inr pick ↦ first_called_for same exact p (HasOrder e) (E.rules_of e) e.recorded.softs.items _ _ matches pick
   ]
     where
       matches : (r : Requirement) (list : List S) (s : S) → HasOrder e r list → Contains list s → meets same p r s ≡ true
       matches r list s (has, are) a =
           let (c, there, positive, known) = candidate_of e.coding.atoms.keys (candidates_in e.lists r) list s are a in
           let (t, fits, m) = holds.listed r c there in
-          let one : t ≡ s = some_same t s (sym (solvable_stands e.coding.atoms.keys c.literal.variable t fits.stands) ∙ solvable_stands e.coding.atoms.keys c.literal.variable s known) in
+          let one : t ≡ s = some_same t s (sym (solvable_represents e.coding.atoms.keys c.literal.variable t fits.present) ∙ solvable_represents e.coding.atoms.keys c.literal.variable s known) in
           subst (λ y. meets same p r y ≡ true) one m

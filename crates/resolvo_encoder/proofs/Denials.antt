@@ -12,9 +12,9 @@ use Rattle.resolvo_soundness.specs.Encoding.{Atom, Rule, plus, literals_of}
 use Rattle.resolvo_soundness.specs.Numbered.{meaning, Means, Spells}
 use Rattle.resolvo_soundness.proofs.Lists.{contains_none, contains_first, contains_left, contains_right, contains_one, contains_parts, contained_any}
 use Rattle.resolvo_store_core.specs.AtMostOne.{digit}
-use Rattle.resolvo_state.specs.declared.clause_kind.Stated.{Stated}
-use Rattle.resolvo_state.specs.declared.clause_kind.Stated.TheVariants as Says
-use Rattle.resolvo_state.specs.Statements.{rule_of}
+use Rattle.resolvo_state.specs.declared.clause_kind.ClauseKind.{ClauseKind}
+use Rattle.resolvo_state.specs.declared.clause_kind.ClauseKind.TheVariants as Kind
+use Rattle.resolvo_state.specs.ClauseKinds.{rule_of}
 use Rattle.resolvo_encoder.specs.Encoded.{Asks}
 use Rattle.resolvo_encoder.proofs.RequireLemmas.{some_one}
 use Rattle.resolvo_encoder.specs.ClauseRules.{IsRestraint, IsPair}
@@ -39,7 +39,7 @@ module _ {N S : Type 0} where
   asks_none (Rule.limits parent v s) d a = a
   asks_none (Rule.limits_outside parent v) d a = a
   asks_none (Rule.is_out v s) d a = a
-  asks_none (Rule.bars w s) d a = a
+  asks_none (Rule.forbids w s) d a = a
   asks_none (Rule.has_digit s bit b) d a = a
   asks_none (Rule.is_there n s) d a = a
 
@@ -56,14 +56,14 @@ module _ {N S : Type 0} where
       none (Rule.limits_outside None v) d = refl
       none (Rule.limits_outside (Some parent) v) d = refl
       none (Rule.is_out v s) d = refl
-      none (Rule.bars w s) d = refl
+      none (Rule.forbids w s) d = refl
       none (Rule.has_digit s bit b) d = absurd d
       none (Rule.is_there n s) d = refl
 
   -- its kind has no digit
-  pub not_digit : (x : Stated N S) (r : Rule N S) → rule_of x ≡ Some r → IsRestraint r → (m : N) (t : S) (at bit : ℕ) → x ≡ Says.Digit m t at bit → ⊥
+  pub not_digit : (x : ClauseKind N S) (r : Rule N S) → rule_of x ≡ Some r → IsRestraint r → (m : N) (t : S) (at bit : ℕ) → x ≡ Kind.Digit m t at bit → ⊥
   not_digit x r states d m t at bit is =
-      let one : Rule.has_digit t bit (digit at bit) ≡ r = some_one (Rule.has_digit t bit (digit at bit)) r (sym (ap (λ (y : Stated N S). rule_of y) is) ∙ states) in
+      let one : Rule.has_digit t bit (digit at bit) ≡ r = some_one (Rule.has_digit t bit (digit at bit)) r (sym (ap (λ (y : ClauseKind N S). rule_of y) is) ∙ states) in
       subst IsRestraint (sym one) d
 
 -- ---- clauses of two literals

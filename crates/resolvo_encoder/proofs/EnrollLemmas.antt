@@ -6,7 +6,7 @@ use Rattle.resolvo_pool_core.specs.declared.requirement.Requirement.{Requirement
 use Rattle.resolvo_pool_core.specs.ByRequirement.{slot_of}
 use Rattle.resolvo_pool_core.specs.Provider.{listed}
 use Rattle.resolvo_pool_core.specs.RuleKeeping.{Packages, Rules, IsLawful, is_in, meets}
-use Rattle.resolvo_store_core.specs.AtMostOne.{IsFrontOf, digit}
+use Rattle.resolvo_store_core.specs.AtMostOne.{IsPrefixOf, digit}
 use Rattle.resolvo_store_core.specs.Lists.{has_candidates, candidates_in, items_or_none, FixesCandidates, FixesDisjunction}
 use Rattle.resolvo_store_core.specs.declared.lists.Candidate.{Candidate}
 use Rattle.resolvo_store_core.specs.declared.lists.Disjunction.{Disjunction}
@@ -21,21 +21,21 @@ use Rattle.resolvo_packages.specs.PackageSource.{offered_solvables, AreOffered}
 use Rattle.resolvo_state.specs.declared.atom.ProofAtom.TheVariants.{Solvable, Gate}
 use Rattle.resolvo_state.specs.declared.solver_state.SolverState.{SolverState}
 use Rattle.resolvo_state.specs.declared.registry.Registry.{Registry}
-use Rattle.resolvo_state.specs.declared.clause_kind.Stated.TheVariants as Says
-use Rattle.resolvo_state.specs.Atoms.{StandsFor}
+use Rattle.resolvo_state.specs.declared.clause_kind.ClauseKind.TheVariants as Kind
+use Rattle.resolvo_state.specs.Atoms.{Represents}
 use Rattle.resolvo_state.specs.SolverState.{Grows}
 use Rattle.resolvo_state.specs.Registered.{IsTracked, IsRegistered}
-use Rattle.resolvo_state.proofs.Growth.{grows_same, trail_same, stands_grow, rules_grow}
-use Rattle.resolvo_state.proofs.Positions.{front_same, front_equal}
-use Rattle.resolvo_state.proofs.Rules.{rule_stated}
+use Rattle.resolvo_state.proofs.Growth.{grows_same, trail_same, represents_grow, rules_grow}
+use Rattle.resolvo_state.proofs.Positions.{prefix_same, prefix_equal}
+use Rattle.resolvo_state.proofs.Rules.{rule_at_kind}
 use Rattle.resolvo_encoder.specs.Encoded.{IsCandidate, AreCandidates, Asks, IsEncoding}
 use Rattle.resolvo_encoder.specs.Encoded as E
-use Rattle.resolvo_encoder.specs.Helped.{Admits}
+use Rattle.resolvo_encoder.specs.AtLeastOneClauses.{Admits}
 use Rattle.resolvo_encoder.specs.Steps.{IsBuilt, Extends, IsOfferedAs, RegistersAll, KeepsLists, AddsCandidates, IsListed, Enrols, Fixes}
 use Rattle.resolvo_encoder.specs.declared.encoder.Encoder.{Encoder}
 use Rattle.resolvo_encoder.proofs.BuildLemmas.{seen_same}
 use Rattle.resolvo_encoder.proofs.PickLemmas.{candidates_grow}
-use Rattle.resolvo_encoder.proofs.RequireLemmas.{Came, Carries, carried, candidate_grows, noted_grows, cases_keep, fix_at, fix_other, some_one, offer_named, offer_meets, meets_offer, meets_listed, registered_split, queued_keeps, gates_keep, NoneAsks, fixed_keeps, asked_keeps, within_keeps, encoded_keeps, cased_keeps, bar_keeps, digit_came, extends_then, extends_same}
+use Rattle.resolvo_encoder.proofs.RequireLemmas.{AddedClause, Carries, carried, candidate_grows, recorded_grows, cases_keep, fix_at, fix_other, some_one, offer_named, offer_meets, meets_offer, meets_listed, registered_split, queued_keeps, gates_keep, NoneAsks, fixed_keeps, asked_keeps, within_keeps, encoded_keeps, cased_keeps, guards_keep, digit_added, extends_then, extends_same}
 
 no_slot : {X : Type 0} (o : Option X) → is_some o ≡ false → o ≡ None
 no_slot None h = refl
@@ -53,8 +53,8 @@ module _ {N S : Type 0} (same : S → S → Bool) (exact : IsExact same) (p : Pa
   -- The offered solvables are registered, where those of recorded packages have at-least-one
   -- clauses.
   pub registers_keep : (offered : List (Offered N S)) (given : List (Candidate N)) (old : Encoder N S) (t : Registry N) (c : SolverState N S) → IsEncoding same p root old → ((o : Offered N S) → Contains offered o → IsListed same p o)
-      → ((o : Offered N S) → Contains offered o → Contains old.noted.helped.keys o.name → E.rules_of old (Rule.is_there o.name o.solvable)) → RegistersAll offered given old.registry old.coding t c → IsEncoding same p root (enrolled old t c)
-  registers_keep offered given old t c e fits said all = carried same exact p root old (enrolled old t c) e carries
+      → ((o : Offered N S) → Contains offered o → Contains old.recorded.at_least_one.keys o.name → E.rules_of old (Rule.is_there o.name o.solvable)) → RegistersAll offered given old.registry old.coding t c → IsEncoding same p root (enrolled old t c)
+  registers_keep offered given old t c e fits covered all = carried same exact p root old (enrolled old t c) e carries
     where
       -- a registered solvable is a candidate of its package
       registered_new : (n : N) (s : S) → IsRegistered t c n s → (n ≡ p.package_of s) × (is_in same p (listed (p.candidates_of (p.package_of s))) s ≡ true)
@@ -64,22 +64,22 @@ module _ {N S : Type 0} (same : S → S → Bool) (exact : IsExact same) (p : Pa
             (own, subst (λ m. is_in same p (listed (p.candidates_of m)) s ≡ true) (sym is ∙ own) (subst (λ x. is_in same p (listed (p.candidates_of o.name)) x ≡ true) one candidate)))
       ]
 
-      came : (n : ℕ) → length old.coding.search.clauses ≤ n → n < length c.search.clauses → Came same exact p root (enrolled old t c) n
-      came n low high =
+      new_clause : (n : ℕ) → length old.coding.search.clauses ≤ n → n < length c.search.clauses → AddedClause same exact p root (enrolled old t c) n
+      new_clause n low high =
           let (name, d) = all.digits n low high in
           let (own, candidate) = registered_new name d.solvable d.registered in
-          digit_came same exact p root lawful old (enrolled old t c) name n d own candidate
+          digit_added same exact p root lawful old (enrolled old t c) name n d own candidate
 
       none : NoneAsks same exact p root lawful old (enrolled old t c)
       none n q low high at a =
           let (name, d) = all.digits n low high in
-          let one : Rule.has_digit d.solvable d.bit (digit d.place d.bit) ≡ q = some_one (Rule.has_digit d.solvable d.bit (digit d.place d.bit)) q (sym (rule_stated c.stated.items n (Says.Digit name d.solvable d.place d.bit) d.stated) ∙ at) in
+          let one : Rule.has_digit d.solvable d.bit (digit d.place d.bit) ≡ q = some_one (Rule.has_digit d.solvable d.bit (digit d.place d.bit)) q (sym (rule_at_kind c.kinds.items n (Kind.Digit name d.solvable d.place d.bit) d.kinds) ∙ at) in
           subst Asks (sym one) a
 
-      helped : (n : N) (s : S) → Contains old.noted.helped.keys n → IsRegistered t c n s → E.rules_of (enrolled old t c) (Rule.is_there n s)
-      helped n s h a = rules_grow old.coding c all.grows (Rule.is_there n s) (elim (registered_split same exact p root lawful offered given old.registry t old.coding c e.tied all n s a) [
-        | inl b ↦ e.cases.helped n s h b
-        | inr (o, stands, is, one) ↦ subst (λ m. E.rules_of old (Rule.is_there m s)) (sym is) (subst (λ x. E.rules_of old (Rule.is_there o.name x)) one (said o stands (subst (λ m. Contains old.noted.helped.keys m) is h)))
+      at_least_one : (n : N) (s : S) → Contains old.recorded.at_least_one.keys n → IsRegistered t c n s → E.rules_of (enrolled old t c) (Rule.is_there n s)
+      at_least_one n s h a = rules_grow old.coding c all.grows (Rule.is_there n s) (elim (registered_split same exact p root lawful offered given old.registry t old.coding c e.tied all n s a) [
+        | inl b ↦ e.cases.at_least_one n s h b
+        | inr (o, present, is, one) ↦ subst (λ m. E.rules_of old (Rule.is_there m s)) (sym is) (subst (λ x. E.rules_of old (Rule.is_there o.name x)) one (covered o present (subst (λ m. Contains old.recorded.at_least_one.keys m) is h)))
       ])
 
       candidate : (n : N) (s : S) (x : Candidate N) → IsCandidate old n s x → IsCandidate (enrolled old t c) n s x
@@ -93,32 +93,32 @@ module _ {N S : Type 0} (same : S → S → Bool) (exact : IsExact same) (p : Pa
         tied = all.tied;
         keeps = all.keeps;
         registered = λ n s a. inr (registered_new n s a);
-        came = came;
+        new_clause = new_clause;
         lists = λ q k. refl;
         listed = λ q x a. (let (s, b, m) = e.listed q x a in (s, candidate (p.package_of s) s x b, m));
         offered = λ q s k m. (let (x, there, b) = e.offered q s k m in (x, there, candidate (p.package_of s) s x b));
         fixed = fixed_keeps same exact p root lawful old (enrolled old t c) e all.coding all.grows (λ q k. k) none;
-        queued = λ q a. queued_keeps same exact p root lawful old (enrolled old t c) e all.grows (front_same old.lists.disjunctions) q a;
+        queued = λ q a. queued_keeps same exact p root lawful old (enrolled old t c) e all.grows (prefix_same old.lists.disjunctions) q a;
         asked = asked_keeps same exact p root lawful old (enrolled old t c) e all.coding all.grows refl none;
         gates = gates_keep same exact p root lawful old (enrolled old t c) e all.grows refl;
-        bar = bar_keeps same exact p root lawful old (enrolled old t c) e all.coding all.grows none;
-        noted = noted_grows same exact p root old (enrolled old t c) all.grows refl e.noted;
-        wishes = refl;
-        cases = cases_keep same exact p root old (enrolled old t c) e.cases all.grows refl refl refl (cased_keeps same exact p root lawful old (enrolled old t c) e all.coding all.grows refl all.keeps none) helped;
+        forbid = guards_keep same exact p root lawful old (enrolled old t c) e all.coding all.grows none;
+        recorded = recorded_grows same exact p root old (enrolled old t c) all.grows refl e.recorded;
+        softs = refl;
+        cases = cases_keep same exact p root old (enrolled old t c) e.cases all.grows refl refl refl (cased_keeps same exact p root lawful old (enrolled old t c) e all.coding all.grows refl all.keeps none) at_least_one;
         within = within_keeps same exact p root lawful old (enrolled old t c) e refl refl;
         encoded = encoded_keeps same exact p root lawful old (enrolled old t c) e all.grows refl refl refl;
       }
 
   -- The lists are replaced: a requirement with a clause keeps its candidates, and those are the
   -- solvables that meet it.
-  relists : (old : Encoder N S) (ls : FixedLists N) → IsEncoding same p root old → IsFrontOf old.lists.disjunctions ls.disjunctions → KeepsLists old (relisted old ls)
+  relists : (old : Encoder N S) (ls : FixedLists N) → IsEncoding same p root old → IsPrefixOf old.lists.disjunctions ls.disjunctions → KeepsLists old (relisted old ls)
       → ((r : Requirement) (c : Candidate N) → Contains (candidates_in ls r) c → (s : S) × IsCandidate old (p.package_of s) s c × (meets same p r s ≡ true))
       → ((r : Requirement) (s : S) → has_candidates ls r ≡ true → meets same p r s ≡ true → (c : Candidate N) × Contains (candidates_in ls r) c × IsCandidate old (p.package_of s) s c)
       → IsEncoding same p root (relisted old ls)
-  relists old ls e front keeps listed_new offered_new = carried same exact p root old (relisted old ls) e carries
+  relists old ls e prefix keeps listed_new offered_new = carried same exact p root old (relisted old ls) e carries
     where
       candidate : (n : N) (s : S) (x : Candidate N) → IsCandidate old n s x → IsCandidate (relisted old ls) n s x
-      candidate n s x h = record { positive = h.positive; stands = h.stands; tracked = h.tracked }
+      candidate n s x h = record { positive = h.positive; present = h.present; tracked = h.tracked }
 
       carries : Carries same exact p root old (relisted old ls)
       carries = record {
@@ -128,18 +128,18 @@ module _ {N S : Type 0} (same : S → S → Bool) (exact : IsExact same) (p : Pa
         tied = e.tied;
         keeps = λ m u h. h;
         registered = λ n s a. inl a;
-        came = λ n low high. absurd (omega arith);
+        new_clause = λ n low high. absurd (omega arith);
         lists = keeps;
         listed = λ q x a. (let (s, b, m) = listed_new q x a in (s, candidate (p.package_of s) s x b, m));
         offered = λ q s k m. (let (x, there, b) = offered_new q s k m in (x, there, candidate (p.package_of s) s x b));
         fixed = λ q has. (let old_has : has_candidates old.lists q ≡ true = e.fixed q has in ap is_some (keeps q old_has) ∙ old_has);
-        queued = λ q a. queued_keeps same exact p root lawful old (relisted old ls) e (grows_same old.coding) front q a;
+        queued = λ q a. queued_keeps same exact p root lawful old (relisted old ls) e (grows_same old.coding) prefix q a;
         asked = e.asked;
         gates = e.gates;
-        bar = e.bar;
-        noted = noted_grows same exact p root old (relisted old ls) (grows_same old.coding) refl e.noted;
-        wishes = refl;
-        cases = cases_keep same exact p root old (relisted old ls) e.cases (grows_same old.coding) refl refl refl e.cases.cased e.cases.helped;
+        forbid = e.forbid;
+        recorded = recorded_grows same exact p root old (relisted old ls) (grows_same old.coding) refl e.recorded;
+        softs = refl;
+        cases = cases_keep same exact p root old (relisted old ls) e.cases (grows_same old.coding) refl refl refl e.cases.cased e.cases.at_least_one;
         within = e.within;
         encoded = encoded_keeps same exact p root lawful old (relisted old ls) e (grows_same old.coding) refl refl refl;
       }
@@ -159,7 +159,7 @@ module _ {N S : Type 0} (same : S → S → Bool) (exact : IsExact same) (p : Pa
       → ((c : Candidate N) → Contains given.items c → (o : Offered N S) × Contains offered o × IsOfferedAs old.registry old.coding o c)
       → FixesCandidates r given old.lists ls → IsEncoding same p root (relisted old ls) × (has_candidates ls r ≡ true)
   candidates_keep r offered given old ls e h fresh each all fixes = (
-    relists old ls e (front_equal old.lists.disjunctions ls.disjunctions fixes.disjunctions)
+    relists old ls e (prefix_equal old.lists.disjunctions ls.disjunctions fixes.disjunctions)
         (λ q k. elim (slots q) [ inl is ↦ absurd (both_ways _ fresh (subst (λ y. has_candidates old.lists y ≡ true) is k)) | inr is ↦ is ]) listed_new offered_new,
     ap is_some here,
   )
@@ -171,7 +171,7 @@ module _ {N S : Type 0} (same : S → S → Bool) (exact : IsExact same) (p : Pa
       slots q = fix_other r q given old.lists ls fixes
 
       given_candidate : (c : Candidate N) (o : Offered N S) → Contains offered o → IsOfferedAs old.registry old.coding o c → IsCandidate old (p.package_of o.solvable) o.solvable c
-      given_candidate c o a fits = record { positive = fits.positive; stands = fits.stands; tracked = subst (λ n. IsTracked old.registry n c.literal.variable) (offer_named same exact p root lawful r offered o h a) fits.tracked }
+      given_candidate c o a fits = record { positive = fits.positive; present = fits.present; tracked = subst (λ n. IsTracked old.registry n c.literal.variable) (offer_named same exact p root lawful r offered o h a) fits.tracked }
 
       listed_new : (q : Requirement) (c : Candidate N) → Contains (candidates_in ls q) c → (s : S) × IsCandidate old (p.package_of s) s c × (meets same p q s ≡ true)
       listed_new q c a = elim (slots q) [
@@ -212,8 +212,8 @@ module _ {N S : Type 0} (same : S → S → Bool) where
   built_enrolls offered given old t c b all = record {
     coding = all.coding;
     tied = all.tied;
-    candidates = λ r x a. (let (positive, (s, stands)) = b.candidates r x a in (positive, (s, stands_grow old.coding c x.literal.variable (Solvable s) all.grows stands)));
-    gates = λ r v at. stands_grow old.coding c v (Gate r) all.grows (b.gates r v at);
+    candidates = λ r x a. (let (positive, (s, present)) = b.candidates r x a in (positive, (s, represents_grow old.coding c x.literal.variable (Solvable s) all.grows present)));
+    gates = λ r v at. represents_grow old.coding c v (Gate r) all.grows (b.gates r v at);
     within = b.within;
     needs = b.needs;
     seen = seen_same old (enrolled old t c) b all.trail refl;
@@ -223,24 +223,24 @@ module _ {N S : Type 0} (same : S → S → Bool) where
   pub enrols : IsExact same → (offered : List (Offered N S)) (given : List (Candidate N)) (old middle : Encoder N S) (t : Registry N) (c : SolverState N S) → Admits same offered old middle → RegistersAll offered given middle.registry middle.coding t c
       → Enrols same offered given old (enrolled middle t c)
   enrols exact offered given old middle t c admits all = record {
-    built = built_enrolls offered given middle t c admits.says.built all;
-    extends = extends_then old middle (enrolled middle t c) admits.says.extends (record { grows = all.grows; trail = all.trail; wishes = refl; parents = refl; encoded = refl; deferred = refl; fired = refl });
-    lists = admits.says.lists;
-    helped = admits.says.helped;
-    keeps = λ m u h. all.keeps m u (subst (λ (r : Registry N). IsTracked r m u) (sym admits.says.registry) h);
+    built = built_enrolls offered given middle t c admits.adds.built all;
+    extends = extends_then old middle (enrolled middle t c) admits.adds.extends (record { grows = all.grows; trail = all.trail; softs = refl; parents = refl; encoded = refl; deferred = refl; fired = refl });
+    lists = admits.adds.lists;
+    at_least_one = admits.adds.at_least_one;
+    keeps = λ m u h. all.keeps m u (subst (λ (r : Registry N). IsTracked r m u) (sym admits.adds.registry) h);
     each = all.each;
     all = all.all;
     ordered = all.ordered;
     encoding = λ p root lawful e fits.
-        let (before, said) = admits.says.encoding p root lawful e (λ o h. fits o (admits.only o h)) in
-        registers_keep same exact p root lawful offered given middle t c before fits (λ o h named. said o (admits.each o h (subst (λ ks. Contains ks.keys o.name) admits.says.helped named))) all;
+        let (before, covered) = admits.adds.encoding p root lawful e (λ o h. fits o (admits.only o h)) in
+        registers_keep same exact p root lawful offered given middle t c before fits (λ o h named. covered o (admits.each o h (subst (λ ks. Contains ks.keys o.name) admits.adds.at_least_one named))) all;
   }
 
   pub fixes_extend : (r : Requirement) (offered : List (Offered N S)) (old new : Encoder N S) → Fixes same r offered old new → Extends old new
   fixes_extend r offered old new f = elim f.fixed [
     | inl (has, is) ↦ subst (λ (x : Encoder N S). Extends old x) (sym is) (extends_same old)
     | inr (fresh, middle, given, enrols, fixes, is) ↦ subst (λ (x : Encoder N S). Extends old x) (sym is)
-        (extends_then old middle (relisted middle new.lists) enrols.extends (record { grows = grows_same middle.coding; trail = trail_same middle.coding; wishes = refl; parents = refl; encoded = refl; deferred = refl; fired = refl }))
+        (extends_then old middle (relisted middle new.lists) enrols.extends (record { grows = grows_same middle.coding; trail = trail_same middle.coding; softs = refl; parents = refl; encoded = refl; deferred = refl; fired = refl }))
   ]
 
   -- the offered solvables became the requirement's candidates, in their order, and later steps kept
@@ -283,10 +283,10 @@ module _ {N S : Type 0} (same : S → S → Bool) where
       ]
 
       candidates_new : (middle : Encoder N S) (given : Vec (Candidate N) Global) → IsBuilt middle → FixesCandidates r given middle.lists new.lists → ((c : Candidate N) → Contains given.items c → (o : Offered N S) × Contains offered o × IsOfferedAs middle.registry middle.coding o c)
-          → (q : Requirement) (c : Candidate N) → Contains (candidates_in new.lists q) c → (c.literal.positive ≡ true) × ((s : S) × StandsFor middle.coding.atoms.keys c.literal.variable (Solvable s))
+          → (q : Requirement) (c : Candidate N) → Contains (candidates_in new.lists q) c → (c.literal.positive ≡ true) × ((s : S) × Represents middle.coding.atoms.keys c.literal.variable (Solvable s))
       candidates_new middle given built fixes all q c a = elim (fix_other r q given middle.lists new.lists fixes) [
         | inl is ↦
             let (o, there, fits) = all c (subst (λ x. Contains (items_or_none x) c) (ap (slot_of new.lists.candidates) is ∙ fix_at r given middle.lists new.lists fixes) a) in
-            (fits.positive, (o.solvable, fits.stands))
+            (fits.positive, (o.solvable, fits.present))
         | inr is ↦ built.candidates q c (subst (λ x. Contains (items_or_none x) c) is a)
       ]

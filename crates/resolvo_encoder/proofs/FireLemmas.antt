@@ -32,26 +32,26 @@ use Rattle.resolvo_soundness.specs.SearchEnd.{IsNeedEncoded}
 use Rattle.resolvo_soundness.proofs.Lists.{contains_none, contains_one, contains_parts, contained_any, all_contained, any_contained, contains_map}
 use Rattle.resolvo_soundness.proofs.Members.{in_contained, contained_in}
 use Rattle.resolvo_state.specs.declared.atom.ProofAtom.TheVariants.{Solvable}
-use Rattle.resolvo_state.specs.declared.clause_kind.Stated.TheVariants as Says
+use Rattle.resolvo_state.specs.declared.clause_kind.ClauseKind.TheVariants as Kind
 use Rattle.resolvo_state.specs.Atoms.{origin}
 use Rattle.resolvo_state.specs.declared.solver_state.SolverState.{SolverState}
 use Rattle.resolvo_state.specs.SolverState.{IsCoding}
-use Rattle.resolvo_state.proofs.Growth.{grows_same, stands_in_range}
+use Rattle.resolvo_state.proofs.Growth.{grows_same, represents_in_range}
 use Rattle.resolvo_state.proofs.Origins.{count_is, means_solvable}
-use Rattle.resolvo_state.proofs.Positions.{front_same, front_long, get_last, get_old, get_push}
+use Rattle.resolvo_state.proofs.Positions.{prefix_same, prefix_long, get_last, get_old, get_push}
 use Rattle.resolvo_encoder.specs.Cases.{case_of, sets_case, IsMatching, IsSet, AreSets, IsCaseOf}
 use Rattle.resolvo_encoder.specs.Conditions.{IsOneChosen, IsSpent}
 use Rattle.resolvo_encoder.specs.Encoded.{IsParentVariable, IsCondition, IsGuarded, IsEncoding}
 use Rattle.resolvo_encoder.specs.Encoded as E
-use Rattle.resolvo_encoder.specs.Helped.{IsHelped, Helps}
-use Rattle.resolvo_encoder.specs.ClauseRules.{Tells}
-use Rattle.resolvo_encoder.specs.Steps.{IsBuilt, Extends, AddsCandidates, Fixes, StatesNeed}
+use Rattle.resolvo_encoder.specs.AtLeastOneClauses.{AreCaseLiterals, CaseLiterals}
+use Rattle.resolvo_encoder.specs.ClauseRules.{EncodesRules}
+use Rattle.resolvo_encoder.specs.Steps.{IsBuilt, Extends, AddsCandidates, Fixes, EncodesNeed}
 use Rattle.resolvo_encoder.specs.declared.conditions.ConditionSet.{ConditionSet}
 use Rattle.resolvo_encoder.specs.declared.encoder.Deferred.{Deferred}
 use Rattle.resolvo_encoder.specs.declared.encoder.Encoder.{Encoder}
-use Rattle.resolvo_encoder.proofs.BuildLemmas.{built_disjunction, built_in_range, built_states}
+use Rattle.resolvo_encoder.proofs.BuildLemmas.{built_disjunction, built_in_range, built_encodes}
 use Rattle.resolvo_encoder.proofs.EnrollLemmas.{disjunction_keeps, fixes_keep, fixes_add, fixes_extend}
-use Rattle.resolvo_encoder.proofs.TellLemmas.{parent_variable_grows}
+use Rattle.resolvo_encoder.proofs.EncodesLemmas.{parent_variable_grows}
 use Rattle.resolvo_encoder.proofs.NeedLemmas.{IsReady, need_keeps}
 use Rattle.resolvo_encoder.proofs.RequireLemmas.{each_of, parent_grows, guard_grows, extends_then, some_one}
 
@@ -92,20 +92,20 @@ module _ {N S : Type 0} (same : S → S → Bool) (exact : IsExact same) (p : Pa
     positive = e.positive;
     named = e.named;
     candidates = e.candidates;
-    listed = λ q c a. (let (s, fits, m) = e.listed q c a in (s, record { positive = fits.positive; stands = fits.stands; tracked = fits.tracked }, m));
-    offered = λ q s h m. (let (c, a, fits) = e.offered q s h m in (c, a, record { positive = fits.positive; stands = fits.stands; tracked = fits.tracked }));
+    listed = λ q c a. (let (s, fits, m) = e.listed q c a in (s, record { positive = fits.positive; present = fits.present; tracked = fits.tracked }, m));
+    offered = λ q s h m. (let (c, a, fits) = e.offered q s h m in (c, a, record { positive = fits.positive; present = fits.present; tracked = fits.tracked }));
     fixed = e.fixed;
     queued = e.queued;
     asked = e.asked;
     gates = e.gates;
-    bar = e.bar;
-    noted = record { packages = e.noted.packages; version_sets = e.noted.version_sets };
+    forbid = e.forbid;
+    recorded = record { packages = e.recorded.packages; version_sets = e.recorded.version_sets };
     cases = record {
       waiting = λ i x at. elim (get_push old.deferred.items d x i (subst (λ (xs : List (Deferred S)). slice_get xs i ≡ Some x) is at)) [ inl a ↦ e.cases.waiting i x a | inr (k, same_one) ↦ subst (IsCaseOf same p root) (sym same_one) own ];
-      places = λ i h. (let low : i < length old.deferred.items = e.cases.places i h in let long : length old.deferred.items ≤ length ds.items = front_long old.deferred.items ds.items (d ∷ [], is) in omega (arith, low, long));
+      places = λ i h. (let low : i < length old.deferred.items = e.cases.places i h in let long : length old.deferred.items ≤ length ds.items = prefix_long old.deferred.items ds.items (d ∷ [], is) in omega (arith, low, long));
       fired = λ i x h at. e.cases.fired i x h (get_old old.deferred.items (d ∷ []) i x (e.cases.places i h) (subst (λ (xs : List (Deferred S)). slice_get xs i ≡ Some x) is at));
       cased = e.cases.cased;
-      helped = e.cases.helped;
+      at_least_one = e.cases.at_least_one;
       there = e.cases.there;
     };
     within = e.within;
@@ -125,24 +125,24 @@ module _ {N S : Type 0} (same : S → S → Bool) (exact : IsExact same) (p : Pa
     positive = e.positive;
     named = e.named;
     candidates = e.candidates;
-    listed = λ q c a. (let (s, fits, m) = e.listed q c a in (s, record { positive = fits.positive; stands = fits.stands; tracked = fits.tracked }, m));
-    offered = λ q s h m. (let (c, a, fits) = e.offered q s h m in (c, a, record { positive = fits.positive; stands = fits.stands; tracked = fits.tracked }));
+    listed = λ q c a. (let (s, fits, m) = e.listed q c a in (s, record { positive = fits.positive; present = fits.present; tracked = fits.tracked }, m));
+    offered = λ q s h m. (let (c, a, fits) = e.offered q s h m in (c, a, record { positive = fits.positive; present = fits.present; tracked = fits.tracked }));
     fixed = e.fixed;
     queued = e.queued;
     asked = e.asked;
     gates = e.gates;
-    bar = e.bar;
-    noted = record { packages = e.noted.packages; version_sets = e.noted.version_sets };
+    forbid = e.forbid;
+    recorded = record { packages = e.recorded.packages; version_sets = e.recorded.version_sets };
     cases = record {
       waiting = e.cases.waiting;
       places = λ i h. elim (only i h) [ inl a ↦ e.cases.places i a | inr one ↦ subst (λ n. n < length old.deferred.items) (sym one) below ];
       fired = λ i d h at. elim (only i h) [ inl a ↦ e.cases.fired i d a at | inr one ↦ encoded d (subst (λ n. slice_get old.deferred.items n ≡ Some d) one at) ];
       cased = e.cases.cased;
-      helped = e.cases.helped;
+      at_least_one = e.cases.at_least_one;
       there = e.cases.there;
     };
     within = e.within;
-    encoded = λ i parent low at. parent_grows same exact p root old (record old { fired = new.fired }) (solvable_of parent) (grows_same old.coding) (front_same old.deferred.items) (e.encoded i parent low at);
+    encoded = λ i parent low at. parent_grows same exact p root old (record old { fired = new.fired }) (solvable_of parent) (grows_same old.coding) (prefix_same old.deferred.items) (e.encoded i parent low at);
     wished = e.wished;
     called = e.called;
   })
@@ -150,12 +150,12 @@ module _ {N S : Type 0} (same : S → S → Bool) (exact : IsExact same) (p : Pa
   -- the clause of a case was added, whose packages are recorded
   pub case_keeps : IsLawful p → (parent : Option S) (need : ConditionalRequirement) (case : Vec VersionSetId Global) (v : VariableId) (id : DenseId DisjunctionTag ℕ) (given : Disjunction) (old : Encoder N S) (ls : FixedLists N) (new : Encoder N S) → IsEncoding same p root old
       → FixesDisjunction id.raw given old.lists ls → has_candidates old.lists need.requirement ≡ true → IsGuarded same p (E.rules_of old) need.requirement → IsParentVariable old.coding.atoms.keys parent v → Contains (rules_for same p root parent).requirements need
-      → Contains (cases_for same p need) case.items → AreInRange (count_of old.coding.search) given.literals.items → IsHelped same p old case.items given.literals.items → StatesNeed (Says.Needs parent need case) v (Some id) need.requirement (record old { lists = ls }) new
+      → Contains (cases_for same p need) case.items → AreInRange (count_of old.coding.search) given.literals.items → AreCaseLiterals same p old case.items given.literals.items → EncodesNeed (Kind.Needs parent need case) v (Some id) need.requirement (record old { lists = ls }) new
       → IsEncoding same p root new × E.rules_of new (Rule.needs parent need case.items)
-  case_keeps lawful parent need case v id given old ls new e fixes has_list guarded stands listed cased below helped came =
+  case_keeps lawful parent need case v id given old ls new e fixes has_list guarded present listed cased below at_least_one new_clause =
       let middle = disjunction_keeps same exact p root lawful id.raw given old ls e fixes in
       let has_still : has_candidates ls need.requirement ≡ true = ap (λ cs. is_some (slot_of cs need.requirement)) fixes.candidates ∙ has_list in
-      let (keeps, rules) = need_keeps same exact p root lawful (Says.Needs parent need case) v (Some id) need.requirement (record old { lists = ls }) new middle has_still guarded (refl, stands, conditioned, listed, cased) ready came in
+      let (keeps, rules) = need_keeps same exact p root lawful (Kind.Needs parent need case) v (Some id) need.requirement (record old { lists = ls }) new middle has_still guarded (refl, present, conditioned, listed, cased) ready new_clause in
       (keeps, rules (Rule.needs parent need case.items) refl)
     where
       literals : condition_in ls (Some id) ≡ given.literals.items
@@ -165,28 +165,28 @@ module _ {N S : Type 0} (same : S → S → Bool) (exact : IsExact same) (p : Pa
       conditioned = record {
         there = disjunction_there id given old.lists ls fixes;
         in_range = subst (AreInRange (suc (length old.coding.atoms.keys))) (sym literals) (subst (λ n. AreInRange n given.literals.items) (count_is old.coding e.coding) below);
-        spells = subst (λ (xs : List Signed). Spells (origin old.coding.atoms.keys) xs (case_literals same p case.items)) (sym literals) helped.spells;
+        spells = subst (λ (xs : List Signed). Spells (origin old.coding.atoms.keys) xs (case_literals same p case.items)) (sym literals) at_least_one.spells;
       }
 
-      ready : IsReady same exact p root lawful (record old { lists = ls }) (Says.Needs parent need case)
+      ready : IsReady same exact p root lawful (record old { lists = ls }) (Kind.Needs parent need case)
       ready who wanted vs w states h =
           let which : case.items ≡ vs = cc in
           let there = subst (λ (xs : List VersionSetId). Contains xs w) (sym which) h in
-          (helped.noted w there, λ s out. helped.registered w s there out)
+          (at_least_one.recorded w there, λ s out. at_least_one.registered w s there out)
 
 -- ---- whether a case holds
 
 module _ {N S : Type 0} (same : S → S → Bool) (exact : IsExact same) where
   -- a case with a version set of which no match is chosen doesn't hold
   pub unmet_spent : (e : Encoder N S) (index : ℕ) (d : Deferred S) (c : DeferredConjunct S) → slice_get e.deferred.items index ≡ Some d → Contains d.conjuncts.items c → (IsOneChosen e (candidates_of c) → ⊥) → IsSpent same e index
-  unmet_spent e index d c at stands none = inr (λ p root lawful holds x there members chosen. elim (cases_Bool (case_holds same p members (case_of x.conjuncts.items))) [
+  unmet_spent e index d c at present none = inr (λ p root lawful holds x there members chosen. elim (cases_Bool (case_holds same p members (case_of x.conjuncts.items))) [
     | inr fails ↦ fails
     | inl truth ↦
         let one : d ≡ x = some_one d x (sym at ∙ there) in
-        let met : is_met same p members (version_set_of c) ≡ true = all_contained (is_met same p members) (version_set_of c) (case_of x.conjuncts.items) truth (contains_map version_set_of c x.conjuncts.items (subst (λ (y : Deferred S). Contains y.conjuncts.items c) one stands)) in
+        let met : is_met same p members (version_set_of c) ≡ true = all_contained (is_met same p members) (version_set_of c) (case_of x.conjuncts.items) truth (contains_map version_set_of c x.conjuncts.items (subst (λ (y : Deferred S). Contains y.conjuncts.items c) one present)) in
         let (m, member, match) = any_contained (is_match same p (version_set_of c)) members met in
         let waits = holds.cases.waiting index x there in
-        let matching : IsMatching same p c = each_of (IsMatching same p) x.conjuncts.items c waits.conjuncts (subst (λ (y : Deferred S). Contains y.conjuncts.items c) one stands) in
+        let matching : IsMatching same p c = each_of (IsMatching same p) x.conjuncts.items c waits.conjuncts (subst (λ (y : Deferred S). Contains y.conjuncts.items c) one present) in
         let (l, known, means) = chosen.each m member in
         let (positive, variable) = means_solvable e.coding.atoms.keys l m means in
         let literal : l ≡ yes l.variable = λ i. record { variable = l.variable; positive = positive i } in
@@ -198,20 +198,20 @@ module _ {N S : Type 0} (same : S → S → Bool) (exact : IsExact same) where
 -- a parent's variable exists
 parent_in_range : {N S : Type 0} (c : SolverState N S) (parent : Option S) (v : VariableId) → IsCoding c → IsParentVariable c.atoms.keys parent v → v.0 < count_of c.search
 parent_in_range c None v coding is = let count = count_is c coding in let none : v.0 ≡ 0 = ap (λ (x : VariableId). x.0) is in omega (arith, count, none)
-parent_in_range c (Some s) v coding stands = stands_in_range c v (Solvable s) coding stands
+parent_in_range c (Some s) v coding present = represents_in_range c v (Solvable s) coding present
 
 -- the variables of the case's clause exist
 pub case_in_range : {N S : Type 0} (e : Encoder N S) (parent : Option S) (v : VariableId) (id : DenseId DisjunctionTag ℕ) (given : Disjunction) (ls : FixedLists N) (r : Requirement) → IsBuilt e → FixesDisjunction id.raw given e.lists ls → IsParentVariable e.coding.atoms.keys parent v
     → AreInRange (count_of e.coding.search) given.literals.items → AreInRange (count_of e.coding.search) (no v ∷ (condition_in ls (Some id) ++ literals_in (candidates_in ls r)))
-case_in_range e parent v id given ls r built fixes stands below = built_in_range (record e { lists = ls }) v (Some id) r (built_disjunction id.raw given e ls built fixes) (parent_in_range e.coding parent v built.coding stands)
+case_in_range e parent v id given ls r built fixes present below = built_in_range (record e { lists = ls }) v (Some id) r (built_disjunction id.raw given e ls built fixes) (parent_in_range e.coding parent v built.coding present)
     (subst (AreInRange (count_of e.coding.search)) (sym (disjunction_is id given e.lists ls fixes)) below)
 
 -- The steps that encode a case: candidates, the parent's variable, at-least-one clauses, its
 -- literals, its clause.
-pub record StatesCase {N S : Type 0} (same : S → S → Bool) (parent : Option S) (need : ConditionalRequirement) (sets : List (ConditionSet N S)) (offered : List (Offered N S)) (old new : Encoder N S) : Type 0 where
+pub record EncodesCase {N S : Type 0} (same : S → S → Bool) (parent : Option S) (need : ConditionalRequirement) (sets : List (ConditionSet N S)) (offered : List (Offered N S)) (old new : Encoder N S) : Type 0 where
   pub fixed : Encoder N S
   pub named : Encoder N S
-  pub helped : Encoder N S
+  pub at_least_one : Encoder N S
   pub lists : FixedLists N
   pub variable : VariableId
   pub id : DenseId DisjunctionTag ℕ
@@ -219,40 +219,40 @@ pub record StatesCase {N S : Type 0} (same : S → S → Bool) (parent : Option 
   pub case : Vec VersionSetId Global
   pub is_case : case.items ≡ sets_case sets
   pub fixes : Fixes same need.requirement offered old fixed
-  pub tells : Tells same [] fixed named
-  pub stands : IsParentVariable named.coding.atoms.keys parent variable
-  pub helps : Helps same sets given.literals.items named helped
-  pub disjoins : FixesDisjunction id.raw given helped.lists lists
-  pub states : StatesNeed (Says.Needs parent need case) variable (Some id) need.requirement (record helped { lists = lists }) new
+  pub encodes : EncodesRules same [] fixed named
+  pub present : IsParentVariable named.coding.atoms.keys parent variable
+  pub negates : CaseLiterals same sets given.literals.items named at_least_one
+  pub disjoins : FixesDisjunction id.raw given at_least_one.lists lists
+  pub states : EncodesNeed (Kind.Needs parent need case) variable (Some id) need.requirement (record at_least_one { lists = lists }) new
 
-module _ {N S : Type 0} (same : S → S → Bool) (exact : IsExact same) (parent : Option S) (need : ConditionalRequirement) (sets : List (ConditionSet N S)) (offered : List (Offered N S)) (old new : Encoder N S) (h : StatesCase same parent need sets offered old new) where
+module _ {N S : Type 0} (same : S → S → Bool) (exact : IsExact same) (parent : Option S) (need : ConditionalRequirement) (sets : List (ConditionSet N S)) (offered : List (Offered N S)) (old new : Encoder N S) (h : EncodesCase same parent need sets offered old new) where
   case_grown : Extends h.fixed new
-  case_grown = extends_then h.fixed h.named new h.tells.extends (extends_then h.named h.helped new h.helps.extends (record { grows = h.states.states.grows; trail = h.states.states.trail; wishes = ap (λ (x : EncodedOnce N S). x.wishes.items) h.states.noted; parents = h.states.parents; encoded = h.states.encoded; deferred = h.states.deferred; fired = h.states.fired }))
+  case_grown = extends_then h.fixed h.named new h.encodes.extends (extends_then h.named h.at_least_one new h.negates.extends (record { grows = h.states.states.grows; trail = h.states.states.trail; softs = ap (λ (x : EncodedOnce N S). x.softs.items) h.states.recorded; parents = h.states.parents; encoded = h.states.encoded; deferred = h.states.deferred; fired = h.states.fired }))
 
   pub case_extends : Extends old new
   case_extends = extends_then old h.fixed new (fixes_extend same need.requirement offered old h.fixed h.fixes) case_grown
 
   pub case_adds : AddsCandidates need.requirement offered old new
-  case_adds = fixes_add same need.requirement offered old h.fixed new h.fixes case_grown.grows (ap (λ (ls : FixedLists N). ls.candidates) h.states.lists ∙ h.disjoins.candidates ∙ ap (λ (ls : FixedLists N). ls.candidates) (h.helps.lists ∙ h.tells.lists))
+  case_adds = fixes_add same need.requirement offered old h.fixed new h.fixes case_grown.grows (ap (λ (ls : FixedLists N). ls.candidates) h.states.lists ∙ h.disjoins.candidates ∙ ap (λ (ls : FixedLists N). ls.candidates) (h.negates.lists ∙ h.encodes.lists))
 
   pub case_built : IsBuilt new
-  case_built = built_states (Says.Needs parent need h.case) h.variable (Some h.id) need.requirement (record h.helped { lists = h.lists }) new (built_disjunction h.id.raw h.given h.helped h.lists h.helps.built h.disjoins) (λ name s place bit is. absurd cc) h.states
+  case_built = built_encodes (Kind.Needs parent need h.case) h.variable (Some h.id) need.requirement (record h.at_least_one { lists = h.lists }) new (built_disjunction h.id.raw h.given h.at_least_one h.lists h.negates.built h.disjoins) (λ name s place bit is. absurd cc) h.states
 
   pub case_encoded : (p : Packages N S) (root : Rules) → IsLawful p → IsEncoding same p root old → AreSets same p sets → AreOffered same p need.requirement offered → IsGuarded same p (E.rules_of old) need.requirement → Contains (rules_for same p root parent).requirements need
       → Contains (cases_for same p need) (sets_case sets) → IsEncoding same p root new × E.rules_of new (Rule.needs parent need (sets_case sets))
   case_encoded p root lawful e all_sets all_offered guarded listed cased =
       let (first, has) = fixes_keep same exact p root lawful need.requirement offered old h.fixed e all_offered h.fixes in
-      let (second, none) = h.tells.encoding p root lawful first (λ r k. absurd (contains_none r k)) in
-      let (third, helped) = h.helps.encoding p root lawful second all_sets in
-      let grown : Extends old h.helped = extends_then old h.fixed h.helped (fixes_extend same need.requirement offered old h.fixed h.fixes) (extends_then h.fixed h.named h.helped h.tells.extends h.helps.extends) in
-      let (last, rule) = case_keeps same exact p root lawful parent need h.case h.variable h.id h.given h.helped h.lists new third h.disjoins (subst (λ ls. has_candidates ls need.requirement ≡ true) (sym (h.helps.lists ∙ h.tells.lists)) has)
-      (guard_grows same exact p root old h.helped need.requirement grown.grows guarded) (parent_variable_grows h.named h.helped parent h.variable h.helps.extends h.stands) listed (subst (λ vs. Contains (cases_for same p need) vs) (sym h.is_case) cased)
-      h.helps.in_range (subst (λ vs. IsHelped same p h.helped vs h.given.literals.items) (sym h.is_case) helped) h.states in
+      let (second, none) = h.encodes.encoding p root lawful first (λ r k. absurd (contains_none r k)) in
+      let (third, at_least_one) = h.negates.encoding p root lawful second all_sets in
+      let grown : Extends old h.at_least_one = extends_then old h.fixed h.at_least_one (fixes_extend same need.requirement offered old h.fixed h.fixes) (extends_then h.fixed h.named h.at_least_one h.encodes.extends h.negates.extends) in
+      let (last, rule) = case_keeps same exact p root lawful parent need h.case h.variable h.id h.given h.at_least_one h.lists new third h.disjoins (subst (λ ls. has_candidates ls need.requirement ≡ true) (sym (h.negates.lists ∙ h.encodes.lists)) has)
+      (guard_grows same exact p root old h.at_least_one need.requirement grown.grows guarded) (parent_variable_grows h.named h.at_least_one parent h.variable h.negates.extends h.present) listed (subst (λ vs. Contains (cases_for same p need) vs) (sym h.is_case) cased)
+      h.negates.in_range (subst (λ vs. AreCaseLiterals same p h.at_least_one vs h.given.literals.items) (sym h.is_case) at_least_one) h.states in
       (last, subst (λ vs. E.rules_of new (Rule.needs parent need vs)) h.is_case rule)
 
 -- a case whose version set excludes the parent needs no clause
 pub case_left_out : {N S : Type 0} (same : S → S → Bool) → IsExact same → (p : Packages N S) (rules : Rule N S → Type 0) (parent : Option S) (need : ConditionalRequirement) (sets : List (ConditionSet N S)) (s : S) (c : ConditionSet N S) → AreSets same p sets → parent ≡ Some s → Contains sets c → Contains (offered_solvables c.outside.items) s
     → IsNeedEncoded same p rules parent need (sets_case sets)
-case_left_out same exact p rules parent need sets s c all_sets who stands there =
-    let is_set = each_of (IsSet same p) sets c all_sets stands in
-    inr (inr (s, c.version_set, who, contains_map (λ (x : ConditionSet _ _). x.version_set) c sets stands, sym (is_set.outside.outside s) ∙ contained_in same exact p (offered_solvables c.outside.items) s there))
+case_left_out same exact p rules parent need sets s c all_sets who present there =
+    let is_set = each_of (IsSet same p) sets c all_sets present in
+    inr (inr (s, c.version_set, who, contains_map (λ (x : ConditionSet _ _). x.version_set) c sets present, sym (is_set.outside.outside s) ∙ contained_in same exact p (offered_solvables c.outside.items) s there))

@@ -15,10 +15,10 @@ use Rattle.resolvo_packages.specs.PackageSource.{offered_solvables}
 use Rattle.resolvo_state.specs.declared.atom.ProofAtom.{ProofAtom}
 use Rattle.resolvo_state.specs.declared.atom.ProofAtom.TheVariants.{Solvable}
 use Rattle.resolvo_state.specs.declared.solver_state.SolverState.{SolverState}
-use Rattle.resolvo_state.specs.Atoms.{StandsFor}
+use Rattle.resolvo_state.specs.Atoms.{Represents}
 use Rattle.resolvo_state.specs.SolverState.{Grows}
-use Rattle.resolvo_state.proofs.Growth.{stands_grow, rules_grow}
-use Rattle.resolvo_state.proofs.Origins.{solvable_stands}
+use Rattle.resolvo_state.proofs.Growth.{represents_grow, rules_grow}
+use Rattle.resolvo_state.proofs.Origins.{solvable_represents}
 use Rattle.resolvo_encoder.specs.Encoded.{AreCandidates, HasOrder, AreOrdered, IsChosenFor}
 use Rattle.resolvo_encoder.specs.Encoded as E
 use Rattle.resolvo_encoder.specs.Steps.{KeepsLists, AddsCandidates}
@@ -31,10 +31,10 @@ pub candidates_grow : {N S : Type 0} (old new : SolverState N S) (cs : List (Can
 candidates_grow old new [] [] grows h = tt
 candidates_grow old new [] (s ∷ ss) grows h = absurd h
 candidates_grow old new (c ∷ cs) [] grows h = absurd h
-candidates_grow old new (c ∷ cs) (s ∷ ss) grows (a, b, rest) = (a, stands_grow old new c.literal.variable (Solvable s) grows b, candidates_grow old new cs ss grows rest)
+candidates_grow old new (c ∷ cs) (s ∷ ss) grows (a, b, rest) = (a, represents_grow old new c.literal.variable (Solvable s) grows b, candidates_grow old new cs ss grows rest)
 
 -- one more is offered, and a candidate
-pub candidates_more : {N S : Type 0} (atoms : List (ProofAtom N S)) (cs : List (Candidate N)) (os : List (Offered N S)) (c : Candidate N) (o : Offered N S) → AreCandidates atoms cs (offered_solvables os) → c.literal.positive ≡ true → StandsFor atoms c.literal.variable (Solvable o.solvable)
+pub candidates_more : {N S : Type 0} (atoms : List (ProofAtom N S)) (cs : List (Candidate N)) (os : List (Offered N S)) (c : Candidate N) (o : Offered N S) → AreCandidates atoms cs (offered_solvables os) → c.literal.positive ≡ true → Represents atoms c.literal.variable (Solvable o.solvable)
     → AreCandidates atoms (cs ++ c ∷ []) (offered_solvables (os ++ o ∷ []))
 candidates_more atoms [] [] c o h a b = (a, b, tt)
 candidates_more atoms [] (p ∷ os) c o h a b = absurd h
@@ -49,7 +49,7 @@ candidates_both atoms (c ∷ cs) ds [] ts h k = absurd h
 candidates_both atoms (c ∷ cs) ds (s ∷ ss) ts (a, b, rest) k = (a, b, candidates_both atoms cs ds ss ts rest k)
 
 -- candidates that each represent a solvable are those of a list
-candidates_list : {N S : Type 0} (atoms : List (ProofAtom N S)) (cs : List (Candidate N)) → ((c : Candidate N) → Contains cs c → (s : S) × (c.literal.positive ≡ true) × StandsFor atoms c.literal.variable (Solvable s)) → (list : List S) × AreCandidates atoms cs list
+candidates_list : {N S : Type 0} (atoms : List (ProofAtom N S)) (cs : List (Candidate N)) → ((c : Candidate N) → Contains cs c → (s : S) × (c.literal.positive ≡ true) × Represents atoms c.literal.variable (Solvable s)) → (list : List S) × AreCandidates atoms cs list
 candidates_list atoms [] each = ([], tt)
 candidates_list atoms (c ∷ cs) each =
     let (s, a, b) = each c (contains_first c c cs refl) in
@@ -57,12 +57,12 @@ candidates_list atoms (c ∷ cs) each =
     (s ∷ list, (a, b, rest))
 
 -- each solvable of the list has its candidate
-pub candidate_of : {N S : Type 0} (atoms : List (ProofAtom N S)) (cs : List (Candidate N)) (list : List S) (s : S) → AreCandidates atoms cs list → Contains list s → (c : Candidate N) × Contains cs c × (c.literal.positive ≡ true) × StandsFor atoms c.literal.variable (Solvable s)
+pub candidate_of : {N S : Type 0} (atoms : List (ProofAtom N S)) (cs : List (Candidate N)) (list : List S) (s : S) → AreCandidates atoms cs list → Contains list s → (c : Candidate N) × Contains cs c × (c.literal.positive ≡ true) × Represents atoms c.literal.variable (Solvable s)
 candidate_of atoms [] [] s h a = absurd (contains_none s a)
 candidate_of atoms [] (t ∷ ts) s h a = absurd h
 candidate_of atoms (c ∷ cs) [] s h a = absurd h
 candidate_of atoms (c ∷ cs) (t ∷ ts) s (e, f, rest) a = elim (contains_cases s t ts a) [
-  | inl is ↦ (c, contains_first c c cs refl, e, subst (λ x. StandsFor atoms c.literal.variable (Solvable x)) (sym is) f)
+  | inl is ↦ (c, contains_first c c cs refl, e, subst (λ x. Represents atoms c.literal.variable (Solvable x)) (sym is) f)
   | inr b ↦ let (d, i, j, k) = candidate_of atoms cs ts s rest b in (d, contains_later d c cs i, j, k)
 ]
 
@@ -77,7 +77,7 @@ one_list atoms [] (s ∷ ss) ts h k = absurd h
 one_list atoms (c ∷ cs) [] ts h k = absurd h
 one_list atoms (c ∷ cs) (s ∷ ss) [] h k = absurd k
 one_list atoms (c ∷ cs) (s ∷ ss) (t ∷ ts) (a, b, rest) (d, e, more) =
-    let first : s ≡ t = some_same s t (sym (solvable_stands atoms c.literal.variable s b) ∙ solvable_stands atoms c.literal.variable t e) in
+    let first : s ≡ t = some_same s t (sym (solvable_represents atoms c.literal.variable s b) ∙ solvable_represents atoms c.literal.variable t e) in
     ap (λ x. x ∷ ss) first ∙ ap (λ xs. t ∷ xs) (one_list atoms cs ss ts rest more)
 
 -- ---- the candidates of requirements
@@ -95,9 +95,9 @@ module _ {N S : Type 0} (old new : Encoder N S) (grows : Grows old.coding new.co
   taken_grows same p known l k = first_pick_grows same p (E.rules_of old) (E.rules_of new) (rules_grow old.coding new.coding grows) (HasOrder old) (HasOrder new) known l order_stays k
 
   -- a decision for a soft requirement, or a first pick, remains one
-  pub chosen_grows : new.noted.wishes.items ≡ old.noted.wishes.items → (same : S → S → Bool) (p : Packages N S) (known : List (Literal (Atom N S))) (l : Literal (Atom N S)) → IsChosenFor same p old known l → IsChosenFor same p new known l
-  chosen_grows wishes same p known l (inl w) = inl (record { solvable = w.solvable; is = w.is; wished = subst (λ (ws : List S). is_in same p ws w.solvable ≡ true) (sym wishes) w.wished })
-  chosen_grows wishes same p known l (inr k) = inr (taken_grows same p known l k)
+  pub chosen_grows : new.recorded.softs.items ≡ old.recorded.softs.items → (same : S → S → Bool) (p : Packages N S) (known : List (Literal (Atom N S))) (l : Literal (Atom N S)) → IsChosenFor same p old known l → IsChosenFor same p new known l
+  chosen_grows softs same p known l (inl w) = inl (record { solvable = w.solvable; is = w.is; wished = subst (λ (ws : List S). is_in same p ws w.solvable ≡ true) (sym softs) w.wished })
+  chosen_grows softs same p known l (inr k) = inr (taken_grows same p known l k)
 
 module _ {N S : Type 0} (orders : Requirement → List S → Type 0) where
   -- solvables offered in an order leave all candidates ordered
@@ -141,10 +141,10 @@ found_first {X} f (y ∷ ys) x h = go (f y) refl h (found_first f ys x)
 -- Candidates with one among them are those of a list with its solvable at that place, and each solvable before it has a
 -- candidate before that one.
 pub listed_at : {N S : Type 0} (atoms : List (ProofAtom N S)) (before after : List (Candidate N)) (c : Candidate N) (s : S)
-    → ((d : Candidate N) → Contains before d → (t : S) × (d.literal.positive ≡ true) × StandsFor atoms d.literal.variable (Solvable t)) → ((d : Candidate N) → Contains after d → (t : S) × (d.literal.positive ≡ true) × StandsFor atoms d.literal.variable (Solvable t))
-    → c.literal.positive ≡ true → StandsFor atoms c.literal.variable (Solvable s)
-    → (front : List S) × (back : List S) × AreCandidates atoms before front × AreCandidates atoms (before ++ c ∷ after) (front ++ s ∷ back)
-listed_at atoms before after c s first last positive stands =
-    let (front, one) = candidates_list atoms before first in
+    → ((d : Candidate N) → Contains before d → (t : S) × (d.literal.positive ≡ true) × Represents atoms d.literal.variable (Solvable t)) → ((d : Candidate N) → Contains after d → (t : S) × (d.literal.positive ≡ true) × Represents atoms d.literal.variable (Solvable t))
+    → c.literal.positive ≡ true → Represents atoms c.literal.variable (Solvable s)
+    → (prefix : List S) × (back : List S) × AreCandidates atoms before prefix × AreCandidates atoms (before ++ c ∷ after) (prefix ++ s ∷ back)
+listed_at atoms before after c s first last positive present =
+    let (prefix, one) = candidates_list atoms before first in
     let (back, two) = candidates_list atoms after last in
-    (front, back, one, candidates_both atoms before (c ∷ after) front (s ∷ back) one (positive, stands, two))
+    (prefix, back, one, candidates_both atoms before (c ∷ after) prefix (s ∷ back) one (positive, present, two))

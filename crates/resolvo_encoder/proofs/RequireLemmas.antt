@@ -15,7 +15,7 @@ use Rattle.resolvo_pool_core.specs.OnePass.{Literal}
 use Rattle.resolvo_pool_core.specs.Provider.{listed}
 use Rattle.resolvo_pool_core.specs.Text.{solvable_of, alternatives_of}
 use Rattle.resolvo_pool_core.specs.RuleKeeping.{Packages, Rules, IsLawful, is_in, is_match, is_outside, meets}
-use Rattle.resolvo_store_core.specs.AtMostOne.{IsFrontOf, digit}
+use Rattle.resolvo_store_core.specs.AtMostOne.{IsPrefixOf, digit}
 use Rattle.resolvo_store_core.specs.Signed.{Signed, has}
 use Rattle.resolvo_store_core.specs.Lists.{has_candidates, candidates_in, FixesCandidates}
 use Rattle.resolvo_store_core.specs.declared.decide_queue.NeedClause.{NeedClause}
@@ -32,16 +32,16 @@ use Rattle.resolvo_soundness.proofs.Lists.{any_contained}
 use Rattle.resolvo_packages.specs.declared.package_source.Offered.{Offered}
 use Rattle.resolvo_packages.specs.PackageSource.{offered_solvables, AreOffered}
 use Rattle.resolvo_state.specs.declared.atom.ProofAtom.TheVariants.{Solvable, Gate}
-use Rattle.resolvo_state.specs.declared.clause_kind.Stated.{Stated}
-use Rattle.resolvo_state.specs.declared.clause_kind.Stated.TheVariants as Says
+use Rattle.resolvo_state.specs.declared.clause_kind.ClauseKind.{ClauseKind}
+use Rattle.resolvo_state.specs.declared.clause_kind.ClauseKind.TheVariants as Kind
 use Rattle.resolvo_state.specs.declared.solver_state.SolverState.{SolverState}
 use Rattle.resolvo_state.specs.declared.registry.Registry.{Registry}
-use Rattle.resolvo_state.specs.Atoms.{origin, StandsFor}
-use Rattle.resolvo_state.specs.Statements.{rule_of, stated_at, rule_at}
+use Rattle.resolvo_state.specs.Atoms.{origin, Represents}
+use Rattle.resolvo_state.specs.ClauseKinds.{rule_of, kind_at, rule_at}
 use Rattle.resolvo_state.specs.SolverState.{IsCoding, Grows, SameTrail}
 use Rattle.resolvo_state.specs.Registered.{AreTied, IsTracked, IsRegistered, IsDigitClause, digit_literals}
 use Rattle.resolvo_encoder.specs.Cases.{case_of, IsDeferred}
-use Rattle.resolvo_encoder.specs.Encoded.{IsCandidate, AreCandidates, HasOrder, IsQueuedFor, Asks, IsGuarded, IsLimitEncoded, IsNoted, IsCaseEncoded, IsParentEncoded, Registered, AreCased, IsEncoding, IsChosenFor}
+use Rattle.resolvo_encoder.specs.Encoded.{IsCandidate, AreCandidates, HasOrder, IsQueuedFor, Asks, IsGuarded, IsLimitEncoded, IsRecorded, IsCaseEncoded, IsParentEncoded, Registered, AreCased, IsEncoding, IsChosenFor}
 use Rattle.resolvo_encoder.specs.Encoded as E
 use Rattle.resolvo_encoder.specs.Steps.{RegistersAll, KeepsLists, SameButCoding, Extends}
 use Rattle.resolvo_encoder.specs.declared.encoder.Deferred.{Deferred}
@@ -49,18 +49,18 @@ use Rattle.resolvo_encoder.specs.declared.encoder.Encoder.{Encoder}
 use Rattle.resolvo_encoder.specs.declared.encoder.EncodedOnce.{EncodedOnce}
 use Rattle.resolvo_encoder.proofs.ConditionLemmas.{queued_grows}
 use Rattle.resolvo_encoder.proofs.PickLemmas.{chosen_grows}
-use Rattle.resolvo_state.proofs.Origins.{solvable_stands}
-use Rattle.resolvo_state.proofs.Positions.{front_get, front_equal}
+use Rattle.resolvo_state.proofs.Origins.{solvable_represents}
+use Rattle.resolvo_state.proofs.Positions.{prefix_get, prefix_equal}
 use Rattle.resolvo_state.proofs.RegisterLemmas.{KeepsDigits, ties_grow}
-use Rattle.resolvo_state.proofs.Rules.{rule_stated}
-use Rattle.resolvo_state.proofs.Growth.{grows_same, grows_then, stands_grow, rules_grow, bar_grows, stated_grows, rule_split, rules_split, spelled_grows, registered_grows, called_grows_trail, trail_same, trail_then}
+use Rattle.resolvo_state.proofs.Rules.{rule_at_kind}
+use Rattle.resolvo_state.proofs.Growth.{grows_same, grows_then, represents_grow, rules_grow, forbid_grows, kind_grows, rule_split, rules_split, spelled_grows, registered_grows, called_grows_trail, trail_same, trail_then}
 
 module _ {N S : Type 0} (same : S → S → Bool) (exact : IsExact same) (p : Packages N S) (root : Rules) where
   -- the added clause of this number is right
-  pub record Came (new : Encoder N S) (n : ℕ) : Type 0 where
-    pub stated : Stated N S
-    pub at : stated_at new.coding.stated.items n ≡ Some stated
-    pub rule : (r : Rule N S) → rule_of stated ≡ Some r → IsRule same p root r × Spells (origin new.coding.atoms.keys) (clause_at (clauses_of new.coding.search) n) (literals_of same p r)
+  pub record AddedClause (new : Encoder N S) (n : ℕ) : Type 0 where
+    pub kinds : ClauseKind N S
+    pub at : kind_at new.coding.kinds.items n ≡ Some kinds
+    pub rule : (r : Rule N S) → rule_of kinds ≡ Some r → IsRule same p root r × Spells (origin new.coding.atoms.keys) (clause_at (clauses_of new.coding.search) n) (literals_of same p r)
     pub positive : (l : Signed) (s : S) → has (clause_at (clauses_of new.coding.search) n) l ≡ true → Means (origin new.coding.atoms.keys) l (plus (Atom.solvable s)) → Registered same p root new s
 
   -- The invariant is kept where each added clause is right, and so are the lists, the queue and the
@@ -72,18 +72,18 @@ module _ {N S : Type 0} (same : S → S → Bool) (exact : IsExact same) (p : Pa
     pub tied : AreTied new.registry new.coding
     pub keeps : (m : N) (u : VariableId) → IsTracked old.registry m u → IsTracked new.registry m u
     pub registered : (n : N) (s : S) → IsRegistered new.registry new.coding n s → IsRegistered old.registry old.coding n s ⊎ ((n ≡ p.package_of s) × (is_in same p (listed (p.candidates_of (p.package_of s))) s ≡ true))
-    pub came : (n : ℕ) → length old.coding.search.clauses ≤ n → n < length new.coding.search.clauses → Came new n
+    pub new_clause : (n : ℕ) → length old.coding.search.clauses ≤ n → n < length new.coding.search.clauses → AddedClause new n
     pub lists : KeepsLists old new
     pub listed : (r : Requirement) (c : Candidate N) → Contains (candidates_in new.lists r) c → (s : S) × IsCandidate new (p.package_of s) s c × (meets same p r s ≡ true)
     pub offered : (r : Requirement) (s : S) → has_candidates new.lists r ≡ true → meets same p r s ≡ true → (c : Candidate N) × Contains (candidates_in new.lists r) c × IsCandidate new (p.package_of s) s c
     pub fixed : (r : Requirement) → HasClause same p (E.rules_of new) r → has_candidates new.lists r ≡ true
-    pub queued : (q : NeedClause) → Contains new.queue q → IsQueuedFor same p new.lists new.coding.atoms.keys (stated_at new.coding.stated.items q.clause.0) q
-    pub asked : (n : ℕ) (r : Rule N S) → rule_at new.coding.stated.items n ≡ Some r → Asks r → (q : NeedClause) × Contains new.queue q × (q.clause.0 ≡ n)
-    pub gates : (r : Requirement) (v : VariableId) → slot_of new.gates r ≡ Some v → StandsFor new.coding.atoms.keys v (Gate r) × E.rules_of new (Rule.shared r)
+    pub queued : (q : NeedClause) → Contains new.queue q → IsQueuedFor same p new.lists new.coding.atoms.keys (kind_at new.coding.kinds.items q.clause.0) q
+    pub asked : (n : ℕ) (r : Rule N S) → rule_at new.coding.kinds.items n ≡ Some r → Asks r → (q : NeedClause) × Contains new.queue q × (q.clause.0 ≡ n)
+    pub gates : (r : Requirement) (v : VariableId) → slot_of new.gates r ≡ Some v → Represents new.coding.atoms.keys v (Gate r) × E.rules_of new (Rule.shared r)
     pub within : new.encoded ≤ length new.parents.keys
-    pub bar : (r : Requirement) → HasClause same p (E.rules_of new) r → IsGuarded same p (E.rules_of new) r
-    pub noted : IsNoted same p (E.rules_of new) new.noted
-    pub wishes : new.noted.wishes.items ≡ old.noted.wishes.items
+    pub forbid : (r : Requirement) → HasClause same p (E.rules_of new) r → IsGuarded same p (E.rules_of new) r
+    pub recorded : IsRecorded same p (E.rules_of new) new.recorded
+    pub softs : new.recorded.softs.items ≡ old.recorded.softs.items
     pub cases : AreCased same p root new
     pub encoded : (i : ℕ) (parent : SolvableIdOrRoot S) → i < new.encoded → slice_get new.parents.keys i ≡ Some parent → IsParentEncoded same p new root (solvable_of parent)
 
@@ -92,11 +92,11 @@ module _ {N S : Type 0} (same : S → S → Bool) (exact : IsExact same) (p : Pa
     coding = h.coding;
     tied = h.tied;
     spelled = spelled_grows same p old.coding new.coding e.coding h.coding h.grows e.spelled (λ n r low high at. (spelled_at n r low high at).1);
-    rule = λ r stands. elim (rules_split old.coding new.coding e.coding h.coding h.grows r stands) [
+    rule = λ r present. elim (rules_split old.coding new.coding e.coding h.coding h.grows r present) [
       | inl a ↦ e.rule r a
       | inr (n, low, high, at) ↦ (spelled_at n r low high at).0
     ];
-    positive = registered_grows (Registered same p root old) (Registered same p root new) old.coding new.coding e.coding h.coding h.grows stays e.positive (λ n l s low high a b. (h.came n low high).positive l s a b);
+    positive = registered_grows (Registered same p root old) (Registered same p root new) old.coding new.coding e.coding h.coding h.grows stays e.positive (λ n l s low high a b. (h.new_clause n low high).positive l s a b);
     named = λ n s a. elim (h.registered n s a) [ inl b ↦ e.named n s b | inr (b, c) ↦ b ];
     candidates = λ s a. elim (h.registered (p.package_of s) s a) [ inl b ↦ e.candidates s b | inr (b, c) ↦ c ];
     listed = h.listed;
@@ -105,26 +105,26 @@ module _ {N S : Type 0} (same : S → S → Bool) (exact : IsExact same) (p : Pa
     queued = h.queued;
     asked = h.asked;
     gates = h.gates;
-    bar = h.bar;
-    noted = h.noted;
+    forbid = h.forbid;
+    recorded = h.recorded;
     cases = h.cases;
     within = h.within;
     encoded = h.encoded;
-    wished = λ s a. stays s (e.wished s (subst (λ (ws : List S). Contains ws s) h.wishes a));
-    called = called_grows_trail (IsChosenFor same p old) (IsChosenFor same p new) (chosen_grows old new h.grows h.lists h.wishes same p) old.coding new.coding e.coding h.grows h.trail e.called;
+    wished = λ s a. stays s (e.wished s (subst (λ (ws : List S). Contains ws s) h.softs a));
+    called = called_grows_trail (IsChosenFor same p old) (IsChosenFor same p new) (chosen_grows old new h.grows h.lists h.softs same p) old.coding new.coding e.coding h.grows h.trail e.called;
   }
     where
-      spelled_at : (n : ℕ) (r : Rule N S) → length old.coding.search.clauses ≤ n → n < length new.coding.search.clauses → rule_at new.coding.stated.items n ≡ Some r
+      spelled_at : (n : ℕ) (r : Rule N S) → length old.coding.search.clauses ≤ n → n < length new.coding.search.clauses → rule_at new.coding.kinds.items n ≡ Some r
           → IsRule same p root r × Spells (origin new.coding.atoms.keys) (clause_at (clauses_of new.coding.search) n) (literals_of same p r)
       spelled_at n r low high at =
-          let came = h.came n low high in
-          came.rule r (sym (rule_stated new.coding.stated.items n came.stated came.at) ∙ at)
+          let new_clause = h.new_clause n low high in
+          new_clause.rule r (sym (rule_at_kind new.coding.kinds.items n new_clause.kinds new_clause.at) ∙ at)
 
       stays : (s : S) → Registered same p root old s → Registered same p root new s
-      stays s (v, stands, tracked) = (v, stands_grow old.coding new.coding v (Solvable s) h.grows stands, h.keeps (p.package_of s) v tracked)
+      stays s (v, present, tracked) = (v, represents_grow old.coding new.coding v (Solvable s) h.grows present, h.keeps (p.package_of s) v tracked)
 
   pub candidate_grows : (old new : Encoder N S) (n : N) (s : S) (c : Candidate N) → Grows old.coding new.coding → ((m : N) (u : VariableId) → IsTracked old.registry m u → IsTracked new.registry m u) → IsCandidate old n s c → IsCandidate new n s c
-  candidate_grows old new n s c grows keeps h = record { positive = h.positive; stands = stands_grow old.coding new.coding c.literal.variable (Solvable s) grows h.stands; tracked = keeps n c.literal.variable h.tracked }
+  candidate_grows old new n s c grows keeps h = record { positive = h.positive; present = represents_grow old.coding new.coding c.literal.variable (Solvable s) grows h.present; tracked = keeps n c.literal.variable h.tracked }
 
   -- an encoded requirement remains encoded
   pub need_grows : (old new : Encoder N S) (parent : Option S) (need : ConditionalRequirement) (case : List VersionSetId) → Grows old.coding new.coding → IsNeedEncoded same p (E.rules_of old) parent need case → IsNeedEncoded same p (E.rules_of new) parent need case
@@ -134,7 +134,7 @@ module _ {N S : Type 0} (same : S → S → Bool) (exact : IsExact same) (p : Pa
 
   -- locks and exclusions of a requirement's packages remain encoded
   pub guard_grows : (old new : Encoder N S) (r : Requirement) → Grows old.coding new.coding → IsGuarded same p (E.rules_of old) r → IsGuarded same p (E.rules_of new) r
-  guard_grows old new r grows h v s a barred = bar_grows old.coding new.coding grows s (h v s a barred)
+  guard_grows old new r grows h v s a barred = forbid_grows old.coding new.coding grows s (h v s a barred)
 
   -- an encoded constraint remains encoded
   pub limit_grows : (old new : Encoder N S) (parent : Option S) (v : VersionSetId) → Grows old.coding new.coding → IsLimitEncoded same p (E.rules_of old) parent v → IsLimitEncoded same p (E.rules_of new) parent v
@@ -144,54 +144,54 @@ module _ {N S : Type 0} (same : S → S → Bool) (exact : IsExact same) (p : Pa
   ]
 
   -- a deferred case remains deferred, or is encoded
-  pub deferred_grows : (old new : Encoder N S) (parent : Option S) (need : ConditionalRequirement) (case : List VersionSetId) → IsFrontOf old.deferred.items new.deferred.items → IsDeferred old parent need case → IsDeferred new parent need case
-  deferred_grows old new parent need case front (i, d, at, a, b, c) = (i, d, front_get old.deferred.items new.deferred.items i d front at, a, b, c)
+  pub deferred_grows : (old new : Encoder N S) (parent : Option S) (need : ConditionalRequirement) (case : List VersionSetId) → IsPrefixOf old.deferred.items new.deferred.items → IsDeferred old parent need case → IsDeferred new parent need case
+  deferred_grows old new parent need case prefix (i, d, at, a, b, c) = (i, d, prefix_get old.deferred.items new.deferred.items i d prefix at, a, b, c)
 
   -- a case that is encoded or deferred remains so
-  pub case_grows : (old new : Encoder N S) (parent : Option S) (need : ConditionalRequirement) (case : List VersionSetId) → Grows old.coding new.coding → IsFrontOf old.deferred.items new.deferred.items → IsCaseEncoded same p old parent need case → IsCaseEncoded same p new parent need case
-  case_grows old new parent need case grows front (inl a) = inl (need_grows old new parent need case grows a)
-  case_grows old new parent need case grows front (inr a) = inr (deferred_grows old new parent need case front a)
+  pub case_grows : (old new : Encoder N S) (parent : Option S) (need : ConditionalRequirement) (case : List VersionSetId) → Grows old.coding new.coding → IsPrefixOf old.deferred.items new.deferred.items → IsCaseEncoded same p old parent need case → IsCaseEncoded same p new parent need case
+  case_grows old new parent need case grows prefix (inl a) = inl (need_grows old new parent need case grows a)
+  case_grows old new parent need case grows prefix (inr a) = inr (deferred_grows old new parent need case prefix a)
 
   -- an encoded parent remains encoded
-  pub parent_grows : (old new : Encoder N S) (parent : Option S) → Grows old.coding new.coding → IsFrontOf old.deferred.items new.deferred.items → IsParentEncoded same p old root parent → IsParentEncoded same p new root parent
-  parent_grows old new parent grows front h = record {
-    needs = λ need case a b. case_grows old new parent need case grows front (h.needs need case a b);
+  pub parent_grows : (old new : Encoder N S) (parent : Option S) → Grows old.coding new.coding → IsPrefixOf old.deferred.items new.deferred.items → IsParentEncoded same p old root parent → IsParentEncoded same p new root parent
+  parent_grows old new parent grows prefix h = record {
+    needs = λ need case a b. case_grows old new parent need case grows prefix (h.needs need case a b);
     limits = λ v a. limit_grows old new parent v grows (h.limits v a);
     guarded = λ v a. guard_grows old new (Single v) grows (h.guarded v a);
-    unknown = λ s is a. bar_grows old.coding new.coding grows s (h.unknown s is a);
+    unknown = λ s is a. forbid_grows old.coding new.coding grows s (h.unknown s is a);
   }
 
   -- recorded packages and version sets remain encoded
-  pub noted_grows : (old new : Encoder N S) → Grows old.coding new.coding → new.noted ≡ old.noted → IsNoted same p (E.rules_of old) old.noted → IsNoted same p (E.rules_of new) new.noted
-  noted_grows old new grows noted h = record {
-    packages = λ n s a barred. bar_grows old.coding new.coding grows s (h.packages n s (subst (λ (x : EncodedOnce N S). Contains x.packages.keys n) noted a) barred);
-    version_sets = λ v s a outside. rules_grow old.coding new.coding grows (Rule.is_out v s) (h.version_sets v s (subst (λ (x : EncodedOnce N S). Contains x.version_sets.keys v) noted a) outside);
+  pub recorded_grows : (old new : Encoder N S) → Grows old.coding new.coding → new.recorded ≡ old.recorded → IsRecorded same p (E.rules_of old) old.recorded → IsRecorded same p (E.rules_of new) new.recorded
+  recorded_grows old new grows recorded h = record {
+    packages = λ n s a barred. forbid_grows old.coding new.coding grows s (h.packages n s (subst (λ (x : EncodedOnce N S). Contains x.packages.keys n) recorded a) barred);
+    version_sets = λ v s a outside. rules_grow old.coding new.coding grows (Rule.is_out v s) (h.version_sets v s (subst (λ (x : EncodedOnce N S). Contains x.version_sets.keys v) recorded a) outside);
   }
 
   -- a registered solvable remains registered
   pub registered_stays : (old new : Encoder N S) (n : N) (s : S) → Grows old.coding new.coding → ((m : N) (u : VariableId) → IsTracked old.registry m u → IsTracked new.registry m u) → IsRegistered old.registry old.coding n s → IsRegistered new.registry new.coding n s
-  registered_stays old new n s grows keeps (v, stands, tracked) = (v, stands_grow old.coding new.coding v (Solvable s) grows stands, keeps n v tracked)
+  registered_stays old new n s grows keeps (v, present, tracked) = (v, represents_grow old.coding new.coding v (Solvable s) grows present, keeps n v tracked)
 
   -- The deferred cases and the fired ones are unchanged.
-  pub cases_keep : (old new : Encoder N S) → AreCased same p root old → Grows old.coding new.coding → new.deferred ≡ old.deferred → new.fired ≡ old.fired → new.noted ≡ old.noted
-      → ((parent : Option S) (need : ConditionalRequirement) (case : List VersionSetId) (v : VersionSetId) → E.rules_of new (Rule.needs parent need case) → Contains case v → Contains new.noted.helped.keys (p.set_package v) × ((s : S) → is_outside same p v s ≡ true → Registered same p root new s))
-      → ((n : N) (s : S) → Contains new.noted.helped.keys n → IsRegistered new.registry new.coding n s → E.rules_of new (Rule.is_there n s)) → AreCased same p root new
-  cases_keep old new e grows deferred fired noted cased helped = record {
+  pub cases_keep : (old new : Encoder N S) → AreCased same p root old → Grows old.coding new.coding → new.deferred ≡ old.deferred → new.fired ≡ old.fired → new.recorded ≡ old.recorded
+      → ((parent : Option S) (need : ConditionalRequirement) (case : List VersionSetId) (v : VersionSetId) → E.rules_of new (Rule.needs parent need case) → Contains case v → Contains new.recorded.at_least_one.keys (p.set_package v) × ((s : S) → is_outside same p v s ≡ true → Registered same p root new s))
+      → ((n : N) (s : S) → Contains new.recorded.at_least_one.keys n → IsRegistered new.registry new.coding n s → E.rules_of new (Rule.is_there n s)) → AreCased same p root new
+  cases_keep old new e grows deferred fired recorded cased at_least_one = record {
     waiting = λ i d at. e.waiting i d (subst (λ (ds : Vec (Deferred S) Global). slice_get ds.items i ≡ Some d) deferred at);
     places = λ i h. subst (λ (ds : Vec (Deferred S) Global). i < length ds.items) (sym deferred) (e.places i (subst (λ ks. Contains ks.keys i) fired h));
     fired = λ i d h at. need_grows old new d.parent d.need (case_of d.conjuncts.items) grows (e.fired i d (subst (λ ks. Contains ks.keys i) fired h) (subst (λ (ds : Vec (Deferred S) Global). slice_get ds.items i ≡ Some d) deferred at));
     cased = cased;
-    helped = helped;
-    there = λ s h. rules_grow old.coding new.coding grows (Rule.is_there (p.package_of s) s) (e.there s (subst (λ (x : EncodedOnce N S). Contains x.there.keys s) noted h));
+    at_least_one = at_least_one;
+    there = λ s h. rules_grow old.coding new.coding grows (Rule.is_there (p.package_of s) s) (e.there s (subst (λ (x : EncodedOnce N S). Contains x.there.keys s) recorded h));
   }
 
   -- the packages of an encoded case remain recorded, and the candidates outside registered
-  pub cased_stays : (old new : Encoder N S) → AreCased same p root old → Grows old.coding new.coding → new.noted ≡ old.noted → ((m : N) (u : VariableId) → IsTracked old.registry m u → IsTracked new.registry m u)
+  pub cased_stays : (old new : Encoder N S) → AreCased same p root old → Grows old.coding new.coding → new.recorded ≡ old.recorded → ((m : N) (u : VariableId) → IsTracked old.registry m u → IsTracked new.registry m u)
       → (parent : Option S) (need : ConditionalRequirement) (case : List VersionSetId) (v : VersionSetId) → E.rules_of old (Rule.needs parent need case) → Contains case v
-      → Contains new.noted.helped.keys (p.set_package v) × ((s : S) → is_outside same p v s ≡ true → Registered same p root new s)
-  cased_stays old new e grows noted keeps parent need case v stands h =
-      let (named, out) = e.cased parent need case v stands h in
-      (subst (λ (x : EncodedOnce N S). Contains x.helped.keys (p.set_package v)) (sym noted) named, λ s o. registered_stays old new (p.package_of s) s grows keeps (out s o))
+      → Contains new.recorded.at_least_one.keys (p.set_package v) × ((s : S) → is_outside same p v s ≡ true → Registered same p root new s)
+  cased_stays old new e grows recorded keeps parent need case v present h =
+      let (named, out) = e.cased parent need case v present h in
+      (subst (λ (x : EncodedOnce N S). Contains x.at_least_one.keys (p.set_package v)) (sym recorded) named, λ s o. registered_stays old new (p.package_of s) s grows keeps (out s o))
 
 -- the value of a map by requirement where it was put
 pub put_at : {V : Type 0} (m n : List (Option V) × List (Option V)) (r : Requirement) (x : V) → PutsAt m n r x → slot_of n r ≡ Some x
@@ -230,7 +230,7 @@ module _ {N S : Type 0} (same : S → S → Bool) (exact : IsExact same) (p : Pa
   -- a match of a requirement is a candidate of its package
   pub meets_listed : (r : Requirement) (s : S) → meets same p r s ≡ true → is_in same p (listed (p.candidates_of (p.package_of s))) s ≡ true
   meets_listed r s h =
-      let (v, stands, match) = any_contained (λ w. is_match same p w s) (alternatives_of p.members_of r) h in
+      let (v, present, match) = any_contained (λ w. is_match same p w s) (alternatives_of p.members_of r) h in
       let there = (and_parts _ _ match).0 in
       subst (λ n. is_in same p (listed (p.candidates_of n)) s ≡ true) (sym (candidate_named same exact p lawful (p.set_package v) s there)) there
 
@@ -246,49 +246,49 @@ module _ {N S : Type 0} (same : S → S → Bool) (exact : IsExact same) (p : Pa
   -- a registered solvable was registered before, or is offered
   pub registered_split : (offered : List (Offered N S)) (given : List (Candidate N)) (r t : Registry N) (old new : SolverState N S) → AreTied r old → RegistersAll offered given r old t new
       → (n : N) (s : S) → IsRegistered t new n s → IsRegistered r old n s ⊎ ((o : Offered N S) × Contains offered o × (n ≡ o.name) × (o.solvable ≡ s))
-  registered_split offered given r t old new tied all n s (v, stands, tracked) = elim (all.only n v tracked) [
+  registered_split offered given r t old new tied all n s (v, present, tracked) = elim (all.only n v tracked) [
     | inl k ↦
-        let (x, before) = (tied.tied k.place n k.tracker k.named k.tracked).solvables v k.stands in
-        let one : x ≡ s = some_one x s (sym (solvable_stands new.atoms.keys v x (stands_grow old new v (Solvable x) all.grows before)) ∙ solvable_stands new.atoms.keys v s stands) in
-        inl (v, subst (λ y. StandsFor old.atoms.keys v (Solvable y)) one before, k)
-    | inr (o, c, e, f) ↦ inr (o, c, e, some_one o.solvable s (sym (solvable_stands new.atoms.keys v o.solvable f) ∙ solvable_stands new.atoms.keys v s stands))
+        let (x, before) = (tied.tied k.place n k.tracker k.named k.tracked).solvables v k.present in
+        let one : x ≡ s = some_one x s (sym (solvable_represents new.atoms.keys v x (represents_grow old new v (Solvable x) all.grows before)) ∙ solvable_represents new.atoms.keys v s present) in
+        inl (v, subst (λ y. Represents old.atoms.keys v (Solvable y)) one before, k)
+    | inr (o, c, e, f) ↦ inr (o, c, e, some_one o.solvable s (sym (solvable_represents new.atoms.keys v o.solvable f) ∙ solvable_represents new.atoms.keys v s present))
   ]
 
-  pub queued_keeps : (old new : Encoder N S) → IsEncoding same p root old → Grows old.coding new.coding → IsFrontOf old.lists.disjunctions new.lists.disjunctions → (q : NeedClause) → Contains old.queue q → IsQueuedFor same p new.lists new.coding.atoms.keys (stated_at new.coding.stated.items q.clause.0) q
-  queued_keeps old new e grows front q c = go (stated_at old.coding.stated.items q.clause.0) refl (e.queued q c)
+  pub queued_keeps : (old new : Encoder N S) → IsEncoding same p root old → Grows old.coding new.coding → IsPrefixOf old.lists.disjunctions new.lists.disjunctions → (q : NeedClause) → Contains old.queue q → IsQueuedFor same p new.lists new.coding.atoms.keys (kind_at new.coding.kinds.items q.clause.0) q
+  queued_keeps old new e grows prefix q c = go (kind_at old.coding.kinds.items q.clause.0) refl (e.queued q c)
     where
-      go : (x : Option (Stated N S)) → stated_at old.coding.stated.items q.clause.0 ≡ x → IsQueuedFor same p old.lists old.coding.atoms.keys (stated_at old.coding.stated.items q.clause.0) q → IsQueuedFor same p new.lists new.coding.atoms.keys (stated_at new.coding.stated.items q.clause.0) q
+      go : (x : Option (ClauseKind N S)) → kind_at old.coding.kinds.items q.clause.0 ≡ x → IsQueuedFor same p old.lists old.coding.atoms.keys (kind_at old.coding.kinds.items q.clause.0) q → IsQueuedFor same p new.lists new.coding.atoms.keys (kind_at new.coding.kinds.items q.clause.0) q
       go None at h = absurd (subst (λ y. IsQueuedFor same p old.lists old.coding.atoms.keys y q) at h)
-      go (Some y) at h = subst (λ z. IsQueuedFor same p new.lists new.coding.atoms.keys z q) (sym (stated_grows old.coding new.coding grows q.clause.0 y at))
-          (queued_grows same p old.lists new.lists old.coding new.coding front grows (Some y) q (subst (λ z. IsQueuedFor same p old.lists old.coding.atoms.keys z q) at h))
+      go (Some y) at h = subst (λ z. IsQueuedFor same p new.lists new.coding.atoms.keys z q) (sym (kind_grows old.coding new.coding grows q.clause.0 y at))
+          (queued_grows same p old.lists new.lists old.coding new.coding prefix grows (Some y) q (subst (λ z. IsQueuedFor same p old.lists old.coding.atoms.keys z q) at h))
 
   -- conditions are unchanged where the lists are
-  pub front_lists : (old new : Encoder N S) → new.lists ≡ old.lists → IsFrontOf old.lists.disjunctions new.lists.disjunctions
-  front_lists old new lists = front_equal old.lists.disjunctions new.lists.disjunctions (ap (λ (ls : FixedLists N). ls.disjunctions) lists)
+  pub prefix_lists : (old new : Encoder N S) → new.lists ≡ old.lists → IsPrefixOf old.lists.disjunctions new.lists.disjunctions
+  prefix_lists old new lists = prefix_equal old.lists.disjunctions new.lists.disjunctions (ap (λ (ls : FixedLists N). ls.disjunctions) lists)
 
   pub gates_keep : (old new : Encoder N S) → IsEncoding same p root old → Grows old.coding new.coding → new.gates ≡ old.gates
-      → (r : Requirement) (v : VariableId) → slot_of new.gates r ≡ Some v → StandsFor new.coding.atoms.keys v (Gate r) × E.rules_of new (Rule.shared r)
+      → (r : Requirement) (v : VariableId) → slot_of new.gates r ≡ Some v → Represents new.coding.atoms.keys v (Gate r) × E.rules_of new (Rule.shared r)
   gates_keep old new e grows gates r v at =
-      let (stands, rule) = e.gates r v (sym (ap (λ gs. slot_of gs r) gates) ∙ at) in
-      (stands_grow old.coding new.coding v (Gate r) grows stands, rules_grow old.coding new.coding grows (Rule.shared r) rule)
+      let (present, rule) = e.gates r v (sym (ap (λ gs. slot_of gs r) gates) ∙ at) in
+      (represents_grow old.coding new.coding v (Gate r) grows present, rules_grow old.coding new.coding grows (Rule.shared r) rule)
 
   -- no added clause is a requires clause
   abbrev pub NoneAsks : Encoder N S → Encoder N S → Type 0
-  NoneAsks old new = (n : ℕ) (r : Rule N S) → length old.coding.search.clauses ≤ n → n < length new.coding.search.clauses → rule_at new.coding.stated.items n ≡ Some r → Asks r → ⊥
+  NoneAsks old new = (n : ℕ) (r : Rule N S) → length old.coding.search.clauses ≤ n → n < length new.coding.search.clauses → rule_at new.coding.kinds.items n ≡ Some r → Asks r → ⊥
 
   pub fixed_keeps : (old new : Encoder N S) → IsEncoding same p root old → IsCoding new.coding → Grows old.coding new.coding → ((r : Requirement) → has_candidates old.lists r ≡ true → has_candidates new.lists r ≡ true) → NoneAsks old new
       → (r : Requirement) → HasClause same p (E.rules_of new) r → has_candidates new.lists r ≡ true
-  fixed_keeps old new e coding grows has none r (inl (parent, need, case, stands, is)) = elim (rules_split old.coding new.coding e.coding coding grows (Rule.needs parent need case) stands) [
+  fixed_keeps old new e coding grows has none r (inl (parent, need, case, present, is)) = elim (rules_split old.coding new.coding e.coding coding grows (Rule.needs parent need case) present) [
     | inl a ↦ has r (e.fixed r (inl (parent, need, case, a, is)))
     | inr (n, low, high, at) ↦ absurd (none n (Rule.needs parent need case) low high at tt)
   ]
-  fixed_keeps old new e coding grows has none r (inr stands) = elim (rules_split old.coding new.coding e.coding coding grows (Rule.shared r) stands) [
+  fixed_keeps old new e coding grows has none r (inr present) = elim (rules_split old.coding new.coding e.coding coding grows (Rule.shared r) present) [
     | inl a ↦ has r (e.fixed r (inr a))
     | inr (n, low, high, at) ↦ absurd (none n (Rule.shared r) low high at tt)
   ]
 
   pub asked_keeps : (old new : Encoder N S) → IsEncoding same p root old → IsCoding new.coding → Grows old.coding new.coding → new.queue ≡ old.queue → NoneAsks old new
-      → (n : ℕ) (r : Rule N S) → rule_at new.coding.stated.items n ≡ Some r → Asks r → (q : NeedClause) × Contains new.queue q × (q.clause.0 ≡ n)
+      → (n : ℕ) (r : Rule N S) → rule_at new.coding.kinds.items n ≡ Some r → Asks r → (q : NeedClause) × Contains new.queue q × (q.clause.0 ≡ n)
   asked_keeps old new e coding grows queue none n r at a = elim (rule_split old.coding new.coding e.coding coding grows n r at) [
     | inl b ↦ let (q, c, d) = e.asked n r b a in (q, subst (λ qs. Contains qs q) (sym queue) c, d)
     | inr (low, high) ↦ absurd (none n r low high at a)
@@ -300,64 +300,64 @@ module _ {N S : Type 0} (same : S → S → Bool) (exact : IsExact same) (p : Pa
   pub encoded_keeps : (old new : Encoder N S) → IsEncoding same p root old → Grows old.coding new.coding → new.parents ≡ old.parents → new.encoded ≡ old.encoded → new.deferred ≡ old.deferred
       → (i : ℕ) (parent : SolvableIdOrRoot S) → i < new.encoded → slice_get new.parents.keys i ≡ Some parent → IsParentEncoded same p new root (solvable_of parent)
   encoded_keeps old new e grows parents encoded deferred i parent below at =
-      parent_grows same exact p root old new (solvable_of parent) grows (front_equal old.deferred.items new.deferred.items (ap (λ (ds : Vec (Deferred S) Global). ds.items) deferred))
+      parent_grows same exact p root old new (solvable_of parent) grows (prefix_equal old.deferred.items new.deferred.items (ap (λ (ds : Vec (Deferred S) Global). ds.items) deferred))
       (e.encoded i parent (subst (λ n. i < n) encoded below) (sym (ap (λ ps. slice_get ps.keys i) parents) ∙ at))
 
   -- no clause of a case was added
-  pub cased_keeps : (old new : Encoder N S) → IsEncoding same p root old → IsCoding new.coding → Grows old.coding new.coding → new.noted ≡ old.noted → ((m : N) (u : VariableId) → IsTracked old.registry m u → IsTracked new.registry m u) → NoneAsks old new
+  pub cased_keeps : (old new : Encoder N S) → IsEncoding same p root old → IsCoding new.coding → Grows old.coding new.coding → new.recorded ≡ old.recorded → ((m : N) (u : VariableId) → IsTracked old.registry m u → IsTracked new.registry m u) → NoneAsks old new
       → (parent : Option S) (need : ConditionalRequirement) (case : List VersionSetId) (v : VersionSetId) → E.rules_of new (Rule.needs parent need case) → Contains case v
-      → Contains new.noted.helped.keys (p.set_package v) × ((s : S) → is_outside same p v s ≡ true → Registered same p root new s)
-  cased_keeps old new e coding grows noted keeps none parent need case v stands h = elim (rules_split old.coding new.coding e.coding coding grows (Rule.needs parent need case) stands) [
-    | inl a ↦ cased_stays same exact p root old new e.cases grows noted keeps parent need case v a h
+      → Contains new.recorded.at_least_one.keys (p.set_package v) × ((s : S) → is_outside same p v s ≡ true → Registered same p root new s)
+  cased_keeps old new e coding grows recorded keeps none parent need case v present h = elim (rules_split old.coding new.coding e.coding coding grows (Rule.needs parent need case) present) [
+    | inl a ↦ cased_stays same exact p root old new e.cases grows recorded keeps parent need case v a h
     | inr (n, low, high, at) ↦ absurd (none n (Rule.needs parent need case) low high at tt)
   ]
 
   -- no solvable was registered
-  pub helped_keeps : (old new : Encoder N S) → AreCased same p root old → Grows old.coding new.coding → new.noted ≡ old.noted → ((n : N) (s : S) → IsRegistered new.registry new.coding n s → IsRegistered old.registry old.coding n s)
-      → (n : N) (s : S) → Contains new.noted.helped.keys n → IsRegistered new.registry new.coding n s → E.rules_of new (Rule.is_there n s)
-  helped_keeps old new e grows noted back n s h a = rules_grow old.coding new.coding grows (Rule.is_there n s) (e.helped n s (subst (λ (x : EncodedOnce N S). Contains x.helped.keys n) noted h) (back n s a))
+  pub at_least_one_keeps : (old new : Encoder N S) → AreCased same p root old → Grows old.coding new.coding → new.recorded ≡ old.recorded → ((n : N) (s : S) → IsRegistered new.registry new.coding n s → IsRegistered old.registry old.coding n s)
+      → (n : N) (s : S) → Contains new.recorded.at_least_one.keys n → IsRegistered new.registry new.coding n s → E.rules_of new (Rule.is_there n s)
+  at_least_one_keeps old new e grows recorded back n s h a = rules_grow old.coding new.coding grows (Rule.is_there n s) (e.at_least_one n s (subst (λ (x : EncodedOnce N S). Contains x.at_least_one.keys n) recorded h) (back n s a))
 
   -- registered solvables were so before, where the registry is unchanged
   pub registered_before : (old new : Encoder N S) → AreTied old.registry old.coding → Grows old.coding new.coding → new.registry ≡ old.registry → (n : N) (s : S) → IsRegistered new.registry new.coding n s → IsRegistered old.registry old.coding n s
-  registered_before old new tied grows registry n s (u, stands, there) =
+  registered_before old new tied grows registry n s (u, present, there) =
       let k = subst (λ (t : Registry N). IsTracked t n u) registry there in
-      let (x, before) = (tied.tied k.place n k.tracker k.named k.tracked).solvables u k.stands in
-      let one : x ≡ s = some_one x s (sym (solvable_stands new.coding.atoms.keys u x (stands_grow old.coding new.coding u (Solvable x) grows before)) ∙ solvable_stands new.coding.atoms.keys u s stands) in
-      (u, subst (λ y. StandsFor old.coding.atoms.keys u (Solvable y)) one before, k)
+      let (x, before) = (tied.tied k.place n k.tracker k.named k.tracked).solvables u k.present in
+      let one : x ≡ s = some_one x s (sym (solvable_represents new.coding.atoms.keys u x (represents_grow old.coding new.coding u (Solvable x) grows before)) ∙ solvable_represents new.coding.atoms.keys u s present) in
+      (u, subst (λ y. Represents old.coding.atoms.keys u (Solvable y)) one before, k)
 
-  pub bar_keeps : (old new : Encoder N S) → IsEncoding same p root old → IsCoding new.coding → Grows old.coding new.coding → NoneAsks old new → (r : Requirement) → HasClause same p (E.rules_of new) r → IsGuarded same p (E.rules_of new) r
-  bar_keeps old new e coding grows none r (inl (parent, need, case, stands, is)) = elim (rules_split old.coding new.coding e.coding coding grows (Rule.needs parent need case) stands) [
-    | inl a ↦ guard_grows same exact p root old new r grows (e.bar r (inl (parent, need, case, a, is)))
+  pub guards_keep : (old new : Encoder N S) → IsEncoding same p root old → IsCoding new.coding → Grows old.coding new.coding → NoneAsks old new → (r : Requirement) → HasClause same p (E.rules_of new) r → IsGuarded same p (E.rules_of new) r
+  guards_keep old new e coding grows none r (inl (parent, need, case, present, is)) = elim (rules_split old.coding new.coding e.coding coding grows (Rule.needs parent need case) present) [
+    | inl a ↦ guard_grows same exact p root old new r grows (e.forbid r (inl (parent, need, case, a, is)))
     | inr (n, low, high, at) ↦ absurd (none n (Rule.needs parent need case) low high at tt)
   ]
-  bar_keeps old new e coding grows none r (inr stands) = elim (rules_split old.coding new.coding e.coding coding grows (Rule.shared r) stands) [
-    | inl a ↦ guard_grows same exact p root old new r grows (e.bar r (inr a))
+  guards_keep old new e coding grows none r (inr present) = elim (rules_split old.coding new.coding e.coding coding grows (Rule.shared r) present) [
+    | inl a ↦ guard_grows same exact p root old new r grows (e.forbid r (inr a))
     | inr (n, low, high, at) ↦ absurd (none n (Rule.shared r) low high at tt)
   ]
 
   -- where registered solvables, lists, queue and parents are unchanged, and each added clause is
   -- right
   pub kept_carries : (old new : Encoder N S) → IsEncoding same p root old → IsCoding new.coding → Grows old.coding new.coding → SameTrail old.coding new.coding → SameButCoding old new
-      → ((n : ℕ) → length old.coding.search.clauses ≤ n → n < length new.coding.search.clauses → Came same exact p root new n) → NoneAsks old new → KeepsDigits old.coding new.coding → Carries same exact p root old new
-  kept_carries old new e coding grows trail rest came none kept = record {
+      → ((n : ℕ) → length old.coding.search.clauses ≤ n → n < length new.coding.search.clauses → AddedClause same exact p root new n) → NoneAsks old new → KeepsDigits old.coding new.coding → Carries same exact p root old new
+  kept_carries old new e coding grows trail rest new_clause none kept = record {
     coding = coding;
     grows = grows;
     trail = trail;
     tied = subst (λ t. AreTied t new.coding) (sym rest.registry) (ties_grow old.registry old.coding new.coding grows kept e.tied);
     keeps = tracked;
-    registered = λ n s a. (let (u, stands, there) = back n s a in inl (u, stands, there));
-    came = came;
+    registered = λ n s a. (let (u, present, there) = back n s a in inl (u, present, there));
+    new_clause = new_clause;
     lists = λ q h. ap (λ ls. slot_of ls.candidates q) rest.lists;
     listed = λ q c a. (let (s, fits, m) = e.listed q c (subst (λ ls. Contains (candidates_in ls q) c) rest.lists a) in (s, candidate_grows same exact p root old new (p.package_of s) s c grows tracked fits, m));
     offered = λ q s h m. (let (c, a, fits) = e.offered q s (subst (λ ls. has_candidates ls q ≡ true) rest.lists h) m in (c, subst (λ ls. Contains (candidates_in ls q) c) (sym rest.lists) a, candidate_grows same exact p root old new (p.package_of s) s c grows tracked fits));
     fixed = fixed_keeps old new e coding grows (λ q h. subst (λ ls. has_candidates ls q ≡ true) (sym rest.lists) h) none;
-    queued = λ q a. queued_keeps old new e grows (front_lists old new rest.lists) q (subst (λ qs. Contains qs q) rest.queue a);
+    queued = λ q a. queued_keeps old new e grows (prefix_lists old new rest.lists) q (subst (λ qs. Contains qs q) rest.queue a);
     asked = asked_keeps old new e coding grows rest.queue none;
     gates = gates_keep old new e grows rest.gates;
-    bar = bar_keeps old new e coding grows none;
-    noted = noted_grows same exact p root old new grows rest.noted e.noted;
-    wishes = ap (λ (x : EncodedOnce N S). x.wishes.items) rest.noted;
-    cases = cases_keep same exact p root old new e.cases grows rest.deferred rest.fired rest.noted (cased_keeps old new e coding grows rest.noted tracked none) (helped_keeps old new e.cases grows rest.noted back);
+    forbid = guards_keep old new e coding grows none;
+    recorded = recorded_grows same exact p root old new grows rest.recorded e.recorded;
+    softs = ap (λ (x : EncodedOnce N S). x.softs.items) rest.recorded;
+    cases = cases_keep same exact p root old new e.cases grows rest.deferred rest.fired rest.recorded (cased_keeps old new e coding grows rest.recorded tracked none) (at_least_one_keeps old new e.cases grows rest.recorded back);
     within = within_keeps old new e rest.parents rest.encoded;
     encoded = encoded_keeps old new e grows rest.parents rest.encoded rest.deferred;
   }
@@ -369,35 +369,35 @@ module _ {N S : Type 0} (same : S → S → Bool) (exact : IsExact same) (p : Pa
       back = registered_before old new e.tied grows rest.registry
 
   -- an added clause of a digit is right
-  pub digit_came : (old new : Encoder N S) (name : N) (n : ℕ) → (d : IsDigitClause new.registry new.coding name n) → name ≡ p.package_of d.solvable → is_in same p (listed (p.candidates_of (p.package_of d.solvable))) d.solvable ≡ true → Came same exact p root new n
-  digit_came old new name n d e candidate = record {
-    stated = Says.Digit name d.solvable d.place d.bit;
-    at = d.stated;
+  pub digit_added : (old new : Encoder N S) (name : N) (n : ℕ) → (d : IsDigitClause new.registry new.coding name n) → name ≡ p.package_of d.solvable → is_in same p (listed (p.candidates_of (p.package_of d.solvable))) d.solvable ≡ true → AddedClause same exact p root new n
+  digit_added old new name n d e candidate = record {
+    kinds = Kind.Digit name d.solvable d.place d.bit;
+    at = d.kinds;
     rule = λ r is.
         let one : Rule.has_digit d.solvable d.bit (digit d.place d.bit) ≡ r = some_one (Rule.has_digit d.solvable d.bit (digit d.place d.bit)) r is in
         subst (λ (x : Rule N S). IsRule same p root x × Spells (origin new.coding.atoms.keys) (clause_at (clauses_of new.coding.search) n) (literals_of same p x)) one
         ((candidate, d.few), subst (λ m. Spells (origin new.coding.atoms.keys) (clause_at (clauses_of new.coding.search) n) (digit_literals m d.solvable d.bit (digit d.place d.bit))) e d.spells);
     positive = λ l s a (other, m). absurd (elim (d.spells.only l a) [
       | inl z ↦ (let same_variable : l.variable.0 ≡ 0 = ap (λ (x : Signed). x.variable.0) z in omega arith)
-      | inr (z, c) ↦ elim (contains_cases (meaning (origin new.coding.atoms.keys) l) (minus (Atom.solvable d.solvable)) (told ∷ []) c) [
+      | inr (z, c) ↦ elim (contains_cases (meaning (origin new.coding.atoms.keys) l) (minus (Atom.solvable d.solvable)) (digit_literal ∷ []) c) [
         | inl i ↦ both_ways false refl (ap (λ (x : Literal (Atom N S)). x.positive) (sym i) ∙ ap (λ (x : Literal (Atom N S)). x.positive) (sym m))
-        | inr j ↦ solvable_no_digit s name d.bit (ap (λ (x : Literal (Atom N S)). x.atom) m ∙ ap (λ (x : Literal (Atom N S)). x.atom) (contains_one (meaning (origin new.coding.atoms.keys) l) told j))
+        | inr j ↦ solvable_no_digit s name d.bit (ap (λ (x : Literal (Atom N S)). x.atom) m ∙ ap (λ (x : Literal (Atom N S)). x.atom) (contains_one (meaning (origin new.coding.atoms.keys) l) digit_literal j))
       ]
     ]);
   }
     where
-      told : Literal (Atom N S)
-      told = record { atom = Atom.digit name d.bit; positive = digit d.place d.bit }
+      digit_literal : Literal (Atom N S)
+      digit_literal = record { atom = Atom.digit name d.bit; positive = digit d.place d.bit }
 
       solvable_no_digit : (s : S) (m : N) (bit : ℕ) → Atom.solvable s ≡ Atom.digit m bit → ⊥
       solvable_no_digit s m bit e = cc
 
 -- two steps make one
 pub extends_then : {N S : Type 0} (a b c : Encoder N S) → Extends a b → Extends b c → Extends a c
-extends_then a b c f g = record { grows = grows_then a.coding b.coding c.coding f.grows g.grows; trail = trail_then a.coding b.coding c.coding f.trail g.trail; wishes = g.wishes ∙ f.wishes; parents = g.parents ∙ f.parents; encoded = g.encoded ∙ f.encoded; deferred = g.deferred ∙ f.deferred; fired = g.fired ∙ f.fired }
+extends_then a b c f g = record { grows = grows_then a.coding b.coding c.coding f.grows g.grows; trail = trail_then a.coding b.coding c.coding f.trail g.trail; softs = g.softs ∙ f.softs; parents = g.parents ∙ f.parents; encoded = g.encoded ∙ f.encoded; deferred = g.deferred ∙ f.deferred; fired = g.fired ∙ f.fired }
 
 pub extends_same : {N S : Type 0} (e : Encoder N S) → Extends e e
-extends_same e = record { grows = grows_same e.coding; trail = trail_same e.coding; wishes = refl; parents = refl; encoded = refl; deferred = refl; fired = refl }
+extends_same e = record { grows = grows_same e.coding; trail = trail_same e.coding; softs = refl; parents = refl; encoded = refl; deferred = refl; fired = refl }
 
 -- a property of an answer that is none
 pub where_none : {X : Type 0} (o : Option X) (P : Type 0) (Q : X → Type 0) → MatchOption o P Q → is_some o ≡ false → P

@@ -32,17 +32,17 @@ use Rattle.resolvo_state.specs.declared.atom.ProofAtom.{ProofAtom}
 use Rattle.resolvo_state.specs.declared.atom.ProofAtom.TheVariants.{Solvable}
 use Rattle.resolvo_state.specs.declared.solver_state.SolverState.{SolverState}
 use Rattle.resolvo_state.specs.declared.registry.Registry.{Registry}
-use Rattle.resolvo_state.specs.declared.clause_kind.Stated.{Stated}
-use Rattle.resolvo_state.specs.declared.clause_kind.Stated.TheVariants as Says
-use Rattle.resolvo_state.specs.Atoms.{origin, StandsFor}
-use Rattle.resolvo_state.specs.SolverState.{IsCoding, Advances, KeepsCode, learnt_by, Bars}
+use Rattle.resolvo_state.specs.declared.clause_kind.ClauseKind.{ClauseKind}
+use Rattle.resolvo_state.specs.declared.clause_kind.ClauseKind.TheVariants as Kind
+use Rattle.resolvo_state.specs.Atoms.{origin, Represents}
+use Rattle.resolvo_state.specs.SolverState.{IsCoding, Advances, KeepsCode, learnt_by, AddsDenial}
 use Rattle.resolvo_state.specs.Registered.{AreTied, IsTracked, IsRegistered}
 use Rattle.resolvo_state.specs.Spelled.{AreRegistered}
-use Rattle.resolvo_state.specs.Statements.{stated_at, rule_at}
-use Rattle.resolvo_state.proofs.Growth.{grows_same, grows_then, trail_same, stated_grows, stated_split, rule_split, rules_split, spelled_grows, registered_grows, called_grows_trail, called_advances, called_undoes, called_chooses}
-use Rattle.resolvo_state.proofs.Positions.{front_equal, get_last}
+use Rattle.resolvo_state.specs.ClauseKinds.{kind_at, rule_at}
+use Rattle.resolvo_state.proofs.Growth.{grows_same, grows_then, trail_same, kind_grows, kind_split, rule_split, rules_split, spelled_grows, registered_grows, called_grows_trail, called_advances, called_undoes, called_chooses}
+use Rattle.resolvo_state.proofs.Positions.{prefix_equal, get_last}
 use Rattle.resolvo_state.proofs.RegisterLemmas.{KeepsDigits, ties_grow}
-use Rattle.resolvo_state.proofs.Rules.{rule_stated}
+use Rattle.resolvo_state.proofs.Rules.{rule_at_kind}
 use Rattle.resolvo_encoder.specs.declared.encoder.Encoder.{Encoder}
 use Rattle.resolvo_encoder.specs.Encoded.{IsChosenFor, IsEncoding, Registered}
 use Rattle.resolvo_encoder.specs.Encoded as E
@@ -51,17 +51,17 @@ use Rattle.resolvo_encoder.specs.Progress.{GoesOn}
 use Rattle.resolvo_encoder.specs.Steps.{SameButCoding}
 use Rattle.resolvo_encoder.proofs.CarryLemmas.{split_at}
 use Rattle.resolvo_encoder.proofs.PickLemmas.{chosen_grows}
-use Rattle.resolvo_encoder.proofs.RequireLemmas.{candidate_grows, cases_keep, cased_stays, helped_keeps, front_lists, queued_keeps, gates_keep, within_keeps, encoded_keeps, guard_grows, noted_grows}
+use Rattle.resolvo_encoder.proofs.RequireLemmas.{candidate_grows, cases_keep, cased_stays, at_least_one_keeps, prefix_lists, queued_keeps, gates_keep, within_keeps, encoded_keeps, guard_grows, recorded_grows}
 
 -- a learnt clause encodes no rule
-nothing_stated : {N S : Type 0} (old new : Encoder N S) → GoesOn old new → (n : ℕ) (r : Rule N S) → length old.coding.search.clauses ≤ n → n < length new.coding.search.clauses → rule_at new.coding.stated.items n ≡ Some r → ⊥
-nothing_stated old new goes n r low high at = let none : None ≡ Some r = sym (rule_stated new.coding.stated.items n Says.Learnt (goes.learnt n low high)) ∙ at in absurd cc
+nothing_encoded : {N S : Type 0} (old new : Encoder N S) → GoesOn old new → (n : ℕ) (r : Rule N S) → length old.coding.search.clauses ≤ n → n < length new.coding.search.clauses → rule_at new.coding.kinds.items n ≡ Some r → ⊥
+nothing_encoded old new goes n r low high at = let none : None ≡ Some r = sym (rule_at_kind new.coding.kinds.items n Kind.Learnt (goes.learnt n low high)) ∙ at in absurd cc
 
 -- nor any digit
 pub digits_kept : {N S : Type 0} (old new : Encoder N S) → IsCoding old.coding → GoesOn old new → KeepsDigits old.coding new.coding
-digits_kept old new coding goes n name s place bit h = elim (stated_split old.coding new.coding coding goes.coding goes.grows n (Says.Digit name s place bit) h) [
+digits_kept old new coding goes n name s place bit h = elim (kind_split old.coding new.coding coding goes.coding goes.grows n (Kind.Digit name s place bit) h) [
   | inl a ↦ a
-  | inr (low, high) ↦ let learnt : stated_at new.coding.stated.items n ≡ Some Says.Learnt = goes.learnt n low high in absurd cc
+  | inr (low, high) ↦ let learnt : kind_at new.coding.kinds.items n ≡ Some Kind.Learnt = goes.learnt n low high in absurd cc
 ]
 
 module _ {N S : Type 0} (same : S → S → Bool) (exact : IsExact same) (p : Packages N S) (root : Rules) (lawful : IsLawful p) where
@@ -72,53 +72,53 @@ module _ {N S : Type 0} (same : S → S → Bool) (exact : IsExact same) (p : Pa
   stays old new e goes positive called = record {
     coding = goes.coding;
     tied = subst (λ (t : Registry N). AreTied t new.coding) (sym goes.rest.registry) (ties_grow old.registry old.coding new.coding goes.grows (digits_kept old new e.coding goes) e.tied);
-    spelled = spelled_grows same p old.coding new.coding e.coding goes.coding goes.grows e.spelled (λ n r low high at. absurd (nothing_stated old new goes n r low high at));
-    rule = λ r stands. e.rule r (rule_back r stands);
+    spelled = spelled_grows same p old.coding new.coding e.coding goes.coding goes.grows e.spelled (λ n r low high at. absurd (nothing_encoded old new goes n r low high at));
+    rule = λ r present. e.rule r (rule_back r present);
     positive = positive;
     named = λ n s a. e.named n s (registered_back n s a);
     candidates = λ s a. e.candidates s (registered_back (p.package_of s) s a);
     listed = λ q c a. (let (s, fits, m) = e.listed q c (subst (λ ls. Contains (candidates_in ls q) c) goes.rest.lists a) in (s, candidate_grows same exact p root old new (p.package_of s) s c goes.grows tracked fits, m));
     offered = λ q s h m. (let (c, a, fits) = e.offered q s (subst (λ ls. has_candidates ls q ≡ true) goes.rest.lists h) m in (c, subst (λ ls. Contains (candidates_in ls q) c) (sym goes.rest.lists) a, candidate_grows same exact p root old new (p.package_of s) s c goes.grows tracked fits));
     fixed = λ r has. subst (λ ls. has_candidates ls r ≡ true) (sym goes.rest.lists) (e.fixed r (clause_back r has));
-    queued = λ q a. queued_keeps same exact p root lawful old new e goes.grows (front_lists same exact p root lawful old new goes.rest.lists) q (subst (λ (qs : List NeedClause). Contains qs q) goes.rest.queue a);
+    queued = λ q a. queued_keeps same exact p root lawful old new e goes.grows (prefix_lists same exact p root lawful old new goes.rest.lists) q (subst (λ (qs : List NeedClause). Contains qs q) goes.rest.queue a);
     asked = λ n r at a. elim (rule_split old.coding new.coding e.coding goes.coding goes.grows n r at) [
       | inl b ↦ let (q, c, d) = e.asked n r b a in (q, subst (λ (qs : List NeedClause). Contains qs q) (sym goes.rest.queue) c, d)
-      | inr (low, high) ↦ absurd (nothing_stated old new goes n r low high at)
+      | inr (low, high) ↦ absurd (nothing_encoded old new goes n r low high at)
     ];
     gates = gates_keep same exact p root lawful old new e goes.grows goes.rest.gates;
-    bar = λ r has. guard_grows same exact p root old new r goes.grows (e.bar r (clause_back r has));
-    noted = noted_grows same exact p root old new goes.grows goes.rest.noted e.noted;
-    cases = cases_keep same exact p root old new e.cases goes.grows goes.rest.deferred goes.rest.fired goes.rest.noted
-        (λ parent need case v stands h. cased_stays same exact p root old new e.cases goes.grows goes.rest.noted tracked parent need case v (rule_back (Rule.needs parent need case) stands) h)
-        (helped_keeps same exact p root lawful old new e.cases goes.grows goes.rest.noted registered_back);
+    forbid = λ r has. guard_grows same exact p root old new r goes.grows (e.forbid r (clause_back r has));
+    recorded = recorded_grows same exact p root old new goes.grows goes.rest.recorded e.recorded;
+    cases = cases_keep same exact p root old new e.cases goes.grows goes.rest.deferred goes.rest.fired goes.rest.recorded
+        (λ parent need case v present h. cased_stays same exact p root old new e.cases goes.grows goes.rest.recorded tracked parent need case v (rule_back (Rule.needs parent need case) present) h)
+        (at_least_one_keeps same exact p root lawful old new e.cases goes.grows goes.rest.recorded registered_back);
     within = within_keeps same exact p root lawful old new e goes.rest.parents goes.rest.encoded;
     encoded = encoded_keeps same exact p root lawful old new e goes.grows goes.rest.parents goes.rest.encoded goes.rest.deferred;
-    wished = λ s a. registered_still s (e.wished s (subst (λ (x : EncodedOnce N S). Contains x.wishes.items s) goes.rest.noted a));
+    wished = λ s a. registered_still s (e.wished s (subst (λ (x : EncodedOnce N S). Contains x.softs.items s) goes.rest.recorded a));
     called = called;
   }
     where
       registered_still : (s : S) → Registered same p root old s → Registered same p root new s
-      registered_still s (v, stands, there) = (v, subst (λ (a : HashSet (ProofAtom N S) (BuildHasherDefault FoldHasher)). StandsFor a.keys v (Solvable s)) (sym goes.atoms) stands, subst (λ (t : Registry N). IsTracked t (p.package_of s) v) (sym goes.rest.registry) there)
+      registered_still s (v, present, there) = (v, subst (λ (a : HashSet (ProofAtom N S) (BuildHasherDefault FoldHasher)). Represents a.keys v (Solvable s)) (sym goes.atoms) present, subst (λ (t : Registry N). IsTracked t (p.package_of s) v) (sym goes.rest.registry) there)
 
       tracked : (m : N) (u : VariableId) → IsTracked old.registry m u → IsTracked new.registry m u
       tracked m u h = subst (λ (t : Registry N). IsTracked t m u) (sym goes.rest.registry) h
 
       registered_back : (n : N) (s : S) → IsRegistered new.registry new.coding n s → IsRegistered old.registry old.coding n s
-      registered_back n s (v, stands, there) = (v, subst (λ (a : HashSet (ProofAtom N S) (BuildHasherDefault FoldHasher)). StandsFor a.keys v (Solvable s)) goes.atoms stands, subst (λ (t : Registry N). IsTracked t n v) goes.rest.registry there)
+      registered_back n s (v, present, there) = (v, subst (λ (a : HashSet (ProofAtom N S) (BuildHasherDefault FoldHasher)). Represents a.keys v (Solvable s)) goes.atoms present, subst (λ (t : Registry N). IsTracked t n v) goes.rest.registry there)
 
       rule_back : (r : Rule N S) → E.rules_of new r → E.rules_of old r
-      rule_back r stands = elim (rules_split old.coding new.coding e.coding goes.coding goes.grows r stands) [
+      rule_back r present = elim (rules_split old.coding new.coding e.coding goes.coding goes.grows r present) [
         | inl a ↦ a
-        | inr (n, low, high, at) ↦ absurd (nothing_stated old new goes n r low high at)
+        | inr (n, low, high, at) ↦ absurd (nothing_encoded old new goes n r low high at)
       ]
 
       clause_back : (r : Requirement) → HasClause same p (E.rules_of new) r → HasClause same p (E.rules_of old) r
-      clause_back r (inl (parent, need, case, stands, is)) = inl (parent, need, case, rule_back (Rule.needs parent need case) stands, is)
-      clause_back r (inr stands) = inr (rule_back (Rule.shared r) stands)
+      clause_back r (inl (parent, need, case, present, is)) = inl (parent, need, case, rule_back (Rule.needs parent need case) present, is)
+      clause_back r (inr present) = inr (rule_back (Rule.shared r) present)
 
   -- registered solvables are the same where only learnt clauses were added
   registered_on : (old new : Encoder N S) → GoesOn old new → (s : S) → Registered same p root old s → Registered same p root new s
-  registered_on old new goes s (v, stands, there) = (v, subst (λ (a : HashSet (ProofAtom N S) (BuildHasherDefault FoldHasher)). StandsFor a.keys v (Solvable s)) (sym goes.atoms) stands, subst (λ (t : Registry N). IsTracked t (p.package_of s) v) (sym goes.rest.registry) there)
+  registered_on old new goes s (v, present, there) = (v, subst (λ (a : HashSet (ProofAtom N S) (BuildHasherDefault FoldHasher)). Represents a.keys v (Solvable s)) (sym goes.atoms) present, subst (λ (t : Registry N). IsTracked t (p.package_of s) v) (sym goes.rest.registry) there)
 
   -- so are the solvables of positive literals, where each literal of an added clause is in an
   -- earlier one
@@ -126,8 +126,8 @@ module _ {N S : Type 0} (same : S → S → Bool) (exact : IsExact same) (p : Pa
       → ((n : ℕ) (l : Signed) → length old.coding.search.clauses ≤ n → n < length new.coding.search.clauses → has (clause_at (clauses_of new.coding.search) n) l ≡ true → (k : ℕ) × (has (clause_at (clauses_of old.coding.search) k) l ≡ true))
       → AreRegistered (Registered same p root new) new.coding
   positive_on old new e goes from = registered_grows (Registered same p root old) (Registered same p root new) old.coding new.coding e.coding goes.coding goes.grows (registered_on old new goes) e.positive
-      (λ n l s low high h means. (let (k, stands) = from n l low high h in
-      registered_on old new goes s (e.positive k l s stands (subst (λ (a : HashSet (ProofAtom N S) (BuildHasherDefault FoldHasher)). Means (origin a.keys) l (plus (Atom.solvable s))) goes.atoms means))))
+      (λ n l s low high h means. (let (k, present) = from n l low high h in
+      registered_on old new goes s (e.positive k l s present (subst (λ (a : HashSet (ProofAtom N S) (BuildHasherDefault FoldHasher)). Means (origin a.keys) l (plus (Atom.solvable s))) goes.atoms means))))
 
 -- ---- a step of the search
 
@@ -148,19 +148,19 @@ module _ {N S : Type 0} (old : Encoder N S) (c : SolverState N S) where
   went = record old { coding = c }
 
   step_rest : SameButCoding old went
-  step_rest = record { registry = refl; lists = refl; queue = refl; gates = refl; noted = refl; parents = refl; encoded = refl; deferred = refl; fired = refl }
+  step_rest = record { registry = refl; lists = refl; queue = refl; gates = refl; recorded = refl; parents = refl; encoded = refl; deferred = refl; fired = refl }
 
-  step_learns : (q : StepResult) → IsCoding old.coding → Advances old.coding c q → (n : ℕ) → length old.coding.search.clauses ≤ n → n < length c.search.clauses → stated_at c.stated.items n ≡ Some Says.Learnt
-  step_learns q before step n low high = go q step.progress step.stated
+  step_learns : (q : StepResult) → IsCoding old.coding → Advances old.coding c q → (n : ℕ) → length old.coding.search.clauses ≤ n → n < length c.search.clauses → kind_at c.kinds.items n ≡ Some Kind.Learnt
+  step_learns q before step n low high = go q step.progress step.kinds
     where
-      go : (r : StepResult) → IsProgress old.coding.search old.coding.watching c.search c.watching r → c.stated.items ≡ old.coding.stated.items ++ learnt_by r → stated_at c.stated.items n ≡ Some Says.Learnt
+      go : (r : StepResult) → IsProgress old.coding.search old.coding.watching c.search c.watching r → c.kinds.items ≡ old.coding.kinds.items ++ learnt_by r → kind_at c.kinds.items n ≡ Some Kind.Learnt
       go StepResult.Complete h e = let long : length c.search.clauses ≡ length old.coding.search.clauses = ap (λ (cs : List SatClause). length cs) h.extends.same.clauses in absurd (omega arith)
       go (StepResult.Refused r) h e = let long : length c.search.clauses ≡ length old.coding.search.clauses = ap (λ (cs : List SatClause). length cs) h.2.same.clauses in absurd (omega arith)
       go (StepResult.Learnt id) h e =
           let long : length c.search.clauses ≡ length old.coding.search.clauses + 1 = ap (λ (cs : List SatClause). length cs) h.added ∙ length-append old.coding.search.clauses (h.clause ∷ []) in
-          let each : length old.coding.stated.items ≡ length old.coding.search.clauses = before.each in
-          let place : length old.coding.stated.items ≡ n = omega arith in
-          subst (λ (k : ℕ). slice_get c.stated.items k ≡ Some Says.Learnt) place (subst (λ (xs : List (Stated N S)). slice_get xs (length old.coding.stated.items) ≡ Some Says.Learnt) (sym e) (get_last old.coding.stated.items Says.Learnt))
+          let each : length old.coding.kinds.items ≡ length old.coding.search.clauses = before.each in
+          let place : length old.coding.kinds.items ≡ n = omega arith in
+          subst (λ (k : ℕ). slice_get c.kinds.items k ≡ Some Kind.Learnt) place (subst (λ (xs : List (ClauseKind N S)). slice_get xs (length old.coding.kinds.items) ≡ Some Kind.Learnt) (sym e) (get_last old.coding.kinds.items Kind.Learnt))
 
   pub step_goes : (q : StepResult) → IsCoding old.coding → Advances old.coding c q → GoesOn old went
   step_goes q before step = record {
@@ -176,15 +176,15 @@ module _ {N S : Type 0} (old : Encoder N S) (c : SolverState N S) where
   -- each literal of a learnt clause is in an earlier one
   step_from : (q : StepResult) → IsProgress old.coding.search old.coding.watching c.search c.watching q → (n : ℕ) (l : Signed) → length old.coding.search.clauses ≤ n → n < length c.search.clauses
       → has (clause_at (clauses_of c.search) n) l ≡ true → (k : ℕ) × (has (clause_at (clauses_of old.coding.search) k) l ≡ true)
-  step_from StepResult.Complete h n l low high stands = let long : length c.search.clauses ≡ length old.coding.search.clauses = ap (λ (cs : List SatClause). length cs) h.extends.same.clauses in absurd (omega arith)
-  step_from (StepResult.Refused r) h n l low high stands = let long : length c.search.clauses ≡ length old.coding.search.clauses = ap (λ (cs : List SatClause). length cs) h.2.same.clauses in absurd (omega arith)
-  step_from (StepResult.Learnt id) h n l low high stands =
+  step_from StepResult.Complete h n l low high present = let long : length c.search.clauses ≡ length old.coding.search.clauses = ap (λ (cs : List SatClause). length cs) h.extends.same.clauses in absurd (omega arith)
+  step_from (StepResult.Refused r) h n l low high present = let long : length c.search.clauses ≡ length old.coding.search.clauses = ap (λ (cs : List SatClause). length cs) h.2.same.clauses in absurd (omega arith)
+  step_from (StepResult.Learnt id) h n l low high present =
       let long : length c.search.clauses ≡ length old.coding.search.clauses + 1 = ap (λ (cs : List SatClause). length cs) h.added ∙ length-append old.coding.search.clauses (h.clause ∷ []) in
       let all : length (lists old.coding.search.clauses) ≡ length old.coding.search.clauses = length-lists old.coding.search.clauses in
       let place : n ≡ length (lists old.coding.search.clauses) = omega arith in
       let added : clauses_of c.search ≡ lists old.coding.search.clauses ++ h.clause.literals.items ∷ [] = ap (λ (cs : List SatClause). lists cs) h.added ∙ lists-append old.coding.search.clauses (h.clause ∷ []) in
       let here : clause_at (clauses_of c.search) n ≡ h.clause.literals.items = ap (λ (cs : List (List Signed)). clause_at cs n) added ∙ ap (λ (k : ℕ). clause_at (lists old.coding.search.clauses ++ h.clause.literals.items ∷ []) k) place ∙ clause_at_end (lists old.coding.search.clauses) h.clause.literals.items in
-      h.from l (subst (λ (ls : List Signed). has ls l ≡ true) here stands)
+      h.from l (subst (λ (ls : List Signed). has ls l ≡ true) here present)
 
   -- where clauses, variables, origins and kinds are unchanged
   pub kept_goes : KeepsCode old.coding c → c.search.base_level ≡ old.coding.search.base_level → KeepsUpTo (old.coding.search.base_level - 1) old.coding.search c.search → GoesOn old went
@@ -194,9 +194,9 @@ module _ {N S : Type 0} (old : Encoder N S) (c : SolverState N S) where
     atoms = kept.atoms;
     variables = kept.variables;
     grows = record {
-      atoms = front_equal old.coding.atoms.keys c.atoms.keys (ap (λ (a : HashSet (ProofAtom N S) (BuildHasherDefault FoldHasher)). a.keys) kept.atoms);
-      clauses = front_equal old.coding.search.clauses c.search.clauses kept.clauses;
-      stated = front_equal old.coding.stated.items c.stated.items (ap (λ (xs : Vec (Stated N S) Global). xs.items) kept.stated);
+      atoms = prefix_equal old.coding.atoms.keys c.atoms.keys (ap (λ (a : HashSet (ProofAtom N S) (BuildHasherDefault FoldHasher)). a.keys) kept.atoms);
+      clauses = prefix_equal old.coding.search.clauses c.search.clauses kept.clauses;
+      kinds = prefix_equal old.coding.kinds.items c.kinds.items (ap (λ (xs : Vec (ClauseKind N S) Global). xs.items) kept.kinds);
       base_level = base_level;
     };
     earlier = earlier;
@@ -204,31 +204,31 @@ module _ {N S : Type 0} (old : Encoder N S) (c : SolverState N S) where
   }
 
   -- the clause of a final conflict was added
-  pub bar_goes : (denies : List Signed) (by : List ClauseId) (id : ClauseId) → IsCoding old.coding → Bars denies by id old.coding c → GoesOn old went
-  bar_goes denies by id before bars = record {
+  pub refusal_goes : (denies : List Signed) (by : List ClauseId) (id : ClauseId) → IsCoding old.coding → AddsDenial denies by id old.coding c → GoesOn old went
+  refusal_goes denies by id before forbids = record {
     rest = step_rest;
-    coding = bars.coding;
-    atoms = bars.atoms;
-    variables = bars.variables;
-    grows = bars.grows;
-    earlier = λ base low ends. subst (λ t. EndsWith base (reverse t.trail)) (sym bars.trail.tracker) ends;
+    coding = forbids.coding;
+    atoms = forbids.atoms;
+    variables = forbids.variables;
+    grows = forbids.grows;
+    earlier = λ base low ends. subst (λ t. EndsWith base (reverse t.trail)) (sym forbids.trail.tracker) ends;
     learnt = λ n low high.
-        let long : length c.search.clauses ≡ length old.coding.search.clauses + 1 = ap (λ (cs : List SatClause). length cs) bars.added ∙ length-append old.coding.search.clauses (bars.clause ∷ []) in
-        let each : length old.coding.stated.items ≡ length old.coding.search.clauses = before.each in
-        let place : length old.coding.stated.items ≡ n = omega arith in
-        subst (λ (k : ℕ). slice_get c.stated.items k ≡ Some Says.Learnt) place (subst (λ (xs : List (Stated N S)). slice_get xs (length old.coding.stated.items) ≡ Some Says.Learnt) (sym bars.stated) (get_last old.coding.stated.items Says.Learnt));
+        let long : length c.search.clauses ≡ length old.coding.search.clauses + 1 = ap (λ (cs : List SatClause). length cs) forbids.added ∙ length-append old.coding.search.clauses (forbids.clause ∷ []) in
+        let each : length old.coding.kinds.items ≡ length old.coding.search.clauses = before.each in
+        let place : length old.coding.kinds.items ≡ n = omega arith in
+        subst (λ (k : ℕ). slice_get c.kinds.items k ≡ Some Kind.Learnt) place (subst (λ (xs : List (ClauseKind N S)). slice_get xs (length old.coding.kinds.items) ≡ Some Kind.Learnt) (sym forbids.kinds) (get_last old.coding.kinds.items Kind.Learnt));
   }
 
   -- each of its literals is in an earlier clause
-  bar_from : (denies : List Signed) (by : List ClauseId) (id : ClauseId) → Bars denies by id old.coding c → AreFromClauses old.coding.search denies → (n : ℕ) (l : Signed) → length old.coding.search.clauses ≤ n → n < length c.search.clauses
+  refusal_from : (denies : List Signed) (by : List ClauseId) (id : ClauseId) → AddsDenial denies by id old.coding c → AreFromClauses old.coding.search denies → (n : ℕ) (l : Signed) → length old.coding.search.clauses ≤ n → n < length c.search.clauses
       → has (clause_at (clauses_of c.search) n) l ≡ true → (k : ℕ) × (has (clause_at (clauses_of old.coding.search) k) l ≡ true)
-  bar_from denies by id bars from n l low high stands =
-      let long : length c.search.clauses ≡ length old.coding.search.clauses + 1 = ap (λ (cs : List SatClause). length cs) bars.added ∙ length-append old.coding.search.clauses (bars.clause ∷ []) in
+  refusal_from denies by id forbids from n l low high present =
+      let long : length c.search.clauses ≡ length old.coding.search.clauses + 1 = ap (λ (cs : List SatClause). length cs) forbids.added ∙ length-append old.coding.search.clauses (forbids.clause ∷ []) in
       let all : length (lists old.coding.search.clauses) ≡ length old.coding.search.clauses = length-lists old.coding.search.clauses in
       let place : n ≡ length (lists old.coding.search.clauses) = omega arith in
-      let added : clauses_of c.search ≡ lists old.coding.search.clauses ++ bars.clause.literals.items ∷ [] = ap (λ (cs : List SatClause). lists cs) bars.added ∙ lists-append old.coding.search.clauses (bars.clause ∷ []) in
-      let here : clause_at (clauses_of c.search) n ≡ bars.clause.literals.items = ap (λ (cs : List (List Signed)). clause_at cs n) added ∙ ap (λ (k : ℕ). clause_at (lists old.coding.search.clauses ++ bars.clause.literals.items ∷ []) k) place ∙ clause_at_end (lists old.coding.search.clauses) bars.clause.literals.items in
-      from l (subst (λ (ls : List Signed). has ls l ≡ true) (here ∙ bars.literals) stands)
+      let added : clauses_of c.search ≡ lists old.coding.search.clauses ++ forbids.clause.literals.items ∷ [] = ap (λ (cs : List SatClause). lists cs) forbids.added ∙ lists-append old.coding.search.clauses (forbids.clause ∷ []) in
+      let here : clause_at (clauses_of c.search) n ≡ forbids.clause.literals.items = ap (λ (cs : List (List Signed)). clause_at cs n) added ∙ ap (λ (k : ℕ). clause_at (lists old.coding.search.clauses ++ forbids.clause.literals.items ∷ []) k) place ∙ clause_at_end (lists old.coding.search.clauses) forbids.clause.literals.items in
+      from l (subst (λ (ls : List Signed). has ls l ≡ true) (here ∙ forbids.literals) present)
 
   pub choice_goes : (v : VariableId) (clause : ClauseId) → Chooses v clause old.coding.search c.search → KeepsCode old.coding c → GoesOn old went
   choice_goes v clause chosen kept = kept_goes kept chosen.same.base_level (λ base low ends. choice_earlier old.coding.search c.search v clause base chosen ends)
@@ -245,11 +245,11 @@ module _ {N S : Type 0} (old : Encoder N S) (c : SolverState N S) where
         stays same exact p root lawful old went e goes (positive_on same exact p root lawful old went e goes (step_from q step.progress)) (called_advances (IsChosenFor same p old) (IsChosenFor same p went) (chosen_grows old went goes.grows (λ r h. refl) refl same p) old.coding c q step e.called)
 
     -- so does the clause of a final conflict
-    pub bar_keeps : (denies : List Signed) (by : List ClauseId) (id : ClauseId) → Bars denies by id old.coding c → AreFromClauses old.coding.search denies → IsEncoding same p root old → IsEncoding same p root went
-    bar_keeps denies by id bars from e =
-        let goes = bar_goes denies by id e.coding bars in
-        stays same exact p root lawful old went e goes (positive_on same exact p root lawful old went e goes (bar_from denies by id bars from))
-        (called_grows_trail (IsChosenFor same p old) (IsChosenFor same p went) (chosen_grows old went goes.grows (λ r h. refl) refl same p) old.coding c e.coding goes.grows bars.trail e.called)
+    pub refusal_keeps : (denies : List Signed) (by : List ClauseId) (id : ClauseId) → AddsDenial denies by id old.coding c → AreFromClauses old.coding.search denies → IsEncoding same p root old → IsEncoding same p root went
+    refusal_keeps denies by id forbids from e =
+        let goes = refusal_goes denies by id e.coding forbids in
+        stays same exact p root lawful old went e goes (positive_on same exact p root lawful old went e goes (refusal_from denies by id forbids from))
+        (called_grows_trail (IsChosenFor same p old) (IsChosenFor same p went) (chosen_grows old went goes.grows (λ r h. refl) refl same p) old.coding c e.coding goes.grows forbids.trail e.called)
 
     -- so does a justified decision
     pub choice_keeps : (v : VariableId) (clause : ClauseId) → Chooses v clause old.coding.search c.search → KeepsCode old.coding c
@@ -257,7 +257,7 @@ module _ {N S : Type 0} (old : Encoder N S) (c : SolverState N S) where
     choice_keeps v clause chosen kept now e =
         let goes = choice_goes v clause chosen kept in
         stays same exact p root lawful old went e goes
-        (positive_on same exact p root lawful old went e goes (λ n l low high stands. (let long : length c.search.clauses ≡ length old.coding.search.clauses = ap (λ (cs : List SatClause). length cs) kept.clauses in absurd (omega arith))))
+        (positive_on same exact p root lawful old went e goes (λ n l low high present. (let long : length c.search.clauses ≡ length old.coding.search.clauses = ap (λ (cs : List SatClause). length cs) kept.clauses in absurd (omega arith))))
         (called_chooses (IsChosenFor same p old) (IsChosenFor same p went) (chosen_grows old went goes.grows (λ r h. refl) refl same p) old.coding c v clause chosen kept now e.called)
 
     -- so does undoing entries
@@ -265,7 +265,7 @@ module _ {N S : Type 0} (old : Encoder N S) (c : SolverState N S) where
     undo_keeps level low undoes kept e =
         let goes = undo_goes level low undoes kept in
         stays same exact p root lawful old went e goes
-        (positive_on same exact p root lawful old went e goes (λ n l low high stands. (let long : length c.search.clauses ≡ length old.coding.search.clauses = ap (λ (cs : List SatClause). length cs) kept.clauses in absurd (omega arith))))
+        (positive_on same exact p root lawful old went e goes (λ n l low high present. (let long : length c.search.clauses ≡ length old.coding.search.clauses = ap (λ (cs : List SatClause). length cs) kept.clauses in absurd (omega arith))))
         (called_undoes (IsChosenFor same p old) (IsChosenFor same p went) (chosen_grows old went goes.grows (λ r h. refl) refl same p) old.coding c level undoes kept e.called)
 
 -- ---- only the states of requires clauses change
@@ -273,7 +273,7 @@ module _ {N S : Type 0} (old : Encoder N S) (c : SolverState N S) where
 module _ {N S : Type 0} (e : Encoder N S) (needs : UndecidedClauses) where
   pub needs_go : IsCoding e.coding → GoesOn e (record e { needs = needs })
   needs_go coding = record {
-    rest = record { registry = refl; lists = refl; queue = refl; gates = refl; noted = refl; parents = refl; encoded = refl; deferred = refl; fired = refl };
+    rest = record { registry = refl; lists = refl; queue = refl; gates = refl; recorded = refl; parents = refl; encoded = refl; deferred = refl; fired = refl };
     coding = coding;
     atoms = refl;
     variables = refl;
@@ -284,17 +284,17 @@ module _ {N S : Type 0} (e : Encoder N S) (needs : UndecidedClauses) where
 
   pub needs_keep : (same : S → S → Bool) → IsExact same → (p : Packages N S) (root : Rules) → IsLawful p → IsEncoding same p root e → IsEncoding same p root (record e { needs = needs })
   needs_keep same exact p root lawful h =
-      let noted : Encoder N S = record e { needs = needs } in
+      let recorded : Encoder N S = record e { needs = needs } in
       let goes = needs_go h.coding in
-      stays same exact p root lawful e noted h goes (positive_on same exact p root lawful e noted h goes (λ n l low high stands. absurd (omega arith)))
-      (called_grows_trail (IsChosenFor same p e) (IsChosenFor same p noted) (chosen_grows e noted goes.grows (λ r k. refl) refl same p) e.coding e.coding h.coding goes.grows (trail_same e.coding) h.called)
+      stays same exact p root lawful e recorded h goes (positive_on same exact p root lawful e recorded h goes (λ n l low high present. absurd (omega arith)))
+      (called_grows_trail (IsChosenFor same p e) (IsChosenFor same p recorded) (chosen_grows e recorded goes.grows (λ r k. refl) refl same p) e.coding e.coding h.coding goes.grows (trail_same e.coding) h.called)
 
 module _ {N S : Type 0} (old new : Encoder N S) (is : new ≡ record old { needs = new.needs }) where
-  pub noted_goes : IsCoding old.coding → GoesOn old new
-  noted_goes coding = subst (λ (x : Encoder N S). GoesOn old x) (sym is) (needs_go old new.needs coding)
+  pub recorded_goes : IsCoding old.coding → GoesOn old new
+  recorded_goes coding = subst (λ (x : Encoder N S). GoesOn old x) (sym is) (needs_go old new.needs coding)
 
-  pub noted_keeps : (same : S → S → Bool) → IsExact same → (p : Packages N S) (root : Rules) → IsLawful p → IsEncoding same p root old → IsEncoding same p root new
-  noted_keeps same exact p root lawful h = subst (λ (x : Encoder N S). IsEncoding same p root x) (sym is) (needs_keep old new.needs same exact p root lawful h)
+  pub recorded_keeps : (same : S → S → Bool) → IsExact same → (p : Packages N S) (root : Rules) → IsLawful p → IsEncoding same p root old → IsEncoding same p root new
+  recorded_keeps same exact p root lawful h = subst (λ (x : Encoder N S). IsEncoding same p root x) (sym is) (needs_keep old new.needs same exact p root lawful h)
 
 -- ---- the trail gains weight
 
@@ -322,7 +322,7 @@ complete_gains s t w h =
 
 pub goes_none : {N S : Type 0} (e : Encoder N S) → IsCoding e.coding → GoesOn e e
 goes_none e coding = record {
-  rest = record { registry = refl; lists = refl; queue = refl; gates = refl; noted = refl; parents = refl; encoded = refl; deferred = refl; fired = refl };
+  rest = record { registry = refl; lists = refl; queue = refl; gates = refl; recorded = refl; parents = refl; encoded = refl; deferred = refl; fired = refl };
   coding = coding;
   atoms = refl;
   variables = refl;
@@ -333,14 +333,14 @@ goes_none e coding = record {
 
 pub goes_then : {N S : Type 0} (a b c : Encoder N S) → GoesOn a b → GoesOn b c → GoesOn a c
 goes_then a b c f g = record {
-  rest = record { registry = g.rest.registry ∙ f.rest.registry; lists = g.rest.lists ∙ f.rest.lists; queue = g.rest.queue ∙ f.rest.queue; gates = g.rest.gates ∙ f.rest.gates; noted = g.rest.noted ∙ f.rest.noted; parents = g.rest.parents ∙ f.rest.parents; encoded = g.rest.encoded ∙ f.rest.encoded; deferred = g.rest.deferred ∙ f.rest.deferred; fired = g.rest.fired ∙ f.rest.fired };
+  rest = record { registry = g.rest.registry ∙ f.rest.registry; lists = g.rest.lists ∙ f.rest.lists; queue = g.rest.queue ∙ f.rest.queue; gates = g.rest.gates ∙ f.rest.gates; recorded = g.rest.recorded ∙ f.rest.recorded; parents = g.rest.parents ∙ f.rest.parents; encoded = g.rest.encoded ∙ f.rest.encoded; deferred = g.rest.deferred ∙ f.rest.deferred; fired = g.rest.fired ∙ f.rest.fired };
   coding = g.coding;
   atoms = g.atoms ∙ f.atoms;
   variables = g.variables ∙ f.variables;
   grows = grows_then a.coding b.coding c.coding f.grows g.grows;
   earlier = λ base low ends. g.earlier base (let same : b.coding.search.base_level ≡ a.coding.search.base_level = f.grows.base_level in omega arith) (f.earlier base low ends);
   learnt = λ n low high. elim (split_at n (length b.coding.search.clauses)) [
-    | inl below ↦ stated_grows b.coding c.coding g.grows n Says.Learnt (f.learnt n low below)
+    | inl below ↦ kind_grows b.coding c.coding g.grows n Kind.Learnt (f.learnt n low below)
     | inr past ↦ g.learnt n past high
   ];
 }

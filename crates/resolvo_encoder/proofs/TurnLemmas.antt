@@ -23,7 +23,7 @@ use Rattle.resolvo_store_core.specs.declared.lists.Candidate.{Candidate}
 use Rattle.resolvo_sat.specs.Known.{clause_at}
 use Rattle.resolvo_store_core.specs.declared.decision.Entry.{Entry}
 use Rattle.resolvo_sat.specs.Analysis.{IsRefusal}
-use Rattle.resolvo_sat.specs.Entries.{literal_of, made_true, top_level, StandsOn, IsTrail, IsRooted}
+use Rattle.resolvo_sat.specs.Entries.{literal_of, made_true, top_level, IsOnTrail, IsTrail, IsRooted}
 use Rattle.resolvo_sat.specs.Propagation.{IsQuiet}
 use Rattle.resolvo_sat.specs.State.{history, count_of, clauses_of}
 use Rattle.resolvo_sat.proofs.Trails.{consistent, known_in_range, level_steps, root_known}
@@ -35,33 +35,33 @@ use Rattle.resolvo_soundness.specs.Numbered.{meaning, Means, known_of, IsTurnEnd
 use Rattle.resolvo_soundness.proofs.Lists.{contains_none, contains_one, contains_only, contains_cases, contains_parts}
 use Rattle.resolvo_soundness.proofs.Meanings.{found}
 use Rattle.resolvo_soundness.proofs.Turns.{turn_accepted, turn_keeps_rules, turn_prefers, turn_refused}
-use Rattle.resolvo_soundness.proofs.Members.{stands_candidate, in_contained, contained_in}
+use Rattle.resolvo_soundness.proofs.Members.{candidate_from, in_contained, contained_in}
 use Rattle.resolvo_state.specs.declared.atom.ProofAtom.{ProofAtom}
 use Rattle.resolvo_state.specs.declared.atom.ProofAtom.TheVariants.{Solvable, Gate}
-use Rattle.resolvo_state.specs.declared.clause_kind.Stated.{Stated}
-use Rattle.resolvo_state.specs.declared.clause_kind.Stated.TheVariants as Says
-use Rattle.resolvo_state.specs.Atoms.{atom_of, origin, StandsFor}
-use Rattle.resolvo_state.specs.Statements.{rule_of, rule_at, stated_at}
+use Rattle.resolvo_state.specs.declared.clause_kind.ClauseKind.{ClauseKind}
+use Rattle.resolvo_state.specs.declared.clause_kind.ClauseKind.TheVariants as Kind
+use Rattle.resolvo_state.specs.Atoms.{atom_of, origin, Represents}
+use Rattle.resolvo_state.specs.ClauseKinds.{rule_of, rule_at, kind_at}
 use Rattle.resolvo_state.specs.SolverState.{IsCoding}
 use Rattle.resolvo_state.specs.Chosen.{AreChosen}
-use Rattle.resolvo_state.proofs.Rules.{stated_rule}
+use Rattle.resolvo_state.proofs.Rules.{kind_of_rule}
 use Rattle.resolvo_state.proofs.Origins.{count_is, coding_once, means_atom, means_solvable, solvable_means}
-use Rattle.resolvo_state.proofs.Growth.{stands_once, stands_in_range, coding_coded}
-use Rattle.resolvo_state.proofs.RegisterLemmas.{told}
+use Rattle.resolvo_state.proofs.Growth.{represents_once, represents_in_range, coding_coded}
+use Rattle.resolvo_state.proofs.RegisterLemmas.{by_digits}
 use Rattle.resolvo_state.specs.Registered.{IsRegistered}
 use Rattle.resolvo_encoder.specs.Encoded.{IsParentVariable, IsCandidate, AreOrdered, IsCondition, IsQueuedFor, Asks, IsParentEncoded, IsEncoding, Registered, IsChosenFor, HasOrder}
 use Rattle.resolvo_encoder.specs.Cases.{IsDeferred}
 use Rattle.resolvo_encoder.specs.Conditions.{AreSpent}
 use Rattle.resolvo_encoder.specs.Encoded as E
 use Rattle.resolvo_encoder.specs.TurnLevels.{AreValues, IsDecided, AreAmongEncoded}
-use Rattle.resolvo_encoder.proofs.Digits.{digit_told, digits_agree}
+use Rattle.resolvo_encoder.proofs.Digits.{digit_found, digits_agree}
 use Rattle.resolvo_encoder.proofs.PickLemmas.{taken_ordered}
 use Rattle.resolvo_encoder.proofs.ConditionLemmas.{has_all}
 use Rattle.resolvo_encoder.proofs.DecideLemmas.{nothing_offered, known_false, known_parent, value_known, open_or_known, has_clause, choices_called}
 use Rattle.resolvo_encoder.specs.declared.encoder.Encoder.{Encoder}
 
 -- levels begin at 1, the root's level, or above it
-first_level : (count : ℕ) (cs : List (List Signed)) (h : List Entry) (d : Entry) (older : List Entry) → IsTrail count cs h → IsRooted h → StandsOn h d older → (1 ≤ d.level) × ((literal_of d ≡ yes root_variable) ⊎ (1 ≤ top_level older))
+first_level : (count : ℕ) (cs : List (List Signed)) (h : List Entry) (d : Entry) (older : List Entry) → IsTrail count cs h → IsRooted h → IsOnTrail h d older → (1 ≤ d.level) × ((literal_of d ≡ yes root_variable) ⊎ (1 ≤ top_level older))
 first_level count cs [] d older t r s = absurd s
 first_level count cs (e ∷ []) d older t (is, level) (inl (same, rest)) = let one : e.level ≡ d.level = ap (λ (x : Entry). x.level) same in (omega arith, inl (ap literal_of (sym same) ∙ is))
 first_level count cs (e ∷ []) d older t r (inr none) = absurd none
@@ -75,8 +75,8 @@ first_level count cs (e ∷ f ∷ more) d older t r (inr s) = first_level count 
 -- a final conflict at the first level denies the root alone
 pub root_denied : {N S : Type 0} (e : Encoder N S) → IsCoding e.coding → e.coding.search.base_level ≡ 1 → (literals : List Signed) (causes : List ClauseId) → IsRefusal e.coding.search literals causes → (l : Signed) → has literals l ≡ true → l ≡ no root_variable
 root_denied e coding first literals causes refusal l h =
-    let (d, older, stands, is, kept) = refusal.denies l h in
-    let (low, which) = first_level (count_of e.coding.search) (clauses_of e.coding.search) (history e.coding.search) d older coding.ready.state.trail coding.ready.state.rooted stands in
+    let (d, older, present, is, kept) = refusal.denies l h in
+    let (low, which) = first_level (count_of e.coding.search) (clauses_of e.coding.search) (history e.coding.search) d older coding.ready.state.trail coding.ready.state.rooted present in
     let base_level : d.level ≤ e.coding.search.base_level = kept.low in
     elim which [
       | inl z ↦ sym (negation-negation l) ∙ ap negation (sym is ∙ z)
@@ -88,24 +88,24 @@ root_denied e coding first literals causes refusal l h =
 
 module _ {N S : Type 0} (same : S → S → Bool) (exact : IsExact same) (p : Packages N S) (root : Rules) (lawful : IsLawful p) (e : Encoder N S) where
   -- The properties of the clauses that don't depend on the trail.
-  pub register : IsEncoding same p root e → Ending.AreRegistered same p (E.rules_of e) root (Registered same p root e) e.noted.wishes.items
+  pub register : IsEncoding same p root e → Ending.AreRegistered same p (E.rules_of e) root (Registered same p root e) e.recorded.softs.items
   register holds = record {
     rule = holds.rule;
-    wish = λ s h. holds.wished s (in_contained same exact p e.noted.wishes.items s h);
-    candidate = λ r s has fits. (let (c, stands, is) = holds.offered r s (holds.fixed r has) fits in (c.literal.variable, is.stands, is.tracked));
-    out = λ parent need case v s stands h outside. (holds.cases.cased parent need case v stands h).1 s outside;
+    soft = λ s h. holds.wished s (in_contained same exact p e.recorded.softs.items s h);
+    candidate = λ r s has fits. (let (c, present, is) = holds.offered r s (holds.fixed r has) fits in (c.literal.variable, is.present, is.tracked));
+    out = λ parent need case v s present h outside. (holds.cases.cased parent need case v present h).1 s outside;
     candidates = holds.candidates;
-    told = λ s t a b named. told e.registry e.coding (p.package_of s) s t holds.tied a (subst (λ (n : N). IsRegistered e.registry e.coding n t) (sym named) b);
-    there = λ parent need case v s stands h registered named. holds.cases.helped (p.set_package v) s (holds.cases.cased parent need case v stands h).0 (subst (λ (n : N). IsRegistered e.registry e.coding n s) named registered);
-    bar = λ r v s has h barred. holds.bar r has v s h barred;
+    by_digits = λ s t a b named. by_digits e.registry e.coding (p.package_of s) s t holds.tied a (subst (λ (n : N). IsRegistered e.registry e.coding n t) (sym named) b);
+    there = λ parent need case v s present h registered named. holds.cases.at_least_one (p.set_package v) s (holds.cases.cased parent need case v present h).0 (subst (λ (n : N). IsRegistered e.registry e.coding n s) named registered);
+    forbid = λ r v s has h barred. holds.forbid r has v s h barred;
   }
 
   -- a clause that encodes a rule is one of the clauses
-  rule_within : IsEncoding same p root e → (n : ℕ) (r : Rule N S) → rule_at e.coding.stated.items n ≡ Some r → n < length e.coding.search.clauses
+  rule_within : IsEncoding same p root e → (n : ℕ) (r : Rule N S) → rule_at e.coding.kinds.items n ≡ Some r → n < length e.coding.search.clauses
   rule_within holds n r h =
-      let (x, at, is) = stated_rule e.coding.stated.items n r h in
-      let within : n < length e.coding.stated.items = slice_get_within e.coding.stated.items n x at in
-      let long : length e.coding.stated.items ≡ length e.coding.search.clauses = holds.coding.each in
+      let (x, at, is) = kind_of_rule e.coding.kinds.items n r h in
+      let within : n < length e.coding.kinds.items = slice_get_within e.coding.kinds.items n x at in
+      let long : length e.coding.kinds.items ≡ length e.coding.search.clauses = holds.coding.each in
       omega arith
 
   -- a quiet clause has a literal that isn't false
@@ -123,27 +123,27 @@ module _ {N S : Type 0} (same : S → S → Bool) (exact : IsExact same) (p : Pa
   -- a literal of the search is false where its negation's meaning is known
   denied : IsEncoding same p root e → (l : Signed) (n : ℕ) (m : Literal (Atom N S)) → has (clause_at (clauses_of e.coding.search) n) l ≡ true → 0 < l.variable.0 → meaning (origin e.coding.atoms.keys) l ≡ m
       → Contains (known_of (origin e.coding.atoms.keys) (history e.coding.search)) (negate m) → has (made_true (history e.coding.search)) (negation l) ≡ true
-  denied holds l n m stands other is h = found (origin e.coding.atoms.keys) (count_of e.coding.search) (coding_once e.coding holds.coding) (made_true (history e.coding.search)) (negation l)
+  denied holds l n m present other is h = found (origin e.coding.atoms.keys) (count_of e.coding.search) (coding_once e.coding holds.coding) (made_true (history e.coding.search)) (negation l)
       (λ x a. known_in_range (count_of e.coding.search) (clauses_of e.coding.search) (history e.coding.search) x holds.coding.ready.state.trail a)
-      other (holds.coding.ready.state.in_range n l stands) (subst (λ (x : Literal (Atom N S)). Contains (known_of (origin e.coding.atoms.keys) (history e.coding.search)) (negate x)) (sym is) h)
+      other (holds.coding.ready.state.in_range n l present) (subst (λ (x : Literal (Atom N S)). Contains (known_of (origin e.coding.atoms.keys) (history e.coding.search)) (negate x)) (sym is) h)
 
   -- A literal of a requires clause that isn't false means a chosen match of the requirement.
   asking_candidate : IsEncoding same p root e → (n : ℕ) (r : Requirement) (k : Ending.IsAsked same p (E.rules_of e) (known_of (origin e.coding.atoms.keys) (history e.coding.search)) r) (l : Signed)
-      → rule_at e.coding.stated.items n ≡ Some (Ending.asking same p (E.rules_of e) (known_of (origin e.coding.atoms.keys) (history e.coding.search)) r k)
+      → rule_at e.coding.kinds.items n ≡ Some (Ending.asking same p (E.rules_of e) (known_of (origin e.coding.atoms.keys) (history e.coding.search)) r k)
       → has (clause_at (clauses_of e.coding.search) n) l ≡ true → has (made_true (history e.coding.search)) (negation l) ≡ false
       → (s : S) × (meets same p r s ≡ true) × Means (origin e.coding.atoms.keys) l (plus (Atom.solvable s))
-  asking_candidate holds n r k l at stands open_still = elim ((holds.spelled n (Ending.asking same p (E.rules_of e) (known_of (origin e.coding.atoms.keys) (history e.coding.search)) r k) at).only l stands) [
+  asking_candidate holds n r k l at present open_still = elim ((holds.spelled n (Ending.asking same p (E.rules_of e) (known_of (origin e.coding.atoms.keys) (history e.coding.search)) r k) at).only l present) [
     | inl z ↦ absurd (both_ways _ open_still (subst (λ (x : Signed). has (made_true (history e.coding.search)) (negation x) ≡ true) (sym z) (root_known (history e.coding.search) holds.coding.ready.state.rooted)))
     | inr (other, c) ↦ go other k c
   ]
     where
       candidate : 0 < l.variable.0 → (q : Requirement) → r ≡ q → Contains (candidate_literals same p (alternatives_of p.members_of q)) (meaning (origin e.coding.atoms.keys) l) → (s : S) × (meets same p r s ≡ true) × Means (origin e.coding.atoms.keys) l (plus (Atom.solvable s))
       candidate other q is b =
-          let (s, i, h) = stands_candidate same exact p (alternatives_of p.members_of q) (meaning (origin e.coding.atoms.keys) l) b in
+          let (s, i, h) = candidate_from same exact p (alternatives_of p.members_of q) (meaning (origin e.coding.atoms.keys) l) b in
           (s, subst (λ x. meets same p x s ≡ true) (sym is) h, (other, sym i))
 
       not_denied : 0 < l.variable.0 → (m : Literal (Atom N S)) → meaning (origin e.coding.atoms.keys) l ≡ m → Contains (known_of (origin e.coding.atoms.keys) (history e.coding.search)) (negate m) → ⊥
-      not_denied other m is h = both_ways _ open_still (denied holds l n m stands other is h)
+      not_denied other m is h = both_ways _ open_still (denied holds l n m present other is h)
 
       parent : 0 < l.variable.0 → (who : Option S) → Ending.IsTrueParent (known_of (origin e.coding.atoms.keys) (history e.coding.search)) who → Contains (parent_literals who) (meaning (origin e.coding.atoms.keys) l) → ⊥
       parent other None t a = contains_none (meaning (origin e.coding.atoms.keys) l) a
@@ -165,16 +165,16 @@ module _ {N S : Type 0} (same : S → S → Bool) (exact : IsExact same) (p : Pa
       ]
 
   -- a variable is true where its origin is known
-  atom_found : IsEncoding same p root e → (v : VariableId) (a : ProofAtom N S) → StandsFor e.coding.atoms.keys v a → Contains (known_of (origin e.coding.atoms.keys) (history e.coding.search)) (plus (atom_of a)) → has (made_true (history e.coding.search)) (yes v) ≡ true
-  atom_found holds v a stands t =
-      let means : Means (origin e.coding.atoms.keys) (yes v) (plus (atom_of a)) = means_atom e.coding.atoms.keys (yes v) a stands in
+  atom_found : IsEncoding same p root e → (v : VariableId) (a : ProofAtom N S) → Represents e.coding.atoms.keys v a → Contains (known_of (origin e.coding.atoms.keys) (history e.coding.search)) (plus (atom_of a)) → has (made_true (history e.coding.search)) (yes v) ≡ true
+  atom_found holds v a present t =
+      let means : Means (origin e.coding.atoms.keys) (yes v) (plus (atom_of a)) = means_atom e.coding.atoms.keys (yes v) a present in
       found (origin e.coding.atoms.keys) (count_of e.coding.search) (coding_once e.coding holds.coding) (made_true (history e.coding.search)) (yes v)
       (λ x b. known_in_range (count_of e.coding.search) (clauses_of e.coding.search) (history e.coding.search) x holds.coding.ready.state.trail b)
-      means.0 (stands_in_range e.coding v a holds.coding stands) (subst (Contains (known_of (origin e.coding.atoms.keys) (history e.coding.search))) means.1 t)
+      means.0 (represents_in_range e.coding v a holds.coding present) (subst (Contains (known_of (origin e.coding.atoms.keys) (history e.coding.search))) means.1 t)
 
   parent_found : IsEncoding same p root e → (parent : Option S) (v : VariableId) → IsParentVariable e.coding.atoms.keys parent v → Ending.IsTrueParent (known_of (origin e.coding.atoms.keys) (history e.coding.search)) parent → has (made_true (history e.coding.search)) (yes v) ≡ true
   parent_found holds None v is t = subst (λ (w : VariableId). has (made_true (history e.coding.search)) (yes w) ≡ true) (sym is) (root_known (history e.coding.search) holds.coding.ready.state.rooted)
-  parent_found holds (Some s) v stands t = atom_found holds v (Solvable s) stands t
+  parent_found holds (Some s) v present t = atom_found holds v (Solvable s) present t
 
   -- where the literals of a case are false, so are those of its condition
   condition_fell : IsEncoding same p root e → (condition : Option (DenseId DisjunctionTag ℕ)) (case : List VersionSetId) → IsCondition same p e.lists e.coding.atoms.keys condition case
@@ -192,36 +192,36 @@ module _ {N S : Type 0} (same : S → S → Bool) (exact : IsExact same) (p : Pa
     condition : (l : Signed) → has (condition_in e.lists q.condition) l ≡ true → has (made_true (history e.coding.search)) (negation l) ≡ true
     parent : has (made_true (history e.coding.search)) (yes q.parent) ≡ true
 
-  queue_fits : IsEncoding same p root e → (r : Requirement) (k : Ending.IsAsked same p (E.rules_of e) (known_of (origin e.coding.atoms.keys) (history e.coding.search)) r) (q : NeedClause) (x : Stated N S) → IsQueuedFor same p e.lists e.coding.atoms.keys (Some x) q
+  queue_fits : IsEncoding same p root e → (r : Requirement) (k : Ending.IsAsked same p (E.rules_of e) (known_of (origin e.coding.atoms.keys) (history e.coding.search)) r) (q : NeedClause) (x : ClauseKind N S) → IsQueuedFor same p e.lists e.coding.atoms.keys (Some x) q
       → rule_of x ≡ Some (Ending.asking same p (E.rules_of e) (known_of (origin e.coding.atoms.keys) (history e.coding.search)) r k) → IsAsking r q
-  queue_fits holds r (inl k) q (Says.Needs parent need case) (is, conditioned, stands) said =
+  queue_fits holds r (inl k) q (Kind.Needs parent need case) (is, conditioned, present) kind_is =
       let wanted : need ≡ k.need = cc in
       let who : parent ≡ k.parent = cc in
       let which : case.items ≡ k.case = cc in
       record {
         requirement = is ∙ ap (λ (n : ConditionalRequirement). n.requirement) wanted ∙ sym k.asks;
         condition = condition_fell holds q.condition case.items conditioned (subst (λ vs. Ending.AreFalse (known_of (origin e.coding.atoms.keys) (history e.coding.search)) (case_literals same p vs)) (sym which) k.holds);
-        parent = parent_found holds k.parent q.parent (subst (λ (o : Option S). IsParentVariable e.coding.atoms.keys o q.parent) who stands) k.chosen;
+        parent = parent_found holds k.parent q.parent (subst (λ (o : Option S). IsParentVariable e.coding.atoms.keys o q.parent) who present) k.chosen;
       }
-  queue_fits holds r (inr k) q (Says.Shared w) (is, free, stands) said =
+  queue_fits holds r (inr k) q (Kind.Shared w) (is, free, present) kind_is =
       let one : w ≡ r = cc in
-      record { requirement = is ∙ one; condition = λ l h. absurd (both_ways false refl (subst (λ c. has (condition_in e.lists c) l ≡ true) free h)); parent = atom_found holds q.parent (Gate r) (subst (λ y. StandsFor e.coding.atoms.keys q.parent (Gate y)) one stands) k.opened }
-  queue_fits holds r (inr k) q (Says.Needs parent need case) h said = absurd cc
-  queue_fits holds r (inl k) q (Says.Shared w) h said = absurd cc
-  queue_fits holds r k q Says.Root h said = absurd h
-  queue_fits holds r k q (Says.Gated s w) h said = absurd h
-  queue_fits holds r k q (Says.Limits parent v s) h said = absurd h
-  queue_fits holds r k q (Says.LimitsOutside parent v) h said = absurd h
-  queue_fits holds r k q (Says.IsOut v s) h said = absurd h
-  queue_fits holds r k q (Says.Locked locked s) h said = absurd h
-  queue_fits holds r k q (Says.Excluded s why) h said = absurd h
-  queue_fits holds r k q (Says.Digit n s place bit) h said = absurd h
-  queue_fits holds r k q (Says.IsThere n s) h said = absurd h
-  queue_fits holds r k q Says.Learnt h said = absurd h
+      record { requirement = is ∙ one; condition = λ l h. absurd (both_ways false refl (subst (λ c. has (condition_in e.lists c) l ≡ true) free h)); parent = atom_found holds q.parent (Gate r) (subst (λ y. Represents e.coding.atoms.keys q.parent (Gate y)) one present) k.opened }
+  queue_fits holds r (inr k) q (Kind.Needs parent need case) h kind_is = absurd cc
+  queue_fits holds r (inl k) q (Kind.Shared w) h kind_is = absurd cc
+  queue_fits holds r k q Kind.Root h kind_is = absurd h
+  queue_fits holds r k q (Kind.Gated s w) h kind_is = absurd h
+  queue_fits holds r k q (Kind.Limits parent v s) h kind_is = absurd h
+  queue_fits holds r k q (Kind.LimitsOutside parent v) h kind_is = absurd h
+  queue_fits holds r k q (Kind.IsOut v s) h kind_is = absurd h
+  queue_fits holds r k q (Kind.Locked locked s) h kind_is = absurd h
+  queue_fits holds r k q (Kind.Excluded s why) h kind_is = absurd h
+  queue_fits holds r k q (Kind.Digit n s place bit) h kind_is = absurd h
+  queue_fits holds r k q (Kind.IsThere n s) h kind_is = absurd h
+  queue_fits holds r k q Kind.Learnt h kind_is = absurd h
 
-  rule_stands : (r : Requirement) (k : Ending.IsAsked same p (E.rules_of e) (known_of (origin e.coding.atoms.keys) (history e.coding.search)) r) → E.rules_of e (Ending.asking same p (E.rules_of e) (known_of (origin e.coding.atoms.keys) (history e.coding.search)) r k)
-  rule_stands r (inl k) = k.stands
-  rule_stands r (inr k) = k.stands
+  rule_encoded : (r : Requirement) (k : Ending.IsAsked same p (E.rules_of e) (known_of (origin e.coding.atoms.keys) (history e.coding.search)) r) → E.rules_of e (Ending.asking same p (E.rules_of e) (known_of (origin e.coding.atoms.keys) (history e.coding.search)) r k)
+  rule_encoded r (inl k) = k.present
+  rule_encoded r (inr k) = k.present
 
   rule_asks : (r : Requirement) (k : Ending.IsAsked same p (E.rules_of e) (known_of (origin e.coding.atoms.keys) (history e.coding.search)) r) → Asks (Ending.asking same p (E.rules_of e) (known_of (origin e.coding.atoms.keys) (history e.coding.search)) r k)
   rule_asks r (inl k) = tt
@@ -230,8 +230,8 @@ module _ {N S : Type 0} (same : S → S → Bool) (exact : IsExact same) (p : Pa
   -- the candidate of a solvable has the solvable's literal
   candidate_is : IsEncoding same p root e → (name : N) (s : S) (c : Candidate N) (l : Signed) → IsCandidate e name s c → Means (origin e.coding.atoms.keys) l (plus (Atom.solvable s)) → c.literal ≡ l
   candidate_is holds name s c l fits means =
-      let (positive, stands) = means_solvable e.coding.atoms.keys l s means in
-      let variable : c.literal.variable ≡ l.variable = stands_once e.coding c.literal.variable l.variable (Solvable s) holds.coding fits.stands stands in
+      let (positive, present) = means_solvable e.coding.atoms.keys l s means in
+      let variable : c.literal.variable ≡ l.variable = represents_once e.coding c.literal.variable l.variable (Solvable s) holds.coding fits.present present in
       let sign : c.literal.positive ≡ l.positive = fits.positive ∙ sym positive in
       λ i. record { variable = variable i; positive = sign i }
 
@@ -240,11 +240,11 @@ module _ {N S : Type 0} (same : S → S → Bool) (exact : IsExact same) (p : Pa
   true_candidate : IsEncoding same p root e → (values : ℕ → Option Bool) (score : N → ℕ) → AreValues values (made_true (history e.coding.search)) → (r : Requirement) (q : NeedClause) (c : Candidate N) → IsAsking r q
       → offer_by (named_by e.lists) values score q ≡ None → Contains (candidates_in e.lists r) c → has (made_true (history e.coding.search)) (negation c.literal) ≡ false
       → (d : Candidate N) × Contains (candidates_in e.lists r) d × (has (made_true (history e.coding.search)) d.literal ≡ true)
-  true_candidate holds values score agree r q c asking nothing stands unfalse = elim (open_or_known values (made_true (history e.coding.search)) agree c.literal unfalse) [
-    | inr known ↦ (c, stands, known)
+  true_candidate holds values score agree r q c asking nothing present unfalse = elim (open_or_known values (made_true (history e.coding.search)) agree c.literal unfalse) [
+    | inr known ↦ (c, present, known)
     | inl undecided ↦
         let eligible : is_eligible_by (named_by e.lists) values q ≡ true = and_from _ _ (known_parent values (made_true (history e.coding.search)) agree q.parent asking.parent) (has_all (λ l. is_false (value_under values l)) (condition_in e.lists q.condition) (λ l a. known_false values (made_true (history e.coding.search)) agree l (asking.condition l a))) in
-        let (d, listed, is) = nothing_offered (named_by e.lists) values score q c nothing eligible (subst (λ y. Contains (candidates_in e.lists y) c) (sym asking.requirement) stands) undecided in
+        let (d, listed, is) = nothing_offered (named_by e.lists) values score q c nothing eligible (subst (λ y. Contains (candidates_in e.lists y) c) (sym asking.requirement) present) undecided in
         (d, subst (λ y. Contains (candidates_in e.lists y) d) asking.requirement listed, value_known values (made_true (history e.coding.search)) agree d.literal is)
   ]
 
@@ -254,17 +254,17 @@ module _ {N S : Type 0} (same : S → S → Bool) (exact : IsExact same) (p : Pa
       → (r : Requirement) → Ending.IsAsked same p (E.rules_of e) (known_of (origin e.coding.atoms.keys) (history e.coding.search)) r
       → (s : S) × (meets same p r s ≡ true) × ((l : Signed) × (has (made_true (history e.coding.search)) l ≡ true) × Means (origin e.coding.atoms.keys) l (plus (Atom.solvable s)))
   met holds values score agree quiet decided r k =
-      let (n, at) = rule_stands r k in
+      let (n, at) = rule_encoded r k in
       let (q, queued, number) = holds.asked n _ at (rule_asks r k) in
-      let (x, said, states) = stated_rule e.coding.stated.items n _ at in
-      let asking : IsAsking r q = queue_fits holds r k q x (subst (λ o. IsQueuedFor same p e.lists e.coding.atoms.keys o q) (ap (stated_at e.coding.stated.items) number ∙ said) (holds.queued q queued)) states in
-      let (l, stands, unfalse) = unfallen holds (clause_at (clauses_of e.coding.search) n) (quiet n (rule_within holds n _ at)) in
-      let (s, fits, means) = asking_candidate holds n r k l at stands unfalse in
+      let (x, kind_is, states) = kind_of_rule e.coding.kinds.items n _ at in
+      let asking : IsAsking r q = queue_fits holds r k q x (subst (λ o. IsQueuedFor same p e.lists e.coding.atoms.keys o q) (ap (kind_at e.coding.kinds.items) number ∙ kind_is) (holds.queued q queued)) states in
+      let (l, present, unfalse) = unfallen holds (clause_at (clauses_of e.coding.search) n) (quiet n (rule_within holds n _ at)) in
+      let (s, fits, means) = asking_candidate holds n r k l at present unfalse in
       let (c, listed, is) = holds.offered r s (holds.fixed r (has_clause same p root e r k)) fits in
       let literal : c.literal ≡ l = candidate_is holds (p.package_of s) s c l is means in
       let (d, there, known) = true_candidate holds values score agree r q c asking (decided q queued) listed (subst (λ (y : Signed). has (made_true (history e.coding.search)) (negation y) ≡ false) (sym literal) unfalse) in
       let (t, one, suits) = holds.listed r d there in
-      (t, suits, (d.literal, known, solvable_means e.coding.atoms.keys d.literal t one.positive one.stands))
+      (t, suits, (d.literal, known, solvable_means e.coding.atoms.keys d.literal t one.positive one.present))
 
   -- The requirements, constraints, locks and exclusions of the root and of the members are encoded:
   -- a deferred case that holds in the members has fired.
@@ -272,7 +272,7 @@ module _ {N S : Type 0} (same : S → S → Bool) (exact : IsExact same) (p : Pa
   members_encoded holds spent members chosen among = record {
     need = λ parent need case member listed one truth. elim ((encoded parent member).needs need case listed one) [ inl a ↦ a | inr waits ↦ fired parent need case waits truth ];
     limit = λ parent v s member listed outside. (encoded parent member).limits v listed s outside;
-    bar = λ parent v s member listed barred. (encoded parent member).guarded v listed v s (contains_only v) barred;
+    forbid = λ parent v s member listed barred. (encoded parent member).guarded v listed v s (contains_only v) barred;
     unknown = λ s member unknown. (encoded (Some s) member).unknown s refl unknown;
   }
     where
@@ -292,7 +292,7 @@ module _ {N S : Type 0} (same : S → S → Bool) (exact : IsExact same) (p : Pa
   pub turn_ended : IsEncoding same p root e → AreSpent same e → (values : ℕ → Option Bool) (score : N → ℕ) → AreValues values (made_true (history e.coding.search))
       → ((n : ℕ) → n < length e.coding.search.clauses → IsQuiet (made_true (history e.coding.search)) (clause_at (clauses_of e.coding.search) n)) → IsDecided e values score
       → (members : List S) → AreChosen e.coding.atoms.keys (made_true (history e.coding.search)) members → AreAmongEncoded e members
-      → IsTurnEnd (origin e.coding.atoms.keys) same p (E.rules_of e) root (Registered same p root e) e.noted.wishes.items (count_of e.coding.search) e.coding.search.clauses (history e.coding.search) members
+      → IsTurnEnd (origin e.coding.atoms.keys) same p (E.rules_of e) root (Registered same p root e) e.recorded.softs.items (count_of e.coding.search) e.coding.search.clauses (history e.coding.search) members
   turn_ended holds spent values score agree quiet decided members chosen among = record {
     lawful = lawful;
     coded = coding_coded same p (Registered same p root e) e.coding holds.coding holds.spelled holds.positive;
@@ -311,18 +311,18 @@ module _ {N S : Type 0} (same : S → S → Bool) (exact : IsExact same) (p : Pa
   -- packages nobody names. They are those that the root and the chosen soft requirements reach.
   pub turn_accepts : (same_name : N → N → Bool) → IsExact same_name → IsEncoding same p root e → AreSpent same e → (values : ℕ → Option Bool) (score : N → ℕ) → AreValues values (made_true (history e.coding.search))
       → ((n : ℕ) → n < length e.coding.search.clauses → IsQuiet (made_true (history e.coding.search)) (clause_at (clauses_of e.coding.search) n)) → IsDecided e values score
-      → (members : List S) → AreChosen e.coding.atoms.keys (made_true (history e.coding.search)) members → AreAmongEncoded e members → Ending.IsAccepted same p root e.noted.wishes.items members
+      → (members : List S) → AreChosen e.coding.atoms.keys (made_true (history e.coding.search)) members → AreAmongEncoded e members → Ending.IsAccepted same p root e.recorded.softs.items members
   turn_accepts same_name names holds spent values score agree quiet decided members chosen among =
-      turn_accepted same exact same_name names p root (origin e.coding.atoms.keys) (E.rules_of e) (Registered same p root e) e.noted.wishes.items (count_of e.coding.search) e.coding.search.clauses (history e.coding.search) members
+      turn_accepted same exact same_name names p root (origin e.coding.atoms.keys) (E.rules_of e) (Registered same p root e) e.recorded.softs.items (count_of e.coding.search) e.coding.search.clauses (history e.coding.search) members
       (turn_ended holds spent values score agree quiet decided members chosen among)
 
   -- the end of a turn before the first soft requirement
-  ended_alone : (members : List S) → e.noted.wishes.items ≡ [] → IsTurnEnd (origin e.coding.atoms.keys) same p (E.rules_of e) root (Registered same p root e) e.noted.wishes.items (count_of e.coding.search) e.coding.search.clauses (history e.coding.search) members
+  ended_alone : (members : List S) → e.recorded.softs.items ≡ [] → IsTurnEnd (origin e.coding.atoms.keys) same p (E.rules_of e) root (Registered same p root e) e.recorded.softs.items (count_of e.coding.search) e.coding.search.clauses (history e.coding.search) members
       → IsTurnEnd (origin e.coding.atoms.keys) same p (E.rules_of e) root (Registered same p root e) [] (count_of e.coding.search) e.coding.search.clauses (history e.coding.search) members
   ended_alone members alone t = subst (λ (ws : List S). IsTurnEnd (origin e.coding.atoms.keys) same p (E.rules_of e) root (Registered same p root e) ws (count_of e.coding.search) e.coding.search.clauses (history e.coding.search) members) alone t
 
   -- before the first soft requirement each decision was a first pick
-  picked_alone : e.noted.wishes.items ≡ [] → (known : List (Literal (Atom N S))) (l : Literal (Atom N S)) → IsChosenFor same p e known l → IsFirstPick same p (HasOrder e) (E.rules_of e) known l
+  picked_alone : e.recorded.softs.items ≡ [] → (known : List (Literal (Atom N S))) (l : Literal (Atom N S)) → IsChosenFor same p e known l → IsFirstPick same p (HasOrder e) (E.rules_of e) known l
   picked_alone alone known l (inl w) = absurd (both_ways false refl (subst (λ (ws : List S). is_in same p ws w.solvable ≡ true) alone w.wished))
   picked_alone alone known l (inr k) = k
 
@@ -330,7 +330,7 @@ module _ {N S : Type 0} (same : S → S → Bool) (exact : IsExact same) (p : Pa
   -- root reaches.
   pub turn_keeps : (same_name : N → N → Bool) → IsExact same_name → IsEncoding same p root e → AreSpent same e → (values : ℕ → Option Bool) (score : N → ℕ) → AreValues values (made_true (history e.coding.search))
       → ((n : ℕ) → n < length e.coding.search.clauses → IsQuiet (made_true (history e.coding.search)) (clause_at (clauses_of e.coding.search) n)) → IsDecided e values score
-      → (members : List S) → AreChosen e.coding.atoms.keys (made_true (history e.coding.search)) members → AreAmongEncoded e members → e.noted.wishes.items ≡ []
+      → (members : List S) → AreChosen e.coding.atoms.keys (made_true (history e.coding.search)) members → AreAmongEncoded e members → e.recorded.softs.items ≡ []
       → IsRuleKeeping same p root members × ((s : S) → is_in same p members s ≡ true → IsReached same p root [] members s) × ((s : S) → IsReached same p root [] members s → is_in same p members s ≡ true)
   turn_keeps same_name names holds spent values score agree quiet decided members chosen among alone =
       let ended = ended_alone members alone (turn_ended holds spent values score agree quiet decided members chosen among) in
@@ -340,10 +340,10 @@ module _ {N S : Type 0} (same : S → S → Bool) (exact : IsExact same) (p : Pa
   -- Before the first soft requirement they were chosen in the order of preference.
   pub turn_preferred : (same_name : N → N → Bool) → IsExact same_name → IsEncoding same p root e → AreSpent same e → (orders : Requirement → List S → Type 0) → AreOrdered orders e → (values : ℕ → Option Bool) (score : N → ℕ) → AreValues values (made_true (history e.coding.search))
       → ((n : ℕ) → n < length e.coding.search.clauses → IsQuiet (made_true (history e.coding.search)) (clause_at (clauses_of e.coding.search) n)) → IsDecided e values score
-      → (members : List S) → AreChosen e.coding.atoms.keys (made_true (history e.coding.search)) members → AreAmongEncoded e members → e.noted.wishes.items ≡ [] → ArePreferred same p orders root members
+      → (members : List S) → AreChosen e.coding.atoms.keys (made_true (history e.coding.search)) members → AreAmongEncoded e members → e.recorded.softs.items ≡ [] → ArePreferred same p orders root members
   turn_preferred same_name names holds spent orders ordered values score agree quiet decided members chosen among alone =
-      turn_prefers same exact same_name names p root (origin e.coding.atoms.keys) (E.rules_of e) (Registered same p root e) orders (digit_told same e.coding.stated.items) (count_of e.coding.search) e.coding.search.clauses (history e.coding.search) members
-      (ended_alone members alone (turn_ended holds spent values score agree quiet decided members chosen among)) (λ x older stands is other. taken_ordered orders e same p ordered _ _ (picked_alone alone _ _ (holds.called x older stands is other))) (digits_agree same exact p root e holds)
+      turn_prefers same exact same_name names p root (origin e.coding.atoms.keys) (E.rules_of e) (Registered same p root e) orders (digit_found same e.coding.kinds.items) (count_of e.coding.search) e.coding.search.clauses (history e.coding.search) members
+      (ended_alone members alone (turn_ended holds spent values score agree quiet decided members chosen among)) (λ x older present is other. taken_ordered orders e same p ordered _ _ (picked_alone alone _ _ (holds.called x older present is other))) (digits_agree same exact p root e holds)
 
   -- A clause that denies decisions of the first level alone, by clauses that agree with the digits
   -- of places, excludes each rule-keeping set.
@@ -357,4 +357,4 @@ module _ {N S : Type 0} (same : S → S → Bool) (exact : IsExact same) (p : Pa
   pub refused : (same_name : N → N → Bool) → IsExact same_name → IsEncoding same p root e → e.coding.search.base_level ≡ 1 → (literals : List Signed) (causes : List ClauseId) → IsRefusal e.coding.search literals causes
       → (chosen : List S) → IsRuleKeeping same p root chosen → ⊥
   refused same_name names holds first literals causes refusal chosen keeping =
-      refused_by same_name names holds first literals causes refusal (digit_told same e.coding.stated.items) (digits_agree same exact p root e holds) chosen keeping
+      refused_by same_name names holds first literals causes refusal (digit_found same e.coding.kinds.items) (digits_agree same exact p root e holds) chosen keeping

@@ -13,9 +13,9 @@ use Rattle.resolvo_sat.specs.Entries.{made_true, top_level, EndsWith}
 use Rattle.resolvo_sat.specs.State.{history, clauses_of, IsDerived}
 use Rattle.resolvo_sat.specs.Steps.{choice_entry}
 use Rattle.resolvo_state.specs.declared.atom.ProofAtom.TheVariants.{Solvable}
-use Rattle.resolvo_state.specs.Atoms.{StandsFor}
+use Rattle.resolvo_state.specs.Atoms.{Represents}
 use Rattle.resolvo_encoder.specs.declared.encoder.Encoder.{Encoder}
-use Rattle.resolvo_encoder.specs.SoftRequirement.{IsWish}
+use Rattle.resolvo_encoder.specs.SoftRequirement.{IsSoft}
 
 -- the part of a trail, newest first, that is below a level
 abbrev pub below : ℕ → List Entry → List Entry
@@ -33,7 +33,7 @@ IsFirst e v = (c : ClauseId) × EndsWith (choice_entry v c (base_of e) ∷ base_
 -- The turn is the soft requirement's, which wasn't true before. Where it is true, its decision is
 -- the turn's first entry.
 pub record IsOpen {N S : Type 0} (e : Encoder N S) (v : VariableId) : Type 0 where
-  pub wish : IsWish e v
+  pub soft : IsSoft e v
   pub later : 2 ≤ e.coding.search.base_level
   pub begun : top_level (base_of e) + 1 ≡ e.coding.search.base_level
   pub before : has (made_true (base_of e)) (yes v) ≡ false
@@ -51,7 +51,7 @@ KeepsTurn (Some v) old new = IsOpen old v → IsOpen new v × (base_of new ≡ b
 
 -- the same for any turn
 abbrev pub KeepsTurns : {N S : Type 0} → Encoder N S → Encoder N S → Type 0
-KeepsTurns old new = (wish : Option VariableId) → KeepsTurn wish old new
+KeepsTurns old new = (soft : Option VariableId) → KeepsTurn soft old new
 
 -- the trail up to the turn's first level is kept
 abbrev pub KeepsFirst : {N S : Type 0} → Encoder N S → Encoder N S → Type 0
@@ -59,11 +59,11 @@ KeepsFirst old new = KeepsUpTo old.coding.search.base_level old.coding.search ne
 
 -- the solvable was true before the turn
 abbrev pub IsTaken : {N S : Type 0} → Encoder N S → S → Type 0
-IsTaken e s = (u : VariableId) × StandsFor e.coding.atoms.keys u (Solvable s) × (has (made_true (base_of e)) (yes u) ≡ true)
+IsTaken e s = (u : VariableId) × Represents e.coding.atoms.keys u (Solvable s) × (has (made_true (base_of e)) (yes u) ≡ true)
 
 -- the literal denies such a solvable
 abbrev pub DeniesEarlier : {N S : Type 0} → Encoder N S → Signed → Type 0
-DeniesEarlier {N} {S} e l = (s : S) × (u : VariableId) × (l ≡ no u) × StandsFor e.coding.atoms.keys u (Solvable s) × (has (made_true (base_of e)) (yes u) ≡ true)
+DeniesEarlier {N} {S} e l = (s : S) × (u : VariableId) × (l ≡ no u) × Represents e.coding.atoms.keys u (Solvable s) × (has (made_true (base_of e)) (yes u) ≡ true)
 
 -- each literal denies the root, the soft requirement, or a solvable that was true before its turn
 abbrev pub IsBlame : {N S : Type 0} → Encoder N S → VariableId → List Signed → Type 0

@@ -4,14 +4,14 @@ use Rattle.resolvo_pool_core.specs.declared.id.VariableId.{VariableId}
 use Rattle.resolvo_pool_core.specs.RuleKeeping.{Packages, Rules, IsLawful}
 use Rattle.resolvo_store_core.specs.declared.conditions.DeferredConjunct.{DeferredConjunct}
 use Rattle.resolvo_store_core.specs.Deferred.{candidates_of}
-use Rattle.resolvo_store_core.specs.AtMostOne.{IsFrontOf}
+use Rattle.resolvo_store_core.specs.AtMostOne.{IsPrefixOf}
 use Rattle.resolvo_store_core.specs.Clauses.{yes}
 use Rattle.resolvo_store_core.specs.Signed.{has}
 use Rattle.resolvo_sat.specs.Entries.{made_true}
 use Rattle.resolvo_sat.specs.State.{history}
 use Rattle.resolvo_soundness.specs.Encoding.{case_holds}
 use Rattle.resolvo_state.specs.declared.atom.ProofAtom.TheVariants.{Solvable}
-use Rattle.resolvo_state.specs.Atoms.{StandsFor}
+use Rattle.resolvo_state.specs.Atoms.{Represents}
 use Rattle.resolvo_state.specs.Chosen.{AreChosen}
 pub use Rattle.resolvo_encoder.specs.Cases.{case_of, sets_case, IsDeferred, IsMatching, AreConjuncts, IsSet, AreSets, IsCaseOf}
 pub use Rattle.resolvo_encoder.specs.Encoded.{IsCaseEncoded}
@@ -23,13 +23,13 @@ use Rattle.resolvo_encoder.specs.declared.encoder.Encoder.{Encoder}
 module _ {N S : Type 0} where
   -- cases were added behind the others, or none
   pub record Defers (old new : Encoder N S) : Type 0 where
-    pub front : IsFrontOf old.deferred.items new.deferred.items
+    pub prefix : IsPrefixOf old.deferred.items new.deferred.items
     pub rest : new ≡ record old { deferred = new.deferred }
 
   -- the case at the place was encoded
   pub record Fires (index : ℕ) (old new : Encoder N S) : Type 0 where
     pub fired : Contains new.fired.keys index
-    pub front : IsFrontOf old.fired.keys new.fired.keys
+    pub prefix : IsPrefixOf old.fired.keys new.fired.keys
     pub fresh : (Contains old.fired.keys index → ⊥) → length new.fired.keys ≡ suc (length old.fired.keys)
     pub small : length new.fired.keys < 18446744073709551616
     pub rest : new ≡ record old { fired = new.fired }
@@ -48,7 +48,7 @@ module _ {N S : Type 0} where
 
   -- the trail makes the solvable's variable true
   abbrev pub IsTrueNow : Encoder N S → S → Type 0
-  IsTrueNow e s = (v : VariableId) × StandsFor e.coding.atoms.keys v (Solvable s) × (has (made_true (history e.coding.search)) (yes v) ≡ true)
+  IsTrueNow e s = (v : VariableId) × Represents e.coding.atoms.keys v (Solvable s) × (has (made_true (history e.coding.search)) (yes v) ≡ true)
 
   -- one of these solvables is chosen
   abbrev pub IsOneChosen : Encoder N S → List S → Type 0

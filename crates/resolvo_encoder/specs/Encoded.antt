@@ -20,16 +20,16 @@ use Rattle.resolvo_store_core.specs.Lists.{has_candidates, candidates_in, condit
 use Rattle.resolvo_sat.specs.State.{history}
 use Rattle.resolvo_sat.specs.Steps.{AreInRange}
 use Rattle.resolvo_pool_core.specs.OnePass.{Literal}
-use Rattle.resolvo_soundness.specs.Encoding.{Atom, Rule, case_literals, cases_for, IsRule, IsBarredIn, HasBar}
-use Rattle.resolvo_soundness.specs.SearchEnd.{IsNeedEncoded, HasClause, IsWished}
+use Rattle.resolvo_soundness.specs.Encoding.{Atom, Rule, case_literals, cases_for, IsRule, IsForbiddenIn, IsForbidden}
+use Rattle.resolvo_soundness.specs.SearchEnd.{IsNeedEncoded, HasClause, IsSoftChoice}
 use Rattle.resolvo_soundness.specs.First.{IsFirstPick}
 use Rattle.resolvo_soundness.specs.Numbered.{Spells, AreCalledFor}
 use Rattle.resolvo_state.specs.declared.atom.ProofAtom.{ProofAtom}
 use Rattle.resolvo_state.specs.declared.atom.ProofAtom.TheVariants.{Solvable, Gate}
-use Rattle.resolvo_state.specs.declared.clause_kind.Stated.{Stated}
-use Rattle.resolvo_state.specs.declared.clause_kind.Stated.TheVariants as Says
-use Rattle.resolvo_state.specs.Atoms.{origin, StandsFor}
-use Rattle.resolvo_state.specs.Statements.{stated_at, rule_at, rules_in}
+use Rattle.resolvo_state.specs.declared.clause_kind.ClauseKind.{ClauseKind}
+use Rattle.resolvo_state.specs.declared.clause_kind.ClauseKind.TheVariants as Kind
+use Rattle.resolvo_state.specs.Atoms.{origin, Represents}
+use Rattle.resolvo_state.specs.ClauseKinds.{kind_at, rule_at, rules_in}
 use Rattle.resolvo_state.specs.SolverState.{IsCoding}
 use Rattle.resolvo_state.specs.Registered.{AreTied, IsTracked, IsRegistered}
 use Rattle.resolvo_state.specs.Spelled.{Spelled, AreRegistered}
@@ -40,17 +40,17 @@ use Rattle.resolvo_encoder.specs.Cases.{case_of, IsDeferred, IsCaseOf}
 
 -- the rules that clauses encode
 abbrev pub rules_of : {N S : Type 0} → Encoder N S → Rule N S → Type 0
-rules_of e = rules_in e.coding.stated.items
+rules_of e = rules_in e.coding.kinds.items
 
 -- the parent's variable: the root's, or the solvable's
 abbrev pub IsParentVariable : {N S : Type 0} → List (ProofAtom N S) → Option S → VariableId → Type 0
 IsParentVariable atoms None v = v ≡ root_variable
-IsParentVariable atoms (Some s) v = StandsFor atoms v (Solvable s)
+IsParentVariable atoms (Some s) v = Represents atoms v (Solvable s)
 
 -- the candidate's literal is the positive one of the registered solvable's variable
 pub record IsCandidate {N S : Type 0} (e : Encoder N S) (name : N) (s : S) (c : Candidate N) : Type 0 where
   pub positive : c.literal.positive ≡ true
-  pub stands : StandsFor e.coding.atoms.keys c.literal.variable (Solvable s)
+  pub present : Represents e.coding.atoms.keys c.literal.variable (Solvable s)
   pub tracked : IsTracked e.registry name c.literal.variable
 
 -- the candidates are these solvables, in their order
@@ -58,7 +58,7 @@ abbrev pub AreCandidates : {N S : Type 0} → List (ProofAtom N S) → List (Can
 AreCandidates atoms [] [] = Unit {0}
 AreCandidates atoms [] (s ∷ ss) = ⊥
 AreCandidates atoms (c ∷ cs) [] = ⊥
-AreCandidates atoms (c ∷ cs) (s ∷ ss) = (c.literal.positive ≡ true) × StandsFor atoms c.literal.variable (Solvable s) × AreCandidates atoms cs ss
+AreCandidates atoms (c ∷ cs) (s ∷ ss) = (c.literal.positive ≡ true) × Represents atoms c.literal.variable (Solvable s) × AreCandidates atoms cs ss
 
 -- the requirement has these candidates, in this order
 abbrev pub HasOrder : {N S : Type 0} → Encoder N S → Requirement → List S → Type 0
@@ -71,7 +71,7 @@ AreOrdered {N} {S} orders e = (r : Requirement) → has_candidates e.lists r ≡
 -- A decision is for a soft requirement, or for a requirement of a chosen parent. Then it is the
 -- first candidate that wasn't false.
 abbrev pub IsChosenFor : {N S : Type 0} → (S → S → Bool) → Packages N S → Encoder N S → List (Literal (Atom N S)) → Literal (Atom N S) → Type 0
-IsChosenFor same p e known l = IsWished same p (rules_of e) e.noted.wishes.items l ⊎ IsFirstPick same p (HasOrder e) (rules_of e) known l
+IsChosenFor same p e known l = IsSoftChoice same p (rules_of e) e.recorded.softs.items l ⊎ IsFirstPick same p (HasOrder e) (rules_of e) known l
 
 module _ {N S : Type 0} (same : S → S → Bool) (p : Packages N S) (lists : FixedLists N) where
   -- the literals of the condition are those of the case, over existing variables
@@ -81,20 +81,20 @@ module _ {N S : Type 0} (same : S → S → Bool) (p : Packages N S) (lists : Fi
     pub spells : Spells (origin atoms) (condition_in lists condition) (case_literals same p case)
 
   -- the clause of this kind is in the decision queue: that of a requirement, or of a gate
-  abbrev pub IsQueuedFor : List (ProofAtom N S) → Option (Stated N S) → NeedClause → Type 0
+  abbrev pub IsQueuedFor : List (ProofAtom N S) → Option (ClauseKind N S) → NeedClause → Type 0
   IsQueuedFor atoms None q = ⊥
-  IsQueuedFor atoms (Some Says.Root) q = ⊥
-  IsQueuedFor atoms (Some (Says.Needs parent need case)) q = (q.requirement ≡ need.requirement) × IsCondition atoms q.condition case.items × IsParentVariable atoms parent q.parent
-  IsQueuedFor atoms (Some (Says.Gated s r)) q = ⊥
-  IsQueuedFor atoms (Some (Says.Shared r)) q = (q.requirement ≡ r) × (q.condition ≡ None) × StandsFor atoms q.parent (Gate r)
-  IsQueuedFor atoms (Some (Says.Limits parent v s)) q = ⊥
-  IsQueuedFor atoms (Some (Says.LimitsOutside parent v)) q = ⊥
-  IsQueuedFor atoms (Some (Says.IsOut v s)) q = ⊥
-  IsQueuedFor atoms (Some (Says.Locked locked s)) q = ⊥
-  IsQueuedFor atoms (Some (Says.Excluded s why)) q = ⊥
-  IsQueuedFor atoms (Some (Says.Digit n s place bit)) q = ⊥
-  IsQueuedFor atoms (Some (Says.IsThere n s)) q = ⊥
-  IsQueuedFor atoms (Some Says.Learnt) q = ⊥
+  IsQueuedFor atoms (Some Kind.Root) q = ⊥
+  IsQueuedFor atoms (Some (Kind.Needs parent need case)) q = (q.requirement ≡ need.requirement) × IsCondition atoms q.condition case.items × IsParentVariable atoms parent q.parent
+  IsQueuedFor atoms (Some (Kind.Gated s r)) q = ⊥
+  IsQueuedFor atoms (Some (Kind.Shared r)) q = (q.requirement ≡ r) × (q.condition ≡ None) × Represents atoms q.parent (Gate r)
+  IsQueuedFor atoms (Some (Kind.Limits parent v s)) q = ⊥
+  IsQueuedFor atoms (Some (Kind.LimitsOutside parent v)) q = ⊥
+  IsQueuedFor atoms (Some (Kind.IsOut v s)) q = ⊥
+  IsQueuedFor atoms (Some (Kind.Locked locked s)) q = ⊥
+  IsQueuedFor atoms (Some (Kind.Excluded s why)) q = ⊥
+  IsQueuedFor atoms (Some (Kind.Digit n s place bit)) q = ⊥
+  IsQueuedFor atoms (Some (Kind.IsThere n s)) q = ⊥
+  IsQueuedFor atoms (Some Kind.Learnt) q = ⊥
 
 -- the rule's clause is a requires clause
 abbrev pub Asks : {N S : Type 0} → Rule N S → Type 0
@@ -104,14 +104,14 @@ Asks (Rule.shared r) = Unit {0}
 Asks (Rule.limits parent v s) = ⊥
 Asks (Rule.limits_outside parent v) = ⊥
 Asks (Rule.is_out v s) = ⊥
-Asks (Rule.bars w s) = ⊥
+Asks (Rule.forbids w s) = ⊥
 Asks (Rule.has_digit s bit b) = ⊥
 Asks (Rule.is_there n s) = ⊥
 
 module _ {N S : Type 0} (same : S → S → Bool) (p : Packages N S) (rules : Rule N S → Type 0) where
   -- clauses encode the locks and exclusions of the requirement's packages
   abbrev pub IsGuarded : Requirement → Type 0
-  IsGuarded r = (v : VersionSetId) (s : S) → Contains (alternatives_of p.members_of r) v → IsBarredIn same p (p.set_package v) s → HasBar rules s
+  IsGuarded r = (v : VersionSetId) (s : S) → Contains (alternatives_of p.members_of r) v → IsForbiddenIn same p (p.set_package v) s → IsForbidden rules s
 
   -- one clause, or two, forbid each candidate outside the parent's version set
   abbrev pub IsLimitEncoded : Option S → VersionSetId → Type 0
@@ -119,9 +119,9 @@ module _ {N S : Type 0} (same : S → S → Bool) (p : Packages N S) (rules : Ru
 
   -- Clauses encode the locks and exclusions of the recorded packages, and the candidates outside
   -- the recorded version sets.
-  pub record IsNoted (noted : EncodedOnce N S) : Type 0 where
-    pub packages : (n : N) (s : S) → Contains noted.packages.keys n → IsBarredIn same p n s → HasBar rules s
-    pub version_sets : (v : VersionSetId) (s : S) → Contains noted.version_sets.keys v → is_outside same p v s ≡ true → rules (Rule.is_out v s)
+  pub record IsRecorded (recorded : EncodedOnce N S) : Type 0 where
+    pub packages : (n : N) (s : S) → Contains recorded.packages.keys n → IsForbiddenIn same p n s → IsForbidden rules s
+    pub version_sets : (v : VersionSetId) (s : S) → Contains recorded.version_sets.keys v → is_outside same p v s ≡ true → rules (Rule.is_out v s)
 
 module _ {N S : Type 0} (same : S → S → Bool) (p : Packages N S) where
   -- the case of the parent's requirement is encoded, or deferred
@@ -134,7 +134,7 @@ module _ {N S : Type 0} (same : S → S → Bool) (p : Packages N S) where
     pub needs : (need : ConditionalRequirement) (case : List VersionSetId) → Contains (rules_for same p root parent).requirements need → Contains (cases_for same p need) case → IsCaseEncoded e parent need case
     pub limits : (v : VersionSetId) → Contains (rules_for same p root parent).constraints v → IsLimitEncoded same p (rules_of e) parent v
     pub guarded : (v : VersionSetId) → Contains (rules_for same p root parent).constraints v → IsGuarded same p (rules_of e) (Single v)
-    pub unknown : (s : S) → parent ≡ Some s → is_unknown (p.dependencies_of s) ≡ true → HasBar (rules_of e) s
+    pub unknown : (s : S) → parent ≡ Some s → is_unknown (p.dependencies_of s) ≡ true → IsForbidden (rules_of e) s
 
 module _ {N S : Type 0} (same : S → S → Bool) (p : Packages N S) (root : Rules) where
   -- the solvable is registered with its package
@@ -150,10 +150,10 @@ module _ {N S : Type 0} (same : S → S → Bool) (p : Packages N S) (root : Rul
     -- the packages of an encoded case are recorded, and the candidates outside its version sets are
     -- registered
     pub cased : (parent : Option S) (need : ConditionalRequirement) (case : List VersionSetId) (v : VersionSetId) → rules_of e (Rule.needs parent need case) → Contains case v
-        → Contains e.noted.helped.keys (p.set_package v) × ((s : S) → is_outside same p v s ≡ true → Registered e s)
+        → Contains e.recorded.at_least_one.keys (p.set_package v) × ((s : S) → is_outside same p v s ≡ true → Registered e s)
     -- each registered solvable of a recorded package has its at-least-one clause
-    pub helped : (n : N) (s : S) → Contains e.noted.helped.keys n → IsRegistered e.registry e.coding n s → rules_of e (Rule.is_there n s)
-    pub there : (s : S) → Contains e.noted.there.keys s → rules_of e (Rule.is_there (p.package_of s) s)
+    pub at_least_one : (n : N) (s : S) → Contains e.recorded.at_least_one.keys n → IsRegistered e.registry e.coding n s → rules_of e (Rule.is_there n s)
+    pub there : (s : S) → Contains e.recorded.there.keys s → rules_of e (Rule.is_there (p.package_of s) s)
 
   -- The invariant of the encoding between its steps.
   pub record IsEncoding (e : Encoder N S) : Type 0 where
@@ -173,21 +173,21 @@ module _ {N S : Type 0} (same : S → S → Bool) (p : Packages N S) (root : Rul
     -- the requirement of each requires clause has its candidates, and the clause is in the decision
     -- queue
     pub fixed : (r : Requirement) → HasClause same p (rules_of e) r → has_candidates e.lists r ≡ true
-    pub queued : (q : NeedClause) → Contains e.queue q → IsQueuedFor same p e.lists e.coding.atoms.keys (stated_at e.coding.stated.items q.clause.0) q
-    pub asked : (n : ℕ) (r : Rule N S) → rule_at e.coding.stated.items n ≡ Some r → Asks r → (q : NeedClause) × Contains e.queue q × (q.clause.0 ≡ n)
+    pub queued : (q : NeedClause) → Contains e.queue q → IsQueuedFor same p e.lists e.coding.atoms.keys (kind_at e.coding.kinds.items q.clause.0) q
+    pub asked : (n : ℕ) (r : Rule N S) → rule_at e.coding.kinds.items n ≡ Some r → Asks r → (q : NeedClause) × Contains e.queue q × (q.clause.0 ≡ n)
     -- each gate has its clause
-    pub gates : (r : Requirement) (v : VariableId) → slot_of e.gates r ≡ Some v → StandsFor e.coding.atoms.keys v (Gate r) × rules_of e (Rule.shared r)
+    pub gates : (r : Requirement) (v : VariableId) → slot_of e.gates r ≡ Some v → Represents e.coding.atoms.keys v (Gate r) × rules_of e (Rule.shared r)
     -- the locks and exclusions of candidates of requires clauses are encoded, and so is all that is
     -- recorded
-    pub bar : (r : Requirement) → HasClause same p (rules_of e) r → IsGuarded same p (rules_of e) r
-    pub noted : IsNoted same p (rules_of e) e.noted
+    pub forbid : (r : Requirement) → HasClause same p (rules_of e) r → IsGuarded same p (rules_of e) r
+    pub recorded : IsRecorded same p (rules_of e) e.recorded
     pub cases : AreCased e
     -- the requirements and constraints of the first parents are encoded, except deferred cases
     pub within : e.encoded ≤ length e.parents.keys
     pub encoded : (i : ℕ) (parent : SolvableIdOrRoot S) → i < e.encoded → slice_get e.parents.keys i ≡ Some parent → IsParentEncoded same p e root (solvable_of parent)
     -- Each soft requirement is registered. Each decision is for one, or is the first candidate of a
     -- requirement that wasn't false.
-    pub wished : (s : S) → Contains e.noted.wishes.items s → Registered e s
+    pub wished : (s : S) → Contains e.recorded.softs.items s → Registered e s
     pub called : AreCalledFor (origin e.coding.atoms.keys) (IsChosenFor same p e) (history e.coding.search)
 
 -- it stays an encoding of whatever packages and root it is one of

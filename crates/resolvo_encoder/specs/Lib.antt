@@ -2,7 +2,7 @@ pub mod Cases
 pub mod Encoded
 pub mod Steps
 pub mod ClauseRules
-pub mod Helped
+pub mod AtLeastOneClauses
 pub mod Conditions
 pub mod TurnLevels
 pub mod Progress

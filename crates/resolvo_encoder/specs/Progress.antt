@@ -10,9 +10,9 @@ use Rattle.resolvo_sat.specs.Entries.{made_true}
 use Rattle.resolvo_sat.specs.Known.{clause_at}
 use Rattle.resolvo_sat.specs.Propagation.{IsQuiet}
 use Rattle.resolvo_sat.specs.State.{history, clauses_of}
-use Rattle.resolvo_state.specs.declared.clause_kind.Stated.TheVariants.{Learnt}
+use Rattle.resolvo_state.specs.declared.clause_kind.ClauseKind.TheVariants.{Learnt}
 use Rattle.resolvo_state.specs.SolverState.{IsCoding, Grows}
-use Rattle.resolvo_state.specs.Statements.{stated_at}
+use Rattle.resolvo_state.specs.ClauseKinds.{kind_at}
 use Rattle.resolvo_encoder.specs.Steps.{SameButCoding}
 use Rattle.resolvo_encoder.specs.TurnLevels.{AreValues, IsDecided}
 use Rattle.resolvo_encoder.specs.declared.decide.Step.{Step}
@@ -33,14 +33,14 @@ pub record GoesOn {N S : Type 0} (old new : Encoder N S) : Type 0 where
   pub variables : new.coding.search.variables ≡ old.coding.search.variables
   pub grows : Grows old.coding new.coding
   pub earlier : KeepsUpTo (old.coding.search.base_level - 1) old.coding.search new.coding.search
-  pub learnt : (n : ℕ) → length old.coding.search.clauses ≤ n → n < length new.coding.search.clauses → stated_at new.coding.stated.items n ≡ Some Learnt
+  pub learnt : (n : ℕ) → length old.coding.search.clauses ≤ n → n < length new.coding.search.clauses → kind_at new.coding.kinds.items n ≡ Some Learnt
 
 -- each clause has a true literal, or two that are not false
 abbrev pub AreQuiet : {N S : Type 0} → Encoder N S → Type 0
 AreQuiet e = (n : ℕ) → n < length e.coding.search.clauses → IsQuiet (made_true (history e.coding.search)) (clause_at (clauses_of e.coding.search) n)
 
 -- nothing is left to propagate or decide
-pub record IsSettled {N S : Type 0} (e : Encoder N S) : Type 0 where
+pub record IsDone {N S : Type 0} (e : Encoder N S) : Type 0 where
   pub quiet : AreQuiet e
   pub values : ℕ → Option Bool
   pub score : N → ℕ
@@ -53,7 +53,7 @@ IsHeavier old new = weight_left new.coding.search < weight_left old.coding.searc
 
 -- the result of one step
 abbrev pub IsStep : {N S : Type 0} → Encoder N S → Encoder N S → Step → Type 0
-IsStep old new Step.Settled = IsSettled new
+IsStep old new Step.Done = IsDone new
 IsStep old new Step.Chosen = IsHeavier old new
 IsStep old new (Step.Learnt clause) = IsHeavier old new × (clause.0 < length new.coding.search.clauses)
 IsStep old new (Step.Refused r) = IsRefusal new.coding.search r.literals.items r.causes.items
@@ -61,9 +61,9 @@ IsStep old new (Step.Refused r) = IsRefusal new.coding.search r.literals.items r
 -- whether a decision was made, or nothing is left to decide
 abbrev pub IsChoice : {N S : Type 0} → Encoder N S → Encoder N S → Bool → Type 0
 IsChoice old new true = IsHeavier old new
-IsChoice old new false = AreQuiet old → IsSettled new
+IsChoice old new false = AreQuiet old → IsDone new
 
 -- the result of the search: nothing is left to propagate or decide, or a final conflict
 abbrev pub IsDecision : {N S : Type 0} → Encoder N S → Option FinalConflict → Type 0
-IsDecision e None = IsSettled e
+IsDecision e None = IsDone e
 IsDecision e (Some r) = IsRefusal e.coding.search r.literals.items r.causes.items

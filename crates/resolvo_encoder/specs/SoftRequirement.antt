@@ -9,7 +9,7 @@ use Rattle.resolvo_sat.specs.Entries.{made_true, top_level}
 use Rattle.resolvo_sat.specs.State.{history}
 use Rattle.resolvo_packages.specs.declared.package_source.Offered.{Offered}
 use Rattle.resolvo_state.specs.declared.atom.ProofAtom.TheVariants.{Solvable}
-use Rattle.resolvo_state.specs.Atoms.{StandsFor}
+use Rattle.resolvo_state.specs.Atoms.{Represents}
 use Rattle.resolvo_state.specs.SolverState.{Grows, SameTrail}
 use Rattle.resolvo_state.specs.Registered.{IsTracked}
 use Rattle.resolvo_encoder.specs.declared.encoder.Encoder.{Encoder}
@@ -21,24 +21,24 @@ abbrev pub turn_of : {N S : Type 0} → Encoder N S → Encoder N S
 turn_of e = record e { coding = record e.coding { search = record e.coding.search { base_level = top_level (history e.coding.search) + 1 } } }
 
 -- the variable is a soft requirement's
-pub record IsWish {N S : Type 0} (e : Encoder N S) (v : VariableId) : Type 0 where
+pub record IsSoft {N S : Type 0} (e : Encoder N S) (v : VariableId) : Type 0 where
   pub solvable : S
-  pub stands : StandsFor e.coding.atoms.keys v (Solvable solvable)
-  pub wished : Contains e.noted.wishes.items solvable
+  pub present : Represents e.coding.atoms.keys v (Solvable solvable)
+  pub wished : Contains e.recorded.softs.items solvable
 
 -- The soft requirement is registered, with this variable, and no other solvable. It has an
 -- at-least-one clause if its package is recorded.
-pub record RegistersWish {N S : Type 0} (same : S → S → Bool) (one : Offered N S) (v : VariableId) (old new : Encoder N S) : Type 0 where
+pub record RegistersSoft {N S : Type 0} (same : S → S → Bool) (one : Offered N S) (v : VariableId) (old new : Encoder N S) : Type 0 where
   pub candidate : Candidate N
   pub enrols : Enrols same (one ∷ []) (candidate ∷ []) old new
-  pub stands : StandsFor new.coding.atoms.keys v (Solvable one.solvable)
+  pub present : Represents new.coding.atoms.keys v (Solvable one.solvable)
   pub tracked : IsTracked new.registry one.name v
 
 -- The soft requirement is registered, with this variable, and recorded behind the others.
-pub record Notes {N S : Type 0} (same : S → S → Bool) (one : Offered N S) (v : VariableId) (old new : Encoder N S) : Type 0 where
+pub record RecordsSoft {N S : Type 0} (same : S → S → Bool) (one : Offered N S) (v : VariableId) (old new : Encoder N S) : Type 0 where
   pub built : IsBuilt new
-  pub stands : StandsFor new.coding.atoms.keys v (Solvable one.solvable)
-  pub wishes : new.noted.wishes.items ≡ old.noted.wishes.items ++ one.solvable ∷ []
+  pub present : Represents new.coding.atoms.keys v (Solvable one.solvable)
+  pub softs : new.recorded.softs.items ≡ old.recorded.softs.items ++ one.solvable ∷ []
   pub grows : Grows old.coding new.coding
   pub trail : SameTrail old.coding new.coding
   pub lists : new.lists ≡ old.lists
@@ -50,11 +50,11 @@ pub record Notes {N S : Type 0} (same : S → S → Bool) (one : Offered N S) (v
 
 -- there is a last soft requirement, and it isn't chosen
 abbrev pub IsUntaken : {N S : Type 0} → Encoder N S → Type 0
-IsUntaken {N} {S} e = (front : List S) × (s : S) × (e.noted.wishes.items ≡ front ++ s ∷ []) × ((v : VariableId) → StandsFor e.coding.atoms.keys v (Solvable s) → has (made_true (history e.coding.search)) (yes v) ≡ false)
+IsUntaken {N} {S} e = (prefix : List S) × (s : S) × (e.recorded.softs.items ≡ prefix ++ s ∷ []) × ((v : VariableId) → Represents e.coding.atoms.keys v (Solvable s) → has (made_true (history e.coding.search)) (yes v) ≡ false)
 
 -- The last soft requirement was removed, and nothing else changed.
 pub record TakesBack {N S : Type 0} (same : S → S → Bool) (old new : Encoder N S) : Type 0 where
   pub built : IsBuilt new
-  pub wishes : (front : List S) (s : S) → old.noted.wishes.items ≡ front ++ s ∷ [] → new.noted.wishes.items ≡ front
-  pub rest : new ≡ record old { noted = record old.noted { wishes = new.noted.wishes } }
+  pub softs : (prefix : List S) (s : S) → old.recorded.softs.items ≡ prefix ++ s ∷ [] → new.recorded.softs.items ≡ prefix
+  pub rest : new ≡ record old { recorded = record old.recorded { softs = new.recorded.softs } }
   pub encoding : (p : Packages N S) (root : Rules) → IsLawful p → IsEncoding same p root old → IsEncoding same p root new

@@ -23,16 +23,16 @@ use Rattle.resolvo_decide.specs.Needs.{literals_in, Fits, AddsNeed}
 use Rattle.resolvo_soundness.specs.Encoding.{Rule, cases_for, IsRule}
 use Rattle.resolvo_state.specs.declared.atom.ProofAtom.{ProofAtom}
 use Rattle.resolvo_state.specs.declared.atom.ProofAtom.TheVariants.{Solvable, Gate}
-use Rattle.resolvo_state.specs.declared.clause_kind.Stated.TheVariants as Says
+use Rattle.resolvo_state.specs.declared.clause_kind.ClauseKind.TheVariants as Kind
 use Rattle.resolvo_pool_core.specs.Text.{solvable_of}
 use Rattle.resolvo_pool_core.specs.declared.solver_id.SolvableIdOrRoot.{SolvableIdOrRoot}
-use Rattle.resolvo_store_core.specs.AtMostOne.{IsFrontOf}
+use Rattle.resolvo_store_core.specs.AtMostOne.{IsPrefixOf}
 use Rattle.resolvo_encoder.specs.Encoded.{IsParentVariable, IsCondition, IsParentEncoded, IsEncoding, AreCandidates}
-use Rattle.resolvo_state.specs.declared.clause_kind.Stated.{Stated}
+use Rattle.resolvo_state.specs.declared.clause_kind.ClauseKind.{ClauseKind}
 use Rattle.resolvo_state.specs.declared.solver_state.SolverState.{SolverState}
 use Rattle.resolvo_state.specs.declared.registry.Registry.{Registry}
-use Rattle.resolvo_state.specs.Atoms.{StandsFor}
-use Rattle.resolvo_state.specs.SolverState.{IsCoding, IsBegun, Grows, LacksNumber, SameTrail, States}
+use Rattle.resolvo_state.specs.Atoms.{Represents}
+use Rattle.resolvo_state.specs.SolverState.{IsCoding, IsBegun, Grows, LacksNumber, SameTrail, AddsRule}
 use Rattle.resolvo_state.specs.Registered.{AreTied, IsTracked, IsDigitClause, IsNothing, Registers}
 use Rattle.resolvo_encoder.specs.declared.encoder.Encoder.{Encoder}
 
@@ -42,11 +42,11 @@ use Rattle.resolvo_encoder.specs.declared.encoder.Encoder.{Encoder}
 pub record IsBuilt {N S : Type 0} (e : Encoder N S) : Type 0 where
   pub coding : IsCoding e.coding
   pub tied : AreTied e.registry e.coding
-  pub candidates : (r : Requirement) (c : Candidate N) → Contains (candidates_in e.lists r) c → (c.literal.positive ≡ true) × ((s : S) × StandsFor e.coding.atoms.keys c.literal.variable (Solvable s))
-  pub gates : (r : Requirement) (v : VariableId) → slot_of e.gates r ≡ Some v → StandsFor e.coding.atoms.keys v (Gate r)
+  pub candidates : (r : Requirement) (c : Candidate N) → Contains (candidates_in e.lists r) c → (c.literal.positive ≡ true) × ((s : S) × Represents e.coding.atoms.keys c.literal.variable (Solvable s))
+  pub gates : (r : Requirement) (v : VariableId) → slot_of e.gates r ≡ Some v → Represents e.coding.atoms.keys v (Gate r)
   pub within : e.encoded ≤ length e.parents.keys
   pub needs : Fits (literals_in e.lists) e.needs e.queue
-  pub seen : IsFrontOf e.needs.seen.items e.coding.search.tracker.trail
+  pub seen : IsPrefixOf e.needs.seen.items e.coding.search.tracker.trail
 
 -- No number is left for a variable, clause or disjunction that a call adds for a requirement. Or
 -- the requirement's own index exceeds those that can have candidates.
@@ -60,7 +60,7 @@ pub data LacksNumberFor {N S : Type 0} (r : Requirement) (e : Encoder N S) : Typ
 pub record Extends {N S : Type 0} (old new : Encoder N S) : Type 0 where
   pub grows : Grows old.coding new.coding
   pub trail : SameTrail old.coding new.coding
-  pub wishes : new.noted.wishes.items ≡ old.noted.wishes.items
+  pub softs : new.recorded.softs.items ≡ old.recorded.softs.items
   pub parents : new.parents ≡ old.parents
   pub encoded : new.encoded ≡ old.encoded
   pub deferred : new.deferred ≡ old.deferred
@@ -69,7 +69,7 @@ pub record Extends {N S : Type 0} (old new : Encoder N S) : Type 0 where
 -- the candidate is the positive literal of the offered, registered solvable
 pub record IsOfferedAs {N S : Type 0} (r : Registry N) (c : SolverState N S) (o : Offered N S) (candidate : Candidate N) : Type 0 where
   pub positive : candidate.literal.positive ≡ true
-  pub stands : StandsFor c.atoms.keys candidate.literal.variable (Solvable o.solvable)
+  pub present : Represents c.atoms.keys candidate.literal.variable (Solvable o.solvable)
   pub tracked : IsTracked r o.name candidate.literal.variable
 
 -- The offered solvable is registered, and returned as a candidate.
@@ -85,7 +85,7 @@ pub record RegistersAll {N S : Type 0} (offered : List (Offered N S)) (given : L
   pub trail : SameTrail old new
   pub tied : AreTied t new
   pub keeps : (m : N) (u : VariableId) → IsTracked r m u → IsTracked t m u
-  pub only : (m : N) (u : VariableId) → IsTracked t m u → IsTracked r m u ⊎ ((o : Offered N S) × Contains offered o × (m ≡ o.name) × StandsFor new.atoms.keys u (Solvable o.solvable))
+  pub only : (m : N) (u : VariableId) → IsTracked t m u → IsTracked r m u ⊎ ((o : Offered N S) × Contains offered o × (m ≡ o.name) × Represents new.atoms.keys u (Solvable o.solvable))
   pub digits : (n : ℕ) → length old.search.clauses ≤ n → n < length new.search.clauses → (name : N) × IsDigitClause t new name n
   pub each : (o : Offered N S) → Contains offered o → (c : Candidate N) × Contains given c × IsOfferedAs t new o c
   pub all : (c : Candidate N) → Contains given c → (o : Offered N S) × Contains offered o × IsOfferedAs t new o c
@@ -111,7 +111,7 @@ pub record Enrols {N S : Type 0} (same : S → S → Bool) (offered : List (Offe
   pub built : IsBuilt new
   pub extends : Extends old new
   pub lists : new.lists ≡ old.lists
-  pub helped : new.noted.helped ≡ old.noted.helped
+  pub at_least_one : new.recorded.at_least_one ≡ old.recorded.at_least_one
   pub keeps : (m : N) (u : VariableId) → IsTracked old.registry m u → IsTracked new.registry m u
   pub each : (o : Offered N S) → Contains offered o → (c : Candidate N) × Contains given c × IsOfferedAs new.registry new.coding o c
   pub all : (c : Candidate N) → Contains given c → (o : Offered N S) × Contains offered o × IsOfferedAs new.registry new.coding o c
@@ -125,15 +125,15 @@ pub record Fixes {N S : Type 0} (same : S → S → Bool) (r : Requirement) (off
 
 -- A requires clause of this kind was added: the variable is false, a literal of the condition is
 -- true, or a candidate is chosen. It is in the decision queue.
-pub record StatesNeed {N S : Type 0} (stated : Stated N S) (v : VariableId) (condition : Option (DenseId DisjunctionTag ℕ)) (r : Requirement) (old new : Encoder N S) : Type 0 where
+pub record EncodesNeed {N S : Type 0} (kinds : ClauseKind N S) (v : VariableId) (condition : Option (DenseId DisjunctionTag ℕ)) (r : Requirement) (old new : Encoder N S) : Type 0 where
   pub number : ClauseId
-  pub states : States stated (no v ∷ (condition_in old.lists condition ++ candidate_literals (candidates_in old.lists r))) number old.coding new.coding
+  pub states : AddsRule kinds (no v ∷ (condition_in old.lists condition ++ candidate_literals (candidates_in old.lists r))) number old.coding new.coding
   pub queue : new.queue ≡ old.queue ++ (let q : NeedClause = record { parent = v; requirement = r; condition = condition; clause = number } in q) ∷ []
   pub needs : AddsNeed v old.needs new.needs
   pub registry : new.registry ≡ old.registry
   pub lists : new.lists ≡ old.lists
   pub gates : new.gates ≡ old.gates
-  pub noted : new.noted ≡ old.noted
+  pub recorded : new.recorded ≡ old.recorded
   pub parents : new.parents ≡ old.parents
   pub encoded : new.encoded ≡ old.encoded
   pub deferred : new.deferred ≡ old.deferred
@@ -141,19 +141,19 @@ pub record StatesNeed {N S : Type 0} (stated : Stated N S) (v : VariableId) (con
 
 -- The kind is a case of a parent's requirement, or the gate of a requirement that some solvable
 -- has. The variable is the parent's or the gate's, the condition's literals are the case's.
-abbrev pub IsNeed : {N S : Type 0} → (S → S → Bool) → Packages N S → Rules → FixedLists N → List (ProofAtom N S) → Stated N S → VariableId → Option (DenseId DisjunctionTag ℕ) → Requirement → Type 0
-IsNeed same p root lists atoms Says.Root v condition r = ⊥
-IsNeed same p root lists atoms (Says.Needs parent need case) v condition r = (need.requirement ≡ r) × IsParentVariable atoms parent v × IsCondition same p lists atoms condition case.items × Contains (rules_for same p root parent).requirements need × Contains (cases_for same p need) case.items
-IsNeed same p root lists atoms (Says.Gated s w) v condition r = ⊥
-IsNeed same p root lists atoms (Says.Shared w) v condition r = (w ≡ r) × (condition ≡ None) × StandsFor atoms v (Gate w) × IsRule same p root (Rule.shared w)
-IsNeed same p root lists atoms (Says.Limits parent w s) v condition r = ⊥
-IsNeed same p root lists atoms (Says.LimitsOutside parent w) v condition r = ⊥
-IsNeed same p root lists atoms (Says.IsOut w s) v condition r = ⊥
-IsNeed same p root lists atoms (Says.Locked locked s) v condition r = ⊥
-IsNeed same p root lists atoms (Says.Excluded s why) v condition r = ⊥
-IsNeed same p root lists atoms (Says.Digit n s place bit) v condition r = ⊥
-IsNeed same p root lists atoms (Says.IsThere n s) v condition r = ⊥
-IsNeed same p root lists atoms Says.Learnt v condition r = ⊥
+abbrev pub IsNeed : {N S : Type 0} → (S → S → Bool) → Packages N S → Rules → FixedLists N → List (ProofAtom N S) → ClauseKind N S → VariableId → Option (DenseId DisjunctionTag ℕ) → Requirement → Type 0
+IsNeed same p root lists atoms Kind.Root v condition r = ⊥
+IsNeed same p root lists atoms (Kind.Needs parent need case) v condition r = (need.requirement ≡ r) × IsParentVariable atoms parent v × IsCondition same p lists atoms condition case.items × Contains (rules_for same p root parent).requirements need × Contains (cases_for same p need) case.items
+IsNeed same p root lists atoms (Kind.Gated s w) v condition r = ⊥
+IsNeed same p root lists atoms (Kind.Shared w) v condition r = (w ≡ r) × (condition ≡ None) × Represents atoms v (Gate w) × IsRule same p root (Rule.shared w)
+IsNeed same p root lists atoms (Kind.Limits parent w s) v condition r = ⊥
+IsNeed same p root lists atoms (Kind.LimitsOutside parent w) v condition r = ⊥
+IsNeed same p root lists atoms (Kind.IsOut w s) v condition r = ⊥
+IsNeed same p root lists atoms (Kind.Locked locked s) v condition r = ⊥
+IsNeed same p root lists atoms (Kind.Excluded s why) v condition r = ⊥
+IsNeed same p root lists atoms (Kind.Digit n s place bit) v condition r = ⊥
+IsNeed same p root lists atoms (Kind.IsThere n s) v condition r = ⊥
+IsNeed same p root lists atoms Kind.Learnt v condition r = ⊥
 
 -- only the clauses, the variables, their origins, and the states of requires clauses changed
 pub record SameButCoding {N S : Type 0} (old new : Encoder N S) : Type 0 where
@@ -161,7 +161,7 @@ pub record SameButCoding {N S : Type 0} (old new : Encoder N S) : Type 0 where
   pub lists : new.lists ≡ old.lists
   pub queue : new.queue ≡ old.queue
   pub gates : new.gates ≡ old.gates
-  pub noted : new.noted ≡ old.noted
+  pub recorded : new.recorded ≡ old.recorded
   pub parents : new.parents ≡ old.parents
   pub encoded : new.encoded ≡ old.encoded
   pub deferred : new.deferred ≡ old.deferred
@@ -176,12 +176,12 @@ pub record Needs {N S : Type 0} (same : S → S → Bool) (p : Packages N S) (ro
 pub record NeedsDirectly {N S : Type 0} (parent : Option S) (need : ConditionalRequirement) (v : VariableId) (old new : Encoder N S) : Type 0 where
   pub case : Vec VersionSetId Global
   pub none : case.items ≡ []
-  pub states : StatesNeed (Says.Needs parent need case) v None need.requirement old new
+  pub states : EncodesNeed (Kind.Needs parent need case) v None need.requirement old new
 
 -- the clause from the solvable to the gate was added
 pub record Opens {N S : Type 0} (s : S) (v gate : VariableId) (r : Requirement) (old new : Encoder N S) : Type 0 where
   pub number : ClauseId
-  pub states : States (Says.Gated s r) (no v ∷ yes gate ∷ []) number old.coding new.coding
+  pub states : AddsRule (Kind.Gated s r) (no v ∷ yes gate ∷ []) number old.coding new.coding
   pub rest : SameButCoding old new
   pub needs : new.needs ≡ old.needs
 
@@ -194,11 +194,11 @@ pub record IsBegunEncoding {N S : Type 0} (e : Encoder N S) : Type 0 where
   pub needs : e.needs.states ≡ []
   pub seen : e.needs.seen.items ≡ []
   pub gates : (r : Requirement) → slot_of e.gates r ≡ None
-  pub packages : e.noted.packages.keys ≡ []
-  pub version_sets : e.noted.version_sets.keys ≡ []
-  pub helped : e.noted.helped.keys ≡ []
-  pub there : e.noted.there.keys ≡ []
-  pub wishes : e.noted.wishes.items ≡ []
+  pub packages : e.recorded.packages.keys ≡ []
+  pub version_sets : e.recorded.version_sets.keys ≡ []
+  pub at_least_one : e.recorded.at_least_one.keys ≡ []
+  pub there : e.recorded.there.keys ≡ []
+  pub softs : e.recorded.softs.items ≡ []
   pub parents : e.parents.keys ≡ Root ∷ []
   pub encoded : e.encoded ≡ 0
   pub deferred : e.deferred.items ≡ []
@@ -206,7 +206,7 @@ pub record IsBegunEncoding {N S : Type 0} (e : Encoder N S) : Type 0 where
 
 -- parents were added behind the others, or none
 pub record AddsParent {N S : Type 0} (old new : Encoder N S) : Type 0 where
-  pub front : IsFrontOf old.parents.keys new.parents.keys
+  pub prefix : IsPrefixOf old.parents.keys new.parents.keys
   pub rest : new ≡ record old { parents = new.parents }
 
 -- the requirements and constraints of the next parent are encoded, except deferred cases

@@ -6,8 +6,8 @@ ghost use Rattle.resolvo_store_core.specs.Clauses.{no, candidate_literals};
 ghost use Rattle.resolvo_soundness.specs.Encoding.{Rule};
 ghost use Rattle.resolvo_state.specs.SolverState.{LacksNumber};
 ghost use Rattle.resolvo_encoder.specs.Steps.{IsBuilt};
-ghost use Rattle.resolvo_encoder.specs.ClauseRules.{Tells};
-ghost use Rattle.resolvo_encoder.specs.Helped.{AreThose, SaysThere, HelpsPackage, Helps};
+ghost use Rattle.resolvo_encoder.specs.ClauseRules.{EncodesRules};
+ghost use Rattle.resolvo_encoder.specs.AtLeastOneClauses.{AreThose, AddsAtLeastOne, TracksAtLeastOne, CaseLiterals};
 
 use crate::conditions::ConditionSet;
 use crate::encoder::{Encoder, add_key, push_candidates};
@@ -15,7 +15,7 @@ use resolvo_packages::package_source::Offered;
 use resolvo_pool_core::id::{Exact, VariableId};
 use resolvo_pool_core::want::R;
 use resolvo_state::atom::ProofAtom;
-use resolvo_state::clause_kind::Stated;
+use resolvo_state::clause_kind::ClauseKind;
 use resolvo_store_core::lists::Candidate;
 use resolvo_store_core::literal::Literal;
 use std::alloc::Global;
@@ -26,37 +26,37 @@ impl<N: Copy + Exact + Hash + Debug + Drop, S: Copy + Exact + Hash + Debug> Enco
     /// Adds the at-least-one clause of a solvable, once.
     pub(crate) fn add_at_least_one(&mut self, alloc: Global, one: Offered<N, S>) -> R<()>
         requires { IsBuilt self.old }
-        ensures said { OnOk result (SaysThere S.eq (one ∷ []) self.old self.new) }
+        ensures added { OnOk result (AddsAtLeastOne S.eq (one ∷ []) self.old self.new) }
         ensures ids { IsErrOf result Ids → LacksNumber self.new.coding }
     {
-        if self.noted.there.contains(&one.solvable) {
+        if self.recorded.there.contains(&one.solvable) {
             return Ok(());
         }
-        self.state_there(alloc, one)?;
-        add_key(&mut self.noted.there, one.solvable)?;
+        self.encode_at_least_one(alloc, one)?;
+        add_key(&mut self.recorded.there, one.solvable)?;
         Ok(())
     }
 
     /// The at-least-one clause: a chosen solvable makes its package's at-least-one variable true.
-    fn state_there(&mut self, alloc: Global, one: Offered<N, S>) -> R<()>
+    fn encode_at_least_one(&mut self, alloc: Global, one: Offered<N, S>) -> R<()>
         requires { IsBuilt self.old }
-        ensures told { OnOk result (Tells S.eq (Rule.is_there one.name one.solvable ∷ []) self.old self.new) }
+        ensures encodes { OnOk result (EncodesRules S.eq (Rule.is_there one.name one.solvable ∷ []) self.old self.new) }
         ensures ids { IsErrOf result Ids → LacksNumber self.new.coding }
     {
         let first = self.give(ProofAtom::Solvable(one.solvable))?;
         let second = self.give(ProofAtom::AtLeastOne(one.name))?;
-        let stated = Stated::IsThere {
+        let kind = ClauseKind::IsThere {
             name: one.name,
             solvable: one.solvable,
         };
-        self.state_pair(alloc, stated, first, Literal::new(second, false))?;
+        self.encode_pair(alloc, kind, first, Literal::new(second, false))?;
         Ok(())
     }
 
     /// Adds the at-least-one clause of each of these.
-    fn say_each_there(&mut self, alloc: Global, list: &[Offered<N, S>]) -> R<()>
+    fn add_at_least_ones(&mut self, alloc: Global, list: &[Offered<N, S>]) -> R<()>
         requires { IsBuilt self.old }
-        ensures said { OnOk result (SaysThere S.eq list.now self.old self.new) }
+        ensures added { OnOk result (AddsAtLeastOne S.eq list.now self.old self.new) }
         ensures ids { IsErrOf result Ids → LacksNumber self.new.coding }
     {
         for one in list {
@@ -83,28 +83,28 @@ impl<N: Copy + Exact + Hash + Debug + Drop, S: Copy + Exact + Hash + Debug> Enco
 
     /// Records a condition's package, and adds the at-least-one clauses of its registered
     /// solvables.
-    fn help_package(&mut self, alloc: Global, name: N) -> R<()>
+    fn track_at_least_one(&mut self, alloc: Global, name: N) -> R<()>
         requires { IsBuilt self.old }
-        ensures helped { OnOk result (HelpsPackage S.eq name self.old self.new) }
+        ensures at_least_one { OnOk result (TracksAtLeastOne S.eq name self.old self.new) }
         ensures ids { IsErrOf result Ids → LacksNumber self.new.coding }
     {
-        if self.noted.helped.contains(&name) {
+        if self.recorded.at_least_one.contains(&name) {
             return Ok(());
         }
         let registered = self.registered(alloc, name)?;
-        self.say_each_there(alloc, registered.as_slice())?;
-        add_key(&mut self.noted.helped, name)?;
+        self.add_at_least_ones(alloc, registered.as_slice())?;
+        add_key(&mut self.recorded.at_least_one, name)?;
         Ok(())
     }
 
     /// Records the package of a version set, registers the candidates outside it, and returns the
     /// literals of "no match is chosen".
-    fn help(&mut self, alloc: Global, set: &ConditionSet<N, S>) -> R<Vec<Literal>>
+    fn conjunct_literals(&mut self, alloc: Global, set: &ConditionSet<N, S>) -> R<Vec<Literal>>
         requires { IsBuilt self.old }
-        ensures helped { IfOk result (λ v. Helps S.eq (set.now ∷ []) v.items self.old self.new) }
+        ensures at_least_one { IfOk result (λ v. CaseLiterals S.eq (set.now ∷ []) v.items self.old self.new) }
         ensures ids { IsErrOf result Ids → LacksNumber self.new.coding }
     {
-        self.help_package(alloc, set.name)?;
+        self.track_at_least_one(alloc, set.name)?;
         let any = self.give(ProofAtom::AtLeastOne(set.name))?;
         let candidates = self.register(alloc, set.outside.as_slice())?;
         let literals = none_or_outside(alloc, any, candidates.as_slice())?;
@@ -118,12 +118,12 @@ impl<N: Copy + Exact + Hash + Debug + Drop, S: Copy + Exact + Hash + Debug> Enco
         sets: &[ConditionSet<N, S>],
     ) -> R<Vec<Literal>>
         requires { IsBuilt self.old }
-        ensures helped { IfOk result (λ v. Helps S.eq sets.now v.items self.old self.new) }
+        ensures at_least_one { IfOk result (λ v. CaseLiterals S.eq sets.now v.items self.old self.new) }
         ensures ids { IsErrOf result Ids → LacksNumber self.new.coding }
     {
         let mut literals = Vec::new(alloc);
         for set in sets {
-            let mut more = self.help(alloc, set)?;
+            let mut more = self.conjunct_literals(alloc, set)?;
             literals.append(&mut more)?;
         }
         Ok(literals)

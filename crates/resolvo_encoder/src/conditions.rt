@@ -21,7 +21,7 @@ use resolvo_pool_core::id::{Exact, VersionSetId};
 use resolvo_pool_core::requirement::ConditionalRequirement;
 use resolvo_pool_core::want::R;
 use resolvo_state::atom::ProofAtom;
-use resolvo_state::clause_kind::Stated;
+use resolvo_state::clause_kind::ClauseKind;
 use resolvo_store_core::conditions::DeferredConjunct;
 use resolvo_store_core::lists::Disjunction;
 use resolvo_store_core::literal::Literal;
@@ -188,8 +188,8 @@ impl<N: Copy + Exact + Hash + Debug + Drop, S: Copy + Exact + Hash + Debug> Enco
         let literals = self.add_each_at_least_one(alloc, sets)?;
         let condition = self.lists.fix_disjunction(Disjunction { literals })?;
         let case = names_of(alloc, sets)?;
-        let stated = Stated::Needs { parent, need, case };
-        self.state_need(alloc, stated, variable, Some(condition), need.requirement)?;
+        let kind = ClauseKind::Needs { parent, need, case };
+        self.encode_need(alloc, kind, variable, Some(condition), need.requirement)?;
         Ok(())
     }
 

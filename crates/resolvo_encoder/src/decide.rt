@@ -1,7 +1,7 @@
 //! The steps of the search over the encoding: propagate, learn, decide.
 ghost use Rattle.std.specs.Prelude.{◌≡◌, ◌-◌, max, IfOk, OnOk, IsErrOf, IsOkUnless};
 ghost use Rattle.resolvo_pool_core.specs.declared.want.Want.TheVariants.{Memory, Ids};
-ghost use Rattle.resolvo_store_core.specs.AtMostOne.{IsFrontOf};
+ghost use Rattle.resolvo_store_core.specs.AtMostOne.{IsPrefixOf};
 ghost use Rattle.resolvo_decide.specs.Needs.{KeepsFitting};
 ghost use Rattle.resolvo_sat.specs.Steps.{Undoes};
 ghost use Rattle.resolvo_state.specs.SolverState.{LacksNumber};
@@ -28,7 +28,7 @@ use std::hash::Hash;
 #[derive(Debug, Drop)]
 pub enum Step {
     /// Nothing is left to propagate or decide.
-    Settled,
+    Done,
     /// A candidate was decided.
     Chosen,
     /// A clause was falsified, and this one was learnt from it.
@@ -116,7 +116,7 @@ impl<N: Copy + Exact + Hash + Debug + Drop, S: Copy + Exact + Hash + Debug> Enco
                 if has_chosen {
                     Ok(Step::Chosen)
                 } else {
-                    Ok(Step::Settled)
+                    Ok(Step::Done)
                 }
             }
         }
@@ -125,7 +125,7 @@ impl<N: Copy + Exact + Hash + Debug + Drop, S: Copy + Exact + Hash + Debug> Enco
 
 /// Resets the states of requires clauses to the entries that are left on the trail.
 fn look_back(needs: &mut UndecidedClauses, trail: &DecisionTracker)
-    ensures seen { IsFrontOf needs.new.seen.items trail.now.trail }
+    ensures seen { IsPrefixOf needs.new.seen.items trail.now.trail }
     ensures fits { KeepsFitting needs.old needs.new }
 {
     needs.follow(trail.stack());

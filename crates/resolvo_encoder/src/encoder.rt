@@ -6,7 +6,7 @@ ghost use Rattle.indexmap.specs.IndexSet.{insert_key};
 ghost use Rattle.resolvo_pool_core.specs.declared.solver_id.SolvableIdOrRoot.TheVariants.{Root, Solvable as Parent};
 ghost use Rattle.resolvo_pool_core.specs.ByRequirement.{slot_of};
 ghost use Rattle.resolvo_pool_core.specs.RuleKeeping.{Packages, Rules, IsLawful};
-ghost use Rattle.resolvo_store_core.specs.AtMostOne.{IsFrontOf};
+ghost use Rattle.resolvo_store_core.specs.AtMostOne.{IsPrefixOf};
 ghost use Rattle.resolvo_store_core.specs.Clauses.{no, candidate_literals};
 ghost use Rattle.resolvo_store_core.specs.Lists.{has_candidates, candidates_in, condition_in, IsEmpty};
 ghost use Rattle.resolvo_sat.specs.State.{count_of};
@@ -15,11 +15,11 @@ ghost use Rattle.resolvo_packages.specs.PackageSource.{AreOffered};
 ghost use Rattle.resolvo_soundness.specs.Encoding.{Rule, IsRule};
 ghost use Rattle.resolvo_soundness.specs.SearchEnd.{IsNeedEncoded};
 ghost use Rattle.resolvo_state.specs.declared.atom.ProofAtom.TheVariants.{Gate};
-ghost use Rattle.resolvo_state.specs.Atoms.{StandsFor};
+ghost use Rattle.resolvo_state.specs.Atoms.{Represents};
 ghost use Rattle.resolvo_encoder.specs.Encoded.{rules_of, IsGuarded, IsEncoding};
-ghost use Rattle.resolvo_state.specs.Statements.{rule_of};
+ghost use Rattle.resolvo_state.specs.ClauseKinds.{rule_of};
 ghost use Rattle.resolvo_state.specs.SolverState.{IsBegun, IsCoding, LacksNumber};
-ghost use Rattle.resolvo_encoder.specs.Steps.{Fixes, StatesNeed, IsBuilt, Needs, Extends, NeedsDirectly, Opens, AddsCandidates, IsBegunEncoding, AddsParent, IsNextEncoded, LacksNumberFor};
+ghost use Rattle.resolvo_encoder.specs.Steps.{Fixes, EncodesNeed, IsBuilt, Needs, Extends, NeedsDirectly, Opens, AddsCandidates, IsBegunEncoding, AddsParent, IsNextEncoded, LacksNumberFor};
 
 use indexmap::IndexSet;
 use resolvo_decide::undecided_clauses::UndecidedClauses;
@@ -29,7 +29,7 @@ use resolvo_pool_core::requirement::{ConditionalRequirement, Requirement, Requir
 use resolvo_pool_core::solver_id::SolvableIdOrRoot;
 use resolvo_pool_core::want::R;
 use resolvo_state::atom::ProofAtom;
-use resolvo_state::clause_kind::Stated;
+use resolvo_state::clause_kind::ClauseKind;
 use resolvo_state::registry::Registry;
 use resolvo_state::solver_state::SolverState;
 use resolvo_store_core::conditions::DeferredConjunct;
@@ -52,12 +52,12 @@ pub struct EncodedOnce<N: Copy + Eq + Hash, S: Copy + Eq + Hash> {
     pub version_sets: IndexSet<VersionSetId>,
     /// The packages of encoded cases: each of their registered solvables has an at-least-one
     /// clause.
-    pub helped: IndexSet<N>,
+    pub at_least_one: IndexSet<N>,
     /// The solvables with an at-least-one clause.
     pub there: IndexSet<S>,
     /// The accepted soft requirements, then the one of the current turn. An equal one may occur
     /// twice.
-    pub wishes: Vec<S>,
+    pub softs: Vec<S>,
 }
 
 // split for the prover: what owns one calls this drop, and doesn't drop each field at each exit
@@ -66,9 +66,9 @@ impl<N: Copy + Eq + Hash, S: Copy + Eq + Hash> Drop for EncodedOnce<N, S> {
         let EncodedOnce {
             packages: _,
             version_sets: _,
-            helped: _,
+            at_least_one: _,
             there: _,
-            wishes: _,
+            softs: _,
         } = self;
     }
 }
@@ -93,7 +93,7 @@ pub struct Encoder<N: Copy + Eq + Hash, S: Copy + Eq + Hash> {
     /// The gate of each requirement that has one.
     pub gates: RequirementMap<VariableId>,
     /// The packages, version sets and solvables that are encoded once.
-    pub noted: EncodedOnce<N, S>,
+    pub recorded: EncodedOnce<N, S>,
     /// The parents whose requirements are to be encoded, in order of arrival.
     pub parents: IndexSet<SolvableIdOrRoot<S>>,
     /// The number of encoded parents.
@@ -114,7 +114,7 @@ impl<N: Copy + Eq + Hash, S: Copy + Eq + Hash> Drop for Encoder<N, S> {
             queue: _,
             needs: _,
             gates: _,
-            noted: _,
+            recorded: _,
             parents: _,
             encoded: _,
             deferred: _,
@@ -144,12 +144,12 @@ fn begun<N: Copy + Exact + Hash + Debug, S: Copy + Exact + Hash + Debug>(
         queue: DecideQueue::new(alloc),
         needs: UndecidedClauses::new(alloc),
         gates,
-        noted: EncodedOnce {
+        recorded: EncodedOnce {
             packages: IndexSet::new(alloc),
             version_sets: IndexSet::new(alloc),
-            helped: IndexSet::new(alloc),
+            at_least_one: IndexSet::new(alloc),
             there: IndexSet::new(alloc),
-            wishes: Vec::new(alloc),
+            softs: Vec::new(alloc),
         },
         parents,
         encoded: 0,
@@ -281,36 +281,36 @@ impl<N: Copy + Exact + Hash + Debug + Drop, S: Copy + Exact + Hash + Debug> Enco
         ensures needed { OnOk result (NeedsDirectly parent need variable self.old self.new) }
         ensures ids { IsErrOf result Ids → LacksNumber self.new.coding }
     {
-        let stated = Stated::Needs {
+        let kind = ClauseKind::Needs {
             parent,
             need,
             case: Vec::new(alloc),
         };
-        self.state_need(alloc, stated, variable, None, need.requirement)?;
+        self.encode_need(alloc, kind, variable, None, need.requirement)?;
         Ok(())
     }
 
     /// Adds a requires clause, and puts it into the decision queue: a variable is false, or a
     /// literal of the condition is true, or a candidate is chosen.
-    pub(crate) fn state_need(
+    pub(crate) fn encode_need(
         &mut self,
         alloc: Global,
-        stated: Stated<N, S>,
+        kind: ClauseKind<N, S>,
         variable: VariableId,
         condition: Option<DisjunctionId>,
         requirement: Requirement,
     ) -> R<()>
         requires coding { IsCoding self.old.coding }
-        requires rule { IsSome (rule_of stated) }
+        requires rule { IsSome (rule_of kind) }
         requires in_range { AreInRange (count_of self.old.coding.search)
             (no variable
             ∷ (condition_in self.old.lists condition ++ candidate_literals
             (candidates_in self.old.lists requirement))) }
-        ensures stated { OnOk result (StatesNeed stated variable condition requirement self.old self.new) }
+        ensures kind { OnOk result (EncodesNeed kind variable condition requirement self.old self.new) }
         ensures ids { IsErrOf result Ids → LacksNumber self.new.coding }
     {
         let literals = self.literals_of(alloc, variable, condition, requirement)?;
-        let clause = self.coding.state(stated, literals)?;
+        let clause = self.coding.state(kind, literals)?;
         self.queue.register_clause(NeedClause {
             parent: variable,
             requirement,
@@ -333,7 +333,7 @@ impl<N: Copy + Exact + Hash + Debug + Drop, S: Copy + Exact + Hash + Debug> Enco
             → IsGuarded S.eq p (rules_of self.old) requirement
             → IsRule S.eq p root (Rule.shared requirement)
             → IsEncoding S.eq p root self.new × rules_of self.new (Rule.shared requirement)) }
-        ensures stands { IfOk result (λ gate. StandsFor self.new.coding.atoms.keys gate (Gate requirement)) }
+        ensures present { IfOk result (λ gate. Represents self.new.coding.atoms.keys gate (Gate requirement)) }
         ensures lists { OnOk result (self.new.lists ≡ self.old.lists) }
         ensures kept { OnOk result (Extends self.old self.new) }
         ensures built { OnOk result (IsBuilt self.new) }
@@ -344,9 +344,9 @@ impl<N: Copy + Exact + Hash + Debug + Drop, S: Copy + Exact + Hash + Debug> Enco
             return Ok(*gate);
         }
         let gate = self.coding.variable(ProofAtom::Gate(requirement))?;
-        self.state_need(
+        self.encode_need(
             alloc,
-            Stated::Shared { requirement },
+            ClauseKind::Shared { requirement },
             gate,
             None,
             requirement,
@@ -373,11 +373,11 @@ impl<N: Copy + Exact + Hash + Debug + Drop, S: Copy + Exact + Hash + Debug> Enco
         let mut literals = Vec::new(alloc);
         literals.push(Literal::new(variable, true))?;
         literals.push(Literal::new(gate, false))?;
-        let stated = Stated::Gated {
+        let kind = ClauseKind::Gated {
             solvable,
             requirement,
         };
-        self.coding.state(stated, literals)?;
+        self.coding.state(kind, literals)?;
         Ok(())
     }
 
@@ -425,7 +425,7 @@ impl<N: Copy + Exact + Hash + Debug + Drop, S: Copy + Exact + Hash + Debug> Enco
             → IsEncoding S.eq p root self.old
             → IsEncoding S.eq p root self.new) }
         ensures built { OnOk result (IsBuilt self.old → IsBuilt self.new) }
-        ensures stands { OnOk result (Contains self.new.parents.keys (Parent solvable)) }
+        ensures present { OnOk result (Contains self.new.parents.keys (Parent solvable)) }
         ensures refusal { IsOkUnless result Memory }
     {
         add_key(&mut self.parents, SolvableIdOrRoot::Solvable(solvable))?;
@@ -462,8 +462,8 @@ pub(crate) fn push_candidates<N>(candidates: &[Candidate<N>], literals: &mut Vec
 
 /// Appends a value, unless it is in the set.
 pub fn add_key<K: Copy + Eq + Hash + Drop>(keys: &mut IndexSet<K>, key: K) -> R<()>
-    ensures front { OnOk result (IsFrontOf keys.old.keys keys.new.keys) }
-    ensures stands { OnOk result
+    ensures prefix { OnOk result (IsPrefixOf keys.old.keys keys.new.keys) }
+    ensures present { OnOk result
         (((other : K) → K.eq key other ≡ true → other ≡ key) → Contains keys.new.keys key) }
     ensures only { OnOk result
         ((other : K)

@@ -7,21 +7,21 @@ ghost use Rattle.resolvo_pool_core.specs.RuleKeeping.{Packages, Rules, IsLawful,
 ghost use Rattle.resolvo_store_core.specs.Clauses.{no};
 ghost use Rattle.resolvo_sat.specs.State.{count_of};
 ghost use Rattle.resolvo_packages.specs.PackageSource.{AreOutside};
-ghost use Rattle.resolvo_packages.specs.Forbidden.{AreBarred};
-ghost use Rattle.resolvo_soundness.specs.Encoding.{Rule, Bar, IsBarredIn, HasBar};
-ghost use Rattle.resolvo_state.specs.Atoms.{StandsFor};
+ghost use Rattle.resolvo_packages.specs.Forbidden.{AreForbidden};
+ghost use Rattle.resolvo_soundness.specs.Encoding.{Rule, ForbidReason, IsForbiddenIn, IsForbidden};
+ghost use Rattle.resolvo_state.specs.Atoms.{Represents};
 ghost use Rattle.resolvo_state.specs.SolverState.{IsCoding, LacksNumber};
-ghost use Rattle.resolvo_state.specs.Statements.{rule_of};
+ghost use Rattle.resolvo_state.specs.ClauseKinds.{rule_of};
 ghost use Rattle.resolvo_encoder.specs.Encoded.{rules_of, IsEncoding, IsParentVariable, IsLimitEncoded};
 ghost use Rattle.resolvo_encoder.specs.Steps.{IsBuilt, Extends};
-ghost use Rattle.resolvo_encoder.specs.ClauseRules.{IsPair, StatesPair, Tells, bar_of, bar_rules, limit_rules, out_rules};
+ghost use Rattle.resolvo_encoder.specs.ClauseRules.{IsPair, EncodesPair, EncodesRules, reason_of, forbid_rules, limit_rules, out_rules};
 
 use crate::encoder::{Encoder, GATED, add_key};
-use resolvo_packages::package_source::{Barred, Offered, Why};
+use resolvo_packages::package_source::{ForbiddenSolvable, Offered, Why};
 use resolvo_pool_core::id::{Exact, StringId, VariableId, VersionSetId};
 use resolvo_pool_core::want::R;
 use resolvo_state::atom::ProofAtom;
-use resolvo_state::clause_kind::Stated;
+use resolvo_state::clause_kind::ClauseKind;
 use resolvo_store_core::literal::Literal;
 use std::alloc::Global;
 use std::fmt::Debug;
@@ -30,39 +30,39 @@ use std::hash::Hash;
 impl<N: Copy + Exact + Hash + Debug + Drop, S: Copy + Exact + Hash + Debug> Encoder<N, S> {
     /// Whether the locks and exclusions of a package are encoded.
     pub fn is_encoded(&self, name: N) -> bool
-        ensures { Decides result (Contains self.now.noted.packages.keys name) }
+        ensures { Decides result (Contains self.now.recorded.packages.keys name) }
     {
-        self.noted.packages.contains(&name)
+        self.recorded.packages.contains(&name)
     }
 
     /// Encodes the locks and exclusions of a package.
-    pub fn bar(&mut self, alloc: Global, name: N, barred: &[Barred<S>]) -> R<()>
+    pub fn forbid(&mut self, alloc: Global, name: N, barred: &[ForbiddenSolvable<S>]) -> R<()>
         requires { IsBuilt self.old }
         // After an answer.
         ensures encoded { OnOk result
             ((p : Packages N S) (root : Rules)
             → IsLawful p
             → IsEncoding S.eq p root self.old
-            → AreBarred S.eq p name barred.now
+            → AreForbidden S.eq p name barred.now
             → IsEncoding S.eq p root self.new
-            × ((s : S) → IsBarredIn S.eq p name s → HasBar (rules_of self.new) s)) }
+            × ((s : S) → IsForbiddenIn S.eq p name s → IsForbidden (rules_of self.new) s)) }
         ensures lists { OnOk result (self.new.lists ≡ self.old.lists) }
         ensures kept { OnOk result (Extends self.old self.new) }
         ensures built { OnOk result (IsBuilt self.new) }
         // After a refusal.
         ensures ids { IsErrOf result Ids → LacksNumber self.new.coding }
     {
-        self.bar_each(alloc, barred)?;
-        add_key(&mut self.noted.packages, name)?;
+        self.forbid_each(alloc, barred)?;
+        add_key(&mut self.recorded.packages, name)?;
         Ok(())
     }
 
     /// Forbids a solvable, since its dependencies are unknown.
     pub fn exclude(&mut self, alloc: Global, solvable: S, reason: StringId) -> R<()>
         requires { IsBuilt self.old }
-        ensures { OnOk result (Tells S.eq (Rule.bars (Bar.word reason) solvable ∷ []) self.old self.new) }
+        ensures { OnOk result (EncodesRules S.eq (Rule.forbids (ForbidReason.word reason) solvable ∷ []) self.old self.new) }
     {
-        self.deny(alloc, solvable, Stated::Excluded { solvable, reason })?;
+        self.deny(alloc, solvable, ClauseKind::Excluded { solvable, reason })?;
         Ok(())
     }
 
@@ -126,22 +126,22 @@ impl<N: Copy + Exact + Hash + Debug + Drop, S: Copy + Exact + Hash + Debug> Enco
         // After a refusal.
         ensures ids { IsErrOf result Ids → LacksNumber self.new.coding }
     {
-        if self.noted.version_sets.contains(&version_set) {
+        if self.recorded.version_sets.contains(&version_set) {
             return Ok(());
         }
-        self.state_outside(alloc, version_set, outside)?;
-        add_key(&mut self.noted.version_sets, version_set)?;
+        self.encode_outside(alloc, version_set, outside)?;
+        add_key(&mut self.recorded.version_sets, version_set)?;
         Ok(())
     }
 
     /// Forbids each of these.
-    fn bar_each(&mut self, alloc: Global, barred: &[Barred<S>]) -> R<()>
+    fn forbid_each(&mut self, alloc: Global, barred: &[ForbiddenSolvable<S>]) -> R<()>
         requires { IsBuilt self.old }
-        ensures told { OnOk result (Tells S.eq (bar_rules barred.now) self.old self.new) }
+        ensures encodes { OnOk result (EncodesRules S.eq (forbid_rules barred.now) self.old self.new) }
         ensures ids { IsErrOf result Ids → LacksNumber self.new.coding }
     {
         for one in barred {
-            self.deny(alloc, one.solvable, barred_by(*one))?;
+            self.deny(alloc, one.solvable, forbid_kind(*one))?;
         }
         Ok(())
     }
@@ -155,7 +155,7 @@ impl<N: Copy + Exact + Hash + Debug + Drop, S: Copy + Exact + Hash + Debug> Enco
         outside: &[Offered<N, S>],
     ) -> R<()>
         requires { IsBuilt self.old }
-        ensures told { OnOk result (Tells S.eq (limit_rules parent version_set outside.now) self.old self.new) }
+        ensures encodes { OnOk result (EncodesRules S.eq (limit_rules parent version_set outside.now) self.old self.new) }
         ensures ids { IsErrOf result Ids → LacksNumber self.new.coding }
     {
         for one in outside {
@@ -165,34 +165,34 @@ impl<N: Copy + Exact + Hash + Debug + Drop, S: Copy + Exact + Hash + Debug> Enco
     }
 
     /// Encodes that each of these is outside a version set.
-    fn state_outside(
+    fn encode_outside(
         &mut self,
         alloc: Global,
         version_set: VersionSetId,
         outside: &[Offered<N, S>],
     ) -> R<()>
         requires { IsBuilt self.old }
-        ensures told { OnOk result (Tells S.eq (out_rules version_set outside.now) self.old self.new) }
+        ensures encodes { OnOk result (EncodesRules S.eq (out_rules version_set outside.now) self.old self.new) }
         ensures ids { IsErrOf result Ids → LacksNumber self.new.coding }
     {
         for one in outside {
-            self.state_out(alloc, version_set, one.solvable)?;
+            self.encode_out(alloc, version_set, one.solvable)?;
         }
         Ok(())
     }
 
     /// Forbids a solvable by a unit clause.
-    fn deny(&mut self, alloc: Global, solvable: S, stated: Stated<N, S>) -> R<()>
+    fn deny(&mut self, alloc: Global, solvable: S, kind: ClauseKind<N, S>) -> R<()>
         requires built { IsBuilt self.old }
-        requires rule { IsSome (rule_of stated) }
-        ensures told { OnOk result
-            ((w : Bar S)
-            → rule_of stated ≡ Some (Rule.bars w solvable)
-            → Tells S.eq (Rule.bars w solvable ∷ []) self.old self.new) }
+        requires rule { IsSome (rule_of kind) }
+        ensures encodes { OnOk result
+            ((w : ForbidReason S)
+            → rule_of kind ≡ Some (Rule.forbids w solvable)
+            → EncodesRules S.eq (Rule.forbids w solvable ∷ []) self.old self.new) }
         ensures ids { IsErrOf result Ids → LacksNumber self.new.coding }
     {
         let variable = self.give(ProofAtom::Solvable(solvable))?;
-        self.state_pair(alloc, stated, variable, Literal::new(variable, true))?;
+        self.encode_pair(alloc, kind, variable, Literal::new(variable, true))?;
         Ok(())
     }
 
@@ -205,17 +205,17 @@ impl<N: Copy + Exact + Hash + Debug + Drop, S: Copy + Exact + Hash + Debug> Enco
         barred: S,
     ) -> R<()>
         requires { IsBuilt self.old }
-        ensures told { OnOk result (Tells S.eq (Rule.limits parent version_set barred ∷ []) self.old self.new) }
+        ensures encodes { OnOk result (EncodesRules S.eq (Rule.limits parent version_set barred ∷ []) self.old self.new) }
         ensures ids { IsErrOf result Ids → LacksNumber self.new.coding }
     {
         let first = self.parent_variable(parent)?;
         let second = self.give(ProofAtom::Solvable(barred))?;
-        let stated = Stated::Limits {
+        let kind = ClauseKind::Limits {
             parent,
             version_set,
             barred,
         };
-        self.state_pair(alloc, stated, first, Literal::new(second, true))?;
+        self.encode_pair(alloc, kind, first, Literal::new(second, true))?;
         Ok(())
     }
 
@@ -227,40 +227,40 @@ impl<N: Copy + Exact + Hash + Debug + Drop, S: Copy + Exact + Hash + Debug> Enco
         version_set: VersionSetId,
     ) -> R<()>
         requires { IsBuilt self.old }
-        ensures told { OnOk result (Tells S.eq (Rule.limits_outside parent version_set ∷ []) self.old self.new) }
+        ensures encodes { OnOk result (EncodesRules S.eq (Rule.limits_outside parent version_set ∷ []) self.old self.new) }
         ensures ids { IsErrOf result Ids → LacksNumber self.new.coding }
     {
         let first = self.parent_variable(parent)?;
         let second = self.give(ProofAtom::Outside(version_set))?;
-        let stated = Stated::LimitsOutside {
+        let kind = ClauseKind::LimitsOutside {
             parent,
             version_set,
         };
-        self.state_pair(alloc, stated, first, Literal::new(second, true))?;
+        self.encode_pair(alloc, kind, first, Literal::new(second, true))?;
         Ok(())
     }
 
     /// Encodes that a solvable is outside a version set.
-    fn state_out(&mut self, alloc: Global, version_set: VersionSetId, solvable: S) -> R<()>
+    fn encode_out(&mut self, alloc: Global, version_set: VersionSetId, solvable: S) -> R<()>
         requires { IsBuilt self.old }
-        ensures told { OnOk result (Tells S.eq (Rule.is_out version_set solvable ∷ []) self.old self.new) }
+        ensures encodes { OnOk result (EncodesRules S.eq (Rule.is_out version_set solvable ∷ []) self.old self.new) }
         ensures ids { IsErrOf result Ids → LacksNumber self.new.coding }
     {
         let first = self.give(ProofAtom::Solvable(solvable))?;
         let second = self.give(ProofAtom::Outside(version_set))?;
-        let stated = Stated::IsOut {
+        let kind = ClauseKind::IsOut {
             version_set,
             solvable,
         };
-        self.state_pair(alloc, stated, first, Literal::new(second, false))?;
+        self.encode_pair(alloc, kind, first, Literal::new(second, false))?;
         Ok(())
     }
 
     /// The variable of the root, or of a solvable.
     pub(crate) fn parent_variable(&mut self, parent: Option<S>) -> R<VariableId>
         requires { IsBuilt self.old }
-        ensures told { OnOk result (Tells S.eq [] self.old self.new) }
-        ensures stands { IfOk result (λ v. IsParentVariable self.new.coding.atoms.keys parent v) }
+        ensures encodes { OnOk result (EncodesRules S.eq [] self.old self.new) }
+        ensures present { IfOk result (λ v. IsParentVariable self.new.coding.atoms.keys parent v) }
         ensures ids { IsErrOf result Ids → LacksNumber self.new.coding }
     {
         match parent {
@@ -275,8 +275,8 @@ impl<N: Copy + Exact + Hash + Debug + Drop, S: Copy + Exact + Hash + Debug> Enco
     /// The variable of this origin, added where there is none.
     pub(crate) fn give(&mut self, atom: ProofAtom<N, S>) -> R<VariableId>
         requires { IsBuilt self.old }
-        ensures told { OnOk result (Tells S.eq [] self.old self.new) }
-        ensures stands { IfOk result (λ v. StandsFor self.new.coding.atoms.keys v atom) }
+        ensures encodes { OnOk result (EncodesRules S.eq [] self.old self.new) }
+        ensures present { IfOk result (λ v. Represents self.new.coding.atoms.keys v atom) }
         ensures ids { IsErrOf result Ids → LacksNumber self.new.coding }
     {
         let variable = self.coding.variable(atom)?;
@@ -285,24 +285,24 @@ impl<N: Copy + Exact + Hash + Debug + Drop, S: Copy + Exact + Hash + Debug> Enco
 
     /// Encodes a rule by a clause of two literals: the first variable is false, or the second
     /// literal true.
-    pub(crate) fn state_pair(
+    pub(crate) fn encode_pair(
         &mut self,
         alloc: Global,
-        stated: Stated<N, S>,
+        kind: ClauseKind<N, S>,
         first: VariableId,
         second: Literal,
     ) -> R<()>
         requires coding { IsCoding self.old.coding }
-        requires rule { IsSome (rule_of stated) }
+        requires rule { IsSome (rule_of kind) }
         requires first { first.0 < count_of self.old.coding.search }
         requires second { second.variable.0 < count_of self.old.coding.search }
         // After an answer.
-        ensures stated { OnOk result (StatesPair stated (no first) second self.old self.new) }
+        ensures kind { OnOk result (EncodesPair kind (no first) second self.old self.new) }
         // After a refusal.
         ensures ids { IsErrOf result Ids → LacksNumber self.new.coding }
     {
         let literals = pair_of(alloc, first, second)?;
-        self.coding.state(stated, literals)?;
+        self.coding.state(kind, literals)?;
         Ok(())
     }
 }
@@ -324,15 +324,15 @@ fn pair_of(alloc: Global, first: VariableId, second: Literal) -> R<Vec<Literal>>
 }
 
 /// The kind of the unit clause that forbids a solvable for this reason.
-fn barred_by<N, S: Copy>(barred: Barred<S>) -> Stated<N, S>
-    ensures { rule_of result ≡ Some (Rule.bars (bar_of barred.why) barred.solvable) }
+fn forbid_kind<N, S: Copy>(barred: ForbiddenSolvable<S>) -> ClauseKind<N, S>
+    ensures { rule_of result ≡ Some (Rule.forbids (reason_of barred.why) barred.solvable) }
 {
     match barred.why {
-        Why::Locked { locked } => Stated::Locked {
+        Why::Locked { locked } => ClauseKind::Locked {
             locked,
             barred: barred.solvable,
         },
-        Why::Excluded { reason } => Stated::Excluded {
+        Why::Excluded { reason } => ClauseKind::Excluded {
             solvable: barred.solvable,
             reason,
         },

@@ -5,8 +5,8 @@ ghost use Rattle.resolvo_pool_core.specs.declared.want.Want.TheVariants.{Ids};
 ghost use Rattle.resolvo_state.specs.SolverState.{IsCoding, LacksNumber};
 ghost use Rattle.resolvo_state.specs.Registered.{AreTied};
 ghost use Rattle.resolvo_encoder.specs.Steps.{RegistersOne, RegistersAll, IsBuilt, Enrols};
-ghost use Rattle.resolvo_encoder.specs.Helped.{SaysThere, Admits};
-ghost use Rattle.resolvo_encoder.specs.SoftRequirement.{RegistersWish};
+ghost use Rattle.resolvo_encoder.specs.AtLeastOneClauses.{AddsAtLeastOne, Admits};
+ghost use Rattle.resolvo_encoder.specs.SoftRequirement.{RegistersSoft};
 
 use crate::encoder::Encoder;
 use resolvo_packages::package_source::Offered;
@@ -54,22 +54,22 @@ impl<N: Copy + Exact + Hash + Debug + Drop, S: Copy + Exact + Hash + Debug> Enco
         ensures admitted { OnOk result (Admits S.eq (one ∷ []) self.old self.new) }
         ensures ids { IsErrOf result Ids → LacksNumber self.new.coding }
     {
-        if self.noted.helped.contains(&one.name) {
+        if self.recorded.at_least_one.contains(&one.name) {
             self.add_at_least_one(alloc, one)?;
         }
         Ok(())
     }
 
     /// Registers a soft requirement, and returns its variable.
-    pub(crate) fn register_soft(&mut self, alloc: Global, wish: Offered<N, S>) -> R<VariableId>
+    pub(crate) fn register_soft(&mut self, alloc: Global, soft: Offered<N, S>) -> R<VariableId>
         requires { IsBuilt self.old }
-        ensures registered { IfOk result (λ v. RegistersWish S.eq wish v self.old self.new) }
+        ensures registered { IfOk result (λ v. RegistersSoft S.eq soft v self.old self.new) }
         ensures ids { IsErrOf result Ids → LacksNumber self.new.coding }
     {
-        self.admit_one(alloc, wish)?;
+        self.admit_one(alloc, soft)?;
         let variable = self
             .registry
-            .register(&mut self.coding, wish.name, wish.solvable)?;
+            .register(&mut self.coding, soft.name, soft.solvable)?;
         Ok(variable)
     }
 }

@@ -2,14 +2,14 @@
 //! that explains its conflict with earlier turns.
 ghost use Rattle.std.specs.Prelude.{◌≡◌, ◌<◌, length, Some, IfOk, OnOk, IsErrOf, IsOkUnless};
 ghost use Rattle.resolvo_pool_core.specs.declared.want.Want.TheVariants.{Memory, Ids};
-ghost use Rattle.resolvo_sat.specs.Analysis.{IsBar};
+ghost use Rattle.resolvo_sat.specs.Analysis.{IsDenial};
 ghost use Rattle.resolvo_sat.specs.Entries.{top_level};
 ghost use Rattle.resolvo_sat.specs.State.{history};
-ghost use Rattle.resolvo_state.specs.SolverState.{Bars, LacksNumber};
+ghost use Rattle.resolvo_state.specs.SolverState.{AddsDenial, LacksNumber};
 ghost use Rattle.resolvo_encoder.specs.Encoded.{StaysEncoding};
 ghost use Rattle.resolvo_encoder.specs.Steps.{IsBuilt};
 ghost use Rattle.resolvo_encoder.specs.Progress.{GoesOn};
-ghost use Rattle.resolvo_encoder.specs.SoftRequirement.{turn_of, Notes, IsUntaken, TakesBack};
+ghost use Rattle.resolvo_encoder.specs.SoftRequirement.{turn_of, RecordsSoft, IsUntaken, TakesBack};
 ghost use Rattle.resolvo_encoder.specs.Base.{HasTurn, IsTried, KeepsTurn, KeepsTurns};
 
 use crate::encoder::Encoder;
@@ -82,30 +82,30 @@ impl<N: Copy + Exact + Hash + Debug + Drop, S: Copy + Exact + Hash + Debug> Enco
     pub fn learn_refusal(&mut self, refusal: FinalConflict) -> R<ClauseId>
         requires built { IsBuilt self.old }
         requires some { 0 < length refusal.literals.items }
-        requires bar { IsBar self.old.coding.search refusal.literals.items refusal.causes.items }
+        requires forbid { IsDenial self.old.coding.search refusal.literals.items refusal.causes.items }
         // After an answer.
         ensures stays { OnOk result (StaysEncoding S.eq self.old self.new) }
         ensures goes_on { OnOk result (GoesOn self.old self.new) }
         ensures built { OnOk result (IsBuilt self.new) }
         ensures turn { OnOk result (KeepsTurns self.old self.new) }
-        ensures barred { IfOk result
+        ensures learnt { IfOk result
             (λ id.
-            Bars refusal.literals.items refusal.causes.items id self.old.coding
+            AddsDenial refusal.literals.items refusal.causes.items id self.old.coding
             self.new.coding) }
         // After a refusal.
         ensures ids { IsErrOf result Ids → LacksNumber self.new.coding }
     {
-        let clause = self.coding.bar(refusal)?;
+        let clause = self.coding.forbid(refusal)?;
         Ok(clause)
     }
 
     /// Registers a soft requirement, records it as the last one, and returns its variable.
-    pub fn note_soft(&mut self, alloc: Global, wish: Offered<N, S>) -> R<VariableId>
+    pub fn record_soft(&mut self, alloc: Global, soft: Offered<N, S>) -> R<VariableId>
         requires { IsBuilt self.old }
-        ensures { IfOk result (λ v. Notes S.eq wish v self.old self.new) }
+        ensures { IfOk result (λ v. RecordsSoft S.eq soft v self.old self.new) }
     {
-        let variable = self.register_soft(alloc, wish)?;
-        self.noted.wishes.push(wish.solvable)?;
+        let variable = self.register_soft(alloc, soft)?;
+        self.recorded.softs.push(soft.solvable)?;
         Ok(variable)
     }
 
@@ -115,6 +115,6 @@ impl<N: Copy + Exact + Hash + Debug + Drop, S: Copy + Exact + Hash + Debug> Enco
         requires untaken { IsUntaken self.old }
         ensures { TakesBack S.eq self.old self.new }
     {
-        self.noted.wishes.pop();
+        self.recorded.softs.pop();
     }
 }

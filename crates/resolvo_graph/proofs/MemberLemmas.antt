@@ -15,7 +15,7 @@ use Rattle.resolvo_pool_core.specs.declared.requirement.Requirement.TheVariants.
 use Rattle.resolvo_pool_core.specs.contracts.requirement.RequirementPartialEq.TheImpl as Requirements
 use Rattle.resolvo_graph.specs.declared.merge.Likeness.{Likeness}
 use Rattle.resolvo_graph.specs.declared.merge.Member.{Member}
-use Rattle.resolvo_graph.specs.Merge.{Profile, alike, same_neighbour, numbered, group, AreMembers, together, told_together, group_in}
+use Rattle.resolvo_graph.specs.Merge.{Profile, alike, same_neighbour, numbered, group, AreMembers, together, group_among, group_in}
 use Rattle.resolvo_graph.proofs.LinkLemmas.{or_true}
 
 and_assoc : (a b c : Bool) → (a && (b && c)) ≡ ((a && b) && c)
@@ -131,12 +131,12 @@ module _ {N S : Type 0} (eq : N → N → Bool) where
           (ap (λ n. record { solvable = q.solvable; group = n } ∷ map (member_in ks) qs) (sym here.1) ∙ ap (λ ms. member_in now q ∷ ms) below.0, All-cons (IsThere now) q qs here.0 below.1)
 
   -- the versions that are merged with each one, by the numbers
-  pub told_is_group : (same : S → S → Bool) (ids : ℕ → List S) (all : List (Profile N S)) (every : List (Member S)) → ((g : ℕ) → ids g ≡ numbered every g) → (ps : List (Profile N S)) (ms : List (Member S)) → AllZip (λ p m. (m.solvable ≡ p.solvable) × (numbered every m.group ≡ group eq all p)) ps ms → (s : S) → told_together same ids ms s ≡ group_in eq same all ps s
-  told_is_group same ids all every is [] [] h s = refl
-  told_is_group same ids all every is [] (m ∷ ms) h s = absurd h
-  told_is_group same ids all every is (p ∷ ps) [] h s = absurd h
-  told_is_group same ids all every is (p ∷ ps) (m ∷ ms) h s =
-      ap (λ o. option_or o (together same ids m s)) (told_is_group same ids all every is ps ms h.1 s)
+  pub group_among_is_group : (same : S → S → Bool) (ids : ℕ → List S) (all : List (Profile N S)) (every : List (Member S)) → ((g : ℕ) → ids g ≡ numbered every g) → (ps : List (Profile N S)) (ms : List (Member S)) → AllZip (λ p m. (m.solvable ≡ p.solvable) × (numbered every m.group ≡ group eq all p)) ps ms → (s : S) → group_among same ids ms s ≡ group_in eq same all ps s
+  group_among_is_group same ids all every is [] [] h s = refl
+  group_among_is_group same ids all every is [] (m ∷ ms) h s = absurd h
+  group_among_is_group same ids all every is (p ∷ ps) [] h s = absurd h
+  group_among_is_group same ids all every is (p ∷ ps) (m ∷ ms) h s =
+      ap (λ o. option_or o (together same ids m s)) (group_among_is_group same ids all every is ps ms h.1 s)
       ∙ ap (λ v. option_or (group_in eq same all ps s) (cond (same v s && nat_lt 1 (length (ids m.group))) (Some (ids m.group)) None)) h.0.0
       ∙ ap (λ xs. option_or (group_in eq same all ps s) (cond (same p.solvable s && nat_lt 1 (length xs)) (Some xs) None)) (is m.group ∙ h.0.1)
 

@@ -39,16 +39,16 @@ headed start pushed grown lines tree own conflicts l none put more last is same 
 
 -- the parts, up to equal nodes
 pub parts_along : {S : Type 0} (g : Graph S) (same : S → S → Bool) (merged : S → Option (List S)) (can installable miss missing : List NodeIndex) (lines : List (MessageLine S)) → can ≡ installable → miss ≡ missing → AreParts (record { graph = g; same = same; installable = can; merged = merged }) miss (edges_of g (record { 0 = 0 })) lines → AreParts (record { graph = g; same = same; installable = installable; merged = merged }) missing (edges_of g (record { 0 = 0 })) lines
-parts_along g same merged can installable miss missing lines a b told =
-    subst (λ ns. AreParts (record { graph = g; same = same; installable = installable; merged = merged }) ns (edges_of g (record { 0 = 0 })) lines) b (subst (λ ns. AreParts (record { graph = g; same = same; installable = ns; merged = merged }) miss (edges_of g (record { 0 = 0 })) lines) a told)
+parts_along g same merged can installable miss missing lines a b holds =
+    subst (λ ns. AreParts (record { graph = g; same = same; installable = installable; merged = merged }) ns (edges_of g (record { 0 = 0 })) lines) b (subst (λ ns. AreParts (record { graph = g; same = same; installable = ns; merged = merged }) miss (edges_of g (record { 0 = 0 })) lines) a holds)
 
 -- the message along a walk, up to an equal order
 pub message : {N S : Type 0} (same_name : N → N → Bool) (same : S → S → Bool) (name_of : S → N) (g : Graph S) (order along : List NodeIndex) (merged : S → Option (List S)) (lines : List (MessageLine S)) → along ≡ order → IsPostOrder g order → IsMerged same_name same g name_of merged → AreParts (record { graph = g; same = same; installable = installable_in g along; merged = merged }) (missing_in g along) (edges_of g (record { 0 = 0 })) lines → IsMessage same_name same name_of g lines
-message same_name same name_of g order along merged lines is walked as_one told =
+message same_name same name_of g order along merged lines is walked as_one holds =
     record {
       order = order;
       merged = merged;
       walked = walked;
-      told_as_one = as_one;
-      parts = parts_along g same merged (installable_in g along) (installable_in g order) (missing_in g along) (missing_in g order) lines (ap (installable_in g) is) (ap (missing_in g) is) told;
+      are_merged = as_one;
+      parts = parts_along g same merged (installable_in g along) (installable_in g order) (missing_in g along) (missing_in g order) lines (ap (installable_in g) is) (ap (missing_in g) is) holds;
     }

@@ -26,7 +26,7 @@ use Rattle.resolvo_graph.specs.Graph.{Graph, same_node, leaves, edges_of, requir
 use Rattle.resolvo_graph.specs.Indent.{Indent, level_below}
 use Rattle.resolvo_graph.specs.Outlook.{has_target_in}
 use Rattle.resolvo_graph.specs.Runs.{Run, same_requirement, with_first, with_edge, runs_of}
-use Rattle.resolvo_graph.specs.Tree.{Entry, Findings, order_before, siblings, solvable_at_node, with_candidate, candidates_at, with_set, admitted_in, is_admitting, verdict_for, shown_of, outlook_of, was_told, told_with, firsts_after, options_of, in_rank, verdict_of, needs_of, lines_at, entries_below, told_after, Tells, done, next}
+use Rattle.resolvo_graph.specs.Tree.{Entry, Findings, order_before, siblings, solvable_at_node, with_candidate, candidates_at, with_set, admitted_in, is_admitting, verdict_for, shown_of, outlook_of, is_covered, covered_with, firsts_after, options_of, in_rank, verdict_of, needs_of, lines_at, entries_below, covered_after, Writes, done, next}
 use Rattle.resolvo_graph.specs.Walk.{is_among}
 use Rattle.resolvo_graph.proofs.WalkLemmas.{unseen, unseen-new, targets_among, edges_among}
 
@@ -171,11 +171,11 @@ split_total S c p (r ∷ rs) = go (p r) (split_total S c p rs)
 
 module _ {S : Type 0} where
   module _ (f : Findings S) where
-    total-firsts : (c : ℕ) (told : List S) (cs : List (NodeIndex × S)) → total c (firsts_after f told cs) ≤ length cs * c
-    total-firsts c told [] = omega arith
-    total-firsts c told (d ∷ cs) = go (was_told f told d.1) (total-firsts c told cs) (total-firsts c (told_with f told d.1) cs)
+    total-firsts : (c : ℕ) (covered : List S) (cs : List (NodeIndex × S)) → total c (firsts_after f covered cs) ≤ length cs * c
+    total-firsts c covered [] = omega arith
+    total-firsts c covered (d ∷ cs) = go (is_covered f covered d.1) (total-firsts c covered cs) (total-firsts c (covered_with f covered d.1) cs)
       where
-        go : (b : Bool) → total c (firsts_after f told cs) ≤ length cs * c → total c (firsts_after f (told_with f told d.1) cs) ≤ length cs * c → total c (cond b (firsts_after f told cs) (Candidate d.0 d.1 ∷ firsts_after f (told_with f told d.1) cs)) ≤ length (d ∷ cs) * c
+        go : (b : Bool) → total c (firsts_after f covered cs) ≤ length cs * c → total c (firsts_after f (covered_with f covered d.1) cs) ≤ length cs * c → total c (cond b (firsts_after f covered cs) (Candidate d.0 d.1 ∷ firsts_after f (covered_with f covered d.1) cs)) ≤ length (d ∷ cs) * c
         go true h k =
             let more : length (d ∷ cs) * c ≡ length cs * c + c = grind arith in
             omega arith
@@ -217,37 +217,37 @@ module _ {S : Type 0} where
     few n = rw (length-reverse (filter (leaves n) f.graph.edges), length-filter (leaves n) f.graph.edges) (count_by-le-length (leaves n) f.graph.edges)
 
     -- the lines of some entries, then those of the others
-    splits : (xs ys : List (Entry S)) (told : List S) (lines : List (MessageLine S)) (after : List S) → Tells f told (xs ++ ys) lines after → (a b : List (MessageLine S)) × (between : List S) × Tells f told xs a between × Tells f between ys b after × (lines ≡ a ++ b)
-    splits [] ys told lines after t = ([], lines, told, done told, t, refl)
-    splits (x ∷ xs) ys told lines after (next e {es = es} {inner = inner} {rest = rest} {between = between} below behind) =
-        let own = lines_at f told x.op x.indent x.above in
+    splits : (xs ys : List (Entry S)) (covered : List S) (lines : List (MessageLine S)) (after : List S) → Writes f covered (xs ++ ys) lines after → (a b : List (MessageLine S)) × (between : List S) × Writes f covered xs a between × Writes f between ys b after × (lines ≡ a ++ b)
+    splits [] ys covered lines after t = ([], lines, covered, done covered, t, refl)
+    splits (x ∷ xs) ys covered lines after (next e {es = es} {inner = inner} {rest = rest} {between = between} below behind) =
+        let own = lines_at f covered x.op x.indent x.above in
         let more = splits xs ys between rest after behind in
         (own ++ (inner ++ more.0), more.1, more.2, next x below more.3, more.4, ap (λ ls. own ++ (inner ++ ls)) more.5 ∙ ap (λ ls. own ++ ls) (sym (append_assoc inner more.0 more.1)) ∙ sym (append_assoc own (inner ++ more.0) more.1))
 
     -- the remaining lines are those of the stack's entries
     abbrev pub Gives : List (Entry S) → List (Entry S) → List S → List (MessageLine S) → Type 0
-    Gives start stack told lines = (rest : List (MessageLine S)) (after : List S) → Tells f told (reverse stack) rest after → Tells f [] start (lines ++ rest) after
+    Gives start stack covered lines = (rest : List (MessageLine S)) (after : List S) → Writes f covered (reverse stack) rest after → Writes f [] start (lines ++ rest) after
 
-    pub starts : (start stack : List (Entry S)) (told : List S) (lines : List (MessageLine S)) → stack ≡ [] ++ reverse start → told ≡ [] → lines ≡ [] → Gives start stack told lines
-    starts start stack told lines put none empty rest after t =
+    pub starts : (start stack : List (Entry S)) (covered : List S) (lines : List (MessageLine S)) → stack ≡ [] ++ reverse start → covered ≡ [] → lines ≡ [] → Gives start stack covered lines
+    starts start stack covered lines put none empty rest after t =
         let turned : reverse stack ≡ start = ap reverse put ∙ reverse-twice start in
-        let from : Tells f [] start rest after = subst (λ xs. Tells f xs start rest after) none (subst (λ xs. Tells f told xs rest after) turned t) in
-        subst (λ ls. Tells f [] start (ls ++ rest) after) (sym empty) from
+        let from : Writes f [] start rest after = subst (λ xs. Writes f xs start rest after) none (subst (λ xs. Writes f covered xs rest after) turned t) in
+        subst (λ ls. Writes f [] start (ls ++ rest) after) (sym empty) from
 
-    pub steps : (start stack below now : List (Entry S)) (told told_now : List S) (lines lines_now : List (MessageLine S)) (e : Entry S) → Gives start stack told lines → stack ≡ below ++ e ∷ [] → now ≡ below ++ reverse (entries_below f told e.op e.indent e.above) → told_now ≡ told_after f told e.op e.above → lines_now ≡ lines ++ lines_at f told e.op e.indent e.above → Gives start now told_now lines_now
-    steps start stack below now told told_now lines lines_now e gives at put with more rest after t =
-        let xs = entries_below f told e.op e.indent e.above in
-        let own = lines_at f told e.op e.indent e.above in
-        let from : Tells f (told_after f told e.op e.above) (xs ++ reverse below) rest after = subst (λ ts. Tells f ts (xs ++ reverse below) rest after) with (subst (λ ys. Tells f told_now ys rest after) (reverse_put below now xs put) t) in
-        let parts = splits xs (reverse below) (told_after f told e.op e.above) rest after from in
-        let one : Tells f told (e ∷ reverse below) (own ++ (parts.0 ++ parts.1)) after = next e parts.3 parts.4 in
+    pub steps : (start stack below now : List (Entry S)) (covered covered_now : List S) (lines lines_now : List (MessageLine S)) (e : Entry S) → Gives start stack covered lines → stack ≡ below ++ e ∷ [] → now ≡ below ++ reverse (entries_below f covered e.op e.indent e.above) → covered_now ≡ covered_after f covered e.op e.above → lines_now ≡ lines ++ lines_at f covered e.op e.indent e.above → Gives start now covered_now lines_now
+    steps start stack below now covered covered_now lines lines_now e gives at put with more rest after t =
+        let xs = entries_below f covered e.op e.indent e.above in
+        let own = lines_at f covered e.op e.indent e.above in
+        let from : Writes f (covered_after f covered e.op e.above) (xs ++ reverse below) rest after = subst (λ ts. Writes f ts (xs ++ reverse below) rest after) with (subst (λ ys. Writes f covered_now ys rest after) (reverse_put below now xs put) t) in
+        let parts = splits xs (reverse below) (covered_after f covered e.op e.above) rest after from in
+        let one : Writes f covered (e ∷ reverse below) (own ++ (parts.0 ++ parts.1)) after = next e parts.3 parts.4 in
         let turned : reverse stack ≡ e ∷ reverse below = ap reverse at ∙ reverse-append below (e ∷ []) in
-        let whole : Tells f [] start (lines ++ (own ++ (parts.0 ++ parts.1))) after = gives (own ++ (parts.0 ++ parts.1)) after (subst (λ ys. Tells f told ys (own ++ (parts.0 ++ parts.1)) after) (sym turned) one) in
+        let whole : Writes f [] start (lines ++ (own ++ (parts.0 ++ parts.1))) after = gives (own ++ (parts.0 ++ parts.1)) after (subst (λ ys. Writes f covered ys (own ++ (parts.0 ++ parts.1)) after) (sym turned) one) in
         let same : lines ++ (own ++ (parts.0 ++ parts.1)) ≡ lines_now ++ rest = sym (append_assoc lines own (parts.0 ++ parts.1)) ∙ ap (λ ls. (lines ++ own) ++ ls) (sym parts.5) ∙ ap (λ ls. ls ++ rest) (sym more) in
-        subst (λ ls. Tells f [] start ls after) same whole
+        subst (λ ls. Writes f [] start ls after) same whole
 
-    pub ends : (start stack : List (Entry S)) (told : List S) (lines : List (MessageLine S)) → Gives start stack told lines → stack ≡ [] → (after : List S) × Tells f [] start lines after
-    ends start stack told lines gives none = (told, subst (λ ls. Tells f [] start ls told) (append-nil lines) (gives [] told (subst (λ xs. Tells f told (reverse xs) [] told) (sym none) (done told))))
+    pub ends : (start stack : List (Entry S)) (covered : List S) (lines : List (MessageLine S)) → Gives start stack covered lines → stack ≡ [] → (after : List S) × Writes f [] start lines after
+    ends start stack covered lines gives none = (covered, subst (λ ls. Writes f [] start ls covered) (append-nil lines) (gives [] covered (subst (λ xs. Writes f covered (reverse xs) [] covered) (sym none) (done covered))))
 
     -- us are nodes among which each entry's are
     module _ (us : List NodeIndex) where
@@ -257,23 +257,23 @@ module _ {S : Type 0} where
       IsKnown (Candidate n s) = is_among us n ≡ true
 
       -- the entries below an entry weigh less than it
-      lighter : (told : List S) (o : DisplayOp S) (i : Indent) (above : List NodeIndex) → IsKnown o → weights f.graph us (entries_below f told o i above) + 1 ≤ weight (cost (length f.graph.edges) (unseen us above)) o
-      lighter told (Requirement r) i above known =
+      lighter : (covered : List S) (o : DisplayOp S) (i : Indent) (above : List NodeIndex) → IsKnown o → weights f.graph us (entries_below f covered o i above) + 1 ≤ weight (cost (length f.graph.edges) (unseen us above)) o
+      lighter covered (Requirement r) i above known =
           let c = cost (length f.graph.edges) (unseen us above) in
           let all : weights f.graph us (siblings i above (reverse (options_of f r))) ≡ total c (reverse (options_of f r)) = weights-siblings f.graph us i above (reverse (options_of f r)) in
           let turned : total c (reverse (options_of f r)) ≡ total c (options_of f r) = total-reverse c (options_of f r) in
           let most : total c (options_of f r) ≤ length r.targets * c = total-options c r in
           omega arith
-      lighter told (Candidate n s) i above known = go (was_told f told s || is_among above n) refl
+      lighter covered (Candidate n s) i above known = go (is_covered f covered s || is_among above n) refl
         where
-          go : (b : Bool) → (was_told f told s || is_among above n) ≡ b → weights f.graph us (cond b [] (siblings i (above ++ n ∷ []) (reverse (needs_of f (verdict_of f n) (edges_of f.graph n))))) + 1 ≤ cost (length f.graph.edges) (unseen us above)
+          go : (b : Bool) → (is_covered f covered s || is_among above n) ≡ b → weights f.graph us (cond b [] (siblings i (above ++ n ∷ []) (reverse (needs_of f (verdict_of f n) (edges_of f.graph n))))) + 1 ≤ cost (length f.graph.edges) (unseen us above)
           go true h = cost-positive (length f.graph.edges) (unseen us above)
           go false h =
               let e = length f.graph.edges in
               let u = unseen us above in
               let v = unseen us (above ++ n ∷ []) in
               let os = needs_of f (verdict_of f n) (edges_of f.graph n) in
-              let fresh : is_among above n ≡ false = or_false (was_told f told s) (is_among above n) h in
+              let fresh : is_among above n ≡ false = or_false (is_covered f covered s) (is_among above n) h in
               let less : v + 1 ≤ u = unseen-new us above n known fresh in
               let grown : cost e (suc v) ≤ cost e u = cost-le e (suc v) u (omega arith) in
               let all : weights f.graph us (siblings i (above ++ n ∷ []) (reverse os)) ≡ total (cost e v) (reverse os) = weights-siblings f.graph us i (above ++ n ∷ []) (reverse os) in
@@ -285,13 +285,13 @@ module _ {S : Type 0} where
               omega arith
 
       -- the measure falls
-      pub smaller : (stack below now : List (Entry S)) (told : List S) (e : Entry S) → IsKnown e.op → stack ≡ below ++ e ∷ [] → now ≡ below ++ reverse (entries_below f told e.op e.indent e.above) → weights f.graph us (reverse now) < weights f.graph us (reverse stack)
-      smaller stack below now told e known at put =
-          let xs = entries_below f told e.op e.indent e.above in
+      pub smaller : (stack below now : List (Entry S)) (covered : List S) (e : Entry S) → IsKnown e.op → stack ≡ below ++ e ∷ [] → now ≡ below ++ reverse (entries_below f covered e.op e.indent e.above) → weights f.graph us (reverse now) < weights f.graph us (reverse stack)
+      smaller stack below now covered e known at put =
+          let xs = entries_below f covered e.op e.indent e.above in
           let turned : weights f.graph us (reverse now) ≡ weights f.graph us (xs ++ reverse below) = ap (weights f.graph us) (reverse_put below now xs put) in
           let both : weights f.graph us (xs ++ reverse below) ≡ weights f.graph us xs + weights f.graph us (reverse below) = weights-append f.graph us xs (reverse below) in
           let was : weights f.graph us (reverse stack) ≡ weights f.graph us (e ∷ reverse below) = ap (weights f.graph us) (ap reverse at ∙ reverse-append below (e ∷ [])) in
-          let less : weights f.graph us xs + 1 ≤ weight (cost (length f.graph.edges) (unseen us e.above)) e.op = lighter told e.op e.indent e.above known in
+          let less : weights f.graph us xs + 1 ≤ weight (cost (length f.graph.edges) (unseen us e.above)) e.op = lighter covered e.op e.indent e.above known in
           omega arith
 
       -- the entries below a known one are known
@@ -308,13 +308,13 @@ module _ {S : Type 0} where
       known_shown Installable r h = known_candidates (filter (is_among f.installable) r.targets) (All-filter (is_among f.installable) (λ n. is_among us n ≡ true) r.targets h)
       known_shown Hopeless r h = known_candidates r.targets h
 
-      known_firsts : (told : List S) (cs : List (NodeIndex × S)) → All (λ c. is_among us c.0 ≡ true) cs → All IsKnown (firsts_after f told cs)
-      known_firsts told [] h = All-nil IsKnown
-      known_firsts told (d ∷ cs) h = go (was_told f told d.1) (known_firsts told cs (All-tail (λ c. is_among us c.0 ≡ true) d cs h)) (known_firsts (told_with f told d.1) cs (All-tail (λ c. is_among us c.0 ≡ true) d cs h))
+      known_firsts : (covered : List S) (cs : List (NodeIndex × S)) → All (λ c. is_among us c.0 ≡ true) cs → All IsKnown (firsts_after f covered cs)
+      known_firsts covered [] h = All-nil IsKnown
+      known_firsts covered (d ∷ cs) h = go (is_covered f covered d.1) (known_firsts covered cs (All-tail (λ c. is_among us c.0 ≡ true) d cs h)) (known_firsts (covered_with f covered d.1) cs (All-tail (λ c. is_among us c.0 ≡ true) d cs h))
         where
-          go : (b : Bool) → All IsKnown (firsts_after f told cs) → All IsKnown (firsts_after f (told_with f told d.1) cs) → All IsKnown (cond b (firsts_after f told cs) (Candidate d.0 d.1 ∷ firsts_after f (told_with f told d.1) cs))
+          go : (b : Bool) → All IsKnown (firsts_after f covered cs) → All IsKnown (firsts_after f (covered_with f covered d.1) cs) → All IsKnown (cond b (firsts_after f covered cs) (Candidate d.0 d.1 ∷ firsts_after f (covered_with f covered d.1) cs))
           go true a b = a
-          go false a b = All-cons IsKnown (Candidate d.0 d.1) (firsts_after f (told_with f told d.1) cs) (All-head (λ c. is_among us c.0 ≡ true) d cs h) b
+          go false a b = All-cons IsKnown (Candidate d.0 d.1) (firsts_after f (covered_with f covered d.1) cs) (All-head (λ c. is_among us c.0 ≡ true) d cs h) b
 
       known_in_rank : (rs : List Run) → All (λ r. All (λ n. is_among us n ≡ true) r.targets) rs → All IsKnown (in_rank f rs)
       known_in_rank rs h =
@@ -359,9 +359,9 @@ module _ {S : Type 0} where
       known_turned : (os : List (DisplayOp S)) → All IsKnown os → All IsKnown (reverse os)
       known_turned os h = All-permutation IsKnown os (reverse os) (IsPermutation-reverse os) h
 
-      known_below : ((n : NodeIndex) → All (λ e. is_among us e.target ≡ true) (edges_of f.graph n)) → (told : List S) (o : DisplayOp S) (i : Indent) (above : List NodeIndex) → IsKnown o → All (λ e. IsKnown e.op) (entries_below f told o i above)
-      known_below met told (Requirement r) i above h = known_siblings i above (reverse (options_of f r)) (known_turned (options_of f r) (known_firsts [] (shown_of f (outlook_of f r) r) (known_shown (outlook_of f r) r h)))
-      known_below met told (Candidate n s) i above h = go (was_told f told s || is_among above n)
+      known_below : ((n : NodeIndex) → All (λ e. is_among us e.target ≡ true) (edges_of f.graph n)) → (covered : List S) (o : DisplayOp S) (i : Indent) (above : List NodeIndex) → IsKnown o → All (λ e. IsKnown e.op) (entries_below f covered o i above)
+      known_below met covered (Requirement r) i above h = known_siblings i above (reverse (options_of f r)) (known_turned (options_of f r) (known_firsts [] (shown_of f (outlook_of f r) r) (known_shown (outlook_of f r) r h)))
+      known_below met covered (Candidate n s) i above h = go (is_covered f covered s || is_among above n)
         where
           go : (b : Bool) → All (λ e. IsKnown e.op) (cond b [] (siblings i (above ++ n ∷ []) (reverse (needs_of f (verdict_of f n) (edges_of f.graph n)))))
           go true = All-nil (λ e. IsKnown e.op)
@@ -371,8 +371,8 @@ module _ {S : Type 0} where
       known_put : (below now xs : List (Entry S)) → All (λ e. IsKnown e.op) below → All (λ e. IsKnown e.op) xs → now ≡ below ++ reverse xs → All (λ e. IsKnown e.op) now
       known_put below now xs h k put = All-same (λ e. IsKnown e.op) now (below ++ reverse xs) put (All-append (λ e. IsKnown e.op) below (reverse xs) h (All-permutation (λ e. IsKnown e.op) xs (reverse xs) (IsPermutation-reverse xs) k))
 
-      pub known_next : ((n : NodeIndex) → All (λ e. is_among us e.target ≡ true) (edges_of f.graph n)) → (below now : List (Entry S)) (told : List S) (e : Entry S) → All (λ d. IsKnown d.op) below → IsKnown e.op → now ≡ below ++ reverse (entries_below f told e.op e.indent e.above) → All (λ d. IsKnown d.op) now
-      known_next met below now told e h k put = known_put below now (entries_below f told e.op e.indent e.above) h (known_below met told e.op e.indent e.above k) put
+      pub known_next : ((n : NodeIndex) → All (λ e. is_among us e.target ≡ true) (edges_of f.graph n)) → (below now : List (Entry S)) (covered : List S) (e : Entry S) → All (λ d. IsKnown d.op) below → IsKnown e.op → now ≡ below ++ reverse (entries_below f covered e.op e.indent e.above) → All (λ d. IsKnown d.op) now
+      known_next met below now covered e h k put = known_put below now (entries_below f covered e.op e.indent e.above) h (known_below met covered e.op e.indent e.above k) put
 
       pub known_start : (i : Indent) (stack : List (Entry S)) (es : List (Edge S)) → All (λ e. is_among us e.target ≡ true) es → stack ≡ [] ++ reverse (siblings i [] (reverse (in_rank f (runs_of es)))) → All (λ d. IsKnown d.op) stack
       known_start i stack es h put = known_put [] stack (siblings i [] (reverse (in_rank f (runs_of es)))) (All-nil (λ d. IsKnown d.op)) (known_siblings i [] (reverse (in_rank f (runs_of es))) (known_turned (in_rank f (runs_of es)) (known_in_rank (runs_of es) (known_runs es h)))) put
@@ -412,12 +412,12 @@ pub more_before : {S : Type 0} (ys : List (DisplayOp S)) (o : DisplayOp S) → H
 more_before ys o = sym (ap order_before (reverse-append ys (o ∷ [])))
 
 -- one candidate more
-pub first_more : {S : Type 0} (f : Findings S) (cs : List (NodeIndex × S)) (i : ℕ) (c : NodeIndex × S) (told told_now : List S) (all found now : List (DisplayOp S)) → drop i cs ≡ c ∷ drop (i + 1) cs → all ≡ found ++ firsts_after f told (drop i cs) → told_now ≡ cond (was_told f told c.1) told (told_with f told c.1) → now ≡ found ++ cond (was_told f told c.1) [] (Candidate c.0 c.1 ∷ []) → all ≡ now ++ firsts_after f told_now (drop (i + 1) cs)
-first_more {S} f cs i c told told_now all found now here so with put =
-    so ∙ ap (λ xs. found ++ firsts_after f told xs) here ∙ go (was_told f told c.1)
-    ∙ ap (λ xs. xs ++ firsts_after f (cond (was_told f told c.1) told (told_with f told c.1)) (drop (i + 1) cs)) (sym put)
+pub first_more : {S : Type 0} (f : Findings S) (cs : List (NodeIndex × S)) (i : ℕ) (c : NodeIndex × S) (covered covered_now : List S) (all found now : List (DisplayOp S)) → drop i cs ≡ c ∷ drop (i + 1) cs → all ≡ found ++ firsts_after f covered (drop i cs) → covered_now ≡ cond (is_covered f covered c.1) covered (covered_with f covered c.1) → now ≡ found ++ cond (is_covered f covered c.1) [] (Candidate c.0 c.1 ∷ []) → all ≡ now ++ firsts_after f covered_now (drop (i + 1) cs)
+first_more {S} f cs i c covered covered_now all found now here so with put =
+    so ∙ ap (λ xs. found ++ firsts_after f covered xs) here ∙ go (is_covered f covered c.1)
+    ∙ ap (λ xs. xs ++ firsts_after f (cond (is_covered f covered c.1) covered (covered_with f covered c.1)) (drop (i + 1) cs)) (sym put)
     ∙ ap (λ ts. now ++ firsts_after f ts (drop (i + 1) cs)) (sym with)
   where
-    go : (b : Bool) → found ++ cond b (firsts_after f told (drop (i + 1) cs)) (Candidate c.0 c.1 ∷ firsts_after f (told_with f told c.1) (drop (i + 1) cs)) ≡ (found ++ cond b [] (Candidate c.0 c.1 ∷ [])) ++ firsts_after f (cond b told (told_with f told c.1)) (drop (i + 1) cs)
-    go true = ap (λ xs. xs ++ firsts_after f told (drop (i + 1) cs)) (sym (append-nil found))
-    go false = sym (append_assoc found (Candidate c.0 c.1 ∷ []) (firsts_after f (told_with f told c.1) (drop (i + 1) cs)))
+    go : (b : Bool) → found ++ cond b (firsts_after f covered (drop (i + 1) cs)) (Candidate c.0 c.1 ∷ firsts_after f (covered_with f covered c.1) (drop (i + 1) cs)) ≡ (found ++ cond b [] (Candidate c.0 c.1 ∷ [])) ++ firsts_after f (cond b covered (covered_with f covered c.1)) (drop (i + 1) cs)
+    go true = ap (λ xs. xs ++ firsts_after f covered (drop (i + 1) cs)) (sym (append-nil found))
+    go false = sym (append_assoc found (Candidate c.0 c.1 ∷ []) (firsts_after f (covered_with f covered c.1) (drop (i + 1) cs)))

@@ -10,8 +10,8 @@ use Rattle.resolvo_graph.specs.Graph.{Graph}
 use Rattle.resolvo_graph.specs.Tree.{Findings}
 
 -- the versions that are merged with this one
-abbrev pub kept_with : {S H : Type 0} → (S → S → Bool) → HashMap S (Rc (MergedConflictNode S) Global) H → S → Option (List S)
-kept_with eq m s = option_map (λ r. r.value.ids.items) (get eq m s)
+abbrev pub merged_with : {S H : Type 0} → (S → S → Bool) → HashMap S (Rc (MergedConflictNode S) Global) H → S → Option (List S)
+merged_with eq m s = option_map (λ r. r.value.ids.items) (get eq m s)
 
 -- the versions of the group of this number; none past the last group
 abbrev pub ids_at : {S : Type 0} → List (MergedConflictNode S) → ℕ → List S
@@ -19,4 +19,4 @@ ids_at groups g = option_map_or (λ n. n.ids.items) (slice_get groups g) []
 
 -- the input of a tree, from the values of the code
 abbrev pub findings : {S H : Type 0} → (S → S → Bool) → Graph S → List NodeIndex → HashMap S (Rc (MergedConflictNode S) Global) H → Findings S
-findings eq g installable m = record { graph = g; same = eq; installable = installable; merged = kept_with eq m }
+findings eq g installable m = record { graph = g; same = eq; installable = installable; merged = merged_with eq m }

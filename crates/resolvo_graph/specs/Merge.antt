@@ -84,9 +84,9 @@ module _ {S : Type 0} (same : S → S → Bool) (ids : ℕ → List S) where
   together m s = cond (same m.solvable s && nat_lt 1 (length (ids m.group))) (Some (ids m.group)) None
 
   -- the group of s among some members
-  abbrev pub told_together : List (Member S) → S → Option (List S)
-  told_together [] s = None
-  told_together (m ∷ ms) s = or_else (told_together ms s) (together m s)
+  abbrev pub group_among : List (Member S) → S → Option (List S)
+  group_among [] s = None
+  group_among (m ∷ ms) s = or_else (group_among ms s) (together m s)
 
 module _ {N S : Type 0} (same_name : N → N → Bool) where
   -- both versions are merged

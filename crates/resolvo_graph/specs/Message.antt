@@ -7,7 +7,7 @@ use Rattle.resolvo_graph.specs.declared.graph.ConflictCause.TheVariants as Cause
 use Rattle.resolvo_graph.specs.declared.graph.ConflictEdge.{ConflictEdge}
 use Rattle.resolvo_graph.specs.declared.graph.ConflictEdge.TheVariants as Edges
 use Rattle.resolvo_graph.specs.declared.line.Verdict.TheVariants.{Locked}
-use Rattle.resolvo_graph.specs.declared.line.Sentence.TheVariants as Says
+use Rattle.resolvo_graph.specs.declared.line.Sentence.TheVariants as Sentences
 use Rattle.resolvo_graph.specs.declared.line.MessageLine.{MessageLine}
 use Rattle.resolvo_graph.specs.Graph.{Graph, edges_of}
 use Rattle.resolvo_graph.specs.Indent.{Indent}
@@ -21,8 +21,8 @@ use Rattle.resolvo_graph.specs.Words.{Meaning, line_text}
 -- the line of a conflict of the root itself: of a constraint, or of a lock
 abbrev pub conflict_line : {S : Type 0} → ConflictEdge S → Indent → List (MessageLine S)
 conflict_line (Edges.Requires q) i = []
-conflict_line (Edges.Conflict (Causes.Locked s)) i = record { indenter = i; sentence = Says.Versions (s ∷ []) Locked } ∷ []
-conflict_line (Edges.Conflict (Causes.Constrains v)) i = record { indenter = i; sentence = Says.Constraint v } ∷ []
+conflict_line (Edges.Conflict (Causes.Locked s)) i = record { indenter = i; sentence = Sentences.Versions (s ∷ []) Locked } ∷ []
+conflict_line (Edges.Conflict (Causes.Constrains v)) i = record { indenter = i; sentence = Sentences.Constraint v } ∷ []
 conflict_line (Edges.Conflict Causes.ForbidMultipleInstances) i = []
 conflict_line (Edges.Conflict Causes.Excluded) i = []
 
@@ -32,7 +32,7 @@ conflict_lines [] = []
 conflict_lines (e ∷ es) = conflict_line e.weight (record { levels = order_before es ∷ []; top_level_indent = true }) ++ conflict_lines es
 
 abbrev pub heading : {S : Type 0} → MessageLine S
-heading = record { indenter = record { levels = []; top_level_indent = true }; sentence = Says.Incompatible }
+heading = record { indenter = record { levels = []; top_level_indent = true }; sentence = Sentences.Incompatible }
 
 -- the edge leads to a node that misses a candidate
 abbrev pub misses : {S : Type 0} → List NodeIndex → Edge S → Bool
@@ -57,7 +57,7 @@ pub record IsMessage {N S : Type 0} (same_name : N → N → Bool) (same : S →
   pub order : List NodeIndex
   pub merged : S → Option (List S)
   pub walked : IsPostOrder g order
-  pub told_as_one : IsMerged same_name same g name_of merged
+  pub are_merged : IsMerged same_name same g name_of merged
   pub parts : AreParts (record { graph = g; same = same; installable = installable_in g order; merged = merged }) (missing_in g order) (edges_of g (record { 0 = 0 })) lines
 
 -- the bytes of these lines

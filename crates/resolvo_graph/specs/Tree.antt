@@ -15,7 +15,7 @@ use Rattle.resolvo_graph.specs.declared.line.Outlook.{Outlook}
 use Rattle.resolvo_graph.specs.declared.line.Outlook.TheVariants.{Missing, Installable, Hopeless}
 use Rattle.resolvo_graph.specs.declared.line.Verdict.{Verdict}
 use Rattle.resolvo_graph.specs.declared.line.Verdict.TheVariants.{Alone, Excluded, Conflicts, Constrains, Requires, Locked}
-use Rattle.resolvo_graph.specs.declared.line.Sentence.TheVariants as Says
+use Rattle.resolvo_graph.specs.declared.line.Sentence.TheVariants as Sentences
 use Rattle.resolvo_graph.specs.declared.line.MessageLine.{MessageLine}
 use Rattle.resolvo_graph.specs.declared.tree.DisplayOp.{DisplayOp}
 use Rattle.resolvo_graph.specs.declared.tree.DisplayOp.TheVariants.{Requirement, Candidate}
@@ -109,7 +109,7 @@ verdict_for None (e ∷ es) = cond (list_any (λ d. is_forbidden d.weight) (e �
 -- a line for each version set that a version admits alone, one level deeper
 abbrev pub admitted_lines : {S : Type 0} → Indent → List VersionSetId → List (MessageLine S)
 admitted_lines i [] = []
-admitted_lines i (v ∷ vs) = record { indenter = level_below i (order_before vs); sentence = Says.Admitted v } ∷ admitted_lines i vs
+admitted_lines i (v ∷ vs) = record { indenter = level_below i (order_before vs); sentence = Sentences.Admitted v } ∷ admitted_lines i vs
 
 -- the further lines of a version with this verdict: its version sets, without consecutive repeats
 abbrev pub further_lines : {S : Type 0} → Verdict → Indent → List (Edge S) → List (MessageLine S)
@@ -132,16 +132,16 @@ module _ {S : Type 0} (f : Findings S) where
   shown_of Hopeless r = candidates_at f.graph r.targets
 
   -- the versions that lines cover, with those that are merged with s
-  abbrev pub told_with : List S → S → List S
-  told_with told s = insert_all f.same told (unwrap_or (f.merged s) [])
+  abbrev pub covered_with : List S → S → List S
+  covered_with covered s = insert_all f.same covered (unwrap_or (f.merged s) [])
 
-  abbrev pub was_told : List S → S → Bool
-  was_told told s = list_any (f.same s) told
+  abbrev pub is_covered : List S → S → Bool
+  is_covered covered s = list_any (f.same s) covered
 
   -- the versions, of merged ones only the first
   abbrev pub firsts_after : List S → List (NodeIndex × S) → List (DisplayOp S)
-  firsts_after told [] = []
-  firsts_after told (c ∷ cs) = cond (was_told told c.1) (firsts_after told cs) (Candidate c.0 c.1 ∷ firsts_after (told_with told c.1) cs)
+  firsts_after covered [] = []
+  firsts_after covered (c ∷ cs) = cond (is_covered covered c.1) (firsts_after covered cs) (Candidate c.0 c.1 ∷ firsts_after (covered_with covered c.1) cs)
 
   -- the versions below a run
   abbrev pub options_of : Run → List (DisplayOp S)
@@ -165,33 +165,33 @@ module _ {S : Type 0} (f : Findings S) where
 
   -- a line covers the version already, or it is below itself
   abbrev pub is_passed : List S → NodeIndex → S → List NodeIndex → Bool
-  is_passed told n s above = was_told told s || is_among above n
+  is_passed covered n s above = is_covered covered s || is_among above n
 
   -- the lines of a version, without those below it
   abbrev pub version_lines : NodeIndex → S → Indent → List (MessageLine S)
-  version_lines n s i = record { indenter = i; sentence = Says.Versions (unwrap_or (f.merged s) (s ∷ [])) (verdict_of n) } ∷ further_lines (verdict_of n) i (edges_of f.graph n)
+  version_lines n s i = record { indenter = i; sentence = Sentences.Versions (unwrap_or (f.merged s) (s ∷ [])) (verdict_of n) } ∷ further_lines (verdict_of n) i (edges_of f.graph n)
 
   -- the lines of an entry itself
   abbrev pub lines_at : List S → DisplayOp S → Indent → List NodeIndex → List (MessageLine S)
-  lines_at told (Requirement r) i above = record { indenter = i; sentence = Says.Requirement r.requirement (outlook_of r) } ∷ []
-  lines_at told (Candidate n s) i above = cond (is_passed told n s above) [] (version_lines n s i)
+  lines_at covered (Requirement r) i above = record { indenter = i; sentence = Sentences.Requirement r.requirement (outlook_of r) } ∷ []
+  lines_at covered (Candidate n s) i above = cond (is_passed covered n s above) [] (version_lines n s i)
 
   -- the entries one level below; the first of a list is the last one in the text
   abbrev pub entries_below : List S → DisplayOp S → Indent → List NodeIndex → List (Entry S)
-  entries_below told (Requirement r) i above = siblings i above (reverse (options_of r))
-  entries_below told (Candidate n s) i above = cond (is_passed told n s above) [] (siblings i (above ++ n ∷ []) (reverse (needs_of (verdict_of n) (edges_of f.graph n))))
+  entries_below covered (Requirement r) i above = siblings i above (reverse (options_of r))
+  entries_below covered (Candidate n s) i above = cond (is_passed covered n s above) [] (siblings i (above ++ n ∷ []) (reverse (needs_of (verdict_of n) (edges_of f.graph n))))
 
   -- the versions that lines cover after an entry's own ones
-  abbrev pub told_after : List S → DisplayOp S → List NodeIndex → List S
-  told_after told (Requirement r) above = told
-  told_after told (Candidate n s) above = cond (is_passed told n s above) told (told_with told s)
+  abbrev pub covered_after : List S → DisplayOp S → List NodeIndex → List S
+  covered_after covered (Requirement r) above = covered
+  covered_after covered (Candidate n s) above = cond (is_passed covered n s above) covered (covered_with covered s)
 
   -- after lines that cover some versions, these entries have these lines, which cover more:
   -- an entry's own lines, then those below it, then those of the next entries
-  pub data Tells : List S → List (Entry S) → List (MessageLine S) → List S → Type 0 where
-    done : (told : List S) → Tells told [] [] told
-    next : {told : List S} (e : Entry S) {es : List (Entry S)} {inner rest : List (MessageLine S)} {between after : List S} → Tells (told_after told e.op e.above) (entries_below told e.op e.indent e.above) inner between → Tells between es rest after → Tells told (e ∷ es) (lines_at told e.op e.indent e.above ++ (inner ++ rest)) after
+  pub data Writes : List S → List (Entry S) → List (MessageLine S) → List S → Type 0 where
+    done : (covered : List S) → Writes covered [] [] covered
+    next : {covered : List S} (e : Entry S) {es : List (Entry S)} {inner rest : List (MessageLine S)} {between after : List S} → Writes (covered_after covered e.op e.above) (entries_below covered e.op e.indent e.above) inner between → Writes between es rest after → Writes covered (e ∷ es) (lines_at covered e.op e.indent e.above ++ (inner ++ rest)) after
 
   -- the lines of the tree of some runs
   abbrev pub IsTree : Bool → List Run → List (MessageLine S) → Type 0
-  IsTree top_level_indent rs lines = (told : List S) × Tells [] (siblings (record { levels = []; top_level_indent = top_level_indent }) [] (reverse (in_rank rs))) lines told
+  IsTree top_level_indent rs lines = (covered : List S) × Writes [] (siblings (record { levels = []; top_level_indent = top_level_indent }) [] (reverse (in_rank rs))) lines covered

@@ -10,7 +10,7 @@ use Rattle.resolvo_graph.specs.declared.line.Outlook.TheVariants.{Missing, Insta
 use Rattle.resolvo_graph.specs.declared.line.Verdict.{Verdict}
 use Rattle.resolvo_graph.specs.declared.line.Verdict.TheVariants.{Alone, Excluded, Conflicts, Constrains, Requires, Locked}
 use Rattle.resolvo_graph.specs.declared.line.Sentence.{Sentence}
-use Rattle.resolvo_graph.specs.declared.line.Sentence.TheVariants as Says
+use Rattle.resolvo_graph.specs.declared.line.Sentence.TheVariants as Sentences
 use Rattle.resolvo_graph.specs.declared.line.MessageLine.{MessageLine}
 use Rattle.resolvo_graph.specs.Indent.{indent_text}
 
@@ -75,11 +75,11 @@ module _ {N S : Type 0} (m : Meaning N S) where
   constraint_words v = codes "the constraint " ++ (set_words v ++ codes " cannot be fulfilled")
 
   abbrev pub sentence_words : Bool → Sentence S → List ℕ
-  sentence_words top Says.Incompatible = codes "The following packages are incompatible"
-  sentence_words top (Says.Requirement q outlook) = requirement_words top q outlook
-  sentence_words top (Says.Versions ids verdict) = versions_words ids verdict
-  sentence_words top (Says.Admitted v) = admitted_words v
-  sentence_words top (Says.Constraint v) = constraint_words v
+  sentence_words top Sentences.Incompatible = codes "The following packages are incompatible"
+  sentence_words top (Sentences.Requirement q outlook) = requirement_words top q outlook
+  sentence_words top (Sentences.Versions ids verdict) = versions_words ids verdict
+  sentence_words top (Sentences.Admitted v) = admitted_words v
+  sentence_words top (Sentences.Constraint v) = constraint_words v
 
   -- an indent, a sentence, a newline; a line of one level is at the top
   abbrev pub line_text : MessageLine S → List ℕ

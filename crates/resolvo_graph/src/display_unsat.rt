@@ -217,14 +217,14 @@ fn conflict_lines<S: Copy + Exact + Hash + Debug>(
     while let Some((edge, below)) = rest.split_first() {
         let top = Indenter::new(alloc, true);
         let indenter = top.push_level(alloc, order_before(below))?;
-        tell_conflict(alloc, edge.weight, indenter, &mut lines)?;
+        write_conflict(alloc, edge.weight, indenter, &mut lines)?;
         rest = below;
     }
     Ok(lines)
 }
 
 /// Writes a conflict of the root itself: a constraint, or a lock.
-fn tell_conflict<S: Copy + Exact + Hash + Debug>(
+fn write_conflict<S: Copy + Exact + Hash + Debug>(
     alloc: Global,
     weight: ConflictEdge<S>,
     indenter: Indenter,

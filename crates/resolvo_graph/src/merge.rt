@@ -2,9 +2,9 @@
 //! `simplify` numbers the likenesses of versions: the package, and the sorted lists of neighbours,
 //! each with its requirement. Versions of one number are merged.
 ghost use Rattle.std.specs.Prelude.{◌≡◌, ℕ, ◌<◌, ◌==◌, ◌++◌, ◌∷◌, [], IfOk, OnOk, Some, cond, length, map, nat_lt, ◌&&◌, vec_len};
-ghost use Rattle.resolvo_graph.specs.Merge.{before, after, IsInOrder, IsProfile, AreProfiles, AreMembers, numbered, told_together, solvable_of, IsMerged};
+ghost use Rattle.resolvo_graph.specs.Merge.{before, after, IsInOrder, IsProfile, AreProfiles, AreMembers, numbered, group_among, solvable_of, IsMerged};
 ghost use Rattle.resolvo_graph.specs.Graph.{requirement_of};
-ghost use Rattle.resolvo_graph.specs.Kept.{kept_with, ids_at};
+ghost use Rattle.resolvo_graph.specs.Kept.{merged_with, ids_at};
 
 use crate::graph::{ConflictGraph, ConflictNode, Edge, NodeIndex};
 use indexmap::IndexSet;
@@ -86,7 +86,7 @@ impl<S: SolverId> ConflictGraph<S> {
         ensures { IfOk result
             (λ m.
             IsMerged I.NameId.eq S.eq self.now (I.name_of_solvable interner.now)
-            (kept_with S.eq m)) }
+            (merged_with S.eq m)) }
     {
         let members = members(alloc, profiles(alloc, self, interner)?)?;
         let groups = shared(alloc, groups(alloc, &members)?)?;
@@ -181,8 +181,8 @@ fn merged<S: Copy + Exact + Hash + Debug>(
     ensures { IfOk result
         (λ m.
         (s : S)
-        → kept_with S.eq m s
-        ≡ told_together S.eq (ids_at (map (λ r. r.value) groups.now)) members.now s) }
+        → merged_with S.eq m s
+        ≡ group_among S.eq (ids_at (map (λ r. r.value) groups.now)) members.now s) }
 {
     let mut merged = HashMap::new(alloc);
     for member in members {
@@ -201,9 +201,9 @@ fn keep<S: Copy + Exact + Hash + Debug>(
 ) -> R<()>
     ensures { OnOk result
         ((s : S)
-        → kept_with S.eq merged.new s
+        → merged_with S.eq merged.new s
         ≡ cond (S.eq solvable s && nat_lt 1 (length group.now.value.ids.items))
-        (Some group.now.value.ids.items) (kept_with S.eq merged.old s)) }
+        (Some group.now.value.ids.items) (merged_with S.eq merged.old s)) }
 {
     if group.ids.len() > 1 {
         merged.insert(solvable, group.clone()?)?;

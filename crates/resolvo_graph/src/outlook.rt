@@ -55,7 +55,7 @@ fn can_install<S: Copy + Exact + Hash>(
     marked: &IndexSet<NodeIndex>,
     node: NodeIndex,
 ) -> R<bool>
-    ensures said { IfOk result (λ b. b ≡ can_be_installed graph.now marked.now.keys node) }
+    ensures answer { IfOk result (λ b. b ≡ can_be_installed graph.now marked.now.keys node) }
     ensures refusal { IsOkUnless result Memory }
 {
     if graph.is_unresolved(node) || graph.is_excluding(node) {
@@ -121,7 +121,7 @@ fn does_miss<S: Copy + Exact + Hash>(
     marked: &IndexSet<NodeIndex>,
     node: NodeIndex,
 ) -> R<bool>
-    ensures said { IfOk result (λ b. b ≡ misses_one graph.now marked.now.keys node) }
+    ensures answer { IfOk result (λ b. b ≡ misses_one graph.now marked.now.keys node) }
     ensures refusal { IsOkUnless result Memory }
 {
     let edges = graph.edges(alloc, node)?;

@@ -4,14 +4,14 @@
 //! ends on graphs with cycles.
 ghost use Rattle.std.specs.Prelude.{◌≡◌, ◌++◌, ◌∷◌, [], IfOk, OnOk, cond, filter, reverse, unwrap_or, slice_get};
 ghost use Rattle.std.specs.List.{list_any, dedup};
-ghost use Rattle.resolvo_graph.specs.declared.line.Sentence.TheVariants as Says;
+ghost use Rattle.resolvo_graph.specs.declared.line.Sentence.TheVariants as Sentences;
 ghost use Rattle.resolvo_graph.specs.declared.tree.DisplayOp.{DisplayOp};
 ghost use Rattle.resolvo_graph.specs.Graph.{edges_of, is_forbidden};
 ghost use Rattle.resolvo_graph.specs.Indent.{level_below};
-ghost use Rattle.resolvo_graph.specs.Kept.{findings, kept_with};
+ghost use Rattle.resolvo_graph.specs.Kept.{findings, merged_with};
 ghost use Rattle.resolvo_graph.specs.Walk.{is_among};
 ghost use Rattle.resolvo_graph.specs.Runs.{runs_of};
-ghost use Rattle.resolvo_graph.specs.Tree.{siblings, is_missing, candidates_at, reason_in, is_admitting, admitted_in, same_set, verdict_for, admitted_lines, further_lines, outlook_of, shown_of, told_with, was_told, firsts_after, in_rank, verdict_of, needs_of, is_passed, version_lines, lines_at, entries_below, told_after, IsTree, solvable_at_node, order_before};
+ghost use Rattle.resolvo_graph.specs.Tree.{siblings, is_missing, candidates_at, reason_in, is_admitting, admitted_in, same_set, verdict_for, admitted_lines, further_lines, outlook_of, shown_of, covered_with, is_covered, firsts_after, in_rank, verdict_of, needs_of, is_passed, version_lines, lines_at, entries_below, covered_after, IsTree, solvable_at_node, order_before};
 
 use crate::graph::{ConflictGraph, ConflictNode, Edge, NodeIndex};
 use crate::indenter::{ChildOrder, Indenter};
@@ -65,9 +65,9 @@ pub(crate) struct Findings<'a, S: Copy + Exact + Hash + Debug> {
 
 /// The state while a tree is written.
 #[derive(Drop)]
-struct Telling<S: Copy + Exact + Hash + Debug> {
+struct TreeWriter<S: Copy + Exact + Hash + Debug> {
     /// The versions that lines cover, as parts of merged ones.
-    told: IndexSet<S>,
+    covered: IndexSet<S>,
     /// The entries that are left to write, the next one at the end.
     stack: Vec<Entry<S>>,
     lines: Vec<MessageLine<S>>,
@@ -86,16 +86,16 @@ impl<S: Copy + Exact + Hash + Debug> Findings<'_, S> {
             IsTree (findings S.eq self.now.graph.now self.now.installable.keys self.now.merged)
             top_level_indent (runs_of edges.now) v.items) }
     {
-        let mut telling = Telling {
-            told: IndexSet::new(alloc),
+        let mut writer = TreeWriter {
+            covered: IndexSet::new(alloc),
             stack: Vec::new(alloc),
             lines: Vec::new(alloc),
         };
-        self.place_top(alloc, edges, top_level_indent, &mut telling.stack)?;
-        while let Some(entry) = telling.stack.pop() {
-            self.tell(alloc, entry, &mut telling)?;
+        self.place_top(alloc, edges, top_level_indent, &mut writer.stack)?;
+        while let Some(entry) = writer.stack.pop() {
+            self.write_entry(alloc, entry, &mut writer)?;
         }
-        Ok(telling.lines)
+        Ok(writer.lines)
     }
 
     /// Pushes the runs of some edges, at the top of their tree.
@@ -127,23 +127,23 @@ impl<S: Copy + Exact + Hash + Debug> Findings<'_, S> {
     }
 
     /// Writes an entry's own lines, and pushes the entries below it.
-    fn tell(&self, alloc: Global, entry: Entry<S>, telling: &mut Telling<S>) -> R<()>
-        ensures told { OnOk result
-            (telling.new.told.keys
-            ≡ told_after
+    fn write_entry(&self, alloc: Global, entry: Entry<S>, writer: &mut TreeWriter<S>) -> R<()>
+        ensures covered { OnOk result
+            (writer.new.covered.keys
+            ≡ covered_after
             (findings S.eq self.now.graph.now self.now.installable.keys self.now.merged)
-            telling.old.told.keys entry.op entry.above) }
+            writer.old.covered.keys entry.op entry.above) }
         ensures stack { OnOk result
-            (telling.new.stack.items
-            ≡ telling.old.stack.items ++ reverse
+            (writer.new.stack.items
+            ≡ writer.old.stack.items ++ reverse
             (entries_below
             (findings S.eq self.now.graph.now self.now.installable.keys self.now.merged)
-            telling.old.told.keys entry.op entry.indent entry.above)) }
+            writer.old.covered.keys entry.op entry.indent entry.above)) }
         ensures lines { OnOk result
-            (telling.new.lines.items
-            ≡ telling.old.lines.items ++ lines_at
+            (writer.new.lines.items
+            ≡ writer.old.lines.items ++ lines_at
             (findings S.eq self.now.graph.now self.now.installable.keys self.now.merged)
-            telling.old.told.keys entry.op entry.indent entry.above) }
+            writer.old.covered.keys entry.op entry.indent entry.above) }
     {
         let Entry {
             op,
@@ -151,18 +151,18 @@ impl<S: Copy + Exact + Hash + Debug> Findings<'_, S> {
             above,
         } = entry;
         match op {
-            DisplayOp::Requirement(run) => self.tell_run(
+            DisplayOp::Requirement(run) => self.write_run(
                 alloc,
                 &run,
                 indenter,
                 above.as_slice(),
-                telling,
+                writer,
             ),
             DisplayOp::Candidate(node, version) => {
-                if self.is_passed(&telling.told, node, version, above.as_slice()) {
+                if self.is_passed(&writer.covered, node, version, above.as_slice()) {
                     return Ok(());
                 }
-                self.tell_version(alloc, node, version, indenter, above, telling)
+                self.write_version(alloc, node, version, indenter, above, writer)
             }
         }
     }
@@ -170,44 +170,44 @@ impl<S: Copy + Exact + Hash + Debug> Findings<'_, S> {
     /// Whether a line covers a version already, or it is below itself.
     fn is_passed(
         &self,
-        told: &IndexSet<S>,
+        covered: &IndexSet<S>,
         node: NodeIndex,
         version: S,
         above: &[NodeIndex],
     ) -> bool
         ensures { result
             ≡ is_passed (findings S.eq self.now.graph.now self.now.installable.keys self.now.merged)
-            told.now.keys node version above.now }
+            covered.now.keys node version above.now }
     {
-        told.contains(&version) || above.contains(&node)
+        covered.contains(&version) || above.contains(&node)
     }
 
     /// Writes a run, and pushes its candidates.
-    fn tell_run(
+    fn write_run(
         &self,
         alloc: Global,
         run: &Run,
         indenter: Indenter,
         above: &[NodeIndex],
-        telling: &mut Telling<S>,
+        writer: &mut TreeWriter<S>,
     ) -> R<()>
-        ensures told { telling.new.told.keys ≡ telling.old.told.keys }
+        ensures covered { writer.new.covered.keys ≡ writer.old.covered.keys }
         ensures stack { OnOk result
-            (telling.new.stack.items
-            ≡ telling.old.stack.items ++ reverse
+            (writer.new.stack.items
+            ≡ writer.old.stack.items ++ reverse
             (entries_below
             (findings S.eq self.now.graph.now self.now.installable.keys self.now.merged)
             [] (DisplayOp.Requirement run.now) indenter above.now)) }
         ensures lines { OnOk result
-            (telling.new.lines.items
-            ≡ telling.old.lines.items ++ lines_at
+            (writer.new.lines.items
+            ≡ writer.old.lines.items ++ lines_at
             (findings S.eq self.now.graph.now self.now.installable.keys self.now.merged) []
             (DisplayOp.Requirement run.now) indenter above.now) }
     {
         let outlook = self.outlook(run);
         let options = self.options(alloc, run, outlook)?;
-        place(alloc, options, &indenter, above, &mut telling.stack)?;
-        telling.lines.push(MessageLine {
+        place(alloc, options, &indenter, above, &mut writer.stack)?;
+        writer.lines.push(MessageLine {
             indenter,
             sentence: Sentence::Requirement(run.requirement(), outlook),
         })?;
@@ -215,23 +215,23 @@ impl<S: Copy + Exact + Hash + Debug> Findings<'_, S> {
     }
 
     /// Writes a version with those merged with it, and pushes its requirements.
-    fn tell_version(
+    fn write_version(
         &self,
         alloc: Global,
         node: NodeIndex,
         version: S,
         indenter: Indenter,
         above: Vec<NodeIndex>,
-        telling: &mut Telling<S>,
+        writer: &mut TreeWriter<S>,
     ) -> R<()>
-        ensures told { OnOk result
-            (telling.new.told.keys
-            ≡ told_with
+        ensures covered { OnOk result
+            (writer.new.covered.keys
+            ≡ covered_with
             (findings S.eq self.now.graph.now self.now.installable.keys self.now.merged)
-            telling.old.told.keys version) }
+            writer.old.covered.keys version) }
         ensures stack { OnOk result
-            (telling.new.stack.items
-            ≡ telling.old.stack.items ++ reverse
+            (writer.new.stack.items
+            ≡ writer.old.stack.items ++ reverse
             (siblings indenter (above.items ++ node ∷ [])
             (reverse
             (needs_of
@@ -243,15 +243,15 @@ impl<S: Copy + Exact + Hash + Debug> Findings<'_, S> {
             node)
             (edges_of self.now.graph.now node))))) }
         ensures lines { OnOk result
-            (telling.new.lines.items
-            ≡ telling.old.lines.items ++ version_lines
+            (writer.new.lines.items
+            ≡ writer.old.lines.items ++ version_lines
             (findings S.eq self.now.graph.now self.now.installable.keys self.now.merged) node
             version indenter) }
     {
         let edges = self.graph.edges(alloc, node)?;
-        self.place_needs(alloc, node, &edges, &indenter, above, &mut telling.stack)?;
-        self.mark(version, &mut telling.told)?;
-        self.add_lines(alloc, version, &edges, indenter, &mut telling.lines)
+        self.place_needs(alloc, node, &edges, &indenter, above, &mut writer.stack)?;
+        self.mark(version, &mut writer.covered)?;
+        self.add_lines(alloc, version, &edges, indenter, &mut writer.lines)
     }
 
     /// Pushes the requirements of a version with these edges, below it and the nodes above it.
@@ -294,7 +294,7 @@ impl<S: Copy + Exact + Hash + Debug> Findings<'_, S> {
             (lines.new.items
             ≡ lines.old.items ++ record {
               indenter = indenter;
-              sentence = Says.Versions (unwrap_or (kept_with S.eq self.now.merged version)
+              sentence = Sentences.Versions (unwrap_or (merged_with S.eq self.now.merged version)
                   (version ∷ [])) (verdict_for (reason_in self.now.graph.now edges.now) edges.now);
             }
             ∷ further_lines (verdict_for (reason_in self.now.graph.now edges.now) edges.now)
@@ -304,7 +304,7 @@ impl<S: Copy + Exact + Hash + Debug> Findings<'_, S> {
         let mut further = further_lines(alloc, verdict, &indenter, edges)?;
         lines.push(MessageLine {
             indenter,
-            sentence: Sentence::Versions(self.told_as(alloc, version)?, verdict),
+            sentence: Sentence::Versions(self.merged_versions(alloc, version)?, verdict),
         })?;
         lines.append(&mut further)?;
         Ok(())
@@ -402,10 +402,10 @@ impl<S: Copy + Exact + Hash + Debug> Findings<'_, S> {
             (findings S.eq self.now.graph.now self.now.installable.keys self.now.merged) []
             candidates.now) }
     {
-        let mut told = IndexSet::new(alloc);
+        let mut covered = IndexSet::new(alloc);
         let mut found = Vec::new(alloc);
         for (node, version) in candidates {
-            self.add_first(*node, *version, &mut told, &mut found)?;
+            self.add_first(*node, *version, &mut covered, &mut found)?;
         }
         Ok(found)
     }
@@ -415,53 +415,53 @@ impl<S: Copy + Exact + Hash + Debug> Findings<'_, S> {
         &self,
         node: NodeIndex,
         version: S,
-        told: &mut IndexSet<S>,
+        covered: &mut IndexSet<S>,
         found: &mut Vec<DisplayOp<S>>,
     ) -> R<()>
-        ensures told { OnOk result
-            (told.new.keys
+        ensures covered { OnOk result
+            (covered.new.keys
             ≡ cond
-            (was_told
+            (is_covered
             (findings S.eq self.now.graph.now self.now.installable.keys self.now.merged)
-            told.old.keys version)
-            told.old.keys
-            (told_with
+            covered.old.keys version)
+            covered.old.keys
+            (covered_with
             (findings S.eq self.now.graph.now self.now.installable.keys self.now.merged)
-            told.old.keys version)) }
+            covered.old.keys version)) }
         ensures found { OnOk result
             (found.new.items
             ≡ found.old.items ++ cond
-            (was_told
+            (is_covered
             (findings S.eq self.now.graph.now self.now.installable.keys self.now.merged)
-            told.old.keys version)
+            covered.old.keys version)
             [] (DisplayOp.Candidate node version ∷ [])) }
     {
-        if !told.contains(&version) {
-            self.mark(version, told)?;
+        if !covered.contains(&version) {
+            self.mark(version, covered)?;
             found.push(DisplayOp::Candidate(node, version))?;
         }
         Ok(())
     }
 
     /// Marks the versions that are merged with one as covered.
-    fn mark(&self, version: S, told: &mut IndexSet<S>) -> R<()>
+    fn mark(&self, version: S, covered: &mut IndexSet<S>) -> R<()>
         ensures { OnOk result
-            (told.new.keys
-            ≡ told_with
+            (covered.new.keys
+            ≡ covered_with
             (findings S.eq self.now.graph.now self.now.installable.keys self.now.merged)
-            told.old.keys version) }
+            covered.old.keys version) }
     {
         if let Some(group) = self.merged.get(&version) {
             for id in &group.ids {
-                told.insert_full(*id)?;
+                covered.insert_full(*id)?;
             }
         }
         Ok(())
     }
 
     /// The versions that are merged with one, or that one alone.
-    fn told_as(&self, alloc: Global, version: S) -> R<Versions<S>>
-        ensures { IfOk result (λ v. v ≡ unwrap_or (kept_with S.eq self.now.merged version)
+    fn merged_versions(&self, alloc: Global, version: S) -> R<Versions<S>>
+        ensures { IfOk result (λ v. v ≡ unwrap_or (merged_with S.eq self.now.merged version)
             (version ∷ [])) }
     {
         if let Some(group) = self.merged.get(&version) {

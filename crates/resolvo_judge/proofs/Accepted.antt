@@ -18,17 +18,17 @@ use Rattle.resolvo_catalogue_core.proofs.Pushed.{increasing_push}
 use Rattle.resolvo_report.specs.Value.{Place, OfRequest, OfVersion, AnswerLine, ReportLine, InstallHead, RefusedHead, CatalogueLine, RequestLine, Numbered, Message, Step}
 use Rattle.resolvo_report.specs.Value as line
 use Rattle.resolvo_checker.specs.StepClauses.{Clause, clause_of, is_listed, is_owner}
-use Rattle.resolvo_checker.specs.Proof.{may_stand, rests_on_named, follows, is_named, every_line, IsProof, bars}
-use Rattle.resolvo_judge.specs.Refusal.{answer_in, step_in, answers_in, answers_claimed, steps_in, catalogue_lines_in, request_lines_in, catalogue_line_in, request_line_in, may_rest, passes, step_bars, ArePassed, IsAccepted}
+use Rattle.resolvo_checker.specs.Proof.{is_valid_step, rests_on_named, follows, is_named, every_line, IsProof, forbids}
+use Rattle.resolvo_judge.specs.Refusal.{answer_in, step_in, answers_in, answers_claimed, steps_in, catalogue_lines_in, request_lines_in, catalogue_line_in, request_line_in, may_rest, passes, step_forbids, ArePassed, IsAccepted}
 use Rattle.resolvo_judge.specs.Entries.{answer_fits}
 use Rattle.resolvo_judge.proofs.AnswerTests.{is_needed, is_wish, has_reason, leaves_out, is_left_out, rises, answer_passes, leaves_out_at, AnswersEnd}
 use Rattle.resolvo_judge.proofs.FitLemmas.{AnswersPass, answers_pass, ends_so}
 use Rattle.resolvo_checker.proofs.Sets.{contained, is_contained, same_own, same_is, found}
 use Rattle.resolvo_checker.proofs.Atoms.{bytes_own}
 use Rattle.resolvo_checker.proofs.ListedLemmas.{contains_listed}
-use Rattle.resolvo_checker.proofs.ProofTrue.{proof_bars}
+use Rattle.resolvo_checker.proofs.ProofTrue.{proof_forbids}
 use Rattle.resolvo_judge.proofs.ProofLaws.{refutes}
-use Rattle.resolvo_checker.proofs.WholeProofs.{take_front}
+use Rattle.resolvo_checker.proofs.WholeProofs.{take_prefix}
 
 -- ---- parts of the lines
 
@@ -82,8 +82,8 @@ one_answer (Message b) = inl refl
 
 -- a line that gives a step passes xs that step
 step_passes : (catalogue request : List Line) (above : List ReportLine) (l : ReportLine) (s : Step) → step_in l ≡ s ∷ [] → passes catalogue request above l ≡ true
-    → may_stand catalogue request (may_rest above (catalogue_lines_in above)) (may_rest above (request_lines_in above)) (steps_in above) s ≡ true
-step_passes catalogue request above (Numbered n t) s g p = let same : t ≡ s = cc in subst (λ (u : Step). may_stand catalogue request (may_rest above (catalogue_lines_in above)) (may_rest above (request_lines_in above)) (steps_in above) u ≡ true) same p
+    → is_valid_step catalogue request (may_rest above (catalogue_lines_in above)) (may_rest above (request_lines_in above)) (steps_in above) s ≡ true
+step_passes catalogue request above (Numbered n t) s g p = let same : t ≡ s = cc in subst (λ (u : Step). is_valid_step catalogue request (may_rest above (catalogue_lines_in above)) (may_rest above (request_lines_in above)) (steps_in above) u ≡ true) same p
 step_passes catalogue request above InstallHead s g p = absurd cc
 step_passes catalogue request above RefusedHead s g p = absurd cc
 step_passes catalogue request above (line.Answer a) s g p = absurd cc
@@ -106,15 +106,15 @@ named_more : (xs ys : List ℕ) (n : ℕ) → is_named xs n ≡ true → is_name
 named_more [] ys n h = absurd (false≢true h)
 named_more (x ∷ xs) ys n h = elim (or_cases (eqb x n) (is_named xs n) h) [ inl e ↦ or_left _ _ e | inr e ↦ or_right _ _ (named_more xs ys n e) ]
 
-drop_front : {X : Type 0} (k : ℕ) (xs : List X) → (ys : List X) × (xs ≡ take k xs ++ ys)
-drop_front zero xs = (xs, refl)
-drop_front (suc k) [] = ([], refl)
-drop_front (suc k) (x ∷ xs) = let r = drop_front k xs in (r.0, ap (λ zs. x ∷ zs) r.1)
+drop_prefix : {X : Type 0} (k : ℕ) (xs : List X) → (ys : List X) × (xs ≡ take k xs ++ ys)
+drop_prefix zero xs = (xs, refl)
+drop_prefix (suc k) [] = ([], refl)
+drop_prefix (suc k) (x ∷ xs) = let r = drop_prefix k xs in (r.0, ap (λ zs. x ∷ zs) r.1)
 
 -- a line that is named above another is named in all lines
 named_above : (f : ReportLine → List ℕ) (lines : List ReportLine) (k n : ℕ) → is_named (flat_map f (take k lines)) n ≡ true → is_named (flat_map f lines) n ≡ true
 named_above f lines k n h =
-    let r = drop_front k lines in
+    let r = drop_prefix k lines in
     ap (λ xs. is_named (flat_map f xs) n) r.1 ∙ (ap (λ xs. is_named xs n) (flat_map-append f (take k lines) r.0) ∙ named_more (flat_map f (take k lines)) (flat_map f r.0) n h)
 
 module _ (c d r t : ℕ → Bool) (more_c : (n : ℕ) → c n ≡ true → d n ≡ true) (more_r : (n : ℕ) → r n ≡ true → t n ≡ true) where
@@ -135,8 +135,8 @@ module _ (c d r t : ℕ → Bool) (more_c : (n : ℕ) → c n ≡ true → d n �
   rests_more (line.Any v) h = refl
   rests_more (line.Derive a b) h = refl
 
-  stands_more : (catalogue request : List Line) (above : List Step) (s : Step) → may_stand catalogue request c r above s ≡ true → may_stand catalogue request d t above s ≡ true
-  stands_more catalogue request above s h =
+  valid_more : (catalogue request : List Line) (above : List Step) (s : Step) → is_valid_step catalogue request c r above s ≡ true → is_valid_step catalogue request d t above s ≡ true
+  valid_more catalogue request above s h =
       let p = and_parts _ (rests_on_named c r s && follows catalogue request above s) h in
       let q = and_parts (rests_on_named c r s) (follows catalogue request above s) p.1 in
       and_from _ _ p.0 (and_from _ _ (rests_more s q.0) q.1)
@@ -146,8 +146,8 @@ refusal_proof : (catalogue request : List Line) (lines : List ReportLine) → Ar
 refusal_proof catalogue request lines passed k s at =
     let f = found_at step_in one_step lines k s at in
     let p = step_passes catalogue request (RefusedHead ∷ take f.place lines) f.item s f.gives (passed (suc f.place) f.item f.there) in
-    subst (λ (ss : List Step). may_stand catalogue request (is_named (catalogue_lines_in lines)) (is_named (request_lines_in lines)) ss s ≡ true) f.above
-    (stands_more (is_named (catalogue_lines_in (take f.place lines))) (is_named (catalogue_lines_in lines)) (is_named (request_lines_in (take f.place lines))) (is_named (request_lines_in lines))
+    subst (λ (ss : List Step). is_valid_step catalogue request (is_named (catalogue_lines_in lines)) (is_named (request_lines_in lines)) ss s ≡ true) f.above
+    (valid_more (is_named (catalogue_lines_in (take f.place lines))) (is_named (catalogue_lines_in lines)) (is_named (request_lines_in (take f.place lines))) (is_named (request_lines_in lines))
     (λ n h. named_above catalogue_line_in lines f.place n h) (λ n h. named_above request_line_in lines f.place n h)
     catalogue request (steps_in (take f.place lines)) s p)
 
@@ -159,7 +159,7 @@ refusal_true catalogue request lines accepted = refutes catalogue request (catal
 pub install_proof : (catalogue request : List Line) (lines : List ReportLine) → ArePassed catalogue request (InstallHead ∷ lines) → IsProof catalogue request every_line every_line (steps_in lines)
 install_proof catalogue request lines passed k s at =
     let f = found_at step_in one_step lines k s at in
-    subst (λ (ss : List Step). may_stand catalogue request every_line every_line ss s ≡ true) f.above
+    subst (λ (ss : List Step). is_valid_step catalogue request every_line every_line ss s ≡ true) f.above
     (step_passes catalogue request (InstallHead ∷ take f.place lines) f.item s f.gives (passed (suc f.place) f.item f.there))
 
 -- each answer fits after those above it
@@ -177,7 +177,7 @@ module _ (catalogue request : List Line) (answers : List Answer) (pass : Answers
   -- the answer between those above and below it passes
   here : (above : List Answer) (a : Answer) (below : List Answer) → answers ≡ above ++ a ∷ below → answer_passes catalogue request above a ≡ true
   here above a below is =
-      subst (λ (xs : List Answer). answer_passes catalogue request xs a ≡ true) (ap (take (length above)) is ∙ take_front above (a ∷ below))
+      subst (λ (xs : List Answer). answer_passes catalogue request xs a ≡ true) (ap (take (length above)) is ∙ take_prefix above (a ∷ below))
       (pass (length above) a (ap (λ xs. slice_get xs (length above)) is ∙ get_seam above a below))
 
   -- what an entry that passes implies
@@ -268,38 +268,38 @@ module _ (catalogue request : List Line) (answers : List Answer) (pass : Answers
 
   -- ---- the answers above a later entry, and above a later left-out wish
 
-  any_front : (p : Version → Bool) (above : List Answer) (a : Answer) → list_any p (entries_of (above ++ a ∷ [])) ≡ false → list_any p (entries_of above) ≡ false
-  any_front p above a h = front (entries_of above) (entries_of (a ∷ [])) (sym (ap (list_any p) (flat_map-append entry_of above (a ∷ []))) ∙ h) where
-    front : (xs ys : Set) → list_any p (xs ++ ys) ≡ false → list_any p xs ≡ false
-    front [] ys e = refl
-    front (x ∷ xs) ys e = let q = or_parts (p x) (list_any p (xs ++ ys)) e in ap (λ b. b || list_any p xs) q.0 ∙ front xs ys q.1
+  any_prefix : (p : Version → Bool) (above : List Answer) (a : Answer) → list_any p (entries_of (above ++ a ∷ [])) ≡ false → list_any p (entries_of above) ≡ false
+  any_prefix p above a h = prefix (entries_of above) (entries_of (a ∷ [])) (sym (ap (list_any p) (flat_map-append entry_of above (a ∷ []))) ∙ h) where
+    prefix : (xs ys : Set) → list_any p (xs ++ ys) ≡ false → list_any p xs ≡ false
+    prefix [] ys e = refl
+    prefix (x ∷ xs) ys e = let q = or_parts (p x) (list_any p (xs ++ ys)) e in ap (λ b. b || list_any p xs) q.0 ∙ prefix xs ys q.1
 
-  left_front : (above : List Answer) (a : Answer) (v : Version) → is_left_out (above ++ a ∷ []) v ≡ false → is_left_out above v ≡ false
-  left_front [] a v h = refl
-  left_front (x ∷ xs) a v h = let q = or_parts (leaves_out v x) (is_left_out (xs ++ a ∷ []) v) h in ap (λ b. b || is_left_out xs v) q.0 ∙ left_front xs a v q.1
+  left_prefix : (above : List Answer) (a : Answer) (v : Version) → is_left_out (above ++ a ∷ []) v ≡ false → is_left_out above v ≡ false
+  left_prefix [] a v h = refl
+  left_prefix (x ∷ xs) a v h = let q = or_parts (leaves_out v x) (is_left_out (xs ++ a ∷ []) v) h in ap (λ b. b || is_left_out xs v) q.0 ∙ left_prefix xs a v q.1
 
   alone_above : (above rest : List Answer) (w : Version) → answers ≡ above ++ rest → is_member w (entries_of rest) ≡ true → list_any (same_package w) (entries_of above) ≡ false
   alone_above above [] w is h = absurd (false≢true h)
   alone_above above (Entry x r ∷ rest) w is h = elim (or_cases (same_version w x) (is_member w (entries_of rest)) h) [
     | inl e ↦ subst (λ (y : Version). list_any (same_package y) (entries_of above) ≡ false) (sym (same_is w x e)) (entry_passes above x r rest is).alone
-    | inr e ↦ any_front (same_package w) above (Entry x r) (alone_above (above ++ Entry x r ∷ []) rest w (next above (Entry x r) rest is) e)
+    | inr e ↦ any_prefix (same_package w) above (Entry x r) (alone_above (above ++ Entry x r ∷ []) rest w (next above (Entry x r) rest is) e)
   ]
-  alone_above above (LeftOut x n k ∷ rest) w is h = any_front (same_package w) above (LeftOut x n k) (alone_above (above ++ LeftOut x n k ∷ []) rest w (next above (LeftOut x n k) rest is) h)
+  alone_above above (LeftOut x n k ∷ rest) w is h = any_prefix (same_package w) above (LeftOut x n k) (alone_above (above ++ LeftOut x n k ∷ []) rest w (next above (LeftOut x n k) rest is) h)
 
   kept_above : (above rest : List Answer) (v : Version) → answers ≡ above ++ rest → is_member v (entries_of rest) ≡ true → is_left_out above v ≡ false
   kept_above above [] v is h = absurd (false≢true h)
   kept_above above (Entry x r ∷ rest) v is h = elim (or_cases (same_version v x) (is_member v (entries_of rest)) h) [
     | inl e ↦ subst (λ (y : Version). is_left_out above y ≡ false) (sym (same_is v x e)) (entry_passes above x r rest is).kept
-    | inr e ↦ left_front above (Entry x r) v (kept_above (above ++ Entry x r ∷ []) rest v (next above (Entry x r) rest is) e)
+    | inr e ↦ left_prefix above (Entry x r) v (kept_above (above ++ Entry x r ∷ []) rest v (next above (Entry x r) rest is) e)
   ]
-  kept_above above (LeftOut x n k ∷ rest) v is h = left_front above (LeftOut x n k) v (kept_above (above ++ LeftOut x n k ∷ []) rest v (next above (LeftOut x n k) rest is) h)
+  kept_above above (LeftOut x n k ∷ rest) v is h = left_prefix above (LeftOut x n k) v (kept_above (above ++ LeftOut x n k ∷ []) rest v (next above (LeftOut x n k) rest is) h)
 
   absent_above : (above rest : List Answer) (v : Version) → answers ≡ above ++ rest → is_left_out rest v ≡ true → is_member v (entries_of above) ≡ false
   absent_above above [] v is h = absurd (false≢true h)
-  absent_above above (Entry x r ∷ rest) v is h = any_front (same_version v) above (Entry x r) (absent_above (above ++ Entry x r ∷ []) rest v (next above (Entry x r) rest is) h)
+  absent_above above (Entry x r ∷ rest) v is h = any_prefix (same_version v) above (Entry x r) (absent_above (above ++ Entry x r ∷ []) rest v (next above (Entry x r) rest is) h)
   absent_above above (LeftOut x n k ∷ rest) v is h = elim (or_cases (same_version x v) (is_left_out rest v) h) [
     | inl e ↦ subst (λ (y : Version). is_member y (entries_of above) ≡ false) (same_is x v e) (left_passes above x n k rest is).absent
-    | inr e ↦ any_front (same_version v) above (LeftOut x n k) (absent_above (above ++ LeftOut x n k ∷ []) rest v (next above (LeftOut x n k) rest is) e)
+    | inr e ↦ any_prefix (same_version v) above (LeftOut x n k) (absent_above (above ++ LeftOut x n k ∷ []) rest v (next above (LeftOut x n k) rest is) e)
   ]
 
   -- the last of the entries above is among them
@@ -413,14 +413,14 @@ module _ (catalogue request : List Line) (answers : List Answer) (pass : Answers
   wished_at i n k v at = wish_is (line_at request n) v (and_parts (is_wish (line_at request n) v) _ (pass i (LeftOut v n k) at)).0
 
   module _ (steps : List Step) (proof : IsProof catalogue request every_line every_line steps) (ends : AnswersEnd catalogue request answers steps) where
-    barred : (entries : Set) (v : Version) (k : ℕ) → step_bars catalogue request steps entries v k ≡ true → (set : Set) → IsRuleKeeping catalogue request set → Contains set v → ((w : Version) → Contains entries w → Contains set w) → ⊥
-    barred entries v zero h = absurd (false≢true h)
-    barred entries v (suc k) h = one (slice_get steps k) refl h where
-      two : (s : Step) (o : Option Clause) → slice_get steps k ≡ Some s → clause_of catalogue request s ≡ o → option_map_or (bars entries v) o false ≡ true → (set : Set) → IsRuleKeeping catalogue request set → Contains set v → ((w : Version) → Contains entries w → Contains set w) → ⊥
+    forbidden : (entries : Set) (v : Version) (k : ℕ) → step_forbids catalogue request steps entries v k ≡ true → (set : Set) → IsRuleKeeping catalogue request set → Contains set v → ((w : Version) → Contains entries w → Contains set w) → ⊥
+    forbidden entries v zero h = absurd (false≢true h)
+    forbidden entries v (suc k) h = one (slice_get steps k) refl h where
+      two : (s : Step) (o : Option Clause) → slice_get steps k ≡ Some s → clause_of catalogue request s ≡ o → option_map_or (forbids entries v) o false ≡ true → (set : Set) → IsRuleKeeping catalogue request set → Contains set v → ((w : Version) → Contains entries w → Contains set w) → ⊥
       two s None at is b = absurd (false≢true b)
-      two s (Some clause) at is b = proof_bars catalogue request steps proof entries v k s clause at is b
+      two s (Some clause) at is b = proof_forbids catalogue request steps proof entries v k s clause at is b
 
-      one : (o : Option Step) → slice_get steps k ≡ o → option_map_or (bars entries v) (option_and_then (clause_of catalogue request) o) false ≡ true → (set : Set) → IsRuleKeeping catalogue request set → Contains set v → ((w : Version) → Contains entries w → Contains set w) → ⊥
+      one : (o : Option Step) → slice_get steps k ≡ o → option_map_or (forbids entries v) (option_and_then (clause_of catalogue request) o) false ≡ true → (set : Set) → IsRuleKeeping catalogue request set → Contains set v → ((w : Version) → Contains entries w → Contains set w) → ⊥
       one None at b = absurd (false≢true b)
       one (Some s) at b = two s (clause_of catalogue request s) at refl b
 
@@ -436,7 +436,7 @@ module _ (catalogue request : List Line) (answers : List Answer) (pass : Answers
         never_both = λ n v left c. both_from [] answers v refl (left_in answers v n left.0 left.1.0 (get_in answers (LeftOut v n left.0) left.1.0 left.1.1 left.1.2)) (is_contained (entries_of answers) v c);
         rising = rising_from [] answers refl none_rise;
         wished = λ n v left. wished_at left.1.0 n left.0 v (get_in answers (LeftOut v n left.0) left.1.0 left.1.1 left.1.2);
-        barred = λ above below v n k is set keeping c all. barred (entries_of above) v k (ends.barred above below v n k is) set keeping c all;
+        forbidden = λ above below v n k is set keeping c all. forbidden (entries_of above) v k (ends.forbidden above below v n k is) set keeping c all;
       };
     }
 

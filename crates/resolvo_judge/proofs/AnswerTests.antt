@@ -9,7 +9,7 @@ use Rattle.resolvo_catalogue_core.specs.Answers as answer
 use Rattle.resolvo_catalogue_core.specs.Answers.{Answer, Reason, entries_of, wish_line_of}
 use Rattle.resolvo_report.specs.Value.{Step}
 use Rattle.resolvo_checker.specs.StepClauses.{is_listed, is_owner}
-use Rattle.resolvo_judge.specs.Refusal.{step_bars}
+use Rattle.resolvo_judge.specs.Refusal.{step_forbids}
 
 -- The line is a `needs` line, an alternative of which the version matches, and its condition holds among the entries.
 abbrev pub is_needed : Set → Option Line → Version → Bool
@@ -55,4 +55,4 @@ pub record AnswersEnd (catalogue request : List Line) (answers : List Answer) (s
   pub catalogue_lines : (n : ℕ) → IsTrue (keeps catalogue n (entries_of answers))
   pub request_lines : (n : ℕ) → IsTrue (keeps_in_request request n (entries_of answers))
   pub wishes : (n : ℕ) (v : Version) → line_at request n ≡ Some (Wish v) → IsTrue (is_member v (entries_of answers) || list_any (leaves_out_at v n) answers)
-  pub barred : (above below : List Answer) (v : Version) (n k : ℕ) → answers ≡ above ++ answer.LeftOut v n k ∷ below → IsTrue (step_bars catalogue request steps (entries_of above) v k)
+  pub forbidden : (above below : List Answer) (v : Version) (n k : ℕ) → answers ≡ above ++ answer.LeftOut v n k ∷ below → IsTrue (step_forbids catalogue request steps (entries_of above) v k)

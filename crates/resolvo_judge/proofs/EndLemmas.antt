@@ -10,57 +10,57 @@ use Rattle.resolvo_judge.specs.declared.judge_state.JudgeState.{JudgeState}
 use Rattle.resolvo_judge.specs.declared.log.ProofState.{ProofState}
 use Rattle.resolvo_judge.specs.declared.entries.Entries.{Entries}
 use Rattle.resolvo_judge.specs.declared.alternatives.Alternatives.{Alternatives}
-use Rattle.resolvo_judge.specs.Log.{LogStands, is_head}
+use Rattle.resolvo_judge.specs.Log.{LogInvariant, is_head}
 use Rattle.resolvo_checker.specs.Proof.{ends_empty}
 use Rattle.resolvo_judge.specs.Entries.{entries_of}
-use Rattle.resolvo_judge.specs.Refusal.{answers_in, steps_in, is_refusal, step_bars}
+use Rattle.resolvo_judge.specs.Refusal.{answers_in, steps_in, is_refusal, step_forbids}
 use Rattle.resolvo_judge.specs.EndRules.{KeepsAll}
-use Rattle.resolvo_judge.specs.KeptAnswers.{barred_from, AreWishesTold, KeepsAnswers, KeepsLines}
-use Rattle.resolvo_judge.specs.Bars.{is_barred, is_barred_so_far}
-use Rattle.resolvo_judge.specs.JudgeState.{Stands, EndsSo}
+use Rattle.resolvo_judge.specs.KeptAnswers.{forbidden_from, AreWishesAnswered, KeepsAnswers, KeepsLines}
+use Rattle.resolvo_judge.specs.Forbids.{is_forbidden, is_forbidden_so_far}
+use Rattle.resolvo_judge.specs.JudgeState.{JudgeInvariant, DecidesEnd}
 use Rattle.resolvo_checker.specs.declared.literal.Literal.{Literal}
 use Rattle.resolvo_checker.specs.Rup.{is_earlier}
 use Rattle.resolvo_checker.proofs.CheckLemmas.{same_length}
-use Rattle.resolvo_judge.proofs.BarLemmas.{all_barred, answers_first}
-use Rattle.resolvo_judge.proofs.BarredLemmas.{barred_each, barred_all}
+use Rattle.resolvo_judge.proofs.ForbidLemmas.{all_forbidden, answers_first}
+use Rattle.resolvo_judge.proofs.ForbiddenLemmas.{forbidden_each, forbidden_all}
 
 -- the last step of a refusal
-pub refused_ends : (catalogue request : List Line) (j : JudgeState) (clauses : List (List Literal)) (r : Report) → j.refused ≡ true → Stands catalogue request j clauses (report_lines r) → EndsSo catalogue request (report_lines r) j.log.ends_empty
-refused_ends catalogue request j clauses (Install ls ss) refused stands = absurd (false≢true (sym stands.refused ∙ refused))
-refused_ends catalogue request j clauses (Refused cs rs ss ms) refused stands = one j.log.ends_empty stands.log.ends where
-  one : (b : Bool) → b ≡ ends_empty (steps_in (report_lines (Refused cs rs ss ms))) → EndsSo catalogue request (report_lines (Refused cs rs ss ms)) b
+pub refused_ends : (catalogue request : List Line) (j : JudgeState) (clauses : List (List Literal)) (r : Report) → j.refused ≡ true → JudgeInvariant catalogue request j clauses (report_lines r) → DecidesEnd catalogue request (report_lines r) j.log.ends_empty
+refused_ends catalogue request j clauses (Install ls ss) refused represents = absurd (false≢true (sym represents.refused ∙ refused))
+refused_ends catalogue request j clauses (Refused cs rs ss ms) refused represents = one j.log.ends_empty represents.log.ends where
+  one : (b : Bool) → b ≡ ends_empty (steps_in (report_lines (Refused cs rs ss ms))) → DecidesEnd catalogue request (report_lines (Refused cs rs ss ms)) b
   one true e = sym e
   one false e = λ ends. false≢true (e ∙ ends)
 
 -- the end of an install report, by the answer for its left-out wishes
-by_answer : (catalogue request : List Line) (rest : List ReportLine) (fine : Bool) → KeepsAll catalogue request (entries_of (answers_in rest)) true → AreWishesTold request (answers_in rest) true
-    → fine ≡ list_all (is_barred catalogue request (steps_in rest) (entries_of (answers_in rest))) (barred_from 0 (answers_in rest)) → EndsSo catalogue request (InstallHead ∷ rest) fine
-by_answer catalogue request rest true keeps told all = record {
+by_answer : (catalogue request : List Line) (rest : List ReportLine) (fine : Bool) → KeepsAll catalogue request (entries_of (answers_in rest)) true → AreWishesAnswered request (answers_in rest) true
+    → fine ≡ list_all (is_forbidden catalogue request (steps_in rest) (entries_of (answers_in rest))) (forbidden_from 0 (answers_in rest)) → DecidesEnd catalogue request (InstallHead ∷ rest) fine
+by_answer catalogue request rest true keeps answered all = record {
   catalogue_lines = keeps.catalogue_lines;
   request_lines = keeps.request_lines;
-  wishes = told;
-  barred = barred_each (step_bars catalogue request (steps_in rest)) (answers_in rest) (sym all);
+  wishes = answered;
+  forbidden = forbidden_each (step_forbids catalogue request (steps_in rest)) (answers_in rest) (sym all);
 }
-by_answer catalogue request rest false keeps told all = λ ends. false≢true (all ∙ barred_all (step_bars catalogue request (steps_in rest)) (answers_in rest) ends.barred)
+by_answer catalogue request rest false keeps answered all = λ ends. false≢true (all ∙ forbidden_all (step_forbids catalogue request (steps_in rest)) (answers_in rest) ends.forbidden)
 
 -- an install report: the entries keep all rules, each wish is answered, and left-out ones are
 -- forbidden
-pub install_ends : (catalogue request : List Line) (j : JudgeState) (clauses : List (List Literal)) (r : Report) (fine : Bool) → is_refusal (report_lines r) ≡ false → Stands catalogue request j clauses (report_lines r)
-    → KeepsAll catalogue request (entries_of (answers_in (report_lines r))) true → AreWishesTold request (answers_in (report_lines r)) true
-    → fine ≡ (j.barred && list_all (is_earlier (length clauses)) j.entries.barred.steps.items) → EndsSo catalogue request (report_lines r) fine
-install_ends catalogue request j clauses (Refused cs rs ss ms) fine install stands keeps told barred = absurd (false≢true (sym install))
-install_ends catalogue request j clauses (Install ls ss) fine install stands keeps told barred =
+pub install_ends : (catalogue request : List Line) (j : JudgeState) (clauses : List (List Literal)) (r : Report) (fine : Bool) → is_refusal (report_lines r) ≡ false → JudgeInvariant catalogue request j clauses (report_lines r)
+    → KeepsAll catalogue request (entries_of (answers_in (report_lines r))) true → AreWishesAnswered request (answers_in (report_lines r)) true
+    → fine ≡ (j.forbidden && list_all (is_earlier (length clauses)) j.entries.forbidden.steps.items) → DecidesEnd catalogue request (report_lines r) fine
+install_ends catalogue request j clauses (Refused cs rs ss ms) fine install represents keeps answered forbidden = absurd (false≢true (sym install))
+install_ends catalogue request j clauses (Install ls ss) fine install represents keeps answered forbidden =
     let rest : List ReportLine = map (λ a. Answer a) ls ++ numbered 1 ss in
     let answers : List AnswerLine = answers_in rest in
     let steps : List Step = steps_in rest in
-    let many : length clauses ≡ length steps = same_length catalogue request j.log.checker.numbers steps clauses stands.log.steps.numbered in
-    let all : fine ≡ list_all (is_barred catalogue request steps (entries_of answers)) (barred_from 0 answers) =
-    barred
-    ∙ ap (λ (b : Bool). b && list_all (is_earlier (length clauses)) j.entries.barred.steps.items) (stands.barred (answers_first ls ss))
-    ∙ ap (λ (ns : List ℕ). list_all (is_barred_so_far catalogue request steps (entries_of answers)) (barred_from 0 answers) && list_all (is_earlier (length clauses)) ns) stands.entries.barred.steps
-    ∙ ap (λ (n : ℕ). list_all (is_barred_so_far catalogue request steps (entries_of answers)) (barred_from 0 answers) && list_all (is_earlier n) (map (λ b. b.step) (barred_from 0 answers))) many
-    ∙ all_barred catalogue request steps (entries_of answers) (barred_from 0 answers) in
-    by_answer catalogue request rest fine keeps told all
+    let many : length clauses ≡ length steps = same_length catalogue request j.log.checker.numbers steps clauses represents.log.steps.numbered in
+    let all : fine ≡ list_all (is_forbidden catalogue request steps (entries_of answers)) (forbidden_from 0 answers) =
+    forbidden
+    ∙ ap (λ (b : Bool). b && list_all (is_earlier (length clauses)) j.entries.forbidden.steps.items) (represents.forbidden (answers_first ls ss))
+    ∙ ap (λ (ns : List ℕ). list_all (is_forbidden_so_far catalogue request steps (entries_of answers)) (forbidden_from 0 answers) && list_all (is_earlier (length clauses)) ns) represents.entries.forbidden.steps
+    ∙ ap (λ (n : ℕ). list_all (is_forbidden_so_far catalogue request steps (entries_of answers)) (forbidden_from 0 answers) && list_all (is_earlier n) (map (λ b. b.step) (forbidden_from 0 answers))) many
+    ∙ all_forbidden catalogue request steps (entries_of answers) (forbidden_from 0 answers) in
+    by_answer catalogue request rest fine keeps answered all
 
 -- ---- the first line
 
@@ -82,14 +82,14 @@ is_install_head (RequestLine n) head h = absurd cc
 is_install_head (Numbered n s) head h = absurd cc
 is_install_head (Message b) head h = absurd cc
 
-pub head_stands : (catalogue request : List Line) (l head : ReportLine) (refused : Bool) (given log : ProofState) (entries : Entries) (alternatives : Alternatives) → l ≡ head → answers_in (head ∷ []) ≡ [] → given ≡ log → refused ≡ is_refusal (l ∷ [])
-    → LogStands catalogue request log.checker.numbers [] log.checker.places.items log.scope log.ends_empty (head ∷ []) → KeepsAnswers entries [] → KeepsLines request entries [] → Stands catalogue request (record { refused = refused; log = given; entries = entries; alternatives = alternatives; barred = true }) [] (l ∷ [])
-head_stands catalogue request l head refused given log entries alternatives is none same refusal stands kept lines =
-    subst (λ (x : ReportLine). Stands catalogue request (record { refused = refused; log = given; entries = entries; alternatives = alternatives; barred = true }) [] (x ∷ [])) (sym is)
-    (subst (λ (g : ProofState). Stands catalogue request (record { refused = refused; log = g; entries = entries; alternatives = alternatives; barred = true }) [] (head ∷ [])) (sym same) (record {
+pub invariant_head : (catalogue request : List Line) (l head : ReportLine) (refused : Bool) (given log : ProofState) (entries : Entries) (alternatives : Alternatives) → l ≡ head → answers_in (head ∷ []) ≡ [] → given ≡ log → refused ≡ is_refusal (l ∷ [])
+    → LogInvariant catalogue request log.checker.numbers [] log.checker.places.items log.scope log.ends_empty (head ∷ []) → KeepsAnswers entries [] → KeepsLines request entries [] → JudgeInvariant catalogue request (record { refused = refused; log = given; entries = entries; alternatives = alternatives; forbidden = true }) [] (l ∷ [])
+invariant_head catalogue request l head refused given log entries alternatives is none same refusal represents kept lines =
+    subst (λ (x : ReportLine). JudgeInvariant catalogue request (record { refused = refused; log = given; entries = entries; alternatives = alternatives; forbidden = true }) [] (x ∷ [])) (sym is)
+    (subst (λ (g : ProofState). JudgeInvariant catalogue request (record { refused = refused; log = g; entries = entries; alternatives = alternatives; forbidden = true }) [] (head ∷ [])) (sym same) (record {
       refused = refusal ∙ ap (λ (x : ReportLine). is_refusal (x ∷ [])) is;
-      log = stands;
+      log = represents;
       entries = subst (λ (xs : List AnswerLine). KeepsAnswers entries xs) (sym none) kept;
       lines = subst (λ (xs : List AnswerLine). KeepsLines request entries xs) (sym none) lines;
-      barred = λ first. sym (ap (λ (xs : List AnswerLine). list_all (is_barred_so_far catalogue request (steps_in (head ∷ [])) (entries_of xs)) (barred_from 0 xs)) none);
+      forbidden = λ first. sym (ap (λ (xs : List AnswerLine). list_all (is_forbidden_so_far catalogue request (steps_in (head ∷ [])) (entries_of xs)) (forbidden_from 0 xs)) none);
     }))

@@ -7,7 +7,7 @@ use Rattle.std.proofs.lemmas.List.Concat.{flat_map-append}
 use Rattle.std.proofs.lemmas.Bool.{and_parts, or_left, or_right, lt-ltb, ltb-true}
 use Rattle.std.proofs.lemmas.Option.{same_Some}
 use Rattle.resolvo_text.specs.Line.{Version, Line, Skipped, Listed, Needs, Limits, Unknown, Lock, Favour, Exclude, Wish}
-use Rattle.resolvo_checker.specs.Stated.{owned_line}
+use Rattle.resolvo_checker.specs.RuleLines.{owned_line}
 use Rattle.resolvo_catalogue_core.specs.Questions.{wished_in}
 use Rattle.resolvo_text.specs.Matches.{Set, same_package, same_version, is_member}
 use Rattle.resolvo_report.specs.Value.{AnswerLine, Entry, Wished, LeftOut}
@@ -20,11 +20,11 @@ use Rattle.std.specs.HashMap.{get}
 use Rattle.std.specs.Map.{update}
 use Rattle.resolvo_judge.specs.Chosen.{Holds}
 use Rattle.resolvo_judge.specs.Versions.{HoldsAll}
-use Rattle.resolvo_judge.specs.BarredWishes.{BarredWish, HoldsWishes}
-use Rattle.resolvo_judge.specs.KeptAnswers.{barred_from, is_after, KeepsAnswers, KeepsLines, IsWishTold}
+use Rattle.resolvo_judge.specs.ForbiddenWishes.{ForbiddenWish, HoldsWishes}
+use Rattle.resolvo_judge.specs.KeptAnswers.{forbidden_from, is_after, KeepsAnswers, KeepsLines, IsWishAnswered}
 use Rattle.resolvo_judge.specs.declared.chosen.Chosen.{Chosen}
 use Rattle.resolvo_judge.specs.declared.versions.Versions.{Versions}
-use Rattle.resolvo_judge.specs.declared.barred_wishes.BarredWishes.{BarredWishes}
+use Rattle.resolvo_judge.specs.declared.forbidden_wishes.ForbiddenWishes.{ForbiddenWishes}
 use Rattle.resolvo_judge.specs.declared.entries.Entries.{Entries}
 
 -- ---- one line more
@@ -38,11 +38,11 @@ left_out_more before l = flat_map-append left_out_of before (l ∷ []) ∙ ap (�
 wish_lines_more : (before : List AnswerLine) (l : AnswerLine) → wish_lines (before ++ l ∷ []) ≡ wish_lines before ++ wish_line_of l
 wish_lines_more before l = flat_map-append wish_line_of before (l ∷ []) ∙ ap (λ (ns : List ℕ). wish_lines before ++ ns) (append-nil (wish_line_of l))
 
-barred_more : (i : ℕ) (before : List AnswerLine) (l : AnswerLine) → barred_from i (before ++ l ∷ []) ≡ barred_from i before ++ barred_from (i + length (entries_of before)) (l ∷ [])
-barred_more i [] l = ap (λ (k : ℕ). barred_from k (l ∷ [])) (omega arith)
-barred_more i (Entry v place n ∷ before) l = barred_more (i + 1) before l ∙ ap (λ (k : ℕ). barred_from (i + 1) before ++ barred_from k (l ∷ [])) (omega arith)
-barred_more i (Wished v n ∷ before) l = barred_more (i + 1) before l ∙ ap (λ (k : ℕ). barred_from (i + 1) before ++ barred_from k (l ∷ [])) (omega arith)
-barred_more i (LeftOut v n step ∷ before) l = ap (λ (bs : List BarredWish). record { wish = v; step = step; above = i } ∷ bs) (barred_more i before l)
+forbidden_more : (i : ℕ) (before : List AnswerLine) (l : AnswerLine) → forbidden_from i (before ++ l ∷ []) ≡ forbidden_from i before ++ forbidden_from (i + length (entries_of before)) (l ∷ [])
+forbidden_more i [] l = ap (λ (k : ℕ). forbidden_from k (l ∷ [])) (omega arith)
+forbidden_more i (Entry v place n ∷ before) l = forbidden_more (i + 1) before l ∙ ap (λ (k : ℕ). forbidden_from (i + 1) before ++ forbidden_from k (l ∷ [])) (omega arith)
+forbidden_more i (Wished v n ∷ before) l = forbidden_more (i + 1) before l ∙ ap (λ (k : ℕ). forbidden_from (i + 1) before ++ forbidden_from k (l ∷ [])) (omega arith)
+forbidden_more i (LeftOut v n step ∷ before) l = ap (λ (bs : List ForbiddenWish). record { wish = v; step = step; above = i } ∷ bs) (forbidden_more i before l)
 
 -- ---- rising lines
 
@@ -124,13 +124,13 @@ fresh catalogue before v h = not_true (list_any (same_package v) (entries_of bef
 abbrev pub Adds : Chosen → Chosen → Version → Type 0
 Adds old new v = (set : Set) → Holds old set → list_any (same_package v) set ≡ false → Holds new (set ++ v ∷ [])
 
-pub entry_kept : (e : Entries) (chosen : Chosen) (catalogue : List Line) (before : List AnswerLine) (l : AnswerLine) (v : Version) → entry_of l ≡ v ∷ [] → left_out_of l ≡ [] → wish_line_of l ≡ [] → ((i : ℕ) → barred_from i (l ∷ []) ≡ [])
+pub entry_kept : (e : Entries) (chosen : Chosen) (catalogue : List Line) (before : List AnswerLine) (l : AnswerLine) (v : Version) → entry_of l ≡ v ∷ [] → left_out_of l ≡ [] → wish_line_of l ≡ [] → ((i : ℕ) → forbidden_from i (l ∷ []) ≡ [])
     → KeepsAnswers e before → may_enter catalogue before v ≡ true → Adds e.chosen chosen v → KeepsAnswers (record e { chosen = chosen }) (before ++ l ∷ [])
 entry_kept e chosen catalogue before l v entry out wish none h may adds = record {
   chosen = subst (λ (vs : Set). Holds chosen vs) (sym (entries_more before l ∙ ap (λ (vs : Set). entries_of before ++ vs) entry)) (adds (entries_of before) h.chosen (fresh catalogue before v may));
   out = subst (λ (vs : Set). HoldsAll e.out vs) (sym (left_out_more before l ∙ ap (λ (vs : Set). left_out before ++ vs) out ∙ append-nil (left_out before))) h.out;
   rising = λ n. ap (λ (ns : List ℕ). list_all (λ m. nat_lt m n) ns) (wish_lines_more before l ∙ ap (λ (ns : List ℕ). wish_lines before ++ ns) wish ∙ append-nil (wish_lines before)) ∙ h.rising n;
-  barred = subst (HoldsWishes e.barred) (sym (barred_more 0 before l ∙ ap (λ (bs : List BarredWish). barred_from 0 before ++ bs) (none (0 + length (entries_of before))) ∙ append-nil (barred_from 0 before))) h.barred;
+  forbidden = subst (HoldsWishes e.forbidden) (sym (forbidden_more 0 before l ∙ ap (λ (bs : List ForbiddenWish). forbidden_from 0 before ++ bs) (none (0 + length (entries_of before))) ∙ append-nil (forbidden_from 0 before))) h.forbidden;
 }
 
 pub wished_kept : (e : Entries) (chosen : Chosen) (catalogue request : List Line) (before : List AnswerLine) (v : Version) (n : ℕ) → KeepsAnswers e before → may_enter catalogue before v ≡ true → is_wish request before n v ≡ true → Adds e.chosen chosen v
@@ -140,18 +140,18 @@ wished_kept e chosen catalogue request before v n h may wish adds =
       chosen = subst (λ (vs : Set). Holds chosen vs) (sym (entries_more before l)) (adds (entries_of before) h.chosen (fresh catalogue before v may));
       out = subst (λ (vs : Set). HoldsAll e.out vs) (sym (left_out_more before l ∙ append-nil (left_out before))) h.out;
       rising = λ k. ap (λ (ns : List ℕ). list_all (λ m. nat_lt m k) ns) (wish_lines_more before l) ∙ rises request before n v wish k;
-      barred = subst (HoldsWishes e.barred) (sym (barred_more 0 before l ∙ append-nil (barred_from 0 before))) h.barred;
+      forbidden = subst (HoldsWishes e.forbidden) (sym (forbidden_more 0 before l ∙ append-nil (forbidden_from 0 before))) h.forbidden;
     }
 
-pub left_out_kept : (e : Entries) (out : Versions) (barred : BarredWishes) (request : List Line) (before : List AnswerLine) (v : Version) (n step above : ℕ) → KeepsAnswers e before → is_wish request before n v ≡ true
-    → ((set : Set) → HoldsAll e.out set → HoldsAll out (set ++ v ∷ [])) → ((wishes : List BarredWish) → HoldsWishes e.barred wishes → HoldsWishes barred (wishes ++ record { wish = v; step = step; above = above } ∷ [])) → above ≡ length (entries_of before)
-    → (f : Entries) → f.chosen ≡ e.chosen → f.out ≡ out → f.barred ≡ barred → f.last_wish ≡ Some n → KeepsAnswers f (before ++ LeftOut v n step ∷ [])
-left_out_kept e out barred request before v n step above h wish adds more is f same_chosen same_out same_barred same_wish =
+pub left_out_kept : (e : Entries) (out : Versions) (forbidden : ForbiddenWishes) (request : List Line) (before : List AnswerLine) (v : Version) (n step above : ℕ) → KeepsAnswers e before → is_wish request before n v ≡ true
+    → ((set : Set) → HoldsAll e.out set → HoldsAll out (set ++ v ∷ [])) → ((wishes : List ForbiddenWish) → HoldsWishes e.forbidden wishes → HoldsWishes forbidden (wishes ++ record { wish = v; step = step; above = above } ∷ [])) → above ≡ length (entries_of before)
+    → (f : Entries) → f.chosen ≡ e.chosen → f.out ≡ out → f.forbidden ≡ forbidden → f.last_wish ≡ Some n → KeepsAnswers f (before ++ LeftOut v n step ∷ [])
+left_out_kept e out forbidden request before v n step above h wish adds more is f same_chosen same_out same_forbidden same_wish =
     let l : AnswerLine = LeftOut v n step in record {
       chosen = rw same_chosen (subst (λ (vs : Set). Holds e.chosen vs) (sym (entries_more before l ∙ append-nil (entries_of before))) h.chosen);
       out = rw same_out (subst (λ (vs : Set). HoldsAll out vs) (sym (left_out_more before l)) (adds (left_out before) h.out));
       rising = λ k. ap (λ (ns : List ℕ). list_all (λ m. nat_lt m k) ns) (wish_lines_more before l) ∙ rises request before n v wish k ∙ ap (λ (o : Option ℕ). is_after o k) (sym same_wish);
-      barred = rw same_barred (subst (HoldsWishes barred) (ap (λ (k : ℕ). let x : BarredWish = record { wish = v; step = step; above = k } in barred_from 0 before ++ x ∷ []) (is ∙ omega arith) ∙ sym (barred_more 0 before l)) (more (barred_from 0 before) h.barred));
+      forbidden = rw same_forbidden (subst (HoldsWishes forbidden) (ap (λ (k : ℕ). let x : ForbiddenWish = record { wish = v; step = step; above = k } in forbidden_from 0 before ++ x ∷ []) (is ∙ omega arith) ∙ sym (forbidden_more 0 before l)) (more (forbidden_from 0 before) h.forbidden));
     }
 
 -- only a `needs` line gives a reason
@@ -180,14 +180,14 @@ any_map f p (x ∷ xs) = ap (λ (b : Bool). p (f x) || b) (any_map f p xs)
 -- ---- the lines of left-out wishes
 
 pub lines_stay : (request : List Line) (e f : Entries) (before : List AnswerLine) (l : AnswerLine) → f.lines ≡ e.lines → ((w : Version) (n : ℕ) → leaves_out w n l ≡ false) → KeepsLines request e before → KeepsLines request f (before ++ l ∷ [])
-lines_stay request e f before l same stays h n w told =
-    rw same (h n w told ∙ sym (any_more (leaves_out w n) before l ∙ ap (λ (b : Bool). list_any (leaves_out w n) before || b) (stays w n) ∙ or_false (list_any (leaves_out w n) before)))
+lines_stay request e f before l same stays h n w is_wished =
+    rw same (h n w is_wished ∙ sym (any_more (leaves_out w n) before l ∙ ap (λ (b : Bool). list_any (leaves_out w n) before || b) (stays w n) ∙ or_false (list_any (leaves_out w n) before)))
 
 pub lines_more : (request : List Line) (e f : Entries) (before : List AnswerLine) (v : Version) (n step : ℕ) → is_wish request before n v ≡ true → ((k : ℕ) → get nat_eq f.lines k ≡ update nat_eq (get nat_eq e.lines) n (Some step) k)
     → KeepsLines request e before → KeepsLines request f (before ++ LeftOut v n step ∷ [])
-lines_more request e f before v n step wish put h k w told =
+lines_more request e f before v n step wish put h k w is_wished =
     ap (λ (o : Option ℕ). is_some o) (put k)
-    ∙ line_more request before v n step k w (get nat_eq e.lines k) (and_parts _ _ wish).0 told (h k w told)
+    ∙ line_more request before v n step k w (get nat_eq e.lines k) (and_parts _ _ wish).0 is_wished (h k w is_wished)
     ∙ sym (any_more (leaves_out w k) before (LeftOut v n step))
 
 -- ---- wishes that are answered
@@ -205,20 +205,20 @@ from_wished (Some (Favour x)) w e = absurd cc
 from_wished (Some (Exclude x r)) w e = absurd cc
 
 -- a wish that is no entry is answered where its line is left out
-pub told_by : (request : List Line) (answers : List AnswerLine) (n : ℕ) (w : Version) (b : Bool) → wished_in (line_at request n) ≡ Some w → is_member w (entries_of answers) ≡ false
-    → (wishes (line_at request n) w ≡ true → b ≡ list_any (leaves_out w n) answers) → IsWishTold request answers n b
-told_by request answers n w b wished out left = by_test b (left told)
+pub answered_by : (request : List Line) (answers : List AnswerLine) (n : ℕ) (w : Version) (b : Bool) → wished_in (line_at request n) ≡ Some w → is_member w (entries_of answers) ≡ false
+    → (wishes (line_at request n) w ≡ true → b ≡ list_any (leaves_out w n) answers) → IsWishAnswered request answers n b
+answered_by request answers n w b wished out left = by_test b (left is_wished)
   where
     at : line_at request n ≡ Some (Wish w)
     at = from_wished (line_at request n) w wished
 
-    told : wishes (line_at request n) w ≡ true
-    told = ap (λ (o : Option Line). wishes o w) at ∙ same_own w
+    is_wished : wishes (line_at request n) w ≡ true
+    is_wished = ap (λ (o : Option Line). wishes o w) at ∙ same_own w
 
     sum : is_member w (entries_of answers) || list_any (leaves_out w n) answers ≡ list_any (leaves_out w n) answers
     sum = ap (λ (t : Bool). t || list_any (leaves_out w n) answers) out
 
-    by_test : (b : Bool) → b ≡ list_any (leaves_out w n) answers → IsWishTold request answers n b
+    by_test : (b : Bool) → b ≡ list_any (leaves_out w n) answers → IsWishAnswered request answers n b
     by_test true is = λ v there.
         let same : w ≡ v = cc (at, there) in
         subst (λ (x : Version). is_member x (entries_of answers) || list_any (leaves_out x n) answers ≡ true) same (sum ∙ sym is)

@@ -13,23 +13,23 @@ use Rattle.resolvo_catalogue_core.specs.Answers as answer
 use Rattle.resolvo_catalogue_core.specs.Answers.{Answer}
 use Rattle.resolvo_report.specs.Value.{OfRequest, OfVersion, AnswerLine, Entry, Wished, LeftOut, Step}
 use Rattle.resolvo_checker.specs.StepClauses.{is_listed, is_owner, line_of}
-use Rattle.resolvo_judge.specs.Entries as said
+use Rattle.resolvo_judge.specs.Entries as judged
 use Rattle.resolvo_judge.specs.Entries.{answer_fits, may_enter, gives, wishes, left_out, is_reason}
-use Rattle.resolvo_judge.specs.Refusal.{answer_of, step_bars, leaves_out, InstallEnds}
+use Rattle.resolvo_judge.specs.Refusal.{answer_of, step_forbids, leaves_out, InstallEnds}
 use Rattle.resolvo_judge.proofs.AnswerTests as test
 use Rattle.resolvo_judge.proofs.AnswerTests.{answer_passes, is_needed, is_wish, is_left_out, rises, leaves_out_at, AnswersEnd}
 use Rattle.resolvo_checker.proofs.Sets.{same_own, same_is}
 
 -- ---- both sides agree on the lines
 
-pub same_entries : (lines : List AnswerLine) → answer.entries_of (map answer_of lines) ≡ said.entries_of lines
+pub same_entries : (lines : List AnswerLine) → answer.entries_of (map answer_of lines) ≡ judged.entries_of lines
 same_entries [] = refl
 same_entries (Entry v OfRequest n ∷ lines) = ap (λ (es : Set). v ∷ es) (same_entries lines)
 same_entries (Entry v (OfVersion w) n ∷ lines) = ap (λ (es : Set). v ∷ es) (same_entries lines)
 same_entries (Wished v n ∷ lines) = ap (λ (es : Set). v ∷ es) (same_entries lines)
 same_entries (LeftOut v n k ∷ lines) = same_entries lines
 
-same_lines : (lines : List AnswerLine) → flat_map answer.wish_line_of (map answer_of lines) ≡ said.wish_lines lines
+same_lines : (lines : List AnswerLine) → flat_map answer.wish_line_of (map answer_of lines) ≡ judged.wish_lines lines
 same_lines [] = refl
 same_lines (Entry v OfRequest n ∷ lines) = same_lines lines
 same_lines (Entry v (OfVersion w) n ∷ lines) = same_lines lines
@@ -83,7 +83,7 @@ module _ (catalogue request : List Line) (before : List AnswerLine) where
   enters : (v : Version) → may_enter catalogue before v ≡ true → Enters v
   enters v h =
       let p = and_parts (is_listed catalogue v) _ h in
-      let q = and_parts (not (list_any (same_package v) (said.entries_of before))) (not (is_member v (left_out before))) p.1 in
+      let q = and_parts (not (list_any (same_package v) (judged.entries_of before))) (not (is_member v (left_out before))) p.1 in
       record {
         listed = p.0;
         alone = ap (list_any (same_package v)) (same_entries before) ∙ not-true _ q.0;
@@ -93,7 +93,7 @@ module _ (catalogue request : List Line) (before : List AnswerLine) where
   entry_with : (v : Version) (reason : answer.Reason) → Enters v → test.has_reason catalogue request (answer.entries_of (map answer_of before)) v reason ≡ true → rises (map answer_of before) (answer.Entry v reason) ≡ true → answer_passes catalogue request (map answer_of before) (answer.Entry v reason) ≡ true
   entry_with v reason e r w = and_from _ _ e.listed (and_from _ _ (ap not e.alone) (and_from _ _ (ap not e.kept) (and_from _ _ r w)))
 
-  rises_same : (n : ℕ) → list_all (λ m. nat_lt m n) (said.wish_lines before) ≡ true → list_all (λ m. nat_lt m n) (flat_map answer.wish_line_of (map answer_of before)) ≡ true
+  rises_same : (n : ℕ) → list_all (λ m. nat_lt m n) (judged.wish_lines before) ≡ true → list_all (λ m. nat_lt m n) (flat_map answer.wish_line_of (map answer_of before)) ≡ true
   rises_same n h = ap (list_all (λ m. nat_lt m n)) (same_lines before) ∙ h
 
   owned : (w : Version) (n : ℕ) (b : Bool) (l : Option Line) (entries : Set) (v : Version) → gives (cond b l None) entries v ≡ true → (b ≡ true) × (gives l entries v ≡ true)
@@ -102,21 +102,21 @@ module _ (catalogue request : List Line) (before : List AnswerLine) where
 
   passes_so : (a : AnswerLine) → answer_fits catalogue request before a ≡ true → answer_passes catalogue request (map answer_of before) (answer_of a) ≡ true
   passes_so (Entry v OfRequest n) h =
-      let p = and_parts (may_enter catalogue before v) (is_reason catalogue request (said.entries_of before) OfRequest n v) h in
-      entry_with v (answer.ForRequest n) (enters v p.0) (ap (λ es. is_needed es (line_at request n) v) (same_entries before) ∙ need_same (said.entries_of before) (line_at request n) v p.1) refl
+      let p = and_parts (may_enter catalogue before v) (is_reason catalogue request (judged.entries_of before) OfRequest n v) h in
+      entry_with v (answer.ForRequest n) (enters v p.0) (ap (λ es. is_needed es (line_at request n) v) (same_entries before) ∙ need_same (judged.entries_of before) (line_at request n) v p.1) refl
   passes_so (Entry v (OfVersion w) n) h =
-      let p = and_parts (may_enter catalogue before v) (is_reason catalogue request (said.entries_of before) (OfVersion w) n v) h in
-      let q = and_parts (is_member w (said.entries_of before)) (gives (line_of catalogue request (OfVersion w) n) (said.entries_of before) v) p.1 in
-      let o = owned w n (is_owner w (owner_of catalogue n)) (line_at catalogue n) (said.entries_of before) v q.1 in
+      let p = and_parts (may_enter catalogue before v) (is_reason catalogue request (judged.entries_of before) (OfVersion w) n v) h in
+      let q = and_parts (is_member w (judged.entries_of before)) (gives (line_of catalogue request (OfVersion w) n) (judged.entries_of before) v) p.1 in
+      let o = owned w n (is_owner w (owner_of catalogue n)) (line_at catalogue n) (judged.entries_of before) v q.1 in
       entry_with v (answer.ForVersion w n) (enters v p.0)
-      (and_from _ _ (ap (is_member w) (same_entries before) ∙ q.0) (and_from _ _ o.0 (ap (λ es. is_needed es (line_at catalogue n) v) (same_entries before) ∙ need_same (said.entries_of before) (line_at catalogue n) v o.1))) refl
+      (and_from _ _ (ap (is_member w) (same_entries before) ∙ q.0) (and_from _ _ o.0 (ap (λ es. is_needed es (line_at catalogue n) v) (same_entries before) ∙ need_same (judged.entries_of before) (line_at catalogue n) v o.1))) refl
   passes_so (Wished v n) h =
       let p = and_parts (may_enter catalogue before v) _ h in
-      let q = and_parts (wishes (line_at request n) v) (list_all (λ m. nat_lt m n) (said.wish_lines before)) p.1 in
+      let q = and_parts (wishes (line_at request n) v) (list_all (λ m. nat_lt m n) (judged.wish_lines before)) p.1 in
       entry_with v (answer.Wished n) (enters v p.0) (wish_same (line_at request n) v q.0) (and_from _ _ (rises_same n q.1) refl)
   passes_so (LeftOut v n k) h =
-      let p = and_parts (said.is_wish request before n v) (not (is_member v (said.entries_of before))) h in
-      let q = and_parts (wishes (line_at request n) v) (list_all (λ m. nat_lt m n) (said.wish_lines before)) p.0 in
+      let p = and_parts (judged.is_wish request before n v) (not (is_member v (judged.entries_of before))) h in
+      let q = and_parts (wishes (line_at request n) v) (list_all (λ m. nat_lt m n) (judged.wish_lines before)) p.0 in
       and_from _ _ (wish_same (line_at request n) v q.0) (and_from _ _ (ap (λ es. not (is_member v es)) (same_entries before) ∙ p.1) (and_from _ _ (rises_same n q.1) refl))
 
 -- ---- all lines
@@ -149,10 +149,10 @@ left_same (LeftOut x m k ∷ lines) v n = ap (λ b. (same_version x v && eqb m n
 
 -- where the claims part at a wish that is left out, the lines do
 pub record Parted (lines : List AnswerLine) (above : List Answer) (v : Version) (n k : ℕ) : Type 0 where
-  pub front : List AnswerLine
+  pub prefix : List AnswerLine
   pub back : List AnswerLine
-  pub parts : lines ≡ front ++ LeftOut v n k ∷ back
-  pub fronts : map answer_of front ≡ above
+  pub parts : lines ≡ prefix ++ LeftOut v n k ∷ back
+  pub prefixes : map answer_of prefix ≡ above
 
 left_is : (l : AnswerLine) (v : Version) (n k : ℕ) → answer_of l ≡ answer.LeftOut v n k → l ≡ LeftOut v n k
 left_is (LeftOut w m j) v n k e = let a : w ≡ v = cc in let b : m ≡ n = cc in let d : j ≡ k = cc in cc
@@ -163,19 +163,19 @@ left_is (Wished w m) v n k e = absurd cc
 parted : (lines : List AnswerLine) (above below : List Answer) (v : Version) (n k : ℕ) → map answer_of lines ≡ above ++ answer.LeftOut v n k ∷ below → Parted lines above v n k
 parted [] [] below v n k e = absurd cc
 parted [] (a ∷ above) below v n k e = absurd cc
-parted (l ∷ lines) [] below v n k e = let h : answer_of l ≡ answer.LeftOut v n k = cc in record { front = []; back = lines; parts = ap (λ (x : AnswerLine). x ∷ lines) (left_is l v n k h); fronts = refl }
+parted (l ∷ lines) [] below v n k e = let h : answer_of l ≡ answer.LeftOut v n k = cc in record { prefix = []; back = lines; parts = ap (λ (x : AnswerLine). x ∷ lines) (left_is l v n k h); prefixes = refl }
 parted (l ∷ lines) (a ∷ above) below v n k e =
     let h : answer_of l ≡ a = cc in
     let t : map answer_of lines ≡ above ++ answer.LeftOut v n k ∷ below = cc in
     let r = parted lines above below v n k t in
-    record { front = l ∷ r.front; back = r.back; parts = ap (λ (xs : List AnswerLine). l ∷ xs) r.parts; fronts = ap (λ (x : Answer). x ∷ map answer_of r.front) h ∙ ap (λ (xs : List Answer). a ∷ xs) r.fronts }
+    record { prefix = l ∷ r.prefix; back = r.back; parts = ap (λ (xs : List AnswerLine). l ∷ xs) r.parts; prefixes = ap (λ (x : Answer). x ∷ map answer_of r.prefix) h ∙ ap (λ (xs : List Answer). a ∷ xs) r.prefixes }
 
 pub ends_so : (catalogue request : List Line) (lines : List AnswerLine) (steps : List Step) → InstallEnds catalogue request lines steps → AnswersEnd catalogue request (map answer_of lines) steps
 ends_so catalogue request lines steps ends = record {
   catalogue_lines = λ n. ap (λ es. keeps catalogue n es) (same_entries lines) ∙ ends.catalogue_lines n;
   request_lines = λ n. ap (λ es. keeps_in_request request n es) (same_entries lines) ∙ ends.request_lines n;
-  wishes = λ n v at. ap (λ es. is_member v es || list_any (leaves_out_at v n) (map answer_of lines)) (same_entries lines) ∙ (ap (λ b. is_member v (said.entries_of lines) || b) (sym (left_same lines v n)) ∙ ends.wishes n v at);
-  barred = λ above below v n k e.
+  wishes = λ n v at. ap (λ es. is_member v es || list_any (leaves_out_at v n) (map answer_of lines)) (same_entries lines) ∙ (ap (λ b. is_member v (judged.entries_of lines) || b) (sym (left_same lines v n)) ∙ ends.wishes n v at);
+  forbidden = λ above below v n k e.
       let r = parted lines above below v n k e in
-      ap (λ xs. step_bars catalogue request steps (answer.entries_of xs) v k) (sym r.fronts) ∙ (ap (λ es. step_bars catalogue request steps es v k) (same_entries r.front) ∙ ends.barred r.front r.back v n k r.parts);
+      ap (λ xs. step_forbids catalogue request steps (answer.entries_of xs) v k) (sym r.prefixes) ∙ (ap (λ es. step_forbids catalogue request steps es v k) (same_entries r.prefix) ∙ ends.forbidden r.prefix r.back v n k r.parts);
 }

@@ -22,7 +22,7 @@ use Rattle.resolvo_report.specs.declared.reader.ReportReader.{ReportReader}
 use Rattle.resolvo_report.specs.declared.reader.ReportFault.{ReportFault}
 use Rattle.resolvo_report.specs.declared.reader.ReportFault.TheVariants.{NotAReport, Reader, TooLong, Memory}
 use Rattle.resolvo_report.specs.Value.{Report, Install, Refused, ReportLine, InstallHead, RefusedHead, CatalogueLine, RequestLine, Numbered, Message, Step, AnswerLine}
-use Rattle.resolvo_report.specs.Value as says
+use Rattle.resolvo_report.specs.Value as model
 use Rattle.resolvo_report.specs.Text.{line_text, lines_text, step_text, step_words, HasText, report_lines, report_text, numbered}
 use Rattle.resolvo_report.specs.Grammar.{next_part, may_end, AreLines, IsReport, GoesOn, most_bytes}
 use Rattle.resolvo_report.specs.Draft.{part_of, Grows}
@@ -37,16 +37,16 @@ use Rattle.resolvo_judge.specs.declared.judgement.Verdict.TheVariants.{Yes, No}
 use Rattle.resolvo_checker.specs.CheckStep.{causes_in, count_causes}
 use Rattle.resolvo_judge.specs.Refusal.{answer_of, answer_in, answers_in, answers_claimed, step_in, steps_in, catalogue_line_in, catalogue_lines_in, request_line_in, request_lines_in, is_refusal, passes, Ends, ArePassed, IsAccepted}
 use Rattle.resolvo_judge.specs.Log.{is_head, causes_of_line}
-use Rattle.resolvo_judge.specs.JudgeState.{Stands, EndsSo}
-use Rattle.resolvo_judge.specs.Judgement.{IsClaimTrue, IsUpheld, causes_named, HoldsOn, IsRefusedAt, IsVerdict, ClaimsTruth, CountsReadings, CameRight, IsStop}
-use Rattle.resolvo_checker.proofs.WholeProofs.{take_front, count_push}
+use Rattle.resolvo_judge.specs.JudgeState.{JudgeInvariant, DecidesEnd}
+use Rattle.resolvo_judge.specs.Judgement.{IsClaimTrue, IsUpheld, causes_named, HoldsOn, IsRefusedAt, IsVerdict, ClaimsTruth, CountsReadings, IsReceived, IsStop}
+use Rattle.resolvo_checker.proofs.WholeProofs.{take_prefix, count_push}
 use Rattle.resolvo_judge.proofs.LogLemmas.{one_more}
 use Rattle.resolvo_judge.proofs.Accepted.{install_true, refusal_true}
 
 -- ---- a report grows by each line that may be next
 
 pub grows : (r : Report) (l : ReportLine) (q : Part) → next_part (part_of r) l ≡ Some q → (s : Report) × Grows r l s
-grows (Install ls ss) (says.Answer a) q e = (Install (ls ++ a ∷ []) ss, push_answer ls ss a q e)
+grows (Install ls ss) (model.Answer a) q e = (Install (ls ++ a ∷ []) ss, push_answer ls ss a q e)
 grows (Install ls ss) (Numbered n s) q e = (Install ls (ss ++ s ∷ []), push_install_step ls ss n s q e)
 grows (Install ls ss) InstallHead q e = absurd (install_takes ls ss InstallHead q e (λ a h. cc) (λ n s h. cc))
 grows (Install ls ss) RefusedHead q e = absurd (install_takes ls ss RefusedHead q e (λ a h. cc) (λ n s h. cc))
@@ -59,7 +59,7 @@ grows (Refused cs rs ss ms) (Numbered n s) q e = (Refused cs rs (ss ++ s ∷ [])
 grows (Refused cs rs ss ms) (Message b) q e = (Refused cs rs ss (ms ++ b ∷ []), push_message cs rs ss ms b q e)
 grows (Refused cs rs ss ms) InstallHead q e = absurd (no_install_head cs rs ss ms q e)
 grows (Refused cs rs ss ms) RefusedHead q e = absurd (no_refused_head cs rs ss ms q e)
-grows (Refused cs rs ss ms) (says.Answer a) q e = absurd (no_answer cs rs ss ms a q e)
+grows (Refused cs rs ss ms) (model.Answer a) q e = absurd (no_answer cs rs ss ms a q e)
 
 -- no second head
 pub no_head : (r : Report) (l : ReportLine) (q : Part) → next_part (part_of r) l ≡ Some q → is_head l ≡ false
@@ -67,7 +67,7 @@ no_head (Install ls ss) InstallHead q e = absurd (install_takes ls ss InstallHea
 no_head (Install ls ss) RefusedHead q e = absurd (install_takes ls ss RefusedHead q e (λ a h. cc) (λ n s h. cc))
 no_head (Refused cs rs ss ms) InstallHead q e = absurd (no_install_head cs rs ss ms q e)
 no_head (Refused cs rs ss ms) RefusedHead q e = absurd (no_refused_head cs rs ss ms q e)
-no_head r (says.Answer a) q e = refl
+no_head r (model.Answer a) q e = refl
 no_head r (CatalogueLine n) q e = refl
 no_head r (RequestLine n) q e = refl
 no_head r (Numbered n s) q e = refl
@@ -77,7 +77,7 @@ no_head r (Message b) q e = refl
 pub head_first : (l : ReportLine) (q : Part) → next_part part.Start l ≡ Some q → is_head l ≡ true
 head_first InstallHead q e = refl
 head_first RefusedHead q e = refl
-head_first (says.Answer a) q e = absurd cc
+head_first (model.Answer a) q e = absurd cc
 head_first (CatalogueLine n) q e = absurd cc
 head_first (RequestLine n) q e = absurd cc
 head_first (Numbered n s) q e = absurd cc
@@ -87,7 +87,7 @@ head_first (Message b) q e = absurd cc
 pub begun : (l : ReportLine) (q : Part) → next_part part.Start l ≡ Some q → (r : Report) × (report_lines r ≡ l ∷ []) × (q ≡ part_of r)
 begun InstallHead q e = (Install [] [], refl, sym (same_Some part.Answers q e))
 begun RefusedHead q e = (Refused [] [] [] [], refl, sym (same_Some (part.Catalogue 0) q e))
-begun (says.Answer a) q e = absurd cc
+begun (model.Answer a) q e = absurd cc
 begun (CatalogueLine n) q e = absurd cc
 begun (RequestLine n) q e = absurd cc
 begun (Numbered n s) q e = absurd cc
@@ -98,7 +98,7 @@ begun (Message b) q e = absurd cc
 pub passed_push : (catalogue request : List Line) (xs : List ReportLine) (l : ReportLine) → ArePassed catalogue request xs → passes catalogue request xs l ≡ true → ArePassed catalogue request (xs ++ l ∷ [])
 passed_push catalogue request xs l passed fine n m at = elim (get_push xs l m n at) [
   | inl e ↦ subst (λ (ys : List ReportLine). passes catalogue request ys m ≡ true) (sym (take-append-le n xs (l ∷ []) (let w = slice_get_within xs n m e in omega (arith, w)))) (passed n m e)
-  | inr e ↦ subst (λ (ys : List ReportLine). passes catalogue request ys m ≡ true) (sym (ap (λ k. take k (xs ++ l ∷ [])) e.0 ∙ take_front xs (l ∷ []))) (subst (λ (u : ReportLine). passes catalogue request xs u ≡ true) e.1 fine)
+  | inr e ↦ subst (λ (ys : List ReportLine). passes catalogue request ys m ≡ true) (sym (ap (λ k. take k (xs ++ l ∷ [])) e.0 ∙ take_prefix xs (l ∷ []))) (subst (λ (u : ReportLine). passes catalogue request xs u ≡ true) e.1 fine)
 ]
 
 pub head_passes : (catalogue request : List Line) (l : ReportLine) → is_head l ≡ true → ArePassed catalogue request (l ∷ [])
@@ -107,7 +107,7 @@ head_passes catalogue request l head = passed_push catalogue request [] l (λ n 
     one : (l : ReportLine) → is_head l ≡ true → passes catalogue request [] l ≡ true
     one InstallHead h = refl
     one RefusedHead h = refl
-    one (says.Answer a) h = absurd cc
+    one (model.Answer a) h = absurd cc
     one (CatalogueLine n) h = absurd cc
     one (RequestLine n) h = absurd cc
     one (Numbered n s) h = absurd cc
@@ -122,7 +122,7 @@ pub causes_more : (above : List ReportLine) (l : ReportLine) → count_causes (s
 causes_more above (Numbered n s) = ap count_causes (one_more step_in above (Numbered n s) (s ∷ []) refl) ∙ count_push (steps_in above) s
 causes_more above InstallHead = no_causes above InstallHead refl refl
 causes_more above RefusedHead = no_causes above RefusedHead refl refl
-causes_more above (says.Answer a) = no_causes above (says.Answer a) refl refl
+causes_more above (model.Answer a) = no_causes above (model.Answer a) refl refl
 causes_more above (CatalogueLine n) = no_causes above (CatalogueLine n) refl refl
 causes_more above (RequestLine n) = no_causes above (RequestLine n) refl refl
 causes_more above (Message b) = no_causes above (Message b) refl refl
@@ -130,7 +130,7 @@ causes_more above (Message b) = no_causes above (Message b) refl refl
 head_names_none : (l : ReportLine) → is_head l ≡ true → count_causes (steps_in (l ∷ [])) ≡ 0
 head_names_none InstallHead h = refl
 head_names_none RefusedHead h = refl
-head_names_none (says.Answer a) h = absurd cc
+head_names_none (model.Answer a) h = absurd cc
 head_names_none (CatalogueLine n) h = absurd cc
 head_names_none (RequestLine n) h = absurd cc
 head_names_none (Numbered n s) h = absurd cc
@@ -143,25 +143,25 @@ words_within (w ∷ []) = omega arith
 words_within (w ∷ x ∷ ws) = omega (arith, words_within (x ∷ ws), length-append w (32 ∷ join_with_byte 32 (x ∷ ws)))
 
 step_within : (s : Step) → causes_in s ≤ length (step_text s)
-step_within (says.Derive ls ns) = omega (arith, words_within (step_words (says.Derive ls ns)), length-map ns decimal)
-step_within (says.Need p n k) = omega arith
-step_within (says.Gate v n) = omega arith
-step_within (says.Shared ss) = omega arith
-step_within (says.LimitBars p n v) = omega arith
-step_within (says.Limit p n) = omega arith
-step_within (says.Outside s v) = omega arith
-step_within (says.Lock n v) = omega arith
-step_within (says.Exclude n) = omega arith
-step_within (says.Unknown n) = omega arith
-step_within (says.Digit v p b) = omega arith
-step_within (says.Any v) = omega arith
+step_within (model.Derive ls ns) = omega (arith, words_within (step_words (model.Derive ls ns)), length-map ns decimal)
+step_within (model.Need p n k) = omega arith
+step_within (model.Gate v n) = omega arith
+step_within (model.Shared ss) = omega arith
+step_within (model.LimitBars p n v) = omega arith
+step_within (model.Limit p n) = omega arith
+step_within (model.Outside s v) = omega arith
+step_within (model.Lock n v) = omega arith
+step_within (model.Exclude n) = omega arith
+step_within (model.Unknown n) = omega arith
+step_within (model.Digit v p b) = omega arith
+step_within (model.Any v) = omega arith
 
 -- a line names no more clauses than it has bytes
 line_within : (l : ReportLine) → causes_of_line l ≤ length (line_text l)
 line_within (Numbered n s) = omega (arith, step_within s, length-append (codes "step " ++ decimal n ++ codes " ") (step_text s))
 line_within InstallHead = omega arith
 line_within RefusedHead = omega arith
-line_within (says.Answer a) = omega arith
+line_within (model.Answer a) = omega arith
 line_within (CatalogueLine n) = omega arith
 line_within (RequestLine n) = omega arith
 line_within (Message b) = omega arith
@@ -170,7 +170,7 @@ causes_first : (l : ReportLine) (ls : List ReportLine) → count_causes (steps_i
 causes_first (Numbered n s) ls = refl
 causes_first InstallHead ls = omega arith
 causes_first RefusedHead ls = omega arith
-causes_first (says.Answer a) ls = omega arith
+causes_first (model.Answer a) ls = omega arith
 causes_first (CatalogueLine n) ls = omega arith
 causes_first (RequestLine n) ls = omega arith
 causes_first (Message b) ls = omega arith
@@ -192,7 +192,7 @@ pub record Reached (catalogue request : List Line) (known left : Option (List �
   pub read : ReadTo known left (report_lines report) r.part r.number r.lines.room
   pub part : r.part ≡ part_of report
   pub passed : ArePassed catalogue request (report_lines report)
-  pub stands : Stands catalogue request j clauses.kept (report_lines report)
+  pub represents : JudgeInvariant catalogue request j clauses.kept (report_lines report)
   pub next_line : next ≡ r.number + 1
   pub later : j.log.checker.truth.pass ≤ length clauses.kept
   pub long : length j.log.checker.places.items ≡ length (listed catalogue)
@@ -202,9 +202,9 @@ pub record Reached (catalogue request : List Line) (known left : Option (List �
   pub counted : clauses.readings.read ≡ causes_named report
 
 pub reached_first : (catalogue request : List Line) (known before after : Option (List ℕ)) (fresh r : ReportReader) (l : ReportLine) (j : JudgeState) (clauses : Clauses) → ReadTo known before [] fresh.part fresh.number fresh.lines.room → fresh.part ≡ part.Start
-    → GivesLine before fresh l after r → Stands catalogue request j clauses.kept (l ∷ []) → j.log.checker.truth.pass ≤ length clauses.kept → length j.log.checker.places.items ≡ length (listed catalogue) → length clauses.kept ≡ 0 → j.entries.chosen.count ≡ 0
+    → GivesLine before fresh l after r → JudgeInvariant catalogue request j clauses.kept (l ∷ []) → j.log.checker.truth.pass ≤ length clauses.kept → length j.log.checker.places.items ≡ length (listed catalogue) → length clauses.kept ≡ 0 → j.entries.chosen.count ≡ 0
     → clauses.readings.named ≡ 0 → clauses.readings.read ≡ 0 → Reached catalogue request known after r j clauses 2
-reached_first catalogue request known before after fresh r l j clauses nothing start g stands later long steps entries named read =
+reached_first catalogue request known before after fresh r l j clauses nothing start g represents later long steps entries named read =
     let placed : next_part part.Start l ≡ Some r.part = ap (λ (p : Part). next_part p l) (sym start) ∙ g.placed in
     let b = begun l r.part placed in
     let head = head_first l r.part placed in
@@ -214,7 +214,7 @@ reached_first catalogue request known before after fresh r l j clauses nothing s
       read = read_gives known before after [] (report_lines b.0) l fresh r nothing g b.1;
       part = b.2;
       passed = subst (ArePassed catalogue request) (sym b.1) (head_passes catalogue request l head);
-      stands = subst (λ (ls : List ReportLine). Stands catalogue request j clauses.kept ls) (sym b.1) stands;
+      represents = subst (λ (ls : List ReportLine). JudgeInvariant catalogue request j clauses.kept ls) (sym b.1) represents;
       next_line = omega (arith, g.number, nothing.count);
       later = later;
       long = long;
@@ -240,10 +240,10 @@ module _ (catalogue request : List Line) (known before after : Option (List ℕ)
   pub is_no_head : is_head l ≡ false
   is_no_head = no_head reached.report l s.part (ap (λ (p : Part). next_part p l) (sym reached.part) ∙ g.placed)
 
-  pub reached_more : (k : JudgeState) (grown_clauses : Clauses) → passes catalogue request (report_lines reached.report) l ≡ true → Stands catalogue request k grown_clauses.kept (report_lines reached.report ++ l ∷ []) → k.log.checker.truth.pass ≤ length grown_clauses.kept
+  pub reached_more : (k : JudgeState) (grown_clauses : Clauses) → passes catalogue request (report_lines reached.report) l ≡ true → JudgeInvariant catalogue request k grown_clauses.kept (report_lines reached.report ++ l ∷ []) → k.log.checker.truth.pass ≤ length grown_clauses.kept
       → length k.log.checker.places.items ≡ length (listed catalogue) → length grown_clauses.kept ≤ length clauses.kept + 1 → k.entries.chosen.count < j.entries.chosen.count + 2
       → grown_clauses.readings.named ≡ clauses.readings.named + causes_of_line l → grown_clauses.readings.read ≡ clauses.readings.read + causes_of_line l → Reached catalogue request known after s k grown_clauses (n + 1)
-  reached_more k grown_clauses pass stands later long steps entries named read =
+  reached_more k grown_clauses pass represents later long steps entries named read =
       let grown = grows reached.report l s.part (ap (λ (p : Part). next_part p l) (sym reached.part) ∙ g.placed) in
       let lines = grown.1.lines in
       let causes : causes_named grown.0 ≡ causes_named reached.report + causes_of_line l = ap (λ (ls : List ReportLine). count_causes (steps_in ls)) lines ∙ causes_more (report_lines reached.report) l in
@@ -252,7 +252,7 @@ module _ (catalogue request : List Line) (known before after : Option (List ℕ)
         read = read_gives known before after (report_lines reached.report) (report_lines grown.0) l r s reached.read g lines;
         part = same_Some s.part (part_of grown.0) (sym g.placed ∙ ap (λ (p : Part). next_part p l) reached.part ∙ grown.1.placed);
         passed = subst (ArePassed catalogue request) (sym lines) (passed_push catalogue request (report_lines reached.report) l reached.passed pass);
-        stands = subst (λ (ls : List ReportLine). Stands catalogue request k grown_clauses.kept ls) (sym lines) stands;
+        represents = subst (λ (ls : List ReportLine). JudgeInvariant catalogue request k grown_clauses.kept ls) (sym lines) represents;
         next_line = omega (arith, reached.next_line, g.number);
         later = later;
         long = long;
@@ -289,7 +289,7 @@ line_refused catalogue request above before after r s l g fails = λ below e hol
     (λ h. some_byte (line_text l) c.0 (sym text ∙ h.0)) holds
 
 -- the report may not end there
-pub end_refused : (catalogue request : List Line) (above : List ReportLine) (p : Part) (left : Option (List ℕ)) → IsAtEnd left → EndsSo catalogue request above false → IfKnown left (λ below. HoldsOn catalogue request above p below → ⊥)
+pub end_refused : (catalogue request : List Line) (above : List ReportLine) (p : Part) (left : Option (List ℕ)) → IsAtEnd left → DecidesEnd catalogue request above false → IfKnown left (λ below. HoldsOn catalogue request above p below → ⊥)
 end_refused catalogue request above p left end fails = λ below e holds.
     let over : below ≡ [] = subst IsAtEnd e end in
     ⊎_elim (λ h. some_byte (line_text h.0) h.1 (sym (h.5 ∙ newline_behind (line_text h.0) h.1) ∙ over)) (λ h. fails h.2) holds
@@ -318,10 +318,10 @@ no_steps {X} f is n (s ∷ ss) = ap (λ (xs : List X). xs ++ flat_map f (numbere
 four : {X : Type 0} (f : ReportLine → List X) (c r n m : List ReportLine) → flat_map f (c ++ r ++ n ++ m) ≡ flat_map f c ++ flat_map f r ++ flat_map f n ++ flat_map f m
 four {X} f c r n m = flat_map-append f (c ++ r ++ n) m ∙ ap (λ (xs : List X). xs ++ flat_map f m) (flat_map-append f (c ++ r) n ∙ ap (λ (xs : List X). xs ++ flat_map f n) (flat_map-append f c r))
 
-answers_are : (ls : List AnswerLine) (ss : List Step) → answers_in (map (λ a. says.Answer a) ls ++ numbered 1 ss) ≡ ls
+answers_are : (ls : List AnswerLine) (ss : List Step) → answers_in (map (λ a. model.Answer a) ls ++ numbered 1 ss) ≡ ls
 answers_are ls ss =
-    flat_map-append answer_in (map (λ a. says.Answer a) ls) (numbered 1 ss) ∙ ap (λ (xs : List AnswerLine). flat_map answer_in (map (λ a. says.Answer a) ls) ++ xs) (no_steps answer_in (λ n s. refl) 1 ss)
-    ∙ append-nil (flat_map answer_in (map (λ a. says.Answer a) ls)) ∙ each_one answer_in (λ a. says.Answer a) (λ a. refl) ls
+    flat_map-append answer_in (map (λ a. model.Answer a) ls) (numbered 1 ss) ∙ ap (λ (xs : List AnswerLine). flat_map answer_in (map (λ a. model.Answer a) ls) ++ xs) (no_steps answer_in (λ n s. refl) 1 ss)
+    ∙ append-nil (flat_map answer_in (map (λ a. model.Answer a) ls)) ∙ each_one answer_in (λ a. model.Answer a) (λ a. refl) ls
 
 module _ (cs rs : List ℕ) (ss : List Step) (ms : List (List ℕ)) where
   catalogue_lines_are : catalogue_lines_in (map CatalogueLine cs ++ map RequestLine rs ++ numbered 1 ss ++ map Message ms) ≡ cs
@@ -337,13 +337,13 @@ module _ (cs rs : List ℕ) (ss : List Step) (ms : List (List ℕ)) where
       (append-nil (rs ++ []) ∙ append-nil rs)
 
 pub claim_true : (catalogue request : List Line) (r : Report) → IsAccepted catalogue request (report_lines r) → IsClaimTrue catalogue request r
-claim_true catalogue request (Install ls ss) accepted = subst (λ (xs : List AnswerLine). ClaimsInstall catalogue request (map answer_of xs)) (answers_are ls ss) (install_true catalogue request (map (λ a. says.Answer a) ls ++ numbered 1 ss) accepted)
+claim_true catalogue request (Install ls ss) accepted = subst (λ (xs : List AnswerLine). ClaimsInstall catalogue request (map answer_of xs)) (answers_are ls ss) (install_true catalogue request (map (λ a. model.Answer a) ls ++ numbered 1 ss) accepted)
 claim_true catalogue request (Refused cs rs ss ms) accepted =
     subst (λ (xs : List ℕ). ClaimsRefusal catalogue request cs xs) (request_lines_are cs rs ss ms)
     (subst (λ (xs : List ℕ). ClaimsRefusal catalogue request xs (request_lines_in (map CatalogueLine cs ++ map RequestLine rs ++ numbered 1 ss ++ map Message ms))) (catalogue_lines_are cs rs ss ms)
     (refusal_true catalogue request (map CatalogueLine cs ++ map RequestLine rs ++ numbered 1 ss ++ map Message ms) accepted))
 
-pub upheld : (catalogue request : List Line) (known left : Option (List ℕ)) (r : ReportReader) (j : JudgeState) (clauses : Clauses) (n : ℕ) (reached : Reached catalogue request known left r j clauses n) → IsAtEnd left → IsTrue (may_end r.part) → EndsSo catalogue request (report_lines reached.report) true
+pub upheld : (catalogue request : List Line) (known left : Option (List ℕ)) (r : ReportReader) (j : JudgeState) (clauses : Clauses) (n : ℕ) (reached : Reached catalogue request known left r j clauses n) → IsAtEnd left → IsTrue (may_end r.part) → DecidesEnd catalogue request (report_lines reached.report) true
     → IfKnown known (λ text. IsUpheld catalogue request text reached.report)
 upheld catalogue request known left r j clauses n reached end may ends = λ text e. record {
   report = record { part = r.part; lines = reached.read.good; whole = may };
@@ -380,16 +380,16 @@ module _ (catalogue request : List Line) (known left after : Option (List ℕ)) 
   stops TooLong h = λ text e.
       let c = consumed known left (lines_text lines) read.bytes text e in
       let d = h c.0 c.1 in
-      let front : List ℕ = take r.lines.room c.0 in
+      let prefix : List ℕ = take r.lines.room c.0 in
       let rest : List ℕ = drop r.lines.room c.0 in (
-        lines_text lines ++ front,
+        lines_text lines ++ prefix,
         rest,
-        omega (arith, read.used, length-append (lines_text lines) front, length-take r.lines.room c.0, d.0),
+        omega (arith, read.used, length-append (lines_text lines) prefix, length-take r.lines.room c.0, d.0),
         omega (arith, length-drop r.lines.room c.0, d.0),
         record {
-          parts = c.2 ∙ ap (λ (bs : List ℕ). lines_text lines ++ bs) (sym (take-append-drop r.lines.room c.0)) ∙ sym (append_assoc (lines_text lines) front rest);
+          parts = c.2 ∙ ap (λ (bs : List ℕ). lines_text lines ++ bs) (sym (take-append-drop r.lines.room c.0)) ∙ sym (append_assoc (lines_text lines) prefix rest);
           above = lines;
-          begun = front;
+          begun = prefix;
           part = r.part;
           lines = refl;
           good = read.good;

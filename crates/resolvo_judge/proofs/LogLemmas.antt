@@ -10,10 +10,10 @@ use Rattle.resolvo_report.specs.Value.{AnswerLine, ReportLine, InstallHead, Refu
 use Rattle.resolvo_report.specs.Value as line
 use Rattle.resolvo_checker.specs.declared.literal.Literal.{Literal}
 use Rattle.resolvo_checker.specs.declared.check_step.Premises.{Premises}
-use Rattle.resolvo_checker.specs.Proof.{may_stand, is_named, derives_empty, ends_empty}
-use Rattle.resolvo_checker.specs.CheckStep.{names_catalogue, names_request, StandFor}
+use Rattle.resolvo_checker.specs.Proof.{is_valid_step, is_named, derives_empty, ends_empty}
+use Rattle.resolvo_checker.specs.CheckStep.{names_catalogue, names_request, CheckerInvariant}
 use Rattle.resolvo_judge.specs.Refusal.{answer_in, answers_in, step_in, steps_in, catalogue_line_in, catalogue_lines_in, request_line_in, request_lines_in, is_refusal, may_rest, passes}
-use Rattle.resolvo_judge.specs.Log.{LogStands}
+use Rattle.resolvo_judge.specs.Log.{LogInvariant}
 
 -- a line that isn't the head of a refusal makes none
 pub refusal_more : (above : List ReportLine) (l : ReportLine) → is_refusal (l ∷ []) ≡ false → is_refusal (above ++ l ∷ []) ≡ is_refusal above
@@ -39,18 +39,18 @@ rest_more above n s f none k =
     ap (λ xs. may_rest (above ++ Numbered n s ∷ []) xs k) (one_more f above (Numbered n s) [] none ∙ append-nil (flat_map f above))
     ∙ ap (λ b. cond b (is_named (flat_map f above) k) true) (refusal_more above (Numbered n s) refl)
 
-module _ (catalogue request : List Line) (entries : List (Vec ℕ × ℕ)) (clauses : List (List Literal)) (places : List (Option ℕ)) (scope : Premises) (empty : Bool) (above : List ReportLine) (stands : LogStands catalogue request entries clauses places scope empty above) where
+module _ (catalogue request : List Line) (entries : List (Vec ℕ × ℕ)) (clauses : List (List Literal)) (places : List (Option ℕ)) (scope : Premises) (empty : Bool) (above : List ReportLine) (represents : LogInvariant catalogue request entries clauses places scope empty above) where
   -- a step passes exactly where it is valid after the steps so far
-  pub passes_so : (n : ℕ) (s : Step) → may_stand catalogue request (names_catalogue scope) (names_request scope) (steps_in above) s ≡ passes catalogue request above (Numbered n s)
+  pub passes_so : (n : ℕ) (s : Step) → is_valid_step catalogue request (names_catalogue scope) (names_request scope) (steps_in above) s ≡ passes catalogue request above (Numbered n s)
   passes_so n s =
-      ap (λ (c : ℕ → Bool). may_stand catalogue request c (names_request scope) (steps_in above) s) (λ i k. stands.catalogue_lines k i)
-      ∙ ap (λ (r : ℕ → Bool). may_stand catalogue request (may_rest above (catalogue_lines_in above)) r (steps_in above) s) (λ i k. stands.request_lines k i)
+      ap (λ (c : ℕ → Bool). is_valid_step catalogue request c (names_request scope) (steps_in above) s) (λ i k. represents.catalogue_lines k i)
+      ∙ ap (λ (r : ℕ → Bool). is_valid_step catalogue request (may_rest above (catalogue_lines_in above)) r (steps_in above) s) (λ i k. represents.request_lines k i)
 
-  pub step_more : (new : List (Vec ℕ × ℕ)) (more : List (List Literal)) (after : List (Option ℕ)) (n : ℕ) (s : Step) → StandFor catalogue request new more after (steps_in above ++ s ∷ []) → LogStands catalogue request new more after scope (derives_empty s) (above ++ Numbered n s ∷ [])
+  pub step_more : (new : List (Vec ℕ × ℕ)) (more : List (List Literal)) (after : List (Option ℕ)) (n : ℕ) (s : Step) → CheckerInvariant catalogue request new more after (steps_in above ++ s ∷ []) → LogInvariant catalogue request new more after scope (derives_empty s) (above ++ Numbered n s ∷ [])
   step_more new more after n s kept = record {
-    steps = subst (λ (xs : List Step). StandFor catalogue request new more after xs) (sym (one_more step_in above (Numbered n s) (s ∷ []) refl)) kept;
-    catalogue_lines = λ k. stands.catalogue_lines k ∙ sym (rest_more above n s catalogue_line_in refl k);
-    request_lines = λ k. stands.request_lines k ∙ sym (rest_more above n s request_line_in refl k);
+    steps = subst (λ (xs : List Step). CheckerInvariant catalogue request new more after xs) (sym (one_more step_in above (Numbered n s) (s ∷ []) refl)) kept;
+    catalogue_lines = λ k. represents.catalogue_lines k ∙ sym (rest_more above n s catalogue_line_in refl k);
+    request_lines = λ k. represents.request_lines k ∙ sym (rest_more above n s request_line_in refl k);
     ends = sym (ap ends_empty (one_more step_in above (Numbered n s) (s ∷ []) refl) ∙ ends_push (steps_in above) s);
   }
 
@@ -78,36 +78,36 @@ module _ (catalogue request : List Line) (entries : List (Vec ℕ × ℕ)) (clau
   without_step : (l : ReportLine) → step_in l ≡ [] → steps_in (above ++ l ∷ []) ≡ steps_in above
   without_step l h = one_more step_in above l [] h ∙ append-nil (steps_in above)
 
-  pub catalogue_line_more : (after : Premises) (m : ℕ) → ((n : ℕ) → names_catalogue after n ≡ (eqb m n || names_catalogue scope n)) → ((n : ℕ) → names_request after n ≡ names_request scope n) → LogStands catalogue request entries clauses places after empty (above ++ CatalogueLine m ∷ [])
+  pub catalogue_line_more : (after : Premises) (m : ℕ) → ((n : ℕ) → names_catalogue after n ≡ (eqb m n || names_catalogue scope n)) → ((n : ℕ) → names_request after n ≡ names_request scope n) → LogInvariant catalogue request entries clauses places after empty (above ++ CatalogueLine m ∷ [])
   catalogue_line_more after m named others = record {
-    steps = subst (λ (xs : List Step). StandFor catalogue request entries clauses places xs) (sym (without_step (CatalogueLine m) refl)) stands.steps;
-    catalogue_lines = λ n. named n ∙ (rest_named (is_refusal above) (catalogue_lines_in above) m n (names_catalogue scope n) (stands.catalogue_lines n) ∙ sym (lines_more (CatalogueLine m) catalogue_line_in (m ∷ []) refl refl n));
-    request_lines = λ n. others n ∙ (stands.request_lines n ∙ sym (lines_more (CatalogueLine m) request_line_in [] refl refl n ∙ ap (λ xs. may_rest above xs n) (append-nil (request_lines_in above))));
-    ends = stands.ends ∙ ap ends_empty (sym (without_step (CatalogueLine m) refl));
+    steps = subst (λ (xs : List Step). CheckerInvariant catalogue request entries clauses places xs) (sym (without_step (CatalogueLine m) refl)) represents.steps;
+    catalogue_lines = λ n. named n ∙ (rest_named (is_refusal above) (catalogue_lines_in above) m n (names_catalogue scope n) (represents.catalogue_lines n) ∙ sym (lines_more (CatalogueLine m) catalogue_line_in (m ∷ []) refl refl n));
+    request_lines = λ n. others n ∙ (represents.request_lines n ∙ sym (lines_more (CatalogueLine m) request_line_in [] refl refl n ∙ ap (λ xs. may_rest above xs n) (append-nil (request_lines_in above))));
+    ends = represents.ends ∙ ap ends_empty (sym (without_step (CatalogueLine m) refl));
   }
 
-  pub request_line_more : (after : Premises) (m : ℕ) → ((n : ℕ) → names_request after n ≡ (eqb m n || names_request scope n)) → ((n : ℕ) → names_catalogue after n ≡ names_catalogue scope n) → LogStands catalogue request entries clauses places after empty (above ++ RequestLine m ∷ [])
+  pub request_line_more : (after : Premises) (m : ℕ) → ((n : ℕ) → names_request after n ≡ (eqb m n || names_request scope n)) → ((n : ℕ) → names_catalogue after n ≡ names_catalogue scope n) → LogInvariant catalogue request entries clauses places after empty (above ++ RequestLine m ∷ [])
   request_line_more after m named others = record {
-    steps = subst (λ (xs : List Step). StandFor catalogue request entries clauses places xs) (sym (without_step (RequestLine m) refl)) stands.steps;
-    catalogue_lines = λ n. others n ∙ (stands.catalogue_lines n ∙ sym (lines_more (RequestLine m) catalogue_line_in [] refl refl n ∙ ap (λ xs. may_rest above xs n) (append-nil (catalogue_lines_in above))));
-    request_lines = λ n. named n ∙ (rest_named (is_refusal above) (request_lines_in above) m n (names_request scope n) (stands.request_lines n) ∙ sym (lines_more (RequestLine m) request_line_in (m ∷ []) refl refl n));
-    ends = stands.ends ∙ ap ends_empty (sym (without_step (RequestLine m) refl));
+    steps = subst (λ (xs : List Step). CheckerInvariant catalogue request entries clauses places xs) (sym (without_step (RequestLine m) refl)) represents.steps;
+    catalogue_lines = λ n. others n ∙ (represents.catalogue_lines n ∙ sym (lines_more (RequestLine m) catalogue_line_in [] refl refl n ∙ ap (λ xs. may_rest above xs n) (append-nil (catalogue_lines_in above))));
+    request_lines = λ n. named n ∙ (rest_named (is_refusal above) (request_lines_in above) m n (names_request scope n) (represents.request_lines n) ∙ sym (lines_more (RequestLine m) request_line_in (m ∷ []) refl refl n));
+    ends = represents.ends ∙ ap ends_empty (sym (without_step (RequestLine m) refl));
   }
 
   -- ---- lines that name no line and give no step
 
-  plain_more : (l : ReportLine) → is_refusal (l ∷ []) ≡ false → step_in l ≡ [] → catalogue_line_in l ≡ [] → request_line_in l ≡ [] → LogStands catalogue request entries clauses places scope empty (above ++ l ∷ [])
+  plain_more : (l : ReportLine) → is_refusal (l ∷ []) ≡ false → step_in l ≡ [] → catalogue_line_in l ≡ [] → request_line_in l ≡ [] → LogInvariant catalogue request entries clauses places scope empty (above ++ l ∷ [])
   plain_more l r s c q = record {
-    steps = subst (λ (xs : List Step). StandFor catalogue request entries clauses places xs) (sym (without_step l s)) stands.steps;
-    catalogue_lines = λ n. stands.catalogue_lines n ∙ sym (lines_more l catalogue_line_in [] c r n ∙ ap (λ xs. may_rest above xs n) (append-nil (catalogue_lines_in above)));
-    request_lines = λ n. stands.request_lines n ∙ sym (lines_more l request_line_in [] q r n ∙ ap (λ xs. may_rest above xs n) (append-nil (request_lines_in above)));
-    ends = stands.ends ∙ ap ends_empty (sym (without_step l s));
+    steps = subst (λ (xs : List Step). CheckerInvariant catalogue request entries clauses places xs) (sym (without_step l s)) represents.steps;
+    catalogue_lines = λ n. represents.catalogue_lines n ∙ sym (lines_more l catalogue_line_in [] c r n ∙ ap (λ xs. may_rest above xs n) (append-nil (catalogue_lines_in above)));
+    request_lines = λ n. represents.request_lines n ∙ sym (lines_more l request_line_in [] q r n ∙ ap (λ xs. may_rest above xs n) (append-nil (request_lines_in above)));
+    ends = represents.ends ∙ ap ends_empty (sym (without_step l s));
   }
 
-  pub answer_more : (a : AnswerLine) → LogStands catalogue request entries clauses places scope empty (above ++ line.Answer a ∷ [])
+  pub answer_more : (a : AnswerLine) → LogInvariant catalogue request entries clauses places scope empty (above ++ line.Answer a ∷ [])
   answer_more a = plain_more (line.Answer a) refl refl refl refl
 
-  pub message_more : (b : List ℕ) → LogStands catalogue request entries clauses places scope empty (above ++ Message b ∷ [])
+  pub message_more : (b : List ℕ) → LogInvariant catalogue request entries clauses places scope empty (above ++ Message b ∷ [])
   message_more b = plain_more (Message b) refl refl refl refl
 
 -- the answers of one line more

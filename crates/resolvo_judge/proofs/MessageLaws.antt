@@ -18,19 +18,19 @@ use Rattle.resolvo_judge.specs.Judgement.{IsUpheld}
 
 -- ---- lists
 
-front_at : {X : Type 0} (xs ys : List X) (n : ℕ) (x : X) → slice_get xs n ≡ Some x → slice_get (xs ++ ys) n ≡ Some x
-front_at [] ys n x e = absurd cc
-front_at (z ∷ xs) ys zero x e = e
-front_at (z ∷ xs) ys (suc n) x e = front_at xs ys n x e
+prefix_at : {X : Type 0} (xs ys : List X) (n : ℕ) (x : X) → slice_get xs n ≡ Some x → slice_get (xs ++ ys) n ≡ Some x
+prefix_at [] ys n x e = absurd cc
+prefix_at (z ∷ xs) ys zero x e = e
+prefix_at (z ∷ xs) ys (suc n) x e = prefix_at xs ys n x e
 
 parts_at : {X : Type 0} (xs ys : List X) (n : ℕ) (x : X) → slice_get (xs ++ ys) n ≡ Some x → (slice_get xs n ≡ Some x) ⊎ ((m : ℕ) × (slice_get ys m ≡ Some x))
 parts_at [] ys n x e = inr (n, e)
 parts_at (z ∷ xs) ys zero x e = inl e
 parts_at (z ∷ xs) ys (suc n) x e = parts_at xs ys n x e
 
-each_front : {X : Type 0} (P : X → Type 0) (xs ys : List X) → AllByRecursion P (xs ++ ys) → AllByRecursion P xs
-each_front P [] ys all = tt
-each_front P (x ∷ xs) ys all = (all.0, each_front P xs ys all.1)
+each_prefix : {X : Type 0} (P : X → Type 0) (xs ys : List X) → AllByRecursion P (xs ++ ys) → AllByRecursion P xs
+each_prefix P [] ys all = tt
+each_prefix P (x ∷ xs) ys all = (all.0, each_prefix P xs ys all.1)
 
 each_both : {X : Type 0} (P : X → Type 0) (xs ys : List X) → AllByRecursion P xs → AllByRecursion P ys → AllByRecursion P (xs ++ ys)
 each_both P [] ys a b = b
@@ -50,7 +50,7 @@ no_steps (bytes ∷ message) = no_steps message
 -- lines that pass with a message pass without it
 without_passes : (catalogue request : List Line) (lines : List ReportLine) (message : List (List ℕ)) → ArePassed catalogue request (lines ++ map Message message) → ArePassed catalogue request lines
 without_passes catalogue request lines message passed n l e =
-    subst (λ (above : List ReportLine). passes catalogue request above l ≡ true) (take-append-le n lines (map Message message) (let low = slice_get_within lines n l e in omega (arith, low))) (passed n l (front_at lines (map Message message) n l e))
+    subst (λ (above : List ReportLine). passes catalogue request above l ≡ true) (take-append-le n lines (map Message message) (let low = slice_get_within lines n l e in omega (arith, low))) (passed n l (prefix_at lines (map Message message) n l e))
 
 -- and with any other
 with_passes : (catalogue request : List Line) (lines : List ReportLine) (message : List (List ℕ)) → ArePassed catalogue request lines → ArePassed catalogue request (lines ++ map Message message)
@@ -174,13 +174,13 @@ module _ (in_catalogue in_request : List ℕ) (steps : List Step) where
   -- it is one of the grammar with each message that has a text
   pub report_with : (message other : List (List ℕ)) → AllByRecursion HasText (map Message other) → IsReport (Refused in_catalogue in_request steps message) → IsReport (Refused in_catalogue in_request steps other)
   report_with message other texts h =
-      let (m, front, back) = after_parts lines_between (map Message message) (part.Catalogue 0) h.part h.lines.placed in
-      let (r, follows, ends) = ends_so m message other h.part (refusing_after lines_between (part.Catalogue 0) m refl front) back h.whole in
+      let (m, prefix, back) = after_parts lines_between (map Message message) (part.Catalogue 0) h.part h.lines.placed in
+      let (r, follows, ends) = ends_so m message other h.part (refusing_after lines_between (part.Catalogue 0) m refl prefix) back h.whole in
       record {
         part = r;
         lines = record {
-          each = each_both HasText (RefusedHead ∷ lines_between) (map Message other) (each_front HasText (RefusedHead ∷ lines_between) (map Message message) h.lines.each) texts;
-          placed = after_both lines_between (map Message other) (part.Catalogue 0) m r front follows;
+          each = each_both HasText (RefusedHead ∷ lines_between) (map Message other) (each_prefix HasText (RefusedHead ∷ lines_between) (map Message message) h.lines.each) texts;
+          placed = after_both lines_between (map Message other) (part.Catalogue 0) m r prefix follows;
         };
         whole = ends;
       }

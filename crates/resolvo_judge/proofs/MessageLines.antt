@@ -13,7 +13,7 @@ use Rattle.resolvo_report.specs.declared.place.Part.{Part}
 use Rattle.resolvo_report.specs.declared.place.Part.TheVariants as part
 use Rattle.resolvo_report.proofs.StreamLemmas.{first_newline}
 use Rattle.resolvo_report.proofs.WholeLines.{line_has_no_newline, same_line}
-use Rattle.resolvo_checker.specs.Proof.{may_stand, is_named, ends_empty}
+use Rattle.resolvo_checker.specs.Proof.{is_valid_step, is_named, ends_empty}
 use Rattle.resolvo_judge.specs.Entries.{answer_fits}
 use Rattle.resolvo_judge.specs.Refusal.{answer_in, answers_in, step_in, steps_in, catalogue_line_in, catalogue_lines_in, request_line_in, request_lines_in, is_refusal, may_rest, passes, InstallEnds, Ends, ArePassed}
 use Rattle.resolvo_judge.specs.Judgement.{HoldsOn, IsRefusedAt}
@@ -31,98 +31,98 @@ module _ (bytes other : List ℕ) where
   same_part (part.RefusedSteps n) = refl
   same_part part.Message = refl
 
-  same_parts : (p : Part) (front back : List ReportLine) → part_after p (front ++ Message bytes ∷ back) ≡ part_after p (front ++ Message other ∷ back)
+  same_parts : (p : Part) (prefix back : List ReportLine) → part_after p (prefix ++ Message bytes ∷ back) ≡ part_after p (prefix ++ Message other ∷ back)
   same_parts p [] back = ap (λ (o : Option Part). option_and_then (λ q. part_after q back) o) (same_part p)
-  same_parts p (l ∷ front) back = go (λ q. same_parts q front back) (next_part p l)
+  same_parts p (l ∷ prefix) back = go (λ q. same_parts q prefix back) (next_part p l)
     where
-      go : ((q : Part) → part_after q (front ++ Message bytes ∷ back) ≡ part_after q (front ++ Message other ∷ back)) → (o : Option Part)
-          → option_and_then (λ q. part_after q (front ++ Message bytes ∷ back)) o ≡ option_and_then (λ q. part_after q (front ++ Message other ∷ back)) o
+      go : ((q : Part) → part_after q (prefix ++ Message bytes ∷ back) ≡ part_after q (prefix ++ Message other ∷ back)) → (o : Option Part)
+          → option_and_then (λ q. part_after q (prefix ++ Message bytes ∷ back)) o ≡ option_and_then (λ q. part_after q (prefix ++ Message other ∷ back)) o
       go again None = refl
       go again (Some q) = again q
 
-  pub same_lists : {X : Type 0} (f : ReportLine → List X) → f (Message bytes) ≡ f (Message other) → (front back : List ReportLine) → flat_map f (front ++ Message bytes ∷ back) ≡ flat_map f (front ++ Message other ∷ back)
+  pub same_lists : {X : Type 0} (f : ReportLine → List X) → f (Message bytes) ≡ f (Message other) → (prefix back : List ReportLine) → flat_map f (prefix ++ Message bytes ∷ back) ≡ flat_map f (prefix ++ Message other ∷ back)
   same_lists {X} f is [] back = ap (λ (xs : List X). xs ++ flat_map f back) is
-  same_lists {X} f is (l ∷ front) back = ap (λ (xs : List X). f l ++ xs) (same_lists f is front back)
+  same_lists {X} f is (l ∷ prefix) back = ap (λ (xs : List X). f l ++ xs) (same_lists f is prefix back)
 
-  pub same_refusal : (front back : List ReportLine) → is_refusal (front ++ Message bytes ∷ back) ≡ is_refusal (front ++ Message other ∷ back)
+  pub same_refusal : (prefix back : List ReportLine) → is_refusal (prefix ++ Message bytes ∷ back) ≡ is_refusal (prefix ++ Message other ∷ back)
   same_refusal [] back = refl
-  same_refusal (InstallHead ∷ front) back = refl
-  same_refusal (RefusedHead ∷ front) back = refl
-  same_refusal (Answer a ∷ front) back = refl
-  same_refusal (CatalogueLine n ∷ front) back = refl
-  same_refusal (RequestLine n ∷ front) back = refl
-  same_refusal (Numbered n s ∷ front) back = refl
-  same_refusal (Message b ∷ front) back = refl
+  same_refusal (InstallHead ∷ prefix) back = refl
+  same_refusal (RefusedHead ∷ prefix) back = refl
+  same_refusal (Answer a ∷ prefix) back = refl
+  same_refusal (CatalogueLine n ∷ prefix) back = refl
+  same_refusal (RequestLine n ∷ prefix) back = refl
+  same_refusal (Numbered n s ∷ prefix) back = refl
+  same_refusal (Message b ∷ prefix) back = refl
 
-  each_swapped : (front back : List ReportLine) → HasText (Message other) → AllByRecursion HasText (front ++ Message bytes ∷ back) → AllByRecursion HasText (front ++ Message other ∷ back)
+  each_swapped : (prefix back : List ReportLine) → HasText (Message other) → AllByRecursion HasText (prefix ++ Message bytes ∷ back) → AllByRecursion HasText (prefix ++ Message other ∷ back)
   each_swapped [] back fits all = (fits, all.1)
-  each_swapped (l ∷ front) back fits all = (all.0, each_swapped front back fits all.1)
+  each_swapped (l ∷ prefix) back fits all = (all.0, each_swapped prefix back fits all.1)
 
   module _ (catalogue request : List Line) where
-    pub same_rest : (f : ReportLine → List ℕ) → f (Message bytes) ≡ f (Message other) → (front back : List ReportLine) (n : ℕ)
-        → may_rest (front ++ Message bytes ∷ back) (flat_map f (front ++ Message bytes ∷ back)) n ≡ may_rest (front ++ Message other ∷ back) (flat_map f (front ++ Message other ∷ back)) n
-    same_rest f is front back n =
-        ap (λ (xs : List ℕ). may_rest (front ++ Message bytes ∷ back) xs n) (same_lists f is front back)
-        ∙ ap (λ (b : Bool). if b then is_named (flat_map f (front ++ Message other ∷ back)) n else true) (same_refusal front back)
+    pub same_rest : (f : ReportLine → List ℕ) → f (Message bytes) ≡ f (Message other) → (prefix back : List ReportLine) (n : ℕ)
+        → may_rest (prefix ++ Message bytes ∷ back) (flat_map f (prefix ++ Message bytes ∷ back)) n ≡ may_rest (prefix ++ Message other ∷ back) (flat_map f (prefix ++ Message other ∷ back)) n
+    same_rest f is prefix back n =
+        ap (λ (xs : List ℕ). may_rest (prefix ++ Message bytes ∷ back) xs n) (same_lists f is prefix back)
+        ∙ ap (λ (b : Bool). if b then is_named (flat_map f (prefix ++ Message other ∷ back)) n else true) (same_refusal prefix back)
 
-    same_passes : (front back : List ReportLine) (l : ReportLine) → passes catalogue request (front ++ Message bytes ∷ back) l ≡ passes catalogue request (front ++ Message other ∷ back) l
-    same_passes front back InstallHead = refl
-    same_passes front back RefusedHead = refl
-    same_passes front back (Answer a) = ap (λ (xs : List AnswerLine). answer_fits catalogue request xs a) (same_lists answer_in refl front back)
-    same_passes front back (CatalogueLine n) = refl
-    same_passes front back (RequestLine n) = refl
-    same_passes front back (Numbered n s) =
-        let before : List ReportLine = front ++ Message bytes ∷ back in
-        let after : List ReportLine = front ++ Message other ∷ back in
-        ap (λ (c : ℕ → Bool). may_stand catalogue request c (may_rest before (request_lines_in before)) (steps_in before) s) (λ i k. same_rest catalogue_line_in refl front back k i)
-        ∙ ap (λ (r : ℕ → Bool). may_stand catalogue request (may_rest after (catalogue_lines_in after)) r (steps_in before) s) (λ i k. same_rest request_line_in refl front back k i)
-        ∙ ap (λ (xs : List Step). may_stand catalogue request (may_rest after (catalogue_lines_in after)) (may_rest after (request_lines_in after)) xs s) (same_lists step_in refl front back)
-    same_passes front back (Message b) = refl
+    same_passes : (prefix back : List ReportLine) (l : ReportLine) → passes catalogue request (prefix ++ Message bytes ∷ back) l ≡ passes catalogue request (prefix ++ Message other ∷ back) l
+    same_passes prefix back InstallHead = refl
+    same_passes prefix back RefusedHead = refl
+    same_passes prefix back (Answer a) = ap (λ (xs : List AnswerLine). answer_fits catalogue request xs a) (same_lists answer_in refl prefix back)
+    same_passes prefix back (CatalogueLine n) = refl
+    same_passes prefix back (RequestLine n) = refl
+    same_passes prefix back (Numbered n s) =
+        let before : List ReportLine = prefix ++ Message bytes ∷ back in
+        let after : List ReportLine = prefix ++ Message other ∷ back in
+        ap (λ (c : ℕ → Bool). is_valid_step catalogue request c (may_rest before (request_lines_in before)) (steps_in before) s) (λ i k. same_rest catalogue_line_in refl prefix back k i)
+        ∙ ap (λ (r : ℕ → Bool). is_valid_step catalogue request (may_rest after (catalogue_lines_in after)) r (steps_in before) s) (λ i k. same_rest request_line_in refl prefix back k i)
+        ∙ ap (λ (xs : List Step). is_valid_step catalogue request (may_rest after (catalogue_lines_in after)) (may_rest after (request_lines_in after)) xs s) (same_lists step_in refl prefix back)
+    same_passes prefix back (Message b) = refl
 
-    installed : (front back : List ReportLine) → InstallEnds catalogue request (answers_in (front ++ Message bytes ∷ back)) (steps_in (front ++ Message bytes ∷ back)) → InstallEnds catalogue request (answers_in (front ++ Message other ∷ back)) (steps_in (front ++ Message other ∷ back))
-    installed front back ends =
-        subst (λ (xs : List Step). InstallEnds catalogue request (answers_in (front ++ Message other ∷ back)) xs) (same_lists step_in refl front back)
-        (subst (λ (xs : List AnswerLine). InstallEnds catalogue request xs (steps_in (front ++ Message bytes ∷ back))) (same_lists answer_in refl front back) ends)
+    installed : (prefix back : List ReportLine) → InstallEnds catalogue request (answers_in (prefix ++ Message bytes ∷ back)) (steps_in (prefix ++ Message bytes ∷ back)) → InstallEnds catalogue request (answers_in (prefix ++ Message other ∷ back)) (steps_in (prefix ++ Message other ∷ back))
+    installed prefix back ends =
+        subst (λ (xs : List Step). InstallEnds catalogue request (answers_in (prefix ++ Message other ∷ back)) xs) (same_lists step_in refl prefix back)
+        (subst (λ (xs : List AnswerLine). InstallEnds catalogue request xs (steps_in (prefix ++ Message bytes ∷ back))) (same_lists answer_in refl prefix back) ends)
 
-    same_ends : (front back : List ReportLine) → Ends catalogue request (front ++ Message bytes ∷ back) → Ends catalogue request (front ++ Message other ∷ back)
+    same_ends : (prefix back : List ReportLine) → Ends catalogue request (prefix ++ Message bytes ∷ back) → Ends catalogue request (prefix ++ Message other ∷ back)
     same_ends [] back ends = installed [] back ends
-    same_ends (RefusedHead ∷ front) back ends = subst (λ (xs : List Step). IsTrue (ends_empty xs)) (same_lists step_in refl front back) ends
-    same_ends (InstallHead ∷ front) back ends = installed (InstallHead ∷ front) back ends
-    same_ends (Answer a ∷ front) back ends = installed (Answer a ∷ front) back ends
-    same_ends (CatalogueLine n ∷ front) back ends = installed (CatalogueLine n ∷ front) back ends
-    same_ends (RequestLine n ∷ front) back ends = installed (RequestLine n ∷ front) back ends
-    same_ends (Numbered n s ∷ front) back ends = installed (Numbered n s ∷ front) back ends
-    same_ends (Message b ∷ front) back ends = installed (Message b ∷ front) back ends
+    same_ends (RefusedHead ∷ prefix) back ends = subst (λ (xs : List Step). IsTrue (ends_empty xs)) (same_lists step_in refl prefix back) ends
+    same_ends (InstallHead ∷ prefix) back ends = installed (InstallHead ∷ prefix) back ends
+    same_ends (Answer a ∷ prefix) back ends = installed (Answer a ∷ prefix) back ends
+    same_ends (CatalogueLine n ∷ prefix) back ends = installed (CatalogueLine n ∷ prefix) back ends
+    same_ends (RequestLine n ∷ prefix) back ends = installed (RequestLine n ∷ prefix) back ends
+    same_ends (Numbered n s ∷ prefix) back ends = installed (Numbered n s ∷ prefix) back ends
+    same_ends (Message b ∷ prefix) back ends = installed (Message b ∷ prefix) back ends
 
-    same_holds : (front back : List ReportLine) (p : Part) (below : List ℕ) → HoldsOn catalogue request (front ++ Message bytes ∷ back) p below → HoldsOn catalogue request (front ++ Message other ∷ back) p below
-    same_holds front back p below holds = ⊎_elim
-        (λ h. inl (h.0, h.1, h.2, h.3, h.4, h.5, sym (same_passes front back h.0) ∙ h.6))
-        (λ h. inr (h.0, h.1, same_ends front back h.2)) holds
+    same_holds : (prefix back : List ReportLine) (p : Part) (below : List ℕ) → HoldsOn catalogue request (prefix ++ Message bytes ∷ back) p below → HoldsOn catalogue request (prefix ++ Message other ∷ back) p below
+    same_holds prefix back p below holds = ⊎_elim
+        (λ h. inl (h.0, h.1, h.2, h.3, h.4, h.5, sym (same_passes prefix back h.0) ∙ h.6))
+        (λ h. inr (h.0, h.1, same_ends prefix back h.2)) holds
 
     -- the lines above a place
-    above_swapped : (front back : List ReportLine) (n : ℕ) → (take n (front ++ Message bytes ∷ back) ≡ take n (front ++ Message other ∷ back))
-        ⊎ ((rest : List ReportLine) × (take n (front ++ Message bytes ∷ back) ≡ front ++ Message bytes ∷ rest) × (take n (front ++ Message other ∷ back) ≡ front ++ Message other ∷ rest))
+    above_swapped : (prefix back : List ReportLine) (n : ℕ) → (take n (prefix ++ Message bytes ∷ back) ≡ take n (prefix ++ Message other ∷ back))
+        ⊎ ((rest : List ReportLine) × (take n (prefix ++ Message bytes ∷ back) ≡ prefix ++ Message bytes ∷ rest) × (take n (prefix ++ Message other ∷ back) ≡ prefix ++ Message other ∷ rest))
     above_swapped [] back zero = inl refl
     above_swapped [] back (suc n) = inr (take n back, refl, refl)
-    above_swapped (l ∷ front) back zero = inl refl
-    above_swapped (l ∷ front) back (suc n) = elim (above_swapped front back n) [
+    above_swapped (l ∷ prefix) back zero = inl refl
+    above_swapped (l ∷ prefix) back (suc n) = elim (above_swapped prefix back n) [
       | inl e ↦ inl (ap (λ (xs : List ReportLine). l ∷ xs) e)
       | inr h ↦ inr (h.0, ap (λ (xs : List ReportLine). l ∷ xs) h.1, ap (λ (xs : List ReportLine). l ∷ xs) h.2)
     ]
 
     -- the line at a place
-    at_swapped : (front back : List ReportLine) (n : ℕ) (l : ReportLine) → slice_get (front ++ Message other ∷ back) n ≡ Some l → (slice_get (front ++ Message bytes ∷ back) n ≡ Some l) ⊎ (Message other ≡ l)
+    at_swapped : (prefix back : List ReportLine) (n : ℕ) (l : ReportLine) → slice_get (prefix ++ Message other ∷ back) n ≡ Some l → (slice_get (prefix ++ Message bytes ∷ back) n ≡ Some l) ⊎ (Message other ≡ l)
     at_swapped [] back zero l e = inr (same_Some (Message other) l e)
     at_swapped [] back (suc n) l e = inl e
-    at_swapped (k ∷ front) back zero l e = inl e
-    at_swapped (k ∷ front) back (suc n) l e = at_swapped front back n l e
+    at_swapped (k ∷ prefix) back zero l e = inl e
+    at_swapped (k ∷ prefix) back (suc n) l e = at_swapped prefix back n l e
 
-    passed_swapped : (front back : List ReportLine) → ArePassed catalogue request (front ++ Message bytes ∷ back) → ArePassed catalogue request (front ++ Message other ∷ back)
-    passed_swapped front back passed n l at = elim (at_swapped front back n l at) [
-      | inr is ↦ subst (λ (x : ReportLine). passes catalogue request (take n (front ++ Message other ∷ back)) x ≡ true) is refl
-      | inl there ↦ elim (above_swapped front back n) [
+    passed_swapped : (prefix back : List ReportLine) → ArePassed catalogue request (prefix ++ Message bytes ∷ back) → ArePassed catalogue request (prefix ++ Message other ∷ back)
+    passed_swapped prefix back passed n l at = elim (at_swapped prefix back n l at) [
+      | inr is ↦ subst (λ (x : ReportLine). passes catalogue request (take n (prefix ++ Message other ∷ back)) x ≡ true) is refl
+      | inl there ↦ elim (above_swapped prefix back n) [
         | inl same ↦ subst (λ (xs : List ReportLine). passes catalogue request xs l ≡ true) same (passed n l there)
-        | inr h ↦ ap (λ (xs : List ReportLine). passes catalogue request xs l) h.2 ∙ sym (same_passes front h.0 l) ∙ ap (λ (xs : List ReportLine). passes catalogue request xs l) (sym h.1) ∙ passed n l there
+        | inr h ↦ ap (λ (xs : List ReportLine). passes catalogue request xs l) h.2 ∙ sym (same_passes prefix h.0 l) ∙ ap (λ (xs : List ReportLine). passes catalogue request xs l) (sym h.1) ∙ passed n l there
       ]
     ]
 
@@ -188,9 +188,9 @@ module _ (catalogue request : List Line) (bytes other : List ℕ) (fits : HasTex
   -- above it
   refused_below : (above : List ReportLine) (n : ℕ) → AllByRecursion HasText above → (r : IsRefusedAt catalogue request (lines_text (above ++ Message bytes ∷ []) ++ below) n) → length above < length r.above → IsRefusedAt catalogue request (lines_text (above ++ Message other ∷ []) ++ below) n
   refused_below above n all r lt =
-      let front : List ReportLine = above ++ Message bytes ∷ [] in
-      let long : length front ≤ length r.above = omega (arith, lt, length-append above (Message bytes ∷ [])) in
-      let s = splits front r.above below r.below (each_push above (Message bytes) all fits) r.good.each long (sym r.parts) in
+      let prefix : List ReportLine = above ++ Message bytes ∷ [] in
+      let long : length prefix ≤ length r.above = omega (arith, lt, length-append above (Message bytes ∷ [])) in
+      let s = splits prefix r.above below r.below (each_push above (Message bytes) all fits) r.good.each long (sym r.parts) in
       let is : r.above ≡ above ++ Message bytes ∷ s.more = s.parts ∙ append_assoc above (Message bytes ∷ []) s.more in
       record {
         above = above ++ Message other ∷ s.more;

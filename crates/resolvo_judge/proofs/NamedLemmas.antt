@@ -4,11 +4,11 @@ use Rattle.std.specs.Prelude.{◌||◌, unwrap_or}
 use Rattle.std.proofs.lemmas.Bool.{false≢true, cases_Bool, eqb-true, eq-eqb}
 use Rattle.resolvo_checker.proofs.CheckLemmas.{get_set, get_set_other}
 use Rattle.resolvo_text.specs.Line.{Version, Line}
-use Rattle.resolvo_catalogue_core.specs.Questions.{States, is_rule}
+use Rattle.resolvo_catalogue_core.specs.Questions.{IsRuleLine, is_rule}
 use Rattle.resolvo_catalogue_core.specs.declared.rule.Rule.{Rule}
 use Rattle.resolvo_catalogue_core.specs.declared.rule.Rule.TheVariants as rule
 use Rattle.resolvo_checker.specs.CheckStep.{flag_at}
-use Rattle.resolvo_judge.specs.Refusal.{states_rule}
+use Rattle.resolvo_judge.specs.Refusal.{has_rule}
 
 pub flag_push : (marks : List Bool) (n : ℕ) → flag_at (marks ++ false ∷ []) n ≡ flag_at marks n
 flag_push [] zero = refl
@@ -22,16 +22,16 @@ flag_set marks k n h = elim (cases_Bool (eqb k n)) [
   | inr e ↦ ap (λ o. unwrap_or o false) (get_set_other marks k n true (λ i. false≢true (sym e ∙ eq-eqb k n i))) ∙ sym (ap (λ b. b || flag_at marks n) e)
 ]
 
-pub is_stated : (vs : List Version) (r : Rule) (owner : Option Version) (l : Line) → States vs r owner l → is_rule l ≡ true
-is_stated vs (rule.Needs of a c) owner l s = ap is_rule s.0
-is_stated vs (rule.Limits of x) owner l s = ap is_rule s.0
-is_stated vs (rule.Unknown of w) owner l s = ap is_rule s.0
-is_stated vs (rule.Lock n) owner l s = ap is_rule s.2
-is_stated vs (rule.Exclude n w) owner l s = ap is_rule s.2
+pub is_rule_line : (vs : List Version) (r : Rule) (owner : Option Version) (l : Line) → IsRuleLine vs r owner l → is_rule l ≡ true
+is_rule_line vs (rule.Needs of a c) owner l s = ap is_rule s.0
+is_rule_line vs (rule.Limits of x) owner l s = ap is_rule s.0
+is_rule_line vs (rule.Unknown of w) owner l s = ap is_rule s.0
+is_rule_line vs (rule.Lock n) owner l s = ap is_rule s.2
+is_rule_line vs (rule.Exclude n w) owner l s = ap is_rule s.2
 
-pub stated_at : (o : Option Line) (l : Line) → o ≡ Some l → is_rule l ≡ true → true ≡ states_rule o
-stated_at o l at is = sym (ap states_rule at ∙ is)
+pub rule_line_at : (o : Option Line) (l : Line) → o ≡ Some l → is_rule l ≡ true → true ≡ has_rule o
+rule_line_at o l at is = sym (ap has_rule at ∙ is)
 
-pub not_stated : (o : Option Line) → ((l : Line) → o ≡ Some l → is_rule l ≡ false) → false ≡ states_rule o
-not_stated None h = refl
-not_stated (Some l) h = sym (h l refl)
+pub no_rule_line : (o : Option Line) → ((l : Line) → o ≡ Some l → is_rule l ≡ false) → false ≡ has_rule o
+no_rule_line None h = refl
+no_rule_line (Some l) h = sym (h l refl)

@@ -16,7 +16,7 @@ use Rattle.resolvo_report.proofs.StreamLemmas.{first_newline}
 use Rattle.resolvo_report.proofs.WholeLines.{line_has_no_newline, same_line}
 use Rattle.resolvo_judge.specs.Refusal.{passes, Ends, ArePassed}
 use Rattle.resolvo_judge.specs.Judgement.{IsUpheld, HoldsOn, IsRefusedAt}
-use Rattle.resolvo_checker.proofs.WholeProofs.{take_front}
+use Rattle.resolvo_checker.proofs.WholeProofs.{take_prefix}
 use Rattle.resolvo_judge.proofs.Accepted.{get_seam}
 
 abbrev pub AllHaveText : List ReportLine → Type 0
@@ -58,7 +58,7 @@ module _ (catalogue request : List Line) where
   goes_on : (above : List ReportLine) (p q : Part) (below rest : List ℕ) (l : ReportLine) (ls : List ReportLine) → AreLines above p → AreLines (above ++ l ∷ ls) q → ArePassed catalogue request (above ++ l ∷ ls) → below ≡ lines_text (l ∷ ls) ++ rest → HoldsOn catalogue request above p below
   goes_on above p q below rest l ls good all passed left =
       let next = bind_some (next_part p l) (λ z. part_after z ls) q (split_after part.Start p q above (l ∷ ls) good.placed all.placed) in
-      let pass = subst (λ (xs : List ReportLine). passes catalogue request xs l ≡ true) (take_front above (l ∷ ls)) (passed (length above) l (get_seam above l ls)) in
+      let pass = subst (λ (xs : List ReportLine). passes catalogue request xs l ≡ true) (take_prefix above (l ∷ ls)) (passed (length above) l (get_seam above l ls)) in
       inl (l, lines_text ls ++ rest, next.0, (text_right above (l ∷ ls) all.each).0, next.1, left ∙ line_first l ls rest ∙ sym (append_assoc (line_text l) (codes "\n") (lines_text ls ++ rest)), pass)
 
   -- no text is refused after a prefix of lines that pass

@@ -8,7 +8,7 @@ use Rattle.resolvo_catalogue_core.specs.Sets.{IsSingle, AreRefuted}
 use Rattle.resolvo_pool_core.specs.OnePass.{clause_true}
 use Rattle.resolvo_report.specs.Value.{Step}
 use Rattle.resolvo_checker.specs.StepClauses.{clause_of}
-use Rattle.resolvo_checker.specs.Helpers.{value_of}
+use Rattle.resolvo_checker.specs.AtomValues.{value_of}
 use Rattle.resolvo_checker.specs.Proof.{IsProof, is_named, ends_empty, ObeysLines, ObeysTested, IsTrueIn}
 use Rattle.resolvo_checker.proofs.Sets.{all_at}
 use Rattle.resolvo_checker.proofs.ProofTrue.{place_given, proof_true, proof_refutes}

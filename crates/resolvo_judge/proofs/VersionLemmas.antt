@@ -47,11 +47,11 @@ puts before after v kept name same updated items q =
     elim (cases_Bool (bytes_eq name q)) [
       | inl here ↦
           let is : name ≡ q = (bytes_eq-Decides name q).0 here in
-          let told : bytes_eq v.name q ≡ true = ap (λ (n : List ℕ). bytes_eq n q) (sym same) ∙ here in
-          ap numbers_kept (updated q) ∙ rw (here, told) (items ∙ ap (λ (n : List ℕ). numbers_kept (before n) ++ v.number ∷ []) is)
+          let same_name : bytes_eq v.name q ≡ true = ap (λ (n : List ℕ). bytes_eq n q) (sym same) ∙ here in
+          ap numbers_kept (updated q) ∙ rw (here, same_name) (items ∙ ap (λ (n : List ℕ). numbers_kept (before n) ++ v.number ∷ []) is)
       | inr apart ↦
-          let told : bytes_eq v.name q ≡ false = ap (λ (n : List ℕ). bytes_eq n q) (sym same) ∙ apart in
-          ap numbers_kept (updated q) ∙ rw (apart, told) refl
+          let same_name : bytes_eq v.name q ≡ false = ap (λ (n : List ℕ). bytes_eq n q) (sym same) ∙ apart in
+          ap numbers_kept (updated q) ∙ rw (apart, same_name) refl
     ]
 
 pub on_ok : {T E : Type 0} {P Q : Type 0} (r : Result T E) → OnOk r P → (P → Q) → OnOk r Q

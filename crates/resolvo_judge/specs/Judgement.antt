@@ -76,12 +76,12 @@ CountsReadings text (No n) readings = ⊤
 
 -- These bytes of the text were received, and the rest is left. The whole lines among them are lines
 -- of a report that pass.
-pub record CameRight (catalogue request : List Line) (text came rest : List ℕ) : Type 0 where
-  pub parts : text ≡ came ++ rest
+pub record IsReceived (catalogue request : List Line) (text received rest : List ℕ) : Type 0 where
+  pub parts : text ≡ received ++ rest
   pub above : List ReportLine
   pub begun : List ℕ
   pub part : Part
-  pub lines : came ≡ lines_text above ++ begun
+  pub lines : received ≡ lines_text above ++ begun
   pub good : AreLines above part
   pub passed : ArePassed catalogue request above
   pub unfinished : newlines begun ≡ 0
@@ -89,8 +89,8 @@ pub record CameRight (catalogue request : List Line) (text came rest : List ℕ)
 -- When there is no answer: by the bytes left in the device before and after, and its failure.
 -- Received whole lines are judged before the next read.
 abbrev pub IsJudgeFault : List Line → List Line → JudgeFault → Option (List ℕ) → Option (List ℕ) → Type 0 → Type 0
-IsJudgeFault catalogue request Reader before after failed = failed × IfKnown before (λ text. (came : List ℕ) × (rest : List ℕ) × (after ≡ Some rest) × CameRight catalogue request text came rest)
-IsJudgeFault catalogue request TooLong before after failed = IfKnown before (λ text. (came : List ℕ) × (rest : List ℕ) × (length came ≡ most_bytes) × (0 < length rest) × CameRight catalogue request text came rest)
+IsJudgeFault catalogue request Reader before after failed = failed × IfKnown before (λ text. (received : List ℕ) × (rest : List ℕ) × (after ≡ Some rest) × IsReceived catalogue request text received rest)
+IsJudgeFault catalogue request TooLong before after failed = IfKnown before (λ text. (received : List ℕ) × (rest : List ℕ) × (length received ≡ most_bytes) × (0 < length rest) × IsReceived catalogue request text received rest)
 IsJudgeFault catalogue request Memory before after failed = ⊤
 
 -- Why no line is given: at that line the text is refused, or there is no answer.

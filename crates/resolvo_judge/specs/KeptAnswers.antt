@@ -10,15 +10,15 @@ use Rattle.resolvo_judge.specs.Entries.{entries_of, left_out, wish_lines, wishes
 use Rattle.resolvo_judge.specs.Refusal.{leaves_out}
 use Rattle.resolvo_judge.specs.Chosen.{Holds}
 use Rattle.resolvo_judge.specs.Versions.{HoldsAll}
-use Rattle.resolvo_judge.specs.BarredWishes.{BarredWish, HoldsWishes}
+use Rattle.resolvo_judge.specs.ForbiddenWishes.{ForbiddenWish, HoldsWishes}
 use Rattle.resolvo_judge.specs.declared.entries.Entries.{Entries}
 
 -- the left-out wishes of these lines, with i entries before them
-abbrev pub barred_from : ℕ → List AnswerLine → List BarredWish
-barred_from i [] = []
-barred_from i (Entry v place n ∷ lines) = barred_from (i + 1) lines
-barred_from i (Wished v n ∷ lines) = barred_from (i + 1) lines
-barred_from i (LeftOut v n step ∷ lines) = record { wish = v; step = step; above = i } ∷ barred_from i lines
+abbrev pub forbidden_from : ℕ → List AnswerLine → List ForbiddenWish
+forbidden_from i [] = []
+forbidden_from i (Entry v place n ∷ lines) = forbidden_from (i + 1) lines
+forbidden_from i (Wished v n ∷ lines) = forbidden_from (i + 1) lines
+forbidden_from i (LeftOut v n step ∷ lines) = record { wish = v; step = step; above = i } ∷ forbidden_from i lines
 
 -- The line's number is greater than the last one, where there was one.
 abbrev pub is_after : Option ℕ → ℕ → Bool
@@ -30,7 +30,7 @@ pub record KeepsAnswers (e : Entries) (before : List AnswerLine) : Type 0 where
   pub chosen : Holds e.chosen (entries_of before)
   pub out : HoldsAll e.out (left_out before)
   pub rising : (n : ℕ) → list_all (λ m. nat_lt m n) (wish_lines before) ≡ is_after e.last_wish n
-  pub barred : HoldsWishes e.barred (barred_from 0 before)
+  pub forbidden : HoldsWishes e.forbidden (forbidden_from 0 before)
 
 -- The lines of the request whose wishes are left out are kept.
 abbrev pub KeepsLines : List Line → Entries → List AnswerLine → Type 0
@@ -39,15 +39,15 @@ KeepsLines request e before = (n : ℕ) (v : Version) → wishes (line_at reques
 -- ---- the wishes
 
 -- The wish in this line, if it is one, is an entry or is left out.
-abbrev pub IsTold : List Line → List AnswerLine → ℕ → Type 0
-IsTold request answers n = (v : Version) → line_at request n ≡ Some (Wish v) → IsTrue (is_member v (entries_of answers) || list_any (leaves_out v n) answers)
+abbrev pub IsAnswered : List Line → List AnswerLine → ℕ → Type 0
+IsAnswered request answers n = (v : Version) → line_at request n ≡ Some (Wish v) → IsTrue (is_member v (entries_of answers) || list_any (leaves_out v n) answers)
 
 -- The answer is whether it is.
-abbrev pub IsWishTold : List Line → List AnswerLine → ℕ → Bool → Type 0
-IsWishTold request answers n true = IsTold request answers n
-IsWishTold request answers n false = IsTold request answers n → ⊥
+abbrev pub IsWishAnswered : List Line → List AnswerLine → ℕ → Bool → Type 0
+IsWishAnswered request answers n true = IsAnswered request answers n
+IsWishAnswered request answers n false = IsAnswered request answers n → ⊥
 
 -- The answer is whether each wish is.
-abbrev pub AreWishesTold : List Line → List AnswerLine → Bool → Type 0
-AreWishesTold request answers true = (n : ℕ) → IsTold request answers n
-AreWishesTold request answers false = ((n : ℕ) → IsTold request answers n) → ⊥
+abbrev pub AreWishesAnswered : List Line → List AnswerLine → Bool → Type 0
+AreWishesAnswered request answers true = (n : ℕ) → IsAnswered request answers n
+AreWishesAnswered request answers false = ((n : ℕ) → IsAnswered request answers n) → ⊥

@@ -3,9 +3,9 @@ pub mod Chosen
 pub mod Refusal
 pub mod Log
 pub mod Versions
-pub mod BarredWishes
+pub mod ForbiddenWishes
 pub mod EndRules
 pub mod KeptAnswers
-pub mod Bars
+pub mod Forbids
 pub mod JudgeState
 pub mod Judgement

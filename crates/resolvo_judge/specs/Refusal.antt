@@ -13,7 +13,7 @@ use Rattle.resolvo_report.specs.Value.{AnswerLine, Entry, Wished, LeftOut, OfReq
 use Rattle.resolvo_report.specs.Value as line
 use Rattle.resolvo_checker.specs.StepClauses.{clause_of}
 use Rattle.resolvo_judge.specs.Entries.{entries_of, answer_fits}
-use Rattle.resolvo_checker.specs.Proof.{may_stand, is_named, ends_empty, bars}
+use Rattle.resolvo_checker.specs.Proof.{is_valid_step, is_named, ends_empty, forbids}
 
 -- ---- the contents of lines
 
@@ -68,26 +68,26 @@ may_rest above lines n = if is_refusal above then is_named lines n else true
 
 -- ---- lines
 
-abbrev pub states_rule : Option Line → Bool
-states_rule None = false
-states_rule (Some l) = is_rule l
+abbrev pub has_rule : Option Line → Bool
+has_rule None = false
+has_rule (Some l) = is_rule l
 
 -- The line passes after the lines above it.
 abbrev pub passes : List Line → List Line → List ReportLine → ReportLine → Bool
 passes catalogue request above InstallHead = true
 passes catalogue request above RefusedHead = true
 passes catalogue request above (line.Answer a) = answer_fits catalogue request (answers_in above) a
-passes catalogue request above (CatalogueLine n) = states_rule (line_at catalogue n)
-passes catalogue request above (RequestLine n) = states_rule (line_at request n)
-passes catalogue request above (Numbered n s) = may_stand catalogue request (may_rest above (catalogue_lines_in above)) (may_rest above (request_lines_in above)) (steps_in above) s
+passes catalogue request above (CatalogueLine n) = has_rule (line_at catalogue n)
+passes catalogue request above (RequestLine n) = has_rule (line_at request n)
+passes catalogue request above (Numbered n s) = is_valid_step catalogue request (may_rest above (catalogue_lines_in above)) (may_rest above (request_lines_in above)) (steps_in above) s
 passes catalogue request above (Message bytes) = true
 
 -- ---- the end
 
 -- Step k, from 1, is there, and its clause has no literal but `not` of the wish or of an entry.
-abbrev pub step_bars : List Line → List Line → List Step → Set → Version → ℕ → Bool
-step_bars catalogue request steps entries wish zero = false
-step_bars catalogue request steps entries wish (suc k) = option_map_or (bars entries wish) (option_and_then (clause_of catalogue request) (slice_get steps k)) false
+abbrev pub step_forbids : List Line → List Line → List Step → Set → Version → ℕ → Bool
+step_forbids catalogue request steps entries wish zero = false
+step_forbids catalogue request steps entries wish (suc k) = option_map_or (forbids entries wish) (option_and_then (clause_of catalogue request) (slice_get steps k)) false
 
 -- The wish in this line of the request is left out.
 abbrev pub leaves_out : Version → ℕ → AnswerLine → Bool
@@ -100,7 +100,7 @@ pub record InstallEnds (catalogue request : List Line) (answers : List AnswerLin
   pub catalogue_lines : (n : ℕ) → IsTrue (keeps catalogue n (entries_of answers))
   pub request_lines : (n : ℕ) → IsTrue (keeps_in_request request n (entries_of answers))
   pub wishes : (n : ℕ) (v : Version) → line_at request n ≡ Some (Wish v) → IsTrue (is_member v (entries_of answers) || list_any (leaves_out v n) answers)
-  pub barred : (above below : List AnswerLine) (v : Version) (n k : ℕ) → answers ≡ above ++ LeftOut v n k ∷ below → IsTrue (step_bars catalogue request steps (entries_of above) v k)
+  pub forbidden : (above below : List AnswerLine) (v : Version) (n k : ℕ) → answers ≡ above ++ LeftOut v n k ∷ below → IsTrue (step_forbids catalogue request steps (entries_of above) v k)
 
 -- What the report's end asks of its lines.
 abbrev pub Ends : List Line → List Line → List ReportLine → Type 0

@@ -2,7 +2,7 @@
 //! long line. It is only a hint: no answer depends on it.
 
 use resolvo_catalogue_core::{Catalogue, Request, Rule, Spec, Version};
-use resolvo_checker::stated::rule_at;
+use resolvo_checker::of_line::rule_at;
 use resolvo_report::{AnswerLine, Place};
 use resolvo_text::matches;
 use std::alloc::{AllocError, Global};

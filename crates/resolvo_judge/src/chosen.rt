@@ -9,7 +9,7 @@ ghost use Rattle.std.specs.Str.{bytes_eq};
 ghost use Rattle.resolvo_catalogue_core.specs.Listed.{pair_version};
 ghost use Rattle.std.specs.Option.{option_map_or};
 ghost use Rattle.std.specs.String.{string_bytes};
-ghost use Rattle.resolvo_text.specs.Line as says;
+ghost use Rattle.resolvo_text.specs.Line as spelled;
 ghost use Rattle.resolvo_text.specs.Matches.{Set, is_in_span, same_package, matches, is_member, is_met, is_met_by_one, holds, condition_holds};
 ghost use Rattle.resolvo_text.specs.View.{version_of, spec_of, specs_of, cond_of, condition_of};
 ghost use Rattle.resolvo_judge.specs.Chosen.{Holds, number_for};
@@ -34,7 +34,7 @@ pub struct Chosen {
 
 impl Chosen {
     pub fn new(alloc: Global) -> Chosen
-        ensures stands { Holds result [] }
+        ensures represents { Holds result [] }
         ensures none { result.count ≡ 0 }
     {
         Chosen {

@@ -1,11 +1,11 @@
 //! Whether the entries of an `install` report keep all rules, at the report's end.
 
 ghost use Rattle.std.specs.Prelude.{◌≡◌, ℕ, List, Option, Some, None, IsTrue, false, slice_get, option_map};
-ghost use Rattle.resolvo_text.specs.Line as says;
+ghost use Rattle.resolvo_text.specs.Line as spelled;
 ghost use Rattle.resolvo_text.specs.Line.{Lock};
 ghost use Rattle.resolvo_text.specs.Matches.{Set, is_member};
 ghost use Rattle.resolvo_catalogue_core.specs.Listed.{pair_version, pair_versions};
-ghost use Rattle.resolvo_catalogue_core.specs.Questions.{States, IsOwner};
+ghost use Rattle.resolvo_catalogue_core.specs.Questions.{IsRuleLine, IsOwner};
 ghost use Rattle.resolvo_catalogue_core.specs.Rules.{binds as binds_lem, obeys as obeys_lem, keeps, keeps_in_request};
 ghost use Rattle.resolvo_judge.specs.Chosen.{Holds};
 ghost use Rattle.resolvo_judge.specs.EndRules.{KeepsAll};
@@ -23,7 +23,7 @@ fn listed_at(versions: &[(String, u32)], number: VersionNo) -> Option<&(String, 
 
 /// Whether the version of this number is chosen.
 fn is_chosen(chosen: &Chosen, versions: &[(String, u32)], number: VersionNo) -> bool
-    ensures { (set : Set) (v : says.Version)
+    ensures { (set : Set) (v : spelled.Version)
         → Holds chosen.now set
         → slice_get (pair_versions versions.now) number.0 ≡ Some v
         → result ≡ is_member v set }
@@ -36,7 +36,7 @@ fn is_chosen(chosen: &Chosen, versions: &[(String, u32)], number: VersionNo) -> 
 
 /// Whether a rule of this owner applies: the owner is chosen, or there is none.
 fn binds(chosen: &Chosen, versions: &[(String, u32)], owner: Option<VersionNo>) -> bool
-    ensures { (set : Set) (whose : Option says.Version)
+    ensures { (set : Set) (whose : Option spelled.Version)
         → Holds chosen.now set
         → IsOwner (pair_versions versions.now) owner whose
         → result ≡ binds_lem whose set }
@@ -48,7 +48,7 @@ fn binds(chosen: &Chosen, versions: &[(String, u32)], owner: Option<VersionNo>) 
 }
 
 fn keeps_lock(chosen: &Chosen, versions: &[(String, u32)], locked: VersionNo) -> bool
-    ensures { (set : Set) (v : says.Version)
+    ensures { (set : Set) (v : spelled.Version)
         → Holds chosen.now set
         → slice_get (pair_versions versions.now) locked.0 ≡ Some v
         → result ≡ obeys_lem None (Lock v) set }
@@ -61,9 +61,9 @@ fn keeps_lock(chosen: &Chosen, versions: &[(String, u32)], locked: VersionNo) ->
 
 /// Whether the chosen versions obey the rule. The numbers in the rule are those of listed versions.
 fn obeys(chosen: &Chosen, versions: &[(String, u32)], rule: &Rule) -> bool
-    ensures { (set : Set) (owner : Option says.Version) (line : says.Line)
+    ensures { (set : Set) (owner : Option spelled.Version) (line : spelled.Line)
         → Holds chosen.now set
-        → States (pair_versions versions.now) rule.now owner line
+        → IsRuleLine (pair_versions versions.now) rule.now owner line
         → result ≡ obeys_lem owner line set }
 {
     match rule {

@@ -3,23 +3,23 @@
 
 ghost use Rattle.std.specs.Prelude.{◌≡◌, ◌++◌, ◌∷◌, [], ◌<◌, ◌+◌, ◌^◌, List, Option, IfOk, OnOk, IsTrue, true, option_and_then, option_copied};
 ghost use Rattle.std.specs.List.{list_any};
-ghost use Rattle.resolvo_text.specs.Line as says;
+ghost use Rattle.resolvo_text.specs.Line as spelled;
 ghost use Rattle.resolvo_text.specs.Matches.{Set, same_version, matches as matches_lem};
 ghost use Rattle.resolvo_text.specs.View.{version_of, spec_of, specs_of};
 ghost use Rattle.resolvo_catalogue_core.specs.Grammar.{line_at};
 ghost use Rattle.resolvo_catalogue_core.specs.Listed.{listed};
-ghost use Rattle.resolvo_report.specs.Value as said;
+ghost use Rattle.resolvo_report.specs.Value as model;
 ghost use Rattle.resolvo_report.specs.View.{place_of, answer_line_of};
-ghost use Rattle.resolvo_checker.specs.Stated.{line_said, owned_line};
+ghost use Rattle.resolvo_checker.specs.RuleLines.{line_of_rule, owned_line};
 ghost use Rattle.resolvo_judge.specs.Chosen.{Holds};
 ghost use Rattle.resolvo_judge.specs.Entries.{may_enter as may_enter_lem, is_place_taken as is_place_taken_lem, gives as gives_lem, is_reason as is_reason_lem, is_wish as is_wish_lem, answer_fits, entries_of};
-ghost use Rattle.resolvo_judge.specs.KeptAnswers.{KeepsAnswers, KeepsLines, IsWishTold, AreWishesTold, is_after};
+ghost use Rattle.resolvo_judge.specs.KeptAnswers.{KeepsAnswers, KeepsLines, IsWishAnswered, AreWishesAnswered, is_after};
 
-use crate::barred_wishes::BarredWishes;
+use crate::forbidden_wishes::ForbiddenWishes;
 use crate::chosen::Chosen;
 use crate::versions::Versions;
 use resolvo_catalogue_core::{Catalogue, Request, Rule, Spec, Version};
-use resolvo_checker::stated::rule_at;
+use resolvo_checker::of_line::rule_at;
 use resolvo_checker::steps::number_of;
 use resolvo_report::{AnswerLine, Place};
 use resolvo_text::matches;
@@ -31,7 +31,7 @@ use std::collections::HashMap;
 pub struct Entries {
     pub chosen: Chosen,
     pub out: Versions,
-    pub barred: BarredWishes,
+    pub forbidden: ForbiddenWishes,
     /// The steps that forbid the left-out wishes, by their request lines.
     pub lines: HashMap<u32, u32>,
     /// The last request line that a `wished` or `left out` line named.
@@ -76,10 +76,10 @@ fn gives(
     alternative: Option<usize>,
     version: &Version,
 ) -> bool
-    ensures { (set : Set) (vs : List says.Version)
+    ensures { (set : Set) (vs : List spelled.Version)
         → Holds chosen.now set
         → result
-        ≡ gives_lem (option_and_then (line_said vs) (option_copied rule.entry)) set
+        ≡ gives_lem (option_and_then (line_of_rule vs) (option_copied rule.entry)) set
         (version_of version.now) }
 {
     match rule {
@@ -103,13 +103,13 @@ fn is_same(one: &Version, other: &Version) -> bool
 impl Entries {
     pub fn new(alloc: Global) -> Entries
         ensures kept { KeepsAnswers result [] }
-        ensures lines { (request : List says.Line) → KeepsLines request result [] }
+        ensures lines { (request : List spelled.Line) → KeepsLines request result [] }
         ensures none { result.chosen.count ≡ 0 }
     {
         Entries {
             chosen: Chosen::new(alloc),
             out: Versions::new(alloc),
-            barred: BarredWishes::new(alloc),
+            forbidden: ForbiddenWishes::new(alloc),
             lines: HashMap::new(alloc),
             last_wish: None,
         }
@@ -117,7 +117,7 @@ impl Entries {
 
     /// Whether the version may be an entry, its reason aside.
     fn may_enter(&self, catalogue: &Catalogue, version: &Version) -> bool
-        ensures { (before : List said.AnswerLine)
+        ensures { (before : List model.AnswerLine)
             → KeepsAnswers self.now before
             → result ≡ may_enter_lem catalogue.now before (version_of version.now) }
     {
@@ -127,7 +127,7 @@ impl Entries {
     }
 
     fn is_place_taken(&self, place: &Place) -> bool
-        ensures { (before : List said.AnswerLine)
+        ensures { (before : List model.AnswerLine)
             → KeepsAnswers self.now before
             → result ≡ is_place_taken_lem (place_of place.now) (entries_of before) }
     {
@@ -147,7 +147,7 @@ impl Entries {
         alternative: Option<usize>,
         version: &Version,
     ) -> bool
-        ensures { (before : List said.AnswerLine)
+        ensures { (before : List model.AnswerLine)
             → KeepsAnswers self.now before
             → result
             ≡ is_reason_lem catalogue.now request.now.lines (entries_of before)
@@ -174,7 +174,7 @@ impl Entries {
 
     /// Whether the line of the request is a wish for the version, after the last wish line.
     fn is_wish(&self, request: &Request, line: u32, version: &Version) -> bool
-        ensures { (before : List said.AnswerLine)
+        ensures { (before : List model.AnswerLine)
             → KeepsAnswers self.now before
             → result ≡ is_wish_lem request.now.lines before line (version_of version.now) }
     {
@@ -197,26 +197,26 @@ impl Entries {
         requires { self.old.chosen.count < 2 ^ 32 }
         ensures fits { IfOk result
             (λ fits.
-            (before : List said.AnswerLine)
+            (before : List model.AnswerLine)
             → KeepsAnswers self.old before
             → fits
             ≡ answer_fits catalogue.now request.now.lines before
-            (said.Entry (version_of version.now) (place_of place.now) line)) }
+            (model.Entry (version_of version.now) (place_of place.now) line)) }
         ensures kept { IfOk result
             (λ fits.
-            (before : List said.AnswerLine)
+            (before : List model.AnswerLine)
             → KeepsAnswers self.old before
             → IsTrue fits
             → KeepsAnswers self.new
-            (before ++ said.Entry (version_of version.now) (place_of place.now) line ∷ [])) }
+            (before ++ model.Entry (version_of version.now) (place_of place.now) line ∷ [])) }
         ensures lines { IfOk result
             (λ fits.
-            (before : List said.AnswerLine)
+            (before : List model.AnswerLine)
             → KeepsAnswers self.old before
             → KeepsLines request.now.lines self.old before
             → IsTrue fits
             → KeepsLines request.now.lines self.new
-            (before ++ said.Entry (version_of version.now) (place_of place.now) line ∷ [])) }
+            (before ++ model.Entry (version_of version.now) (place_of place.now) line ∷ [])) }
         ensures few { IfOk result (λ fits. self.new.chosen.count < self.old.chosen.count + 2) }
     {
         if !self.may_enter(catalogue, version)
@@ -239,25 +239,25 @@ impl Entries {
         requires { self.old.chosen.count < 2 ^ 32 }
         ensures fits { IfOk result
             (λ fits.
-            (before : List said.AnswerLine)
+            (before : List model.AnswerLine)
             → KeepsAnswers self.old before
             → fits
             ≡ answer_fits catalogue.now request.now.lines before
-            (said.Wished (version_of version.now) line)) }
+            (model.Wished (version_of version.now) line)) }
         ensures kept { IfOk result
             (λ fits.
-            (before : List said.AnswerLine)
+            (before : List model.AnswerLine)
             → KeepsAnswers self.old before
             → IsTrue fits
-            → KeepsAnswers self.new (before ++ said.Wished (version_of version.now) line ∷ [])) }
+            → KeepsAnswers self.new (before ++ model.Wished (version_of version.now) line ∷ [])) }
         ensures lines { IfOk result
             (λ fits.
-            (before : List said.AnswerLine)
+            (before : List model.AnswerLine)
             → KeepsAnswers self.old before
             → KeepsLines request.now.lines self.old before
             → IsTrue fits
             → KeepsLines request.now.lines self.new
-            (before ++ said.Wished (version_of version.now) line ∷ [])) }
+            (before ++ model.Wished (version_of version.now) line ∷ [])) }
         ensures few { IfOk result (λ fits. self.new.chosen.count < self.old.chosen.count + 2) }
     {
         if !self.may_enter(catalogue, version) || !self.is_wish(request, line, version) {
@@ -279,26 +279,26 @@ impl Entries {
     ) -> Result<bool, AllocError>
         ensures fits { IfOk result
             (λ fits.
-            (catalogue : List says.Line) (before : List said.AnswerLine)
+            (catalogue : List spelled.Line) (before : List model.AnswerLine)
             → KeepsAnswers self.old before
             → fits
             ≡ answer_fits catalogue request.now.lines before
-            (said.LeftOut (version_of version.now) line step)) }
+            (model.LeftOut (version_of version.now) line step)) }
         ensures kept { IfOk result
             (λ fits.
-            (before : List said.AnswerLine)
+            (before : List model.AnswerLine)
             → KeepsAnswers self.old before
             → IsTrue fits
             → KeepsAnswers self.new
-            (before ++ said.LeftOut (version_of version.now) line step ∷ [])) }
+            (before ++ model.LeftOut (version_of version.now) line step ∷ [])) }
         ensures lines { IfOk result
             (λ fits.
-            (before : List said.AnswerLine)
+            (before : List model.AnswerLine)
             → KeepsAnswers self.old before
             → KeepsLines request.now.lines self.old before
             → IsTrue fits
             → KeepsLines request.now.lines self.new
-            (before ++ said.LeftOut (version_of version.now) line step ∷ [])) }
+            (before ++ model.LeftOut (version_of version.now) line step ∷ [])) }
         ensures few { IfOk result (λ fits. self.new.chosen.count ≡ self.old.chosen.count) }
     {
         if !self.is_wish(request, line, version) || self.chosen.has(version) {
@@ -306,18 +306,18 @@ impl Entries {
         }
         self.out.add(alloc, version)?;
         let above = self.chosen.count();
-        self.barred.add(alloc, version, step, above)?;
+        self.forbidden.add(alloc, version, step, above)?;
         self.lines.insert(line, step)?;
         self.last_wish = Some(line);
         Ok(true)
     }
 
     /// Whether the wish of this request line, if there is one, is an entry or left out.
-    fn is_wish_told(&self, request: &Request, line: u32) -> bool
-        ensures { (before : List said.AnswerLine)
+    fn is_wish_answered(&self, request: &Request, line: u32) -> bool
+        ensures { (before : List model.AnswerLine)
             → KeepsAnswers self.now before
             → KeepsLines request.now.lines self.now before
-            → IsWishTold request.now.lines before line result }
+            → IsWishAnswered request.now.lines before line result }
     {
         match request.wish(line) {
             Some(wish) => self.chosen.has(wish) || self.lines.contains_key(&line),
@@ -326,14 +326,14 @@ impl Entries {
     }
 
     /// Whether each wish of the request is an entry or left out.
-    pub fn are_wishes_told(&self, request: &Request) -> bool
-        ensures { (before : List said.AnswerLine)
+    pub fn are_wishes_answered(&self, request: &Request) -> bool
+        ensures { (before : List model.AnswerLine)
             → KeepsAnswers self.now before
             → KeepsLines request.now.lines self.now before
-            → AreWishesTold request.now.lines before result }
+            → AreWishesAnswered request.now.lines before result }
     {
         for index in 0..request.line_count() {
-            if !self.is_wish_told(request, index + 1) {
+            if !self.is_wish_answered(request, index + 1) {
                 return false;
             }
         }
@@ -352,19 +352,19 @@ impl Entries {
         requires { self.old.chosen.count < 2 ^ 32 }
         ensures fits { IfOk result
             (λ fits.
-            (before : List said.AnswerLine)
+            (before : List model.AnswerLine)
             → KeepsAnswers self.old before
             → fits
             ≡ answer_fits catalogue.now request.now.lines before (answer_line_of line.now)) }
         ensures kept { IfOk result
             (λ fits.
-            (before : List said.AnswerLine)
+            (before : List model.AnswerLine)
             → KeepsAnswers self.old before
             → IsTrue fits
             → KeepsAnswers self.new (before ++ answer_line_of line.now ∷ [])) }
         ensures lines { IfOk result
             (λ fits.
-            (before : List said.AnswerLine)
+            (before : List model.AnswerLine)
             → KeepsAnswers self.old before
             → KeepsLines request.now.lines self.old before
             → IsTrue fits

@@ -3,18 +3,18 @@
 
 ghost use Rattle.std.specs.Prelude.{◌≡◌, ◌+◌, ◌^◌, ◌<◌, ◌≤◌, [], ◌∷◌, ◌++◌, ℕ, List, IfOk, IsTrue, length, true, false};
 ghost use Rattle.resolvo_catalogue_core.specs.Listed.{listed};
-ghost use Rattle.resolvo_report.specs.Value.{Report as SaidReport, ReportLine as SaidLine, Numbered};
+ghost use Rattle.resolvo_report.specs.Value.{Report as ReportValue, ReportLine as LineValue, Numbered};
 ghost use Rattle.resolvo_report.specs.Text.{report_lines};
 ghost use Rattle.resolvo_report.specs.View.{report_line_of, step_of};
 ghost use Rattle.resolvo_checker.specs.CheckStep.{causes_in as causes_in_lem};
 ghost use Rattle.resolvo_judge.specs.Refusal.{passes, answers_in, is_refusal as is_refusal_lem, ArePassed};
-ghost use Rattle.resolvo_judge.specs.Log.{LogStands, is_head, causes_of_line as causes_of_line_lem};
+ghost use Rattle.resolvo_judge.specs.Log.{LogInvariant, is_head, causes_of_line as causes_of_line_lem};
 ghost use Rattle.resolvo_judge.specs.KeptAnswers.{KeepsAnswers, KeepsLines};
-ghost use Rattle.resolvo_judge.specs.Bars.{TellsBarred};
-ghost use Rattle.resolvo_judge.specs.JudgeState.{Stands, EndsSo};
+ghost use Rattle.resolvo_judge.specs.Forbids.{FlagsForbidden};
+ghost use Rattle.resolvo_judge.specs.JudgeState.{JudgeInvariant, DecidesEnd};
 
 use crate::alternatives::Alternatives;
-use crate::bar::step_bars;
+use crate::forbid::step_forbids;
 use crate::end_rules::keeps_all;
 use crate::entries::Entries;
 use crate::log::{
@@ -35,7 +35,7 @@ pub struct JudgeState {
     pub entries: Entries,
     pub alternatives: Alternatives,
     /// Each step so far forbids the left-out wishes that name it.
-    pub barred: bool,
+    pub forbidden: bool,
 }
 
 // Split for the prover: an owner calls this drop, and doesn't drop each field at each exit.
@@ -46,7 +46,7 @@ impl Drop for JudgeState {
             log: _,
             entries: _,
             alternatives: _,
-            barred: _,
+            forbidden: _,
         } = self;
     }
 }
@@ -59,8 +59,8 @@ pub fn begin(
     first: &ReportLine,
 ) -> Result<JudgeState, AllocError>
     requires { is_head (report_line_of first.now) ≡ true }
-    ensures stands { IfOk result
-        (λ j. Stands catalogue.now request.now.lines j [] (report_line_of first.now ∷ [])) }
+    ensures represents { IfOk result
+        (λ j. JudgeInvariant catalogue.now request.now.lines j [] (report_line_of first.now ∷ [])) }
     ensures pass { IfOk result (λ j. j.log.checker.truth.pass ≡ 0) }
     ensures long { IfOk result (λ j. length j.log.checker.places.items ≡ length (listed catalogue.now)) }
     ensures few { IfOk result (λ j. j.entries.chosen.count ≡ 0) }
@@ -76,7 +76,7 @@ pub fn begin(
         log,
         entries: Entries::new(alloc),
         alternatives: Alternatives::new(alloc),
-        barred: true,
+        forbidden: true,
     })
 }
 
@@ -107,31 +107,31 @@ fn take_numbered(
     // After an answer.
     ensures answer { IfOk result
         (λ fine.
-        (above : List SaidLine) (n : ℕ)
-        → LogStands catalogue.now request.now.lines judging.old.log.checker.numbers
+        (above : List LineValue) (n : ℕ)
+        → LogInvariant catalogue.now request.now.lines judging.old.log.checker.numbers
         clauses.old.kept judging.old.log.checker.places.items judging.old.log.scope
         judging.old.log.ends_empty above
         → fine ≡ passes catalogue.now request.now.lines above (Numbered n (step_of step.now))) }
     ensures log { IfOk result
         (λ fine.
         IsTrue fine
-        → (above : List SaidLine) (n : ℕ)
-        → LogStands catalogue.now request.now.lines judging.old.log.checker.numbers
+        → (above : List LineValue) (n : ℕ)
+        → LogInvariant catalogue.now request.now.lines judging.old.log.checker.numbers
         clauses.old.kept judging.old.log.checker.places.items judging.old.log.scope
         judging.old.log.ends_empty above
-        → LogStands catalogue.now request.now.lines judging.new.log.checker.numbers
+        → LogInvariant catalogue.now request.now.lines judging.new.log.checker.numbers
         clauses.new.kept judging.new.log.checker.places.items judging.new.log.scope
         judging.new.log.ends_empty (above ++ Numbered n (step_of step.now) ∷ [])) }
-    ensures barred { IfOk result
+    ensures forbidden { IfOk result
         (λ fine.
         IsTrue fine
-        → (above : List SaidLine) (n : ℕ)
-        → LogStands catalogue.now request.now.lines judging.old.log.checker.numbers
+        → (above : List LineValue) (n : ℕ)
+        → LogInvariant catalogue.now request.now.lines judging.old.log.checker.numbers
         clauses.old.kept judging.old.log.checker.places.items judging.old.log.scope
         judging.old.log.ends_empty above
         → KeepsAnswers judging.old.entries (answers_in above)
-        → TellsBarred catalogue.now request.now.lines judging.old.barred above
-        → TellsBarred catalogue.now request.now.lines judging.new.barred
+        → FlagsForbidden catalogue.now request.now.lines judging.old.forbidden above
+        → FlagsForbidden catalogue.now request.now.lines judging.new.forbidden
         (above ++ Numbered n (step_of step.now) ∷ [])) }
     // Whatever the answer.
     ensures entries { judging.new.entries ≡ judging.old.entries }
@@ -155,10 +155,10 @@ fn take_numbered(
     if !take_step(alloc, catalogue, request, &mut judging.log, clauses, step)? {
         return Ok(false);
     }
-    let wishes = judging.entries.barred.of(number);
+    let wishes = judging.entries.forbidden.of(number);
     let chosen = &judging.entries.chosen;
-    let bars = step_bars(alloc, catalogue, request, chosen, step, wishes)?;
-    judging.barred = judging.barred && bars;
+    let forbids = step_forbids(alloc, catalogue, request, chosen, step, wishes)?;
+    judging.forbidden = judging.forbidden && forbids;
     Ok(true)
 }
 
@@ -179,8 +179,8 @@ fn take_line(
     // After an answer.
     ensures answer { IfOk result
         (λ fine.
-        (above : List SaidLine)
-        → LogStands catalogue.now request.now.lines judging.old.log.checker.numbers
+        (above : List LineValue)
+        → LogInvariant catalogue.now request.now.lines judging.old.log.checker.numbers
         clauses.old.kept judging.old.log.checker.places.items judging.old.log.scope
         judging.old.log.ends_empty above
         → KeepsAnswers judging.old.entries (answers_in above)
@@ -188,40 +188,40 @@ fn take_line(
     ensures log { IfOk result
         (λ fine.
         IsTrue fine
-        → (above : List SaidLine)
+        → (above : List LineValue)
         → is_head (report_line_of line.now) ≡ false
-        → LogStands catalogue.now request.now.lines judging.old.log.checker.numbers
+        → LogInvariant catalogue.now request.now.lines judging.old.log.checker.numbers
         clauses.old.kept judging.old.log.checker.places.items judging.old.log.scope
         judging.old.log.ends_empty above
-        → LogStands catalogue.now request.now.lines judging.new.log.checker.numbers
+        → LogInvariant catalogue.now request.now.lines judging.new.log.checker.numbers
         clauses.new.kept judging.new.log.checker.places.items judging.new.log.scope
         judging.new.log.ends_empty (above ++ report_line_of line.now ∷ [])) }
     ensures entries { IfOk result
         (λ fine.
         IsTrue fine
-        → (above : List SaidLine)
+        → (above : List LineValue)
         → KeepsAnswers judging.old.entries (answers_in above)
         → KeepsAnswers judging.new.entries
         (answers_in (above ++ report_line_of line.now ∷ []))) }
     ensures lines { IfOk result
         (λ fine.
         IsTrue fine
-        → (above : List SaidLine)
+        → (above : List LineValue)
         → KeepsAnswers judging.old.entries (answers_in above)
         → KeepsLines request.now.lines judging.old.entries (answers_in above)
         → KeepsLines request.now.lines judging.new.entries
         (answers_in (above ++ report_line_of line.now ∷ []))) }
-    ensures barred { IfOk result
+    ensures forbidden { IfOk result
         (λ fine.
         IsTrue fine
-        → (above : List SaidLine)
+        → (above : List LineValue)
         → is_head (report_line_of line.now) ≡ false
-        → LogStands catalogue.now request.now.lines judging.old.log.checker.numbers
+        → LogInvariant catalogue.now request.now.lines judging.old.log.checker.numbers
         clauses.old.kept judging.old.log.checker.places.items judging.old.log.scope
         judging.old.log.ends_empty above
         → KeepsAnswers judging.old.entries (answers_in above)
-        → TellsBarred catalogue.now request.now.lines judging.old.barred above
-        → TellsBarred catalogue.now request.now.lines judging.new.barred
+        → FlagsForbidden catalogue.now request.now.lines judging.old.forbidden above
+        → FlagsForbidden catalogue.now request.now.lines judging.new.forbidden
         (above ++ report_line_of line.now ∷ [])) }
     // Whatever the answer.
     ensures refused { judging.new.refused ≡ judging.old.refused }
@@ -298,17 +298,17 @@ pub fn take(
     // After an answer.
     ensures answer { IfOk result
         (λ fine.
-        (above : List SaidLine)
-        → Stands catalogue.now request.now.lines judging.old clauses.old.kept above
+        (above : List LineValue)
+        → JudgeInvariant catalogue.now request.now.lines judging.old clauses.old.kept above
         → fine ≡ passes catalogue.now request.now.lines above (report_line_of line)) }
-    ensures stands { IfOk result
+    ensures represents { IfOk result
         (λ fine.
         IsTrue fine
-        → (above : List SaidLine)
+        → (above : List LineValue)
         → is_head (report_line_of line) ≡ false
         → is_refusal_lem (above ++ report_line_of line ∷ []) ≡ is_refusal_lem above
-        → Stands catalogue.now request.now.lines judging.old clauses.old.kept above
-        → Stands catalogue.now request.now.lines judging.new clauses.new.kept
+        → JudgeInvariant catalogue.now request.now.lines judging.old clauses.old.kept above
+        → JudgeInvariant catalogue.now request.now.lines judging.new clauses.new.kept
         (above ++ report_line_of line ∷ [])) }
     ensures later { IfOk result
         (λ fine. IsTrue fine → judging.new.log.checker.truth.pass ≤ length clauses.new.kept) }
@@ -346,16 +346,16 @@ fn installs(
     judging: &JudgeState,
     clauses: &Clauses,
 ) -> bool
-    ensures { (r : SaidReport)
+    ensures { (r : ReportValue)
         → is_refusal_lem (report_lines r) ≡ false
-        → Stands catalogue.now request.now.lines judging.now clauses.now.kept (report_lines r)
-        → EndsSo catalogue.now request.now.lines (report_lines r) result }
+        → JudgeInvariant catalogue.now request.now.lines judging.now clauses.now.kept (report_lines r)
+        → DecidesEnd catalogue.now request.now.lines (report_lines r) result }
 {
     let entries = &judging.entries;
-    if !keeps_all(&entries.chosen, catalogue, request) || !entries.are_wishes_told(request) {
+    if !keeps_all(&entries.chosen, catalogue, request) || !entries.are_wishes_answered(request) {
         return false;
     }
-    judging.barred && are_earlier(entries.barred.steps(), clauses.len())
+    judging.forbidden && are_earlier(entries.forbidden.steps(), clauses.len())
 }
 
 /// Whether the report may end after its lines, all of which passed.
@@ -365,9 +365,9 @@ pub fn may_end(
     judging: &JudgeState,
     clauses: &Clauses,
 ) -> bool
-    ensures { (r : SaidReport)
-        → Stands catalogue.now request.now.lines judging.now clauses.now.kept (report_lines r)
-        → EndsSo catalogue.now request.now.lines (report_lines r) result }
+    ensures { (r : ReportValue)
+        → JudgeInvariant catalogue.now request.now.lines judging.now clauses.now.kept (report_lines r)
+        → DecidesEnd catalogue.now request.now.lines (report_lines r) result }
 {
     if judging.refused {
         return judging.log.ends_empty;

@@ -10,7 +10,7 @@ ghost use Rattle.resolvo_report.specs.Value.{Step, ReportLine, InstallHead, Refu
 ghost use Rattle.resolvo_report.specs.Text.{HasText, lines_text, report_text};
 ghost use Rattle.resolvo_judge.specs.Refusal.{IsAccepted, answers_claimed, catalogue_lines_in, request_lines_in};
 ghost use Rattle.resolvo_checker.specs.StepClauses.{Clause, clause_of};
-ghost use Rattle.resolvo_checker.specs.Proof.{IsProof, is_named, every_line, ends_empty, bars, AreApart, ObeysLines, IsTrueIn};
+ghost use Rattle.resolvo_checker.specs.Proof.{IsProof, is_named, every_line, ends_empty, forbids, AreApart, ObeysLines, IsTrueIn};
 ghost use Rattle.resolvo_catalogue_core.specs.Sets.{IsSingle};
 ghost use Rattle.resolvo_report.specs.Value.{Report};
 ghost use Rattle.resolvo_judge.specs.Judgement.{IsUpheld, IsRefusedAt};
@@ -36,13 +36,13 @@ pub fn proof_refutes()
 
 /// If the only literals of a step's clause are `not` of a wish and of entries, no rule-keeping set
 /// has them all.
-pub fn proof_bars()
+pub fn proof_forbids()
     ensures { (catalogue request : List Line) (steps : List Step) (entries : Set) (wish : Version) (n : ℕ)
         (step : Step) (clause : Clause)
         → IsProof catalogue request every_line every_line steps
         → slice_get steps n ≡ Some step
         → clause_of catalogue request step ≡ Some clause
-        → bars entries wish clause ≡ true
+        → forbids entries wish clause ≡ true
         → AreApart catalogue request entries wish }
 {}
 

@@ -2,8 +2,8 @@
 #![tactic(auto)]
 
 mod alternatives;
-mod bar;
-mod barred_wishes;
+mod forbid;
+mod forbidden_wishes;
 mod chosen;
 mod end_rules;
 mod entries;
@@ -17,7 +17,7 @@ mod versions;
 pub use judgement::{JudgeFault, Judged, Verdict, judge, judge_counted};
 pub use laws::{
     accepted_install_is_true, accepted_refusal_is_true, message_bytes_change_nothing,
-    messages_change_nothing, places_are_one, proof_bars, proof_refutes, steps_are_true,
+    messages_change_nothing, places_are_one, proof_forbids, proof_refutes, steps_are_true,
     upheld_texts_are_refused_nowhere,
 };
 pub use resolvo_checker::check_step::Premises;
@@ -25,5 +25,5 @@ pub use resolvo_checker::clauses::Readings;
 pub use resolvo_checker::proof::{Checked, check_steps, count_causes};
 pub use resolvo_report::{
     AnswerLine, Atom, Literal, Part, Place, Report, ReportFault, ReportLine, ReportReader,
-    ReportWriteFault, Step, reports_are_read, texts_say_one_report,
+    ReportWriteFault, Step, reports_are_read, text_is_one_report,
 };

@@ -8,10 +8,10 @@ ghost use Rattle.resolvo_report.specs.View.{step_of};
 ghost use Rattle.resolvo_checker.specs.declared.literal.Literal.{Literal};
 ghost use Rattle.resolvo_checker.specs.CheckStep.{causes_in, names_catalogue, names_request};
 ghost use Rattle.resolvo_checker.specs.Proof.{derives_empty as derives_empty_lem};
-ghost use Rattle.resolvo_judge.specs.Refusal.{passes, states_rule};
+ghost use Rattle.resolvo_judge.specs.Refusal.{passes, has_rule};
 ghost use Rattle.resolvo_catalogue_core.specs.Grammar.{line_at};
 ghost use Rattle.resolvo_text.specs.Line.{Line};
-ghost use Rattle.resolvo_judge.specs.Log.{LogStands};
+ghost use Rattle.resolvo_judge.specs.Log.{LogInvariant};
 
 use crate::named::{is_rule, name_in_catalogue, name_in_request};
 use resolvo_catalogue_core::{Catalogue, Request};
@@ -36,9 +36,9 @@ pub fn install_log(
     catalogue: &Catalogue,
     request: &Request,
 ) -> Result<ProofState, AllocError>
-    ensures stands { IfOk result
+    ensures represents { IfOk result
         (λ l.
-        LogStands catalogue.now request.now.lines l.checker.numbers [] l.checker.places.items
+        LogInvariant catalogue.now request.now.lines l.checker.numbers [] l.checker.places.items
         l.scope l.ends_empty (InstallHead ∷ [])) }
     ensures pass { IfOk result (λ l. l.checker.truth.pass ≡ 0) }
     ensures long { IfOk result (λ l. length l.checker.places.items ≡ length (listed catalogue.now)) }
@@ -56,9 +56,9 @@ pub fn refusal_log(
     catalogue: &Catalogue,
     request: &Request,
 ) -> Result<ProofState, AllocError>
-    ensures stands { IfOk result
+    ensures represents { IfOk result
         (λ l.
-        LogStands catalogue.now request.now.lines l.checker.numbers [] l.checker.places.items
+        LogInvariant catalogue.now request.now.lines l.checker.numbers [] l.checker.places.items
         l.scope l.ends_empty (RefusedHead ∷ [])) }
     ensures pass { IfOk result (λ l. l.checker.truth.pass ≡ 0) }
     ensures long { IfOk result (λ l. length l.checker.places.items ≡ length (listed catalogue.now)) }
@@ -99,16 +99,16 @@ pub fn take_step(
     ensures answer { IfOk result
         (λ fine.
         (above : List ReportLine) (n : ℕ)
-        → LogStands catalogue.now request.now.lines log.old.checker.numbers clauses.old.kept
+        → LogInvariant catalogue.now request.now.lines log.old.checker.numbers clauses.old.kept
         log.old.checker.places.items log.old.scope log.old.ends_empty above
         → fine ≡ passes catalogue.now request.now.lines above (Numbered n (step_of step.now))) }
-    ensures stands { IfOk result
+    ensures represents { IfOk result
         (λ fine.
         IsTrue fine
         → (above : List ReportLine) (n : ℕ)
-        → LogStands catalogue.now request.now.lines log.old.checker.numbers clauses.old.kept
+        → LogInvariant catalogue.now request.now.lines log.old.checker.numbers clauses.old.kept
         log.old.checker.places.items log.old.scope log.old.ends_empty above
-        → LogStands catalogue.now request.now.lines log.new.checker.numbers clauses.new.kept
+        → LogInvariant catalogue.now request.now.lines log.new.checker.numbers clauses.new.kept
         log.new.checker.places.items log.new.scope log.new.ends_empty
         (above ++ Numbered n (step_of step.now) ∷ [])) }
     ensures later { IfOk result (λ fine. IsTrue fine → log.new.checker.truth.pass ≤ length clauses.new.kept) }
@@ -146,13 +146,13 @@ pub fn take_catalogue_line(
         (λ fine.
         (request : List Line) (above : List ReportLine)
         → fine ≡ passes catalogue.now request above (CatalogueLine line)) }
-    ensures stands { IfOk result
+    ensures represents { IfOk result
         (λ fine.
         IsTrue fine
         → (request : List Line) (clauses : List (List Literal)) (above : List ReportLine)
-        → LogStands catalogue.now request log.old.checker.numbers clauses
+        → LogInvariant catalogue.now request log.old.checker.numbers clauses
         log.old.checker.places.items log.old.scope log.old.ends_empty above
-        → LogStands catalogue.now request log.new.checker.numbers clauses
+        → LogInvariant catalogue.now request log.new.checker.numbers clauses
         log.new.checker.places.items log.new.scope log.new.ends_empty
         (above ++ CatalogueLine line ∷ [])) }
     ensures checker { log.new.checker ≡ log.old.checker }
@@ -171,13 +171,13 @@ pub fn take_request_line(
         (λ fine.
         (catalogue : List Line) (above : List ReportLine)
         → fine ≡ passes catalogue request.now.lines above (RequestLine line)) }
-    ensures stands { IfOk result
+    ensures represents { IfOk result
         (λ fine.
         IsTrue fine
         → (catalogue : List Line) (clauses : List (List Literal)) (above : List ReportLine)
-        → LogStands catalogue request.now.lines log.old.checker.numbers clauses
+        → LogInvariant catalogue request.now.lines log.old.checker.numbers clauses
         log.old.checker.places.items log.old.scope log.old.ends_empty above
-        → LogStands catalogue request.now.lines log.new.checker.numbers clauses
+        → LogInvariant catalogue request.now.lines log.new.checker.numbers clauses
         log.new.checker.places.items log.new.scope log.new.ends_empty
         (above ++ RequestLine line ∷ [])) }
     ensures checker { log.new.checker ≡ log.old.checker }
@@ -191,7 +191,7 @@ fn name_catalogue(
     scope: &mut Premises,
     line: u32,
 ) -> Result<bool, AllocError>
-    ensures fine { IfOk result (λ fine. fine ≡ states_rule (line_at catalogue.now line)) }
+    ensures fine { IfOk result (λ fine. fine ≡ has_rule (line_at catalogue.now line)) }
     ensures named { IfOk result
         (λ fine.
         IsTrue fine
@@ -210,7 +210,7 @@ fn name_catalogue(
 }
 
 fn name_request(request: &Request, scope: &mut Premises, line: u32) -> Result<bool, AllocError>
-    ensures fine { IfOk result (λ fine. fine ≡ states_rule (line_at request.now.lines line)) }
+    ensures fine { IfOk result (λ fine. fine ≡ has_rule (line_at request.now.lines line)) }
     ensures named { IfOk result
         (λ fine.
         IsTrue fine

@@ -3,7 +3,7 @@
 ghost use Rattle.std.specs.Prelude.{◌≡◌, ◌==◌, ◌||◌, ◌<◌, ℕ, IfOk, OnOk, IsTrue, vec_len};
 ghost use Rattle.resolvo_catalogue_core.specs.Grammar.{line_at};
 ghost use Rattle.resolvo_checker.specs.CheckStep.{flag_at};
-ghost use Rattle.resolvo_judge.specs.Refusal.{states_rule};
+ghost use Rattle.resolvo_judge.specs.Refusal.{has_rule};
 
 use resolvo_catalogue_core::{Catalogue, Request};
 use std::alloc::AllocError;
@@ -36,7 +36,7 @@ pub fn name_in_catalogue(
     marks: &mut Vec<bool>,
     line: u32,
 ) -> Result<bool, AllocError>
-    ensures fine { IfOk result (λ fine. fine ≡ states_rule (line_at catalogue.now line)) }
+    ensures fine { IfOk result (λ fine. fine ≡ has_rule (line_at catalogue.now line)) }
     ensures marks { IfOk result
         (λ fine.
         IsTrue fine
@@ -54,7 +54,7 @@ pub fn name_in_catalogue(
 
 /// Whether the line of the request has a rule.
 pub fn is_rule(request: &Request, line: u32) -> bool
-    ensures { result ≡ states_rule (line_at request.now.lines line) }
+    ensures { result ≡ has_rule (line_at request.now.lines line) }
 {
     match request.rule(line) {
         Some(_) => true,
@@ -68,7 +68,7 @@ pub fn name_in_request(
     marks: &mut Vec<bool>,
     line: u32,
 ) -> Result<bool, AllocError>
-    ensures fine { IfOk result (λ fine. fine ≡ states_rule (line_at request.now.lines line)) }
+    ensures fine { IfOk result (λ fine. fine ≡ has_rule (line_at request.now.lines line)) }
     ensures marks { IfOk result
         (λ fine.
         IsTrue fine

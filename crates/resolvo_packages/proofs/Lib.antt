@@ -1,2 +1,2 @@
 pub mod OfferLemmas
-pub mod BarLemmas
+pub mod ForbiddenLemmas

@@ -3,8 +3,8 @@ use Rattle.std.specs.Prelude.{◌≡◌, Bool, true, false, not, List, [], ◌++
 use Rattle.std.specs.List.{AllByRecursion}
 use Rattle.resolvo_pool_core.specs.declared.id.StringId.{StringId}
 use Rattle.resolvo_pool_core.specs.Provider.{Listing, listed, listing_or_empty}
-use Rattle.resolvo_pool_core.specs.RuleKeeping.{Packages, is_in, is_barred}
-use Rattle.resolvo_packages.specs.declared.package_source.Barred.{Barred}
+use Rattle.resolvo_pool_core.specs.RuleKeeping.{Packages, is_in, is_forbidden}
+use Rattle.resolvo_packages.specs.declared.package_source.ForbiddenSolvable.{ForbiddenSolvable}
 use Rattle.resolvo_packages.specs.declared.package_source.Why.{Why}
 use Rattle.resolvo_packages.specs.declared.package_source.Why.TheVariants.{Locked, Excluded}
 
@@ -14,28 +14,28 @@ KeepsOut same l s (Locked locked) = (l.locked ≡ Some locked) × (same locked s
 KeepsOut same l s (Excluded reason) = Contains l.excluded (s, reason)
 
 -- the solvables of the list
-abbrev pub barred_solvables : {S : Type 0} → List (Barred S) → List S
-barred_solvables list = map (λ b. b.solvable) list
+abbrev pub forbidden_solvables : {S : Type 0} → List (ForbiddenSolvable S) → List S
+forbidden_solvables list = map (λ b. b.solvable) list
 
 -- The list holds each candidate of the package that a lock or an exclusion keeps out. Each of its
 -- solvables is of the package, and is kept out for the reason beside it.
-pub record AreBarred {N S : Type 0} (same : S → S → Bool) (p : Packages N S) (n : N) (list : List (Barred S)) : Type 0 where
-  pub each : (s : S) → is_in same p (listed (p.candidates_of n)) s ≡ true → is_barred same p s ≡ true → is_in same p (barred_solvables list) s ≡ true
+pub record AreForbidden {N S : Type 0} (same : S → S → Bool) (p : Packages N S) (n : N) (list : List (ForbiddenSolvable S)) : Type 0 where
+  pub each : (s : S) → is_in same p (listed (p.candidates_of n)) s ≡ true → is_forbidden same p s ≡ true → is_in same p (forbidden_solvables list) s ≡ true
   pub all : AllByRecursion (λ b. (p.package_of b.solvable ≡ n) × KeepsOut same (listing_or_empty (p.candidates_of n)) b.solvable b.why) list
 
 -- the candidate, kept out by a lock on another
-abbrev pub locked_by : {S : Type 0} → S → S → Barred S
+abbrev pub locked_by : {S : Type 0} → S → S → ForbiddenSolvable S
 locked_by locked s = record { solvable = s; why = Locked locked }
 
 -- the solvable, excluded for this reason
-abbrev pub excluded_by : {S : Type 0} → S × StringId → Barred S
+abbrev pub excluded_by : {S : Type 0} → S × StringId → ForbiddenSolvable S
 excluded_by e = record { solvable = e.0; why = Excluded e.1 }
 
 -- the candidates that a lock keeps out
-abbrev pub locked_out : {S : Type 0} → (S → S → Bool) → Option S → List S → List (Barred S)
+abbrev pub locked_out : {S : Type 0} → (S → S → Bool) → Option S → List S → List (ForbiddenSolvable S)
 locked_out same None xs = []
 locked_out same (Some l) xs = map (locked_by l) (filter (λ s. not (same l s)) xs)
 
 -- the solvables that a listing keeps out
-abbrev pub kept_out : {S : Type 0} → (S → S → Bool) → Listing S → List (Barred S)
+abbrev pub kept_out : {S : Type 0} → (S → S → Bool) → Listing S → List (ForbiddenSolvable S)
 kept_out same l = locked_out same l.locked l.candidates ++ map excluded_by l.excluded

@@ -4,7 +4,7 @@ ghost use Rattle.resolvo_pool_core.specs.Provider.{listing, needs_of};
 ghost use Rattle.resolvo_packages.specs.PackageSource.{packages_by, orders_by, offer_by};
 ghost use Rattle.resolvo_packages.specs.Forbidden.{excluded_by, locked_out, kept_out};
 
-use crate::package_source::{Barred, Offered, PackageSource, Why};
+use crate::package_source::{ForbiddenSolvable, Offered, PackageSource, Why};
 use resolvo_pool::cache::{CacheFault, SolverCache};
 use resolvo_pool_core::id::{ConditionId, Exact, StringId, VersionSetId};
 use resolvo_pool_core::provider::{
@@ -140,13 +140,13 @@ impl<D: DependencyProvider> PackageSource for CachedPackages<D> {
         convert_conditions_to_dnf(self.alloc, condition, self.cache.provider())
     }
 
-    fn barred(
+    fn forbidden(
         &mut self,
         name: D::NameId,
-    ) -> Result<Vec<Barred<D::SolvableId>>, CacheFault<D::Cancel>> {
+    ) -> Result<Vec<ForbiddenSolvable<D::SolvableId>>, CacheFault<D::Cancel>> {
         self.cache.cache_candidates(name)?;
-        let barred = bars_of(self.alloc, self.cache.candidates(name))?;
-        Ok(barred)
+        let forbidden = forbidden_candidates(self.alloc, self.cache.candidates(name))?;
+        Ok(forbidden)
     }
 
     fn outside(
@@ -177,50 +177,50 @@ fn copy_of(alloc: Global, found: &Dependencies) -> R<Dependencies>
 }
 
 /// The candidates that the package's lock and exclusions forbid.
-fn bars_of<S: Copy + Exact + Hash + Debug>(
+fn forbidden_candidates<S: Copy + Exact + Hash + Debug>(
     alloc: Global,
     found: &Candidates<S>,
-) -> R<Vec<Barred<S>>>
+) -> R<Vec<ForbiddenSolvable<S>>>
     ensures { IfOk result (λ v. v.items ≡ kept_out S.eq (listing found.now)) }
 {
-    let mut barred = barred_by(alloc, found.locked, found.candidates.as_slice())?;
-    add_excluded(&mut barred, found.excluded.as_slice())?;
-    Ok(barred)
+    let mut forbidden = forbidden_by_lock(alloc, found.locked, found.candidates.as_slice())?;
+    add_excluded(&mut forbidden, found.excluded.as_slice())?;
+    Ok(forbidden)
 }
 
 /// The candidates that a lock forbids.
-fn barred_by<S: Copy + Exact + Hash + Debug>(
+fn forbidden_by_lock<S: Copy + Exact + Hash + Debug>(
     alloc: Global,
     lock: Option<S>,
     candidates: &[S],
-) -> R<Vec<Barred<S>>>
+) -> R<Vec<ForbiddenSolvable<S>>>
     ensures { IfOk result (λ v. v.items ≡ locked_out S.eq lock candidates.now) }
 {
-    let mut barred = Vec::new(alloc);
+    let mut forbidden = Vec::new(alloc);
     let locked = match lock {
-        None => return Ok(barred),
+        None => return Ok(forbidden),
         Some(locked) => locked,
     };
     for solvable in candidates {
         if locked != *solvable {
-            barred.push(Barred {
+            forbidden.push(ForbiddenSolvable {
                 solvable: *solvable,
                 why: Why::Locked { locked },
             })?;
         }
     }
-    Ok(barred)
+    Ok(forbidden)
 }
 
 /// Appends the excluded candidates.
 fn add_excluded<S: Copy + Exact + Hash + Debug>(
-    barred: &mut Vec<Barred<S>>,
+    forbidden: &mut Vec<ForbiddenSolvable<S>>,
     excluded: &[(S, StringId)],
 ) -> R<()>
-    ensures { OnOk result (barred.new.items ≡ barred.old.items ++ map excluded_by excluded.now) }
+    ensures { OnOk result (forbidden.new.items ≡ forbidden.old.items ++ map excluded_by excluded.now) }
 {
     for one in excluded {
-        barred.push(Barred {
+        forbidden.push(ForbiddenSolvable {
             solvable: one.0,
             why: Why::Excluded { reason: one.1 },
         })?;

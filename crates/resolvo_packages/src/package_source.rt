@@ -7,7 +7,7 @@ ghost use Rattle.resolvo_pool_core.specs.declared.requirement.Requirement.{Requi
 ghost use Rattle.resolvo_pool_core.specs.Text.{alternatives_of};
 ghost use Rattle.resolvo_store_core.specs.Cases.{cases, cases_of};
 ghost use Rattle.resolvo_packages.specs.PackageSource.{AreOffered, AreOutside, offered_solvables};
-ghost use Rattle.resolvo_packages.specs.Forbidden.{AreBarred};
+ghost use Rattle.resolvo_packages.specs.Forbidden.{AreForbidden};
 
 use resolvo_pool::cache::CacheFault;
 use resolvo_pool_core::id::{ConditionId, Exact, StringId, VersionSetId};
@@ -35,7 +35,7 @@ pub enum Why<S> {
 
 /// A solvable that a lock or an exclusion forbids.
 #[derive(Clone, Copy, Debug)]
-pub struct Barred<S> {
+pub struct ForbiddenSolvable<S> {
     pub solvable: S,
     pub why: Why<S>,
 }
@@ -100,12 +100,12 @@ pub trait PackageSource {
         ensures { IfOk result (λ v. cases_of v.items ≡ cases (packages self.now).condition_of condition) };
 
     /// The solvables of a package that locks and exclusions forbid.
-    fn barred(
+    fn forbidden(
         &mut self,
         name: Self::NameId,
-    ) -> Result<Vec<Barred<Self::SolvableId>>, CacheFault<Self::Cancel>>
+    ) -> Result<Vec<ForbiddenSolvable<Self::SolvableId>>, CacheFault<Self::Cancel>>
         ensures same { self.new ≡ self.old }
-        ensures barred { IfOk result (λ v. AreBarred Self.SolvableId.eq (packages self.old) name v.items) }
+        ensures forbidden { IfOk result (λ v. AreForbidden Self.SolvableId.eq (packages self.old) name v.items) }
         ensures cancelled { IfErr result (IsCancelledBy (may_cancel self.old)) };
 
     /// The candidates of a version set's package that don't match it.

@@ -35,8 +35,8 @@ module _ {S : Type 0} (p : S → Bool) (d : S) where
       rw (r, e, n, drop-append_seam, take-append_seam) refl
 
   -- the favoured one, which is at i, before the others
-  pub in_front : (xs : List S) (i : ℕ) (new : List S) → position p xs ≡ Some i → ((x : S) → p x ≡ true → x ≡ d) → (whole : List S) → whole ≡ take (i + 1) xs → new ≡ drop (length whole - 1) whole ++ take (length whole - 1) whole → new ++ drop (i + 1) xs ≡ cond (list_any p xs) (d ∷ remove_key p xs) xs
-  in_front xs i new at exact whole e r =
+  pub favoured_first : (xs : List S) (i : ℕ) (new : List S) → position p xs ≡ Some i → ((x : S) → p x ≡ true → x ≡ d) → (whole : List S) → whole ≡ take (i + 1) xs → new ≡ drop (length whole - 1) whole ++ take (length whole - 1) whole → new ++ drop (i + 1) xs ≡ cond (list_any p xs) (d ∷ remove_key p xs) xs
+  favoured_first xs i new at exact whole e r =
       let (h, t, f) = position-Some p xs i d at in
       let last : get_or xs i d ≡ d = exact (get_or xs i d) t in
       let more = rw last at (take_more xs i d h) in

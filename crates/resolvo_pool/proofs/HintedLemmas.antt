@@ -27,8 +27,8 @@ module _ {N S : Type 0} (same_name : N → N → Bool) (same : S → S → Bool)
   own_hints s h hinted =
       let here : n ≡ name_of s = exact n (name_of s) h in
       let own : same_name (name_of s) n ≡ true = subst (λ m. same_name (name_of s) m ≡ true) (sym here) (subst (λ m. same_name m (name_of s) ≡ true) here h) in
-      let said : hints same l s ≡ true = subst (λ j. hints same j s ≡ true) (sym is) (subst (λ m. hints same (listing_or_empty (candidates_of m)) s ≡ true) (sym here) hinted) in
-      rw said own
+      let by_listing : hints same l s ≡ true = subst (λ j. hints same j s ≡ true) (sym is) (subst (λ m. hints same (listing_or_empty (candidates_of m)) s ≡ true) (sym here) hinted) in
+      rw by_listing own
 
   -- a set after the hinted solvables of a package were added
   pub hinted_grows : (is_kept old new : S → Bool) → Grows (hints_own same_name same name_of n l) old new → HoldsHinted is_kept (is_hinted same name_of candidates_of) old → HoldsHinted is_kept (is_hinted same name_of candidates_of) new

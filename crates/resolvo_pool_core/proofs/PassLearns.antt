@@ -119,8 +119,8 @@ module _ {A : Type 0} (same : A → A → Bool) (exact : (a b : A) → same a b 
           ap (λ b. is_broken (cond b (last x) more) || refutes same (learn same known (cond b (last x) more)) cs) one ∙ (ap (λ (l : Literal A). refutes same (learn same known (last l)) cs) x_is ∙ goes)
 
   -- the pass over one clause refutes whatever makes it false
-  pub broken_refutes : (c : List (Literal A)) → RefutesFrom same c (c ∷ [])
-  broken_refutes c known false_c = go (without_false known c) (λ l h. let r = left_from known c l h in both _ r.1 (false_c l r.0))
+  pub falsified_refutes : (c : List (Literal A)) → RefutesFrom same c (c ∷ [])
+  falsified_refutes c known false_c = go (without_false known c) (λ l h. let r = left_from known c l h in both _ r.1 (false_c l r.0))
     where
       go : (rest : List (Literal A)) → ((l : Literal A) → has same rest l ≡ true → ⊥) → (is_broken (rest_of same rest) || refutes same (learn same known (rest_of same rest)) []) ≡ true
       go [] a = refl

@@ -42,10 +42,10 @@ is_unknown (known requirements constraints) = false
 is_unknown (unknown why) = true
 
 -- the truth of a condition, by that of its operands
-abbrev pub says : (VersionSetId → Bool) → (ConditionId → Bool) → Condition → Bool
-says met below (Requirement v) = met v
-says met below (Binary And a b) = below a && below b
-says met below (Binary Or a b) = below a || below b
+abbrev pub truth_of : (VersionSetId → Bool) → (ConditionId → Bool) → Condition → Bool
+truth_of met below (Requirement v) = met v
+truth_of met below (Binary And a b) = below a && below b
+truth_of met below (Binary Or a b) = below a || below b
 
 -- a lock on another solvable keeps this one out
 abbrev pub locks_out : {S : Type 0} → (S → S → Bool) → Option S → S → Bool
@@ -80,7 +80,7 @@ module _ {N S : Type 0} (same : S → S → Bool) (p : Packages N S) where
   -- enough
   abbrev pub holds_within : ℕ → List S → ConditionId → Bool
   holds_within zero chosen c = false
-  holds_within (suc n) chosen c = says (is_met chosen) (holds_within n chosen) (p.condition_of c)
+  holds_within (suc n) chosen c = truth_of (is_met chosen) (holds_within n chosen) (p.condition_of c)
 
   abbrev pub holds : List S → ConditionId → Bool
   holds chosen c = holds_within (suc c.0) chosen c
@@ -94,8 +94,8 @@ module _ {N S : Type 0} (same : S → S → Bool) (p : Packages N S) where
   binds chosen need = binds_under chosen need.condition
 
   -- a lock or an exclusion of its package keeps the solvable out
-  abbrev pub is_barred : S → Bool
-  is_barred s = locks_out same (listing_for s).locked s || list_any (λ e. same e.0 s) (listing_for s).excluded
+  abbrev pub is_forbidden : S → Bool
+  is_forbidden s = locks_out same (listing_for s).locked s || list_any (λ e. same e.0 s) (listing_for s).excluded
 
   -- the set holds candidates, at most one a package
   pub record IsSingle (chosen : List S) : Type 0 where
@@ -122,7 +122,7 @@ module _ {N S : Type 0} (same : S → S → Bool) (p : Packages N S) where
     pub record IsRuleKeeping (chosen : List S) : Type 0 where
       pub single : IsSingle chosen
       pub obeys : Obeys chosen
-      pub unbarred : (s : S) → is_in chosen s ≡ true → is_barred s ≡ false
+      pub allowed : (s : S) → is_in chosen s ≡ true → is_forbidden s ≡ false
       pub known : (s : S) → is_in chosen s ≡ true → is_unknown (p.dependencies_of s) ≡ false
 
     -- the package is named by a constraint of the root or a member, or by a requirement of these that binds
@@ -130,7 +130,7 @@ module _ {N S : Type 0} (same : S → S → Bool) (p : Packages N S) where
       pub parent : Option S
       pub version_set : VersionSetId
       pub member : is_member chosen parent ≡ true
-      pub stated : Contains (rules_for parent).constraints version_set
+      pub is_rule : Contains (rules_for parent).constraints version_set
       pub names : p.set_package version_set ≡ n
 
     pub record IsNamedByRequirement (chosen : List S) (n : N) : Type 0 where
@@ -138,7 +138,7 @@ module _ {N S : Type 0} (same : S → S → Bool) (p : Packages N S) where
       pub need : ConditionalRequirement
       pub version_set : VersionSetId
       pub member : is_member chosen parent ≡ true
-      pub stated : Contains (rules_for parent).requirements need
+      pub is_rule : Contains (rules_for parent).requirements need
       pub binding : binds chosen need ≡ true
       pub alternative : Contains (alternatives_of p.members_of need.requirement) version_set
       pub names : p.set_package version_set ≡ n
@@ -148,19 +148,19 @@ module _ {N S : Type 0} (same : S → S → Bool) (p : Packages N S) where
 
     -- the set keeps all rules, except that an accepted soft requirement may be locked out or
     -- excluded where its package isn't named
-    pub record IsExemptKeeping (wishes chosen : List S) : Type 0 where
+    pub record IsExemptKeeping (softs chosen : List S) : Type 0 where
       pub single : IsSingle chosen
       pub obeys : Obeys chosen
-      pub exempt : (s : S) → is_in chosen s ≡ true → is_barred s ≡ true → (is_in wishes s ≡ true) × (IsNamed chosen (p.package_of s) → ⊥)
+      pub exempt : (s : S) → is_in chosen s ≡ true → is_forbidden s ≡ true → (is_in softs s ≡ true) × (IsNamed chosen (p.package_of s) → ⊥)
       pub known : (s : S) → is_in chosen s ≡ true → is_unknown (p.dependencies_of s) ≡ false
 
     -- the part holds the chosen soft requirements, and each chosen match of a requirement of the
     -- root or a member whose condition holds in the part
-    pub record IsClosed (wishes chosen part : List S) : Type 0 where
+    pub record IsClosed (softs chosen part : List S) : Type 0 where
       pub inside : (s : S) → is_in part s ≡ true → is_in chosen s ≡ true
-      pub wished : (s : S) → is_in wishes s ≡ true → is_in chosen s ≡ true → is_in part s ≡ true
+      pub wished : (s : S) → is_in softs s ≡ true → is_in chosen s ≡ true → is_in part s ≡ true
       pub matches : (parent : Option S) (need : ConditionalRequirement) (s : S) → is_member part parent ≡ true → Contains (rules_for parent).requirements need → binds part need ≡ true → meets need.requirement s ≡ true → is_in chosen s ≡ true → is_in part s ≡ true
 
     -- the solvable is in the least such part
     abbrev pub IsReached : List S → List S → S → Type 0
-    IsReached wishes chosen s = (part : List S) → IsClosed wishes chosen part → is_in part s ≡ true
+    IsReached softs chosen s = (part : List S) → IsClosed softs chosen part → is_in part s ≡ true

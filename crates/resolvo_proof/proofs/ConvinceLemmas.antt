@@ -23,32 +23,32 @@ use Rattle.resolvo_proof.specs.Proof.{IsRefuted, IsProof, EndsEmpty, HaveDigits,
 use Rattle.resolvo_proof.proofs.ProveLemmas.{under_any, step_clause}
 
 -- a rule of a digit is that of a place
-digit_stated : {N S : Type 0} (condition : Option ConditionId) (x : ProofRule N S) (s : S) (bit : ℕ) (b : Bool) → Encoder.Rule.has_digit s bit b ≡ rule_under condition x → (place : ℕ) × (x ≡ Digit s place bit) × (b ≡ digit place bit)
-digit_stated condition (Needs parent q case) s bit b h = absurd cc
-digit_stated condition (GateOf t q) s bit b h = absurd cc
-digit_stated condition (Shared q) s bit b h = absurd cc
-digit_stated condition (Limit parent v None) s bit b h = absurd cc
-digit_stated condition (Limit parent v (Some t)) s bit b h = absurd cc
-digit_stated condition (Outside v t) s bit b h = absurd cc
-digit_stated condition (Locked locked t) s bit b h = absurd cc
-digit_stated condition (Excluded t reason) s bit b h = absurd cc
-digit_stated condition (Digit t place low) s bit b h =
+digit_rule : {N S : Type 0} (condition : Option ConditionId) (x : ProofRule N S) (s : S) (bit : ℕ) (b : Bool) → Encoder.Rule.has_digit s bit b ≡ rule_under condition x → (place : ℕ) × (x ≡ Digit s place bit) × (b ≡ digit place bit)
+digit_rule condition (Needs parent q case) s bit b h = absurd cc
+digit_rule condition (GateOf t q) s bit b h = absurd cc
+digit_rule condition (Shared q) s bit b h = absurd cc
+digit_rule condition (Limit parent v None) s bit b h = absurd cc
+digit_rule condition (Limit parent v (Some t)) s bit b h = absurd cc
+digit_rule condition (Outside v t) s bit b h = absurd cc
+digit_rule condition (Locked locked t) s bit b h = absurd cc
+digit_rule condition (Excluded t reason) s bit b h = absurd cc
+digit_rule condition (Digit t place low) s bit b h =
     let one : s ≡ t = cc in
     let same : bit ≡ low = cc in
-    let told : b ≡ digit place low = cc in
-    (place, (λ i. Digit (sym one i) place (sym same i)), told ∙ ap (digit place) (sym same))
-digit_stated condition (AtLeastOne n t) s bit b h = absurd cc
+    let encoded : b ≡ digit place low = cc in
+    (place, (λ i. Digit (sym one i) place (sym same i)), encoded ∙ ap (digit place) (sym same))
+digit_rule condition (AtLeastOne n t) s bit b h = absurd cc
 
 module _ {N S : Type 0} (same_atom : Atom N S → Atom N S → Bool) (exact_atom : IsExact same_atom) (same : S → S → Bool) (exact : IsExact same) (same_name : N → N → Bool) (names : IsExact same_name) (p : Packages N S) (root : Rules)
     (steps : List (ProofStep N S)) (proof : IsProof same_atom same p root steps) (bits : S → ℕ → Bool) (digits : HaveDigits steps bits) (chosen : List S) (keeps : IsRuleKeeping same p root chosen) where
   -- a rule of the provider that is a step
-  abbrev Stands : Encoder.Rule N S → Type 0
-  Stands r = IsRule same p root r × ((place : ℕ) × (condition : Option ConditionId) × (x : ProofRule N S) × (slice_get steps place ≡ Some (Rule x)) × (r ≡ rule_under condition x))
+  abbrev IsStepRule : Encoder.Rule N S → Type 0
+  IsStepRule r = IsRule same p root r × ((place : ℕ) × (condition : Option ConditionId) × (x : ProofRule N S) × (slice_get steps place ≡ Some (Rule x)) × (r ≡ rule_under condition x))
 
-  agree : AgreeWith Stands bits
+  agree : AgreeWith IsStepRule bits
   agree s bit b (is, (n, condition, x, at, e)) =
-      let (place, stated, told) = digit_stated condition x s bit b e in
-      digits n s place bit (at ∙ ap (λ y. Some (Rule y)) stated) ∙ sym told
+      let (place, kinds, encoded) = digit_rule condition x s bit b e in
+      digits n s place bit (at ∙ ap (λ y. Some (Rule y)) kinds) ∙ sym encoded
 
   -- the values over the set, with the digits of its members' places
   abbrev at_set : Atom N S → Bool
@@ -58,7 +58,7 @@ module _ {N S : Type 0} (same_atom : Atom N S → Atom N S → Bool) (exact_atom
   step_true place (Rule x) at earlier =
       let (condition, is) = proof place (Rule x) at in
       subst (λ (ls : List (Literal (Atom N S))). clause_true at_set ls ≡ true) (under_any same p condition x)
-      (rules_sound same exact p root same_name names Stands bits chosen (λ r stands. stands.0) agree keeps (rule_under condition x) (is, (place, condition, x, at, refl)))
+      (rules_sound same exact p root same_name names IsStepRule bits chosen (λ r present. present.0) agree keeps (rule_under condition x) (is, (place, condition, x, at, refl)))
   step_true place (Derived literals causes) at earlier =
       let r : IsRefuted same_atom same p root steps place literals.items causes.items = proof place (Derived literals causes) at in
       let all : list_all (clause_true at_set) (map (clause_at same p steps) causes.items) ≡ true = contained_all (clause_true at_set) (map (clause_at same p steps) causes.items) (λ ls h.

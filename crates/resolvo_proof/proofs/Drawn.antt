@@ -16,15 +16,15 @@ use Rattle.resolvo_sat.proofs.Apart.{false_apart}
 use Rattle.resolvo_soundness.specs.Encoding.{Atom}
 use Rattle.resolvo_soundness.specs.Numbered.{meaning, meanings, IsOnce}
 use Rattle.resolvo_soundness.proofs.Lists.{contains_none, contains_map}
-use Rattle.resolvo_soundness.proofs.Meanings.{stands_meaning, clause_in_range as place_in_range}
+use Rattle.resolvo_soundness.proofs.Meanings.{meaning_from, clause_in_range as place_in_range}
 use Rattle.resolvo_state.specs.declared.solver_state.SolverState.{SolverState}
-use Rattle.resolvo_state.specs.declared.clause_kind.Stated.TheVariants as Says
+use Rattle.resolvo_state.specs.declared.clause_kind.ClauseKind.TheVariants as Kind
 use Rattle.resolvo_state.specs.Atoms.{origin}
 use Rattle.resolvo_state.specs.SolverState.{IsCoding}
 use Rattle.resolvo_state.specs.Spelled.{Spelled}
-use Rattle.resolvo_state.specs.Statements.{stated_at}
+use Rattle.resolvo_state.specs.ClauseKinds.{kind_at}
 use Rattle.resolvo_state.proofs.Origins.{coding_once}
-use Rattle.resolvo_state.proofs.Positions.{get_below, get_front, get_push}
+use Rattle.resolvo_state.proofs.Positions.{get_below, get_in_prefix, get_push}
 use Rattle.resolvo_proof.specs.declared.step.ProofLiteral.{ProofLiteral}
 use Rattle.resolvo_proof.specs.declared.step.ProofRule.{ProofRule}
 use Rattle.resolvo_proof.specs.declared.step.ProofStep.{ProofStep}
@@ -37,7 +37,7 @@ use Rattle.resolvo_proof.specs.Trimmed.{IsRenumbered, IsTrimmedTo}
 use Rattle.resolvo_proof.specs.Written.{IsStepOf, IsStepAt, AreSteps, AreStepsThen}
 use Rattle.resolvo_proof.proofs.Parts.{clause_in_range}
 use Rattle.resolvo_proof.proofs.ProveLemmas.{kept_false, map_none, none_meant, refusal_in_range, spells_step, step_clause}
-use Rattle.resolvo_proof.proofs.Shortened.{stood}
+use Rattle.resolvo_proof.proofs.Shortened.{was_at}
 
 not_rule : {N S : Type 0} (r : ProofRule N S) (literals : Vec (ProofLiteral N S) Global) (causes : Vec ℕ Global) → Derived literals causes ≡ Rule r → ⊥
 not_rule r literals causes h = cc
@@ -52,8 +52,8 @@ opposite x y same sign = let back = sym same in λ i. record { variable = record
 -- in the meanings of distinct literals an atom has one sign
 one_sign : {N S : Type 0} (of : ℕ → Atom N S) (count : ℕ) → IsOnce of count → (literals : List Signed) → AreInRange count literals → AreApart literals → HaveOneSign (meanings of literals)
 one_sign {N} {S} of count once literals in_range apart l m a b same =
-    let (x, h, (other, is)) = stands_meaning of literals l a in
-    let (y, k, (another, this)) = stands_meaning of literals m b in
+    let (x, h, (other, is)) = meaning_from of literals l a in
+    let (y, k, (another, this)) = meaning_from of literals m b in
     let atoms : of x.variable.0 ≡ of y.variable.0 = ap (λ (z : Literal (Atom N S)). z.atom) (sym is) ∙ (same ∙ ap (λ (z : Literal (Atom N S)). z.atom) this) in
     let one : x.variable.0 ≡ y.variable.0 = once x.variable.0 y.variable.0 other (in_range x h) another (in_range y k) atoms in
     ap (λ (z : Literal (Atom N S)). z.positive) is ∙ (go x y h k one x.positive y.positive refl refl ∙ ap (λ (z : Literal (Atom N S)). z.positive) (sym this))
@@ -69,12 +69,12 @@ one_sign {N} {S} of count once literals in_range apart l m a b same =
 
 module _ {N S : Type 0} (c : SolverState N S) (coding : IsCoding c) where
   -- a derived step of a clause has the meanings of a learnt one's literals
-  learnt_at : (n : ℕ) (literals : Vec (ProofLiteral N S) Global) (causes : Vec ℕ Global) → (at : IsStepAt c n (Derived literals causes)) → (stated_at c.stated.items n ≡ Some Says.Learnt) × (map literal_in literals.items ≡ meanings (origin c.atoms.keys) at.clause.literals.items)
+  learnt_at : (n : ℕ) (literals : Vec (ProofLiteral N S) Global) (causes : Vec ℕ Global) → (at : IsStepAt c n (Derived literals causes)) → (kind_at c.kinds.items n ≡ Some Kind.Learnt) × (map literal_in literals.items ≡ meanings (origin c.atoms.keys) at.clause.literals.items)
   learnt_at n literals causes at = go at.writes
     where
-      go : IsStepOf c.atoms.keys at.stated at.clause (Derived literals causes) → (stated_at c.stated.items n ≡ Some Says.Learnt) × (map literal_in literals.items ≡ meanings (origin c.atoms.keys) at.clause.literals.items)
-      go (inl (r, e, told)) = absurd (not_rule r literals causes e)
-      go (inr (e, d)) = (at.states ∙ ap Some e, ap (λ (v : Vec (ProofLiteral N S) Global). map literal_in v.items) (same_literals literals d.literals causes d.causes d.derived) ∙ d.means)
+      go : IsStepOf c.atoms.keys at.kinds at.clause (Derived literals causes) → (kind_at c.kinds.items n ≡ Some Kind.Learnt) × (map literal_in literals.items ≡ meanings (origin c.atoms.keys) at.clause.literals.items)
+      go (inl (r, e, encoded)) = absurd (not_rule r literals causes e)
+      go (inr (e, d)) = (at.kind_is ∙ ap Some e, ap (λ (v : Vec (ProofLiteral N S) Global). map literal_in v.items) (same_literals literals d.literals causes d.causes d.derived) ∙ d.means)
 
   module _ (same : S → S → Bool) (p : Packages N S) (spelled : Spelled same p c) (steps : List (ProofStep N S)) (are : AreSteps c steps) where
     each : (k : ℕ) → suc k < length c.search.clauses → (x : ProofStep N S) × (slice_get steps k ≡ Some x) × IsStepAt c (suc k) x
@@ -84,9 +84,9 @@ module _ {N S : Type 0} (c : SolverState N S) (coding : IsCoding c) where
         (x, there, are.each k x there)
 
     -- a literal's meaning is in the clause's step, unless the literal is the root's
-    stands_in_step : (n : ℕ) (x : Signed) (m : ℕ) → m < suc n → 0 < x.variable.0 → has (clause_at (clauses_of c.search) m) x ≡ true → (k : ℕ) × (k < n) × Contains (step_at same p steps k) (meaning (origin c.atoms.keys) x)
-    stands_in_step n x zero below other h = (let z : x.variable.0 ≡ 0 = coding.alone x h in absurd (omega arith))
-    stands_in_step n x (suc k) below other h = elim ((spells_step same p c coding spelled steps each k (place_in_range (clauses_of c.search) (suc k) x h)).only x h) [
+    in_earlier_step : (n : ℕ) (x : Signed) (m : ℕ) → m < suc n → 0 < x.variable.0 → has (clause_at (clauses_of c.search) m) x ≡ true → (k : ℕ) × (k < n) × Contains (step_at same p steps k) (meaning (origin c.atoms.keys) x)
+    in_earlier_step n x zero below other h = (let z : x.variable.0 ≡ 0 = coding.alone x h in absurd (omega arith))
+    in_earlier_step n x (suc k) below other h = elim ((spells_step same p c coding spelled steps each k (place_in_range (clauses_of c.search) (suc k) x h)).only x h) [
       | inl is ↦ (let z : x.variable.0 ≡ 0 = ap (λ (y : Signed). y.variable.0) is in absurd (omega arith))
       | inr (o, here) ↦ (k, omega arith, here)
     ]
@@ -96,10 +96,10 @@ module _ {N S : Type 0} (c : SolverState N S) (coding : IsCoding c) where
     steps_drawn n literals causes here l a =
         let at = are.each n (Derived literals causes) here in
         let (learnt, means) = learnt_at (suc n) literals causes at in
-        let (x, h, (other, is)) = stands_meaning (origin c.atoms.keys) at.clause.literals.items (literal_in l) (subst (λ (xs : List (Literal (Atom N S))). Contains xs (literal_in l)) means (contains_map literal_in l literals.items a)) in
-        let (m, below, there) = coding.drawn (suc n) at.clause learnt at.stands x h in
-        let (k, before, stands) = stands_in_step n x m below other there in
-        (k, before, subst (Contains (step_at same p steps k)) (sym is) stands)
+        let (x, h, (other, is)) = meaning_from (origin c.atoms.keys) at.clause.literals.items (literal_in l) (subst (λ (xs : List (Literal (Atom N S))). Contains xs (literal_in l)) means (contains_map literal_in l literals.items a)) in
+        let (m, below, there) = coding.drawn (suc n) at.clause learnt at.present x h in
+        let (k, before, present) = in_earlier_step n x m below other there in
+        (k, before, subst (Contains (step_at same p steps k)) (sym is) present)
 
   -- and an atom has one sign in it
   pub steps_signs : (steps : List (ProofStep N S)) → AreSteps c steps → HaveOneSigns steps
@@ -107,7 +107,7 @@ module _ {N S : Type 0} (c : SolverState N S) (coding : IsCoding c) where
       let at = are.each n (Derived literals causes) here in
       let (learnt, means) = learnt_at (suc n) literals causes at in
       subst (λ (xs : List (Literal (Atom N S))). HaveOneSign xs) (sym means)
-      (one_sign (origin c.atoms.keys) (count_of c.search) (coding_once c coding) at.clause.literals.items (clause_in_range c coding (suc n) at.clause at.stands) (coding.apart (suc n) at.clause learnt at.stands))
+      (one_sign (origin c.atoms.keys) (count_of c.search) (coding_once c coding) at.clause.literals.items (clause_in_range c coding (suc n) at.clause at.present) (coding.apart (suc n) at.clause learnt at.present))
 
   module _ (spelled : List Signed) (from : List ClauseId) (steps : List (ProofStep N S)) (are : AreStepsThen c spelled from steps) where
     -- a derived step is a clause's, or the refusal's
@@ -121,15 +121,15 @@ module _ {N S : Type 0} (c : SolverState N S) (coding : IsCoding c) where
     clause_stays : (same : S → S → Bool) (p : Packages N S) (m : ℕ) → m < length are.earlier → step_at same p are.earlier m ≡ step_at same p steps m
     clause_stays same p m below =
         let (x, at) = get_below are.earlier m below in
-        step_clause same p are.earlier m x at ∙ sym (step_clause same p steps m x (subst (λ (xs : List (ProofStep N S)). slice_get xs m ≡ Some x) (sym are.ends) (get_front are.earlier (are.final ∷ []) m x at)))
+        step_clause same p are.earlier m x at ∙ sym (step_clause same p steps m x (subst (λ (xs : List (ProofStep N S)). slice_get xs m ≡ Some x) (sym are.ends) (get_in_prefix are.earlier (are.final ∷ []) m x at)))
 
     -- the literals are in earlier steps where the refusal denies the root alone
     pub refusal_drawn : DenyRoot spelled → (same : S → S → Bool) (p : Packages N S) → Spelled same p c → AreDrawn same p steps
     refusal_drawn deny same p spells n literals causes here l a = elim (derived_split n literals causes here) [
       | inl old ↦
-          let (m, before, stands) = steps_drawn same p spells are.earlier are.clauses n literals causes old l a in
+          let (m, before, present) = steps_drawn same p spells are.earlier are.clauses n literals causes old l a in
           let within : n < length are.earlier = slice_get_within are.earlier n (Derived literals causes) old in
-          (m, before, subst (λ (xs : List (Literal (Atom N S))). Contains xs (literal_in l)) (clause_stays same p m (omega arith)) stands)
+          (m, before, subst (λ (xs : List (Literal (Atom N S))). Contains xs (literal_in l)) (clause_stays same p m (omega arith)) present)
       | inr means ↦
           let none : literals.items ≡ [] = map_none literal_in literals.items (means ∙ none_meant (origin c.atoms.keys) spelled deny) in
           absurd (contains_none l (subst (λ (xs : List (ProofLiteral N S)). Contains xs l) none a))
@@ -144,7 +144,7 @@ module _ {N S : Type 0} (c : SolverState N S) (coding : IsCoding c) where
 
 -- trimmed steps add no sign of an atom
 pub trimmed_signs : {N S : Type 0} {Wanted : ℕ → Type 0} (steps kept : List (ProofStep N S)) → IsTrimmedTo Wanted steps kept → HaveOneSigns steps → HaveOneSigns kept
-trimmed_signs {N} {S} {Wanted} steps kept trimmed signs n literals causes here = let (place, x, at, there, is) = stood steps kept trimmed n (Derived literals causes) here in go place x there is
+trimmed_signs {N} {S} {Wanted} steps kept trimmed signs n literals causes here = let (place, x, at, there, is) = was_at steps kept trimmed n (Derived literals causes) here in go place x there is
   where
     go : (place : ℕ) (x : ProofStep N S) → slice_get steps place ≡ Some x → IsRenumbered trimmed.from place x (Derived literals causes) → HaveOneSign (map literal_in literals.items)
     go place (Rule r) there is = absurd (not_rule r literals causes is)

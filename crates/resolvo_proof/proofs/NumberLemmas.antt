@@ -6,7 +6,7 @@ use Rattle.std.proofs.lemmas.Bool.{cases_eq}
 use Rattle.std.proofs.lemmas.List.{length-append}
 use Rattle.std.proofs.lemmas.Option.{slice_get_within}
 use Rattle.resolvo_soundness.proofs.Lists.{contains_none, contains_one, contains_cases, contains_first, contains_later}
-use Rattle.resolvo_state.proofs.Positions.{get_front, get_last, get_push, get_below}
+use Rattle.resolvo_state.proofs.Positions.{get_in_prefix, get_last, get_push, get_below}
 use Rattle.resolvo_proof.specs.declared.step.ProofStep.{ProofStep}
 use Rattle.resolvo_proof.specs.declared.step.ProofStep.TheVariants.{Rule, Derived}
 use Rattle.resolvo_proof.specs.Trimmed.{Names, IsNamedLater, IsFlagged, AreLeading, number_of, IsNumbered, Keeps, IsRenumbered, IsTrimmedTo, IsTrimmed, IsTrimmedWith, AreNamed}
@@ -53,7 +53,7 @@ renumbered_more from more place (Derived literals causes) step (renumbered, is, 
     go [] [] h = h
     go [] (y ∷ ys) h = h
     go (x ∷ xs) [] h = h
-    go (x ∷ xs) (y ∷ ys) (first, rest) = (λ small. get_front from more y x (first small), go xs ys rest)
+    go (x ∷ xs) (y ∷ ys) (first, rest) = (λ small. get_in_prefix from more y x (first small), go xs ys rest)
 
 -- numbers that name the places of earlier causes
 numbers_name : (from numbers : List ℕ) (place : ℕ) (causes : List ℕ) → ((cause : ℕ) → Contains causes cause → cause < place → (k : ℕ) × (slice_get numbers cause ≡ Some k) × (slice_get from k ≡ Some cause))
@@ -145,7 +145,7 @@ kept_more {N} {S} steps flags done numbers kept old step leads at is number are 
         omega (arith, within, longer, l, e, less)
 
     old_number : (place : ℕ) → place < done → IsFlagged flags place → (k : ℕ) × (slice_get (numbers ++ length kept ∷ []) place ≡ Some k) × (slice_get from k ≡ Some place)
-    old_number place below f = let (k, n, a) = are.numbered place below f in (k, get_front numbers (length kept ∷ []) place k n, get_front are.from (done ∷ []) k place a)
+    old_number place below f = let (k, n, a) = are.numbered place below f in (k, get_in_prefix numbers (length kept ∷ []) place k n, get_in_prefix are.from (done ∷ []) k place a)
 
     kept_old : (k : ℕ) (x : ProofStep N S) → k < length are.from → slice_get (kept ++ step ∷ []) k ≡ Some x → slice_get kept k ≡ Some x
     kept_old k x below h = elim (get_push kept step x k h) [ inl a ↦ a | inr (e, i) ↦ (let c : length kept ≡ length are.from = are.count in absurd (omega arith)) ]
@@ -156,7 +156,7 @@ kept_more {N} {S} steps flags done numbers kept old step leads at is number are 
     known : (cause : ℕ) → Names old cause → cause < done → (k : ℕ) × (slice_get numbers cause ≡ Some k) × (slice_get from k ≡ Some cause)
     known cause names small =
         let (k, n, a) = are.numbered cause small (leads.closed done cause old (omega arith) is at names small) in
-        (k, n, get_front are.from (done ∷ []) k cause a)
+        (k, n, get_in_prefix are.from (done ∷ []) k cause a)
 
 -- one that is not
 pub kept_skip : {N S : Type 0} (steps : List (ProofStep N S)) (flags : List Bool) (done : ℕ) (numbers : List ℕ) (kept : List (ProofStep N S)) → (IsFlagged flags done → ⊥) → AreKept steps flags done numbers kept → AreKept steps flags (suc done) (numbers ++ length kept ∷ []) kept
@@ -169,7 +169,7 @@ kept_skip steps flags done numbers kept out are = record {
   rising = are.rising;
   numbered = λ place below f. elim (cases_eq place done) [
     | inl e ↦ absurd (out (subst (IsFlagged flags) e f))
-    | inr other ↦ (let (k, n, a) = are.numbered place (omega (arith, other)) f in (k, get_front numbers (length kept ∷ []) place k n, a))
+    | inr other ↦ (let (k, n, a) = are.numbered place (omega (arith, other)) f in (k, get_in_prefix numbers (length kept ∷ []) place k n, a))
   ];
   each = are.each;
   before = numbers_before steps flags done numbers kept are;
@@ -228,13 +228,13 @@ named_later : {N S : Type 0} (steps : List (ProofStep N S)) (flags : List Bool) 
 named_later steps flags done numbers kept all are k place later old at behind is there names =
     let count : length kept ≡ length are.from = are.count in
     let below : later < length steps = slice_get_within steps later old there in
-    let (l, number, stands) = are.numbered later (omega (arith, below, all)) is in
-    let inside : l < length are.from = slice_get_within are.from l later stands in
+    let (l, number, present) = are.numbered later (omega (arith, below, all)) is in
+    let inside : l < length are.from = slice_get_within are.from l later present in
     let (step, new) = get_below kept l (omega (arith, inside, count)) in
-    let (was, had, moved) = are.each l later step stands new in (
+    let (was, had, moved) = are.each l later step present new in (
       l,
       step,
-      falls_back are.from are.rising k l place later at stands behind,
+      falls_back are.from are.rising k l place later at present behind,
       new,
       renamed are.from are.rising later place k was step moved (subst (λ (x : ProofStep _ _). Names x place) (one_place steps later later old was refl there had) names) behind at,
     )
@@ -260,11 +260,11 @@ kept_numbers {N} {S} {Wanted} steps flags done numbers kept leads all are = reco
   trimmed = kept_all steps flags done numbers kept leads all are;
   long = are.long ∙ all;
   before = are.before;
-  stands = stands;
+  present = present;
 }
   where
-    stands : (place : ℕ) (old : ProofStep N S) → Wanted place → slice_get steps place ≡ Some old → (k : ℕ) × (step : ProofStep N S) × (slice_get numbers place ≡ Some k) × (slice_get kept k ≡ Some step) × IsRenumbered are.from place old step
-    stands place old is at =
+    present : (place : ℕ) (old : ProofStep N S) → Wanted place → slice_get steps place ≡ Some old → (k : ℕ) × (step : ProofStep N S) × (slice_get numbers place ≡ Some k) × (slice_get kept k ≡ Some step) × IsRenumbered are.from place old step
+    present place old is at =
         let below : place < length steps = slice_get_within steps place old at in
         let (k, number, there) = are.numbered place (omega (arith, below, all)) (leads.wanted place is below) in
         let inside : k < length are.from = slice_get_within are.from k place there in

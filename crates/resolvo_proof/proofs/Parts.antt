@@ -17,9 +17,9 @@ use Rattle.resolvo_soundness.specs.Encoding.{Atom}
 use Rattle.resolvo_soundness.specs.Numbered.{meaning, meanings}
 use Rattle.resolvo_state.specs.declared.atom.ProofAtom.{ProofAtom}
 use Rattle.resolvo_state.specs.declared.solver_state.SolverState.{SolverState}
-use Rattle.resolvo_state.specs.declared.clause_kind.Stated.{Stated}
-use Rattle.resolvo_state.specs.declared.clause_kind.Stated.TheVariants as Says
-use Rattle.resolvo_state.specs.Statements.{stated_at}
+use Rattle.resolvo_state.specs.declared.clause_kind.ClauseKind.{ClauseKind}
+use Rattle.resolvo_state.specs.declared.clause_kind.ClauseKind.TheVariants as Kind
+use Rattle.resolvo_state.specs.ClauseKinds.{kind_at}
 use Rattle.resolvo_state.specs.Atoms.{atom_of, origin}
 use Rattle.resolvo_state.specs.SolverState.{IsCoding}
 use Rattle.resolvo_state.proofs.Origins.{atom_at_place}
@@ -29,7 +29,7 @@ use Rattle.resolvo_proof.specs.declared.step.ProofRule.{ProofRule}
 use Rattle.resolvo_proof.specs.declared.step.ProofStep.{ProofStep}
 use Rattle.resolvo_proof.specs.declared.step.ProofStep.TheVariants.{Rule}
 use Rattle.resolvo_proof.specs.Steps.{literal_in}
-use Rattle.resolvo_proof.specs.Written.{atoms_of, with_place, places, IsTold, IsDerivation, IsStepAt, AreSteps, AreStepsThen}
+use Rattle.resolvo_proof.specs.Written.{atoms_of, with_place, places, IsRuleOf, IsDerivation, IsStepAt, AreSteps, AreStepsThen}
 
 meanings-append : {N S : Type 0} (of : ℕ → Atom N S) (xs ys : List Signed) → meanings of (xs ++ ys) ≡ meanings of xs ++ meanings of ys
 meanings-append of [] ys = refl
@@ -103,8 +103,8 @@ place_skip cs c ys is e = e ∙ (sym (Rattle.std.proofs.lemmas.List.append-nil (
 -- a coding has the root's clause
 pub some_clause : {N S : Type 0} (c : SolverState N S) → IsCoding c → 1 ≤ length c.search.clauses
 some_clause c coding =
-    let within : 0 < length c.stated.items = slice_get_within c.stated.items 0 Says.Root coding.first in
-    let each : length c.stated.items ≡ length c.search.clauses = coding.each in
+    let within : 0 < length c.kinds.items = slice_get_within c.kinds.items 0 Kind.Root coding.first in
+    let each : length c.kinds.items ≡ length c.search.clauses = coding.each in
     omega arith
 
 -- the literals of a clause are of variables that are there
@@ -112,27 +112,27 @@ pub clause_in_range : {N S : Type 0} (c : SolverState N S) → IsCoding c → (n
 clause_in_range c coding n clause at l h = coding.ready.state.in_range n l (subst (λ xs. has xs l ≡ true) (sym (literals_at c.search.clauses n clause at)) h)
 
 -- the step of a clause that encodes a rule
-pub rule_step : {N S : Type 0} (c : SolverState N S) (n : ℕ) (x : Stated N S) (r : ProofRule N S) → n < length c.search.clauses → stated_at c.stated.items n ≡ Some x → IsTold x (Some r) → IsStepAt c n (Rule r)
-rule_step c n x r below states told = let (clause, at) = get_below c.search.clauses n below in record { stated = x; clause = clause; states = states; stands = at; writes = inl (r, refl, told) }
+pub rule_step : {N S : Type 0} (c : SolverState N S) (n : ℕ) (x : ClauseKind N S) (r : ProofRule N S) → n < length c.search.clauses → kind_at c.kinds.items n ≡ Some x → IsRuleOf x (Some r) → IsStepAt c n (Rule r)
+rule_step c n x r below kind_is encoded = let (clause, at) = get_below c.search.clauses n below in record { kinds = x; clause = clause; kind_is = kind_is; present = at; writes = inl (r, refl, encoded) }
 
 -- the step of a clause after the root's that encodes none
-pub learnt_step : {N S : Type 0} (c : SolverState N S) → IsCoding c → (n : ℕ) (x : Stated N S) (clause : SatClause) (step : ProofStep N S) → 0 < n → stated_at c.stated.items n ≡ Some x → slice_get c.search.clauses n ≡ Some clause → IsTold x None
+pub learnt_step : {N S : Type 0} (c : SolverState N S) → IsCoding c → (n : ℕ) (x : ClauseKind N S) (clause : SatClause) (step : ProofStep N S) → 0 < n → kind_at c.kinds.items n ≡ Some x → slice_get c.search.clauses n ≡ Some clause → IsRuleOf x None
     → IsDerivation c.atoms.keys clause.literals.items clause.causes.items step → IsStepAt c n step
-learnt_step {N} {S} c coding n x clause step behind states at told d = record { stated = x; clause = clause; states = states; stands = at; writes = inr (go x states told, d) }
+learnt_step {N} {S} c coding n x clause step behind kind_is at encoded d = record { kinds = x; clause = clause; kind_is = kind_is; present = at; writes = inr (go x kind_is encoded, d) }
   where
-    go : (y : Stated N S) → stated_at c.stated.items n ≡ Some y → IsTold y None → y ≡ Says.Learnt
-    go Says.Root e t = (let first : n ≡ 0 = coding.rooted n e in absurd (omega arith))
-    go (Says.Needs parent need case) e (copy, t, same) = absurd cc
-    go (Says.Gated s r) e t = absurd cc
-    go (Says.Shared r) e t = absurd cc
-    go (Says.Limits parent v s) e t = absurd cc
-    go (Says.LimitsOutside parent v) e t = absurd cc
-    go (Says.IsOut v s) e t = absurd cc
-    go (Says.Locked locked s) e t = absurd cc
-    go (Says.Excluded s reason) e t = absurd cc
-    go (Says.Digit m s place bit) e t = absurd cc
-    go (Says.IsThere m s) e t = absurd cc
-    go Says.Learnt e t = refl
+    go : (y : ClauseKind N S) → kind_at c.kinds.items n ≡ Some y → IsRuleOf y None → y ≡ Kind.Learnt
+    go Kind.Root e t = (let first : n ≡ 0 = coding.rooted n e in absurd (omega arith))
+    go (Kind.Needs parent need case) e (copy, t, same) = absurd cc
+    go (Kind.Gated s r) e t = absurd cc
+    go (Kind.Shared r) e t = absurd cc
+    go (Kind.Limits parent v s) e t = absurd cc
+    go (Kind.LimitsOutside parent v) e t = absurd cc
+    go (Kind.IsOut v s) e t = absurd cc
+    go (Kind.Locked locked s) e t = absurd cc
+    go (Kind.Excluded s reason) e t = absurd cc
+    go (Kind.Digit m s place bit) e t = absurd cc
+    go (Kind.IsThere m s) e t = absurd cc
+    go Kind.Learnt e t = refl
 
 -- the steps of the first clauses, and the next one
 pub step_more : {N S : Type 0} (c : SolverState N S) (steps : List (ProofStep N S)) (n : ℕ) (step : ProofStep N S) → n ≡ suc (length steps) → ((place : ℕ) (x : ProofStep N S) → slice_get steps place ≡ Some x → IsStepAt c (suc place) x) → IsStepAt c n step

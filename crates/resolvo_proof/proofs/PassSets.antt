@@ -25,9 +25,9 @@ module _ {A B : Type 0} (same_a : A → A → Bool) (exact_a : (a b : A) → sam
     pub each : (m : Literal B) → Contains d m → (l : Literal A) × Contains c l × Named l m
 
   -- what is known of a name is what is known of its atom, and literals that may be left out are false
-  pub record Agree (said : A → Option Bool) (known : B → Option Bool) : Type 0 where
-    pub at : (a : A) (i : B) → names a i → known i ≡ said a
-    pub gone : (l : Literal A) → Dropped l → is_denied (said l.atom) l.positive ≡ true
+  pub record Agree (assigned : A → Option Bool) (known : B → Option Bool) : Type 0 where
+    pub at : (a : A) (i : B) → names a i → known i ≡ assigned a
+    pub gone : (l : Literal A) → Dropped l → is_denied (assigned l.atom) l.positive ≡ true
 
   -- a test of names is one of atoms
   same_names : (a b : A) (i j : B) → names a i → names b j → same_b i j ≡ same_a a b
@@ -40,8 +40,8 @@ module _ {A B : Type 0} (same_a : A → A → Bool) (exact_a : (a b : A) → sam
       go false true e f = absurd (both_ways (same_a a b) e (subst (λ t. same_a a t ≡ true) (once a b i n (subst (λ t. names b t) (sym (exact_b i j f)) k)) (own_a a)))
 
   -- the name of a literal is false where the literal is
-  denied_agree : (said : A → Option Bool) (known : B → Option Bool) → Agree said known → (l : Literal A) (m : Literal B) → Named l m → is_denied (known m.atom) m.positive ≡ is_denied (said l.atom) l.positive
-  denied_agree said known agree l m n = ap (λ o. is_denied o m.positive) (agree.at l.atom m.atom n.0) ∙ ap (λ b. is_denied (said l.atom) b) n.1
+  denied_agree : (assigned : A → Option Bool) (known : B → Option Bool) → Agree assigned known → (l : Literal A) (m : Literal B) → Named l m → is_denied (known m.atom) m.positive ≡ is_denied (assigned l.atom) l.positive
+  denied_agree assigned known agree l m n = ap (λ o. is_denied o m.positive) (agree.at l.atom m.atom n.0) ∙ ap (λ b. is_denied (assigned l.atom) b) n.1
 
   -- a literal with two names has one, and a name of two is of one
   one_name : (l : Literal A) (m k : Literal B) → Named l m → Named l k → m ≡ k
@@ -62,13 +62,13 @@ module _ {A B : Type 0} (same_a : A → A → Bool) (exact_a : (a b : A) → sam
     pub each : (m : Literal B) → Contains ys m → (l : Literal A) × Contains xs l × Named l m
 
   -- so do two clauses once their false literals are left out
-  left_match : (said : A → Option Bool) (known : B → Option Bool) → Agree said known → (c : List (Literal A)) (d : List (Literal B)) → Spelt c d → Match (without_false said c) (without_false known d)
-  left_match said known agree c d spelt = record {
-    only = λ l h. (let (a, t) = filter_contains (is_left said) l c h in elim (spelt.only l a) [
-      | inl e ↦ absurd (both_ways (is_left said l) (ap not (agree.gone l e)) t)
-      | inr (m, b, n) ↦ (m, contains_filter (is_left known) m d b (ap not (denied_agree said known agree l m n) ∙ t), n)
+  left_match : (assigned : A → Option Bool) (known : B → Option Bool) → Agree assigned known → (c : List (Literal A)) (d : List (Literal B)) → Spelt c d → Match (without_false assigned c) (without_false known d)
+  left_match assigned known agree c d spelt = record {
+    only = λ l h. (let (a, t) = filter_contains (is_left assigned) l c h in elim (spelt.only l a) [
+      | inl e ↦ absurd (both_ways (is_left assigned l) (ap not (agree.gone l e)) t)
+      | inr (m, b, n) ↦ (m, contains_filter (is_left known) m d b (ap not (denied_agree assigned known agree l m n) ∙ t), n)
     ]);
-    each = λ m h. (let (b, t) = filter_contains (is_left known) m d h in let (l, a, n) = spelt.each m b in (l, contains_filter (is_left said) l c a (ap not (sym (denied_agree said known agree l m n)) ∙ t), n));
+    each = λ m h. (let (b, t) = filter_contains (is_left known) m d h in let (l, a, n) = spelt.each m b in (l, contains_filter (is_left assigned) l c a (ap not (sym (denied_agree assigned known agree l m n)) ∙ t), n));
   }
 
   -- the rests of both
@@ -119,8 +119,8 @@ module _ {A B : Type 0} (same_a : A → A → Bool) (exact_a : (a b : A) → sam
   broken_match more broken h = absurd h
   broken_match more (last m) h = absurd h
 
-  assign_agree : (said : A → Option Bool) (known : B → Option Bool) → Agree said known → (l : Literal A) (m : Literal B) → Named l m → said l.atom ≡ None → Agree (assign same_a said l) (assign same_b known m)
-  assign_agree said known agree l m n none = record {
+  assign_agree : (assigned : A → Option Bool) (known : B → Option Bool) → Agree assigned known → (l : Literal A) (m : Literal B) → Named l m → assigned l.atom ≡ None → Agree (assign same_a assigned l) (assign same_b known m)
+  assign_agree assigned known agree l m n none = record {
     at = λ a i h.
         ap (λ b. cond b (Some m.positive) (known i)) (same_names a l.atom i m.atom h n.0)
         ∙ (ap (λ q. cond (same_a a l.atom) (Some q) (known i)) n.1
@@ -128,48 +128,48 @@ module _ {A B : Type 0} (same_a : A → A → Bool) (exact_a : (a b : A) → sam
     gone = λ x d. go x d (same_a x.atom l.atom) refl;
   }
     where
-      go : (x : Literal A) → Dropped x → (b : Bool) → same_a x.atom l.atom ≡ b → is_denied (cond b (Some l.positive) (said x.atom)) x.positive ≡ true
+      go : (x : Literal A) → Dropped x → (b : Bool) → same_a x.atom l.atom ≡ b → is_denied (cond b (Some l.positive) (assigned x.atom)) x.positive ≡ true
       go x d false e = agree.gone x d
-      go x d true e = absurd (false≢true (sym (ap (λ o. is_denied o x.positive) (ap said (exact_a x.atom l.atom e) ∙ none)) ∙ agree.gone x d))
+      go x d true e = absurd (false≢true (sym (ap (λ o. is_denied o x.positive) (ap assigned (exact_a x.atom l.atom e) ∙ none)) ∙ agree.gone x d))
 
-  learn_agree : (said : A → Option Bool) (known : B → Option Bool) → Agree said known → (r : Rest A) (s : Rest B) → RestMatch r s → Agree (learn same_a said r) (learn same_b known s)
-  learn_agree said known agree broken broken h = agree
-  learn_agree said known agree (last l) (last m) h =
-      subst (λ (b : Bool). Agree (learn same_a said (last l)) (cond b (assign same_b known m) known)) (sym (ap is_none (agree.at l.atom m.atom h.0)))
-      (go (said l.atom) refl)
+  learn_agree : (assigned : A → Option Bool) (known : B → Option Bool) → Agree assigned known → (r : Rest A) (s : Rest B) → RestMatch r s → Agree (learn same_a assigned r) (learn same_b known s)
+  learn_agree assigned known agree broken broken h = agree
+  learn_agree assigned known agree (last l) (last m) h =
+      subst (λ (b : Bool). Agree (learn same_a assigned (last l)) (cond b (assign same_b known m) known)) (sym (ap is_none (agree.at l.atom m.atom h.0)))
+      (go (assigned l.atom) refl)
     where
-      go : (o : Option Bool) → said l.atom ≡ o → Agree (cond (is_none o) (assign same_a said l) said) (cond (is_none o) (assign same_b known m) known)
-      go None e = assign_agree said known agree l m h e
+      go : (o : Option Bool) → assigned l.atom ≡ o → Agree (cond (is_none o) (assign same_a assigned l) assigned) (cond (is_none o) (assign same_b known m) known)
+      go None e = assign_agree assigned known agree l m h e
       go (Some b) e = agree
-  learn_agree said known agree more more h = agree
-  learn_agree said known agree broken (last m) h = absurd h
-  learn_agree said known agree broken more h = absurd h
-  learn_agree said known agree (last l) broken h = absurd h
-  learn_agree said known agree (last l) more h = absurd h
-  learn_agree said known agree more broken h = absurd h
-  learn_agree said known agree more (last m) h = absurd h
+  learn_agree assigned known agree more more h = agree
+  learn_agree assigned known agree broken (last m) h = absurd h
+  learn_agree assigned known agree broken more h = absurd h
+  learn_agree assigned known agree (last l) broken h = absurd h
+  learn_agree assigned known agree (last l) more h = absurd h
+  learn_agree assigned known agree more broken h = absurd h
+  learn_agree assigned known agree more (last m) h = absurd h
 
   -- reading a clause and reading its names break alike, and what is known afterwards agrees
-  pub read_alike : (said : A → Option Bool) (known : B → Option Bool) → Agree said known → (c : List (Literal A)) (d : List (Literal B)) → Spelt c d → (is_broken (reading same_a said c) ≡ is_broken (reading same_b known d)) × Agree (learn same_a said (reading same_a said c)) (learn same_b known (reading same_b known d))
-  read_alike said known agree c d spelt =
-      let r = rest_match (without_false said c) (without_false known d) (left_match said known agree c d spelt) in
-      (broken_match (reading same_a said c) (reading same_b known d) r, learn_agree said known agree (reading same_a said c) (reading same_b known d) r)
+  pub read_alike : (assigned : A → Option Bool) (known : B → Option Bool) → Agree assigned known → (c : List (Literal A)) (d : List (Literal B)) → Spelt c d → (is_broken (reading same_a assigned c) ≡ is_broken (reading same_b known d)) × Agree (learn same_a assigned (reading same_a assigned c)) (learn same_b known (reading same_b known d))
+  read_alike assigned known agree c d spelt =
+      let r = rest_match (without_false assigned c) (without_false known d) (left_match assigned known agree c d spelt) in
+      (broken_match (reading same_a assigned c) (reading same_b known d) r, learn_agree assigned known agree (reading same_a assigned c) (reading same_b known d) r)
 
 -- a clause with a literal that is known to be true is not broken, and nothing is learnt from it
-pub true_idle : {A : Type 0} (same : A → A → Bool) (exact : (a b : A) → same a b ≡ true → a ≡ b) (own : (a : A) → same a a ≡ true) (said : A → Option Bool) (c : List (Literal A)) (l : Literal A)
-    → Contains c l → said l.atom ≡ Some l.positive → (is_broken (reading same said c) ≡ false) × (learn same said (reading same said c) ≡ said)
-true_idle {A} same exact own said c l h known = go (without_false said c) (contains_filter (is_left said) l c h (ap (λ o. not (is_denied o l.positive)) known ∙ is_true l.positive))
+pub true_idle : {A : Type 0} (same : A → A → Bool) (exact : (a b : A) → same a b ≡ true → a ≡ b) (own : (a : A) → same a a ≡ true) (assigned : A → Option Bool) (c : List (Literal A)) (l : Literal A)
+    → Contains c l → assigned l.atom ≡ Some l.positive → (is_broken (reading same assigned c) ≡ false) × (learn same assigned (reading same assigned c) ≡ assigned)
+true_idle {A} same exact own assigned c l h known = go (without_false assigned c) (contains_filter (is_left assigned) l c h (ap (λ o. not (is_denied o l.positive)) known ∙ is_true l.positive))
   where
     is_true : (b : Bool) → not (is_denied (Some b) b) ≡ true
     is_true true = refl
     is_true false = refl
 
-    go : (xs : List (Literal A)) → Contains xs l → (is_broken (rest_of same xs) ≡ false) × (learn same said (rest_of same xs) ≡ said)
+    go : (xs : List (Literal A)) → Contains xs l → (is_broken (rest_of same xs) ≡ false) × (learn same assigned (rest_of same xs) ≡ assigned)
     go [] a = absurd (contains_none l a)
     go (x ∷ xs) a = one (list_all (same_literal same x) xs) refl
       where
-        one : (b : Bool) → list_all (same_literal same x) xs ≡ b → (is_broken (cond b (last x) more) ≡ false) × (learn same said (cond b (last x) more) ≡ said)
+        one : (b : Bool) → list_all (same_literal same x) xs ≡ b → (is_broken (cond b (last x) more) ≡ false) × (learn same assigned (cond b (last x) more) ≡ assigned)
         one false e = (refl, refl)
         one true e =
             let is : x ≡ l = elim (contains_cases l x xs a) [ inl i ↦ sym i | inr i ↦ literal_is same exact own x l (all_contained (same_literal same x) l xs e i) ] in
-            (refl, ap (λ b. cond b (assign same said x) said) (ap (λ (y : Literal A). is_none (said y.atom)) is ∙ ap is_none known))
+            (refl, ap (λ b. cond b (assign same assigned x) assigned) (ap (λ (y : Literal A). is_none (assigned y.atom)) is ∙ ap is_none known))

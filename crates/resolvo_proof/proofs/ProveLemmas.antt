@@ -15,55 +15,55 @@ use Rattle.resolvo_sat.specs.Known.{clause_at}
 use Rattle.resolvo_sat.specs.AnalyzeFinal.{Refutes}
 use Rattle.resolvo_sat.specs.State.{lists, named, AllBelow, AreDerived, IsDerived, IsState, AreApart, clauses_of, count_of, history}
 use Rattle.resolvo_sat.specs.Entries.{made_true}
-use Rattle.resolvo_sat.specs.Analysis.{DenyKept, IsRefusal}
+use Rattle.resolvo_sat.specs.Analysis.{DenyAssumptions, IsRefusal}
 use Rattle.resolvo_sat.specs.Steps.{AreInRange}
 use Rattle.resolvo_sat.proofs.Clauses.{literals_at, length-lists}
 use Rattle.resolvo_sat.proofs.Literals.{has_here, has_later}
-use Rattle.resolvo_sat.proofs.Trails.{known_in_range, known_from_stands, stands_from_entry}
+use Rattle.resolvo_sat.proofs.Trails.{known_in_range, known_from_level, level_from_entry}
 use Rattle.resolvo_sat.proofs.Apart.{false_apart}
 use Rattle.resolvo_soundness.specs.Encoding as Encoder
 use Rattle.resolvo_soundness.specs.Encoding.{Atom, IsExact, IsRule, literals_of}
 use Rattle.resolvo_soundness.specs.Numbered.{meaning, meanings, Spells}
-use Rattle.resolvo_soundness.proofs.Meanings.{meaning_stands, stands_meaning, root_or_other}
+use Rattle.resolvo_soundness.proofs.Meanings.{meaning_in, meaning_from, root_or_other}
 use Rattle.resolvo_state.specs.declared.solver_state.SolverState.{SolverState}
-use Rattle.resolvo_state.specs.declared.clause_kind.Stated.{Stated}
-use Rattle.resolvo_state.specs.declared.clause_kind.Stated.TheVariants as Says
+use Rattle.resolvo_state.specs.declared.clause_kind.ClauseKind.{ClauseKind}
+use Rattle.resolvo_state.specs.declared.clause_kind.ClauseKind.TheVariants as Kind
 use Rattle.resolvo_state.specs.Atoms.{origin}
 use Rattle.resolvo_state.specs.SolverState.{IsCoding}
 use Rattle.resolvo_state.specs.Spelled.{Spelled}
-use Rattle.resolvo_state.specs.Statements.{stated_at, rule_of, rules_in}
+use Rattle.resolvo_state.specs.ClauseKinds.{kind_at, rule_of, rules_in}
 use Rattle.resolvo_state.proofs.Origins.{coding_once}
-use Rattle.resolvo_state.proofs.Positions.{get_front, get_push, get_below}
-use Rattle.resolvo_state.proofs.Rules.{rule_stated}
+use Rattle.resolvo_state.proofs.Positions.{get_in_prefix, get_push, get_below}
+use Rattle.resolvo_state.proofs.Rules.{rule_at_kind}
 use Rattle.resolvo_proof.specs.declared.step.ProofRule.{ProofRule}
 use Rattle.resolvo_proof.specs.declared.step.ProofRule.TheVariants.{Needs, GateOf, Shared, Limit, Outside, Locked, Excluded, Digit, AtLeastOne}
 use Rattle.resolvo_proof.specs.declared.step.ProofStep.{ProofStep}
 use Rattle.resolvo_proof.specs.Steps.{literal_in, rule_under, clause_of, clause_at as step_at}
 use Rattle.resolvo_proof.specs.Proof.{IsRefuted, IsStep, EndsEmpty, DenyRoot, Proves}
-use Rattle.resolvo_proof.specs.Written.{places, IsTold, IsDerivation, IsStepOf, IsStepAt, AreSteps, AreStepsThen}
+use Rattle.resolvo_proof.specs.Written.{places, IsRuleOf, IsDerivation, IsStepOf, IsStepAt, AreSteps, AreStepsThen}
 use Rattle.resolvo_proof.proofs.Meant.{spelt, derived_meant, refuted_some, places_below}
 
 some_is : {X : Type 0} (x y : X) → Some x ≡ Some y → x ≡ y
 some_is x y h = cc
 
 -- a list up to a place, and the rest
-split_at : {X : Type 0} (xs : List X) (n : ℕ) (x : X) → slice_get xs n ≡ Some x → (front : List X) × (rest : List X) × (xs ≡ front ++ x ∷ rest) × (length front ≡ n)
+split_at : {X : Type 0} (xs : List X) (n : ℕ) (x : X) → slice_get xs n ≡ Some x → (prefix : List X) × (rest : List X) × (xs ≡ prefix ++ x ∷ rest) × (length prefix ≡ n)
 split_at [] n x h = absurd cc
 split_at (y ∷ xs) zero x h = ([], xs, ap (λ z. z ∷ xs) (some_is y x h), refl)
-split_at (y ∷ xs) (suc n) x h = let (front, rest, e, long) = split_at xs n x h in (y ∷ front, rest, ap (λ zs. y ∷ zs) e, ap suc long)
+split_at (y ∷ xs) (suc n) x h = let (prefix, rest, e, long) = split_at xs n x h in (y ∷ prefix, rest, ap (λ zs. y ∷ zs) e, ap suc long)
 
 derived_older : (newer older : List SatClause) → AreDerived (newer ++ older) → AreDerived older
 derived_older [] older d = d
 derived_older (c ∷ newer) older d = derived_older newer older d.1
 
-clause_front : (cs ds : List SatClause) (n : ℕ) → n < length (lists cs) → clause_at (lists (cs ++ ds)) n ≡ clause_at (lists cs) n
-clause_front [] ds n below = absurd (omega arith)
-clause_front (c ∷ cs) ds zero below = refl
-clause_front (c ∷ cs) ds (suc n) below = clause_front cs ds n (omega arith)
+clause_prefix : (cs ds : List SatClause) (n : ℕ) → n < length (lists cs) → clause_at (lists (cs ++ ds)) n ≡ clause_at (lists cs) n
+clause_prefix [] ds n below = absurd (omega arith)
+clause_prefix (c ∷ cs) ds zero below = refl
+clause_prefix (c ∷ cs) ds (suc n) below = clause_prefix cs ds n (omega arith)
 
-named_front : (cs ds : List SatClause) (causes : List ClauseId) → AllBelow (length (lists cs)) causes → named (lists (cs ++ ds)) causes ≡ named (lists cs) causes
-named_front cs ds [] below = refl
-named_front cs ds (c ∷ causes) below = ap (λ x. x ∷ named (lists (cs ++ ds)) causes) (clause_front cs ds c.0 below.0) ∙ ap (λ xs. clause_at (lists cs) c.0 ∷ xs) (named_front cs ds causes below.1)
+named_prefix : (cs ds : List SatClause) (causes : List ClauseId) → AllBelow (length (lists cs)) causes → named (lists (cs ++ ds)) causes ≡ named (lists cs) causes
+named_prefix cs ds [] below = refl
+named_prefix cs ds (c ∷ causes) below = ap (λ x. x ∷ named (lists (cs ++ ds)) causes) (clause_prefix cs ds c.0 below.0) ∙ ap (λ xs. clause_at (lists cs) c.0 ∷ xs) (named_prefix cs ds causes below.1)
 
 below_more : (m n : ℕ) (causes : List ClauseId) → m ≤ n → AllBelow m causes → AllBelow n causes
 below_more m n [] le below = tt
@@ -72,18 +72,18 @@ below_more m n (c ∷ causes) le below = ((let one : c.0 < m = below.0 in omega 
 -- A clause with causes follows from them, and they are before it.
 derived_at : (cs : List SatClause) (n : ℕ) (c : SatClause) → AreDerived (reverse cs) → slice_get cs n ≡ Some c → 0 < length c.causes.items → AllBelow n c.causes.items × Refutes (no root_variable ∷ c.literals.items) (named (lists cs) c.causes.items)
 derived_at cs n c derived at some =
-    let (front, rest, e, long) = split_at cs n c at in
-    let newest : reverse cs ≡ reverse rest ++ (c ∷ reverse front) = ap reverse e ∙ reverse-append front (c ∷ rest) ∙ ap (λ xs. xs ++ reverse front) (reverse-append (c ∷ []) rest) ∙ append_assoc (reverse rest) (c ∷ []) (reverse front) in
-    let d : IsDerived (lists (reverse (reverse front))) c.literals.items c.causes.items = (derived_older (reverse rest) (c ∷ reverse front) (subst AreDerived newest derived)).0 some in
-    let own : IsDerived (lists front) c.literals.items c.causes.items = subst (λ xs. IsDerived (lists xs) c.literals.items c.causes.items) (Rattle.std.proofs.lemmas.List.reverse-reverse front) d in
-    let same : named (lists cs) c.causes.items ≡ named (lists front) c.causes.items = ap (λ xs. named (lists xs) c.causes.items) e ∙ named_front front (c ∷ rest) c.causes.items own.in_range in
-    (subst (λ k. AllBelow k c.causes.items) (length-lists front ∙ long) own.in_range, subst (Refutes (no root_variable ∷ c.literals.items)) (sym same) own.refuted)
+    let (prefix, rest, e, long) = split_at cs n c at in
+    let newest : reverse cs ≡ reverse rest ++ (c ∷ reverse prefix) = ap reverse e ∙ reverse-append prefix (c ∷ rest) ∙ ap (λ xs. xs ++ reverse prefix) (reverse-append (c ∷ []) rest) ∙ append_assoc (reverse rest) (c ∷ []) (reverse prefix) in
+    let d : IsDerived (lists (reverse (reverse prefix))) c.literals.items c.causes.items = (derived_older (reverse rest) (c ∷ reverse prefix) (subst AreDerived newest derived)).0 some in
+    let own : IsDerived (lists prefix) c.literals.items c.causes.items = subst (λ xs. IsDerived (lists xs) c.literals.items c.causes.items) (Rattle.std.proofs.lemmas.List.reverse-reverse prefix) d in
+    let same : named (lists cs) c.causes.items ≡ named (lists prefix) c.causes.items = ap (λ xs. named (lists xs) c.causes.items) e ∙ named_prefix prefix (c ∷ rest) c.causes.items own.in_range in
+    (subst (λ k. AllBelow k c.causes.items) (length-lists prefix ∙ long) own.in_range, subst (Refutes (no root_variable ∷ c.literals.items)) (sym same) own.refuted)
 
 -- a clause that denies choices of the trail is false on it
-pub kept_false : (s : SatState) (literals : List Signed) → DenyKept s literals → (l : Signed) → has literals l ≡ true → has (made_true (history s)) (negation l) ≡ true
+pub kept_false : (s : SatState) (literals : List Signed) → DenyAssumptions s literals → (l : Signed) → has literals l ≡ true → has (made_true (history s)) (negation l) ≡ true
 kept_false s literals denies l h =
     let (e, older, on, is, kept) = denies l h in
-    subst (λ x. has (made_true (history s)) x ≡ true) is (known_from_stands (history s) _ e.level (stands_from_entry (history s) e older on))
+    subst (λ x. has (made_true (history s)) x ≡ true) is (known_from_level (history s) _ e.level (level_from_entry (history s) e older on))
 
 -- a refusal's literals are of variables that are there
 pub refusal_in_range : (s : SatState) (literals : List Signed) (causes : List ClauseId) → IsState s → IsRefusal s literals causes → AreInRange (count_of s) literals
@@ -94,9 +94,9 @@ apart_spells : {N S : Type 0} (of : ℕ → Atom N S) (literals : List Signed) �
 apart_spells of literals apart = record {
   only = λ l h. elim (root_or_other l.variable.0) [
     | inl z ↦ inl (denied l h z l.positive refl)
-    | inr o ↦ inr (o, meaning_stands of literals l h o)
+    | inr o ↦ inr (o, meaning_in of literals l h o)
   ];
-  each = λ m b. stands_meaning of literals m b;
+  each = λ m b. meaning_from of literals m b;
 }
   where
     denied : (l : Signed) → has literals l ≡ true → l.variable.0 ≡ 0 → (b : Bool) → l.positive ≡ b → l ≡ no root_variable
@@ -117,19 +117,19 @@ map_none f [] h = refl
 map_none f (x ∷ xs) h = absurd cc
 
 -- the rule of a step is the clause's, under some condition
-told_rule : {N S : Type 0} (x : Stated N S) (r : ProofRule N S) → IsTold x (Some r) → (condition : Option ConditionId) × (rule_of x ≡ Some (rule_under condition r))
-told_rule Says.Root r h = absurd cc
-told_rule (Says.Needs parent need case) r (copy, e, same) = (need.condition, ap (λ vs. Some (Encoder.Rule.needs parent need vs)) (sym same) ∙ sym (ap (λ y. Some (rule_under need.condition y)) (some_is r (Needs parent need.requirement copy) e)))
-told_rule (Says.Gated s q) r h = (None, sym (ap (λ y. Some (rule_under None y)) (some_is r (GateOf s q) h)))
-told_rule (Says.Shared q) r h = (None, sym (ap (λ y. Some (rule_under None y)) (some_is r (Shared q) h)))
-told_rule (Says.Limits parent v s) r h = (None, sym (ap (λ y. Some (rule_under None y)) (some_is r (Limit parent v (Some s)) h)))
-told_rule (Says.LimitsOutside parent v) r h = (None, sym (ap (λ y. Some (rule_under None y)) (some_is r (Limit parent v None) h)))
-told_rule (Says.IsOut v s) r h = (None, sym (ap (λ y. Some (rule_under None y)) (some_is r (Outside v s) h)))
-told_rule (Says.Locked locked s) r h = (None, sym (ap (λ y. Some (rule_under None y)) (some_is r (Locked locked s) h)))
-told_rule (Says.Excluded s reason) r h = (None, sym (ap (λ y. Some (rule_under None y)) (some_is r (Excluded s reason) h)))
-told_rule (Says.Digit n s place bit) r h = (None, sym (ap (λ y. Some (rule_under None y)) (some_is r (Digit s place bit) h)))
-told_rule (Says.IsThere n s) r h = (None, sym (ap (λ y. Some (rule_under None y)) (some_is r (AtLeastOne n s) h)))
-told_rule Says.Learnt r h = absurd cc
+rule_of_step : {N S : Type 0} (x : ClauseKind N S) (r : ProofRule N S) → IsRuleOf x (Some r) → (condition : Option ConditionId) × (rule_of x ≡ Some (rule_under condition r))
+rule_of_step Kind.Root r h = absurd cc
+rule_of_step (Kind.Needs parent need case) r (copy, e, same) = (need.condition, ap (λ vs. Some (Encoder.Rule.needs parent need vs)) (sym same) ∙ sym (ap (λ y. Some (rule_under need.condition y)) (some_is r (Needs parent need.requirement copy) e)))
+rule_of_step (Kind.Gated s q) r h = (None, sym (ap (λ y. Some (rule_under None y)) (some_is r (GateOf s q) h)))
+rule_of_step (Kind.Shared q) r h = (None, sym (ap (λ y. Some (rule_under None y)) (some_is r (Shared q) h)))
+rule_of_step (Kind.Limits parent v s) r h = (None, sym (ap (λ y. Some (rule_under None y)) (some_is r (Limit parent v (Some s)) h)))
+rule_of_step (Kind.LimitsOutside parent v) r h = (None, sym (ap (λ y. Some (rule_under None y)) (some_is r (Limit parent v None) h)))
+rule_of_step (Kind.IsOut v s) r h = (None, sym (ap (λ y. Some (rule_under None y)) (some_is r (Outside v s) h)))
+rule_of_step (Kind.Locked locked s) r h = (None, sym (ap (λ y. Some (rule_under None y)) (some_is r (Locked locked s) h)))
+rule_of_step (Kind.Excluded s reason) r h = (None, sym (ap (λ y. Some (rule_under None y)) (some_is r (Excluded s reason) h)))
+rule_of_step (Kind.Digit n s place bit) r h = (None, sym (ap (λ y. Some (rule_under None y)) (some_is r (Digit s place bit) h)))
+rule_of_step (Kind.IsThere n s) r h = (None, sym (ap (λ y. Some (rule_under None y)) (some_is r (AtLeastOne n s) h)))
+rule_of_step Kind.Learnt r h = absurd cc
 
 module _ {N S : Type 0} (same : S → S → Bool) (p : Packages N S) where
   -- the clause of a rule is the same under each condition
@@ -156,16 +156,16 @@ module _ {N S : Type 0} (same : S → S → Bool) (p : Packages N S) where
     spells_clause n step at = go at.writes
       where
         literals : clause_at (clauses_of c.search) n ≡ at.clause.literals.items
-        literals = literals_at c.search.clauses n at.clause at.stands
+        literals = literals_at c.search.clauses n at.clause at.present
 
-        go : IsStepOf c.atoms.keys at.stated at.clause step → Spells (origin c.atoms.keys) (clause_at (clauses_of c.search) n) (clause_of same p step)
-        go (inl (r, e, told)) =
-            let (condition, is) = told_rule at.stated r told in
-            let own : Spells (origin c.atoms.keys) (clause_at (clauses_of c.search) n) (literals_of same p (rule_under condition r)) = spelled n (rule_under condition r) (rule_stated c.stated.items n at.stated at.states ∙ is) in
+        go : IsStepOf c.atoms.keys at.kinds at.clause step → Spells (origin c.atoms.keys) (clause_at (clauses_of c.search) n) (clause_of same p step)
+        go (inl (r, e, encoded)) =
+            let (condition, is) = rule_of_step at.kinds r encoded in
+            let own : Spells (origin c.atoms.keys) (clause_at (clauses_of c.search) n) (literals_of same p (rule_under condition r)) = spelled n (rule_under condition r) (rule_at_kind c.kinds.items n at.kinds at.kind_is ∙ is) in
             subst (λ (x : ProofStep N S). Spells (origin c.atoms.keys) (clause_at (clauses_of c.search) n) (clause_of same p x)) (sym e)
             (subst (λ (xs : List (Literal (Atom N S))). Spells (origin c.atoms.keys) (clause_at (clauses_of c.search) n) xs) (under_any condition r) own)
         go (inr (e, d)) =
-            let a : AreApart at.clause.literals.items = coding.apart n at.clause (at.states ∙ ap Some e) at.stands in
+            let a : AreApart at.clause.literals.items = coding.apart n at.clause (at.kind_is ∙ ap Some e) at.present in
             let own : Spells (origin c.atoms.keys) at.clause.literals.items (map literal_in d.literals.items) = subst (λ (xs : List (Literal (Atom N S))). Spells (origin c.atoms.keys) at.clause.literals.items xs) (sym d.means) (apart_spells (origin c.atoms.keys) at.clause.literals.items a) in
             subst (λ (x : ProofStep N S). Spells (origin c.atoms.keys) (clause_at (clauses_of c.search) n) (clause_of same p x)) (sym d.derived)
             (subst (λ (xs : List Signed). Spells (origin c.atoms.keys) xs (map literal_in d.literals.items)) (sym literals) own)
@@ -180,7 +180,7 @@ module _ {N S : Type 0} (same : S → S → Bool) (p : Packages N S) where
       -- what follows from clauses before this place's is refuted at it
       derivation_refuted : (place : ℕ) (literals : List Signed) (causes : List ClauseId) (step : ProofStep N S) → suc place ≤ length c.search.clauses → AllBelow (suc place) causes → Refutes (no root_variable ∷ literals) (named (clauses_of c.search) causes)
           → ((l : Signed) → has literals l ≡ true → l.variable.0 < count_of c.search) → AreApart literals → (d : IsDerivation c.atoms.keys literals causes step) → IsRefuted same_atom same p root steps place d.literals.items d.causes.items
-      derivation_refuted place literals causes step long below refuted in_range stand d = record {
+      derivation_refuted place literals causes step long below refuted in_range separate d = record {
         some = refuted_some same_atom (deny same_atom nothing (map literal_in d.literals.items)) (step_at same p steps) d.causes.items goes;
         earlier = λ cause h. places_below place causes below cause (subst (λ xs. Contains xs cause) d.read h);
         refuted = goes;
@@ -192,33 +192,33 @@ module _ {N S : Type 0} (same : S → S → Bool) (p : Packages N S) where
           meant : one_pass same_atom (meanings (origin c.atoms.keys) literals) (map (step_at same p steps) (places causes)) ≡ true
           meant = derived_meant same_atom exact (origin c.atoms.keys) (count_of c.search) (coding_once c coding) (clauses_of c.search) (step_at same p steps) coding.covered.first
               (λ n small. spelt same_atom exact (origin c.atoms.keys) (count_of c.search) (coding_once c coding) (clause_at (clauses_of c.search) (suc n)) (step_at same p steps n) (coding.ready.state.in_range (suc n)) (spells_step n small))
-              literals causes (below_more (suc place) (length (clauses_of c.search)) causes (let e : length (clauses_of c.search) ≡ length c.search.clauses = all in omega arith) below) refuted in_range stand
+              literals causes (below_more (suc place) (length (clauses_of c.search)) causes (let e : length (clauses_of c.search) ≡ length c.search.clauses = all in omega arith) below) refuted in_range separate
 
           goes : one_pass same_atom (map literal_in d.literals.items) (map (step_at same p steps) d.causes.items) ≡ true
           goes = subst (λ xs. one_pass same_atom (map literal_in d.literals.items) (map (step_at same p steps) xs) ≡ true) (sym d.read)
               (subst (λ xs. one_pass same_atom xs (map (step_at same p steps) (places causes)) ≡ true) (sym d.means) meant)
 
       -- the step of a clause is allowed at its place
-      clause_step : ((r : Encoder.Rule N S) → rules_in c.stated.items r → IsRule same p root r) → (place : ℕ) (step : ProofStep N S) → suc place < length c.search.clauses → IsStepAt c (suc place) step → IsStep same_atom same p root steps place step
+      clause_step : ((r : Encoder.Rule N S) → rules_in c.kinds.items r → IsRule same p root r) → (place : ℕ) (step : ProofStep N S) → suc place < length c.search.clauses → IsStepAt c (suc place) step → IsStep same_atom same p root steps place step
       clause_step rule place step below at = go at.writes
         where
-          go : IsStepOf c.atoms.keys at.stated at.clause step → IsStep same_atom same p root steps place step
-          go (inl (r, e, told)) =
-              let (condition, is) = told_rule at.stated r told in
-              subst (IsStep same_atom same p root steps place) (sym e) (condition, rule (rule_under condition r) (suc place, rule_stated c.stated.items (suc place) at.stated at.states ∙ is))
+          go : IsStepOf c.atoms.keys at.kinds at.clause step → IsStep same_atom same p root steps place step
+          go (inl (r, e, encoded)) =
+              let (condition, is) = rule_of_step at.kinds r encoded in
+              subst (IsStep same_atom same p root steps place) (sym e) (condition, rule (rule_under condition r) (suc place, rule_at_kind c.kinds.items (suc place) at.kinds at.kind_is ∙ is))
           go (inr (e, d)) =
-              let learnt : stated_at c.stated.items (suc place) ≡ Some Says.Learnt = at.states ∙ ap Some e in
-              let (earlier, refuted) = derived_at c.search.clauses (suc place) at.clause coding.ready.state.derived at.stands (coding.learnt (suc place) at.clause learnt at.stands) in
-              let in_range : (l : Signed) → has at.clause.literals.items l ≡ true → l.variable.0 < count_of c.search = λ l h. coding.ready.state.in_range (suc place) l (subst (λ xs. has xs l ≡ true) (sym (literals_at c.search.clauses (suc place) at.clause at.stands)) h) in
+              let learnt : kind_at c.kinds.items (suc place) ≡ Some Kind.Learnt = at.kind_is ∙ ap Some e in
+              let (earlier, refuted) = derived_at c.search.clauses (suc place) at.clause coding.ready.state.derived at.present (coding.learnt (suc place) at.clause learnt at.present) in
+              let in_range : (l : Signed) → has at.clause.literals.items l ≡ true → l.variable.0 < count_of c.search = λ l h. coding.ready.state.in_range (suc place) l (subst (λ xs. has xs l ≡ true) (sym (literals_at c.search.clauses (suc place) at.clause at.present)) h) in
               subst (IsStep same_atom same p root steps place) (sym d.derived)
-              (derivation_refuted place at.clause.literals.items at.clause.causes.items step (omega arith) earlier refuted in_range (coding.apart (suc place) at.clause learnt at.stands) d)
+              (derivation_refuted place at.clause.literals.items at.clause.causes.items step (omega arith) earlier refuted in_range (coding.apart (suc place) at.clause learnt at.present) d)
 
 -- each clause after the root's has its step
 has_step : {N S : Type 0} (c : SolverState N S) (steps more : List (ProofStep N S)) → AreSteps c steps → (place : ℕ) → suc place < length c.search.clauses → (step : ProofStep N S) × (slice_get (steps ++ more) place ≡ Some step) × IsStepAt c (suc place) step
 has_step c steps more are place below =
     let count : length steps + 1 ≡ length c.search.clauses = are.count in
     let (step, at) = get_below steps place (omega arith) in
-    (step, get_front steps more place step at, are.each place step at)
+    (step, get_in_prefix steps more place step at, are.each place step at)
 
 -- The steps of a coding's clauses are a proof.
 pub steps_prove : {N S : Type 0} (c : SolverState N S) (steps : List (ProofStep N S)) → IsCoding c → AreSteps c steps → Proves c steps

@@ -24,8 +24,8 @@ clause_kept same p from place (Derived literals causes) step (renumbered, is, zi
 
 module _ {N S : Type 0} {Wanted : ℕ → Type 0} (steps kept : List (ProofStep N S)) (trimmed : IsTrimmedTo Wanted steps kept) where
   -- the place that a kept step had, and the step there
-  pub stood : (k : ℕ) (step : ProofStep N S) → slice_get kept k ≡ Some step → (place : ℕ) × (old : ProofStep N S) × (slice_get trimmed.from k ≡ Some place) × (slice_get steps place ≡ Some old) × IsRenumbered trimmed.from place old step
-  stood k step at =
+  pub was_at : (k : ℕ) (step : ProofStep N S) → slice_get kept k ≡ Some step → (place : ℕ) × (old : ProofStep N S) × (slice_get trimmed.from k ≡ Some place) × (slice_get steps place ≡ Some old) × IsRenumbered trimmed.from place old step
+  was_at k step at =
       let within : k < length kept = slice_get_within kept k step at in
       let count : length kept ≡ length trimmed.from = trimmed.count in
       let (place, here) = get_below trimmed.from k (omega arith) in
@@ -72,9 +72,9 @@ module _ {N S : Type 0} {Wanted : ℕ → Type 0} (steps kept : List (ProofStep 
         ]
 
     -- a step that is allowed at its old place is allowed at its number
-    stands : (k place : ℕ) (old step : ProofStep N S) → slice_get trimmed.from k ≡ Some place → IsRenumbered trimmed.from place old step → IsStep same_atom same p root steps place old → IsStep same_atom same p root kept k step
-    stands k place (Rule r) step at is may = subst (IsStep same_atom same p root kept k) (sym is) may
-    stands k place (Derived literals causes) step at (renumbered, is, zip) may =
+    present : (k place : ℕ) (old step : ProofStep N S) → slice_get trimmed.from k ≡ Some place → IsRenumbered trimmed.from place old step → IsStep same_atom same p root steps place old → IsStep same_atom same p root kept k step
+    present k place (Rule r) step at is may = subst (IsStep same_atom same p root kept k) (sym is) may
+    present k place (Derived literals causes) step at (renumbered, is, zip) may =
         let r : IsRefuted same_atom same p root steps place literals.items causes.items = may in
         let new : IsRefuted same_atom same p root kept k literals.items renumbered.items = record {
           some = subst (λ n. 0 < n) (sym (same_count place causes.items renumbered.items zip)) r.some;
@@ -84,18 +84,18 @@ module _ {N S : Type 0} {Wanted : ℕ → Type 0} (steps kept : List (ProofStep 
         subst (IsStep same_atom same p root kept k) (sym is) new
 
     trimmed_proof : IsProof same_atom same p root kept
-    trimmed_proof k step at = let (place, old, here, there, is) = stood k step at in stands k place old step here is (proof place old there)
+    trimmed_proof k step at = let (place, old, here, there, is) = was_at k step at in present k place old step here is (proof place old there)
 
 -- the kept steps of a proof are one
 pub trimmed_proves : {N S : Type 0} {Wanted : ℕ → Type 0} (steps kept : List (ProofStep N S)) → IsTrimmedTo Wanted steps kept → StaysProof steps kept
 trimmed_proves steps kept trimmed same_atom same p root proof = trimmed_proof steps kept trimmed same_atom same p root proof
 
 -- a list is the items before its last one, and that item
-split_last : {X : Type 0} (xs : List X) (k : ℕ) (x : X) → slice_get xs k ≡ Some x → length xs ≡ suc k → (front : List X) × (xs ≡ front ++ x ∷ [])
+split_last : {X : Type 0} (xs : List X) (k : ℕ) (x : X) → slice_get xs k ≡ Some x → length xs ≡ suc k → (prefix : List X) × (xs ≡ prefix ++ x ∷ [])
 split_last [] k x at long = absurd cc
 split_last (y ∷ []) zero x at long = ([], let e : Some y ≡ Some x = at in cc)
 split_last (y ∷ z ∷ xs) zero x at long = absurd (omega arith)
-split_last (y ∷ xs) (suc k) x at long = let (front, e) = split_last xs k x at (omega arith) in (y ∷ front, ap (λ zs. y ∷ zs) e)
+split_last (y ∷ xs) (suc k) x at long = let (prefix, e) = split_last xs k x at (omega arith) in (y ∷ prefix, ap (λ zs. y ∷ zs) e)
 
 -- the last step stays the last
 pub trimmed_empty : {N S : Type 0} (steps kept : List (ProofStep N S)) → IsTrimmed steps kept → EndsEmpty steps → EndsEmpty kept
@@ -108,12 +108,12 @@ trimmed_empty {N} {S} steps kept trimmed ends =
     let count : length kept ≡ length trimmed.from = trimmed.count in
     let (step, new) = get_below kept k (omega arith) in
     let (old, there, (renumbered, is, zip)) = found k step here new at in
-    let (front, e) = split_last kept k step new (final k long here) in
+    let (prefix, e) = split_last kept k step new (final k long here) in
     record {
-      earlier = front;
+      earlier = prefix;
       literals = ends.literals;
       causes = renumbered;
-      ends = e ∙ ap (λ (x : ProofStep N S). front ++ x ∷ []) is;
+      ends = e ∙ ap (λ (x : ProofStep N S). prefix ++ x ∷ []) is;
       empty = ends.empty;
     }
   where
@@ -129,7 +129,7 @@ trimmed_empty {N} {S} steps kept trimmed ends =
         go : (suc k < length kept) ⊎ (length kept ≤ suc k) → length kept ≡ suc k
         go (inl less) =
             let (step, new) = get_below kept (suc k) less in
-            let (place, old, next, there, is) = stood steps kept trimmed (suc k) step new in
+            let (place, old, next, there, is) = was_at steps kept trimmed (suc k) step new in
             let rises : length ends.earlier < place = trimmed.rising k (suc k) (length ends.earlier) place (omega arith) here next in
             let inside : place < length steps = slice_get_within steps place old there in
             absurd (omega arith)

@@ -10,7 +10,7 @@ use Rattle.resolvo_store_core.specs.Clauses.{no, root as root_variable}
 use Rattle.resolvo_soundness.specs.Encoding as Encoder
 use Rattle.resolvo_soundness.specs.Encoding.{Atom, IsExact, IsRule}
 use Rattle.resolvo_state.specs.declared.solver_state.SolverState.{SolverState}
-use Rattle.resolvo_state.specs.Statements.{rules_in}
+use Rattle.resolvo_state.specs.ClauseKinds.{rules_in}
 use Rattle.resolvo_state.specs.Spelled.{Spelled}
 use Rattle.resolvo_proof.specs.declared.step.ProofRule.TheVariants.{Digit}
 use Rattle.resolvo_proof.specs.declared.step.ProofLiteral.{ProofLiteral}
@@ -60,4 +60,4 @@ DenyRoot literals = (l : Signed) → has literals l ≡ true → l ≡ no root_v
 -- the steps are a proof for all packages and for each root whose rules the clauses encode
 abbrev pub Proves : {N S : Type 0} → SolverState N S → List (ProofStep N S) → Type 0
 Proves {N} {S} c steps = (same_atom : Atom N S → Atom N S → Bool) → IsExact same_atom → (same : S → S → Bool) (p : Packages N S) (root : Rules)
-    → Spelled same p c → ((r : Encoder.Rule N S) → rules_in c.stated.items r → IsRule same p root r) → IsProof same_atom same p root steps
+    → Spelled same p c → ((r : Encoder.Rule N S) → rules_in c.kinds.items r → IsRule same p root r) → IsProof same_atom same p root steps

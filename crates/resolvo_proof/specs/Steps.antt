@@ -25,8 +25,8 @@ rule_under condition (Shared r) = Encoder.Rule.shared r
 rule_under condition (Limit parent v None) = Encoder.Rule.limits_outside parent v
 rule_under condition (Limit parent v (Some s)) = Encoder.Rule.limits parent v s
 rule_under condition (Outside v s) = Encoder.Rule.is_out v s
-rule_under condition (Locked locked s) = Encoder.Rule.bars (Encoder.Bar.lock locked) s
-rule_under condition (Excluded s reason) = Encoder.Rule.bars (Encoder.Bar.word reason) s
+rule_under condition (Locked locked s) = Encoder.Rule.forbids (Encoder.ForbidReason.lock locked) s
+rule_under condition (Excluded s reason) = Encoder.Rule.forbids (Encoder.ForbidReason.word reason) s
 rule_under condition (Digit s place bit) = Encoder.Rule.has_digit s bit (digit place bit)
 rule_under condition (AtLeastOne n s) = Encoder.Rule.is_there n s
 

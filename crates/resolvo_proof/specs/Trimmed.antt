@@ -80,7 +80,7 @@ pub record IsTrimmedWith {N S : Type 0} (Wanted : ℕ → Type 0) (steps kept : 
   pub trimmed : IsTrimmedTo Wanted steps kept
   pub long : length numbers ≡ length steps
   pub before : (place number : ℕ) → slice_get numbers place ≡ Some number → (number ≤ length kept) × ((k had : ℕ) → slice_get trimmed.from k ≡ Some had → (k < number) ↔ (had < place))
-  pub stands : (place : ℕ) (old : ProofStep N S) → Wanted place → slice_get steps place ≡ Some old → (k : ℕ) × (step : ProofStep N S) × (slice_get numbers place ≡ Some k) × (slice_get kept k ≡ Some step) × IsRenumbered trimmed.from place old step
+  pub present : (place : ℕ) (old : ProofStep N S) → Wanted place → slice_get steps place ≡ Some old → (k : ℕ) × (step : ProofStep N S) × (slice_get numbers place ≡ Some k) × (slice_get kept k ≡ Some step) × IsRenumbered trimmed.from place old step
 
 -- a later step names each but the last
 abbrev pub AreNamed : {N S : Type 0} → List (ProofStep N S) → Type 0

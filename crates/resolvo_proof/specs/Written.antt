@@ -8,10 +8,10 @@ use Rattle.resolvo_sat.specs.declared.state.SatClause.{SatClause}
 use Rattle.resolvo_soundness.specs.Numbered.{meanings}
 use Rattle.resolvo_state.specs.declared.atom.ProofAtom.{ProofAtom}
 use Rattle.resolvo_state.specs.declared.solver_state.SolverState.{SolverState}
-use Rattle.resolvo_state.specs.declared.clause_kind.Stated.{Stated}
-use Rattle.resolvo_state.specs.declared.clause_kind.Stated.TheVariants as Says
+use Rattle.resolvo_state.specs.declared.clause_kind.ClauseKind.{ClauseKind}
+use Rattle.resolvo_state.specs.declared.clause_kind.ClauseKind.TheVariants as Kind
 use Rattle.resolvo_state.specs.Atoms.{origin}
-use Rattle.resolvo_state.specs.Statements.{stated_at}
+use Rattle.resolvo_state.specs.ClauseKinds.{kind_at}
 use Rattle.resolvo_proof.specs.declared.step.ProofRule.{ProofRule}
 use Rattle.resolvo_proof.specs.declared.step.ProofRule.TheVariants.{Needs, GateOf, Shared, Limit, Outside, Locked, Excluded, Digit, AtLeastOne}
 use Rattle.resolvo_proof.specs.declared.step.ProofLiteral.{ProofLiteral}
@@ -35,19 +35,19 @@ places [] = []
 places (c ∷ cs) = with_place c.0 (places cs)
 
 -- the rule that is written for a kind; the root's clause and a learnt one have none
-abbrev pub IsTold : {N S : Type 0} → Stated N S → Option (ProofRule N S) → Type 0
-IsTold Says.Root told = told ≡ None
-IsTold (Says.Needs parent need case) told = (copy : Vec VersionSetId Global) × (told ≡ Some (Needs parent need.requirement copy)) × (copy.items ≡ case.items)
-IsTold (Says.Gated s r) told = told ≡ Some (GateOf s r)
-IsTold (Says.Shared r) told = told ≡ Some (Shared r)
-IsTold (Says.Limits parent v s) told = told ≡ Some (Limit parent v (Some s))
-IsTold (Says.LimitsOutside parent v) told = told ≡ Some (Limit parent v None)
-IsTold (Says.IsOut v s) told = told ≡ Some (Outside v s)
-IsTold (Says.Locked locked s) told = told ≡ Some (Locked locked s)
-IsTold (Says.Excluded s reason) told = told ≡ Some (Excluded s reason)
-IsTold (Says.Digit n s place bit) told = told ≡ Some (Digit s place bit)
-IsTold (Says.IsThere n s) told = told ≡ Some (AtLeastOne n s)
-IsTold Says.Learnt told = told ≡ None
+abbrev pub IsRuleOf : {N S : Type 0} → ClauseKind N S → Option (ProofRule N S) → Type 0
+IsRuleOf Kind.Root encoded = encoded ≡ None
+IsRuleOf (Kind.Needs parent need case) encoded = (copy : Vec VersionSetId Global) × (encoded ≡ Some (Needs parent need.requirement copy)) × (copy.items ≡ case.items)
+IsRuleOf (Kind.Gated s r) encoded = encoded ≡ Some (GateOf s r)
+IsRuleOf (Kind.Shared r) encoded = encoded ≡ Some (Shared r)
+IsRuleOf (Kind.Limits parent v s) encoded = encoded ≡ Some (Limit parent v (Some s))
+IsRuleOf (Kind.LimitsOutside parent v) encoded = encoded ≡ Some (Limit parent v None)
+IsRuleOf (Kind.IsOut v s) encoded = encoded ≡ Some (Outside v s)
+IsRuleOf (Kind.Locked locked s) encoded = encoded ≡ Some (Locked locked s)
+IsRuleOf (Kind.Excluded s reason) encoded = encoded ≡ Some (Excluded s reason)
+IsRuleOf (Kind.Digit n s place bit) encoded = encoded ≡ Some (Digit s place bit)
+IsRuleOf (Kind.IsThere n s) encoded = encoded ≡ Some (AtLeastOne n s)
+IsRuleOf Kind.Learnt encoded = encoded ≡ None
 
 -- the step is derived, with the meanings of the literals and the places of the causes
 pub record IsDerivation {N S : Type 0} (atoms : List (ProofAtom N S)) (spelled : List Signed) (from : List ClauseId) (step : ProofStep N S) : Type 0 where
@@ -58,16 +58,16 @@ pub record IsDerivation {N S : Type 0} (atoms : List (ProofAtom N S)) (spelled :
   pub read : causes.items ≡ places from
 
 -- the step is the rule that the clause encodes, or is derived as the clause was
-abbrev pub IsStepOf : {N S : Type 0} → List (ProofAtom N S) → Stated N S → SatClause → ProofStep N S → Type 0
-IsStepOf {N} {S} atoms stated clause step = ((r : ProofRule N S) × (step ≡ Rule r) × IsTold stated (Some r)) ⊎ ((stated ≡ Says.Learnt) × IsDerivation atoms clause.literals.items clause.causes.items step)
+abbrev pub IsStepOf : {N S : Type 0} → List (ProofAtom N S) → ClauseKind N S → SatClause → ProofStep N S → Type 0
+IsStepOf {N} {S} atoms kinds clause step = ((r : ProofRule N S) × (step ≡ Rule r) × IsRuleOf kinds (Some r)) ⊎ ((kinds ≡ Kind.Learnt) × IsDerivation atoms clause.literals.items clause.causes.items step)
 
 -- the step of the clause of this number
 pub record IsStepAt {N S : Type 0} (c : SolverState N S) (n : ℕ) (step : ProofStep N S) : Type 0 where
-  pub stated : Stated N S
+  pub kinds : ClauseKind N S
   pub clause : SatClause
-  pub states : stated_at c.stated.items n ≡ Some stated
-  pub stands : slice_get c.search.clauses n ≡ Some clause
-  pub writes : IsStepOf c.atoms.keys stated clause step
+  pub kind_is : kind_at c.kinds.items n ≡ Some kinds
+  pub present : slice_get c.search.clauses n ≡ Some clause
+  pub writes : IsStepOf c.atoms.keys kinds clause step
 
 -- the steps of the clauses after the root's, in their order
 pub record AreSteps {N S : Type 0} (c : SolverState N S) (steps : List (ProofStep N S)) : Type 0 where

@@ -8,13 +8,13 @@ ghost use Rattle.resolvo_soundness.specs.Numbered.{meanings};
 ghost use Rattle.resolvo_state.specs.Atoms.{origin};
 ghost use Rattle.resolvo_state.specs.SolverState.{IsCoding};
 ghost use Rattle.resolvo_proof.specs.Steps.{literal_in};
-ghost use Rattle.resolvo_proof.specs.Written.{places, atoms_of, IsTold, IsDerivation, IsStepAt};
+ghost use Rattle.resolvo_proof.specs.Written.{places, atoms_of, IsRuleOf, IsDerivation, IsStepAt};
 
 use crate::step::{ProofLiteral, ProofRule, ProofStep};
 use resolvo_pool_core::id::{ClauseId, Exact, VariableId};
 use resolvo_pool_core::want::R;
 use resolvo_state::atom::ProofAtom;
-use resolvo_state::clause_kind::Stated;
+use resolvo_state::clause_kind::ClauseKind;
 use resolvo_state::solver_state::SolverState;
 use resolvo_store_core::literal::Literal;
 use std::alloc::Global;
@@ -33,7 +33,7 @@ pub(crate) fn write_step<N: Copy + Exact + Hash + Debug, S: Copy + Exact + Hash 
     ensures step { IfOk result (IsStepAt coding.now number) }
     ensures refusal { IsOkUnless result Memory }
 {
-    match write_rule(&coding.stated[number])? {
+    match write_rule(&coding.kinds[number])? {
         Some(rule) => Ok(ProofStep::Rule(rule)),
         None => {
             let clause = &coding.search.clauses.iter().rest[number];
@@ -113,29 +113,29 @@ fn write_causes(alloc: Global, causes: &[ClauseId]) -> R<Vec<usize>>
 
 /// The rule that a clause encodes. The root's clause and a learnt one encode none.
 fn write_rule<N: Copy + Exact + Hash + Debug, S: Copy + Exact + Hash + Debug>(
-    kind: &Stated<N, S>,
+    kind: &ClauseKind<N, S>,
 ) -> R<Option<ProofRule<N, S>>>
-    ensures told { IfOk result (IsTold kind.now) }
+    ensures encoded { IfOk result (IsRuleOf kind.now) }
     ensures refusal { IsOkUnless result Memory }
 {
     let rule = match kind {
-        Stated::Root | Stated::Learnt => return Ok(None),
-        Stated::Needs { parent, need, case } => ProofRule::Needs {
+        ClauseKind::Root | ClauseKind::Learnt => return Ok(None),
+        ClauseKind::Needs { parent, need, case } => ProofRule::Needs {
             parent: *parent,
             requirement: need.requirement,
             case: case.clone()?,
         },
-        Stated::Gated {
+        ClauseKind::Gated {
             solvable,
             requirement,
         } => ProofRule::GateOf {
             parent: *solvable,
             requirement: *requirement,
         },
-        Stated::Shared { requirement } => ProofRule::Shared {
+        ClauseKind::Shared { requirement } => ProofRule::Shared {
             requirement: *requirement,
         },
-        Stated::Limits {
+        ClauseKind::Limits {
             parent,
             version_set,
             barred,
@@ -144,7 +144,7 @@ fn write_rule<N: Copy + Exact + Hash + Debug, S: Copy + Exact + Hash + Debug>(
             version_set: *version_set,
             barred: Some(*barred),
         },
-        Stated::LimitsOutside {
+        ClauseKind::LimitsOutside {
             parent,
             version_set,
         } => ProofRule::Limit {
@@ -152,22 +152,22 @@ fn write_rule<N: Copy + Exact + Hash + Debug, S: Copy + Exact + Hash + Debug>(
             version_set: *version_set,
             barred: None,
         },
-        Stated::IsOut {
+        ClauseKind::IsOut {
             version_set,
             solvable,
         } => ProofRule::Outside {
             version_set: *version_set,
             solvable: *solvable,
         },
-        Stated::Locked { locked, barred } => ProofRule::Locked {
+        ClauseKind::Locked { locked, barred } => ProofRule::Locked {
             locked: *locked,
             barred: *barred,
         },
-        Stated::Excluded { solvable, reason } => ProofRule::Excluded {
+        ClauseKind::Excluded { solvable, reason } => ProofRule::Excluded {
             solvable: *solvable,
             reason: *reason,
         },
-        Stated::Digit {
+        ClauseKind::Digit {
             solvable,
             place,
             bit,
@@ -177,7 +177,7 @@ fn write_rule<N: Copy + Exact + Hash + Debug, S: Copy + Exact + Hash + Debug>(
             place: *place,
             bit: *bit,
         },
-        Stated::IsThere { name, solvable } => ProofRule::AtLeastOne {
+        ClauseKind::IsThere { name, solvable } => ProofRule::AtLeastOne {
             name: *name,
             solvable: *solvable,
         },

@@ -17,16 +17,16 @@ use Rattle.std.proofs.lemmas.Bool.{and_parts}
 
 -- the elements read so far, and the rest
 abbrev pub with_literals : List Literal → Option (List Literal) → Option (List Literal)
-with_literals front read = read >>= λ ls. Some (front ++ ls)
+with_literals prefix read = read >>= λ ls. Some (prefix ++ ls)
 
 abbrev pub with_numbers : List ℕ → Option (List ℕ) → Option (List ℕ)
-with_numbers front read = read >>= λ ns. Some (front ++ ns)
+with_numbers prefix read = read >>= λ ns. Some (prefix ++ ns)
 
 -- ---- numbers
 
-pub no_number : (e : LineFault) (front : List ℕ) (w : List ℕ) (ws : Words) (total : Option (List ℕ)) → with_numbers front (numbers_in (w ∷ ws)) ≡ total → Fails e (number_in w) → Fails e total
-no_number Memory front w ws total so_far h = tt
-no_number Fault front w ws total so_far h = sym so_far ∙ rw h refl
+pub no_number : (e : LineFault) (prefix : List ℕ) (w : List ℕ) (ws : Words) (total : Option (List ℕ)) → with_numbers prefix (numbers_in (w ∷ ws)) ≡ total → Fails e (number_in w) → Fails e total
+no_number Memory prefix w ws total so_far h = tt
+no_number Fault prefix w ws total so_far h = sym so_far ∙ rw h refl
 
 -- bytes that are left have a word
 pub no_word : (e : LineFault) (rest : List ℕ) (total : Option (List ℕ)) → 0 < length rest → Fails e (word_at (words_in rest)) → Fails e total

@@ -52,8 +52,8 @@ named cs = map CatalogueLine cs
 abbrev asked : List ℕ → List ReportLine
 asked rs = map RequestLine rs
 
-abbrev told : List (List ℕ) → List ReportLine
-told ms = map Message ms
+abbrev messages : List (List ℕ) → List ReportLine
+messages ms = map Message ms
 
 pub push_catalogue : (cs rs : List ℕ) (ss : List Step) (ms : List (List ℕ)) (n : ℕ) (q : Part) → next_part (part_of (Refused cs rs ss ms)) (CatalogueLine n) ≡ Some q → Grows (Refused cs rs ss ms) (CatalogueLine n) (Refused (cs ++ n ∷ []) rs ss ms)
 push_catalogue cs [] [] [] n q e =
@@ -91,9 +91,9 @@ push_refused_step cs rs (t ∷ ss) [] n s q e =
     let g = cond_some (n == length (t ∷ ss) + 1) (part.RefusedSteps n) q e in
     let is : n ≡ length (t ∷ ss) + 1 = eqb-true n (length (t ∷ ss) + 1) g.0 in
     let more : numbered 1 ((t ∷ ss) ++ s ∷ []) ≡ numbered 1 (t ∷ ss) ++ Numbered n s ∷ [] = numbered_push 1 (t ∷ ss) s ∙ ap (λ (k : ℕ). numbered 1 (t ∷ ss) ++ Numbered k s ∷ []) (omega (arith, is)) in
-    let front : List ReportLine = named cs ++ asked rs in
+    let prefix : List ReportLine = named cs ++ asked rs in
     record {
-      lines = ap (λ (x : List ReportLine). RefusedHead ∷ x) (append-nil (front ++ numbered 1 ((t ∷ ss) ++ s ∷ [])) ∙ ap (λ (x : List ReportLine). front ++ x) more ∙ sym (append_assoc front (numbered 1 (t ∷ ss)) (Numbered n s ∷ [])) ∙ ap (λ (x : List ReportLine). x ++ Numbered n s ∷ []) (sym (append-nil (front ++ numbered 1 (t ∷ ss)))));
+      lines = ap (λ (x : List ReportLine). RefusedHead ∷ x) (append-nil (prefix ++ numbered 1 ((t ∷ ss) ++ s ∷ [])) ∙ ap (λ (x : List ReportLine). prefix ++ x) more ∙ sym (append_assoc prefix (numbered 1 (t ∷ ss)) (Numbered n s ∷ [])) ∙ ap (λ (x : List ReportLine). x ++ Numbered n s ∷ []) (sym (append-nil (prefix ++ numbered 1 (t ∷ ss)))));
       placed = e ∙ sym (ap (λ (p : Part). Some p) g.1) ∙ ap (λ (k : ℕ). Some (part.RefusedSteps k)) (omega (arith, is, length-append (t ∷ ss) (s ∷ [])));
     }
 push_refused_step cs rs ss (m ∷ ms) n s q e = absurd (none_some q e)
@@ -103,8 +103,8 @@ push_message cs [] [] [] m q e = absurd (none_some q e)
 push_message cs (r ∷ rs) [] [] m q e = absurd (none_some q e)
 push_message cs rs (s ∷ ss) [] m q e = record { lines = ap (λ (x : List ReportLine). RefusedHead ∷ x) (ap (λ (x : List ReportLine). x ++ Message m ∷ []) (sym (append-nil ((named cs ++ asked rs) ++ numbered 1 (s ∷ ss))))); placed = refl }
 push_message cs rs ss (k ∷ ms) m q e =
-    let front : List ReportLine = (named cs ++ asked rs) ++ numbered 1 ss in
-    record { lines = ap (λ (x : List ReportLine). RefusedHead ∷ x) (ap (λ (x : List ReportLine). front ++ x) (map-append Message (k ∷ ms) (m ∷ [])) ∙ sym (append_assoc front (told (k ∷ ms)) (Message m ∷ []))); placed = refl }
+    let prefix : List ReportLine = (named cs ++ asked rs) ++ numbered 1 ss in
+    record { lines = ap (λ (x : List ReportLine). RefusedHead ∷ x) (ap (λ (x : List ReportLine). prefix ++ x) (map-append Message (k ∷ ms) (m ∷ [])) ∙ sym (append_assoc prefix (messages (k ∷ ms)) (Message m ∷ []))); placed = refl }
 
 -- ---- no line of the other report
 

@@ -8,4 +8,4 @@ pub mod StreamLemmas
 pub mod DraftLemmas
 pub mod WriteLemmas
 pub mod ReportLaws
-pub mod TellLemmas
+pub mod ShownLemmas

@@ -21,7 +21,7 @@ use Rattle.resolvo_text.proofs.AlternativeLemmas.{bind_some}
 use Rattle.resolvo_text.proofs.PartLaws.{word_takes, skip_takes, skip_is, no_skip, chosen, BeginsNot}
 use Rattle.resolvo_report.specs.Value.{Atom, Chosen, AnyOf, SharedBy, OutsideOf, BitOf, Literal, Step, Derive}
 use Rattle.resolvo_report.specs.Text.{version_text, atom_words, atom_text, signed, literal_words, literal_text, clause_text, IsBit, AreAlternatives, IsAtom, are_rising, are_once, AreLiterals, AreNumbers}
-use Rattle.resolvo_report.specs.Parse.{pair_at, behind, behind_at, whole, version_in, bit_at, specs_at, atom_said, atom_in, literal_in, literal_behind, literals_behind, text_behind, atom_part, are_in_order, is_semicolon, pieces_in, literals_in, numbers_in, some_of, causes_in, causes_behind, is_close, derived_in}
+use Rattle.resolvo_report.specs.Parse.{pair_at, behind, behind_at, whole, version_in, bit_at, specs_at, atom_by, atom_in, literal_in, literal_behind, literals_behind, text_behind, atom_part, are_in_order, is_semicolon, pieces_in, literals_in, numbers_in, some_of, causes_in, causes_behind, is_close, derived_in}
 use Rattle.resolvo_report.proofs.TextLemmas.{join_spaced}
 use Rattle.resolvo_report.proofs.FormLaws.{is_plain, Plain, ArePlain, number_is_plain, version_is_plain, Kind, pair_law, behind_law, whole_kind, bit_law, name_law, spec_law, specs_law, version_in_takes, version_in_again, behind_again}
 
@@ -56,15 +56,15 @@ bit_atom : Kind (whole (pair_at bit_at (behind_at (codes "of") reason_at)) (λ x
 bit_atom = whole_kind (λ (x : ℕ × List ℕ). BitOf x.0 x.1) (pair_law bit_law (behind_law (codes "of") refl name_law) (λ y rest fits ends. tt)) tt
 
 -- the keyword, and words of a kind that make an atom
-abbrev AtomSaid : List ℕ → Words → Atom → Type 0
-AtomSaid k words a = (k ∷ words ≡ atom_words a) × IsAtom a
+abbrev AtomBy : List ℕ → Words → Atom → Type 0
+AtomBy k words a = (k ∷ words ≡ atom_words a) × IsAtom a
 
 of_kind : {X : Type 0} {read : Words → Option Atom} {make : X → Atom} {spell : X → Words} {Fits : X → Type 0} → Kind read make spell Fits → (keyword k : List ℕ) (words : Words) (a : Atom)
-    → ((x : X) → Fits x → (keyword ∷ spell x ≡ atom_words (make x)) × IsAtom (make x)) → k ≡ keyword → read words ≡ Some a → AtomSaid k words a
+    → ((x : X) → Fits x → (keyword ∷ spell x ≡ atom_words (make x)) × IsAtom (make x)) → k ≡ keyword → read words ≡ Some a → AtomBy k words a
 of_kind {X} {read} {make} {spell} {Fits} kind keyword k words a made is e =
     let t = kind.takes words a e in
     let m = made t.0 t.2 in
-    subst (AtomSaid k words) t.3 (ap (λ (w : List ℕ). w ∷ words) is ∙ ap (λ (ws : Words). keyword ∷ ws) t.1 ∙ m.0, m.1)
+    subst (AtomBy k words) t.3 (ap (λ (w : List ℕ). w ∷ words) is ∙ ap (λ (ws : Words). keyword ∷ ws) t.1 ∙ m.0, m.1)
 
 pub is_keyword : (k keyword : List ℕ) → bytes_eq k keyword ≡ true → k ≡ keyword
 is_keyword k keyword e = (bytes_eq-Decides k keyword).0 e
@@ -73,9 +73,9 @@ pub at_end : (words : Words) (u : Unit {0}) → end_at words ≡ Some u → word
 at_end [] u e = refl
 at_end (w ∷ ws) u e = absurd cc
 
-atom_said_takes : (k : List ℕ) (words : Words) (a : Atom) → atom_said k words ≡ Some a → AtomSaid k words a
-unfolding atom_said
-atom_said_takes k words a e =
+atom_by_takes : (k : List ℕ) (words : Words) (a : Atom) → atom_by k words ≡ Some a → AtomBy k words a
+unfolding atom_by
+atom_by_takes k words a e =
     elim (chosen (bytes_eq k (codes "any")) _ _ _ e) [
       | inl h ↦ of_kind any_atom (codes "any") k words a (λ x fits. (refl, fits)) (is_keyword k (codes "any") h.0) h.1
       | inr e1 ↦ elim (chosen (bytes_eq k (codes "shared")) _ _ _ e1.1) [
@@ -88,7 +88,7 @@ atom_said_takes k words a e =
                 let p = bind_some (version_in k) (λ v. end_at words >>= λ _. Some (Chosen v)) a e4.1 in
                 let q = bind_some (end_at words) (λ _. Some (Chosen p.0)) a p.2 in
                 let version = version_in_takes k p.0 p.1 in
-                subst (AtomSaid k words) (same_Some _ _ q.2) (ap (λ (w : List ℕ). w ∷ words) version.0 ∙ ap (λ (ws : Words). version_text p.0 ∷ ws) (at_end words q.0 q.1), version.1)
+                subst (AtomBy k words) (same_Some _ _ q.2) (ap (λ (w : List ℕ). w ∷ words) version.0 ∙ ap (λ (ws : Words). version_text p.0 ∷ ws) (at_end words q.0 q.1), version.1)
           ]
         ]
       ]
@@ -133,13 +133,13 @@ abbrev rest_of : Words → Words
 rest_of [] = []
 rest_of (w ∷ ws) = ws
 
-atom_said_again : (a : Atom) → IsAtom a → atom_said (first_of (atom_words a)) (rest_of (atom_words a)) ≡ Some a
-unfolding atom_said
-atom_said_again (Chosen v) fits = rw (no_keyword (codes "any") v fits no_version_any, no_keyword (codes "shared") v fits no_version_shared, no_keyword (codes "outside") v fits no_version_outside, no_keyword (codes "bit") v fits no_version_bit, version_in_again v fits) refl
-atom_said_again (AnyOf name) fits = any_atom.again name fits
-atom_said_again (SharedBy ss) fits = shared_atom.again ss fits
-atom_said_again (OutsideOf s) fits = outside_atom.again s fits
-atom_said_again (BitOf bit name) fits = bit_atom.again (bit, name) fits
+atom_by_again : (a : Atom) → IsAtom a → atom_by (first_of (atom_words a)) (rest_of (atom_words a)) ≡ Some a
+unfolding atom_by
+atom_by_again (Chosen v) fits = rw (no_keyword (codes "any") v fits no_version_any, no_keyword (codes "shared") v fits no_version_shared, no_keyword (codes "outside") v fits no_version_outside, no_keyword (codes "bit") v fits no_version_bit, version_in_again v fits) refl
+atom_by_again (AnyOf name) fits = any_atom.again name fits
+atom_by_again (SharedBy ss) fits = shared_atom.again ss fits
+atom_by_again (OutsideOf s) fits = outside_atom.again s fits
+atom_by_again (BitOf bit name) fits = bit_atom.again (bit, name) fits
 
 atom_begins : (a : Atom) → atom_words a ≡ first_of (atom_words a) ∷ rest_of (atom_words a)
 atom_begins (Chosen v) = refl
@@ -151,13 +151,13 @@ atom_begins (BitOf bit name) = refl
 atom_takes : (words : Words) (a : Atom) → atom_in words ≡ Some a → (words ≡ atom_words a) × IsAtom a
 unfolding atom_in
 atom_takes words a e =
-    let p = bind_some (word_at words) (λ x. atom_said x.0 x.1) a e in
-    let t = atom_said_takes p.0.0 p.0.1 a p.2 in
+    let p = bind_some (word_at words) (λ x. atom_by x.0 x.1) a e in
+    let t = atom_by_takes p.0.0 p.0.1 a p.2 in
     (word_takes words p.0.0 p.0.1 p.1 ∙ t.0, t.1)
 
 atom_again : (a : Atom) → IsAtom a → atom_in (atom_words a) ≡ Some a
 unfolding atom_in
-atom_again a fits = ap (λ (ws : Words). word_at ws >>= λ x. atom_said x.0 x.1) (atom_begins a) ∙ atom_said_again a fits
+atom_again a fits = ap (λ (ws : Words). word_at ws >>= λ x. atom_by x.0 x.1) (atom_begins a) ∙ atom_by_again a fits
 
 atom_are_plain : (a : Atom) → IsAtom a → ArePlain (atom_words a)
 atom_are_plain (Chosen v) fits = (version_is_plain v fits, tt)
@@ -514,19 +514,19 @@ derived_takes text s e =
     let spelled : text ≡ derived_text b.0 d.0 = parts ∙ ap (λ (xs : List ℕ). xs ++ 93 ∷ drop (a.0 + 1) text) literals.0 ∙ ap (λ (xs : List ℕ). opened_text b.0 ++ 93 ∷ xs) causes.0 ∙ sym (append_assoc (opened_text b.0) (codes "]") (32 ∷ by_text d.0)) ∙ ap (λ (xs : List ℕ). xs ++ 32 ∷ by_text d.0) (closed b.0) in
     (b.0, d.0, sym (same_Some _ _ d.2), spelled, literals.1, causes.1)
 
-close_at : (front rest : List ℕ) → NoClose front → position is_close (front ++ 93 ∷ rest) ≡ Some (length front)
-close_at front rest none =
-    let each : All (λ b. is_close b ≡ false) front = All-from_recursion _ front none in
-    let at : position_or_len is_close (front ++ 93 ∷ rest) ≡ length front = position_or_len_is is_close (front ++ 93 ∷ rest) (length front) 0 (omega (arith, length-append front (93 ∷ rest)))
-    (λ k lt. rw (get_or_append_left front (93 ∷ rest) 0 k lt) (each k 0 lt))
-    (λ lt. rw (get_or_at front 93 rest 0 (length front) refl) refl) in
-    rw (at, lt-ltb (length front) (length (front ++ 93 ∷ rest)) (omega (arith, length-append front (93 ∷ rest)))) refl
+close_at : (prefix rest : List ℕ) → NoClose prefix → position is_close (prefix ++ 93 ∷ rest) ≡ Some (length prefix)
+close_at prefix rest none =
+    let each : All (λ b. is_close b ≡ false) prefix = All-from_recursion _ prefix none in
+    let at : position_or_len is_close (prefix ++ 93 ∷ rest) ≡ length prefix = position_or_len_is is_close (prefix ++ 93 ∷ rest) (length prefix) 0 (omega (arith, length-append prefix (93 ∷ rest)))
+    (λ k lt. rw (get_or_append_left prefix (93 ∷ rest) 0 k lt) (each k 0 lt))
+    (λ lt. rw (get_or_at prefix 93 rest 0 (length prefix) refl) refl) in
+    rw (at, lt-ltb (length prefix) (length (prefix ++ 93 ∷ rest)) (omega (arith, length-append prefix (93 ∷ rest)))) refl
 
 pub derived_again : (ls : List Literal) (ns : List ℕ) → AreLiterals ls → AreNumbers ns → derived_in (derived_text ls ns) ≡ Some (Derive ls ns)
 unfolding derived_in
 derived_again ls ns all numbers =
-    let front = opened_text ls in
+    let prefix = opened_text ls in
     let rest = 32 ∷ by_text ns in
-    let parts : derived_text ls ns ≡ front ++ 93 ∷ rest = ap (λ (xs : List ℕ). xs ++ 32 ∷ by_text ns) (sym (closed ls)) ∙ append_assoc (opened_text ls) (codes "]") (32 ∷ by_text ns) in
+    let parts : derived_text ls ns ≡ prefix ++ 93 ∷ rest = ap (λ (xs : List ℕ). xs ++ 32 ∷ by_text ns) (sym (closed ls)) ∙ append_assoc (opened_text ls) (codes "]") (32 ∷ by_text ns) in
     ap (λ (text : List ℕ). position is_close text >>= λ at. literals_in (take at text) >>= λ ls. causes_behind (drop (at + 1) text) >>= λ ns. Some (Derive ls ns)) parts
     ∙ rw (close_at (opened_text ls) (32 ∷ by_text ns) (opened_no_close ls all.each), take_at (opened_text ls) (93 ∷ 32 ∷ by_text ns) (length (opened_text ls)) refl, sym (drop-drop 1 (length (opened_text ls)) (opened_text ls ++ 93 ∷ 32 ∷ by_text ns)), drop_at (opened_text ls) (93 ∷ 32 ∷ by_text ns) (length (opened_text ls)) refl, literals_again ls all, causes_behind_again ns numbers) refl

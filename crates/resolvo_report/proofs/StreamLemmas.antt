@@ -207,7 +207,7 @@ read_fails Reader known left after lines r failures failures_before failures_now
       let c = consumed known left (lines_text lines) so_far.bytes text e in
       let d = h.1 c.0 c.1 in
       record {
-        came = lines_text lines ++ d.0;
+        received = lines_text lines ++ d.0;
         rest = d.1;
         left = d.2;
         parts = c.2 ∙ ap (λ (bs : List ℕ). lines_text lines ++ bs) d.3 ∙ sym (append_assoc (lines_text lines) d.0 d.1);
@@ -217,14 +217,14 @@ read_fails Reader known left after lines r failures failures_before failures_now
 read_fails TooLong known left after lines r failures failures_before failures_now interruptions so_far same h = λ text e.
     let c = consumed known left (lines_text lines) so_far.bytes text e in
     let d = h c.0 c.1 in
-    let front : List ℕ = take r.lines.room c.0 in
+    let prefix : List ℕ = take r.lines.room c.0 in
     let rest : List ℕ = drop r.lines.room c.0 in
-    let parts : text ≡ (lines_text lines ++ front) ++ rest = c.2 ∙ ap (λ (bs : List ℕ). lines_text lines ++ bs) (sym (take-append-drop r.lines.room c.0)) ∙ sym (append_assoc (lines_text lines) front rest) in (
-      lines_text lines ++ front,
+    let parts : text ≡ (lines_text lines ++ prefix) ++ rest = c.2 ∙ ap (λ (bs : List ℕ). lines_text lines ++ bs) (sym (take-append-drop r.lines.room c.0)) ∙ sym (append_assoc (lines_text lines) prefix rest) in (
+      lines_text lines ++ prefix,
       rest,
       parts,
-      omega (arith, so_far.used, length-append (lines_text lines) front, length-take r.lines.room c.0, d.0),
+      omega (arith, so_far.used, length-append (lines_text lines) prefix, length-take r.lines.room c.0, d.0),
       omega (arith, length-drop r.lines.room c.0, d.0),
-      record { above = lines; begun = front; part = r.part; parts = refl; good = so_far.good; unfinished = d.1 },
+      record { above = lines; begun = prefix; part = r.part; parts = refl; good = so_far.good; unfinished = d.1 },
     )
 read_fails Memory known left after lines r failures failures_before failures_now interruptions so_far same h = tt

@@ -9,7 +9,7 @@ use Rattle.resolvo_text.specs.View.{spec_of, specs_of}
 use Rattle.resolvo_report.specs.declared.step.Literal as code_literal
 use Rattle.resolvo_report.specs.Text.{clause_text, literal_text}
 use Rattle.resolvo_report.specs.View.{literal_of, literals_of}
-use Rattle.resolvo_report.specs.Pieces.{spaced, barred, parted, causes_text}
+use Rattle.resolvo_report.specs.Pieces.{spaced, with_bars, parted, causes_text}
 
 -- the first word, and each other behind a space
 pub join_spaced : (w : List ℕ) (ws : Words) → join_with_byte 32 (w ∷ ws) ≡ w ++ spaced ws
@@ -23,14 +23,14 @@ spaced-append (x ∷ xs) ys = ap (λ (t : List ℕ). 32 ∷ (x ++ t)) (spaced-ap
 spaced_spec : (s : Spec) → spaced (spec_words s) ≡ 32 ∷ join_with_byte 32 (spec_words s)
 spaced_spec s = ap (λ (t : List ℕ). 32 ∷ t) (sym (join_spaced s.name (span_words s.span)))
 
-pub alternatives_spaced : (s : code.Spec) (ss : List code.Spec) → spaced (alternatives_words (specs_of (s ∷ ss))) ≡ 32 ∷ join_with_byte 32 (spec_words (spec_of s)) ++ barred ss
+pub alternatives_spaced : (s : code.Spec) (ss : List code.Spec) → spaced (alternatives_words (specs_of (s ∷ ss))) ≡ 32 ∷ join_with_byte 32 (spec_words (spec_of s)) ++ with_bars ss
 alternatives_spaced s [] = spaced_spec (spec_of s) ∙ sym (append-nil (32 ∷ join_with_byte 32 (spec_words (spec_of s))))
 alternatives_spaced s (t ∷ ss) =
     let others : List ℕ = spaced (alternatives_words (specs_of (t ∷ ss))) in
     let first : List ℕ = 32 ∷ join_with_byte 32 (spec_words (spec_of s)) in
     let parts : spaced (alternatives_words (specs_of (s ∷ t ∷ ss))) ≡ spaced (spec_words (spec_of s)) ++ (codes " |" ++ others) = spaced-append (spec_words (spec_of s)) (codes "|" ∷ alternatives_words (specs_of (t ∷ ss))) in
     let begins : spaced (spec_words (spec_of s)) ++ (codes " |" ++ others) ≡ first ++ (codes " |" ++ others) = ap (λ (x : List ℕ). x ++ (codes " |" ++ others)) (spaced_spec (spec_of s)) in
-    let ends : first ++ (codes " |" ++ others) ≡ first ++ (codes " |" ++ (32 ∷ join_with_byte 32 (spec_words (spec_of t)) ++ barred ss)) = ap (λ (x : List ℕ). first ++ (codes " |" ++ x)) (alternatives_spaced t ss) in
+    let ends : first ++ (codes " |" ++ others) ≡ first ++ (codes " |" ++ (32 ∷ join_with_byte 32 (spec_words (spec_of t)) ++ with_bars ss)) = ap (λ (x : List ℕ). first ++ (codes " |" ++ x)) (alternatives_spaced t ss) in
     parts ∙ begins ∙ ends
 
 spaced_causes : (ns : List ℕ) → spaced (map decimal ns) ≡ causes_text ns

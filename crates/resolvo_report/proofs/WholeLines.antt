@@ -16,7 +16,7 @@ use Rattle.resolvo_text.specs.Parse.{is_space}
 use Rattle.resolvo_text.proofs.PartLaws.{skip_is, no_skip}
 use Rattle.resolvo_report.specs.Value.{Place, Literal, Step, Need, Gate, Shared, LimitBars, Limit, Outside, Lock, Exclude, Unknown, Digit, Any, Derive, Entry, Wished, LeftOut, ReportLine, InstallHead, RefusedHead, Answer, CatalogueLine, RequestLine, Numbered, Message}
 use Rattle.resolvo_report.specs.Text.{version_text, place_text, literal_text, literal_words, clause_text, step_words, step_text, answer_words, line_text, IsAtom, IsStep, IsAnswer, HasText}
-use Rattle.resolvo_report.specs.Parse.{version_in, entry_in, numbered_in, step_said, line_said, is_message, line_read}
+use Rattle.resolvo_report.specs.Parse.{version_in, entry_in, numbered_in, step_by, line_by, is_message, line_read}
 use Rattle.resolvo_report.proofs.FormLaws.{is_plain, Plain, ArePlain, number_is_plain, version_is_plain, number_law, place_law, version_in_again, behind_again}
 use Rattle.resolvo_report.proofs.StepLaws.{NoSpace-plain, split_plain, no_keyword, literal_are_plain, numbers_are_plain}
 use Rattle.resolvo_report.proofs.LineLaws.{step_again, left_out_kind, entry_kind, line_kind, need_kind, gate_kind, shared_kind, outside_kind, lock_kind, digit_kind, any_kind}
@@ -108,9 +108,9 @@ name_is_no_message (b ∷ bs) rest named =
 version_is_no_message : (v : Version) (rest : List ℕ) → IsVersion v → is_message (version_text v ++ rest) ≡ false
 version_is_no_message v rest fits = ap is_message (append_assoc (v.name ++ codes "=") (decimal v.number) rest ∙ append_assoc v.name (codes "=") (decimal v.number ++ rest)) ∙ name_is_no_message v.name (codes "=" ++ (decimal v.number ++ rest)) fits.name
 
-again_by : (text k : List ℕ) (ws : Words) (l : ReportLine) → is_message text ≡ false → slice_split is_space text ≡ k ∷ ws → line_said k ws ≡ Some l → line_read text ≡ Some l
+again_by : (text k : List ℕ) (ws : Words) (l : ReportLine) → is_message text ≡ false → slice_split is_space text ≡ k ∷ ws → line_by k ws ≡ Some l → line_read text ≡ Some l
 unfolding line_read
-again_by text k ws l other split said = rw (other, split) said
+again_by text k ws l other split parsed = rw (other, split) parsed
 
 no_step : version_in (codes "step") ≡ None
 unfolding version_in
@@ -136,9 +136,9 @@ no_request : version_in (codes "request") ≡ None
 unfolding version_in
 no_request = refl
 
-entry_said : (v : Version) (ws : Words) (l : ReportLine) → IsVersion v → entry_in v ws ≡ Some l → line_said (version_text v) ws ≡ Some l
-unfolding line_said
-entry_said v ws l fits said = rw (no_keyword (codes "step") v fits no_step, no_keyword (codes "install") v fits no_install, no_keyword (codes "refused") v fits no_refused, no_keyword (codes "left") v fits no_left, no_keyword (codes "catalogue") v fits no_catalogue, no_keyword (codes "request") v fits no_request, version_in_again v fits) said
+entry_by : (v : Version) (ws : Words) (l : ReportLine) → IsVersion v → entry_in v ws ≡ Some l → line_by (version_text v) ws ≡ Some l
+unfolding line_by
+entry_by v ws l fits parsed = rw (no_keyword (codes "step") v fits no_step, no_keyword (codes "install") v fits no_install, no_keyword (codes "refused") v fits no_refused, no_keyword (codes "left") v fits no_left, no_keyword (codes "catalogue") v fits no_catalogue, no_keyword (codes "request") v fits no_request, version_in_again v fits) parsed
 
 entry_again : (v : Version) (p : Place) (n : ℕ) → IsAnswer (Entry v p n) → entry_in v (codes "for" ∷ place_text p ∷ codes "line" ∷ decimal n ∷ []) ≡ Some (Answer (Entry v p n))
 unfolding entry_in
@@ -148,9 +148,9 @@ wished_again : (v : Version) (n : ℕ) → IsAnswer (Wished v n) → entry_in v 
 unfolding entry_in
 wished_again v n fits = rw (no_skip (codes "for") (codes "wished" ∷ codes "line" ∷ decimal n ∷ []) refl, behind_again (codes "wished") (codes "line" ∷ decimal n ∷ []), line_kind.again n fits.1) refl
 
-numbered_again : (n : ℕ) (s : Step) (k : List ℕ) (ws : Words) → n < 4294967296 → step_said k ws ≡ Some s → numbered_in (decimal n ∷ k ∷ ws) ≡ Some (Numbered n s)
+numbered_again : (n : ℕ) (s : Step) (k : List ℕ) (ws : Words) → n < 4294967296 → step_by k ws ≡ Some s → numbered_in (decimal n ∷ k ∷ ws) ≡ Some (Numbered n s)
 unfolding numbered_in
-numbered_again n s k ws small said = rw (number_law.again n (k ∷ ws) small tt, said) refl
+numbered_again n s k ws small parsed = rw (number_law.again n (k ∷ ws) small tt, parsed) refl
 
 numbered_split : (n : ℕ) (t : List ℕ) → n < 4294967296 → slice_split is_space (((codes "step " ++ decimal n) ++ codes " ") ++ t) ≡ codes "step" ∷ decimal n ∷ slice_split is_space t
 numbered_split n t small =
@@ -163,23 +163,23 @@ unfolding line_read
 message_again bytes = refl
 
 pub line_again : (l : ReportLine) → HasText l → line_read (line_text l) ≡ Some l
-unfolding line_said
+unfolding line_by
 line_again InstallHead fits = again_by (codes "install") (codes "install") [] InstallHead refl (split_plain (codes "install") [] (refl, tt)) refl
 line_again RefusedHead fits = again_by (codes "refused") (codes "refused") [] RefusedHead refl (split_plain (codes "refused") [] (refl, tt)) refl
 line_again (Answer (Entry v p n)) fits = again_by (line_text (Answer (Entry v p n))) (version_text v) (codes "for" ∷ place_text p ∷ codes "line" ∷ decimal n ∷ []) (Answer (Entry v p n))
     (version_is_no_message v (32 ∷ join_with_byte 32 (codes "for" ∷ place_text p ∷ codes "line" ∷ decimal n ∷ [])) fits.0)
     (split_plain (version_text v) (codes "for" ∷ place_text p ∷ codes "line" ∷ decimal n ∷ []) (version_is_plain v fits.0, (refl, (entry_kind v).plain (p, n) (fits.1, fits.2))))
-    (entry_said v (codes "for" ∷ place_text p ∷ codes "line" ∷ decimal n ∷ []) (Answer (Entry v p n)) fits.0 (entry_again v p n fits))
+    (entry_by v (codes "for" ∷ place_text p ∷ codes "line" ∷ decimal n ∷ []) (Answer (Entry v p n)) fits.0 (entry_again v p n fits))
 line_again (Answer (Wished v n)) fits = again_by (line_text (Answer (Wished v n))) (version_text v) (codes "wished" ∷ codes "line" ∷ decimal n ∷ []) (Answer (Wished v n))
     (version_is_no_message v (32 ∷ join_with_byte 32 (codes "wished" ∷ codes "line" ∷ decimal n ∷ [])) fits.0)
     (split_plain (version_text v) (codes "wished" ∷ codes "line" ∷ decimal n ∷ []) (version_is_plain v fits.0, (refl, line_kind.plain n fits.1)))
-    (entry_said v (codes "wished" ∷ codes "line" ∷ decimal n ∷ []) (Answer (Wished v n)) fits.0 (wished_again v n fits))
+    (entry_by v (codes "wished" ∷ codes "line" ∷ decimal n ∷ []) (Answer (Wished v n)) fits.0 (wished_again v n fits))
 line_again (Answer (LeftOut v n k)) fits = again_by (line_text (Answer (LeftOut v n k))) (codes "left") _ (Answer (LeftOut v n k)) refl (split_plain (codes "left") _ (refl, left_out_kind.plain (v, (n, k)) (fits.0, (fits.1, fits.2)))) (left_out_kind.again (v, (n, k)) (fits.0, (fits.1, fits.2)))
 line_again (CatalogueLine n) fits = again_by (line_text (CatalogueLine n)) (codes "catalogue") (codes "line" ∷ decimal n ∷ []) (CatalogueLine n) refl (split_plain (codes "catalogue") (codes "line" ∷ decimal n ∷ []) (refl, line_kind.plain n fits)) (rw (line_kind.again n fits) refl)
 line_again (RequestLine n) fits = again_by (line_text (RequestLine n)) (codes "request") (codes "line" ∷ decimal n ∷ []) (RequestLine n) refl (split_plain (codes "request") (codes "line" ∷ decimal n ∷ []) (refl, line_kind.plain n fits)) (rw (line_kind.again n fits) refl)
 line_again (Numbered n s) fits =
     let a = step_again s fits.1 in
-    again_by (line_text (Numbered n s)) (codes "step") (decimal n ∷ a.keyword ∷ a.words) (Numbered n s) refl (numbered_split n (step_text s) fits.0 ∙ ap (λ (ws : Words). codes "step" ∷ decimal n ∷ ws) a.split) (numbered_again n s a.keyword a.words fits.0 a.said)
+    again_by (line_text (Numbered n s)) (codes "step") (decimal n ∷ a.keyword ∷ a.words) (Numbered n s) refl (numbered_split n (step_text s) fits.0 ∙ ap (λ (ws : Words). codes "step" ∷ decimal n ∷ ws) a.split) (numbered_again n s a.keyword a.words fits.0 a.parsed)
 line_again (Message bytes) fits = message_again bytes
 
 -- a text spells one line at most

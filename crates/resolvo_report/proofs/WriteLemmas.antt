@@ -27,10 +27,10 @@ stops_there a b fa fb i ea eb first rest all p is = ((first, rest, is, p.0), λ 
 -- a stop after some text
 pub stops_later : (e : ReportWriteFault) (a b c : Option (List ℕ)) (fa fb fc i ea eb ec : ℕ) (first more rest all : List ℕ) → Wrote a b fa fb ea eb first → StopsWriting e b c fb fc i eb ec more → all ≡ first ++ (more ++ rest) → StopsWriting e a c fa fc i ea ec all
 stops_later e a b c fa fb fc i ea eb ec first more rest all p q is =
-    let front = q.0.0 in
+    let prefix = q.0.0 in
     let left = q.0.1 in
-    let parts : all ≡ (first ++ front) ++ (left ++ rest) = is ∙ ap (λ (t : List ℕ). first ++ (t ++ rest)) q.0.2 ∙ ap (λ (t : List ℕ). first ++ t) (append_assoc front left rest) ∙ sym (append_assoc first front (left ++ rest)) in
-    ((first ++ front, left ++ rest, parts, Appends-trans a b c first front p.0 q.0.3), λ w. subst (λ (n : ℕ). WriterFailed n fc i ea ec) p.1 (subst (λ (n : ℕ). WriterFailed fb fc i n ec) p.2 (q.1 w)))
+    let parts : all ≡ (first ++ prefix) ++ (left ++ rest) = is ∙ ap (λ (t : List ℕ). first ++ (t ++ rest)) q.0.2 ∙ ap (λ (t : List ℕ). first ++ t) (append_assoc prefix left rest) ∙ sym (append_assoc first prefix (left ++ rest)) in
+    ((first ++ prefix, left ++ rest, parts, Appends-trans a b c first prefix p.0 q.0.3), λ w. subst (λ (n : ℕ). WriterFailed n fc i ea ec) p.1 (subst (λ (n : ℕ). WriterFailed fb fc i n ec) p.2 (q.1 w)))
 
 -- a stop in the first text
 pub stops_first : (e : ReportWriteFault) (a b : Option (List ℕ)) (fa fb i ea eb : ℕ) (more rest all : List ℕ) → StopsWriting e a b fa fb i ea eb more → all ≡ more ++ rest → StopsWriting e a b fa fb i ea eb all

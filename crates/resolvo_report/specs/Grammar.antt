@@ -82,21 +82,21 @@ pub record IsOutsideAt (text : List ℕ) (n : ℕ) : Type 0 where
   pub none : GoesOn part below → ⊥
 
 -- These bytes of the text were read; the lines that end among them are allowed lines of a report.
-pub record IsGoodSoFar (came : List ℕ) : Type 0 where
+pub record IsGoodSoFar (received : List ℕ) : Type 0 where
   pub above : List ReportLine
   pub begun : List ℕ
   pub part : Part
-  pub parts : came ≡ lines_text above ++ begun
+  pub parts : received ≡ lines_text above ++ begun
   pub good : AreLines above part
   pub unfinished : newlines begun ≡ 0
 
 -- Some bytes of the text were read, the rest remains, and those are good so far.
-pub record CameGood (text : List ℕ) (after : Option (List ℕ)) : Type 0 where
-  pub came : List ℕ
+pub record IsGoodPrefix (text : List ℕ) (after : Option (List ℕ)) : Type 0 where
+  pub received : List ℕ
   pub rest : List ℕ
   pub left : after ≡ Some rest
-  pub parts : text ≡ came ++ rest
-  pub good : IsGoodSoFar came
+  pub parts : text ≡ received ++ rest
+  pub good : IsGoodSoFar received
 
 -- the most bytes that a report may have
 abbrev pub most_bytes : ℕ
@@ -106,6 +106,6 @@ most_bytes = 1073741824
 -- lines that were read are checked before the next read of the device.
 abbrev pub IsReportFault : ReportFault → Option (List ℕ) → Option (List ℕ) → Type 0 → Type 0
 IsReportFault (NotAReport n) before after failed = IfKnown before (λ text. IsOutsideAt text n)
-IsReportFault Reader before after failed = failed × IfKnown before (λ text. CameGood text after)
-IsReportFault TooLong before after failed = IfKnown before (λ text. (came : List ℕ) × (rest : List ℕ) × (text ≡ came ++ rest) × (length came ≡ most_bytes) × (0 < length rest) × IsGoodSoFar came)
+IsReportFault Reader before after failed = failed × IfKnown before (λ text. IsGoodPrefix text after)
+IsReportFault TooLong before after failed = IfKnown before (λ text. (received : List ℕ) × (rest : List ℕ) × (text ≡ received ++ rest) × (length received ≡ most_bytes) × (0 < length rest) × IsGoodSoFar received)
 IsReportFault Memory before after failed = ⊤

@@ -7,4 +7,4 @@ pub mod Grammar
 pub mod Stream
 pub mod Draft
 pub mod Write
-pub mod Told
+pub mod Shown

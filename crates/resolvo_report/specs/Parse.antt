@@ -64,8 +64,8 @@ specs_at words = alternatives_at (length words) words
 
 -- ---- literals
 
-unfoldable pub atom_said : List ℕ → Words → Option Atom
-atom_said k words =
+unfoldable pub atom_by : List ℕ → Words → Option Atom
+atom_by k words =
     if bytes_eq k (codes "any") then whole reason_at (λ name. AnyOf name) words
     else if bytes_eq k (codes "shared") then whole specs_at (λ ss. SharedBy ss) words
     else if bytes_eq k (codes "outside") then whole spec_at (λ s. OutsideOf s) words
@@ -73,7 +73,7 @@ atom_said k words =
     else (version_in k >>= λ v. end_at words >>= λ _. Some (Chosen v))
 
 unfoldable pub atom_in : Words → Option Atom
-atom_in words = word_at words >>= λ x. atom_said x.0 x.1
+atom_in words = word_at words >>= λ x. atom_by x.0 x.1
 
 abbrev pub signed_atom : Bool → Option Atom → Option Literal
 signed_atom positive read = read >>= λ a. Some (record { atom = a; positive = positive })
@@ -162,8 +162,8 @@ unfoldable pub any_in : Words → Option Step
 any_in words = whole version_at (λ v. Any v) words
 
 -- the step of this keyword and the words after it
-unfoldable pub step_said : List ℕ → Words → Option Step
-step_said k words =
+unfoldable pub step_by : List ℕ → Words → Option Step
+step_by k words =
     if bytes_eq k (codes "need") then need_in words
     else if bytes_eq k (codes "gate") then gate_in words
     else if bytes_eq k (codes "shared") then shared_in words
@@ -183,15 +183,15 @@ unfoldable pub left_out_in : Words → Option ReportLine
 left_out_in words = whole (pair_at (behind_at (codes "out") version_at) (pair_at line_at (behind_at (codes "by") line_number_at))) (λ x. Answer (LeftOut x.0 x.1.0 x.1.1)) words
 
 unfoldable pub numbered_in : Words → Option ReportLine
-numbered_in words = number_at words >>= λ n. word_at n.1 >>= λ k. step_said k.0 k.1 >>= λ s. Some (Numbered n.0 s)
+numbered_in words = number_at words >>= λ n. word_at n.1 >>= λ k. step_by k.0 k.1 >>= λ s. Some (Numbered n.0 s)
 
 unfoldable pub entry_in : Version → Words → Option ReportLine
 entry_in v words =
     if (skip (codes "for") words).0 then whole (pair_at place_at line_at) (λ x. Answer (Entry v x.0 x.1)) (skip (codes "for") words).1
     else (behind (codes "wished") words >>= λ ws. line_in ws >>= λ n. Some (Answer (Wished v n)))
 
-unfoldable pub line_said : List ℕ → Words → Option ReportLine
-line_said k words =
+unfoldable pub line_by : List ℕ → Words → Option ReportLine
+line_by k words =
     if bytes_eq k (codes "step") then numbered_in words
     else if bytes_eq k (codes "install") then (end_at words >>= λ _. Some InstallHead)
     else if bytes_eq k (codes "refused") then (end_at words >>= λ _. Some RefusedHead)
@@ -204,4 +204,4 @@ abbrev pub is_message : List ℕ → Bool
 is_message text = bytes_eq (take 2 text) (codes "| ")
 
 unfoldable pub line_read : List ℕ → Option ReportLine
-line_read text = if is_message text then Some (Message (drop 2 text)) else (word_at (slice_split is_space text) >>= λ x. line_said x.0 x.1)
+line_read text = if is_message text then Some (Message (drop 2 text)) else (word_at (slice_split is_space text) >>= λ x. line_by x.0 x.1)

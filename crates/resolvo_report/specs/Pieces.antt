@@ -17,8 +17,8 @@ spaced [] = []
 spaced (w ∷ ws) = codes " " ++ w ++ spaced ws
 
 -- alternatives, a bar before each
-abbrev pub barred : List code.Spec → List ℕ
-barred ss = flat_map (λ s. codes " | " ++ join_with_byte 32 (spec_words (spec_of s))) ss
+abbrev pub with_bars : List code.Spec → List ℕ
+with_bars ss = flat_map (λ s. codes " | " ++ join_with_byte 32 (spec_words (spec_of s))) ss
 
 -- literals, a semicolon before each
 abbrev pub parted : List code_literal.Literal → List ℕ

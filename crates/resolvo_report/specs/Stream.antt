@@ -13,7 +13,7 @@ use Rattle.resolvo_report.specs.Grammar.{next_part, GoesOn}
 
 -- the rest of the text, where the device knows it
 abbrev pub left : ReportReader → Option (List ℕ) → Option (List ℕ)
-left r told = lines.left r.lines told
+left r remaining = lines.left r.lines remaining
 
 -- A line with its newline was taken of the rest of the text, and its bytes of the room. The part allowed it, and
 -- the next part is that of the second reader.
@@ -28,6 +28,6 @@ pub record GivesLine (before : Option (List ℕ)) (r : ReportReader) (line : Rep
 -- above, the room before, and that the device failed.
 abbrev pub IsLineFault : ReportFault → ReportReader → Option (List ℕ) → Option (List ℕ) → Type 0 → Type 0
 IsLineFault (NotAReport n) r before after failed = (n ≡ r.number + 1) × IfKnown before (λ bytes. GoesOn r.part bytes → ⊥)
-IsLineFault Reader r before after failed = failed × lines.NoLineCame before after
+IsLineFault Reader r before after failed = failed × lines.NoLineReceived before after
 IsLineFault TooLong r before after failed = IfKnown before (λ bytes. (r.lines.room < length bytes) × (newlines (take r.lines.room bytes) ≡ 0))
 IsLineFault Memory r before after failed = ⊤

@@ -1,7 +1,7 @@
 -- The effect of a writer of a report on its device.
 use Rattle.std.specs.Prelude.{◌≡◌, ℕ, List, Option}
 use Rattle.std.specs.Io.KnownBytes.{Appends}
-use Rattle.resolvo_text.specs.Device.{WriterFailed, TakesFront}
+use Rattle.resolvo_text.specs.Device.{WriterFailed, TakesPrefix}
 use Rattle.resolvo_report.specs.declared.write.ReportWriteFault.{ReportWriteFault}
 use Rattle.resolvo_report.specs.declared.write.ReportWriteFault.TheVariants.{Writer}
 
@@ -11,5 +11,5 @@ Wrote before after failures failures_now empty empty_now text = Appends before a
 
 -- The device took a prefix of this text, and memory ran out or the device failed.
 abbrev pub StopsWriting : ReportWriteFault → Option (List ℕ) → Option (List ℕ) → ℕ → ℕ → ℕ → ℕ → ℕ → List ℕ → Type 0
-StopsWriting e before after failures failures_now interruptions empty empty_now text = TakesFront before after text
+StopsWriting e before after failures failures_now interruptions empty empty_now text = TakesPrefix before after text
     × (e ≡ Writer → WriterFailed failures failures_now interruptions empty empty_now)

@@ -6,7 +6,7 @@ ghost use Rattle.resolvo_report.specs.Text.{report_text};
 ghost use Rattle.resolvo_report.specs.Grammar.{IsReport, IsOutsideAt};
 
 /// A text is the text of one report: reading gives back the written report.
-pub fn texts_say_one_report()
+pub fn text_is_one_report()
     ensures { (a b : Report) → IsReport a → IsReport b → report_text a ≡ report_text b → a ≡ b }
 {}
 

@@ -14,7 +14,7 @@ mod step;
 mod text;
 mod write;
 
-pub use laws::{reports_are_read, texts_say_one_report};
+pub use laws::{reports_are_read, text_is_one_report};
 pub use place::Part;
 pub use reader::{ReportFault, ReportReader};
 pub use report::{AnswerLine, Report, ReportLine};

@@ -10,12 +10,12 @@ ghost use Rattle.resolvo_text.specs.declared.line.LineFault.TheVariants.{Fault};
 ghost use Rattle.resolvo_text.specs.Lines.{newlines};
 ghost use Rattle.resolvo_text.specs.View.{version_of};
 ghost use Rattle.resolvo_text.specs.Parse.{Gives, words_in};
-ghost use Rattle.resolvo_report.specs.Value as says;
+ghost use Rattle.resolvo_report.specs.Value as model;
 ghost use Rattle.resolvo_report.specs.View.{literals_of, step_of, report_line_of};
 ghost use Rattle.resolvo_report.specs.Text.{line_text, HasText};
-ghost use Rattle.resolvo_report.specs.Told.{Tells};
+ghost use Rattle.resolvo_report.specs.Shown.{Shows};
 ghost use Rattle.resolvo_report.specs.Pieces.{texts_of};
-ghost use Rattle.resolvo_report.specs.Parse.{is_semicolon, is_close, text_behind, literals_behind, pieces_in, literals_in, numbers_in, causes_in, causes_behind, derived_in, limit_in, need_in, gate_in, shared_in, outside_in, lock_in, digit_in, any_in, step_said, left_out_in, numbered_in, entry_in, line_said, is_message, line_read};
+ghost use Rattle.resolvo_report.specs.Parse.{is_semicolon, is_close, text_behind, literals_behind, pieces_in, literals_in, numbers_in, causes_in, causes_behind, derived_in, limit_in, need_in, gate_in, shared_in, outside_in, lock_in, digit_in, any_in, step_by, left_out_in, numbered_in, entry_in, line_by, is_message, line_read};
 
 use crate::part::{
     behind, bit_at, line_at, line_in as last_line, line_number_at, literal_behind, number_at,
@@ -192,9 +192,9 @@ fn limit_in(alloc: Global, words: &[u8]) -> Result<Step, LineFault>
 {
     let (place, rest) = place_at(alloc, words)?;
     let (line, rest) = line_at(rest)?;
-    let (bars, barred) = skip(rest, b"bars");
+    let (bars, forbidden) = skip(rest, b"bars");
     if bars {
-        let (version, rest) = version_at(alloc, barred)?;
+        let (version, rest) = version_at(alloc, forbidden)?;
         no_more(rest)?;
         return Ok(Step::LimitBars {
             place,
@@ -251,9 +251,9 @@ fn any_in(alloc: Global, words: &[u8]) -> Result<Step, LineFault>
 }
 
 /// The step, from its keyword and the words after it.
-#[tactic(auto, unfolding(crate::specs::Parse::step_said))]
-fn step_said(alloc: Global, keyword: &[u8], words: &[u8]) -> Result<Step, LineFault>
-    ensures { Gives (λ s. step_of s) result (step_said keyword.now (words_in words.now)) }
+#[tactic(auto, unfolding(crate::specs::Parse::step_by))]
+fn step_by(alloc: Global, keyword: &[u8], words: &[u8]) -> Result<Step, LineFault>
+    ensures { Gives (λ s. step_of s) result (step_by keyword.now (words_in words.now)) }
 {
     if keyword == b"need".as_slice() {
         return need_in(alloc, words);
@@ -314,7 +314,7 @@ fn numbered_in(alloc: Global, words: &[u8]) -> Result<ReportLine, LineFault>
 {
     let (number, rest) = number_at(words)?;
     let (keyword, rest) = word_at(rest)?;
-    let step = step_said(alloc, keyword, rest)?;
+    let step = step_by(alloc, keyword, rest)?;
     Ok(ReportLine::Step { number, step })
 }
 
@@ -339,9 +339,9 @@ fn entry_in(alloc: Global, version: Version, words: &[u8]) -> Result<ReportLine,
 }
 
 /// The line, from its first word and the words after it.
-#[tactic(auto, unfolding(crate::specs::Parse::line_said))]
-fn line_said(alloc: Global, keyword: &[u8], words: &[u8]) -> Result<ReportLine, LineFault>
-    ensures { Gives (λ l. report_line_of l) result (line_said keyword.now (words_in words.now)) }
+#[tactic(auto, unfolding(crate::specs::Parse::line_by))]
+fn line_by(alloc: Global, keyword: &[u8], words: &[u8]) -> Result<ReportLine, LineFault>
+    ensures { Gives (λ l. report_line_of l) result (line_by keyword.now (words_in words.now)) }
 {
     if keyword == b"step".as_slice() {
         return numbered_in(alloc, words);
@@ -387,13 +387,13 @@ fn line_read(alloc: Global, text: &[u8]) -> Result<ReportLine, LineFault>
         return Ok(ReportLine::Message { bytes });
     }
     let (keyword, words) = first_word(text);
-    line_said(alloc, keyword, words)
+    line_by(alloc, keyword, words)
 }
 
 /// A parsed line; the bytes of a message are kept or not.
 #[tactic(auto, unfolding(crate::specs::Parse::line_read))]
-pub(crate) fn line_told(alloc: Global, text: &[u8], keeps: bool) -> Result<ReportLine, LineFault>
-    ensures { Tells keeps result (line_read text.now) }
+pub(crate) fn line_shown(alloc: Global, text: &[u8], keeps: bool) -> Result<ReportLine, LineFault>
+    ensures { Shows keeps result (line_read text.now) }
 {
     if !keeps && message_in(text).is_some() {
         return Ok(ReportLine::Message {

@@ -8,7 +8,7 @@ ghost use Rattle.std.specs.Option.{option_map};
 ghost use Rattle.resolvo_text.specs.View.{version_of, specs_of};
 ghost use Rattle.resolvo_text.specs.Parse.{Gives, words_in};
 ghost use Rattle.resolvo_report.specs.View.{place_of, atom_of, literal_of, literals_of};
-ghost use Rattle.resolvo_report.specs.Parse.{is_equals, behind, version_in, version_at, place_at, number_at, line_number_at, bit_at, line_at, specs_at, atom_said, atom_in, literal_in, literal_behind, line_in};
+ghost use Rattle.resolvo_report.specs.Parse.{is_equals, behind, version_in, version_at, place_at, number_at, line_number_at, bit_at, line_at, specs_at, atom_by, atom_in, literal_in, literal_behind, line_in};
 
 use crate::step::{Atom, Literal, Place};
 use resolvo_text::{
@@ -131,9 +131,9 @@ pub(crate) fn specs_at(alloc: Global, words: &[u8]) -> Result<(Vec<Spec>, &[u8])
 }
 
 /// The atom, from its first word and the words after it.
-#[tactic(auto, unfolding(crate::specs::Parse::atom_said))]
-fn atom_said(alloc: Global, keyword: &[u8], words: &[u8]) -> Result<Atom, LineFault>
-    ensures { Gives atom_of result (atom_said keyword.now (words_in words.now)) }
+#[tactic(auto, unfolding(crate::specs::Parse::atom_by))]
+fn atom_by(alloc: Global, keyword: &[u8], words: &[u8]) -> Result<Atom, LineFault>
+    ensures { Gives atom_of result (atom_by keyword.now (words_in words.now)) }
 {
     if keyword == b"any".as_slice() {
         let (name, rest) = reason_at(alloc, words)?;
@@ -166,7 +166,7 @@ fn atom_in(alloc: Global, words: &[u8]) -> Result<Atom, LineFault>
     ensures { Gives atom_of result (atom_in (words_in words.now)) }
 {
     let (keyword, rest) = word_at(words)?;
-    atom_said(alloc, keyword, rest)
+    atom_by(alloc, keyword, rest)
 }
 
 #[tactic(auto, unfolding(crate::specs::Parse::literal_in))]

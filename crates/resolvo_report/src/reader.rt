@@ -7,14 +7,14 @@
 ghost use Rattle.std.specs.Prelude.{◌≡◌, ℕ, ◌+◌, ◌≤◌, ◌++◌, ◌∷◌, [], Option, Some, None, IfOk, IfSome, IfNone, IfErr, OnOk, IsTrue, false};
 ghost use Rattle.std.specs.Io.KnownBytes.{IsAtEnd};
 ghost use Rattle.resolvo_text.specs.Device.{IfKnown, DeviceFailed};
-ghost use Rattle.resolvo_report.specs.Value.{ReportLine as SaidLine};
+ghost use Rattle.resolvo_report.specs.Value.{ReportLine as ParsedLine};
 ghost use Rattle.resolvo_report.specs.View.{report_of, report_line_of};
 ghost use Rattle.resolvo_report.specs.Text.{report_lines, report_text};
-ghost use Rattle.resolvo_report.specs.Told.{IsTold};
+ghost use Rattle.resolvo_report.specs.Shown.{IsShown};
 ghost use Rattle.resolvo_report.specs.Grammar.{next_part, may_end, IsReport, IsReportFault};
 ghost use Rattle.resolvo_report.specs.Draft.{part_of};
 
-use crate::parse::line_told;
+use crate::parse::line_shown;
 use crate::place::Part;
 use crate::report::{Report, ReportLine};
 use resolvo_text::{LineFault, LineReader, ReadFault, Source};
@@ -130,9 +130,9 @@ impl ReportReader {
         alloc: Global,
         source: &mut S,
     ) -> Result<Option<ReportLine>, ReportFault>
-        ensures given { IfOk result (λ next. IfSome next (λ line. (said : SaidLine)
-            × IsTold false said (report_line_of line)
-            × GivesLine (left self.old (S.left source.old)) self.old said
+        ensures given { IfOk result (λ next. IfSome next (λ line. (parsed : ParsedLine)
+            × IsShown false parsed (report_line_of line)
+            × GivesLine (left self.old (S.left source.old)) self.old parsed
             (left self.new (S.left source.new)) self.new)) }
         ensures end { IfOk result
             (λ next.
@@ -154,9 +154,9 @@ impl ReportReader {
         source: &mut S,
         keeps: bool,
     ) -> Result<Option<ReportLine>, ReportFault>
-        ensures given { IfOk result (λ next. IfSome next (λ line. (said : SaidLine)
-            × IsTold keeps said (report_line_of line)
-            × GivesLine (left self.old (S.left source.old)) self.old said
+        ensures given { IfOk result (λ next. IfSome next (λ line. (parsed : ParsedLine)
+            × IsShown keeps parsed (report_line_of line)
+            × GivesLine (left self.old (S.left source.old)) self.old parsed
             (left self.new (S.left source.new)) self.new)) }
         ensures end { IfOk result
             (λ next.
@@ -185,7 +185,7 @@ impl ReportReader {
         if !self.lines.is_whole() {
             return Err(ReportFault::NotAReport(number));
         }
-        let line = match line_told(alloc, self.lines.line(), keeps) {
+        let line = match line_shown(alloc, self.lines.line(), keeps) {
             Ok(line) => line,
             Err(LineFault::Fault) => return Err(ReportFault::NotAReport(number)),
             Err(LineFault::Memory) => return Err(ReportFault::Memory),

@@ -4,8 +4,8 @@
 //! it.
 
 ghost use Rattle.std.specs.Prelude.{◌≡◌, ◌++◌, ◌∷◌, [], ⊤, map, OnOk, OnErr, IfErr, codes};
-ghost use Rattle.resolvo_text.specs.Device.{WriterFailed, TakesFront};
-ghost use Rattle.resolvo_report.specs.Value as says;
+ghost use Rattle.resolvo_text.specs.Device.{WriterFailed, TakesPrefix};
+ghost use Rattle.resolvo_report.specs.Value as model;
 ghost use Rattle.resolvo_report.specs.View.{report_of, answer_lines_of, steps_of, messages_of};
 ghost use Rattle.resolvo_report.specs.Text.{lines_text, numbered, report_text};
 ghost use Rattle.resolvo_report.specs.Write.{Wrote, StopsWriting};
@@ -87,12 +87,12 @@ fn write_install<S: Sink>(
 ) -> Result<(), ReportWriteFault>
     ensures whole { OnOk result (Wrote (S.contents sink.old) (S.contents sink.new)
         (S.failures sink.old) (S.failures sink.new) (S.empty_writes sink.old)
-        (S.empty_writes sink.new) (report_text (says.Install (answer_lines_of lines.now)
+        (S.empty_writes sink.new) (report_text (model.Install (answer_lines_of lines.now)
         (steps_of steps.now)))) }
     ensures fault { IfErr result (λ e. StopsWriting e (S.contents sink.old) (S.contents sink.new)
         (S.failures sink.old) (S.failures sink.new) (S.interruptions sink.new)
         (S.empty_writes sink.old) (S.empty_writes sink.new)
-        (report_text (says.Install (answer_lines_of lines.now) (steps_of steps.now)))) }
+        (report_text (model.Install (answer_lines_of lines.now) (steps_of steps.now)))) }
 {
     write_line(sink, "install\n")?;
     write_answers(alloc, sink, lines)?;
@@ -109,12 +109,12 @@ fn write_refused<S: Sink>(
 ) -> Result<(), ReportWriteFault>
     ensures whole { OnOk result (Wrote (S.contents sink.old) (S.contents sink.new)
         (S.failures sink.old) (S.failures sink.new) (S.empty_writes sink.old)
-        (S.empty_writes sink.new) (report_text (says.Refused catalogue.now request.now
+        (S.empty_writes sink.new) (report_text (model.Refused catalogue.now request.now
         (steps_of steps.now) (messages_of message.now)))) }
     ensures fault { IfErr result (λ e. StopsWriting e (S.contents sink.old) (S.contents sink.new)
         (S.failures sink.old) (S.failures sink.new) (S.interruptions sink.new)
         (S.empty_writes sink.old) (S.empty_writes sink.new)
-        (report_text (says.Refused catalogue.now request.now (steps_of steps.now)
+        (report_text (model.Refused catalogue.now request.now (steps_of steps.now)
         (messages_of message.now)))) }
 {
     write_line(sink, "refused\n")?;
@@ -143,11 +143,11 @@ fn write_answers<S: Sink>(
 ) -> Result<(), ReportWriteFault>
     ensures whole { OnOk result (Wrote (S.contents sink.old) (S.contents sink.new)
         (S.failures sink.old) (S.failures sink.new) (S.empty_writes sink.old)
-        (S.empty_writes sink.new) (lines_text (map says.Answer (answer_lines_of lines.now)))) }
+        (S.empty_writes sink.new) (lines_text (map model.Answer (answer_lines_of lines.now)))) }
     ensures fault { IfErr result (λ e. StopsWriting e (S.contents sink.old) (S.contents sink.new)
         (S.failures sink.old) (S.failures sink.new) (S.interruptions sink.new)
         (S.empty_writes sink.old) (S.empty_writes sink.new)
-        (lines_text (map says.Answer (answer_lines_of lines.now)))) }
+        (lines_text (map model.Answer (answer_lines_of lines.now)))) }
 {
     for line in lines {
         let text = format!(in alloc; "{line}\n")?;
@@ -160,11 +160,11 @@ fn write_answers<S: Sink>(
 fn write_named<S: Sink>(alloc: Global, sink: &mut S, lines: &[u32]) -> Result<(), ReportWriteFault>
     ensures whole { OnOk result (Wrote (S.contents sink.old) (S.contents sink.new)
         (S.failures sink.old) (S.failures sink.new) (S.empty_writes sink.old)
-        (S.empty_writes sink.new) (lines_text (map says.CatalogueLine lines.now))) }
+        (S.empty_writes sink.new) (lines_text (map model.CatalogueLine lines.now))) }
     ensures fault { IfErr result (λ e. StopsWriting e (S.contents sink.old) (S.contents sink.new)
         (S.failures sink.old) (S.failures sink.new) (S.interruptions sink.new)
         (S.empty_writes sink.old) (S.empty_writes sink.new)
-        (lines_text (map says.CatalogueLine lines.now))) }
+        (lines_text (map model.CatalogueLine lines.now))) }
 {
     for number in lines {
         let text = format!(in alloc; "catalogue line {number}\n")?;
@@ -177,11 +177,11 @@ fn write_named<S: Sink>(alloc: Global, sink: &mut S, lines: &[u32]) -> Result<()
 fn write_asked<S: Sink>(alloc: Global, sink: &mut S, lines: &[u32]) -> Result<(), ReportWriteFault>
     ensures whole { OnOk result (Wrote (S.contents sink.old) (S.contents sink.new)
         (S.failures sink.old) (S.failures sink.new) (S.empty_writes sink.old)
-        (S.empty_writes sink.new) (lines_text (map says.RequestLine lines.now))) }
+        (S.empty_writes sink.new) (lines_text (map model.RequestLine lines.now))) }
     ensures fault { IfErr result (λ e. StopsWriting e (S.contents sink.old) (S.contents sink.new)
         (S.failures sink.old) (S.failures sink.new) (S.interruptions sink.new)
         (S.empty_writes sink.old) (S.empty_writes sink.new)
-        (lines_text (map says.RequestLine lines.now))) }
+        (lines_text (map model.RequestLine lines.now))) }
 {
     for number in lines {
         let text = format!(in alloc; "request line {number}\n")?;
@@ -211,11 +211,11 @@ fn write_steps<S: Sink>(alloc: Global, sink: &mut S, steps: &[Step]) -> Result<(
 fn write_message<S: Sink>(sink: &mut S, message: &[Vec<u8>]) -> Result<(), ReportWriteFault>
     ensures whole { OnOk result (Wrote (S.contents sink.old) (S.contents sink.new)
         (S.failures sink.old) (S.failures sink.new) (S.empty_writes sink.old)
-        (S.empty_writes sink.new) (lines_text (map says.Message (messages_of message.now)))) }
+        (S.empty_writes sink.new) (lines_text (map model.Message (messages_of message.now)))) }
     ensures fault { IfErr result (λ e. StopsWriting e (S.contents sink.old) (S.contents sink.new)
         (S.failures sink.old) (S.failures sink.new) (S.interruptions sink.new)
         (S.empty_writes sink.old) (S.empty_writes sink.new)
-        (lines_text (map says.Message (messages_of message.now)))) }
+        (lines_text (map model.Message (messages_of message.now)))) }
 {
     for bytes in message {
         write_message_line(sink, bytes)?;

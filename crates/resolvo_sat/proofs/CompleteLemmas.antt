@@ -16,14 +16,14 @@ use Rattle.resolvo_sat.specs.declared.watch_lists.UnitClause.{UnitClause}
 use Rattle.resolvo_sat.specs.Known.{IsFalseUnder, Forces, clause_at}
 use Rattle.resolvo_sat.specs.Entries.{literal_of, made_true, before}
 use Rattle.resolvo_sat.specs.State.{count_of, history, clauses_of, IsState}
-use Rattle.resolvo_sat.specs.Propagation.{IsReady, IsNoted, Waits, SameWatching, FellAt, AreCovered, AreSingles, IsOnly, HasSingle, AllTrue, Guards, GuardsTo, IsWalkedTo, Extends, Walked, Running, IsBroken, Conflicts, IsQuiet, IsComplete, IsSingleSet, SetsSingles}
-use Rattle.resolvo_sat.specs.Attach.{Settles}
+use Rattle.resolvo_sat.specs.Propagation.{IsReady, IsUnit, IsPending, SameWatching, FellAt, AreCovered, AreUnits, IsOnly, HasUnit, AllTrue, Guards, GuardsTo, IsWalkedTo, Extends, Walked, Running, IsFalsified, Conflicts, IsQuiet, IsComplete, IsUnitAssigned, AssignsUnits}
+use Rattle.resolvo_sat.specs.Attach.{Attaches}
 use Rattle.resolvo_sat.proofs.Literals.{negation-negation}
 use Rattle.resolvo_sat.proofs.Trails.{consistent, before_all, length_le, root_known}
 use Rattle.resolvo_sat.proofs.Clauses.{length-lists}
 use Rattle.resolvo_sat.proofs.ExtendLemmas.{extends_more, still_true, same_clauses}
 use Rattle.resolvo_sat.proofs.Guards.{guards_known}
-use Rattle.resolvo_sat.proofs.Readiness.{fits_same, ready_extends, front_extends, same_watching, watching_more}
+use Rattle.resolvo_sat.proofs.Readiness.{fits_same, ready_extends, qhead_extends, same_watching, watching_more}
 
 all_true_more : (s t : SatState) (xs : List UnitClause) → Extends s t → AllTrue (made_true (history s)) xs → AllTrue (made_true (history t)) xs
 all_true_more s t [] e a = tt
@@ -33,33 +33,33 @@ all_true_push : (known : List Signed) (xs : List UnitClause) (x : UnitClause) �
 all_true_push known [] x a h = (h, tt)
 all_true_push known (y ∷ xs) x a h = (a.0, all_true_push known xs x a.1 h)
 
-pub singles_more : (xs : List UnitClause) (i : ℕ) (x : UnitClause) (o s t : SatState) → i < length xs → x ≡ get_or xs i x → SetsSingles (take i xs) o s → IsSingleSet x s t true → SetsSingles (take (i + 1) xs) o t
-singles_more xs i x o s t h is sets (e, front, stands) = record {
+pub units_more : (xs : List UnitClause) (i : ℕ) (x : UnitClause) (o s t : SatState) → i < length xs → x ≡ get_or xs i x → AssignsUnits (take i xs) o s → IsUnitAssigned x s t true → AssignsUnits (take (i + 1) xs) o t
+units_more xs i x o s t h is sets (e, qhead, present) = record {
   extends = extends_more o s t sets.extends e;
-  front = front ∙ sets.front;
-  set = subst (AllTrue (made_true (history t))) (sym (take_more xs i x h)) (all_true_push (made_true (history t)) (take i xs) (get_or xs i x) (all_true_more s t (take i xs) e sets.set) (subst (λ (y : UnitClause). has (made_true (history t)) y.literal ≡ true) is stands));
+  qhead = qhead ∙ sets.qhead;
+  set = subst (AllTrue (made_true (history t))) (sym (take_more xs i x h)) (all_true_push (made_true (history t)) (take i xs) (get_or xs i x) (all_true_more s t (take i xs) e sets.set) (subst (λ (y : UnitClause). has (made_true (history t)) y.literal ≡ true) is present));
 }
 
 -- the one at a place represents a clause of one literal
-pub single_at : (cs : List (List Signed)) (xs : List UnitClause) (i : ℕ) (x : UnitClause) → AreSingles cs xs → i < length xs → x ≡ get_or xs i x → (x.clause.0 < length cs) × IsOnly (clause_at cs x.clause.0) x.literal
-single_at cs xs i x a h is = subst (λ (y : UnitClause). (y.clause.0 < length cs) × IsOnly (clause_at cs y.clause.0) y.literal) (sym is) (go xs i a h)
+pub unit_at : (cs : List (List Signed)) (xs : List UnitClause) (i : ℕ) (x : UnitClause) → AreUnits cs xs → i < length xs → x ≡ get_or xs i x → (x.clause.0 < length cs) × IsOnly (clause_at cs x.clause.0) x.literal
+unit_at cs xs i x a h is = subst (λ (y : UnitClause). (y.clause.0 < length cs) × IsOnly (clause_at cs y.clause.0) y.literal) (sym is) (go xs i a h)
   where
-    go : (ys : List UnitClause) (j : ℕ) → AreSingles cs ys → j < length ys → ((get_or ys j x).clause.0 < length cs) × IsOnly (clause_at cs (get_or ys j x).clause.0) (get_or ys j x).literal
+    go : (ys : List UnitClause) (j : ℕ) → AreUnits cs ys → j < length ys → ((get_or ys j x).clause.0 < length cs) × IsOnly (clause_at cs (get_or ys j x).clause.0) (get_or ys j x).literal
     go [] j a h = absurd (omega arith)
     go (y ∷ ys) zero a h = (a.0, a.1)
     go (y ∷ ys) (suc j) a h = go ys j a.2 (omega arith)
 
-pub single_alone : (o s : SatState) (x : UnitClause) → Extends o s → IsOnly (clause_at (clauses_of o) x.clause.0) x.literal → IsOnly (clause_at (clauses_of s) x.clause.0) x.literal
-single_alone o s x e only = subst (λ (cs : List (List Signed)). IsOnly (clause_at cs x.clause.0) x.literal) (sym (same_clauses o s e)) only
+pub unit_alone : (o s : SatState) (x : UnitClause) → Extends o s → IsOnly (clause_at (clauses_of o) x.clause.0) x.literal → IsOnly (clause_at (clauses_of s) x.clause.0) x.literal
+unit_alone o s x e only = subst (λ (cs : List (List Signed)). IsOnly (clause_at cs x.clause.0) x.literal) (sym (same_clauses o s e)) only
 
-pub single_breaks : (o s t : SatState) (x : UnitClause) → Extends o s → s.front ≡ o.front → x.clause.0 < length (clauses_of o) → IsOnly (clause_at (clauses_of o) x.clause.0) x.literal → IsSingleSet x s t false → Extends o t × (t.front ≡ o.front) × IsBroken x.clause.0 t
-single_breaks o s t x e front below only (same, f) =
+pub unit_falsified : (o s t : SatState) (x : UnitClause) → Extends o s → s.qhead ≡ o.qhead → x.clause.0 < length (clauses_of o) → IsOnly (clause_at (clauses_of o) x.clause.0) x.literal → IsUnitAssigned x s t false → Extends o t × (t.qhead ≡ o.qhead) × IsFalsified x.clause.0 t
+unit_falsified o s t x e qhead below only (same, f) =
     let count : length (clauses_of o) ≡ length o.clauses = length-lists o.clauses in
     let below' : x.clause.0 < length o.clauses = omega arith in
-    let here = single_alone o s x e only in
-    subst (λ (u : SatState). Extends o u × (u.front ≡ o.front) × IsBroken x.clause.0 u) (sym same) (
+    let here = unit_alone o s x e only in
+    subst (λ (u : SatState). Extends o u × (u.qhead ≡ o.qhead) × IsFalsified x.clause.0 u) (sym same) (
       e,
-      front,
+      qhead,
       record {
         in_range = subst (λ (cs : List SatClause). x.clause.0 < length cs) (sym e.same.clauses) below';
         falls = λ m h. subst (λ (l : Signed). has (made_true (history s)) (negation l) ≡ true) (sym (here.alone m h)) f;
@@ -74,36 +74,36 @@ entries_bounded s state =
     omega arith
 
 -- before the next entry is taken: the singles were gone over, and no clause waits
-pub running_starts : (o r s t : SatState) (v w : WatchLists) → SetsSingles v.assertions.items o r → SetsSingles v.learnt.items r s → Settles s t v w → ((n : ℕ) → Waits n w → ⊥) → Running o t v w
-running_starts o r s t v w rules learnt settles settled = record {
-  watching = settles.watching;
-  settled = settled;
-  fits = settles.ready.fits;
-  extends = extends_more o s t (extends_more o r s rules.extends learnt.extends) settles.extends;
-  walked = settles.ready.walked;
-  assertions = all_true_more s t v.assertions.items settles.extends (all_true_more r s v.assertions.items learnt.extends rules.set);
-  learnt = all_true_more s t v.learnt.items settles.extends learnt.set;
-  in_range = settles.ready.front;
+pub running_starts : (o r s t : SatState) (v w : WatchLists) → AssignsUnits v.assertions.items o r → AssignsUnits v.learnt.items r s → Attaches s t v w → ((n : ℕ) → IsPending n w → ⊥) → Running o t v w
+running_starts o r s t v w rules learnt attaches attached = record {
+  watching = attaches.watching;
+  attached = attached;
+  fits = attaches.ready.fits;
+  extends = extends_more o s t (extends_more o r s rules.extends learnt.extends) attaches.extends;
+  walked = attaches.ready.walked;
+  assertions = all_true_more s t v.assertions.items attaches.extends (all_true_more r s v.assertions.items learnt.extends rules.set);
+  learnt = all_true_more s t v.learnt.items attaches.extends learnt.set;
+  in_range = attaches.ready.qhead;
 }
 
 -- after the singles were gone over the watches are ready still
-pub singles_ready : (o r s : SatState) (w : WatchLists) (xs ys : List UnitClause) → IsReady o w → SetsSingles xs o r → SetsSingles ys r s → IsReady s w
-singles_ready o r s w xs ys ready rules learnt = ready_extends r s w (ready_extends o r w ready rules.extends rules.front) learnt.extends learnt.front
+pub units_ready : (o r s : SatState) (w : WatchLists) (xs ys : List UnitClause) → IsReady o w → AssignsUnits xs o r → AssignsUnits ys r s → IsReady s w
+units_ready o r s w xs ys ready rules learnt = ready_extends r s w (ready_extends o r w ready rules.extends rules.qhead) learnt.extends learnt.qhead
 
 -- the entry at the propagation head was walked over, and is passed
-pub running_goes_on : (o s u t : SatState) (v w x : WatchLists) (l : Signed) → Running o s v w → FellAt l s.front s → Walked (s.front + 1) s u w x → t ≡ record u { front = u.front + 1 } → Running o t v x
+pub running_goes_on : (o s u t : SatState) (v w x : WatchLists) (l : Signed) → Running o s v w → FellAt l s.qhead s → Walked (s.qhead + 1) s u w x → t ≡ record u { qhead = u.qhead + 1 } → Running o t v x
 running_goes_on o s u t v w x l run fell walked passed =
     subst (λ (y : SatState). Running o y v x) (sym passed)
-    (let within : s.front < length s.tracker.trail = fell.in_range in
+    (let within : s.qhead < length s.tracker.trail = fell.in_range in
     let grown : length u.tracker.trail ≡ length s.tracker.trail + length walked.extends.more = ap length walked.extends.added ∙ length-append s.tracker.trail walked.extends.more in
-    let kept : u.front ≡ s.front = walked.front in
-    let here : s.front + 1 ≡ u.front + 1 = ap (λ (n : ℕ). n + 1) (sym kept) in
-    let e : Extends s (record u { front = u.front + 1 }) = front_extends s u (u.front + 1) walked.extends in
+    let kept : u.qhead ≡ s.qhead = walked.qhead in
+    let here : s.qhead + 1 ≡ u.qhead + 1 = ap (λ (n : ℕ). n + 1) (sym kept) in
+    let e : Extends s (record u { qhead = u.qhead + 1 }) = qhead_extends s u (u.qhead + 1) walked.extends in
     record {
       watching = watching_more v w x run.watching walked.watching;
-      settled = λ n waits. run.settled n (walked.watching.waited n waits);
-      fits = fits_same u (record u { front = u.front + 1 }) x walked.fits refl;
-      extends = extends_more o s (record u { front = u.front + 1 }) run.extends e;
+      attached = λ n stays_pending. run.attached n (walked.watching.was_pending n stays_pending);
+      fits = fits_same u (record u { qhead = u.qhead + 1 }) x walked.fits refl;
+      extends = extends_more o s (record u { qhead = u.qhead + 1 }) run.extends e;
       walked = subst (λ (k : ℕ). IsWalkedTo k u x) here walked.walked;
       assertions = all_true_more s u v.assertions.items walked.extends run.assertions;
       learnt = all_true_more s u v.learnt.items walked.extends run.learnt;
@@ -111,31 +111,31 @@ running_goes_on o s u t v w x l run fell walked passed =
     })
 
 -- a step of the walk leaves fewer entries
-pub running_smaller : (o s u t : SatState) (v w x : WatchLists) (l : Signed) → Running o s v w → FellAt l s.front s → Walked (s.front + 1) s u w x → t ≡ record u { front = u.front + 1 } → count_of t - t.front < count_of s - s.front
+pub running_smaller : (o s u t : SatState) (v w x : WatchLists) (l : Signed) → Running o s v w → FellAt l s.qhead s → Walked (s.qhead + 1) s u w x → t ≡ record u { qhead = u.qhead + 1 } → count_of t - t.qhead < count_of s - s.qhead
 running_smaller o s u t v w x l run fell walked passed =
-    let within : s.front < length s.tracker.trail = fell.in_range in
+    let within : s.qhead < length s.tracker.trail = fell.in_range in
     let bound : length s.tracker.trail ≤ count_of s = entries_bounded s run.extends.state in
     let same : count_of t ≡ count_of s = ap count_of passed ∙ ap (λ (xs : Vec VariableKind Global). length xs.items) walked.extends.same.variables in
-    let kept : u.front ≡ s.front = walked.front in
-    let moved : t.front ≡ u.front + 1 = ap (λ (y : SatState). y.front) passed in
+    let kept : u.qhead ≡ s.qhead = walked.qhead in
+    let moved : t.qhead ≡ u.qhead + 1 = ap (λ (y : SatState). y.qhead) passed in
     omega arith
 
 -- a conflict after more of the trail
 pub conflicts_later : (n : ℕ) (o s t : SatState) (v w x : WatchLists) → SameWatching v w → Extends o s → Conflicts n s t w x → Conflicts n o t v x
-conflicts_later n o s t v w x same e c = record { watching = watching_more v w x same c.watching; ready = c.ready; extends = extends_more o s t e c.extends; broken = c.broken }
+conflicts_later n o s t v w x same e c = record { watching = watching_more v w x same c.watching; ready = c.ready; extends = extends_more o s t e c.extends; falsified = c.falsified }
 
 -- a clause of one literal is broken
-pub singles_break : (n : ℕ) (o s : SatState) (w : WatchLists) → IsReady o w → Extends o s × (s.front ≡ o.front) × IsBroken n s → Conflicts n o s w w
-singles_break n o s w ready (e, front, broken) = record { watching = same_watching w; ready = ready_extends o s w ready e front; extends = e; broken = broken }
+pub units_falsified : (n : ℕ) (o s : SatState) (w : WatchLists) → IsReady o w → Extends o s × (s.qhead ≡ o.qhead) × IsFalsified n s → Conflicts n o s w w
+units_falsified n o s w ready (e, qhead, falsified) = record { watching = same_watching w; ready = ready_extends o s w ready e qhead; extends = e; falsified = falsified }
 
-literal_set : (known : List Signed) (xs : List UnitClause) (x : UnitClause) → AllTrue known xs → HasSingle xs x → has known x.literal ≡ true
+literal_set : (known : List Signed) (xs : List UnitClause) (x : UnitClause) → AllTrue known xs → HasUnit xs x → has known x.literal ≡ true
 literal_set known [] x a h = absurd h
 literal_set known (y ∷ ys) x a (inl e) = subst (λ (z : UnitClause). has known z.literal ≡ true) e a.0
 literal_set known (y ∷ ys) x a (inr e) = literal_set known ys x a.1 e
 
-clause_alone : (cs : List (List Signed)) (xs : List UnitClause) (x : UnitClause) → AreSingles cs xs → HasSingle xs x → has (clause_at cs x.clause.0) x.literal ≡ true
+clause_alone : (cs : List (List Signed)) (xs : List UnitClause) (x : UnitClause) → AreUnits cs xs → HasUnit xs x → has (clause_at cs x.clause.0) x.literal ≡ true
 clause_alone cs [] x a h = absurd h
-clause_alone cs (y ∷ ys) x a (inl e) = subst (λ (z : UnitClause). has (clause_at cs z.clause.0) z.literal ≡ true) e a.1.stands
+clause_alone cs (y ∷ ys) x a (inl e) = subst (λ (z : UnitClause). has (clause_at cs z.clause.0) z.literal ≡ true) e a.1.present
 clause_alone cs (y ∷ ys) x a (inr e) = clause_alone cs ys x a.2 e
 
 pub quiet_pair : (known clause : List Signed) (p : WatchedLiterals) → has clause p.first ≡ true → has clause p.second ≡ true → same_literal p.first p.second ≡ false → Guards known known p → IsQuiet known clause
@@ -147,13 +147,13 @@ quiet_pair known clause p a b differ g = go (cases_Bool (has known (negation p.f
     go (inr e) (inr f) = inr (p.first, p.second, a, b, differ, e, f)
 
 -- a true literal of a clause that is one of the singles makes it quiet
-quiet_single : (o s : SatState) (v : WatchLists) (xs : List UnitClause) (n : ℕ) (x : UnitClause) → Extends o s → AreSingles (clauses_of o) xs → AllTrue (made_true (history s)) xs → x.clause.0 ≡ n → HasSingle xs x → IsQuiet (made_true (history s)) (clause_at (clauses_of s) n)
-quiet_single o s v xs n x e alone set number stands =
+quiet_unit : (o s : SatState) (v : WatchLists) (xs : List UnitClause) (n : ℕ) (x : UnitClause) → Extends o s → AreUnits (clauses_of o) xs → AllTrue (made_true (history s)) xs → x.clause.0 ≡ n → HasUnit xs x → IsQuiet (made_true (history s)) (clause_at (clauses_of s) n)
+quiet_unit o s v xs n x e alone set number present =
     let here : clause_at (clauses_of s) n ≡ clause_at (clauses_of o) x.clause.0 = ap (λ (cs : List (List Signed)). clause_at cs n) (same_clauses o s e) ∙ ap (clause_at (clauses_of o)) (sym number) in
-    inl (x.literal, subst (λ (c : List Signed). has c x.literal ≡ true) (sym here) (clause_alone (clauses_of o) xs x alone stands), literal_set (made_true (history s)) xs x set stands)
+    inl (x.literal, subst (λ (c : List Signed). has c x.literal ≡ true) (sym here) (clause_alone (clauses_of o) xs x alone present), literal_set (made_true (history s)) xs x set present)
 
 -- each clause is quiet where all of the trail was walked
-running_quiet : (o s : SatState) (v w : WatchLists) → Running o s v w → AreCovered o v → length s.tracker.trail ≤ s.front → (n : ℕ) → n < length s.clauses → IsQuiet (made_true (history s)) (clause_at (clauses_of s) n)
+running_quiet : (o s : SatState) (v w : WatchLists) → Running o s v w → AreCovered o v → length s.tracker.trail ≤ s.qhead → (n : ℕ) → n < length s.clauses → IsQuiet (made_true (history s)) (clause_at (clauses_of s) n)
 running_quiet o s v w run covers h n below = go (pair_at w.watched.items n) refl
   where
     known : List Signed
@@ -161,17 +161,17 @@ running_quiet o s v w run covers h n below = go (pair_at w.watched.items n) refl
 
     walked : IsWalkedTo (length s.tracker.trail) s w
     walked =
-        let low : s.front ≤ length s.tracker.trail = run.in_range in
-        let all : s.front ≡ length s.tracker.trail = omega arith in
+        let low : s.qhead ≤ length s.tracker.trail = run.in_range in
+        let all : s.qhead ≡ length s.tracker.trail = omega arith in
         subst (λ (k : ℕ). IsWalkedTo k s w) all run.walked
 
-    covered : pair_at w.watched.items n ≡ None → (n ≡ 0) ⊎ (IsNoted n v ⊎ Waits n v) → IsQuiet known (clause_at (clauses_of s) n)
+    covered : pair_at w.watched.items n ≡ None → (n ≡ 0) ⊎ (IsUnit n v ⊎ IsPending n v) → IsQuiet known (clause_at (clauses_of s) n)
     covered none (inl first) =
         let here : clause_at (clauses_of s) n ≡ clause_at (clauses_of o) 0 = ap (λ (cs : List (List Signed)). clause_at cs n) (same_clauses o s run.extends) ∙ ap (clause_at (clauses_of o)) first in
         inl (yes root, subst (λ (c : List Signed). has c (yes root) ≡ true) (sym here) covers.first, root_known (history s) run.extends.state.rooted)
-    covered none (inr (inl (x, number, inl stands))) = quiet_single o s v v.assertions.items n x run.extends covers.assertions run.assertions number stands
-    covered none (inr (inl (x, number, inr stands))) = quiet_single o s v v.learnt.items n x run.extends covers.learnt run.learnt number stands
-    covered none (inr (inr waits)) = absurd (run.settled n (run.watching.waits n waits none))
+    covered none (inr (inl (x, number, inl present))) = quiet_unit o s v v.assertions.items n x run.extends covers.assertions run.assertions number present
+    covered none (inr (inl (x, number, inr present))) = quiet_unit o s v v.learnt.items n x run.extends covers.learnt run.learnt number present
+    covered none (inr (inr stays_pending)) = absurd (run.attached n (run.watching.stays_pending n stays_pending none))
 
     go : (p : Option WatchedLiterals) → pair_at w.watched.items n ≡ p → IsQuiet known (clause_at (clauses_of s) n)
     go (Some p) is =
@@ -179,22 +179,22 @@ running_quiet o s v w run covers h n below = go (pair_at w.watched.items n) refl
         (guards_known s.guard_level (history s) (history s) p (subst (λ (ds : List Entry). GuardsTo s.guard_level ds (history s) p) (before_all s.tracker.trail) (walked n p is)))
     go None is = covered is (covers.covered n (subst (λ (cs : List SatClause). n < length cs) run.extends.same.clauses below) (run.watching.pairs n is))
 
-pub running_ends : (o s : SatState) (v w : WatchLists) → Running o s v w → AreCovered o v → length s.tracker.trail ≤ s.front → IsComplete o s v w
+pub running_ends : (o s : SatState) (v w : WatchLists) → Running o s v w → AreCovered o v → length s.tracker.trail ≤ s.qhead → IsComplete o s v w
 running_ends o s v w run covers end =
-    let low : s.front ≤ length s.tracker.trail = run.in_range in
+    let low : s.qhead ≤ length s.tracker.trail = run.in_range in
     record {
       watching = run.watching;
-      ready = record { state = run.extends.state; fits = run.fits; front = run.in_range; walked = run.walked };
+      ready = record { state = run.extends.state; fits = run.fits; qhead = run.in_range; walked = run.walked };
       extends = run.extends;
-      front = omega arith;
-      settled = run.settled;
+      qhead = omega arith;
+      attached = run.attached;
       quiet = running_quiet o s v w run covers end;
     }
 
 -- a quiet clause is not falsified
-pub quiet_not_broken : (s : SatState) (clause : List Signed) → IsState s → IsQuiet (made_true (history s)) clause → IsFalseUnder (made_true (history s)) clause → ⊥
-quiet_not_broken s clause state (inl q) f = consistent (count_of s) (clauses_of s) (history s) q.0 state.trail q.2 (f q.0 q.1)
-quiet_not_broken s clause state (inr q) f = both_ways _ q.5 (f q.0 q.2)
+pub quiet_not_falsified : (s : SatState) (clause : List Signed) → IsState s → IsQuiet (made_true (history s)) clause → IsFalseUnder (made_true (history s)) clause → ⊥
+quiet_not_falsified s clause state (inl q) f = consistent (count_of s) (clauses_of s) (history s) q.0 state.trail q.2 (f q.0 q.1)
+quiet_not_falsified s clause state (inr q) f = both_ways _ q.5 (f q.0 q.2)
 
 -- and it forces nothing
 pub quiet_not_forced : (s : SatState) (clause : List Signed) (l : Signed) → IsState s → IsQuiet (made_true (history s)) clause → Forces (made_true (history s)) clause l → ⊥
@@ -208,7 +208,7 @@ quiet_not_forced s clause l state (inr q) f = elim (f.forced.others q.0 q.2) [
 ]
 
 -- the literal that the entry at the propagation head makes false
-pub next_fell : (s : SatState) (e : Entry) (l : Signed) → s.front < length s.tracker.trail → before s.tracker.trail (s.front + 1) ≡ e ∷ before s.tracker.trail s.front → l ≡ record { variable = e.decision.variable; positive = not e.decision.value } → FellAt l s.front s
+pub next_fell : (s : SatState) (e : Entry) (l : Signed) → s.qhead < length s.tracker.trail → before s.tracker.trail (s.qhead + 1) ≡ e ∷ before s.tracker.trail s.qhead → l ≡ record { variable = e.decision.variable; positive = not e.decision.value } → FellAt l s.qhead s
 next_fell s e l within next is =
     let literal : literal_of e ≡ negation l = sym (negation-negation (literal_of e)) ∙ ap negation (sym is) in
-    record { in_range = within; entry = ap made_true next ∙ ap (λ (x : Signed). x ∷ made_true (before s.tracker.trail s.front)) literal }
+    record { in_range = within; entry = ap made_true next ∙ ap (λ (x : Signed). x ∷ made_true (before s.tracker.trail s.qhead)) literal }

@@ -5,7 +5,7 @@ use Rattle.resolvo_pool_core.specs.declared.id.ClauseId.{ClauseId}
 use Rattle.resolvo_store_core.specs.Signed.{Signed, has}
 use Rattle.resolvo_store_core.specs.declared.decision.Entry.{Entry}
 use Rattle.resolvo_sat.specs.declared.state.SatState.{SatState}
-use Rattle.resolvo_sat.specs.Entries.{made_true, literal_of, before, top_level, StandsAt, StandsOn}
+use Rattle.resolvo_sat.specs.Entries.{made_true, literal_of, before, top_level, IsTrueAt, IsOnTrail}
 use Rattle.resolvo_sat.specs.State.{history, clauses_of, lists, IsState}
 use Rattle.resolvo_sat.specs.Steps.{Sets, SameBut, KeepsChoices, forced_entry}
 use Rattle.resolvo_sat.specs.Propagation.{Extends}
@@ -14,9 +14,9 @@ use Rattle.resolvo_sat.proofs.StepLemmas.{reverse_push}
 
 -- a forced entry is no choice
 pub forced_keeps : (c : ClauseId) (l : Signed) (h new : List Entry) → new ≡ forced_entry c l h ∷ h → KeepsChoices h new
-forced_keeps c l h new is e older stands choice = go (subst (λ (x : List Entry). StandsOn x e older) is stands)
+forced_keeps c l h new is e older present choice = go (subst (λ (x : List Entry). IsOnTrail x e older) is present)
   where
-    go : ((forced_entry c l h ≡ e) × (h ≡ older)) ⊎ StandsOn h e older → StandsOn h e older
+    go : ((forced_entry c l h ≡ e) × (h ≡ older)) ⊎ IsOnTrail h e older → IsOnTrail h e older
     go (inr s) = s
     go (inl s) =
         let a : e.level ≡ suc (top_level older) = choice.opens in
@@ -30,14 +30,14 @@ set_pushed s t c l set = ap reverse set.pushed ∙ reverse_push s.tracker.trail 
 pub set_extends : (s t : SatState) (c : ClauseId) (l : Signed) → Sets c l s t → Extends s t
 set_extends s t c l set = record { state = set.state; same = set.same; more = forced_entry c l (history s) ∷ []; added = set.pushed; choices = forced_keeps c l (history s) (history t) (set_pushed s t c l set); guard = let e : t.guard_level ≡ s.guard_level = set.guard in omega arith }
 
-pub set_stands : (s t : SatState) (c : ClauseId) (l : Signed) → Sets c l s t → has (made_true (history t)) l ≡ true
-set_stands s t c l set = subst (λ (h : List Entry). has (made_true h) l ≡ true) (sym (set_pushed s t c l set)) (has_here l (made_true (history s)) l refl)
+pub set_true : (s t : SatState) (c : ClauseId) (l : Signed) → Sets c l s t → has (made_true (history t)) l ≡ true
+set_true s t c l set = subst (λ (h : List Entry). has (made_true h) l ≡ true) (sym (set_pushed s t c l set)) (has_here l (made_true (history s)) l refl)
 
 same_itself : (s : SatState) → SameBut s s
 same_itself s = record { variables = refl; base_level = refl; clauses = refl }
 
 pub extends_nothing : (s : SatState) → IsState s → Extends s s
-extends_nothing s state = record { state = state; same = same_itself s; more = []; added = sym (append-nil s.tracker.trail); choices = λ e older stands choice. stands; guard = omega arith }
+extends_nothing s state = record { state = state; same = same_itself s; more = []; added = sym (append-nil s.tracker.trail); choices = λ e older present choice. present; guard = omega arith }
 
 pub same_more : (s t u : SatState) → SameBut s t → SameBut t u → SameBut s u
 same_more s t u a b = record { variables = b.variables ∙ a.variables; base_level = b.base_level ∙ a.base_level; clauses = b.clauses ∙ a.clauses }
@@ -48,7 +48,7 @@ extends_more s t u a b = record {
   same = same_more s t u a.same b.same;
   more = a.more ++ b.more;
   added = b.added ∙ ap (λ (xs : List Entry). xs ++ b.more) a.added ∙ append_assoc s.tracker.trail a.more b.more;
-  choices = λ e older stands choice. a.choices e older (b.choices e older stands choice) choice;
+  choices = λ e older present choice. a.choices e older (b.choices e older present choice) choice;
   guard = let low : s.guard_level ≤ t.guard_level = a.guard in let high : t.guard_level ≤ u.guard_level = b.guard in omega arith;
 }
 
@@ -75,17 +75,17 @@ before_kept s t k e h = ap (λ (xs : List Entry). before xs k) e.added ∙ ap re
 pub same_clauses : (s t : SatState) → Extends s t → clauses_of t ≡ clauses_of s
 same_clauses s t e = ap lists e.same.clauses
 
-stands_later : (xs ys : List Entry) (l : Signed) (k : ℕ) → StandsAt ys l k → StandsAt (xs ++ ys) l k
-stands_later [] ys l k h = h
-stands_later (x ∷ xs) ys l k h = inr (stands_later xs ys l k h)
+level_later : (xs ys : List Entry) (l : Signed) (k : ℕ) → IsTrueAt ys l k → IsTrueAt (xs ++ ys) l k
+level_later [] ys l k h = h
+level_later (x ∷ xs) ys l k h = inr (level_later xs ys l k h)
 
-pub stands_in_more : (xs ys : List Entry) (l : Signed) (k : ℕ) → StandsAt (reverse xs) l k → StandsAt (reverse (xs ++ ys)) l k
-stands_in_more xs ys l k h = subst (λ (zs : List Entry). StandsAt zs l k) (sym (reverse-append xs ys)) (stands_later (reverse ys) (reverse xs) l k h)
+pub level_in_more : (xs ys : List Entry) (l : Signed) (k : ℕ) → IsTrueAt (reverse xs) l k → IsTrueAt (reverse (xs ++ ys)) l k
+level_in_more xs ys l k h = subst (λ (zs : List Entry). IsTrueAt zs l k) (sym (reverse-append xs ys)) (level_later (reverse ys) (reverse xs) l k h)
 
 -- an entry of the trail is still on it
-pub still_stands : (s t : SatState) (l : Signed) (k : ℕ) → Extends s t → StandsAt (history s) l k → StandsAt (history t) l k
-still_stands s t l k e h = subst (λ (xs : List Entry). StandsAt (reverse xs) l k) (sym e.added) (stands_in_more s.tracker.trail e.more l k h)
+pub level_kept : (s t : SatState) (l : Signed) (k : ℕ) → Extends s t → IsTrueAt (history s) l k → IsTrueAt (history t) l k
+level_kept s t l k e h = subst (λ (xs : List Entry). IsTrueAt (reverse xs) l k) (sym e.added) (level_in_more s.tracker.trail e.more l k h)
 
 -- one of the first entries is on the trail
-pub stands_by_now : (xs : List Entry) (n : ℕ) (l : Signed) (k : ℕ) → StandsAt (before xs n) l k → StandsAt (reverse xs) l k
-stands_by_now xs n l k h = subst (λ (ys : List Entry). StandsAt (reverse ys) l k) (take-append-drop n xs) (stands_in_more (take n xs) (drop n xs) l k h)
+pub level_by_now : (xs : List Entry) (n : ℕ) (l : Signed) (k : ℕ) → IsTrueAt (before xs n) l k → IsTrueAt (reverse xs) l k
+level_by_now xs n l k h = subst (λ (ys : List Entry). IsTrueAt (reverse ys) l k) (take-append-drop n xs) (level_in_more (take n xs) (drop n xs) l k h)

@@ -13,24 +13,24 @@ use Rattle.resolvo_store_core.specs.declared.watched_literals.WatchedLiterals.{W
 use Rattle.resolvo_store_core.proofs.Trails.{assigned_end_same, assigned_end_other}
 use Rattle.resolvo_sat.specs.declared.state.SatState.{SatState}
 use Rattle.resolvo_sat.specs.Known.{IsUndecided}
-use Rattle.resolvo_sat.specs.Entries.{literal_of, made_true, IsTrail, StandsAt}
+use Rattle.resolvo_sat.specs.Entries.{literal_of, made_true, IsTrail, IsTrueAt}
 use Rattle.resolvo_sat.specs.State.{count_of, history, clauses_of, IsState}
-use Rattle.resolvo_sat.specs.Propagation.{IsGuard, Guards, GuardsTo, NotesGuard}
-use Rattle.resolvo_sat.proofs.Trails.{same_or_negated, known_from_stands, stands_from_known, consistent}
+use Rattle.resolvo_sat.specs.Propagation.{IsGuard, Guards, GuardsTo, RecordsGuard}
+use Rattle.resolvo_sat.proofs.Trails.{same_or_negated, known_from_level, level_from_known, consistent}
 use Rattle.resolvo_sat.proofs.Values.{undecided_none}
 
 -- a guard stays one where entries are added, and where the guards' level rises
-pub guard_more : (g h k : ℕ) (all more : List Entry) (l : Signed) → g ≤ h → ((j : ℕ) → StandsAt all l j → StandsAt more l j) → IsGuard g k all l → IsGuard h k more l
-guard_more g h k all more l le inside (j, low, stands) = (j, omega arith, inside j stands)
+pub guard_more : (g h k : ℕ) (all more : List Entry) (l : Signed) → g ≤ h → ((j : ℕ) → IsTrueAt all l j → IsTrueAt more l j) → IsGuard g k all l → IsGuard h k more l
+guard_more g h k all more l le inside (j, low, present) = (j, omega arith, inside j present)
 
-pub guards_more : (g h : ℕ) (fallen all more : List Entry) (p : WatchedLiterals) → g ≤ h → ((l : Signed) (j : ℕ) → StandsAt all l j → StandsAt more l j) → GuardsTo g fallen all p → GuardsTo h fallen more p
+pub guards_more : (g h : ℕ) (fallen all more : List Entry) (p : WatchedLiterals) → g ≤ h → ((l : Signed) (j : ℕ) → IsTrueAt all l j → IsTrueAt more l j) → GuardsTo g fallen all p → GuardsTo h fallen more p
 guards_more g h fallen all more p le inside x = record {
   first = λ k f. guard_more g h k all more p.second le (inside p.second) (x.first k f);
   second = λ k f. guard_more g h k all more p.first le (inside p.first) (x.second k f);
 }
 
 -- of the first entries too
-pub guards_first : (g : ℕ) (fallen first all : List Entry) (p : WatchedLiterals) → ((l : Signed) (j : ℕ) → StandsAt first l j → StandsAt fallen l j) → GuardsTo g fallen all p → GuardsTo g first all p
+pub guards_first : (g : ℕ) (fallen first all : List Entry) (p : WatchedLiterals) → ((l : Signed) (j : ℕ) → IsTrueAt first l j → IsTrueAt fallen l j) → GuardsTo g fallen all p → GuardsTo g first all p
 guards_first g fallen first all p inside x = record {
   first = λ k f. x.first k (inside (negation p.first) k f);
   second = λ k f. x.second k (inside (negation p.second) k f);
@@ -39,8 +39,8 @@ guards_first g fallen first all p inside x = record {
 -- a guard is true
 pub guards_known : (g : ℕ) (fallen all : List Entry) (p : WatchedLiterals) → GuardsTo g fallen all p → Guards (made_true fallen) (made_true all) p
 guards_known g fallen all p x = record {
-  first = λ f. (let (k, stood) = stands_from_known fallen (negation p.first) f in let (j, low, stands) = x.first k stood in known_from_stands all p.second j stands);
-  second = λ f. (let (k, stood) = stands_from_known fallen (negation p.second) f in let (j, low, stands) = x.second k stood in known_from_stands all p.first j stands);
+  first = λ f. (let (k, at_level) = level_from_known fallen (negation p.first) f in let (j, low, present) = x.first k at_level in known_from_level all p.second j present);
+  second = λ f. (let (k, at_level) = level_from_known fallen (negation p.second) f in let (j, low, present) = x.second k at_level in known_from_level all p.first j present);
 }
 
 none_from_value : (o : Option Assignment) → option_map (λ (a : Assignment). a.value) o ≡ None → o ≡ None
@@ -48,7 +48,7 @@ none_from_value None h = refl
 none_from_value (Some a) h = cc
 
 -- the level that the trail gives a variable is that of its entry
-level_at : (count : ℕ) (cs : List (List Signed)) (h : List Entry) (l : Signed) (k : ℕ) → IsTrail count cs h → StandsAt h l k → level_or (assigned (reverse h) l.variable.0) ≡ k
+level_at : (count : ℕ) (cs : List (List Signed)) (h : List Entry) (l : Signed) (k : ℕ) → IsTrail count cs h → IsTrueAt h l k → level_or (assigned (reverse h) l.variable.0) ≡ k
 level_at count cs [] l k t s = absurd s
 level_at count cs (d ∷ older) l k t (inl (is, level)) =
     let free : IsUndecided (made_true (reverse (reverse older))) (literal_of d) = subst (λ (xs : List Entry). IsUndecided (made_true xs) (literal_of d)) (sym (reverse-reverse older)) t.0.undecided in
@@ -57,30 +57,30 @@ level_at count cs (d ∷ older) l k t (inl (is, level)) =
     let same : level_or (assigned (reverse (d ∷ older)) d.decision.variable.0) ≡ d.level = ap (λ (xs : List Entry). level_or (assigned xs d.decision.variable.0)) (reverse_onto older d []) ∙ ap level_or here in
     subst (λ (m : Signed). level_or (assigned (reverse (d ∷ older)) m.variable.0) ≡ k) is (same ∙ level)
 level_at count cs (d ∷ older) l k t (inr s) =
-    let known : has (made_true older) l ≡ true = known_from_stands older l k s in
+    let known : has (made_true older) l ≡ true = known_from_level older l k s in
     let other : l.variable.0 ≡ d.decision.variable.0 → ⊥ = λ e. elim (same_or_negated l (literal_of d) e) [
       | inl i ↦ both_ways _ t.0.undecided.not_true (subst (λ (m : Signed). has (made_true older) m ≡ true) i known)
       | inr i ↦ both_ways _ t.0.undecided.not_false (subst (λ (m : Signed). has (made_true older) m ≡ true) i known)
     ] in
     ap (λ (xs : List Entry). level_or (assigned xs l.variable.0)) (reverse_onto older d []) ∙ ap level_or (assigned_end_other (reverse older) d l.variable.0 other) ∙ level_at count cs older l k t.1 s
 
-pub level_is : (s : SatState) (l : Signed) (k : ℕ) → IsState s → StandsAt (history s) l k → level_or (assigned s.tracker.trail l.variable.0) ≡ k
-level_is s l k state stands = subst (λ (xs : List Entry). level_or (assigned xs l.variable.0) ≡ k) (reverse-reverse s.tracker.trail) (level_at (count_of s) (clauses_of s) (history s) l k state.trail stands)
+pub level_is : (s : SatState) (l : Signed) (k : ℕ) → IsState s → IsTrueAt (history s) l k → level_or (assigned s.tracker.trail l.variable.0) ≡ k
+level_is s l k state present = subst (λ (xs : List Entry). level_or (assigned xs l.variable.0) ≡ k) (reverse-reverse s.tracker.trail) (level_at (count_of s) (clauses_of s) (history s) l k state.trail present)
 
 -- the guards' level is that of the guard at least, unless the guard is at the false literal's level
 -- or below
-pub guard_noted : (s : SatState) (g : ℕ) (l m : Signed) → IsState s → has (made_true (history s)) m ≡ true → s.guard_level ≤ g
-    → (level_or (assigned s.tracker.trail m.variable.0) ≤ max g (level_or (assigned s.tracker.trail l.variable.0))) → (k : ℕ) → StandsAt (history s) (negation l) k → IsGuard g k (history s) m
-guard_noted s g l m state known le bound k fell =
-    let (j, stands) = stands_from_known (history s) m known in
-    let a : level_or (assigned s.tracker.trail m.variable.0) ≡ j = level_is s m j state stands in
+pub guard_recorded : (s : SatState) (g : ℕ) (l m : Signed) → IsState s → has (made_true (history s)) m ≡ true → s.guard_level ≤ g
+    → (level_or (assigned s.tracker.trail m.variable.0) ≤ max g (level_or (assigned s.tracker.trail l.variable.0))) → (k : ℕ) → IsTrueAt (history s) (negation l) k → IsGuard g k (history s) m
+guard_recorded s g l m state known le bound k fell =
+    let (j, present) = level_from_known (history s) m known in
+    let a : level_or (assigned s.tracker.trail m.variable.0) ≡ j = level_is s m j state present in
     let b : level_or (assigned s.tracker.trail l.variable.0) ≡ k = level_is s (negation l) k state fell in
-    (j, omega arith, stands)
+    (j, omega arith, present)
 
 -- the first of a pair is true, and guards the second
-pub guards_noted : (s t : SatState) (p : WatchedLiterals) → IsState s → has (made_true (history s)) p.first ≡ true → NotesGuard p.second p.first s t → GuardsTo t.guard_level (history t) (history t) p
-guards_noted s t p state known noted =
-    subst (λ (h : List Entry). GuardsTo t.guard_level h h p) (sym (ap history noted.same)) (record {
-      first = λ k f. absurd (consistent (count_of s) (clauses_of s) (history s) p.first state.trail known (known_from_stands (history s) (negation p.first) k f));
-      second = λ k f. noted.guard k f;
+pub guards_recorded : (s t : SatState) (p : WatchedLiterals) → IsState s → has (made_true (history s)) p.first ≡ true → RecordsGuard p.second p.first s t → GuardsTo t.guard_level (history t) (history t) p
+guards_recorded s t p state known recorded =
+    subst (λ (h : List Entry). GuardsTo t.guard_level h h p) (sym (ap history recorded.same)) (record {
+      first = λ k f. absurd (consistent (count_of s) (clauses_of s) (history s) p.first state.trail known (known_from_level (history s) (negation p.first) k f));
+      second = λ k f. recorded.guard k f;
     })

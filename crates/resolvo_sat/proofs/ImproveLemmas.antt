@@ -19,7 +19,7 @@ use Rattle.resolvo_sat.specs.Steps.{SameBut, Chooses, Undoes, choice_entry, forc
 use Rattle.resolvo_sat.specs.Propagation.{Extends}
 use Rattle.resolvo_sat.specs.AddClause.{Learns}
 use Rattle.resolvo_sat.specs.PropagateAndLearn.{Improves, weight_left}
-use Rattle.resolvo_sat.proofs.Trails.{known_from_stands, undone_ends}
+use Rattle.resolvo_sat.proofs.Trails.{known_from_level, undone_ends}
 use Rattle.resolvo_sat.proofs.Apart.{false_apart}
 use Rattle.resolvo_sat.proofs.Weights.{weight_bounded}
 use Rattle.resolvo_sat.proofs.StepLemmas.{reverse_push}
@@ -42,9 +42,9 @@ extends_heavier s t count e =
 learnt_apart : (s : SatState) (x : Learnt) → IsState s → IsLearnt s x → AreApart x.literals.items
 learnt_apart s x state learnt = false_apart s x.literals.items state (λ l h. elim (learnt.others l h) [
   | inl e ↦
-      let (level, above, stood) = learnt.fell in
-      subst (λ (y : Signed). has (made_true (history s)) (negation y) ≡ true) (sym e) (known_from_stands (history s) (negation x.asserting) level stood)
-  | inr (level, low, stands) ↦ known_from_stands (history s) (negation l) level stands
+      let (level, above, at_level) = learnt.fell in
+      subst (λ (y : Signed). has (made_true (history s)) (negation y) ≡ true) (sym e) (known_from_level (history s) (negation x.asserting) level at_level)
+  | inr (level, low, present) ↦ known_from_level (history s) (negation l) level present
 ])
 
 -- the entries up to the turn's first level are under those assigned after it
@@ -73,10 +73,10 @@ learning_improves s m b w x id e learnt l =
       added = l.added ∙ ap (λ (cs : List SatClause). cs ++ record { literals = x.literals; causes = x.causes } ∷ []) e.same.clauses;
       derived = subst (λ (cs : List (List Signed)). IsDerived cs x.literals.items x.causes.items) (same_clauses s m e) learnt.derived;
       caused = learnt.caused;
-      from = λ k h. let (n, stands) = learnt.from k h in (n, subst (λ (cs : List (List Signed)). has (clause_at cs n) k ≡ true) (same_clauses s m e) stands);
+      from = λ k h. let (n, present) = learnt.from k h in (n, subst (λ (cs : List (List Signed)). has (clause_at cs n) k ≡ true) (same_clauses s m e) present);
       apart = learnt_apart m x e.state learnt;
       heavier = omega arith;
-      choices = λ d older stands choice. e.choices d older (learns_choices m b w x id l d older stands choice) choice;
+      choices = λ d older present choice. e.choices d older (learns_choices m b w x id l d older present choice) choice;
       earlier = λ base low ends. learns_earlier m b w x id learnt l base (subst (λ (n : ℕ). top_level base ≤ n) (sym e.same.base_level) low) (extends_earlier s m base e ends);
     }
 

@@ -9,13 +9,13 @@ use Rattle.resolvo_sat.specs.declared.state.SatState.{SatState}
 use Rattle.resolvo_sat.specs.declared.analyze.Learnt.{Learnt}
 use Rattle.resolvo_sat.specs.declared.watch_lists.WatchLists.{WatchLists}
 use Rattle.resolvo_sat.specs.Known.{IsUndecided, Forces, clause_at}
-use Rattle.resolvo_sat.specs.Entries.{made_true, top_level, IsUndone, StandsOn, weight}
+use Rattle.resolvo_sat.specs.Entries.{made_true, top_level, IsUndone, IsOnTrail, weight}
 use Rattle.resolvo_sat.specs.State.{count_of, history, clauses_of, lists, IsState}
 use Rattle.resolvo_sat.specs.Analysis.{IsLearnt}
 use Rattle.resolvo_sat.specs.Steps.{Sets, Undoes, KeepsChoices, forced_entry}
-use Rattle.resolvo_sat.specs.AddClause.{Comes, Learns}
+use Rattle.resolvo_sat.specs.AddClause.{AddsPending, Learns}
 use Rattle.resolvo_sat.proofs.Literals.{negation-negation}
-use Rattle.resolvo_sat.proofs.Trails.{kept, undone_undecided, known_from_stands}
+use Rattle.resolvo_sat.proofs.Trails.{kept, undone_undecided, known_from_level}
 use Rattle.resolvo_sat.proofs.Weights.{weight_jump}
 use Rattle.resolvo_sat.proofs.Clauses.{length-lists}
 use Rattle.resolvo_sat.proofs.StepLemmas.{lists-append, clause_at_end}
@@ -24,14 +24,14 @@ use Rattle.resolvo_sat.proofs.Readiness.{ready_extends, covered_same}
 
 learnt_forces : (s t : SatState) (x : Learnt) → IsState s → IsLearnt s x → Undoes x.level s t → Forces (made_true (history t)) x.literals.items x.asserting
 learnt_forces s t x state learnt u =
-    let (high, above, stood) = learnt.fell in
-    let free : IsUndecided (made_true (history t)) (negation x.asserting) = undone_undecided x.level (count_of s) (clauses_of s) (history s) (history t) (negation x.asserting) high state.trail u.undone u.low stood above in
+    let (high, above, at_level) = learnt.fell in
+    let free : IsUndecided (made_true (history t)) (negation x.asserting) = undone_undecided x.level (count_of s) (clauses_of s) (history s) (history t) (negation x.asserting) high state.trail u.undone u.low at_level above in
     record {
       forced = record {
-        stands = learnt.stands;
+        present = learnt.present;
         others = λ l h. elim (learnt.others l h) [
           | inl e ↦ inl e
-          | inr e ↦ let (k, below, stands) = e in inr (known_from_stands (history t) (negation l) k (kept x.level (history s) (history t) (negation l) k u.undone stands below))
+          | inr e ↦ let (k, below, present) = e in inr (known_from_level (history t) (negation l) k (kept x.level (history s) (history t) (negation l) k u.undone present below))
         ];
       };
       undecided = record {
@@ -40,30 +40,30 @@ learnt_forces s t x state learnt u =
       };
     }
 
-pub added_forces : (s t a : SatState) (v w : WatchLists) (x : Learnt) (c : SatClause) (id : ClauseId) → IsState s → IsLearnt s x → Undoes x.level s t → c ≡ record { literals = x.literals; causes = x.causes } → Comes c id t v a w
+pub added_forces : (s t a : SatState) (v w : WatchLists) (x : Learnt) (c : SatClause) (id : ClauseId) → IsState s → IsLearnt s x → Undoes x.level s t → c ≡ record { literals = x.literals; causes = x.causes } → AddsPending c id t v a w
     → Forces (made_true (history a)) (clause_at (clauses_of a) id.0) x.asserting
-added_forces s t a v w x c id state learnt u is comes =
+added_forces s t a v w x c id state learnt u is addition =
     let forces : Forces (made_true (history t)) x.literals.items x.asserting = learnt_forces s t x state learnt u in
-    let added : clauses_of a ≡ clauses_of t ++ c.literals.items ∷ [] = ap lists comes.adds.added ∙ lists-append t.clauses (c ∷ []) in
+    let added : clauses_of a ≡ clauses_of t ++ c.literals.items ∷ [] = ap lists addition.adds.added ∙ lists-append t.clauses (c ∷ []) in
     let clause : clause_at (clauses_of a) id.0 ≡ x.literals.items =
     ap (λ (cs : List (List Signed)). clause_at cs id.0) added
-    ∙ ap (λ (n : ℕ). clause_at (clauses_of t ++ c.literals.items ∷ []) n) (comes.adds.number ∙ sym (length-lists t.clauses))
+    ∙ ap (λ (n : ℕ). clause_at (clauses_of t ++ c.literals.items ∷ []) n) (addition.adds.number ∙ sym (length-lists t.clauses))
     ∙ clause_at_end (clauses_of t) c.literals.items
     ∙ ap (λ (h : SatClause). h.literals.items) is in
-    let entries : history a ≡ history t = ap (λ (k : Tracked). reverse k.trail) comes.adds.tracker in
+    let entries : history a ≡ history t = ap (λ (k : Tracked). reverse k.trail) addition.adds.tracker in
     subst (λ (h : List Entry). Forces (made_true h) (clause_at (clauses_of a) id.0) x.asserting) (sym entries)
     (subst (λ (l : List Signed). Forces (made_true (history t)) l x.asserting) (sym clause) forces)
 
-pub learns : (s t a b : SatState) (v w : WatchLists) (x : Learnt) (c : SatClause) (id : ClauseId) → Undoes x.level s t → c ≡ record { literals = x.literals; causes = x.causes } → Comes c id t v a w → Sets id x.asserting a b → Learns x id s b w
-learns s t a b v w x c id u is comes set =
-    let entries : history a ≡ history t = ap (λ (k : Tracked). reverse k.trail) comes.adds.tracker in
+pub learns : (s t a b : SatState) (v w : WatchLists) (x : Learnt) (c : SatClause) (id : ClauseId) → Undoes x.level s t → c ≡ record { literals = x.literals; causes = x.causes } → AddsPending c id t v a w → Sets id x.asserting a b → Learns x id s b w
+learns s t a b v w x c id u is addition set =
+    let entries : history a ≡ history t = ap (λ (k : Tracked). reverse k.trail) addition.adds.tracker in
     record {
-      ready = ready_extends a b w comes.ready (set_extends a b id x.asserting set) set.front;
-      covered = covered_same a b w comes.covered set.same.clauses;
-      variables = set.same.variables ∙ comes.adds.variables ∙ u.same.variables;
-      base_level = set.same.base_level ∙ comes.adds.base_level ∙ u.same.base_level;
-      number = comes.adds.number ∙ ap length u.same.clauses;
-      added = set.same.clauses ∙ comes.adds.added ∙ ap (λ (cs : List SatClause). cs ++ c ∷ []) u.same.clauses ∙ ap (λ (h : SatClause). s.clauses ++ h ∷ []) is;
+      ready = ready_extends a b w addition.ready (set_extends a b id x.asserting set) set.qhead;
+      covered = covered_same a b w addition.covered set.same.clauses;
+      variables = set.same.variables ∙ addition.adds.variables ∙ u.same.variables;
+      base_level = set.same.base_level ∙ addition.adds.base_level ∙ u.same.base_level;
+      number = addition.adds.number ∙ ap length u.same.clauses;
+      added = set.same.clauses ∙ addition.adds.added ∙ ap (λ (cs : List SatClause). cs ++ c ∷ []) u.same.clauses ∙ ap (λ (h : SatClause). s.clauses ++ h ∷ []) is;
       base = history t;
       undone = u.undone;
       low = u.low;
@@ -71,21 +71,21 @@ learns s t a b v w x c id u is comes set =
     }
 
 -- the entries after a jump were there before it
-pub undone_on : (level : ℕ) (old new : List Entry) (e : Entry) (older : List Entry) → IsUndone level old new → StandsOn new e older → StandsOn old e older
-undone_on level [] new e older u s = subst (λ (h : List Entry). StandsOn h e older) u s
-undone_on level (d ∷ ds) new e older (inl u) s = subst (λ (h : List Entry). StandsOn h e older) u s
+pub undone_on : (level : ℕ) (old new : List Entry) (e : Entry) (older : List Entry) → IsUndone level old new → IsOnTrail new e older → IsOnTrail old e older
+undone_on level [] new e older u s = subst (λ (h : List Entry). IsOnTrail h e older) u s
+undone_on level (d ∷ ds) new e older (inl u) s = subst (λ (h : List Entry). IsOnTrail h e older) u s
 undone_on level (d ∷ ds) new e older (inr u) s = inr (undone_on level ds new e older u.1 s)
 
 -- each choice that is left was one before
 pub learns_choices : (s b : SatState) (w : WatchLists) (x : Learnt) (id : ClauseId) → Learns x id s b w → KeepsChoices (history s) (history b)
-learns_choices s b w x id l e older stands choice =
+learns_choices s b w x id l e older present choice =
     undone_on x.level (history s) l.base e older l.undone
-    (forced_keeps id x.asserting l.base (history b) l.pushed e older stands choice)
+    (forced_keeps id x.asserting l.base (history b) l.pushed e older present choice)
 
 -- the trail is heavier than before the jump
 pub learns_heavier : (s b : SatState) (w : WatchLists) (x : Learnt) (id : ClauseId) → IsState s → IsLearnt s x → Learns x id s b w → weight (count_of s) (history s) < weight (count_of s) (history b)
 learns_heavier s b w x id state learnt l =
-    let (high, above, stood) = learnt.fell in
+    let (high, above, at_level) = learnt.fell in
     let jump : weight (count_of s) (history s) < (count_of s + 1) ^ (count_of s + 1 - top_level l.base) + weight (count_of s) l.base =
-    weight_jump (count_of s) x.level (clauses_of s) (history s) l.base (negation x.asserting) high state.trail l.undone l.low stood above in
+    weight_jump (count_of s) x.level (clauses_of s) (history s) l.base (negation x.asserting) high state.trail l.undone l.low at_level above in
     subst (λ (h : List Entry). weight (count_of s) (history s) < weight (count_of s) h) (sym l.pushed) jump

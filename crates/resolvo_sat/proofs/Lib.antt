@@ -12,9 +12,9 @@ pub mod ExtendLemmas
 pub mod Guards
 pub mod Readiness
 pub mod VisitLemmas
-pub mod SettleLemmas
+pub mod AttachLemmas
 pub mod CompleteLemmas
-pub mod ComeLemmas
+pub mod PendingLemmas
 pub mod JumpLemmas
 pub mod Variables
 pub mod ImproveLemmas

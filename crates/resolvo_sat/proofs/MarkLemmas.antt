@@ -5,7 +5,7 @@ use Rattle.std.proofs.lemmas.Bool.{both_ways}
 use Rattle.resolvo_store_core.specs.Signed.{Signed, negation, has}
 use Rattle.resolvo_store_core.specs.declared.decision.Entry.{Entry}
 use Rattle.resolvo_pool_core.specs.declared.id.VariableId.{VariableId}
-use Rattle.resolvo_sat.specs.Entries.{literal_of, made_true, top_level, IsTrail, StandsAt}
+use Rattle.resolvo_sat.specs.Entries.{literal_of, made_true, top_level, IsTrail, IsTrueAt}
 use Rattle.resolvo_sat.specs.Analysis.{is_seen, denied, Seen, IsMarkedLevel}
 use Rattle.resolvo_sat.proofs.Literals.{negation-negation, has-cons, has_here, has_later, has_more, more_has_old, more_has_new}
 use Rattle.resolvo_sat.proofs.Trails.{level_le_last, level_steps}
@@ -33,11 +33,11 @@ denied_here seen e older m = go (is_seen seen e) m
     go false m = absurd (both_ways false refl m)
 
 -- a denied literal is false by an entry
-pub denied_stands : (seen : List Bool) (h : List Entry) (l : Signed) → has (denied seen h) l ≡ true → (k : ℕ) × StandsAt h (negation l) k
-denied_stands seen [] l h = absurd (both_ways false refl h)
-denied_stands seen (e ∷ older) l h = elim (denied_cases seen e older l h) [
+pub denied_level : (seen : List Bool) (h : List Entry) (l : Signed) → has (denied seen h) l ≡ true → (k : ℕ) × IsTrueAt h (negation l) k
+denied_level seen [] l h = absurd (both_ways false refl h)
+denied_level seen (e ∷ older) l h = elim (denied_cases seen e older l h) [
   | inl i ↦ (e.level, inl (sym (ap negation i.1 ∙ negation-negation (literal_of e)), refl))
-  | inr i ↦ let (k, s) = denied_stands seen older l i in (k, inr s)
+  | inr i ↦ let (k, s) = denied_level seen older l i in (k, inr s)
 ]
 
 -- a false literal whose variable is marked is denied
@@ -71,7 +71,7 @@ level_found count cs seen e older h t same =
     let top : top_level h ≡ e.level = ap top_level same in
     record {
       bounds = λ l d.
-          let (k, s) = denied_stands seen h l d in
+          let (k, s) = denied_level seen h l d in
           let a : k ≤ top_level h = level_le_last count cs h (negation l) k t s in
           (k, omega arith, s);
       low = omega arith;
@@ -104,7 +104,7 @@ marks_root literals i x old new lt is is_root m = record {
   ];
   only = λ v h. elim (m.only v h) [
     | inl a ↦ inl a
-    | inr a ↦ let (l, stands, same) = a.1 in inr (a.0, (l, more_has_old literals i x l lt stands, same))
+    | inr a ↦ let (l, present, same) = a.1 in inr (a.0, (l, more_has_old literals i x l lt present, same))
   ];
 }
 
@@ -136,5 +136,5 @@ marks_more literals i x old mid new lt is nonroot put m = record {
         inr (λ z. nonroot (same ∙ z), (x, subst (λ (y : Signed). has (take (i + 1) literals) y ≡ true) (sym is) (more_has_new literals i x lt), same))
     only_here v false e h = elim (m.only v h) [
       | inl a ↦ inl a
-      | inr a ↦ let (l, stands, same) = a.1 in inr (a.0, (l, more_has_old literals i x l lt stands, same))
+      | inr a ↦ let (l, present, same) = a.1 in inr (a.0, (l, more_has_old literals i x l lt present, same))
     ]

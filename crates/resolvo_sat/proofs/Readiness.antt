@@ -9,12 +9,12 @@ use Rattle.resolvo_sat.specs.declared.state.SatClause.{SatClause}
 use Rattle.resolvo_sat.specs.declared.state.SatState.{SatState}
 use Rattle.resolvo_sat.specs.declared.watch_lists.WatchLists.{WatchLists}
 use Rattle.resolvo_sat.specs.Known.{clause_at}
-use Rattle.resolvo_sat.specs.Entries.{before, top_level, StandsAt}
+use Rattle.resolvo_sat.specs.Entries.{before, top_level, IsTrueAt}
 use Rattle.resolvo_sat.specs.State.{count_of, history, clauses_of, lists, IsState}
 use Rattle.resolvo_sat.specs.Steps.{Undoes}
-use Rattle.resolvo_sat.specs.Propagation.{IsReady, IsFit, HasTwo, IsOwnPair, AreCovered, AreSingles, SameWatching, IsGuard, GuardsTo, NotesGuard, IsWalkedTo, Extends}
+use Rattle.resolvo_sat.specs.Propagation.{IsReady, IsFit, HasTwo, IsOwnPair, AreCovered, AreUnits, SameWatching, IsGuard, GuardsTo, RecordsGuard, IsWalkedTo, Extends}
 use Rattle.resolvo_sat.proofs.Trails.{kept, level_le_last, undone_older}
-use Rattle.resolvo_sat.proofs.ExtendLemmas.{stands_in_more, stands_by_now}
+use Rattle.resolvo_sat.proofs.ExtendLemmas.{level_in_more, level_by_now}
 use Rattle.resolvo_sat.proofs.Guards.{guards_more}
 
 -- watches that fit some clauses fit the same clauses
@@ -24,7 +24,7 @@ fits_same s t w fits same = record {
   each = fits.each ∙ sym (ap (λ (cs : List SatClause). length cs) same);
   own = λ n p is. subst (λ (cs : List SatClause). IsOwnPair (clause_at (lists cs) n) p) (sym same) (fits.own n p is);
   unwatched = fits.unwatched;
-  two = λ n waits. subst (λ (cs : List SatClause). HasTwo (clause_at (lists cs) n)) (sym same) (fits.two n waits);
+  two = λ n stays_pending. subst (λ (cs : List SatClause). HasTwo (clause_at (lists cs) n)) (sym same) (fits.two n stays_pending);
   once = fits.once;
 }
 
@@ -43,72 +43,72 @@ pub walked_more : (s t : SatState) (k : ℕ) (w : WatchLists) (more : List Entry
 walked_more s t k w more added higher low walked n p is =
     subst (λ (xs : List Entry). GuardsTo t.guard_level (before xs k) (reverse xs) p) (sym added)
     (subst (λ (h : List Entry). GuardsTo t.guard_level h (reverse (s.tracker.trail ++ more)) p) (sym (ap reverse (take-append-le k s.tracker.trail more low)))
-    (guards_more s.guard_level t.guard_level (before s.tracker.trail k) (history s) (reverse (s.tracker.trail ++ more)) p higher (λ l j h. stands_in_more s.tracker.trail more l j h) (walked n p is)))
+    (guards_more s.guard_level t.guard_level (before s.tracker.trail k) (history s) (reverse (s.tracker.trail ++ more)) p higher (λ l j h. level_in_more s.tracker.trail more l j h) (walked n p is)))
 
 -- entries were added, and the clauses are the same
-pub ready_more : (s t : SatState) (w : WatchLists) (more : List Entry) → IsReady s w → IsState t → t.clauses ≡ s.clauses → t.tracker.trail ≡ s.tracker.trail ++ more → t.front ≡ s.front → s.guard_level ≤ t.guard_level → IsReady t w
-ready_more s t w more ready state clauses added front higher = record {
+pub ready_more : (s t : SatState) (w : WatchLists) (more : List Entry) → IsReady s w → IsState t → t.clauses ≡ s.clauses → t.tracker.trail ≡ s.tracker.trail ++ more → t.qhead ≡ s.qhead → s.guard_level ≤ t.guard_level → IsReady t w
+ready_more s t w more ready state clauses added qhead higher = record {
   state = state;
   fits = fits_same s t w ready.fits clauses;
-  front =
-      let low : s.front ≤ length s.tracker.trail = ready.front in
+  qhead =
+      let low : s.qhead ≤ length s.tracker.trail = ready.qhead in
       let long : length t.tracker.trail ≡ length s.tracker.trail + length more = ap length added ∙ length-append s.tracker.trail more in
       omega arith;
-  walked = subst (λ (k : ℕ). IsWalkedTo k t w) (sym front) (walked_more s t s.front w more added higher ready.front ready.walked);
+  walked = subst (λ (k : ℕ). IsWalkedTo k t w) (sym qhead) (walked_more s t s.qhead w more added higher ready.qhead ready.walked);
 }
 
-pub ready_extends : (s t : SatState) (w : WatchLists) → IsReady s w → Extends s t → t.front ≡ s.front → IsReady t w
-ready_extends s t w ready e front = ready_more s t w e.more ready e.state e.same.clauses e.added front e.guard
+pub ready_extends : (s t : SatState) (w : WatchLists) → IsReady s w → Extends s t → t.qhead ≡ s.qhead → IsReady t w
+ready_extends s t w ready e qhead = ready_more s t w e.more ready e.state e.same.clauses e.added qhead e.guard
 
 -- the trail is the same too
-pub ready_same : (s t : SatState) (w : WatchLists) → IsReady s w → IsState t → t.clauses ≡ s.clauses → t.tracker ≡ s.tracker → t.front ≡ s.front → t.guard_level ≡ s.guard_level → IsReady t w
-ready_same s t w ready state clauses tracker front guard = ready_more s t w [] ready state clauses (ap (λ (x : Tracked). x.trail) tracker ∙ sym (append-nil s.tracker.trail)) front (omega arith)
+pub ready_same : (s t : SatState) (w : WatchLists) → IsReady s w → IsState t → t.clauses ≡ s.clauses → t.tracker ≡ s.tracker → t.qhead ≡ s.qhead → t.guard_level ≡ s.guard_level → IsReady t w
+ready_same s t w ready state clauses tracker qhead guard = ready_more s t w [] ready state clauses (ap (λ (x : Tracked). x.trail) tracker ∙ sym (append-nil s.tracker.trail)) qhead (omega arith)
 
 -- entries above the level were taken away, and no guard was above it that has to stay
-walked_undone : (s t : SatState) (w : WatchLists) (level : ℕ) → Undoes level s t → IsState s → s.guard_level ≤ level → t.guard_level ≡ s.guard_level → t.front ≤ s.front → t.front ≤ length t.tracker.trail → IsWalkedTo s.front s w → IsWalkedTo t.front t w
-walked_undone s t w level undoes state low same front within walked n p is =
+walked_undone : (s t : SatState) (w : WatchLists) (level : ℕ) → Undoes level s t → IsState s → s.guard_level ≤ level → t.guard_level ≡ s.guard_level → t.qhead ≤ s.qhead → t.qhead ≤ length t.tracker.trail → IsWalkedTo s.qhead s w → IsWalkedTo t.qhead t w
+walked_undone s t w level undoes state low same qhead within walked n p is =
     let (gone, old) = undone_older level (history s) (history t) undoes.undone in
     record {
       first = λ k f. guard k p.second ((walked n p is).first k (earlier gone old (negation p.first) k f)) (not_above (negation p.first) k f);
       second = λ k f. guard k p.first ((walked n p is).second k (earlier gone old (negation p.second) k f)) (not_above (negation p.second) k f);
     }
   where
-    not_above : (l : Signed) (k : ℕ) → StandsAt (before t.tracker.trail t.front) l k → k ≤ level
+    not_above : (l : Signed) (k : ℕ) → IsTrueAt (before t.tracker.trail t.qhead) l k → k ≤ level
     not_above l k f =
-        let a : k ≤ top_level (history t) = level_le_last (count_of t) (clauses_of t) (history t) l k undoes.state.trail (stands_by_now t.tracker.trail t.front l k f) in
+        let a : k ≤ top_level (history t) = level_le_last (count_of t) (clauses_of t) (history t) l k undoes.state.trail (level_by_now t.tracker.trail t.qhead l k f) in
         let b : top_level (history t) ≤ level = undoes.low in
         omega arith
 
-    earlier : (gone : List Entry) → history s ≡ gone ++ history t → (l : Signed) (k : ℕ) → StandsAt (before t.tracker.trail t.front) l k → StandsAt (before s.tracker.trail s.front) l k
+    earlier : (gone : List Entry) → history s ≡ gone ++ history t → (l : Signed) (k : ℕ) → IsTrueAt (before t.tracker.trail t.qhead) l k → IsTrueAt (before s.tracker.trail s.qhead) l k
     earlier gone old l k f =
         let trail : s.tracker.trail ≡ t.tracker.trail ++ reverse gone = sym (reverse-reverse s.tracker.trail) ∙ ap reverse old ∙ reverse-append gone (history t) ∙ ap (λ (xs : List Entry). xs ++ reverse gone) (reverse-reverse t.tracker.trail) in
-        let front_same : before s.tracker.trail t.front ≡ before t.tracker.trail t.front = ap (λ (xs : List Entry). before xs t.front) trail ∙ ap reverse (take-append-le t.front t.tracker.trail (reverse gone) within) in
-        let more : before (take s.front s.tracker.trail) t.front ≡ before s.tracker.trail t.front = ap reverse (take-take t.front s.front s.tracker.trail front) in
-        stands_by_now (take s.front s.tracker.trail) t.front l k (subst (λ (h : List Entry). StandsAt h l k) (sym (more ∙ front_same)) f)
+        let prefix_same : before s.tracker.trail t.qhead ≡ before t.tracker.trail t.qhead = ap (λ (xs : List Entry). before xs t.qhead) trail ∙ ap reverse (take-append-le t.qhead t.tracker.trail (reverse gone) within) in
+        let more : before (take s.qhead s.tracker.trail) t.qhead ≡ before s.tracker.trail t.qhead = ap reverse (take-take t.qhead s.qhead s.tracker.trail qhead) in
+        level_by_now (take s.qhead s.tracker.trail) t.qhead l k (subst (λ (h : List Entry). IsTrueAt h l k) (sym (more ∙ prefix_same)) f)
 
     guard : (k : ℕ) (l : Signed) → IsGuard s.guard_level k (history s) l → k ≤ level → IsGuard t.guard_level k (history t) l
-    guard k l (j, le, stands) below = (j, omega arith, kept level (history s) (history t) l j undoes.undone stands (omega arith))
+    guard k l (j, le, present) below = (j, omega arith, kept level (history s) (history t) l j undoes.undone present (omega arith))
 
 -- entries were taken away
 pub ready_undone : (s t : SatState) (w : WatchLists) (level : ℕ) → Undoes level s t → IsReady s w → IsReady t w
-ready_undone s t w level undoes ready = elim undoes.front [
+ready_undone s t w level undoes ready = elim undoes.qhead [
   | inl anew ↦ record {
     state = undoes.state;
     fits = fits_same s t w ready.fits undoes.same.clauses;
-    front = omega arith;
+    qhead = omega arith;
     walked = subst (λ (k : ℕ). IsWalkedTo k t w) (sym anew) (walked_none t w);
   }
-  | inr (low, same, front) ↦ record {
+  | inr (low, same, qhead) ↦ record {
     state = undoes.state;
     fits = fits_same s t w ready.fits undoes.same.clauses;
-    front = omega arith;
+    qhead = omega arith;
     walked = walked_undone s t w level undoes ready.state low same (omega arith) (omega arith) ready.walked;
   }
 ]
 
 -- the propagation head alone was set
-pub front_extends : (s t : SatState) (front : ℕ) → Extends s t → Extends s (record t { front = front })
-front_extends s t front e = record {
+pub qhead_extends : (s t : SatState) (qhead : ℕ) → Extends s t → Extends s (record t { qhead = qhead })
+qhead_extends s t qhead e = record {
   state = record { trail = e.state.trail; derived = e.state.derived; in_range = e.state.in_range; small = e.state.small; floor_low = e.state.floor_low; rooted = e.state.rooted };
   same = record { variables = e.same.variables; base_level = e.same.base_level; clauses = e.same.clauses };
   more = e.more;
@@ -118,35 +118,35 @@ front_extends s t front e = record {
 }
 
 -- the guards' level alone was set
-pub noted_extends : (o s t : SatState) (l m : Signed) → Extends o s → NotesGuard l m s t → Extends o t
-noted_extends o s t l m e noted =
-    subst (Extends o) (sym noted.same) (record {
+pub guard_extends : (o s t : SatState) (l m : Signed) → Extends o s → RecordsGuard l m s t → Extends o t
+guard_extends o s t l m e recorded =
+    subst (Extends o) (sym recorded.same) (record {
       state = record { trail = e.state.trail; derived = e.state.derived; in_range = e.state.in_range; small = e.state.small; floor_low = e.state.floor_low; rooted = e.state.rooted };
       same = record { variables = e.same.variables; base_level = e.same.base_level; clauses = e.same.clauses };
       more = e.more;
       added = e.added;
       choices = e.choices;
-      guard = let a : o.guard_level ≤ s.guard_level = e.guard in let b : s.guard_level ≤ t.guard_level = noted.higher in omega arith;
+      guard = let a : o.guard_level ≤ s.guard_level = e.guard in let b : s.guard_level ≤ t.guard_level = recorded.higher in omega arith;
     })
 
 -- the clauses' watches are the same
 pub same_watching : (w : WatchLists) → SameWatching w w
-same_watching w = record { assertions = refl; learnt = refl; pairs = λ n h. h; waited = λ n h. h; waits = λ n h none. h }
+same_watching w = record { assertions = refl; learnt = refl; pairs = λ n h. h; was_pending = λ n h. h; stays_pending = λ n h none. h }
 
 pub watching_more : (u v w : WatchLists) → SameWatching u v → SameWatching v w → SameWatching u w
 watching_more u v w a b = record {
   assertions = b.assertions ∙ a.assertions;
   learnt = b.learnt ∙ a.learnt;
   pairs = λ n none. a.pairs n (b.pairs n none);
-  waited = λ n waits. a.waited n (b.waited n waits);
-  waits = λ n waits none. b.waits n (a.waits n waits (b.pairs n none)) none;
+  was_pending = λ n stays_pending. a.was_pending n (b.was_pending n stays_pending);
+  stays_pending = λ n stays_pending none. b.stays_pending n (a.stays_pending n stays_pending (b.pairs n none)) none;
 }
 
 -- watches that cover some clauses cover the same clauses
 pub covered_same : (s t : SatState) (w : WatchLists) → AreCovered s w → t.clauses ≡ s.clauses → AreCovered t w
 covered_same s t w covers same = record {
-  assertions = subst (λ (cs : List SatClause). AreSingles (lists cs) w.assertions.items) (sym same) covers.assertions;
-  learnt = subst (λ (cs : List SatClause). AreSingles (lists cs) w.learnt.items) (sym same) covers.learnt;
+  assertions = subst (λ (cs : List SatClause). AreUnits (lists cs) w.assertions.items) (sym same) covers.assertions;
+  learnt = subst (λ (cs : List SatClause). AreUnits (lists cs) w.learnt.items) (sym same) covers.learnt;
   covered = λ n below none. covers.covered n (subst (λ (cs : List SatClause). n < length cs) same below) none;
   first = subst (λ (cs : List SatClause). has (clause_at (lists cs) 0) (yes root) ≡ true) (sym same) covers.first;
 }

@@ -16,7 +16,7 @@ use Rattle.resolvo_sat.specs.declared.state.SatState.{SatState}
 use Rattle.resolvo_sat.specs.Known.{IsUndecided, Forces, clause_at}
 use Rattle.resolvo_sat.specs.Entries.{made_true, top_level, Follows, IsTrail, IsUndone, IsRooted}
 use Rattle.resolvo_sat.specs.State.{count_of, history, lists, clauses_of, IsDerived, AreDerived, IsState}
-use Rattle.resolvo_sat.specs.Steps.{AreInRange, forced_entry, choice_entry, SameBut, Sets, Chooses, IsFrontUndone, Undoes, Adds}
+use Rattle.resolvo_sat.specs.Steps.{AreInRange, forced_entry, choice_entry, SameBut, Sets, Chooses, IsQheadUndone, Undoes, Adds}
 use Rattle.resolvo_sat.proofs.Trails.{trail_more, undone_trail, undone_rooted, undone_all, length_le, level_le_length}
 use Rattle.resolvo_sat.proofs.Values.{undecided_none}
 
@@ -51,10 +51,10 @@ forced_added s u c l x e state forces is answer with =
     let added : u ≡ record s.tracker { trail = s.tracker.trail ++ e ∷ [] } = added_new s.tracker u e x none answer with in
     let pushed : u.trail ≡ s.tracker.trail ++ forced_entry c l (history s) ∷ [] = ap (λ (t : Store.Tracked). t.trail) added ∙ ap (λ (d : Entry). s.tracker.trail ++ d ∷ []) is in
     record {
-      state = state_pushed s u (forced_entry c l (history s)) state (record { undecided = forces.undecided; in_range = state.in_range c.0 l forces.forced.stands; reasoned = inr (record { level = refl; forced = forces.forced }) }) pushed;
+      state = state_pushed s u (forced_entry c l (history s)) state (record { undecided = forces.undecided; in_range = state.in_range c.0 l forces.forced.present; reasoned = inr (record { level = refl; forced = forces.forced }) }) pushed;
       same = record { variables = refl; base_level = refl; clauses = refl };
       pushed = pushed;
-      front = refl;
+      qhead = refl;
       guard = refl;
     }
 
@@ -68,7 +68,7 @@ choice_added s u v c x e state in_range free is answer with =
       state = state_pushed s u (choice_entry v c (history s)) state (record { undecided = free; in_range = in_range; reasoned = inl (record { opens = refl; positive = refl }) }) pushed;
       same = record { variables = refl; base_level = refl; clauses = refl };
       pushed = pushed;
-      front = refl;
+      qhead = refl;
       guard = refl;
     }
 
@@ -102,10 +102,10 @@ undone_is level a b t =
     subst (λ (e : Entry). level < e.level) (sym (get_or-reverse t.undone i d within)) (t.above (length t.undone - 1 - i) d (omega arith))))
 
 -- entries were undone, and the propagation head was set
-pub state_undone : (s u : SatState) (level : ℕ) → IsState s → 1 ≤ level → Store.Undoes level s.tracker u.tracker → u ≡ record s { tracker = u.tracker; front = u.front; guard_level = u.guard_level } → IsFrontUndone level s u → Undoes level s u
-state_undone s u level state one undoes same front =
+pub state_undone : (s u : SatState) (level : ℕ) → IsState s → 1 ≤ level → Store.Undoes level s.tracker u.tracker → u ≡ record s { tracker = u.tracker; qhead = u.qhead; guard_level = u.guard_level } → IsQheadUndone level s u → Undoes level s u
+state_undone s u level state one undoes same qhead =
     let undone : IsUndone level (history s) (history u) = undone_is level s.tracker u.tracker undoes.0 in
-    let here : IsState (record s { tracker = u.tracker; front = u.front; guard_level = u.guard_level }) = record {
+    let here : IsState (record s { tracker = u.tracker; qhead = u.qhead; guard_level = u.guard_level }) = record {
       trail = undone_trail level (count_of s) (clauses_of s) (history s) (history u) undone state.trail;
       derived = state.derived;
       in_range = state.in_range;
@@ -121,7 +121,7 @@ state_undone s u level state one undoes same front =
           let low : Store.last_level u.tracker.trail ≤ level = undoes.1 in
           let is : Store.last_level u.tracker.trail ≡ top_level (history u) = last_is_top u.tracker.trail in
           omega arith);
-      front = front;
+      qhead = qhead;
     }
 
 pub lists-append : (xs ys : List SatClause) → lists (xs ++ ys) ≡ lists xs ++ lists ys
@@ -160,7 +160,7 @@ clause_held s more c id state follows in_range number pushed =
       variables = refl;
       base_level = refl;
       tracker = refl;
-      front = refl;
+      qhead = refl;
       guard = refl;
       number = number;
       added = pushed;

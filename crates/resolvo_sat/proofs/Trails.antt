@@ -8,7 +8,7 @@ use Rattle.resolvo_store_core.specs.Signed.{Signed, negation, has}
 use Rattle.resolvo_store_core.specs.Clauses.{yes, root}
 use Rattle.resolvo_store_core.specs.declared.decision.Entry.{Entry}
 use Rattle.resolvo_sat.specs.Known.{IsUndecided, IsForced, clause_at}
-use Rattle.resolvo_sat.specs.Entries.{literal_of, reason_of, made_true, before, top_level, IsReasoned, Follows, IsTrail, StandsAt, StandsOn, EndsWith, IsUndone, IsRooted}
+use Rattle.resolvo_sat.specs.Entries.{literal_of, reason_of, made_true, before, top_level, IsReasoned, Follows, IsTrail, IsTrueAt, IsOnTrail, EndsWith, IsUndone, IsRooted}
 use Rattle.resolvo_sat.proofs.Literals.{negation-negation, has-cons, has_here, has_later}
 
 -- the entry that is read at a place, and those before it
@@ -25,7 +25,7 @@ clause_at_kept (c ∷ cs) ds (suc n) l h = clause_at_kept cs ds n l h
 
 reasoned_more : (cs ds : List (List Signed)) (d : Entry) (older : List Entry) → IsReasoned cs d older → IsReasoned (cs ++ ds) d older
 reasoned_more cs ds d older (inl c) = inl c
-reasoned_more cs ds d older (inr p) = inr (record { level = p.level; forced = subst (λ (x : List Signed). IsForced x (literal_of d) (made_true older)) (sym (clause_at_kept cs ds (reason_of d) (literal_of d) p.forced.stands)) p.forced })
+reasoned_more cs ds d older (inr p) = inr (record { level = p.level; forced = subst (λ (x : List Signed). IsForced x (literal_of d) (made_true older)) (sym (clause_at_kept cs ds (reason_of d) (literal_of d) p.forced.present)) p.forced })
 
 -- more variables and more clauses leave a trail a trail
 pub trail_more : (count more : ℕ) (cs ds : List (List Signed)) (h : List Entry) → count ≤ more → IsTrail count cs h → IsTrail more (cs ++ ds) h
@@ -36,17 +36,17 @@ trail_more count more cs ds (d ∷ older) le t =
       trail_more count more cs ds older le t.1,
     )
 
-pub known_from_stands : (h : List Entry) (l : Signed) (k : ℕ) → StandsAt h l k → has (made_true h) l ≡ true
-known_from_stands [] l k s = absurd s
-known_from_stands (d ∷ older) l k (inl s) = has_here (literal_of d) (made_true older) l s.0
-known_from_stands (d ∷ older) l k (inr s) = has_later (literal_of d) (made_true older) l (known_from_stands older l k s)
+pub known_from_level : (h : List Entry) (l : Signed) (k : ℕ) → IsTrueAt h l k → has (made_true h) l ≡ true
+known_from_level [] l k s = absurd s
+known_from_level (d ∷ older) l k (inl s) = has_here (literal_of d) (made_true older) l s.0
+known_from_level (d ∷ older) l k (inr s) = has_later (literal_of d) (made_true older) l (known_from_level older l k s)
 
-pub stands_from_known : (h : List Entry) (l : Signed) → has (made_true h) l ≡ true → (k : ℕ) × StandsAt h l k
-stands_from_known [] l e = absurd (both_ways false refl e)
-stands_from_known (d ∷ older) l e =
+pub level_from_known : (h : List Entry) (l : Signed) → has (made_true h) l ≡ true → (k : ℕ) × IsTrueAt h l k
+level_from_known [] l e = absurd (both_ways false refl e)
+level_from_known (d ∷ older) l e =
     elim (has-cons (literal_of d) (made_true older) l e) [
       | inl i ↦ (d.level, inl (i, refl))
-      | inr i ↦ let (k, s) = stands_from_known older l i in (k, inr s)
+      | inr i ↦ let (k, s) = level_from_known older l i in (k, inr s)
     ]
 
 -- an entry is at the level of the one before it, or one above
@@ -57,7 +57,7 @@ level_steps count cs d older f = elim f.reasoned [
 ]
 
 -- no entry is above the last one
-pub level_le_last : (count : ℕ) (cs : List (List Signed)) (h : List Entry) (l : Signed) (k : ℕ) → IsTrail count cs h → StandsAt h l k → k ≤ top_level h
+pub level_le_last : (count : ℕ) (cs : List (List Signed)) (h : List Entry) (l : Signed) (k : ℕ) → IsTrail count cs h → IsTrueAt h l k → k ≤ top_level h
 level_le_last count cs [] l k t s = absurd s
 level_le_last count cs (d ∷ older) l k t (inl s) = let e : d.level ≡ k = s.1 in omega arith
 level_le_last count cs (d ∷ older) l k t (inr s) =
@@ -73,9 +73,9 @@ level_le_length count cs (d ∷ older) t =
     omega arith
 
 -- entries at or below the level are kept
-pub kept : (j : ℕ) (old new : List Entry) (l : Signed) (k : ℕ) → IsUndone j old new → StandsAt old l k → k ≤ j → StandsAt new l k
+pub kept : (j : ℕ) (old new : List Entry) (l : Signed) (k : ℕ) → IsUndone j old new → IsTrueAt old l k → k ≤ j → IsTrueAt new l k
 kept j [] new l k u s le = absurd s
-kept j (d ∷ older) new l k (inl u) s le = subst (λ (h : List Entry). StandsAt h l k) (sym u) s
+kept j (d ∷ older) new l k (inl u) s le = subst (λ (h : List Entry). IsTrueAt h l k) (sym u) s
 kept j (d ∷ older) new l k (inr u) (inl s) le = let e : d.level ≡ k = s.1 in let above : j < d.level = u.0 in absurd (omega arith)
 kept j (d ∷ older) new l k (inr u) (inr s) le = kept j older new l k u.1 s le
 
@@ -114,7 +114,7 @@ false_unless false h = refl
 -- a literal that became true above the level has no value after the undoing
 pub undone_undecided :
     (j count : ℕ) (cs : List (List Signed)) (old new : List Entry) (l : Signed) (k : ℕ)
-    → IsTrail count cs old → IsUndone j old new → top_level new ≤ j → StandsAt old l k → j < k → IsUndecided (made_true new) l
+    → IsTrail count cs old → IsUndone j old new → top_level new ≤ j → IsTrueAt old l k → j < k → IsUndecided (made_true new) l
 undone_undecided j count cs [] new l k t u low s above = absurd s
 undone_undecided j count cs (d ∷ older) new l k t (inl u) low s above =
     let a : k ≤ d.level = level_le_last count cs (d ∷ older) l k t s in
@@ -208,10 +208,10 @@ length_le count cs h t =
     let b : length (variables_of h) ≡ length h = variables_length h in
     omega arith
 
-pub stands_from_entry : (h : List Entry) (d : Entry) (older : List Entry) → StandsOn h d older → StandsAt h (literal_of d) d.level
-stands_from_entry [] d older e = absurd e
-stands_from_entry (x ∷ xs) d older (inl e) = inl (ap literal_of e.0, ap (λ (y : Entry). y.level) e.0)
-stands_from_entry (x ∷ xs) d older (inr e) = inr (stands_from_entry xs d older e)
+pub level_from_entry : (h : List Entry) (d : Entry) (older : List Entry) → IsOnTrail h d older → IsTrueAt h (literal_of d) d.level
+level_from_entry [] d older e = absurd e
+level_from_entry (x ∷ xs) d older (inl e) = inl (ap literal_of e.0, ap (λ (y : Entry). y.level) e.0)
+level_from_entry (x ∷ xs) d older (inr e) = inr (level_from_entry xs d older e)
 
 -- what was before a jump to the level or above it, and not above the level, is the older part still
 pub undone_ends : (j count : ℕ) (cs : List (List Signed)) (p base new : List Entry) → IsUndone j (p ++ base) new → top_level base ≤ j → EndsWith base new
@@ -238,13 +238,13 @@ pub entry_in_range : (count : ℕ) (cs : List (List Signed)) (xs ys : List Entry
 entry_in_range count cs xs ys i d t h e = (subst (IsTrail count cs) (entry_read xs ys i d h e) (trail_before count cs xs (i + 1) t)).0.in_range
 
 -- the root is true under a trail that begins with it
-pub root_stands : (h : List Entry) → IsRooted h → StandsAt h (yes root) 1
-root_stands [] r = absurd r
-root_stands (e ∷ []) r = inl (r.0, r.1)
-root_stands (e ∷ d ∷ older) r = inr (root_stands (d ∷ older) r)
+pub root_level : (h : List Entry) → IsRooted h → IsTrueAt h (yes root) 1
+root_level [] r = absurd r
+root_level (e ∷ []) r = inl (r.0, r.1)
+root_level (e ∷ d ∷ older) r = inr (root_level (d ∷ older) r)
 
 pub root_known : (h : List Entry) → IsRooted h → has (made_true h) (yes root) ≡ true
-root_known h r = known_from_stands h (yes root) 1 (root_stands h r)
+root_known h r = known_from_level h (yes root) 1 (root_level h r)
 
 -- the rest of a trail begins with the root too
 pub rooted_rest : (p : List Entry) (e : Entry) (base : List Entry) → IsRooted (p ++ e ∷ base) → IsRooted (e ∷ base)

@@ -26,7 +26,7 @@ variable_added s more kind v state number few pushed =
       variables = pushed;
       clauses = refl;
       tracker = refl;
-      front = refl;
+      qhead = refl;
       guard = refl;
       base_level = refl;
     }

@@ -16,14 +16,14 @@ use Rattle.resolvo_store_core.proofs.ClauseLists.{drop_here, drop_taken, nothing
 use Rattle.resolvo_sat.specs.declared.state.SatState.{SatState}
 use Rattle.resolvo_sat.specs.declared.watch_lists.WatchLists.{WatchLists}
 use Rattle.resolvo_sat.specs.Known.{IsFalseUnder, Forces, clause_at}
-use Rattle.resolvo_sat.specs.Entries.{literal_of, made_true, before, StandsAt}
+use Rattle.resolvo_sat.specs.Entries.{literal_of, made_true, before, IsTrueAt}
 use Rattle.resolvo_sat.specs.State.{count_of, history, clauses_of, IsState}
-use Rattle.resolvo_sat.specs.Propagation.{IsFit, Waits, FellAt, IsOwnPair, IsFree, IsGuard, GuardsTo, NotesGuard, Passed, IsWalkedTo, Extends, IsVisiting, Keeps, Replaces, Breaks, Walked, Conflicts}
+use Rattle.resolvo_sat.specs.Propagation.{IsFit, IsPending, FellAt, IsOwnPair, IsFree, IsGuard, GuardsTo, RecordsGuard, Passed, IsWalkedTo, Extends, IsVisiting, Keeps, Replaces, Falsifies, Walked, Conflicts}
 use Rattle.resolvo_sat.proofs.Literals.{has_here, negation-negation}
-use Rattle.resolvo_sat.proofs.Trails.{consistent, entry_read, known_from_stands, stands_from_known}
-use Rattle.resolvo_sat.proofs.ExtendLemmas.{extends_more, extends_nothing, true_by_now, still_stands, stands_by_now, before_kept}
+use Rattle.resolvo_sat.proofs.Trails.{consistent, entry_read, known_from_level, level_from_known}
+use Rattle.resolvo_sat.proofs.ExtendLemmas.{extends_more, extends_nothing, true_by_now, level_kept, level_by_now, before_kept}
 use Rattle.resolvo_sat.proofs.Guards.{guard_more, level_is}
-use Rattle.resolvo_sat.proofs.Readiness.{fits_same, walked_more, noted_extends, same_watching}
+use Rattle.resolvo_sat.proofs.Readiness.{fits_same, walked_more, guard_extends, same_watching}
 
 pub pair_watches : (s : SatState) (w : WatchLists) (l : Signed) (place : ℕ) (n : ClauseId) (p : WatchedLiterals) → IsFit s w → slice_get (watchers w.watches l) place ≡ Some n → pair_at w.watched.items n.0 ≡ Some p → watches (Some p) l ≡ true
 pair_watches s w l place n p fits at is =
@@ -52,7 +52,7 @@ pub forces_other :
     → has known (other_of p l) ≡ false → has known (negation (other_of p l)) ≡ false → Forces known clause (other_of p l)
 forces_other known clause p l own w fallen free nt nf = record {
   forced = record {
-    stands = other_own clause p l own;
+    present = other_own clause p l own;
     others = λ m h. elim (free m h) [
       | inl wm ↦ elim (pair_cases p l m w wm) [ inl e ↦ inr (subst (λ (x : Signed). has known (negation x) ≡ true) (sym e) fallen) | inr e ↦ inl e ]
       | inr f ↦ inr f
@@ -67,24 +67,24 @@ falls_whole known clause p l w fallen free f m h = elim (free m h) [
   | inr g ↦ g
 ]
 
-passed_kept : (p : WatchedLiterals) (l : Signed) (g : ℕ) (all : List Entry) → same_literal p.first p.second ≡ false → ((k : ℕ) → StandsAt all (negation l) k → IsGuard g k all (other_of p l)) → Passed l g all p
+passed_kept : (p : WatchedLiterals) (l : Signed) (g : ℕ) (all : List Entry) → same_literal p.first p.second ≡ false → ((k : ℕ) → IsTrueAt all (negation l) k → IsGuard g k all (other_of p l)) → Passed l g all p
 passed_kept p l g all differ guard = go (same_literal p.first l) refl guard
   where
-    go : (b : Bool) → same_literal p.first l ≡ b → ((k : ℕ) → StandsAt all (negation l) k → IsGuard g k all (cond b p.second p.first)) → Passed l g all p
+    go : (b : Bool) → same_literal p.first l ≡ b → ((k : ℕ) → IsTrueAt all (negation l) k → IsGuard g k all (cond b p.second p.first)) → Passed l g all p
     go true e h = record { first = λ _. h; second = λ is. absurd (not_same p.first p.second differ (same_literal_true _ _ e ∙ sym is)) }
     go false e h = record { first = λ is. absurd (not_same p.first l e is); second = λ _. h }
 
-passed_more : (p : WatchedLiterals) (l : Signed) (s t : SatState) (k : ℕ) → IsState t → StandsAt (history s) (negation l) k → Extends s t → Passed l s.guard_level (history s) p → Passed l t.guard_level (history t) p
+passed_more : (p : WatchedLiterals) (l : Signed) (s t : SatState) (k : ℕ) → IsState t → IsTrueAt (history s) (negation l) k → Extends s t → Passed l s.guard_level (history s) p → Passed l t.guard_level (history t) p
 passed_more p l s t k state fell e q = record {
   first = λ is j f. guard j p.second (same j f) (q.first is k fell);
   second = λ is j f. guard j p.first (same j f) (q.second is k fell);
 }
   where
-    same : (j : ℕ) → StandsAt (history t) (negation l) j → k ≡ j
-    same j f = sym (level_is t (negation l) k state (still_stands s t (negation l) k e fell)) ∙ level_is t (negation l) j state f
+    same : (j : ℕ) → IsTrueAt (history t) (negation l) j → k ≡ j
+    same j f = sym (level_is t (negation l) k state (level_kept s t (negation l) k e fell)) ∙ level_is t (negation l) j state f
 
     guard : (j : ℕ) (m : Signed) → k ≡ j → IsGuard s.guard_level k (history s) m → IsGuard t.guard_level j (history t) m
-    guard j m is x = subst (λ (n : ℕ). IsGuard t.guard_level n (history t) m) is (guard_more s.guard_level t.guard_level k (history s) (history t) m e.guard (λ n h. still_stands s t m n e h) x)
+    guard j m is x = subst (λ (n : ℕ). IsGuard t.guard_level n (history t) m) is (guard_more s.guard_level t.guard_level k (history s) (history t) m e.guard (λ n h. level_kept s t m n e h) x)
 
 same_pair : (ps : List (Option WatchedLiterals)) (n : ℕ) (p q : WatchedLiterals) → pair_at ps n ≡ Some p → pair_at ps n ≡ Some q → p ≡ q
 same_pair ps n p q a b = let both : Some p ≡ Some q = sym a ∙ b in cc
@@ -98,19 +98,19 @@ count_here xs place c n at ne none =
 pub fallen_now : (k : ℕ) (l : Signed) (place : ℕ) (o s : SatState) (v w : WatchLists) → IsVisiting k l place o s v w → has (made_true (history s)) (negation l) ≡ true
 fallen_now k l place o s v w propagate_literal = true_by_now s.tracker.trail (k + 1) (negation l) (subst (λ (ls : List Signed). has ls (negation l) ≡ true) (sym propagate_literal.entry) (has_here (negation l) (made_true (before s.tracker.trail k)) (negation l) refl))
 
-fallen_at : (k : ℕ) (l : Signed) (place : ℕ) (o s : SatState) (v w : WatchLists) → IsVisiting k l place o s v w → (j : ℕ) × StandsAt (history s) (negation l) j
-fallen_at k l place o s v w propagate_literal = stands_from_known (history s) (negation l) (fallen_now k l place o s v w propagate_literal)
+fallen_at : (k : ℕ) (l : Signed) (place : ℕ) (o s : SatState) (v w : WatchLists) → IsVisiting k l place o s v w → (j : ℕ) × IsTrueAt (history s) (negation l) j
+fallen_at k l place o s v w propagate_literal = level_from_known (history s) (negation l) (fallen_now k l place o s v w propagate_literal)
 
 keeps_here : (k : ℕ) (l : Signed) (place : ℕ) (c : ClauseId) (p : WatchedLiterals) (o s t : SatState) (v w : WatchLists) → IsVisiting k l place o s v w → slice_get (watchers w.watches l) place ≡ Some c → pair_at w.watched.items c.0 ≡ Some p
-    → Extends s t → t.front ≡ s.front → ((j : ℕ) → StandsAt (history t) (negation l) j → IsGuard t.guard_level j (history t) (other_of p l)) → IsVisiting k l (place + 1) o t v w
-keeps_here k l place c p o s t v w propagate_literal at is e front guard =
+    → Extends s t → t.qhead ≡ s.qhead → ((j : ℕ) → IsTrueAt (history t) (negation l) j → IsGuard t.guard_level j (history t) (other_of p l)) → IsVisiting k l (place + 1) o t v w
+keeps_here k l place c p o s t v w propagate_literal at is e qhead guard =
     let long : k < length s.tracker.trail = propagate_literal.long in
     let grown : length t.tracker.trail ≡ length s.tracker.trail + length e.more = ap length e.added ∙ length-append s.tracker.trail e.more in
     let next : place + 1 ≡ suc place = omega arith in
     record {
       fits = fits_same s t w propagate_literal.fits e.same.clauses;
       extends = extends_more o s t propagate_literal.extends e;
-      front = front ∙ propagate_literal.front;
+      qhead = qhead ∙ propagate_literal.qhead;
       walked = walked_more s t k w e.more e.added e.guard (omega arith) propagate_literal.walked;
       passed = λ n q h none. go n q h (subst (λ (m : ℕ). count n (drop m (watchers w.watches l)) ≡ 0) next none) (eqb_tells n c.0);
       entry = ap made_true (before_kept s t (k + 1) e (omega arith)) ∙ propagate_literal.entry ∙ ap (λ (ds : List Entry). negation l ∷ made_true ds) (sym (before_kept s t k e (omega arith)));
@@ -126,19 +126,19 @@ keeps_here k l place c p o s t v w propagate_literal at is e front guard =
 
 pub visiting_keeps : (k : ℕ) (l : Signed) (place : ℕ) (c : ClauseId) (p : WatchedLiterals) (o s t : SatState) (v w x : WatchLists) → IsVisiting k l place o s v w → slice_get (watchers w.watches l) place ≡ Some c → pair_at w.watched.items c.0 ≡ Some p
     → Keeps l p s t w x → IsVisiting k l (place + 1) o t v x
-visiting_keeps k l place c p o s t v w x propagate_literal at is keeps = subst (IsVisiting k l (place + 1) o t v) (sym keeps.same_watching) (keeps_here k l place c p o s t v w propagate_literal at is keeps.extends keeps.front keeps.guard)
+visiting_keeps k l place c p o s t v w x propagate_literal at is keeps = subst (IsVisiting k l (place + 1) o t v) (sym keeps.same_watching) (keeps_here k l place c p o s t v w propagate_literal at is keeps.extends keeps.qhead keeps.guard)
 
 -- the other one of the two is true, and its level was recorded
-pub keeps_noted : (l m : Signed) (p : WatchedLiterals) (s u t : SatState) (w : WatchLists) → m ≡ other_of p l → Extends s u → u.front ≡ s.front → NotesGuard l m u t → Keeps l p s t w w
-keeps_noted l m p s u t w is e front noted =
-    let same : history t ≡ history u = ap history noted.same in
+pub keeps_recorded : (l m : Signed) (p : WatchedLiterals) (s u t : SatState) (w : WatchLists) → m ≡ other_of p l → Extends s u → u.qhead ≡ s.qhead → RecordsGuard l m u t → Keeps l p s t w w
+keeps_recorded l m p s u t w is e qhead recorded =
+    let same : history t ≡ history u = ap history recorded.same in
     record {
-      extends = noted_extends s u t l m e noted;
-      front = ap (λ (x : SatState). x.front) noted.same ∙ front;
+      extends = guard_extends s u t l m e recorded;
+      qhead = ap (λ (x : SatState). x.qhead) recorded.same ∙ qhead;
       same_watching = refl;
       guard = λ k f.
           subst (λ (h : List Entry). IsGuard t.guard_level k h (other_of p l)) (sym same)
-          (subst (λ (x : Signed). IsGuard t.guard_level k (history u) x) is (noted.guard k (subst (λ (h : List Entry). StandsAt h (negation l) k) same f)));
+          (subst (λ (x : Signed). IsGuard t.guard_level k (history u) x) is (recorded.guard k (subst (λ (h : List Entry). IsTrueAt h (negation l) k) same f)));
     }
 
 own_moved : (clause : List Signed) (p : WatchedLiterals) (from to : Signed) → IsOwnPair clause p → has clause to ≡ true → IsOwnPair clause (moved_pair p from to)
@@ -148,15 +148,15 @@ own_moved clause p from to own h = go (same_literal p.first from)
     go true = record { first = h; second = own.second }
     go false = record { first = own.first; second = h }
 
-guards_moved : (g : ℕ) (fallen all : List Entry) (p : WatchedLiterals) (l to : Signed) → GuardsTo g fallen all p → watches (Some p) l ≡ true → ((m : Signed) (k : ℕ) → StandsAt fallen m k → StandsAt all m k)
+guards_moved : (g : ℕ) (fallen all : List Entry) (p : WatchedLiterals) (l to : Signed) → GuardsTo g fallen all p → watches (Some p) l ≡ true → ((m : Signed) (k : ℕ) → IsTrueAt fallen m k → IsTrueAt all m k)
     → has (made_true all) (negation to) ≡ false → (has (made_true all) l ≡ true → ⊥) → GuardsTo g fallen all (moved_pair p l to)
 guards_moved g fallen all p l to x w inside free untrue = go (same_literal p.first l) refl
   where
-    not_to : (k : ℕ) → StandsAt fallen (negation to) k → ⊥
-    not_to k f = both_ways _ free (known_from_stands all (negation to) k (inside (negation to) k f))
+    not_to : (k : ℕ) → IsTrueAt fallen (negation to) k → ⊥
+    not_to k f = both_ways _ free (known_from_level all (negation to) k (inside (negation to) k f))
 
     not_l : (m : Signed) (k : ℕ) → m ≡ l → IsGuard g k all m → ⊥
-    not_l m k is (j, low, stands) = untrue (subst (λ (y : Signed). has (made_true all) y ≡ true) is (known_from_stands all m j stands))
+    not_l m k is (j, low, present) = untrue (subst (λ (y : Signed). has (made_true all) y ≡ true) is (known_from_level all m j present))
 
     go : (b : Bool) → same_literal p.first l ≡ b → GuardsTo g fallen all (cond b (record p { first = to }) (record p { second = to }))
     go true e = record { first = λ k f. absurd (not_to k f); second = λ k f. absurd (not_l p.first k (same_literal_true _ _ e) (x.second k f)) }
@@ -180,27 +180,27 @@ moves_here k l place c o s t v w x propagate_literal at r named = record {
     fit = r.moves.fit;
     each = ap length r.moves.pairs ∙ length-set w.watched.items r.moves.clause.0 (Some (moved_pair r.moves.pair l r.to)) ∙ propagate_literal.fits.each;
     own = λ n q h. owns n q (after n q h);
-    unwatched = λ n h. unwatched_still n (waited n h) (eqb_tells n r.moves.clause.0);
-    two = λ n h. propagate_literal.fits.two n (waited n h);
-    once = λ n. subst (λ (cs : Vec ClauseId Global). count n cs.items ≤ 1) (sym r.waiting) (propagate_literal.fits.once n);
+    unwatched = λ n h. unwatched_still n (was_pending n h) (eqb_tells n r.moves.clause.0);
+    two = λ n h. propagate_literal.fits.two n (was_pending n h);
+    once = λ n. subst (λ (cs : Vec ClauseId Global). count n cs.items ≤ 1) (sym r.pending) (propagate_literal.fits.once n);
   };
   extends = propagate_literal.extends;
-  front = propagate_literal.front;
+  qhead = propagate_literal.qhead;
   walked = λ n q h. walks n q (after n q h);
   passed = λ n q h none. passes n q none (after n q h);
   entry = propagate_literal.entry;
   long = propagate_literal.long;
-  watching = record { assertions = r.assertions ∙ propagate_literal.watching.assertions; learnt = r.learnt ∙ propagate_literal.watching.learnt; pairs = λ n h. propagate_literal.watching.pairs n (nones n h (eqb_tells n r.moves.clause.0)); waited = λ n h. propagate_literal.watching.waited n (waited n h); waits = λ n h none. waits n (propagate_literal.watching.waits n h (nones n none (eqb_tells n r.moves.clause.0))) };
+  watching = record { assertions = r.assertions ∙ propagate_literal.watching.assertions; learnt = r.learnt ∙ propagate_literal.watching.learnt; pairs = λ n h. propagate_literal.watching.pairs n (nones n h (eqb_tells n r.moves.clause.0)); was_pending = λ n h. propagate_literal.watching.was_pending n (was_pending n h); stays_pending = λ n h none. stays_pending n (propagate_literal.watching.stays_pending n h (nones n none (eqb_tells n r.moves.clause.0))) };
 }
   where
-    waited : (n : ℕ) → Waits n x → Waits n w
-    waited n h = subst (λ (cs : Vec ClauseId Global). 0 < count n cs.items) r.waiting h
+    was_pending : (n : ℕ) → IsPending n x → IsPending n w
+    was_pending n h = subst (λ (cs : Vec ClauseId Global). 0 < count n cs.items) r.pending h
 
-    waits : (n : ℕ) → Waits n w → Waits n x
-    waits n h = subst (λ (cs : Vec ClauseId Global). 0 < count n cs.items) (sym r.waiting) h
+    stays_pending : (n : ℕ) → IsPending n w → IsPending n x
+    stays_pending n h = subst (λ (cs : Vec ClauseId Global). 0 < count n cs.items) (sym r.pending) h
 
     -- a pending clause is not the clause that moved
-    unwatched_still : (n : ℕ) → Waits n w → ((eqb n r.moves.clause.0 ≡ true) × (n ≡ r.moves.clause.0)) ⊎ ((eqb n r.moves.clause.0 ≡ false) × (n ≡ r.moves.clause.0 → ⊥)) → pair_at x.watched.items n ≡ None
+    unwatched_still : (n : ℕ) → IsPending n w → ((eqb n r.moves.clause.0 ≡ true) × (n ≡ r.moves.clause.0)) ⊎ ((eqb n r.moves.clause.0 ≡ false) × (n ≡ r.moves.clause.0 → ⊥)) → pair_at x.watched.items n ≡ None
     unwatched_still n h (inl y) =
         let none : pair_at w.watched.items r.moves.clause.0 ≡ None = subst (λ (i : ℕ). pair_at w.watched.items i ≡ None) y.1 (propagate_literal.fits.unwatched n h) in
         let both : Some r.moves.pair ≡ None = sym r.moves.watched ∙ none in
@@ -208,7 +208,7 @@ moves_here k l place c o s t v w x propagate_literal at r named = record {
     unwatched_still n h (inr y) = ap (λ (ps : List (Option WatchedLiterals)). pair_at ps n) r.moves.pairs ∙ pair_at-set_other w.watched.items r.moves.clause.0 n (Some (moved_pair r.moves.pair l r.to)) (λ e. y.1 (sym e)) ∙ propagate_literal.fits.unwatched n h
 
     watching_l : watches (Some r.moves.pair) l ≡ true
-    watching_l = pair_watches s w l place r.moves.clause r.moves.pair propagate_literal.fits r.moves.lists.stood r.moves.watched
+    watching_l = pair_watches s w l place r.moves.clause r.moves.pair propagate_literal.fits r.moves.lists.was_in r.moves.watched
 
     unwatched : watches (Some r.moves.pair) r.to ≡ false
     unwatched = ap (λ (o : Option WatchedLiterals). watches o r.to) (sym r.moves.watched) ∙ subst (λ (i : ClauseId). watches (pair_at w.watched.items i.0) r.to ≡ false) (sym named) r.unwatched
@@ -240,7 +240,7 @@ moves_here k l place c o s t v w x propagate_literal at r named = record {
     walks : (n : ℕ) (q : WatchedLiterals) → ((n ≡ r.moves.clause.0) × (moved_pair r.moves.pair l r.to ≡ q)) ⊎ ((eqb n r.moves.clause.0 ≡ false) × (pair_at w.watched.items n ≡ Some q)) → GuardsTo s.guard_level (before s.tracker.trail k) (history s) q
     walks n q (inl y) =
         subst (GuardsTo s.guard_level (before s.tracker.trail k) (history s)) y.1
-        (guards_moved s.guard_level (before s.tracker.trail k) (history s) r.moves.pair l r.to (propagate_literal.walked r.moves.clause.0 r.moves.pair r.moves.watched) watching_l (λ l' j h. stands_by_now s.tracker.trail k l' j h) r.free
+        (guards_moved s.guard_level (before s.tracker.trail k) (history s) r.moves.pair l r.to (propagate_literal.walked r.moves.clause.0 r.moves.pair r.moves.watched) watching_l (λ l' j h. level_by_now s.tracker.trail k l' j h) r.free
         (λ h. consistent (count_of s) (clauses_of s) (history s) l propagate_literal.extends.state.trail h (fallen_now k l place o s v w propagate_literal)))
     walks n q (inr y) = propagate_literal.walked n q y.1
 
@@ -250,13 +250,13 @@ moves_here k l place c o s t v w x propagate_literal at r named = record {
         (passed_moved (moved_pair r.moves.pair l r.to) l s.guard_level (history s)
         (moved_from r.moves.pair l r.to (propagate_literal.fits.fit.differ r.moves.clause.0 r.moves.pair r.moves.watched) watching_l unwatched))
     passes n q none (inr y) =
-        let rest : drop place (watchers x.watches l) ≡ drop (suc place) (watchers w.watches l) = ap (drop place) r.moves.lists.taken ∙ drop_taken (watchers w.watches l) place (got_in_range (watchers w.watches l) place r.moves.clause r.moves.lists.stood) in
-        propagate_literal.passed n q y.1 (count_here (watchers w.watches l) place r.moves.clause n r.moves.lists.stood y.0 (sym (ap (count n) rest) ∙ none))
+        let rest : drop place (watchers x.watches l) ≡ drop (suc place) (watchers w.watches l) = ap (drop place) r.moves.lists.taken ∙ drop_taken (watchers w.watches l) place (got_in_range (watchers w.watches l) place r.moves.clause r.moves.lists.was_in) in
+        propagate_literal.passed n q y.1 (count_here (watchers w.watches l) place r.moves.clause n r.moves.lists.was_in y.0 (sym (ap (count n) rest) ∙ none))
 
 pub visiting_moves : (k : ℕ) (l : Signed) (place : ℕ) (c : ClauseId) (o s t : SatState) (v w x : WatchLists) → IsVisiting k l place o s v w → slice_get (watchers w.watches l) place ≡ Some c
     → Replaces l place c.0 s t w x → IsVisiting k l place o t v x
 visiting_moves k l place c o s t v w x propagate_literal at r =
-    let both : Some r.moves.clause ≡ Some c = sym r.moves.lists.stood ∙ at in
+    let both : Some r.moves.clause ≡ Some c = sym r.moves.lists.was_in ∙ at in
     let named : r.moves.clause ≡ c = cc in
     subst (λ (u : SatState). IsVisiting k l place o u v x) (sym r.same_state) (moves_here k l place c o s t v w x propagate_literal at r named)
 
@@ -265,7 +265,7 @@ pub visiting_starts : (k : ℕ) (s : SatState) (w : WatchLists) (l : Signed) →
 visiting_starts k s w l state fits fell walked = record {
   fits = fits;
   extends = extends_nothing s state;
-  front = refl;
+  qhead = refl;
   walked = walked;
   passed = λ n q h none. passed_moved q l s.guard_level (history s) (unwatched n q h none (watches (Some q) l) refl);
   entry = fell.entry;
@@ -285,7 +285,7 @@ visiting_ends k l place o s v w propagate_literal end = record {
   watching = propagate_literal.watching;
   fits = propagate_literal.fits;
   extends = propagate_literal.extends;
-  front = propagate_literal.front;
+  qhead = propagate_literal.qhead;
   walked = λ n q h.
       let passed = propagate_literal.passed n q h (ap (count n) (nothing_left (watchers w.watches l) place end)) in
       record {
@@ -301,20 +301,20 @@ visiting_ends k l place o s v w propagate_literal end = record {
     newest : (xs : List Entry) → made_true xs ≡ negation l ∷ made_true (before s.tracker.trail k) → (d : Entry) → xs ≡ d ∷ before s.tracker.trail k → literal_of d ≡ negation l
     newest xs e d is = let both : literal_of d ∷ made_true (before s.tracker.trail k) ≡ negation l ∷ made_true (before s.tracker.trail k) = sym (ap made_true is) ∙ e in cc
 
-    cases : (m : Signed) (j : ℕ) → StandsAt (before s.tracker.trail (k + 1)) (negation m) j → ((m ≡ l) × StandsAt (history s) (negation l) j) ⊎ StandsAt (before s.tracker.trail k) (negation m) j
+    cases : (m : Signed) (j : ℕ) → IsTrueAt (before s.tracker.trail (k + 1)) (negation m) j → ((m ≡ l) × IsTrueAt (history s) (negation l) j) ⊎ IsTrueAt (before s.tracker.trail k) (negation m) j
     cases m j f =
         let d : Entry = get_or s.tracker.trail k no_entry in
         let is : before s.tracker.trail (k + 1) ≡ d ∷ before s.tracker.trail k = entry_read s.tracker.trail s.tracker.trail k no_entry propagate_literal.long refl in
-        elim (subst (λ (h : List Entry). StandsAt h (negation m) j) is f) [
+        elim (subst (λ (h : List Entry). IsTrueAt h (negation m) j) is f) [
           | inl e ↦
               let same : negation l ≡ negation m = sym (newest (before s.tracker.trail (k + 1)) propagate_literal.entry d is) ∙ e.0 in
               let back : m ≡ l = sym (negation-negation m) ∙ ap negation (sym same) ∙ negation-negation l in
-              inl (back, subst (λ (x : Signed). StandsAt (history s) x j) (sym same) (stands_by_now s.tracker.trail (k + 1) (negation m) j f))
+              inl (back, subst (λ (x : Signed). IsTrueAt (history s) x j) (sym same) (level_by_now s.tracker.trail (k + 1) (negation m) j f))
           | inr e ↦ inr e
         ]
 
 -- a clause is falsified
-pub visiting_breaks : (l : Signed) (place n : ℕ) (p : WatchedLiterals) (o s t : SatState) (v w x : WatchLists) → IsVisiting o.front l place o s v w → pair_at w.watched.items n ≡ Some p → Breaks n s t w x → Conflicts n o t v x
+pub visiting_breaks : (l : Signed) (place n : ℕ) (p : WatchedLiterals) (o s t : SatState) (v w x : WatchLists) → IsVisiting o.qhead l place o s v w → pair_at w.watched.items n ≡ Some p → Falsifies n s t w x → Conflicts n o t v x
 visiting_breaks l place n p o s t v w x propagate_literal is b =
     subst (λ (m : SatState). Conflicts n o m v x) (sym b.same_state)
     (subst (λ (y : WatchLists). Conflicts n o s v y) (sym b.same_watching) here)
@@ -323,11 +323,11 @@ visiting_breaks l place n p o s t v w x propagate_literal is b =
     here =
         let below : n < length w.watched.items = pair_in_range w.watched.items n p is in
         let each : length w.watched.items ≡ length s.clauses = propagate_literal.fits.each in
-        let front : s.front ≡ o.front = propagate_literal.front in
-        let long : o.front < length s.tracker.trail = propagate_literal.long in
+        let qhead : s.qhead ≡ o.qhead = propagate_literal.qhead in
+        let long : o.qhead < length s.tracker.trail = propagate_literal.long in
         record {
           watching = propagate_literal.watching;
-          ready = record { state = propagate_literal.extends.state; fits = propagate_literal.fits; front = omega arith; walked = subst (λ (k : ℕ). IsWalkedTo k s w) (sym front) propagate_literal.walked };
+          ready = record { state = propagate_literal.extends.state; fits = propagate_literal.fits; qhead = omega arith; walked = subst (λ (k : ℕ). IsWalkedTo k s w) (sym qhead) propagate_literal.walked };
           extends = propagate_literal.extends;
-          broken = record { in_range = omega arith; falls = b.falls };
+          falsified = record { in_range = omega arith; falls = b.falls };
         }

@@ -13,13 +13,13 @@ use Rattle.resolvo_sat.specs.declared.state.SatState.{SatState}
 use Rattle.resolvo_sat.specs.declared.analyze.Analysis.{Analysis}
 use Rattle.resolvo_sat.specs.declared.analyze.Learnt.{Learnt}
 use Rattle.resolvo_sat.specs.Known.{IsFalseUnder, IsUndecided, IsForced, clause_at}
-use Rattle.resolvo_sat.specs.Entries.{literal_of, reason_of, made_true, before, top_level, IsChoice, IsPropagated, IsReasoned, Follows, IsTrail, StandsAt, StandsOn, IsRooted}
+use Rattle.resolvo_sat.specs.Entries.{literal_of, reason_of, made_true, before, top_level, IsChoice, IsPropagated, IsReasoned, Follows, IsTrail, IsTrueAt, IsOnTrail, IsRooted}
 use Rattle.resolvo_sat.specs.State.{count_of, history, clauses_of, named, IsDerived, IsState}
-use Rattle.resolvo_sat.specs.Analysis.{is_seen, denied, Seen, IsMarkedLevel, IsSolvable, IsKept, IsKeptOrForced, AreFromClauses, IsLearnt, IsLearntOf, IsAnalysis, IsRefusal, IsReason, DenyKept, DenyKeptBut, Walks}
+use Rattle.resolvo_sat.specs.Analysis.{is_seen, denied, Seen, IsMarkedLevel, IsSolvable, IsAssumption, IsDecisionOrForced, AreFromClauses, IsLearnt, IsLearntOf, IsAnalysis, IsRefusal, IsReason, DenyAssumptions, DenyAssumptionsBut, Walks}
 use Rattle.resolvo_sat.proofs.Literals.{negation-negation, has-cons, has_here, has_later, has-append, has_left, has_right}
-use Rattle.resolvo_sat.proofs.Refutations.{exact, own, refutes_more, refutes_broken, refutes_step}
-use Rattle.resolvo_sat.proofs.Trails.{before_all, whole_trail, trail_before, consistent, same_or_negated, known_from_stands, level_le_last, stands_from_entry, root_known, rooted_rest}
-use Rattle.resolvo_sat.proofs.MarkLemmas.{denied_cases, denied_later, denied_stands, denied_has, denied_more, denied_marked}
+use Rattle.resolvo_sat.proofs.Refutations.{exact, own, refutes_more, refutes_falsified, refutes_step}
+use Rattle.resolvo_sat.proofs.Trails.{before_all, whole_trail, trail_before, consistent, same_or_negated, known_from_level, level_le_last, level_from_entry, root_known, rooted_rest}
+use Rattle.resolvo_sat.proofs.MarkLemmas.{denied_cases, denied_later, denied_level, denied_has, denied_more, denied_marked}
 
 pub in_range_from : (cs : List (List Signed)) (n : ℕ) (l : Signed) → has (clause_at cs n) l ≡ true → n < length cs
 in_range_from [] n l h = absurd (both_ways false refl h)
@@ -37,20 +37,20 @@ false_same count cs h l m t fl fm e = elim (same_or_negated l m e) [
 pub root_false : (count : ℕ) (cs : List (List Signed)) (h : List Entry) (l : Signed) → IsTrail count cs h → has (made_true h) (yes root) ≡ true → has (made_true h) (negation l) ≡ true → l.variable.0 ≡ 0 → l ≡ no root
 root_false count cs h l t rooted fl e = false_same count cs h l (no root) t fl rooted e
 
-standing : (p base : List Entry) (l : Signed) (k : ℕ) → StandsAt base l k → StandsAt (p ++ base) l k
-standing [] base l k s = s
-standing (d ∷ p) base l k s = inr (standing p base l k s)
+level_under : (p base : List Entry) (l : Signed) (k : ℕ) → IsTrueAt base l k → IsTrueAt (p ++ base) l k
+level_under [] base l k s = s
+level_under (d ∷ p) base l k s = inr (level_under p base l k s)
 
-standing_on : (p base : List Entry) (e : Entry) (older : List Entry) → StandsOn base e older → StandsOn (p ++ base) e older
-standing_on [] base e older s = s
-standing_on (d ∷ p) base e older s = inr (standing_on p base e older s)
+on_trail_under : (p base : List Entry) (e : Entry) (older : List Entry) → IsOnTrail base e older → IsOnTrail (p ++ base) e older
+on_trail_under [] base e older s = s
+on_trail_under (d ∷ p) base e older s = inr (on_trail_under p base e older s)
 
 -- an entry before a place is on the trail
-pub inside : (xs : List Entry) (n : ℕ) (l : Signed) (k : ℕ) → StandsAt (before xs n) l k → StandsAt (reverse xs) l k
-inside xs n l k s = subst (λ (h : List Entry). StandsAt h l k) (sym (whole_trail xs n)) (standing (reverse (drop n xs)) (before xs n) l k s)
+pub inside : (xs : List Entry) (n : ℕ) (l : Signed) (k : ℕ) → IsTrueAt (before xs n) l k → IsTrueAt (reverse xs) l k
+inside xs n l k s = subst (λ (h : List Entry). IsTrueAt h l k) (sym (whole_trail xs n)) (level_under (reverse (drop n xs)) (before xs n) l k s)
 
-pub inside_on : (xs : List Entry) (n : ℕ) (e : Entry) (older : List Entry) → StandsOn (before xs n) e older → StandsOn (reverse xs) e older
-inside_on xs n e older s = subst (λ (h : List Entry). StandsOn h e older) (sym (whole_trail xs n)) (standing_on (reverse (drop n xs)) (before xs n) e older s)
+pub inside_on : (xs : List Entry) (n : ℕ) (e : Entry) (older : List Entry) → IsOnTrail (before xs n) e older → IsOnTrail (reverse xs) e older
+inside_on xs n e older s = subst (λ (h : List Entry). IsOnTrail h e older) (sym (whole_trail xs n)) (on_trail_under (reverse (drop n xs)) (before xs n) e older s)
 
 -- the newest entry before a place, with its properties
 pub record Meets (s : SatState) (p : ℕ) (d : Entry) : Type 0 where
@@ -110,9 +110,9 @@ kept_back seen d older kept l m h = elim (has-append (denied seen older) (kept +
   ]
 ]
 
-pub walk_keeps : (s : SatState) (begun : List Signed) (p : ℕ) (d : Entry) (seen : List Bool) (kept more : List Signed) (causes : List ClauseId) → Meets s p d → is_seen seen d ≡ true → IsKept s d (before s.tracker.trail p)
+pub walk_keeps : (s : SatState) (begun : List Signed) (p : ℕ) (d : Entry) (seen : List Bool) (kept more : List Signed) (causes : List ClauseId) → Meets s p d → is_seen seen d ≡ true → IsAssumption s d (before s.tracker.trail p)
     → more ≡ kept ++ negation (literal_of d) ∷ [] → Walks s begun (p + 1) seen kept causes → Walks s begun p seen more causes
-walk_keeps s begun p d seen kept more causes m marked is_kept push w =
+walk_keeps s begun p d seen kept more causes m marked is_decision push w =
     let older : List Entry = before s.tracker.trail p in
     let bound : p < length s.tracker.trail = m.in_range in
     let derived' : IsDerived (clauses_of s) (denied seen (d ∷ older) ++ kept) (reverse causes) = subst (λ (ls : List Signed). IsDerived (clauses_of s) (ls ++ kept) (reverse causes)) (denied_next s p d seen m) w.derived in
@@ -130,7 +130,7 @@ walk_keeps s begun p d seen kept more causes m marked is_kept push w =
       denies = λ l h. elim (has-append kept (negation (literal_of d) ∷ []) l h) [
         | inl a ↦ w.denies l a
         | inr a ↦ elim (has-cons (negation (literal_of d)) [] l a) [
-          | inl e ↦ inr (d, older, inside_on s.tracker.trail (p + 1) d older (subst (λ (x : List Entry). StandsOn x d older) (sym m.next) (inl (refl, refl))), sym (negation-negation (literal_of d)) ∙ ap negation e, is_kept)
+          | inl e ↦ inr (d, older, inside_on s.tracker.trail (p + 1) d older (subst (λ (x : List Entry). IsOnTrail x d older) (sym m.next) (inl (refl, refl))), sym (negation-negation (literal_of d)) ∙ ap negation e, is_decision)
           | inr e ↦ absurd (both_ways false refl e)
         ]
       ];
@@ -167,15 +167,15 @@ from_reason : (s : SatState) (p : ℕ) (d : Entry) (c : List Signed) (old new : 
     → (l : Signed) → has (denied new (before s.tracker.trail p)) l ≡ true → (has (denied old (before s.tracker.trail p)) l ≡ true) ⊎ (has c l ≡ true)
 from_reason s p d c old new m forced marked l h =
     let older : List Entry = before s.tracker.trail p in
-    let stood = denied_stands new older l h in
-    let f : has (made_true older) (negation l) ≡ true = known_from_stands older (negation l) stood.0 stood.1 in
+    let denied_from = denied_level new older l h in
+    let f : has (made_true older) (negation l) ≡ true = known_from_level older (negation l) denied_from.0 denied_from.1 in
     elim (marked.only l.variable.0 (denied_marked new older l h)) [
       | inl o ↦ inl (denied_has old older l f o)
       | inr o ↦
-          let (x, stands, same) = o.1 in
-          inr (elim (forced.others x stands) [
+          let (x, present, same) = o.1 in
+          inr (elim (forced.others x present) [
             | inl e ↦ absurd (not_before older d l m.follows.undecided f (sym same ∙ ap (λ (y : Signed). y.variable.0) e))
-            | inr g ↦ subst (λ (y : Signed). has c y ≡ true) (false_same (count_of s) (clauses_of s) older x l m.trail g f same) stands
+            | inr g ↦ subst (λ (y : Signed). has c y ≡ true) (false_same (count_of s) (clauses_of s) older x l m.trail g f same) present
           ])
     ]
 
@@ -213,7 +213,7 @@ walk_resolves s begun p d old new kept causes more m rooted propagated marked pu
     record {
       in_range = omega arith;
       derived = subst (IsDerived (clauses_of s) (denied new older ++ kept)) order (record {
-        in_range = (in_range_from (clauses_of s) (reason_of d) (literal_of d) forced.stands, derived'.in_range);
+        in_range = (in_range_from (clauses_of s) (reason_of d) (literal_of d) forced.present, derived'.in_range);
         refuted = refutes_step (no root ∷ (denied old (d ∷ older) ++ kept)) (no root ∷ (denied new older ++ kept)) c (literal_of d) (named (clauses_of s) (reverse causes))
             (λ l h. elim (has-cons (no root) (denied old (d ∷ older) ++ kept) l h) [
               | inl e ↦ inr (has_here (no root) (denied new older ++ kept) l e)
@@ -250,40 +250,40 @@ walk_resolves s begun p d old new kept causes more m rooted propagated marked pu
     some_pushed [] y = omega arith
     some_pushed (x ∷ xs) y = omega arith
 
-pub walk_starts : (s : SatState) (broken : ClauseId) (none seen : List Bool) → IsState s → broken.0 < length (clauses_of s) → IsFalseUnder (made_true (history s)) (clause_at (clauses_of s) broken.0) → none ≡ [] → Seen (clause_at (clauses_of s) broken.0) none seen
-    → Walks s [] (length s.tracker.trail) seen [] (broken ∷ [])
-walk_starts s broken none seen state bound falls empty marked =
+pub walk_starts : (s : SatState) (falsified : ClauseId) (none seen : List Bool) → IsState s → falsified.0 < length (clauses_of s) → IsFalseUnder (made_true (history s)) (clause_at (clauses_of s) falsified.0) → none ≡ [] → Seen (clause_at (clauses_of s) falsified.0) none seen
+    → Walks s [] (length s.tracker.trail) seen [] (falsified ∷ [])
+walk_starts s falsified none seen state bound falls empty marked =
     let all : before s.tracker.trail (length s.tracker.trail) ≡ history s = before_all s.tracker.trail in
-    let c : List Signed = clause_at (clauses_of s) broken.0 in
+    let c : List Signed = clause_at (clauses_of s) falsified.0 in
     let rooted : has (made_true (history s)) (yes root) ≡ true = root_known (history s) state.rooted in
     let here : (l : Signed) → has c l ≡ true → has (no root ∷ (denied seen (history s) ++ [])) l ≡ true = λ l h.
     elim (marked.takes l h) [
       | inl z ↦ has_here (no root) (denied seen (history s) ++ []) l (sym (root_false (count_of s) (clauses_of s) (history s) l state.trail rooted (falls l h) z))
       | inr r ↦ has_later (no root) (denied seen (history s) ++ []) l (has_left (denied seen (history s)) [] l (denied_has seen (history s) l (falls l h) r))
     ] in
-    let derived' : IsDerived (clauses_of s) (denied seen (history s) ++ []) (broken ∷ []) = record { in_range = (bound, tt); refuted = refutes_broken c (no root ∷ (denied seen (history s) ++ [])) here } in
-    let from' : AreFromClauses s (denied seen (history s) ++ []) = λ l h. elim (has-append (denied seen (history s)) [] l h) [ inl a ↦ stood l a | inr a ↦ absurd (both_ways false refl a) ] in
+    let derived' : IsDerived (clauses_of s) (denied seen (history s) ++ []) (falsified ∷ []) = record { in_range = (bound, tt); refuted = refutes_falsified c (no root ∷ (denied seen (history s) ++ [])) here } in
+    let from' : AreFromClauses s (denied seen (history s) ++ []) = λ l h. elim (has-append (denied seen (history s)) [] l h) [ inl a ↦ denied_from l a | inr a ↦ absurd (both_ways false refl a) ] in
     record {
       in_range = omega arith;
-      derived = subst (λ (h : List Entry). IsDerived (clauses_of s) (denied seen h ++ []) (broken ∷ [])) (sym all) derived';
+      derived = subst (λ (h : List Entry). IsDerived (clauses_of s) (denied seen h ++ []) (falsified ∷ [])) (sym all) derived';
       caused = omega arith;
       from = subst (λ (h : List Entry). AreFromClauses s (denied seen h ++ [])) (sym all) from';
       denies = λ l h. absurd (both_ways false refl h);
       rootless = still_rootless c none seen marked (ap (λ (xs : List Bool). slice_index_or xs 0 false) empty);
     }
   where
-    stood : (l : Signed) → has (denied seen (history s)) l ≡ true → (n : ℕ) × (has (clause_at (clauses_of s) n) l ≡ true)
-    stood l a =
-        let (k, at) = denied_stands seen (history s) l a in
+    denied_from : (l : Signed) → has (denied seen (history s)) l ≡ true → (n : ℕ) × (has (clause_at (clauses_of s) n) l ≡ true)
+    denied_from l a =
+        let (k, at) = denied_level seen (history s) l a in
         elim (marked.only l.variable.0 (denied_marked seen (history s) l a)) [
           | inl o ↦ absurd (both_ways false refl (subst (λ (xs : List Bool). slice_index_or xs l.variable.0 false ≡ true) empty o))
           | inr o ↦
-              let (x, stands, same) = o.1 in
-              (broken.0, subst (λ (y : Signed). has (clause_at (clauses_of s) broken.0) y ≡ true) (false_same (count_of s) (clauses_of s) (history s) x l state.trail (falls x stands) (known_from_stands (history s) (negation l) k at) same) stands)
+              let (x, present, same) = o.1 in
+              (falsified.0, subst (λ (y : Signed). has (clause_at (clauses_of s) falsified.0) y ≡ true) (false_same (count_of s) (clauses_of s) (history s) x l state.trail (falls x present) (known_from_level (history s) (negation l) k at) same) present)
         ]
 
 -- a walk from a broken clause keeps nothing but choices
-kept_alone : (s : SatState) (kept : List Signed) → DenyKeptBut s [] kept → DenyKept s kept
+kept_alone : (s : SatState) (kept : List Signed) → DenyAssumptionsBut s [] kept → DenyAssumptions s kept
 kept_alone s kept denies l h = elim (denies l h) [ inl e ↦ absurd (both_ways false refl e) | inr k ↦ k ]
 
 pub walk_learns : (s : SatState) (p : ℕ) (d : Entry) (seen : List Bool) (kept : List Signed) (causes : List ClauseId) (below : ℕ) (x : Learnt) → Meets s p d → is_seen seen d ≡ true → IsMarkedLevel seen (before s.tracker.trail p) below
@@ -304,21 +304,21 @@ walk_learns s p d seen kept causes below x m marked level above low base_level i
       }));
       caused = subst (λ (cs : List ClauseId). 0 < length cs) (sym is_causes) (let same : length (reverse causes) ≡ length causes = length-reverse causes in let some : 0 < length causes = w.caused in omega arith);
       from = λ l h. from' l (kept_back seen d older kept l marked (subst (λ (ls : List Signed). has ls l ≡ true) literals h));
-      stands = subst (λ (l : Signed). has x.literals.items l ≡ true) (sym is_asserted) (subst (λ (ls : List Signed). has ls (negation (literal_of d)) ≡ true) (sym is_literals) (has_right (denied seen older ++ kept) (negation (literal_of d) ∷ []) (negation (literal_of d)) (has_here (negation (literal_of d)) [] (negation (literal_of d)) refl)));
+      present = subst (λ (l : Signed). has x.literals.items l ≡ true) (sym is_asserted) (subst (λ (ls : List Signed). has ls (negation (literal_of d)) ≡ true) (sym is_literals) (has_right (denied seen older ++ kept) (negation (literal_of d) ∷ []) (negation (literal_of d)) (has_here (negation (literal_of d)) [] (negation (literal_of d)) refl)));
       others = λ l h. elim (has-append (denied seen older) (kept ++ negation (literal_of d) ∷ []) l (subst (λ (ls : List Signed). has ls l ≡ true) literals h)) [
-        | inl a ↦ let (k, le, stands) = level.bounds l a in inr (k, omega arith, inside s.tracker.trail p (negation l) k stands)
+        | inl a ↦ let (k, le, present) = level.bounds l a in inr (k, omega arith, inside s.tracker.trail p (negation l) k present)
         | inr a ↦ elim (has-append kept (negation (literal_of d) ∷ []) l a) [
           | inl b ↦
               let (e, before_e, on, is, kept_e) = kept_alone s kept w.denies l b in
               let under : e.level ≤ s.base_level = kept_e.low in
-              inr (e.level, omega arith, subst (λ (y : Signed). StandsAt (history s) y e.level) is (stands_from_entry (history s) e before_e on))
+              inr (e.level, omega arith, subst (λ (y : Signed). IsTrueAt (history s) y e.level) is (level_from_entry (history s) e before_e on))
           | inr b ↦ elim (has-cons (negation (literal_of d)) [] l b) [
             | inl e ↦ inl (sym e ∙ sym is_asserted)
             | inr e ↦ absurd (both_ways false refl e)
           ]
         ]
       ];
-      fell = (d.level, above, inside s.tracker.trail (p + 1) (negation x.asserting) d.level (subst (λ (h : List Entry). StandsAt h (negation x.asserting) d.level) (sym m.next) (inl (sym (ap negation is_asserted ∙ negation-negation (literal_of d)), refl))));
+      fell = (d.level, above, inside s.tracker.trail (p + 1) (negation x.asserting) d.level (subst (λ (h : List Entry). IsTrueAt h (negation x.asserting) d.level) (sym m.next) (inl (sym (ap negation is_asserted ∙ negation-negation (literal_of d)), refl))));
       low = base_level;
     }
 
@@ -342,8 +342,8 @@ walk_begins s p d none seen m rooted propagated empty marked =
     record {
       in_range = omega arith;
       derived = record {
-        in_range = (in_range_from (clauses_of s) (reason_of d) (literal_of d) forced.stands, tt);
-        refuted = refutes_broken c (no root ∷ (denied seen older ++ literal_of d ∷ [])) (λ l h. elim (reason_marked s p d c none seen m rooted forced marked l h) [
+        in_range = (in_range_from (clauses_of s) (reason_of d) (literal_of d) forced.present, tt);
+        refuted = refutes_falsified c (no root ∷ (denied seen older ++ literal_of d ∷ [])) (λ l h. elim (reason_marked s p d c none seen m rooted forced marked l h) [
           | inl e ↦ has_later (no root) (denied seen older ++ literal_of d ∷ []) l (has_right (denied seen older) (literal_of d ∷ []) l (has_here (literal_of d) [] l (sym e)))
           | inr r ↦ elim r [
             | inl z ↦ has_here (no root) (denied seen older ++ literal_of d ∷ []) l (sym z)
@@ -358,7 +358,7 @@ walk_begins s p d none seen m rooted propagated empty marked =
           | inr o ↦ (reason_of d, o)
         ]
         | inr a ↦ elim (has-cons (literal_of d) [] l a) [
-          | inl e ↦ (reason_of d, subst (λ (y : Signed). has c y ≡ true) e forced.stands)
+          | inl e ↦ (reason_of d, subst (λ (y : Signed). has c y ≡ true) e forced.present)
           | inr e ↦ absurd (both_ways false refl e)
         ]
       ];
@@ -404,13 +404,13 @@ true_before s p d l next other h = elim (has-cons (literal_of d) (made_true (bef
 
 -- an entry's literal is true
 pub entry_true : (s : SatState) (p : ℕ) (d : Entry) → Meets s p d → has (made_true (history s)) (literal_of d) ≡ true
-entry_true s p d m = known_from_stands (history s) (literal_of d) d.level (stands_from_entry (history s) d (before s.tracker.trail p) (inside_on s.tracker.trail (p + 1) d (before s.tracker.trail p) (subst (λ (x : List Entry). StandsOn x d (before s.tracker.trail p)) (sym m.next) (inl (refl, refl)))))
+entry_true s p d m = known_from_level (history s) (literal_of d) d.level (level_from_entry (history s) d (before s.tracker.trail p) (inside_on s.tracker.trail (p + 1) d (before s.tracker.trail p) (subst (λ (x : List Entry). IsOnTrail x d (before s.tracker.trail p)) (sym m.next) (inl (refl, refl)))))
 
 -- an entry is a choice exactly where it is above the one before
-pub kept_or_forced : (s : SatState) (p : ℕ) (d : Entry) (level : ℕ) → Meets s p d → level ≡ top_level (before s.tracker.trail p) → IsKeptOrForced s d (before s.tracker.trail p) (nat_lt level d.level)
-kept_or_forced s p d level m same = go (nat_lt level d.level) refl m.follows.reasoned
+pub decision_or_forced : (s : SatState) (p : ℕ) (d : Entry) (level : ℕ) → Meets s p d → level ≡ top_level (before s.tracker.trail p) → IsDecisionOrForced s d (before s.tracker.trail p) (nat_lt level d.level)
+decision_or_forced s p d level m same = go (nat_lt level d.level) refl m.follows.reasoned
   where
-    go : (b : Bool) → nat_lt level d.level ≡ b → IsReasoned (clauses_of s) d (before s.tracker.trail p) → IsKeptOrForced s d (before s.tracker.trail p) b
+    go : (b : Bool) → nat_lt level d.level ≡ b → IsReasoned (clauses_of s) d (before s.tracker.trail p) → IsDecisionOrForced s d (before s.tracker.trail p) b
     go true e (inl choice) = (choice.positive, inr choice)
     go true e (inr propagated) = let a : level < d.level = grind (arith, nat_tests, e) in let b : d.level ≡ top_level (before s.tracker.trail p) = propagated.level in absurd (omega arith)
     go false e (inl choice) = let a : d.level ≤ level = grind (arith, nat_tests, e) in let b : d.level ≡ suc (top_level (before s.tracker.trail p)) = choice.opens in absurd (omega arith)
@@ -420,7 +420,7 @@ not_above : (a b : ℕ) → (a < b → ⊥) → b ≤ a
 not_above a b h = elim (cases_Bool (nat_lt a b)) [ inl t ↦ absurd (h (grind (arith, nat_tests, t))) | inr f ↦ grind (arith, nat_tests, f) ]
 
 -- a kept entry isn't above the turn's first level, where the search did not stop at it
-pub kept_low : (s : SatState) (p : ℕ) (d : Entry) (below : ℕ) → below ≤ top_level (before s.tracker.trail p) → (s.base_level < d.level → below < d.level → ⊥) → IsKeptOrForced s d (before s.tracker.trail p) true → IsKept s d (before s.tracker.trail p)
+pub kept_low : (s : SatState) (p : ℕ) (d : Entry) (below : ℕ) → below ≤ top_level (before s.tracker.trail p) → (s.base_level < d.level → below < d.level → ⊥) → IsDecisionOrForced s d (before s.tracker.trail p) true → IsAssumption s d (before s.tracker.trail p)
 kept_low s p d below low not_stopped k = record { chosen = k.0; low = go k.1; begins = k.1 }
   where
     go : ((d.level < s.base_level) × IsSolvable s d.decision.variable.0) ⊎ IsChoice d (before s.tracker.trail p) → d.level ≤ s.base_level
@@ -433,8 +433,8 @@ kept_low s p d below low not_stopped k = record { chosen = k.0; low = go k.1; be
 -- where the turn's first level is above the trail's, each entry is below it
 pub below_turn : (s : SatState) (p : ℕ) (d : Entry) → IsState s → Meets s p d → top_level (history s) < s.base_level → d.level < s.base_level
 below_turn s p d state m above =
-    let stands : StandsOn (history s) d (before s.tracker.trail p) = inside_on s.tracker.trail (p + 1) d (before s.tracker.trail p) (subst (λ (x : List Entry). StandsOn x d (before s.tracker.trail p)) (sym m.next) (inl (refl, refl))) in
-    let low : d.level ≤ top_level (history s) = level_le_last (count_of s) (clauses_of s) (history s) (literal_of d) d.level state.trail (stands_from_entry (history s) d (before s.tracker.trail p) stands) in
+    let present : IsOnTrail (history s) d (before s.tracker.trail p) = inside_on s.tracker.trail (p + 1) d (before s.tracker.trail p) (subst (λ (x : List Entry). IsOnTrail x d (before s.tracker.trail p)) (sym m.next) (inl (refl, refl))) in
+    let low : d.level ≤ top_level (history s) = level_le_last (count_of s) (clauses_of s) (history s) (literal_of d) d.level state.trail (level_from_entry (history s) d (before s.tracker.trail p) present) in
     omega arith
 
 -- the learnt clause of an entry that is the last of its level, as an analysis

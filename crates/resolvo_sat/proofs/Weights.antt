@@ -3,7 +3,7 @@ use Rattle.std.proofs.Common.{◌≡◌, ℕ, suc, ◌+◌, ◌-◌, ◌*◌, �
 use Rattle.std.proofs.Math.Nat.{one-le-pow, pow-le-pow_right, pow-suc}
 use Rattle.resolvo_store_core.specs.Signed.{Signed}
 use Rattle.resolvo_store_core.specs.declared.decision.Entry.{Entry}
-use Rattle.resolvo_sat.specs.Entries.{top_level, IsTrail, StandsAt, IsUndone, weight}
+use Rattle.resolvo_sat.specs.Entries.{top_level, IsTrail, IsTrueAt, IsUndone, weight}
 use Rattle.resolvo_sat.proofs.Trails.{length_le, level_le_length, level_le_last}
 
 -- each entry weighs at most the largest power
@@ -54,7 +54,7 @@ power_rises count j low h le = pow-le-pow_right (omega arith) (omega arith)
 -- A backjump: the entries above the level are undone, and one is added at the remaining level.
 pub weight_jump :
     (count j : ℕ) (cs : List (List Signed)) (old new : List Entry) (l : Signed) (k : ℕ)
-    → IsTrail count cs old → IsUndone j old new → top_level new ≤ j → StandsAt old l k → j < k
+    → IsTrail count cs old → IsUndone j old new → top_level new ≤ j → IsTrueAt old l k → j < k
     → weight count old < (count + 1) ^ (count + 1 - top_level new) + weight count new
 weight_jump count j cs old new l k t u low s above =
     let (n, same, less) = weight_undone count j old new u in

@@ -28,12 +28,12 @@ HasAnother clause l false = IsOnly clause l
 pub record Begins (x : UnitClause) (is_long is_rule : Bool) (old new : WatchLists) : Type 0 where
   pub watched : new.watched.items ≡ old.watched.items ++ None ∷ []
   pub watches : new.watches ≡ old.watches
-  pub waiting : new.waiting.items ≡ with_last is_long x.clause old.waiting.items
+  pub pending : new.pending.items ≡ with_last is_long x.clause old.pending.items
   pub assertions : new.assertions.items ≡ with_last (not is_long && is_rule) x old.assertions.items
   pub learnt : new.learnt.items ≡ with_last (not is_long && not is_rule) x old.learnt.items
 
 -- the clause was appended, and the watch lists list it
-pub record Comes (c : SatClause) (id : ClauseId) (old : SatState) (v : WatchLists) (new : SatState) (w : WatchLists) : Type 0 where
+pub record AddsPending (c : SatClause) (id : ClauseId) (old : SatState) (v : WatchLists) (new : SatState) (w : WatchLists) : Type 0 where
   pub adds : Adds c id old new
   pub ready : IsReady new w
   pub covered : AreCovered new w

@@ -11,7 +11,7 @@ use Rattle.resolvo_sat.specs.declared.analyze.Analysis.{Analysis}
 use Rattle.resolvo_sat.specs.declared.analyze.Learnt.{Learnt}
 use Rattle.resolvo_sat.specs.declared.analyze.FinalConflict.{FinalConflict}
 use Rattle.resolvo_sat.specs.Known.{clause_at}
-use Rattle.resolvo_sat.specs.Entries.{literal_of, made_true, before, top_level, IsChoice, IsPropagated, StandsAt, StandsOn}
+use Rattle.resolvo_sat.specs.Entries.{literal_of, made_true, before, top_level, IsChoice, IsPropagated, IsTrueAt, IsOnTrail}
 use Rattle.resolvo_sat.specs.State.{history, clauses_of, IsDerived}
 
 -- the entry's variable is marked
@@ -31,7 +31,7 @@ pub record Seen (literals : List Signed) (old new : List Bool) : Type 0 where
 
 -- no marked entry is above the level, which is not above the last entry's
 pub record IsMarkedLevel (seen : List Bool) (h : List Entry) (level : ℕ) : Type 0 where
-  pub bounds : (l : Signed) → has (denied seen h) l ≡ true → (k : ℕ) × (k ≤ level) × StandsAt h (negation l) k
+  pub bounds : (l : Signed) → has (denied seen h) l ≡ true → (k : ℕ) × (k ≤ level) × IsTrueAt h (negation l) k
   pub low : level ≤ top_level h
 
 -- the entry is the last marked one of its level, above the turn's first one, and the marked ones before it bound this level; or no choice is there above that one
@@ -45,22 +45,22 @@ IsSolvable s v = slice_get s.variables.items v ≡ Some Solvable
 
 -- a decision that the search does not undo: a solvable chosen before the turn, or the decision that
 -- began it
-pub record IsKept (s : SatState) (e : Entry) (older : List Entry) : Type 0 where
+pub record IsAssumption (s : SatState) (e : Entry) (older : List Entry) : Type 0 where
   pub chosen : e.decision.value ≡ true
   pub low : e.level ≤ s.base_level
   pub begins : ((e.level < s.base_level) × IsSolvable s e.decision.variable.0) ⊎ IsChoice e older
 
 -- the literal denies a kept choice
-abbrev pub DeniesKept : SatState → Signed → Type 0
-DeniesKept s l = (e : Entry) × (older : List Entry) × StandsOn (history s) e older × (literal_of e ≡ negation l) × IsKept s e older
+abbrev pub DeniesAssumption : SatState → Signed → Type 0
+DeniesAssumption s l = (e : Entry) × (older : List Entry) × IsOnTrail (history s) e older × (literal_of e ≡ negation l) × IsAssumption s e older
 
 -- each literal denies a kept choice
-abbrev pub DenyKept : SatState → List Signed → Type 0
-DenyKept s literals = (l : Signed) → has literals l ≡ true → DeniesKept s l
+abbrev pub DenyAssumptions : SatState → List Signed → Type 0
+DenyAssumptions s literals = (l : Signed) → has literals l ≡ true → DeniesAssumption s l
 
 -- each literal denies a kept choice, or is one of these
-abbrev pub DenyKeptBut : SatState → List Signed → List Signed → Type 0
-DenyKeptBut s these literals = (l : Signed) → has literals l ≡ true → (has these l ≡ true) ⊎ DeniesKept s l
+abbrev pub DenyAssumptionsBut : SatState → List Signed → List Signed → Type 0
+DenyAssumptionsBut s these literals = (l : Signed) → has literals l ≡ true → (has these l ≡ true) ⊎ DeniesAssumption s l
 
 -- each literal is in some clause
 abbrev pub AreFromClauses : SatState → List Signed → Type 0
@@ -68,16 +68,16 @@ AreFromClauses s literals = (l : Signed) → has literals l ≡ true → (n : �
 
 -- each literal but this one is false at the level or below
 abbrev pub IsBoundedBut : Signed → List Entry → List Signed → ℕ → Type 0
-IsBoundedBut except h clause level = (l : Signed) → has clause l ≡ true → (l ≡ except) ⊎ ((k : ℕ) × (k ≤ level) × StandsAt h (negation l) k)
+IsBoundedBut except h clause level = (l : Signed) → has clause l ≡ true → (l ≡ except) ⊎ ((k : ℕ) × (k ≤ level) × IsTrueAt h (negation l) k)
 
 -- the learnt clause follows from its causes, and after a jump to its level all its literals but the asserted one are false
 pub record IsLearnt (s : SatState) (x : Learnt) : Type 0 where
   pub derived : IsDerived (clauses_of s) x.literals.items x.causes.items
   pub caused : 0 < length x.causes.items
   pub from : AreFromClauses s x.literals.items
-  pub stands : has x.literals.items x.asserting ≡ true
+  pub present : has x.literals.items x.asserting ≡ true
   pub others : IsBoundedBut x.asserting (history s) x.literals.items x.level
-  pub fell : (k : ℕ) × (x.level < k) × StandsAt (history s) (negation x.asserting) k
+  pub fell : (k : ℕ) × (x.level < k) × IsTrueAt (history s) (negation x.asserting) k
   pub low : s.base_level ≤ x.level
 
 -- the clause follows from its causes, which hold its literals, and denies kept decisions alone
@@ -85,7 +85,7 @@ pub record IsRefusal (s : SatState) (literals : List Signed) (causes : List Clau
   pub derived : IsDerived (clauses_of s) literals causes
   pub caused : 0 < length causes
   pub from : AreFromClauses s literals
-  pub denies : DenyKept s literals
+  pub denies : DenyAssumptions s literals
 
 -- Why a literal holds: the clause follows from its causes, which hold its literals.
 -- But for this literal it denies kept decisions alone.
@@ -93,10 +93,10 @@ pub record IsReason (s : SatState) (l : Signed) (literals : List Signed) (causes
   pub derived : IsDerived (clauses_of s) literals causes
   pub caused : 0 < length causes
   pub from : AreFromClauses s literals
-  pub denies : DenyKeptBut s (l ∷ []) literals
+  pub denies : DenyAssumptionsBut s (l ∷ []) literals
 
 -- the clause follows from its causes, which hold its literals, and it only denies
-pub record IsBar (s : SatState) (literals : List Signed) (causes : List ClauseId) : Type 0 where
+pub record IsDenial (s : SatState) (literals : List Signed) (causes : List ClauseId) : Type 0 where
   pub derived : IsDerived (clauses_of s) literals causes
   pub caused : 0 < length causes
   pub from : AreFromClauses s literals
@@ -117,9 +117,9 @@ IsLearntOf literals kept causes e level (Analysis.Refused x) = ⊥
 IsLearntOf literals kept causes e level (Analysis.Learnt x) = (x.literals.items ≡ (literals ++ kept) ++ negation (literal_of e) ∷ []) × (x.causes.items ≡ reverse causes) × (x.asserting ≡ negation (literal_of e)) × (x.level ≡ level)
 
 -- a choice, made before the turn where it is below its first level; else its clause forces it
-abbrev pub IsKeptOrForced : SatState → Entry → List Entry → Bool → Type 0
-IsKeptOrForced s e older true = (e.decision.value ≡ true) × (((e.level < s.base_level) × IsSolvable s e.decision.variable.0) ⊎ IsChoice e older)
-IsKeptOrForced s e older false = IsPropagated (clauses_of s) e older
+abbrev pub IsDecisionOrForced : SatState → Entry → List Entry → Bool → Type 0
+IsDecisionOrForced s e older true = (e.decision.value ≡ true) × (((e.level < s.base_level) × IsSolvable s e.decision.variable.0) ⊎ IsChoice e older)
+IsDecisionOrForced s e older false = IsPropagated (clauses_of s) e older
 
 -- The walk back along the trail is at this place: one pass over the causes, the newest first,
 -- refutes whatever denies the marked entries before it and makes the kept literals false. These deny kept choices, but for
@@ -129,5 +129,5 @@ pub record Walks (s : SatState) (begun : List Signed) (place : ℕ) (seen : List
   pub derived : IsDerived (clauses_of s) (denied seen (before s.tracker.trail place) ++ kept) (reverse causes)
   pub caused : 0 < length causes
   pub from : AreFromClauses s (denied seen (before s.tracker.trail place) ++ kept)
-  pub denies : DenyKeptBut s begun kept
+  pub denies : DenyAssumptionsBut s begun kept
   pub rootless : slice_index_or seen 0 false ≡ false

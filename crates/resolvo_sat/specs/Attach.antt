@@ -9,7 +9,7 @@ use Rattle.resolvo_sat.specs.declared.watch_lists.WatchLists.{WatchLists}
 use Rattle.resolvo_sat.specs.Known.{IsFalseUnder, clause_at}
 use Rattle.resolvo_sat.specs.Entries.{made_true}
 use Rattle.resolvo_sat.specs.State.{history, clauses_of}
-use Rattle.resolvo_sat.specs.Propagation.{IsReady, IsOwnPair, GuardsTo, Waits, SameWatching, Extends, IsBroken, Conflicts}
+use Rattle.resolvo_sat.specs.Propagation.{IsReady, IsOwnPair, GuardsTo, IsPending, SameWatching, Extends, IsFalsified, Conflicts}
 
 -- each literal of the clause is this one, or false
 abbrev pub AreFalseBut : Signed → List Signed → List Signed → Type 0
@@ -39,7 +39,7 @@ pub record IsBestPair (known clause : List Signed) (p : WatchedLiterals) : Type 
 
 -- where one of the two is false, the other one is true; or the clause is falsified
 abbrev pub IsFirstSet : ℕ → WatchedLiterals → SatState → SatState → Bool → Type 0
-IsFirstSet n p old new true = Extends old new × (new.front ≡ old.front) × GuardsTo new.guard_level (history new) (history new) p
+IsFirstSet n p old new true = Extends old new × (new.qhead ≡ old.qhead) × GuardsTo new.guard_level (history new) (history new) p
 IsFirstSet n p old new false = (new ≡ old) × IsFalseUnder (made_true (history old)) (clause_at (clauses_of old) n)
 
 -- the clause is the last one
@@ -48,24 +48,24 @@ IsLast c xs = slice_get xs (length xs - 1) ≡ Some c
 
 -- the clause that waited last watches the two
 pub record Starts (c : ClauseId) (p : WatchedLiterals) (v w : WatchLists) : Type 0 where
-  pub waiting : v.waiting.items ≡ w.waiting.items ++ c ∷ []
+  pub pending : v.pending.items ≡ w.pending.items ++ c ∷ []
   pub watched : w.watched.items ≡ slice_set v.watched.items c.0 (Some p)
   pub lists : StartsIn c p (watchers v.watches) (watchers w.watches)
   pub assertions : w.assertions ≡ v.assertions
   pub learnt : w.learnt ≡ v.learnt
 
 -- pending clauses were attached, and their forced literals assigned
-pub record Settles (old new : SatState) (v w : WatchLists) : Type 0 where
+pub record Attaches (old new : SatState) (v w : WatchLists) : Type 0 where
   pub watching : SameWatching v w
   pub ready : IsReady new w
   pub extends : Extends old new
 
 -- one clause less is pending; or the clause is falsified, and nothing changed
-abbrev pub IsSettling : ℕ → SatState → SatState → WatchLists → WatchLists → Bool → Type 0
-IsSettling n old new v w true = Settles old new v w × (length w.waiting.items + 1 ≡ length v.waiting.items)
-IsSettling n old new v w false = (new ≡ old) × (w ≡ v) × IsBroken n old
+abbrev pub IsAttachment : ℕ → SatState → SatState → WatchLists → WatchLists → Bool → Type 0
+IsAttachment n old new v w true = Attaches old new v w × (length w.pending.items + 1 ≡ length v.pending.items)
+IsAttachment n old new v w false = (new ≡ old) × (w ≡ v) × IsFalsified n old
 
 -- no clause is pending any longer; or one of the pending ones is falsified
-abbrev pub IsWaitingEnd : SatState → SatState → WatchLists → WatchLists → Option ClauseId → Type 0
-IsWaitingEnd old new v w None = Settles old new v w × ((n : ℕ) → Waits n w → ⊥)
-IsWaitingEnd old new v w (Some n) = Conflicts n.0 old new v w
+abbrev pub IsPendingEnd : SatState → SatState → WatchLists → WatchLists → Option ClauseId → Type 0
+IsPendingEnd old new v w None = Attaches old new v w × ((n : ℕ) → IsPending n w → ⊥)
+IsPendingEnd old new v w (Some n) = Conflicts n.0 old new v w

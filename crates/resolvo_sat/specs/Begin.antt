@@ -37,6 +37,6 @@ pub record AddsVariable (kind : VariableKind) (v : VariableId) (old new : SatSta
   pub variables : new.variables.items ≡ old.variables.items ++ kind ∷ []
   pub clauses : new.clauses ≡ old.clauses
   pub tracker : new.tracker ≡ old.tracker
-  pub front : new.front ≡ old.front
+  pub qhead : new.qhead ≡ old.qhead
   pub guard : new.guard_level ≡ old.guard_level
   pub base_level : new.base_level ≡ old.base_level

@@ -52,14 +52,14 @@ IsTrail count clauses [] = Unit {0}
 IsTrail count clauses (e ∷ older) = Follows count clauses e older × IsTrail count clauses older
 
 -- an entry of this level makes the literal true
-abbrev pub StandsAt : List Entry → Signed → ℕ → Type 0
-StandsAt [] l k = ⊥
-StandsAt (e ∷ older) l k = ((literal_of e ≡ l) × (e.level ≡ k)) ⊎ StandsAt older l k
+abbrev pub IsTrueAt : List Entry → Signed → ℕ → Type 0
+IsTrueAt [] l k = ⊥
+IsTrueAt (e ∷ older) l k = ((literal_of e ≡ l) × (e.level ≡ k)) ⊎ IsTrueAt older l k
 
 -- the trail holds the entry, with these before it
-abbrev pub StandsOn : List Entry → Entry → List Entry → Type 0
-StandsOn [] e before_e = ⊥
-StandsOn (d ∷ older) e before_e = ((d ≡ e) × (older ≡ before_e)) ⊎ StandsOn older e before_e
+abbrev pub IsOnTrail : List Entry → Entry → List Entry → Type 0
+IsOnTrail [] e before_e = ⊥
+IsOnTrail (d ∷ older) e before_e = ((d ≡ e) × (older ≡ before_e)) ⊎ IsOnTrail older e before_e
 
 -- the oldest entry makes the root true, at level 1
 abbrev pub IsRooted : List Entry → Type 0

@@ -33,7 +33,7 @@ clause_at (c ∷ cs) (suc n) = clause_at cs n
 
 -- the clause holds the literal, and its others are false
 pub record IsForced (clause : List Signed) (l : Signed) (known : List Signed) : Type 0 where
-  pub stands : has clause l ≡ true
+  pub present : has clause l ≡ true
   pub others : (m : Signed) → has clause m ≡ true → (m ≡ l) ⊎ (has known (negation m) ≡ true)
 
 -- the clause makes this literal true

@@ -12,7 +12,7 @@ use Rattle.resolvo_sat.specs.declared.watch_lists.WatchLists.{WatchLists}
 use Rattle.resolvo_sat.specs.declared.watch_lists.UnitClause.{UnitClause}
 use Rattle.resolvo_sat.specs.declared.propagate.WatchVisit.{WatchVisit}
 use Rattle.resolvo_sat.specs.Known.{IsFalseUnder, clause_at}
-use Rattle.resolvo_sat.specs.Entries.{made_true, before, StandsAt}
+use Rattle.resolvo_sat.specs.Entries.{made_true, before, IsTrueAt}
 use Rattle.resolvo_sat.specs.State.{history, clauses_of, IsState}
 use Rattle.resolvo_sat.specs.Steps.{SameBut, KeepsChoices}
 
@@ -23,25 +23,25 @@ pub record IsOwnPair (clause : List Signed) (p : WatchedLiterals) : Type 0 where
 
 -- the clause has this literal alone
 pub record IsOnly (clause : List Signed) (l : Signed) : Type 0 where
-  pub stands : has clause l ≡ true
+  pub present : has clause l ≡ true
   pub alone : (m : Signed) → has clause m ≡ true → m ≡ l
 
-abbrev pub HasSingle : List UnitClause → UnitClause → Type 0
-HasSingle [] x = ⊥
-HasSingle (y ∷ ys) x = (y ≡ x) ⊎ HasSingle ys x
+abbrev pub HasUnit : List UnitClause → UnitClause → Type 0
+HasUnit [] x = ⊥
+HasUnit (y ∷ ys) x = (y ≡ x) ⊎ HasUnit ys x
 
 -- each is a unit clause's note
-abbrev pub AreSingles : List (List Signed) → List UnitClause → Type 0
-AreSingles clauses [] = Unit {0}
-AreSingles clauses (x ∷ xs) = (x.clause.0 < length clauses) × IsOnly (clause_at clauses x.clause.0) x.literal × AreSingles clauses xs
+abbrev pub AreUnits : List (List Signed) → List UnitClause → Type 0
+AreUnits clauses [] = Unit {0}
+AreUnits clauses (x ∷ xs) = (x.clause.0 < length clauses) × IsOnly (clause_at clauses x.clause.0) x.literal × AreUnits clauses xs
 
 -- the clause has two different literals
 abbrev pub HasTwo : List Signed → Type 0
 HasTwo clause = (l : Signed) × (m : Signed) × (has clause l ≡ true) × (has clause m ≡ true) × (same_literal l m ≡ false)
 
 -- the clause was added, and is still to watch two of its literals
-abbrev pub Waits : ℕ → WatchLists → Type 0
-Waits n w = 0 < count n w.waiting.items
+abbrev pub IsPending : ℕ → WatchLists → Type 0
+IsPending n w = 0 < count n w.pending.items
 
 -- the watches fit the clauses, whatever is true or false: a clause that watches something watches its own literals; a clause
 -- that waits watches nothing, has two different literals, and waits once
@@ -49,9 +49,9 @@ pub record IsFit (s : SatState) (w : WatchLists) : Type 0 where
   pub fit : IsWatched w.watched.items (watchers w.watches)
   pub each : length w.watched.items ≡ length s.clauses
   pub own : (n : ℕ) (p : WatchedLiterals) → pair_at w.watched.items n ≡ Some p → IsOwnPair (clause_at (clauses_of s) n) p
-  pub unwatched : (n : ℕ) → Waits n w → pair_at w.watched.items n ≡ None
-  pub two : (n : ℕ) → Waits n w → HasTwo (clause_at (clauses_of s) n)
-  pub once : (n : ℕ) → count n w.waiting.items ≤ 1
+  pub unwatched : (n : ℕ) → IsPending n w → pair_at w.watched.items n ≡ None
+  pub two : (n : ℕ) → IsPending n w → HasTwo (clause_at (clauses_of s) n)
+  pub once : (n : ℕ) → count n w.pending.items ≤ 1
 
 -- where one of the two is false by the first literals, the other one is true
 pub record Guards (fallen known : List Signed) (p : WatchedLiterals) : Type 0 where
@@ -60,12 +60,12 @@ pub record Guards (fallen known : List Signed) (p : WatchedLiterals) : Type 0 wh
 
 -- the entries hold the literal, at this level or below, or else not above the guards' level
 abbrev pub IsGuard : ℕ → ℕ → List Entry → Signed → Type 0
-IsGuard g k all l = (j : ℕ) × (j ≤ max g k) × StandsAt all l j
+IsGuard g k all l = (j : ℕ) × (j ≤ max g k) × IsTrueAt all l j
 
 -- where one of the two is false by the first entries, the other one guards it
 pub record GuardsTo (g : ℕ) (fallen all : List Entry) (p : WatchedLiterals) : Type 0 where
-  pub first : (k : ℕ) → StandsAt fallen (negation p.first) k → IsGuard g k all p.second
-  pub second : (k : ℕ) → StandsAt fallen (negation p.second) k → IsGuard g k all p.first
+  pub first : (k : ℕ) → IsTrueAt fallen (negation p.first) k → IsGuard g k all p.second
+  pub second : (k : ℕ) → IsTrueAt fallen (negation p.second) k → IsGuard g k all p.first
 
 -- the first k entries of the trail were walked: in each clause where one of the two watched literals
 -- is false by them, the other one is true and guards it
@@ -73,29 +73,29 @@ abbrev pub IsWalkedTo : ℕ → SatState → WatchLists → Type 0
 IsWalkedTo k s w = (n : ℕ) (p : WatchedLiterals) → pair_at w.watched.items n ≡ Some p → GuardsTo s.guard_level (before s.tracker.trail k) (history s) p
 
 -- the level of a true literal beside a false one is among the guards' levels now
-pub record NotesGuard (l m : Signed) (old new : SatState) : Type 0 where
+pub record RecordsGuard (l m : Signed) (old new : SatState) : Type 0 where
   pub same : new ≡ record old { guard_level = new.guard_level }
   pub higher : old.guard_level ≤ new.guard_level
-  pub guard : (k : ℕ) → StandsAt (history old) (negation l) k → IsGuard new.guard_level k (history old) m
+  pub guard : (k : ℕ) → IsTrueAt (history old) (negation l) k → IsGuard new.guard_level k (history old) m
 
 -- the invariant of the watches between calls: they fit the clauses, and the trail was walked up to
 -- the propagation head
 pub record IsReady (s : SatState) (w : WatchLists) : Type 0 where
   pub state : IsState s
   pub fits : IsFit s w
-  pub front : s.front ≤ length s.tracker.trail
-  pub walked : IsWalkedTo s.front s w
+  pub qhead : s.qhead ≤ length s.tracker.trail
+  pub walked : IsWalkedTo s.qhead s w
 
 -- the clause is listed as a unit clause
-abbrev pub IsNoted : ℕ → WatchLists → Type 0
-IsNoted n w = (x : UnitClause) × (x.clause.0 ≡ n) × (HasSingle w.assertions.items x ⊎ HasSingle w.learnt.items x)
+abbrev pub IsUnit : ℕ → WatchLists → Type 0
+IsUnit n w = (x : UnitClause) × (x.clause.0 ≡ n) × (HasUnit w.assertions.items x ⊎ HasUnit w.learnt.items x)
 
 -- a clause that watches nothing is the root's, which is the first, or is listed as a unit clause,
 -- or is pending
 pub record AreCovered (s : SatState) (w : WatchLists) : Type 0 where
-  pub assertions : AreSingles (clauses_of s) w.assertions.items
-  pub learnt : AreSingles (clauses_of s) w.learnt.items
-  pub covered : (n : ℕ) → n < length s.clauses → pair_at w.watched.items n ≡ None → (n ≡ 0) ⊎ (IsNoted n w ⊎ Waits n w)
+  pub assertions : AreUnits (clauses_of s) w.assertions.items
+  pub learnt : AreUnits (clauses_of s) w.learnt.items
+  pub covered : (n : ℕ) → n < length s.clauses → pair_at w.watched.items n ≡ None → (n ≡ 0) ⊎ (IsUnit n w ⊎ IsPending n w)
   pub first : has (clause_at (clauses_of s) 0) (yes root) ≡ true
 
 -- No clause stopped watching, and none was added. What was pending is so still or watches, and the unit clauses
@@ -104,13 +104,13 @@ pub record SameWatching (v w : WatchLists) : Type 0 where
   pub assertions : w.assertions ≡ v.assertions
   pub learnt : w.learnt ≡ v.learnt
   pub pairs : (n : ℕ) → pair_at w.watched.items n ≡ None → pair_at v.watched.items n ≡ None
-  pub waited : (n : ℕ) → Waits n w → Waits n v
-  pub waits : (n : ℕ) → Waits n v → pair_at w.watched.items n ≡ None → Waits n w
+  pub was_pending : (n : ℕ) → IsPending n w → IsPending n v
+  pub stays_pending : (n : ℕ) → IsPending n v → pair_at w.watched.items n ≡ None → IsPending n w
 
 -- where one of the two is this literal, which is false, the other one guards it
 pub record Passed (l : Signed) (g : ℕ) (all : List Entry) (p : WatchedLiterals) : Type 0 where
-  pub first : p.first ≡ l → (k : ℕ) → StandsAt all (negation l) k → IsGuard g k all p.second
-  pub second : p.second ≡ l → (k : ℕ) → StandsAt all (negation l) k → IsGuard g k all p.first
+  pub first : p.first ≡ l → (k : ℕ) → IsTrueAt all (negation l) k → IsGuard g k all p.second
+  pub second : p.second ≡ l → (k : ℕ) → IsTrueAt all (negation l) k → IsGuard g k all p.first
 
 -- entries were added to the trail, none of them a choice
 pub record Extends (old new : SatState) : Type 0 where
@@ -125,7 +125,7 @@ pub record Extends (old new : SatState) : Type 0 where
 pub record IsVisiting (k : ℕ) (l : Signed) (place : ℕ) (old s : SatState) (v w : WatchLists) : Type 0 where
   pub fits : IsFit s w
   pub extends : Extends old s
-  pub front : s.front ≡ old.front
+  pub qhead : s.qhead ≡ old.qhead
   pub walked : IsWalkedTo k s w
   pub passed : (n : ℕ) (p : WatchedLiterals) → pair_at w.watched.items n ≡ Some p → count n (drop place (watchers w.watches l)) ≡ 0 → Passed l s.guard_level (history s) p
   pub entry : made_true (before s.tracker.trail (k + 1)) ≡ negation l ∷ made_true (before s.tracker.trail k)
@@ -140,9 +140,9 @@ IsFree known clause p (Some l) = (has clause l ≡ true) × (watches (Some p) l 
 -- the clause's other watched literal is true, and guards the false one
 pub record Keeps (l : Signed) (p : WatchedLiterals) (s t : SatState) (w x : WatchLists) : Type 0 where
   pub extends : Extends s t
-  pub front : t.front ≡ s.front
+  pub qhead : t.qhead ≡ s.qhead
   pub same_watching : x ≡ w
-  pub guard : (k : ℕ) → StandsAt (history t) (negation l) k → IsGuard t.guard_level k (history t) (other_of p l)
+  pub guard : (k : ℕ) → IsTrueAt (history t) (negation l) k → IsGuard t.guard_level k (history t) (other_of p l)
 
 -- the clause watches another literal, which is not false
 pub record Replaces (l : Signed) (place n : ℕ) (s t : SatState) (w x : WatchLists) : Type 0 where
@@ -151,13 +151,13 @@ pub record Replaces (l : Signed) (place n : ℕ) (s t : SatState) (w x : WatchLi
   pub moves : Moves l place to w.watched.items x.watched.items (watchers w.watches) (watchers x.watches)
   pub assertions : x.assertions ≡ w.assertions
   pub learnt : x.learnt ≡ w.learnt
-  pub waiting : x.waiting ≡ w.waiting
+  pub pending : x.pending ≡ w.pending
   pub own : has (clause_at (clauses_of s) n) to ≡ true
   pub unwatched : watches (pair_at w.watched.items n) to ≡ false
   pub free : has (made_true (history s)) (negation to) ≡ false
 
 -- all literals of the clause are false
-pub record Breaks (n : ℕ) (s t : SatState) (w x : WatchLists) : Type 0 where
+pub record Falsifies (n : ℕ) (s t : SatState) (w x : WatchLists) : Type 0 where
   pub same_state : t ≡ s
   pub same_watching : x ≡ w
   pub falls : IsFalseUnder (made_true (history s)) (clause_at (clauses_of s) n)
@@ -166,10 +166,10 @@ pub record Breaks (n : ℕ) (s t : SatState) (w x : WatchLists) : Type 0 where
 abbrev pub IsMeeting : Signed → ℕ → ℕ → WatchedLiterals → SatState → WatchLists → SatState → WatchLists → WatchVisit → Type 0
 IsMeeting l place n p s w t x WatchVisit.Kept = Keeps l p s t w x
 IsMeeting l place n p s w t x WatchVisit.Moved = Replaces l place n s t w x
-IsMeeting l place n p s w t x WatchVisit.Broken = Breaks n s t w x
+IsMeeting l place n p s w t x WatchVisit.Falsified = Falsifies n s t w x
 
 -- the clause is falsified
-pub record IsBroken (n : ℕ) (s : SatState) : Type 0 where
+pub record IsFalsified (n : ℕ) (s : SatState) : Type 0 where
   pub in_range : n < length s.clauses
   pub falls : IsFalseUnder (made_true (history s)) (clause_at (clauses_of s) n)
 
@@ -178,7 +178,7 @@ pub record Walked (k : ℕ) (old new : SatState) (v w : WatchLists) : Type 0 whe
   pub watching : SameWatching v w
   pub fits : IsFit new w
   pub extends : Extends old new
-  pub front : new.front ≡ old.front
+  pub qhead : new.qhead ≡ old.qhead
   pub walked : IsWalkedTo k new w
 
 abbrev pub AllTrue : List Signed → List UnitClause → Type 0
@@ -196,8 +196,8 @@ pub record IsComplete (old new : SatState) (v w : WatchLists) : Type 0 where
   pub watching : SameWatching v w
   pub ready : IsReady new w
   pub extends : Extends old new
-  pub front : new.front ≡ length new.tracker.trail
-  pub settled : (n : ℕ) → Waits n w → ⊥
+  pub qhead : new.qhead ≡ length new.tracker.trail
+  pub attached : (n : ℕ) → IsPending n w → ⊥
   pub quiet : (n : ℕ) → n < length new.clauses → IsQuiet (made_true (history new)) (clause_at (clauses_of new) n)
 
 -- propagation ended in a conflict: the clause is falsified
@@ -205,11 +205,11 @@ pub record Conflicts (n : ℕ) (old new : SatState) (v w : WatchLists) : Type 0 
   pub watching : SameWatching v w
   pub ready : IsReady new w
   pub extends : Extends old new
-  pub broken : IsBroken n new
+  pub falsified : IsFalsified n new
 
 -- a falsified clause, or the literal of the entry at the propagation head was walked over
 abbrev pub IsVisit : SatState → SatState → WatchLists → WatchLists → Option ClauseId → Type 0
-IsVisit old new v w None = Walked (old.front + 1) old new v w
+IsVisit old new v w None = Walked (old.qhead + 1) old new v w
 IsVisit old new v w (Some n) = Conflicts n.0 old new v w
 
 abbrev pub IsPropagation : SatState → SatState → WatchLists → WatchLists → Option ClauseId → Type 0
@@ -217,19 +217,19 @@ IsPropagation old new v w None = IsComplete old new v w
 IsPropagation old new v w (Some n) = Conflicts n.0 old new v w
 
 -- the literal is true, or false as it was
-abbrev pub IsSingleSet : UnitClause → SatState → SatState → Bool → Type 0
-IsSingleSet x old new true = Extends old new × (new.front ≡ old.front) × (has (made_true (history new)) x.literal ≡ true)
-IsSingleSet x old new false = (new ≡ old) × (has (made_true (history old)) (negation x.literal) ≡ true)
+abbrev pub IsUnitAssigned : UnitClause → SatState → SatState → Bool → Type 0
+IsUnitAssigned x old new true = Extends old new × (new.qhead ≡ old.qhead) × (has (made_true (history new)) x.literal ≡ true)
+IsUnitAssigned x old new false = (new ≡ old) × (has (made_true (history old)) (negation x.literal) ≡ true)
 
 -- the first singles' literals are true
-pub record SetsSingles (part : List UnitClause) (old new : SatState) : Type 0 where
+pub record AssignsUnits (part : List UnitClause) (old new : SatState) : Type 0 where
   pub extends : Extends old new
-  pub front : new.front ≡ old.front
+  pub qhead : new.qhead ≡ old.qhead
   pub set : AllTrue (made_true (history new)) part
 
-abbrev pub IsSinglesEnd : List UnitClause → SatState → SatState → Option ClauseId → Type 0
-IsSinglesEnd singles old new None = SetsSingles singles old new
-IsSinglesEnd singles old new (Some n) = Extends old new × (new.front ≡ old.front) × IsBroken n.0 new
+abbrev pub IsUnitsEnd : List UnitClause → SatState → SatState → Option ClauseId → Type 0
+IsUnitsEnd units old new None = AssignsUnits units old new
+IsUnitsEnd units old new (Some n) = Extends old new × (new.qhead ≡ old.qhead) × IsFalsified n.0 new
 
 -- the entry of this place makes the literal false
 pub record FellAt (l : Signed) (place : ℕ) (s : SatState) : Type 0 where
@@ -238,16 +238,16 @@ pub record FellAt (l : Signed) (place : ℕ) (s : SatState) : Type 0 where
 
 -- the literal that the entry at the propagation head makes false; or there is no entry there
 abbrev pub IsNextFallen : SatState → Option Signed → Type 0
-IsNextFallen s None = length s.tracker.trail ≤ s.front
-IsNextFallen s (Some l) = FellAt l s.front s
+IsNextFallen s None = length s.tracker.trail ≤ s.qhead
+IsNextFallen s (Some l) = FellAt l s.qhead s
 
 -- all entries before this one are propagated, and no clause is pending
 pub record Running (old s : SatState) (v w : WatchLists) : Type 0 where
   pub watching : SameWatching v w
-  pub settled : (n : ℕ) → Waits n w → ⊥
+  pub attached : (n : ℕ) → IsPending n w → ⊥
   pub fits : IsFit s w
   pub extends : Extends old s
-  pub walked : IsWalkedTo s.front s w
+  pub walked : IsWalkedTo s.qhead s w
   pub assertions : AllTrue (made_true (history s)) v.assertions.items
   pub learnt : AllTrue (made_true (history s)) v.learnt.items
-  pub in_range : s.front ≤ length s.tracker.trail
+  pub in_range : s.qhead ≤ length s.tracker.trail

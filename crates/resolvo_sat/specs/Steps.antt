@@ -6,7 +6,7 @@ use Rattle.resolvo_store_core.specs.Signed.{Signed, has}
 use Rattle.resolvo_store_core.specs.declared.decision.Entry.{Entry}
 use Rattle.resolvo_sat.specs.declared.state.SatClause.{SatClause}
 use Rattle.resolvo_sat.specs.declared.state.SatState.{SatState}
-use Rattle.resolvo_sat.specs.Entries.{top_level, IsChoice, StandsOn, IsUndone}
+use Rattle.resolvo_sat.specs.Entries.{top_level, IsChoice, IsOnTrail, IsUndone}
 use Rattle.resolvo_sat.specs.State.{history, IsState}
 
 -- the literal is of one of the variables
@@ -29,14 +29,14 @@ pub record SameBut (old new : SatState) : Type 0 where
 
 -- each choice was one before, over the same older entries
 abbrev pub KeepsChoices : List Entry → List Entry → Type 0
-KeepsChoices old new = (e : Entry) (older : List Entry) → StandsOn new e older → IsChoice e older → StandsOn old e older
+KeepsChoices old new = (e : Entry) (older : List Entry) → IsOnTrail new e older → IsChoice e older → IsOnTrail old e older
 
 -- the literal was made true, forced by the clause
 pub record Sets (c : ClauseId) (l : Signed) (old new : SatState) : Type 0 where
   pub state : IsState new
   pub same : SameBut old new
   pub pushed : new.tracker.trail ≡ old.tracker.trail ++ forced_entry c l (history old) ∷ []
-  pub front : new.front ≡ old.front
+  pub qhead : new.qhead ≡ old.qhead
   pub guard : new.guard_level ≡ old.guard_level
 
 -- the variable was chosen to be true, at the next level
@@ -44,13 +44,13 @@ pub record Chooses (v : VariableId) (c : ClauseId) (old new : SatState) : Type 0
   pub state : IsState new
   pub same : SameBut old new
   pub pushed : new.tracker.trail ≡ old.tracker.trail ++ choice_entry v c (history old) ∷ []
-  pub front : new.front ≡ old.front
+  pub qhead : new.qhead ≡ old.qhead
   pub guard : new.guard_level ≡ old.guard_level
 
 -- propagation restarts at the trail's first entry; or it continues after the remaining ones, as no
 -- guard was above the level
-abbrev pub IsFrontUndone : ℕ → SatState → SatState → Type 0
-IsFrontUndone level old new = (new.front ≡ 0) ⊎ ((old.guard_level ≤ level) × (new.guard_level ≡ old.guard_level) × (new.front ≡ min old.front (length new.tracker.trail)))
+abbrev pub IsQheadUndone : ℕ → SatState → SatState → Type 0
+IsQheadUndone level old new = (new.qhead ≡ 0) ⊎ ((old.guard_level ≤ level) × (new.guard_level ≡ old.guard_level) × (new.qhead ≡ min old.qhead (length new.tracker.trail)))
 
 -- the entries above the level are gone
 pub record Undoes (level : ℕ) (old new : SatState) : Type 0 where
@@ -58,7 +58,7 @@ pub record Undoes (level : ℕ) (old new : SatState) : Type 0 where
   pub same : SameBut old new
   pub undone : IsUndone level (history old) (history new)
   pub low : top_level (history new) ≤ level
-  pub front : IsFrontUndone level old new
+  pub qhead : IsQheadUndone level old new
 
 -- the clause was appended
 pub record Adds (c : SatClause) (id : ClauseId) (old new : SatState) : Type 0 where
@@ -66,7 +66,7 @@ pub record Adds (c : SatClause) (id : ClauseId) (old new : SatState) : Type 0 wh
   pub variables : new.variables ≡ old.variables
   pub base_level : new.base_level ≡ old.base_level
   pub tracker : new.tracker ≡ old.tracker
-  pub front : new.front ≡ old.front
+  pub qhead : new.qhead ≡ old.qhead
   pub guard : new.guard_level ≡ old.guard_level
   pub number : id.0 ≡ length old.clauses
   pub added : new.clauses ≡ old.clauses ++ c ∷ []

@@ -5,7 +5,7 @@ ghost use Rattle.resolvo_store_core.specs.Signed.{has};
 ghost use Rattle.resolvo_sat.specs.State.{IsDerived, clauses_of, count_of};
 ghost use Rattle.resolvo_sat.specs.Steps.{AreInRange};
 ghost use Rattle.resolvo_sat.specs.Propagation.{IsReady, AreCovered};
-ghost use Rattle.resolvo_sat.specs.AddClause.{HasAnother, with_last, Begins, Comes};
+ghost use Rattle.resolvo_sat.specs.AddClause.{HasAnother, with_last, Begins, AddsPending};
 
 use crate::state::{SatClause, SatState};
 use crate::watch_lists::{UnitClause, WatchLists};
@@ -25,7 +25,7 @@ impl SatState {
         requires in_range { AreInRange (count_of self.old) clause.literals.items }
         requires some { 0 < length clause.literals.items }
         // After an answer.
-        ensures added { IfOk result (λ id. Comes clause id self.old watching.old self.new watching.new) }
+        ensures added { IfOk result (λ id. AddsPending clause id self.old watching.old self.new watching.new) }
         // After a refusal.
         ensures ids { IsErrOf result Ids → length self.old.clauses ≡ 4294967295 }
         ensures full { IsErrOf result Ids → length self.new.clauses ≡ 4294967295 }
@@ -33,7 +33,7 @@ impl SatState {
         let literal = clause.literals[0];
         let is_long = has_another(clause.literals.as_slice(), literal);
         let is_rule = clause.causes.is_empty();
-        let clause = self.hold(clause)?;
+        let clause = self.push_clause(clause)?;
         watching.begin(UnitClause { clause, literal }, is_long, is_rule)?;
         Ok(clause)
     }
@@ -54,34 +54,34 @@ fn has_another(literals: &[Literal], first: Literal) -> bool
 
 impl WatchLists {
     /// Lists a new clause: as pending, or as the unit clause of this literal.
-    fn begin(&mut self, single: UnitClause, is_long: bool, is_rule: bool) -> R<()>
-        ensures begun { IfOk result (λ _. Begins single is_long is_rule self.old self.new) }
+    fn begin(&mut self, unit: UnitClause, is_long: bool, is_rule: bool) -> R<()>
+        ensures begun { IfOk result (λ _. Begins unit is_long is_rule self.old self.new) }
         ensures refusal { IsOkUnless result Memory }
     {
         if is_long {
-            self.waiting.push(single.clause)?;
+            self.pending.push(unit.clause)?;
         } else {
-            self.note(single, is_rule)?;
+            self.add_unit(unit, is_rule)?;
         }
         self.watched.push(None)?;
         Ok(())
     }
 
     /// Lists a unit clause, as a rule or as a learnt one.
-    fn note(&mut self, single: UnitClause, is_rule: bool) -> R<()>
+    fn add_unit(&mut self, unit: UnitClause, is_rule: bool) -> R<()>
         ensures assertions { IfOk result
-            (λ _. self.new.assertions.items ≡ with_last is_rule single self.old.assertions.items) }
+            (λ _. self.new.assertions.items ≡ with_last is_rule unit self.old.assertions.items) }
         ensures learnt { IfOk result
-            (λ _. self.new.learnt.items ≡ with_last (not is_rule) single self.old.learnt.items) }
+            (λ _. self.new.learnt.items ≡ with_last (not is_rule) unit self.old.learnt.items) }
         ensures others { (self.new.watched ≡ self.old.watched)
             × (self.new.watches ≡ self.old.watches)
-            × (self.new.waiting ≡ self.old.waiting) }
+            × (self.new.pending ≡ self.old.pending) }
         ensures refusal { IsOkUnless result Memory }
     {
         if is_rule {
-            self.assertions.push(single)?;
+            self.assertions.push(unit)?;
         } else {
-            self.learnt.push(single)?;
+            self.learnt.push(unit)?;
         }
         Ok(())
     }

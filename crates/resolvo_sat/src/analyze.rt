@@ -5,7 +5,7 @@ ghost use Rattle.resolvo_store_core.specs.Signed.{has};
 ghost use Rattle.resolvo_sat.specs.Known.{IsFalseUnder, clause_at};
 ghost use Rattle.resolvo_sat.specs.Entries.{made_true, before, literal_of};
 ghost use Rattle.resolvo_sat.specs.State.{IsState, history, clauses_of};
-ghost use Rattle.resolvo_sat.specs.Analysis.{Seen, denied, IsMarkedLevel, IsAssertion, IsAnalysis, IsLearntOf, IsKeptOrForced};
+ghost use Rattle.resolvo_sat.specs.Analysis.{Seen, denied, IsMarkedLevel, IsAssertion, IsAnalysis, IsLearntOf, IsDecisionOrForced};
 
 use crate::state::SatState;
 use resolvo_pool_core::id::{ClauseId, VariableId};
@@ -79,19 +79,19 @@ impl SatState {
     /// resolved with its reason, until only one is left of its level. The clause that denies the
     /// marked entries is then learnt. Where the walk reaches the start of the trail, only choices
     /// are left, which contradict each other.
-    pub fn analyze(&self, alloc: Global, broken: ClauseId) -> R<Analysis>
+    pub fn analyze(&self, alloc: Global, falsified: ClauseId) -> R<Analysis>
         requires state { IsState self.now }
-        requires in_range { broken.0 < length self.now.clauses }
-        requires falls { IsFalseUnder (made_true (history self.now)) (clause_at (clauses_of self.now) broken.0) }
+        requires in_range { falsified.0 < length self.now.clauses }
+        requires falls { IsFalseUnder (made_true (history self.now)) (clause_at (clauses_of self.now) falsified.0) }
         ensures analysis { IfOk result (IsAnalysis self.now) }
         ensures refusal { IsOkUnless result Memory }
     {
         let mut seen = IndexedSet::new(alloc);
         let values = self.tracker.map();
         let level = self.top_level();
-        let mut pending = mark_seen(&mut seen, self.literals(broken), values, level)?;
+        let mut pending = mark_seen(&mut seen, self.literals(falsified), values, level)?;
         let mut causes = Vec::new(alloc);
-        causes.push(broken)?;
+        causes.push(falsified)?;
         let mut kept = Vec::new(alloc);
         let mut place = self.tracker.stack().len();
         while place > 0 {
@@ -103,7 +103,7 @@ impl SatState {
                     return self.learnt(literals, kept, causes, entry, below);
                 }
                 pending = pending.saturating_sub(1);
-                if self.is_kept(place, entry) {
+                if self.is_decision(place, entry) {
                     kept.push(literal_made_true(entry).negate())?;
                 } else {
                     causes.push(entry.decision.derived_from)?;
@@ -178,11 +178,11 @@ impl SatState {
     }
 
     /// Whether an entry is a choice, which the analysis does not resolve.
-    pub(crate) fn is_kept(&self, place: usize, entry: Entry) -> bool
+    pub(crate) fn is_decision(&self, place: usize, entry: Entry) -> bool
         requires state { IsState self.now }
         requires in_range { place < length self.now.tracker.trail }
         requires next { before self.now.tracker.trail (place + 1) ≡ entry ∷ before self.now.tracker.trail place }
-        ensures { IsKeptOrForced self.now entry (before self.now.tracker.trail place) result }
+        ensures { IsDecisionOrForced self.now entry (before self.now.tracker.trail place) result }
     {
         if entry.decision.value && entry.level < self.base_level {
             if self.is_solvable(entry.decision.variable) {

@@ -66,7 +66,7 @@ impl SatState {
             at -= 1;
             let earlier = self.entry(at);
             if seen.contains(earlier.decision.variable) {
-                if self.is_kept(at, earlier) {
+                if self.is_decision(at, earlier) {
                     kept.push(literal_made_true(earlier).negate())?;
                 } else {
                     causes.push(earlier.decision.derived_from)?;

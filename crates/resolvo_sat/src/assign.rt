@@ -75,15 +75,15 @@ impl SatState {
     {
         self.tracker.undo_until(level);
         if level < self.guard_level {
-            self.front = 0;
+            self.qhead = 0;
             self.guard_level = 0;
         } else {
-            self.front = self.front.min(self.tracker.stack().len());
+            self.qhead = self.qhead.min(self.tracker.stack().len());
         }
     }
 
     /// Adds a clause: a rule, or one that follows from its antecedents.
-    pub fn hold(&mut self, clause: SatClause) -> R<ClauseId>
+    pub fn push_clause(&mut self, clause: SatClause) -> R<ClauseId>
         requires state { IsState self.old }
         requires follows { 0 < length clause.causes.items
             → IsDerived (clauses_of self.old) clause.literals.items clause.causes.items }

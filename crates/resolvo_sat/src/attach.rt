@@ -7,7 +7,7 @@ ghost use Rattle.resolvo_sat.specs.Known.{clause_at};
 ghost use Rattle.resolvo_sat.specs.Entries.{made_true};
 ghost use Rattle.resolvo_sat.specs.State.{IsState, history, clauses_of};
 ghost use Rattle.resolvo_sat.specs.Propagation.{HasTwo, IsReady};
-ghost use Rattle.resolvo_sat.specs.Attach.{IsBestBeside, IsEither, IsBestPair, IsFirstSet, IsLast, Starts, IsSettling, IsWaitingEnd};
+ghost use Rattle.resolvo_sat.specs.Attach.{IsBestBeside, IsEither, IsBestPair, IsFirstSet, IsLast, Starts, IsAttachment, IsPendingEnd};
 
 use crate::state::SatState;
 use crate::watch_lists::WatchLists;
@@ -21,22 +21,22 @@ impl SatState {
     /// returns one of them that is falsified, which remains pending.
     pub(crate) fn attach_pending(&mut self, watching: &mut WatchLists) -> R<Option<ClauseId>>
         requires ready { IsReady self.old watching.old }
-        ensures settled { IfOk result (IsWaitingEnd self.old self.new watching.old watching.new) }
+        ensures attached { IfOk result (IsPendingEnd self.old self.new watching.old watching.new) }
         ensures refusal { IsOkUnless result Memory }
     {
-        watching.turn_waiting();
-        let broken = self.attach_from_last(watching)?;
-        Ok(broken)
+        watching.reverse_pending();
+        let falsified = self.attach_from_last(watching)?;
+        Ok(falsified)
     }
 
     /// Attaches the pending clauses, the last one first, and assigns what they force; or returns
     /// one of them that is falsified.
     fn attach_from_last(&mut self, watching: &mut WatchLists) -> R<Option<ClauseId>>
         requires ready { IsReady self.old watching.old }
-        ensures settled { IfOk result (IsWaitingEnd self.old self.new watching.old watching.new) }
+        ensures attached { IfOk result (IsPendingEnd self.old self.new watching.old watching.new) }
         ensures refusal { IsOkUnless result Memory }
     {
-        while let Some(clause) = watching.last_waiting() {
+        while let Some(clause) = watching.last_pending() {
             match self.attach(watching, clause)? {
                 true => {}
                 false => return Ok(Some(clause)),
@@ -49,8 +49,8 @@ impl SatState {
     /// falsified.
     fn attach(&mut self, watching: &mut WatchLists, clause: ClauseId) -> R<bool>
         requires ready { IsReady self.old watching.old }
-        requires last { IsLast clause watching.old.waiting.items }
-        ensures settled { IfOk result (IsSettling clause.0 self.old self.new watching.old watching.new) }
+        requires last { IsLast clause watching.old.pending.items }
+        ensures attached { IfOk result (IsAttachment clause.0 self.old self.new watching.old watching.new) }
         ensures refusal { IsOkUnless result Memory }
     {
         let watched = self.watch_pair(clause);
@@ -76,14 +76,14 @@ impl SatState {
             return Ok(true);
         }
         if self.is_true(watched.first) {
-            self.note_guard(watched.second, watched.first);
+            self.record_guard(watched.second, watched.first);
             return Ok(true);
         }
         if self.is_false(watched.first) {
             return Ok(false);
         }
         self.assign(clause, watched.first)?;
-        self.note_guard(watched.second, watched.first);
+        self.record_guard(watched.second, watched.first);
         Ok(true)
     }
 
@@ -148,23 +148,23 @@ impl SatState {
 
 impl WatchLists {
     /// Reverses the order of the pending clauses, so that the first one is the last.
-    fn turn_waiting(&mut self)
-        ensures turned { self.new.waiting.items ≡ reverse self.old.waiting.items }
-        ensures rest { self.new ≡ record self.old { waiting = self.new.waiting } }
+    fn reverse_pending(&mut self)
+        ensures turned { self.new.pending.items ≡ reverse self.old.pending.items }
+        ensures rest { self.new ≡ record self.old { pending = self.new.pending } }
     {
-        self.waiting.as_mut_slice().reverse();
+        self.pending.as_mut_slice().reverse();
     }
 
     /// The last pending clause.
-    fn last_waiting(&self) -> Option<ClauseId>
-        ensures { result ≡ slice_get self.now.waiting.items (length self.now.waiting.items - 1) }
+    fn last_pending(&self) -> Option<ClauseId>
+        ensures { result ≡ slice_get self.now.pending.items (length self.now.pending.items - 1) }
     {
-        self.waiting.as_slice().last().copied()
+        self.pending.as_slice().last().copied()
     }
 
     /// Lets the last pending clause watch two literals; it is then no longer pending.
     fn start(&mut self, clause: ClauseId, watched: WatchedLiterals) -> R<()>
-        requires last { IsLast clause self.old.waiting.items }
+        requires last { IsLast clause self.old.pending.items }
         requires in_range { clause.0 < length self.old.watched.items }
         requires differ { same_literal watched.first watched.second ≡ false }
         ensures started { IfOk result (λ _. Starts clause watched self.old self.new) }
@@ -174,7 +174,7 @@ impl WatchLists {
         self.watches
             .start_watching(WatchedLiterals { first, second }, clause)?;
         self.watched[clause.to_index()] = Some(WatchedLiterals { first, second });
-        self.waiting.pop();
+        self.pending.pop();
         Ok(())
     }
 }

@@ -40,7 +40,7 @@ pub fn begin(alloc: Global) -> R<(SatState, WatchLists)>
         clauses: root_clause(alloc)?,
         tracker,
         base_level: 1,
-        front: 0,
+        qhead: 0,
         guard_level: 0,
     };
     let watching = WatchLists {
@@ -48,7 +48,7 @@ pub fn begin(alloc: Global) -> R<(SatState, WatchLists)>
         watches: WatchMap::new(alloc),
         assertions: Vec::new(alloc),
         learnt: Vec::new(alloc),
-        waiting: Vec::new(alloc),
+        pending: Vec::new(alloc),
     };
     Ok((state, watching))
 }

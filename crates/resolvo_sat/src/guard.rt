@@ -6,17 +6,17 @@ ghost use Rattle.std.specs.Prelude.{◌≡◌, true};
 ghost use Rattle.resolvo_store_core.specs.Signed.{has};
 ghost use Rattle.resolvo_sat.specs.Entries.{made_true};
 ghost use Rattle.resolvo_sat.specs.State.{IsState, history};
-ghost use Rattle.resolvo_sat.specs.Propagation.{NotesGuard};
+ghost use Rattle.resolvo_sat.specs.Propagation.{RecordsGuard};
 
 use crate::state::SatState;
 use resolvo_store_core::literal::Literal;
 
 impl SatState {
     /// Records the level of a true literal that guards a false one of a lower level.
-    pub(crate) fn note_guard(&mut self, fallen: Literal, guard: Literal)
+    pub(crate) fn record_guard(&mut self, fallen: Literal, guard: Literal)
         requires state { IsState self.old }
-        requires stands { has (made_true (history self.old)) guard ≡ true }
-        ensures { NotesGuard fallen guard self.old self.new }
+        requires present { has (made_true (history self.old)) guard ≡ true }
+        ensures { RecordsGuard fallen guard self.old self.new }
     {
         let level = self.tracker.level(guard.variable());
         if self.guard_level < level && self.tracker.level(fallen.variable()) < level {

@@ -1,4 +1,4 @@
-//! Unit propagation over the trail. It continues at the propagation head, `front`. In each clause
+//! Unit propagation over the trail. It continues at the propagation head, `qhead`. In each clause
 //! with a watched literal that became false before the head, the other watched literal is true.
 //! Clauses that were added since are pending until it runs.
 ghost use Rattle.std.specs.Prelude.{◌≡◌, ◌<◌, ◌+◌, slice_get, length, Some, true, IfOk, IsOkUnless};
@@ -8,7 +8,7 @@ ghost use Rattle.resolvo_store_core.specs.Watches.{watchers, pair_at};
 ghost use Rattle.resolvo_sat.specs.Known.{clause_at};
 ghost use Rattle.resolvo_sat.specs.Entries.{made_true};
 ghost use Rattle.resolvo_sat.specs.State.{IsState, history, clauses_of};
-ghost use Rattle.resolvo_sat.specs.Propagation.{IsReady, IsFit, AreCovered, AreSingles, IsFree, FellAt, IsMeeting, IsVisit, IsWalkedTo, IsOnly, IsSingleSet, IsSinglesEnd, IsNextFallen, IsPropagation};
+ghost use Rattle.resolvo_sat.specs.Propagation.{IsReady, IsFit, AreCovered, AreUnits, IsFree, FellAt, IsMeeting, IsVisit, IsWalkedTo, IsOnly, IsUnitAssigned, IsUnitsEnd, IsNextFallen, IsPropagation};
 
 use crate::state::SatState;
 use crate::watch_lists::{UnitClause, WatchLists};
@@ -26,7 +26,7 @@ pub enum WatchVisit {
     /// It watches another literal.
     Moved,
     /// All its literals are false.
-    Broken,
+    Falsified,
 }
 
 impl SatState {
@@ -57,7 +57,7 @@ impl SatState {
         requires state { IsState self.old }
         requires fits { IsFit self.old watching.old }
         requires known { has (made_true (history self.old)) (negation cursor.literal) ≡ true }
-        requires stands { slice_get (watchers watching.old.watches cursor.literal) cursor.place ≡ Some clause }
+        requires present { slice_get (watchers watching.old.watches cursor.literal) cursor.place ≡ Some clause }
         requires pair { pair_at watching.old.watched.items clause.0 ≡ Some watched }
         // After an answer.
         ensures met { IfOk result
@@ -68,7 +68,7 @@ impl SatState {
     {
         let other = watched.other(cursor.literal);
         if self.is_true(other) {
-            self.note_guard(cursor.literal, other);
+            self.record_guard(cursor.literal, other);
             return Ok(WatchVisit::Kept);
         }
         match self.free_literal(clause, &watched) {
@@ -78,10 +78,10 @@ impl SatState {
             }
             None => {
                 if self.is_false(other) {
-                    Ok(WatchVisit::Broken)
+                    Ok(WatchVisit::Falsified)
                 } else {
                     self.assign(clause, other)?;
-                    self.note_guard(cursor.literal, other);
+                    self.record_guard(cursor.literal, other);
                     Ok(WatchVisit::Kept)
                 }
             }
@@ -97,8 +97,8 @@ impl SatState {
     ) -> R<Option<ClauseId>>
         requires state { IsState self.old }
         requires fits { IsFit self.old watching.old }
-        requires fell { FellAt literal self.old.front self.old }
-        requires walked { IsWalkedTo self.old.front self.old watching.old }
+        requires fell { FellAt literal self.old.qhead self.old }
+        requires walked { IsWalkedTo self.old.qhead self.old watching.old }
         // After an answer.
         ensures propagate_literal { IfOk result (IsVisit self.old self.new watching.old watching.new) }
         // After a refusal.
@@ -110,39 +110,39 @@ impl SatState {
             match self.visit_clause(watching, cursor, clause, watched)? {
                 WatchVisit::Kept => cursor.next(),
                 WatchVisit::Moved => {}
-                WatchVisit::Broken => return Ok(Some(clause)),
+                WatchVisit::Falsified => return Ok(Some(clause)),
             }
         }
         Ok(None)
     }
 
     /// Assigns the literal of a unit clause; returns false where the literal is false.
-    fn assign_unit(&mut self, single: UnitClause) -> R<bool>
+    fn assign_unit(&mut self, unit: UnitClause) -> R<bool>
         requires state { IsState self.old }
-        requires alone { IsOnly (clause_at (clauses_of self.old) single.clause.0) single.literal }
-        ensures set { IfOk result (IsSingleSet single self.old self.new) }
+        requires alone { IsOnly (clause_at (clauses_of self.old) unit.clause.0) unit.literal }
+        ensures set { IfOk result (IsUnitAssigned unit self.old self.new) }
         ensures refusal { IsOkUnless result Memory }
     {
-        if self.is_false(single.literal) {
+        if self.is_false(unit.literal) {
             return Ok(false);
         }
-        if !self.is_true(single.literal) {
-            self.assign(single.clause, single.literal)?;
+        if !self.is_true(unit.literal) {
+            self.assign(unit.clause, unit.literal)?;
         }
         Ok(true)
     }
 
     /// Assigns the literals of the unit clauses, or returns one of the clauses that is falsified.
-    fn assign_units(&mut self, singles: &[UnitClause]) -> R<Option<ClauseId>>
+    fn assign_units(&mut self, units: &[UnitClause]) -> R<Option<ClauseId>>
         requires state { IsState self.old }
-        requires alone { AreSingles (clauses_of self.old) singles.now }
-        ensures set { IfOk result (IsSinglesEnd singles.now self.old self.new) }
+        requires alone { AreUnits (clauses_of self.old) units.now }
+        ensures set { IfOk result (IsUnitsEnd units.now self.old self.new) }
         ensures refusal { IsOkUnless result Memory }
     {
-        for single in singles {
-            match self.assign_unit(*single)? {
+        for unit in units {
+            match self.assign_unit(*unit)? {
                 true => {}
-                false => return Ok(Some(single.clause)),
+                false => return Ok(Some(unit.clause)),
             }
         }
         Ok(None)
@@ -153,19 +153,19 @@ impl SatState {
         requires state { IsState self.now }
         ensures { IsNextFallen self.now result }
     {
-        if self.front >= self.tracker.stack().len() {
+        if self.qhead >= self.tracker.stack().len() {
             return None;
         }
-        let decision = self.entry(self.front).decision;
+        let decision = self.entry(self.qhead).decision;
         Some(Literal::new(decision.variable, decision.value))
     }
 
     /// Advances the propagation head past its entry, which was propagated.
     fn pass_entry(&mut self)
-        requires { self.old.front < usize.MAX }
-        ensures { self.new ≡ record self.old { front = self.old.front + 1 } }
+        requires { self.old.qhead < usize.MAX }
+        ensures { self.new ≡ record self.old { qhead = self.old.qhead + 1 } }
     {
-        self.front += 1;
+        self.qhead += 1;
     }
 
     /// Assigns what the clauses force, from the propagation head on, or returns a falsified clause.

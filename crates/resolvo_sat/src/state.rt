@@ -32,14 +32,14 @@ pub struct SatClause {
 }
 
 /// The variables by their numbers, the clauses, the trail, and the first level of the turn, below
-/// which no jump goes. The first `front` entries of the trail were propagated. Where they make a
+/// which no jump goes. The first `qhead` entries of the trail were propagated. Where they make a
 /// watched literal false, its true guard is at its level or below, or else not above `guard_level`.
 pub struct SatState {
     pub variables: Vec<VariableKind>,
     pub clauses: Arena<ClauseId, SatClause>,
     pub tracker: DecisionTracker,
     pub base_level: u32,
-    pub front: usize,
+    pub qhead: usize,
     pub guard_level: u32,
 }
 
@@ -51,7 +51,7 @@ impl Drop for SatState {
             clauses: _,
             tracker: _,
             base_level: _,
-            front: _,
+            qhead: _,
             guard_level: _,
         } = self;
     }

@@ -20,5 +20,5 @@ pub struct WatchLists {
     pub watches: WatchMap,
     pub assertions: Vec<UnitClause>,
     pub learnt: Vec<UnitClause>,
-    pub waiting: Vec<ClauseId>,
+    pub pending: Vec<ClauseId>,
 }

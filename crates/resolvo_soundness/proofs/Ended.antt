@@ -8,11 +8,11 @@ use Rattle.resolvo_pool_core.specs.declared.requirement.Requirement.{Requirement
 use Rattle.resolvo_pool_core.specs.OnePass.{Literal, negate, is_true_at, clause_true}
 use Rattle.resolvo_pool_core.specs.Provider.{listed}
 use Rattle.resolvo_pool_core.specs.Text.{alternatives_of}
-use Rattle.resolvo_pool_core.specs.RuleKeeping.{Packages, Rules, is_in, is_match, is_outside, is_met, meets, binds, is_barred, rules_for, is_member, IsSingle, Obeys, IsRuleKeeping, IsNamed, IsExemptKeeping, IsClosed, IsReached}
-use Rattle.resolvo_soundness.specs.Encoding.{IsExact, Atom, Rule, plus, minus, parent_literals, case_holds, case_literals, candidate_literals, literals_of, IsRule, value, Fits, shown, IsImplied, IsBarredIn, HasBar, AgreeWith}
+use Rattle.resolvo_pool_core.specs.RuleKeeping.{Packages, Rules, is_in, is_match, is_outside, is_met, meets, binds, is_forbidden, rules_for, is_member, IsSingle, Obeys, IsRuleKeeping, IsNamed, IsExemptKeeping, IsClosed, IsReached}
+use Rattle.resolvo_soundness.specs.Encoding.{IsExact, Atom, Rule, plus, minus, parent_literals, case_holds, case_literals, candidate_literals, literals_of, IsRule, value, Fits, shown, IsImplied, IsForbiddenIn, IsForbidden, AgreeWith}
 use Rattle.resolvo_soundness.specs.SearchEnd.{AreFalse, IsTrueParent, IsCalledFor, IsEnd, is_digit, digits_in, IsAccepted, Denies}
 use Rattle.resolvo_soundness.proofs.Lists.{contains_cases, contains_none, contains_parts, all_contained, any_contained, contained_any, contains_filter, filter_contains}
-use Rattle.resolvo_soundness.proofs.Members.{true_plus, true_minus, twice, made_by, any_in, in_contained, contained_in, candidate_named, in_case, stands_candidate, binds_case}
+use Rattle.resolvo_soundness.proofs.Members.{true_plus, true_minus, twice, made_by, any_in, in_contained, contained_in, candidate_named, in_case, candidate_from, binds_case}
 use Rattle.resolvo_soundness.proofs.Quiet.{quiet_second, quiet_first, quiet_single, false_single}
 use Rattle.resolvo_soundness.proofs.Sound.{clause_holds, rules_sound}
 use Rattle.resolvo_soundness.proofs.Reached.{part_obeys, binds_grows, trail_holds, consistent, true_registered}
@@ -25,17 +25,17 @@ false_first : {A : Type 0} (known : List (Literal A)) (x : Literal A) (ys : List
 false_first known x ys k g l a = elim (contains_cases l x ys a) [ inl e ↦ subst (λ m. Contains known (negate m)) (sym e) k | inr b ↦ g l b ]
 
 module _ {N S : Type 0} (same : S → S → Bool) (exact : IsExact same) (same_name : N → N → Bool) (names : IsExact same_name) (p : Packages N S) (root : Rules)
-    (rules : Rule N S → Type 0) (registered : S → Type 0) (wishes : List S) (known : List (Literal (Atom N S))) (members : List S) (end : IsEnd same p rules root registered wishes known members) where
+    (rules : Rule N S → Type 0) (registered : S → Type 0) (softs : List S) (known : List (Literal (Atom N S))) (members : List S) (end : IsEnd same p rules root registered softs known members) where
   clash : (l : Literal (Atom N S)) → Contains known l → Contains known (negate l) → ⊥
-  clash l a b = consistent same exact p root rules registered (IsCalledFor same p rules wishes) known l end.trail a b
+  clash l a b = consistent same exact p root rules registered (IsCalledFor same p rules softs) known l end.trail a b
 
   in_register : (s : S) → is_in same p members s ≡ true → registered s
-  in_register s c = true_registered same exact p root rules registered wishes known s end.register end.trail (end.true_on_trail s c)
+  in_register s c = true_registered same exact p root rules registered softs known s end.register end.trail (end.true_on_trail s c)
 
   -- another registered solvable of a member's package is false
   others_false : (s t : S) → is_in same p members s ≡ true → registered t → p.package_of s ≡ p.package_of t → (s ≡ t) ⊎ Contains known (minus (Atom.solvable t))
   others_false s t c r e =
-      elim (end.register.told s t (in_register s c) r e) [
+      elim (end.register.by_digits s t (in_register s c) r e) [
         | inl is ↦ inl is
         | inr (bit, b, first, second) ↦
             let d : Literal (Atom N S) = record { atom = Atom.digit (p.package_of s) bit; positive = b } in
@@ -94,11 +94,11 @@ module _ {N S : Type 0} (same : S → S → Bool) (exact : IsExact same) (same_n
 
   -- no candidate: the literals of the candidates are false
   candidates_false : (r : Requirement) → ((s : S) → meets same p r s ≡ true → ⊥) → AreFalse known (candidate_literals same p (alternatives_of p.members_of r))
-  candidates_false r none l a = let (s, q, o) = stands_candidate same exact p (alternatives_of p.members_of r) l a in absurd (none s o)
+  candidates_false r none l a = let (s, q, o) = candidate_from same exact p (alternatives_of p.members_of r) l a in absurd (none s o)
 
   by_clause : (parent : Option S) (need : ConditionalRequirement) (case : List VersionSetId) → rules (Rule.needs parent need case) → is_member same p root members parent ≡ true → case_holds same p members case ≡ true → (s : S) × (is_in same p members s ≡ true) × (meets same p need.requirement s ≡ true)
   by_clause parent need case r m holds =
-      elim (end.met need.requirement (inl (record { parent = parent; need = need; case = case; stands = r; chosen = true_parent parent m; holds = case_false parent need case r holds; asks = refl }))) [
+      elim (end.met need.requirement (inl (record { parent = parent; need = need; case = case; present = r; chosen = true_parent parent m; holds = case_false parent need case r holds; asks = refl }))) [
         | inl none ↦ absurd ((end.quiet _ r).unbroken (false_both known (parent_literals parent) (case_literals same p case ++ candidate_literals same p (alternatives_of p.members_of need.requirement)) (parent_false parent m)
             (false_both known (case_literals same p case) (candidate_literals same p (alternatives_of p.members_of need.requirement)) (case_false parent need case r holds) (candidates_false need.requirement none))))
         | inr (s, o, k) ↦ (s, end.chosen s k, o)
@@ -107,7 +107,7 @@ module _ {N S : Type 0} (same : S → S → Bool) (exact : IsExact same) (same_n
   by_gate : (s : S) (r : Requirement) → rules (Rule.gated s r) → rules (Rule.shared r) → is_in same p members s ≡ true → (t : S) × (is_in same p members t ≡ true) × (meets same p r t ≡ true)
   by_gate s r g shared c =
       let opened : Contains known (plus (Atom.gate r)) = quiet_second known (minus (Atom.solvable s)) (plus (Atom.gate r)) (end.quiet _ g) (end.true_on_trail s c) in
-      elim (end.met r (inr (record { stands = shared; opened = opened }))) [
+      elim (end.met r (inr (record { present = shared; opened = opened }))) [
         | inl none ↦ absurd ((end.quiet _ shared).unbroken (false_first known (minus (Atom.gate r)) (candidate_literals same p (alternatives_of p.members_of r)) opened (candidates_false r none)))
         | inr (t, o, k) ↦ (t, end.chosen t k, o)
       ]
@@ -134,8 +134,8 @@ module _ {N S : Type 0} (same : S → S → Bool) (exact : IsExact same) (same_n
   does_obey = record { requirements_met = needs_are_met; constraints_kept = limits_are_kept }
 
   -- a clause that forbids a solvable keeps it out
-  pub barred_out : (s : S) → HasBar rules s → is_in same p members s ≡ false
-  barred_out s (w, r) = false_from_ne_true _ (λ c. quiet_single known (minus (Atom.solvable s)) (end.quiet _ r) (end.true_on_trail s c))
+  pub forbidden_out : (s : S) → IsForbidden rules s → is_in same p members s ≡ false
+  forbidden_out s (w, r) = false_from_ne_true _ (λ c. quiet_single known (minus (Atom.solvable s)) (end.quiet _ r) (end.true_on_trail s c))
 
   digit_atom : (n : N) (bit : ℕ) (a : Atom N S) → is_digit same_name n bit a ≡ true → a ≡ Atom.digit n bit
   digit_atom n bit (Atom.solvable s) h = absurd (both_ways false refl h)
@@ -162,31 +162,31 @@ module _ {N S : Type 0} (same : S → S → Bool) (exact : IsExact same) (same_n
       clash (plus (Atom.digit n bit)) (subst (Contains known) same_one c) (subst (Contains known) is a))
 
   -- each clause is true under the values of a closed part, with the trail's digits
-  part_holds : (part : List S) → IsClosed same p root wishes members part → (r : Rule N S) → rules r → clause_true (value same p (digits_in same_name known) part) (literals_of same p r) ≡ true
-  part_holds part c r stands = clause_holds same exact p root rules (digits_in same_name known) part r (part_obeys same exact p root wishes members part c does_obey) (end.register.rule r stands) fits stands
+  part_holds : (part : List S) → IsClosed same p root softs members part → (r : Rule N S) → rules r → clause_true (value same p (digits_in same_name known) part) (literals_of same p r) ≡ true
+  part_holds part c r present = clause_holds same exact p root rules (digits_in same_name known) part r (part_obeys same exact p root softs members part c does_obey) (end.register.rule r present) fits present
     where
       fits : Fits same p rules (digits_in same_name known) part
       fits = record {
-        unbarred = λ w s a. false_from_ne_true _ (λ i. both_ways _ (barred_out s (w, a)) (c.inside s i));
-        told = λ s bit b a i. (let d : Literal (Atom N S) = record { atom = Atom.digit (p.package_of s) bit; positive = b } in digit_given (p.package_of s) bit b d refl (quiet_second known (minus (Atom.solvable s)) d (end.quiet _ a) (end.true_on_trail s (c.inside s i))));
+        allowed = λ w s a. false_from_ne_true _ (λ i. both_ways _ (forbidden_out s (w, a)) (c.inside s i));
+        by_digits = λ s bit b a i. (let d : Literal (Atom N S) = record { atom = Atom.digit (p.package_of s) bit; positive = b } in digit_given (p.package_of s) bit b d refl (quiet_second known (minus (Atom.solvable s)) d (end.quiet _ a) (end.true_on_trail s (c.inside s i))));
       }
 
   -- each chosen solvable of the turn is reached
-  pub all_reached : (s : S) → is_in same p members s ≡ true → IsReached same p root wishes members s
-  all_reached s i part c = true_plus _ (trail_holds same exact p root rules registered wishes members part (digits_in same_name known) known end.register.rule (part_holds part c) c end.chosen end.trail (plus (Atom.solvable s)) (end.true_on_trail s i))
+  pub all_reached : (s : S) → is_in same p members s ≡ true → IsReached same p root softs members s
+  all_reached s i part c = true_plus _ (trail_holds same exact p root rules registered softs members part (digits_in same_name known) known end.register.rule (part_holds part c) c end.chosen end.trail (plus (Atom.solvable s)) (end.true_on_trail s i))
 
-  reached_inside : (s : S) → IsReached same p root wishes members s → is_in same p members s ≡ true
+  reached_inside : (s : S) → IsReached same p root softs members s → is_in same p members s ≡ true
   reached_inside s r = r members (record { inside = λ t i. i; wished = λ t w i. i; matches = λ parent need t m a b e i. i })
 
   -- a forbidden member's package is not named
-  unnamed : (s : S) → is_in same p members s ≡ true → is_barred same p s ≡ true → IsNamed same p root members (p.package_of s) → ⊥
-  unnamed s i b (inl n) = both_ways _ (barred_out s (end.encoded.bar n.parent n.version_set s n.member n.stated (subst (λ m. is_in same p (listed (p.candidates_of m)) s ≡ true) (sym n.names) (is_single.listed s i), b))) i
+  unnamed : (s : S) → is_in same p members s ≡ true → is_forbidden same p s ≡ true → IsNamed same p root members (p.package_of s) → ⊥
+  unnamed s i b (inl n) = both_ways _ (forbidden_out s (end.encoded.forbid n.parent n.version_set s n.member n.is_rule (subst (λ m. is_in same p (listed (p.candidates_of m)) s ≡ true) (sym n.names) (is_single.listed s i), b))) i
   unnamed s i b (inr n) =
       let (case, c, holds) = binds_case same exact p members n.need n.binding in
-      let barred : IsBarredIn same p (p.set_package n.version_set) s = (subst (λ m. is_in same p (listed (p.candidates_of m)) s ≡ true) (sym n.names) (is_single.listed s i), b) in
-      elim (end.encoded.need n.parent n.need case n.member n.stated c holds) [
-        | inl r ↦ both_ways _ (barred_out s (end.register.bar n.need.requirement n.version_set s (inl (n.parent, n.need, case, r, refl)) n.alternative barred)) i
-        | inr (inl (q, is, g, r)) ↦ both_ways _ (barred_out s (end.register.bar n.need.requirement n.version_set s (inr r) n.alternative barred)) i
+      let forbidden : IsForbiddenIn same p (p.set_package n.version_set) s = (subst (λ m. is_in same p (listed (p.candidates_of m)) s ≡ true) (sym n.names) (is_single.listed s i), b) in
+      elim (end.encoded.need n.parent n.need case n.member n.is_rule c holds) [
+        | inl r ↦ both_ways _ (forbidden_out s (end.register.forbid n.need.requirement n.version_set s (inl (n.parent, n.need, case, r, refl)) n.alternative forbidden)) i
+        | inr (inl (q, is, g, r)) ↦ both_ways _ (forbidden_out s (end.register.forbid n.need.requirement n.version_set s (inr r) n.alternative forbidden)) i
         | inr (inr (q, v, is, j, o)) ↦ not_self q v case (subst (λ x. is_member same p root members x ≡ true) is n.member) j o holds
       ]
 
@@ -204,10 +204,10 @@ module _ {N S : Type 0} (same : S → S → Bool) (exact : IsExact same) (same_n
 
   -- without a solvable that is no soft requirement and whose package is not named, the members are
   -- closed
-  without_closed : (s : S) → is_in same p wishes s ≡ false → (IsNamed same p root members (p.package_of s) → ⊥) → IsClosed same p root wishes members (but s)
+  without_closed : (s : S) → is_in same p softs s ≡ false → (IsNamed same p root members (p.package_of s) → ⊥) → IsClosed same p root softs members (but s)
   without_closed s w n = record {
     inside = λ t c. (but_in s t c).0;
-    wished = λ t u c. in_but s t c (λ q. both_ways _ w (subst (λ x. is_in same p wishes x ≡ true) q u));
+    wished = λ t u c. in_but s t c (λ q. both_ways _ w (subst (λ x. is_in same p softs x ≡ true) q u));
     matches = λ parent need t m a b meeting c. in_but s t c (λ q. n (subst (λ x. IsNamed same p root members (p.package_of x)) q (named parent need t m a b meeting)));
   }
     where
@@ -224,37 +224,37 @@ module _ {N S : Type 0} (same : S → S → Bool) (exact : IsExact same) (same_n
             need = need;
             version_set = v;
             member = grown parent m;
-            stated = a;
+            is_rule = a;
             binding = binds_grows same exact p root members (but s) need (λ y c. (but_in s y c).0) b;
             alternative = i;
             names = sym (candidate_named same exact p end.lawful (p.set_package v) t parts.0);
           })
 
-  is_wish : (s : S) → is_in same p members s ≡ true → (IsNamed same p root members (p.package_of s) → ⊥) → is_in same p wishes s ≡ true
-  is_wish s i n = elim (cases_Bool (is_in same p wishes s)) [
+  is_wish : (s : S) → is_in same p members s ≡ true → (IsNamed same p root members (p.package_of s) → ⊥) → is_in same p softs s ≡ true
+  is_wish s i n = elim (cases_Bool (is_in same p softs s)) [
     | inl e ↦ e
     | inr e ↦ absurd ((but_in s s (all_reached s i (but s) (without_closed s e n))).1 refl)
   ]
 
-  pub is_exempt_keeping : IsExemptKeeping same p root wishes members
+  pub is_exempt_keeping : IsExemptKeeping same p root softs members
   is_exempt_keeping = record {
     single = is_single;
     obeys = does_obey;
     exempt = λ s i b. (is_wish s i (unnamed s i b), unnamed s i b);
-    known = λ s i. false_from_ne_true _ (λ u. both_ways _ (barred_out s (end.encoded.unknown s i u)) i);
+    known = λ s i. false_from_ne_true _ (λ u. both_ways _ (forbidden_out s (end.encoded.unknown s i u)) i);
   }
 
   -- The end of an accepted turn.
-  pub turn_is_right : IsAccepted same p root wishes members
+  pub turn_is_right : IsAccepted same p root softs members
   turn_is_right = record { keeping = is_exempt_keeping; reached = all_reached; inside = reached_inside }
 
 module _ {N S : Type 0} (same : S → S → Bool) (exact : IsExact same) (p : Packages N S) (root : Rules) where
   -- without soft requirements the set keeps all rules
-  pub keeping_without_wishes : (chosen : List S) → IsExemptKeeping same p root [] chosen → IsRuleKeeping same p root chosen
-  keeping_without_wishes chosen k = record {
+  pub keeping_without_softs : (chosen : List S) → IsExemptKeeping same p root [] chosen → IsRuleKeeping same p root chosen
+  keeping_without_softs chosen k = record {
     single = k.single;
     obeys = k.obeys;
-    unbarred = λ s i. false_from_ne_true _ (λ b. both_ways false refl (k.exempt s i b).0);
+    allowed = λ s i. false_from_ne_true _ (λ b. both_ways false refl (k.exempt s i b).0);
     known = k.known;
   }
 
@@ -265,10 +265,10 @@ module _ {N S : Type 0} (same : S → S → Bool) (exact : IsExact same) (p : Pa
       → IsRuleKeeping same p root chosen → ((s : S) → is_in same p list s ≡ true → is_in same p chosen s ≡ true) → ⊥
   refusal_is_right same_name names rules bits list clause chosen rule agrees implied denies k all =
       let v = value same p (shown same p same_name bits chosen) chosen in
-      let (l, a, t) = made_by v clause (implied v (λ r stands. rules_sound same exact p root same_name names rules bits chosen rule agrees k r stands)) in
+      let (l, a, t) = made_by v clause (implied v (λ r present. rules_sound same exact p root same_name names rules bits chosen rule agrees k r present)) in
       let (s, is, c) = denies l a in
       both_ways _ (true_minus _ (subst (λ m. is_true_at v m ≡ true) is t)) (all s c)
 
   -- a list of members that is closed lists them all
-  pub listing_is_all : (wishes members list : List S) → IsAccepted same p root wishes members → IsClosed same p root wishes members list → (s : S) → (is_in same p members s ≡ true → is_in same p list s ≡ true) × (is_in same p list s ≡ true → is_in same p members s ≡ true)
-  listing_is_all wishes members list a c s = (λ m. a.reached s m list c, c.inside s)
+  pub listing_is_all : (softs members list : List S) → IsAccepted same p root softs members → IsClosed same p root softs members list → (s : S) → (is_in same p members s ≡ true → is_in same p list s ≡ true) × (is_in same p list s ≡ true → is_in same p members s ≡ true)
+  listing_is_all softs members list a c s = (λ m. a.reached s m list c, c.inside s)

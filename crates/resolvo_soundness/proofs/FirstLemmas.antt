@@ -47,9 +47,9 @@ one_truth false false f g = refl
 
 module _ {N S : Type 0} (same : S → S → Bool) (exact : IsExact same) (p : Packages N S) where
   -- a first pick is called for, where candidates are matches
-  pub first_called_for : (orders : Requirement → List S → Type 0) (rules : Rule N S → Type 0) (wishes : List S) (known : List (Literal (Atom N S))) (l : Literal (Atom N S))
-      → ((r : Requirement) (list : List S) (s : S) → orders r list → Contains list s → meets same p r s ≡ true) → IsFirstPick same p orders rules known l → IsCalledFor same p rules wishes known l
-  first_called_for orders rules wishes known l offers k = inr (record {
+  pub first_called_for : (orders : Requirement → List S → Type 0) (rules : Rule N S → Type 0) (softs : List S) (known : List (Literal (Atom N S))) (l : Literal (Atom N S))
+      → ((r : Requirement) (list : List S) (s : S) → orders r list → Contains list s → meets same p r s ≡ true) → IsFirstPick same p orders rules known l → IsCalledFor same p rules softs known l
+  first_called_for orders rules softs known l offers k = inr (record {
     requirement = k.requirement;
     asked = k.asked;
     solvable = k.solvable;

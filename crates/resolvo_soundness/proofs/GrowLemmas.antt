@@ -11,7 +11,7 @@ use Rattle.resolvo_store_core.specs.Clauses.{yes, root as root_variable}
 use Rattle.resolvo_store_core.specs.declared.decision.Entry.{Entry}
 use Rattle.resolvo_sat.specs.declared.state.SatClause.{SatClause}
 use Rattle.resolvo_sat.specs.Known.{clause_at}
-use Rattle.resolvo_sat.specs.Entries.{literal_of, made_true, StandsOn, IsTrail}
+use Rattle.resolvo_sat.specs.Entries.{literal_of, made_true, IsOnTrail, IsTrail}
 use Rattle.resolvo_sat.specs.State.{lists, AreDerived}
 use Rattle.resolvo_sat.specs.Steps.{KeepsChoices}
 use Rattle.resolvo_sat.specs.Begin.{IsRootClause}
@@ -26,10 +26,10 @@ use Rattle.resolvo_soundness.specs.Numbered.{meaning, Means, meanings, known_of,
 use Rattle.resolvo_soundness.proofs.Lists.{contains_none, contains_cases, contains_one, contains_parts}
 
 -- an entry of a trail, with those before it, is a trail
-stands_trail : (count : ℕ) (cs : List (List Signed)) (h : List Entry) (e : Entry) (older : List Entry) → IsTrail count cs h → StandsOn h e older → IsTrail count cs (e ∷ older)
-stands_trail count cs [] e older t s = absurd s
-stands_trail count cs (d ∷ rest) e older t (inl (same, before)) = subst (λ (xs : List Entry). IsTrail count cs (e ∷ xs)) before (subst (λ (x : Entry). IsTrail count cs (x ∷ rest)) same t)
-stands_trail count cs (d ∷ rest) e older t (inr s) = stands_trail count cs rest e older t.1 s
+trail_under : (count : ℕ) (cs : List (List Signed)) (h : List Entry) (e : Entry) (older : List Entry) → IsTrail count cs h → IsOnTrail h e older → IsTrail count cs (e ∷ older)
+trail_under count cs [] e older t s = absurd s
+trail_under count cs (d ∷ rest) e older t (inl (same, before)) = subst (λ (xs : List Entry). IsTrail count cs (e ∷ xs)) before (subst (λ (x : Entry). IsTrail count cs (x ∷ rest)) same t)
+trail_under count cs (d ∷ rest) e older t (inr s) = trail_under count cs rest e older t.1 s
 
 -- a clause that is held is at some place
 pub place_of_held : (cs : List SatClause) (c : SatClause) → Contains cs c → (n : ℕ) × (n < length cs) × (clause_at (lists cs) n ≡ c.literals.items)
@@ -53,8 +53,8 @@ clause_stays (x ∷ xs) ys (suc n) below = clause_stays xs ys n (omega arith)
 
 module _ {N S : Type 0} (same : S → S → Bool) (p : Packages N S) (rules more : Rule N S → Type 0) (adds : (r : Rule N S) → rules r → more r) where
   asked_grows : (known : List (Literal (Atom N S))) (r : Requirement) → IsAsked same p rules known r → IsAsked same p more known r
-  asked_grows known r (inl k) = inl (record { parent = k.parent; need = k.need; case = k.case; stands = adds _ k.stands; chosen = k.chosen; holds = k.holds; asks = k.asks })
-  asked_grows known r (inr k) = inr (record { stands = adds _ k.stands; opened = k.opened })
+  asked_grows known r (inl k) = inl (record { parent = k.parent; need = k.need; case = k.case; present = adds _ k.present; chosen = k.chosen; holds = k.holds; asks = k.asks })
+  asked_grows known r (inr k) = inr (record { present = adds _ k.present; opened = k.opened })
 
   -- more rules, and orders in place of others, leave it a first pick
   pub first_pick_grows : (orders wider : Requirement → List S → Type 0) (known : List (Literal (Atom N S))) (l : Literal (Atom N S)) → ((r : Requirement) (list : List S) → orders r list → wider r list) → IsFirstPick same p orders rules known l → IsFirstPick same p wider more known l
@@ -68,12 +68,12 @@ module _ {N S : Type 0} (same : S → S → Bool) (p : Packages N S) (rules more
 
 -- the choices of a trail that only lost choices are called for
 pub called_kept : {N S : Type 0} (origin : ℕ → Atom N S) (choice : List (Literal (Atom N S)) → Literal (Atom N S) → Type 0) (old new : List Entry) → KeepsChoices old new → AreCalledFor origin choice old → AreCalledFor origin choice new
-called_kept origin choice old new keeps called e older stands is other = called e older (keeps e older stands is) is other
+called_kept origin choice old new keeps called e older present is other = called e older (keeps e older present is) is other
 
 -- one choice more
 pub called_choice : {N S : Type 0} (origin : ℕ → Atom N S) (choice : List (Literal (Atom N S)) → Literal (Atom N S) → Type 0) (e : Entry) (h : List Entry) → choice (known_of origin h) (meaning origin (literal_of e)) → AreCalledFor origin choice h → AreCalledFor origin choice (e ∷ h)
 called_choice origin choice e h now called d older (inl (same, before)) is other = subst (λ (xs : List Entry). choice (known_of origin xs) (meaning origin (literal_of d))) before (subst (λ (x : Entry). choice (known_of origin h) (meaning origin (literal_of x))) same now)
-called_choice origin choice e h now called d older (inr stands) is other = called d older stands is other
+called_choice origin choice e h now called d older (inr present) is other = called d older present is other
 
 -- variables were added, and the first ones represent the same atoms
 module _ {N S : Type 0} (origin other : ℕ → Atom N S) (count : ℕ) (agree : (n : ℕ) → 0 < n → n < count → origin n ≡ other n) where
@@ -93,9 +93,9 @@ module _ {N S : Type 0} (origin other : ℕ → Atom N S) (count : ℕ) (agree :
   -- a reason for a choice remains one
   pub called_grows : (choice wider : List (Literal (Atom N S)) → Literal (Atom N S) → Type 0) (cs : List (List Signed)) (h : List Entry) → IsTrail count cs h
       → ((known : List (Literal (Atom N S))) (l : Literal (Atom N S)) → choice known l → wider known l) → AreCalledFor origin choice h → AreCalledFor other wider h
-  called_grows choice wider cs h t f called e older stands is a =
-      let part = stands_trail count cs h e older t stands in
-      let now : wider (known_of origin older) (meaning origin (literal_of e)) = f (known_of origin older) (meaning origin (literal_of e)) (called e older stands is a) in
+  called_grows choice wider cs h t f called e older present is a =
+      let part = trail_under count cs h e older t present in
+      let now : wider (known_of origin older) (meaning origin (literal_of e)) = f (known_of origin older) (meaning origin (literal_of e)) (called e older present is a) in
       subst (λ m. wider (known_of other older) m) (meaning_agrees (literal_of e) a part.0.in_range)
       (subst (λ k. wider k (meaning origin (literal_of e))) (meanings_agree (made_true older) (λ l h. known_in_range count cs older l part.1 h)) now)
 
@@ -114,12 +114,12 @@ module _ {N S : Type 0} (origin other : ℕ → Atom N S) (count : ℕ) (agree :
       → ((r : Rule N S) → more r → rules r ⊎ ((n : ℕ) × (n < length (cs ++ ds)) × Spells other (clause_at (lists (cs ++ ds)) n) (literals_of same p r)))
       → ((n : ℕ) (l : Signed) (s : S) → has (clause_at (lists ds) n) l ≡ true → Means other l (plus (Atom.solvable s)) → wider s)
       → AreCoded origin same p rules registered count cs → AreCoded other same p more wider larger (cs ++ ds)
-  coded_grows same p rules more registered wider larger cs ds once adds registers in_range derived accounted stated positive coded = record {
+  coded_grows same p rules more registered wider larger cs ds once adds registers in_range derived accounted kinds positive coded = record {
     once = once;
     in_range = in_range;
     derived = derived;
     accounted = λ c h. elim (contains_parts c cs ds h) [ inl a ↦ old c a (coded.accounted c a) | inr a ↦ accounted c a ];
-    spelled = λ r h. elim (stated r h) [ inl a ↦ kept r (coded.spelled r a) | inr a ↦ a ];
+    spelled = λ r h. elim (kinds r h) [ inl a ↦ kept r (coded.spelled r a) | inr a ↦ a ];
     positive = λ n l s h m. elim (has_in_more (lists cs) (lists ds) n l (subst (λ (xs : List (List Signed)). has (clause_at xs n) l ≡ true) (lists-append cs ds) h)) [
       | inl a ↦ registers s (coded.positive n l s a (m.0, m.1 ∙ sym (meaning_agrees l m.0 (coded.in_range n l a))))
       | inr (k, a) ↦ positive k l s a m
@@ -129,9 +129,9 @@ module _ {N S : Type 0} (origin other : ℕ → Atom N S) (count : ℕ) (agree :
       old : (c : SatClause) → Contains cs c → IsAccounted origin same p rules c → IsAccounted other same p more c
       old c a (inl some) = inl some
       old c a (inr (inl here)) = inr (inl here)
-      old c a (inr (inr (r, stands, spells))) =
+      old c a (inr (inr (r, present, spells))) =
           let (n, below, e) = place_of_held cs c a in
-          inr (inr (r, adds r stands, spells_agree c.literals.items (literals_of same p r) (λ l h. coded.in_range n l (subst (λ (x : List Signed). has x l ≡ true) (sym e) h)) spells))
+          inr (inr (r, adds r present, spells_agree c.literals.items (literals_of same p r) (λ l h. coded.in_range n l (subst (λ (x : List Signed). has x l ≡ true) (sym e) h)) spells))
 
       kept : (r : Rule N S) → (n : ℕ) × (n < length cs) × Spells origin (clause_at (lists cs) n) (literals_of same p r) → (n : ℕ) × (n < length (cs ++ ds)) × Spells other (clause_at (lists (cs ++ ds)) n) (literals_of same p r)
       kept r (n, below, spells) =

@@ -15,7 +15,7 @@ module _ {N S : Type 0} (same : S → S → Bool) (p : Packages N S) (root : Rul
   all_encoded rules waiting members each none = record {
     need = λ parent need case m n a holds. elim ((each parent m).need need case n a) [ inl e ↦ e | inr w ↦ absurd (both_ways _ (none _ w) holds) ];
     limit = λ parent v s m a o. (each parent m).limit v s a o;
-    bar = λ parent v s m a b. (each parent m).bar v s a b;
+    forbid = λ parent v s m a b. (each parent m).forbid v s a b;
     unknown = λ s m u. (each (Some s) m).unknown s refl u;
   }
 
@@ -30,6 +30,6 @@ module _ {N S : Type 0} (same : S → S → Bool) (p : Packages N S) (root : Rul
   parent_grows rules more waiting left parent f g e = record {
     need = λ need case n a. elim (e.need need case n a) [ inl x ↦ inl (need_grows rules more parent need case f x) | inr w ↦ g _ w ];
     limit = λ v s a o. elim (e.limit v s a o) [ inl r ↦ inl (f _ r) | inr (r, q) ↦ inr (f _ r, f _ q) ];
-    bar = λ v s a b. (let (w, r) = e.bar v s a b in (w, f _ r));
+    forbid = λ v s a b. (let (w, r) = e.forbid v s a b in (w, f _ r));
     unknown = λ s is u. (let (w, r) = e.unknown s is u in (w, f _ r));
   }

@@ -76,9 +76,9 @@ not_zero n h = elim (cases_Bool (n == 0)) [ inl e ↦ (let z : n ≡ 0 = eqb-tru
 
 module _ {N S : Type 0} (origin : ℕ → Atom N S) where
   -- a literal that is among others, by what it means
-  pub meaning_stands : (ls : List Signed) (l : Signed) → has ls l ≡ true → 0 < l.variable.0 → Contains (meanings origin ls) (meaning origin l)
-  meaning_stands [] l h other = absurd (both_ways false refl h)
-  meaning_stands (x ∷ xs) l h other = go (x.variable.0 == 0) refl (has-cons x xs l h) (λ a. meaning_stands xs l a other)
+  pub meaning_in : (ls : List Signed) (l : Signed) → has ls l ≡ true → 0 < l.variable.0 → Contains (meanings origin ls) (meaning origin l)
+  meaning_in [] l h other = absurd (both_ways false refl h)
+  meaning_in (x ∷ xs) l h other = go (x.variable.0 == 0) refl (has-cons x xs l h) (λ a. meaning_in xs l a other)
     where
       go : (b : Bool) → (x.variable.0 == 0) ≡ b → (x ≡ l) ⊎ (has xs l ≡ true) → (has xs l ≡ true → Contains (meanings origin xs) (meaning origin l)) → Contains (cond b (meanings origin xs) (meaning origin x ∷ meanings origin xs)) (meaning origin l)
       go true e (inl i) rest = (let z : x.variable.0 ≡ 0 = eqb-true x.variable.0 0 e in let same : x.variable.0 ≡ l.variable.0 = ap (λ (m : Signed). m.variable.0) i in absurd (omega arith))
@@ -86,9 +86,9 @@ module _ {N S : Type 0} (origin : ℕ → Atom N S) where
       go false e (inl i) rest = contains_first (meaning origin l) (meaning origin x) (meanings origin xs) (ap (meaning origin) i)
       go false e (inr a) rest = contains_later (meaning origin l) (meaning origin x) (meanings origin xs) (rest a)
 
-  pub stands_meaning : (ls : List Signed) (m : Literal (Atom N S)) → Contains (meanings origin ls) m → (l : Signed) × (has ls l ≡ true) × Means origin l m
-  stands_meaning [] m h = absurd (contains_none m h)
-  stands_meaning (x ∷ xs) m h = go (x.variable.0 == 0) refl h (stands_meaning xs m)
+  pub meaning_from : (ls : List Signed) (m : Literal (Atom N S)) → Contains (meanings origin ls) m → (l : Signed) × (has ls l ≡ true) × Means origin l m
+  meaning_from [] m h = absurd (contains_none m h)
+  meaning_from (x ∷ xs) m h = go (x.variable.0 == 0) refl h (meaning_from xs m)
     where
       later : (l : Signed) × (has xs l ≡ true) × Means origin l m → (l : Signed) × (has (x ∷ xs) l ≡ true) × Means origin l m
       later (l, a, e) = (l, has_later x xs l a, e)
@@ -111,7 +111,7 @@ module _ {N S : Type 0} (origin : ℕ → Atom N S) where
     -- a literal is known where its meaning is
     pub found : (known : List Signed) (l : Signed) → ((m : Signed) → has known m ≡ true → m.variable.0 < count) → 0 < l.variable.0 → l.variable.0 < count → Contains (meanings origin known) (meaning origin l) → has known l ≡ true
     found known l below a b h =
-        let (m, c, (d, e)) = stands_meaning known (meaning origin l) h in
+        let (m, c, (d, e)) = meaning_from known (meaning origin l) h in
         subst (λ x. has known x ≡ true) (one_literal m l d (below m c) a b (sym e)) c
 
     -- what propagation leaves quiet is quiet in what it means
@@ -121,7 +121,7 @@ module _ {N S : Type 0} (origin : ℕ → Atom N S) where
       unbroken = λ f. fell (λ l a. denied f l (spells.only l a) a) q;
       complete = λ m b others.
           let (l, c, (o, e)) = spells.each m b in
-          subst (Contains (known_of origin h)) (sym e) (meaning_stands (made_true h) l (only_true l c (λ x a. either m l o (below l c) e others x (spells.only x a) a) q) o);
+          subst (Contains (known_of origin h)) (sym e) (meaning_in (made_true h) l (only_true l c (λ x a. either m l o (below l c) e others x (spells.only x a) a) q) o);
     }
       where
         known_below : (m : Signed) → has (made_true h) m ≡ true → m.variable.0 < count
@@ -186,7 +186,7 @@ module _ {N S : Type 0} (origin : ℕ → Atom N S) where
       | inl e ↦ absurd (rootless (subst (λ x. has clause x ≡ true) e a))
       | inr e ↦ absurd (both_ways false refl (subst (λ (x : Signed). holds (values_by origin v) x ≡ true) e t))
     ]
-    | inr o ↦ makes v (meanings origin clause) (meaning origin l) (meaning_stands clause l a o) (sym (holds-meaning v l o) ∙ t)
+    | inr o ↦ makes v (meanings origin clause) (meaning origin l) (meaning_in clause l a o) (sym (holds-meaning v l o) ∙ t)
   ]
 
   module _ (same : S → S → Bool) (p : Packages N S) (rules : Rule N S → Type 0) where
@@ -199,7 +199,7 @@ module _ {N S : Type 0} (origin : ℕ → Atom N S) where
         own : ((y : SatClause) → Contains older y → Satisfies (values_by origin v) y.literals.items) → IsAccounted origin same p rules x → Satisfies (values_by origin v) x.literals.items
         own ih (inl some) = derived_true (values_by origin v) (reverse older) x.literals.items x.causes.items refl (λ y b. ih y (reverse_contains y older b)) (d.0 some)
         own ih (inr (inl here)) = (yes root_variable, here, refl)
-        own ih (inr (inr (r, stands, spells))) = spelled_true v x.literals.items (literals_of same p r) spells (all r stands)
+        own ih (inr (inr (r, present, spells))) = spelled_true v x.literals.items (literals_of same p r) spells (all r present)
 
         go : (c ≡ x) ⊎ Contains older c → ((y : SatClause) → Contains older y → Satisfies (values_by origin v) y.literals.items) → Satisfies (values_by origin v) c.literals.items
         go (inl e) ih = subst (λ (y : SatClause). Satisfies (values_by origin v) y.literals.items) (sym e) (own ih (each x (contains_first x x older refl)))
@@ -223,13 +223,13 @@ module _ {N S : Type 0} (origin : ℕ → Atom N S) where
       pub forced_meaning : (n : ℕ) (l : Signed) (older : List Entry) → IsTrail count (lists clauses) older → IsRooted older → 0 < l.variable.0 → IsForcedBy (clause_at (lists clauses) n) l (made_true older) → Ending.IsForced same p rules registered (known_of origin older) (meaning origin l)
       forced_meaning n l older t rooted other f = record {
         clause = meanings origin clause;
-        implied = clause_implied n (clause_in_range (lists clauses) n l f.stands) rootless;
-        stands = meaning_stands clause l f.stands other;
-        others = λ m a. (let (x, b, (o, e)) = stands_meaning clause m a in elim (f.others x b) [
+        implied = clause_implied n (clause_in_range (lists clauses) n l f.present) rootless;
+        present = meaning_in clause l f.present other;
+        others = λ m a. (let (x, b, (o, e)) = meaning_from clause m a in elim (f.others x b) [
           | inl i ↦ inl (e ∙ ap (meaning origin) i)
-          | inr k ↦ inr (subst (λ (y : Literal (Atom N S)). Contains (known_of origin older) (negate y)) (sym e) (meaning_stands (made_true older) (negation x) k o))
+          | inr k ↦ inr (subst (λ (y : Literal (Atom N S)). Contains (known_of origin older) (negate y)) (sym e) (meaning_in (made_true older) (negation x) k o))
         ]);
-        positive = λ s a. (let (x, b, e) = stands_meaning clause (plus (Atom.solvable s)) a in coded.positive n x s b e);
+        positive = λ s a. (let (x, b, e) = meaning_from clause (plus (Atom.solvable s)) a in coded.positive n x s b e);
       }
         where
           clause : List Signed
@@ -247,7 +247,7 @@ module _ {N S : Type 0} (origin : ℕ → Atom N S) where
       trail_meaning choice (e ∷ []) t rooted called = subst (Ending.IsTrail same p rules registered choice) (sym (ap (λ (l : Signed). cond (l.variable.0 == 0) [] (meaning origin l ∷ [])) rooted.0)) tt
       trail_meaning choice (e ∷ d ∷ older) t rooted called =
           subst (Ending.IsTrail same p rules registered choice) (sym (ap (λ b. cond b (known_of origin (d ∷ older)) (meaning origin (literal_of e) ∷ known_of origin (d ∷ older))) (not_zero e.decision.variable.0 other)))
-          (follows, trail_meaning choice (d ∷ older) t.1 rooted (λ c before stands. called c before (inr stands)))
+          (follows, trail_meaning choice (d ∷ older) t.1 rooted (λ c before present. called c before (inr present)))
         where
           other : 0 < e.decision.variable.0
           other = elim (root_or_other e.decision.variable.0) [

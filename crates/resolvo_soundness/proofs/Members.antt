@@ -16,17 +16,17 @@ use Rattle.resolvo_pool_core.specs.declared.requirement.Requirement.{Requirement
 use Rattle.resolvo_pool_core.specs.declared.requirement.Requirement.TheVariants.{Single, Union}
 use Rattle.resolvo_pool_core.specs.OnePass.{Literal, negate, is_true_at, clause_true}
 use Rattle.resolvo_pool_core.specs.Provider.{Listing, listed, AreOf}
-use Rattle.resolvo_pool_core.specs.RuleKeeping.{Packages, IsLawful, says, is_in, is_match, is_outside, is_met, listing_for, locks_out, is_barred, is_unknown, holds_within, binds_under, binds}
-use Rattle.resolvo_store_core.specs.Cases.{says_within}
+use Rattle.resolvo_pool_core.specs.RuleKeeping.{Packages, IsLawful, truth_of, is_in, is_match, is_outside, is_met, listing_for, locks_out, is_forbidden, is_unknown, holds_within, binds_under, binds}
+use Rattle.resolvo_store_core.specs.Cases.{truth_within}
 use Rattle.resolvo_store_core.proofs.CaseLaws.{exact_cases}
-use Rattle.resolvo_soundness.specs.Encoding.{IsExact, Atom, plus, minus, solvables, has_condition, same_requirement, asks, cases_under, cases_for, case_holds, case_literals, candidate_literals, Bar, KeepsOut}
+use Rattle.resolvo_soundness.specs.Encoding.{IsExact, Atom, plus, minus, solvables, has_condition, same_requirement, asks, cases_under, cases_for, case_holds, case_literals, candidate_literals, ForbidReason, KeepsOut}
 use Rattle.resolvo_soundness.proofs.Lists.{contains_first, contains_later, contains_none, contains_cases, contains_left, contains_right, contains_parts, contains_map, map_contains, contains_filter, filter_contains, any_contained, contained_any, none_contained}
 
 -- a solvable that is kept out is forbidden, or its dependencies are unknown
-pub kept_out : {N S : Type 0} (same : S → S → Bool) → IsExact same → (p : Packages N S) (w : Bar S) (s : S) → KeepsOut same p w s → (is_barred same p s || is_unknown (p.dependencies_of s)) ≡ true
-kept_out same exact p (Bar.lock l) s (is, other, listed) = or_left _ _ (or_left _ _ (ap (λ o. locks_out same o s) is ∙ ap not other))
-kept_out {S = S} same exact p (Bar.word why) s (inl h) = or_left _ _ (or_right _ _ (contained_any (λ (e : S × StringId). same e.0 s) (s, why) (listing_for same p s).excluded h (exact.own s)))
-kept_out same exact p (Bar.word why) s (inr is) = or_right _ _ (ap is_unknown is)
+pub kept_out : {N S : Type 0} (same : S → S → Bool) → IsExact same → (p : Packages N S) (w : ForbidReason S) (s : S) → KeepsOut same p w s → (is_forbidden same p s || is_unknown (p.dependencies_of s)) ≡ true
+kept_out same exact p (ForbidReason.lock l) s (is, other, listed) = or_left _ _ (or_left _ _ (ap (λ o. locks_out same o s) is ∙ ap not other))
+kept_out {S = S} same exact p (ForbidReason.word why) s (inl h) = or_left _ _ (or_right _ _ (contained_any (λ (e : S × StringId). same e.0 s) (s, why) (listing_for same p s).excluded h (exact.own s)))
+kept_out same exact p (ForbidReason.word why) s (inr is) = or_right _ _ (ap is_unknown is)
 
 -- literals under a valuation
 pub plus_true : (b : Bool) → b ≡ true → beq b true ≡ true
@@ -86,10 +86,10 @@ pub same_requirement-self : (r : Requirement) → same_requirement r r ≡ true
 same_requirement-self (Single v) = eq-eqb v.0 v.0 refl
 same_requirement-self (Union v) = eq-eqb v.0 v.0 refl
 
-says_alike : (met : VersionSetId → Bool) (f g : ConditionId → Bool) (q : Condition) → ((a : ConditionId) → f a ≡ g a) → says met f q ≡ says met g q
-says_alike met f g (Only v) h = refl
-says_alike met f g (Binary And a b) h = ap (λ x. x && f b) (h a) ∙ ap (λ x. g a && x) (h b)
-says_alike met f g (Binary Or a b) h = ap (λ x. x || f b) (h a) ∙ ap (λ x. g a || x) (h b)
+truth_alike : (met : VersionSetId → Bool) (f g : ConditionId → Bool) (q : Condition) → ((a : ConditionId) → f a ≡ g a) → truth_of met f q ≡ truth_of met g q
+truth_alike met f g (Only v) h = refl
+truth_alike met f g (Binary And a b) h = ap (λ x. x && f b) (h a) ∙ ap (λ x. g a && x) (h b)
+truth_alike met f g (Binary Or a b) h = ap (λ x. x || f b) (h a) ∙ ap (λ x. g a || x) (h b)
 
 module _ {N S : Type 0} (same : S → S → Bool) (exact : IsExact same) (p : Packages N S) where
   pub in_contained : (xs : List S) (s : S) → is_in same p xs s ≡ true → Contains xs s
@@ -125,21 +125,21 @@ module _ {N S : Type 0} (same : S → S → Bool) (exact : IsExact same) (p : Pa
       let (b, t) = filter_contains f s xs a in
       (s, e, contained_in xs s b, t)
 
-  pub candidate_stands : (vs : List VersionSetId) (s : S) → list_any (λ v. is_match same p v s) vs ≡ true → Contains (candidate_literals same p vs) (plus (Atom.solvable s))
-  candidate_stands [] s h = absurd (both_ways false refl h)
-  candidate_stands (v ∷ vs) s h = elim (or_cases (is_match same p v s) (list_any (λ w. is_match same p w s) vs) h) [
+  pub candidate_in : (vs : List VersionSetId) (s : S) → list_any (λ v. is_match same p v s) vs ≡ true → Contains (candidate_literals same p vs) (plus (Atom.solvable s))
+  candidate_in [] s h = absurd (both_ways false refl h)
+  candidate_in (v ∷ vs) s h = elim (or_cases (is_match same p v s) (list_any (λ w. is_match same p w s) vs) h) [
     | inl e ↦
         let parts = and_parts (is_in same p (listed (p.candidates_of (p.set_package v))) s) (p.matches v s) e in
         contains_left _ _ _ (solvable_listed (p.matches v) (listed (p.candidates_of (p.set_package v))) s parts.0 parts.1)
-    | inr e ↦ contains_right _ (solvables (filter (p.matches v) (listed (p.candidates_of (p.set_package v))))) _ (candidate_stands vs s e)
+    | inr e ↦ contains_right _ (solvables (filter (p.matches v) (listed (p.candidates_of (p.set_package v))))) _ (candidate_in vs s e)
   ]
 
-  pub stands_candidate : (vs : List VersionSetId) (l : Literal (Atom N S)) → Contains (candidate_literals same p vs) l → (s : S) × (l ≡ plus (Atom.solvable s)) × (list_any (λ v. is_match same p v s) vs ≡ true)
-  stands_candidate [] l a = absurd (contains_none l a)
-  stands_candidate (v ∷ vs) l a =
+  pub candidate_from : (vs : List VersionSetId) (l : Literal (Atom N S)) → Contains (candidate_literals same p vs) l → (s : S) × (l ≡ plus (Atom.solvable s)) × (list_any (λ v. is_match same p v s) vs ≡ true)
+  candidate_from [] l a = absurd (contains_none l a)
+  candidate_from (v ∷ vs) l a =
       elim (contains_parts l (solvables (filter (p.matches v) (listed (p.candidates_of (p.set_package v))))) (candidate_literals same p vs) a) [
         | inl b ↦ let (s, q, c, t) = listed_solvable (p.matches v) (listed (p.candidates_of (p.set_package v))) l b in (s, q, or_left _ _ (and_from _ _ c t))
-        | inr b ↦ let (s, q, c) = stands_candidate vs l b in (s, q, or_right _ _ c)
+        | inr b ↦ let (s, q, c) = candidate_from vs l b in (s, q, or_right _ _ c)
       ]
 
   -- the literals of a case: no candidate of a version set's package, or one outside it
@@ -170,9 +170,9 @@ module _ {N S : Type 0} (same : S → S → Bool) (exact : IsExact same) (p : Pa
     ]
   ]
 
-  within_same : (n : ℕ) (chosen : List S) (c : ConditionId) → holds_within same p n chosen c ≡ says_within (is_met same p chosen) p.condition_of n c
+  within_same : (n : ℕ) (chosen : List S) (c : ConditionId) → holds_within same p n chosen c ≡ truth_within (is_met same p chosen) p.condition_of n c
   within_same zero chosen c = refl
-  within_same (suc n) chosen c = says_alike (is_met same p chosen) (holds_within same p n chosen) (says_within (is_met same p chosen) p.condition_of n) (p.condition_of c) (within_same n chosen)
+  within_same (suc n) chosen c = truth_alike (is_met same p chosen) (holds_within same p n chosen) (truth_within (is_met same p chosen) p.condition_of n) (p.condition_of c) (within_same n chosen)
 
   -- a requirement binds exactly if some case of its condition holds
   pub binds_cases : (chosen : List S) (need : ConditionalRequirement) → binds same p chosen need ≡ list_any (case_holds same p chosen) (cases_for same p need)

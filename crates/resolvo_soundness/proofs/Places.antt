@@ -3,7 +3,7 @@ use Rattle.std.proofs.Common.{◌≡◌, ℕ, zero, suc, ◌/◌, ◌^◌, ◌<�
 use Rattle.resolvo_store_core.specs.AtMostOne.{digit}
 use Rattle.resolvo_store_core.proofs.Digits.{same_digits}
 use Rattle.resolvo_soundness.specs.Encoding.{Rule}
-use Rattle.resolvo_soundness.specs.SearchEnd.{AreTold}
+use Rattle.resolvo_soundness.specs.SearchEnd.{DifferInDigit}
 use Rattle.resolvo_soundness.proofs.Members.{twice}
 
 same_or_not : (a b : Bool) → (a ≡ b) ⊎ (a ≡ not b)
@@ -27,14 +27,14 @@ first_digits (suc h) j k = elim (same_or_not (digit j zero) (digit k zero)) [
     all e f zero l = e
     all e f (suc i) l = f i (omega arith)
 
-pub told_by_digit : (h j k : ℕ) → j < 2 ^ h → k < 2 ^ h → (j ≡ k) ⊎ ((i : ℕ) × (i < h) × (digit j i ≡ not (digit k i)))
-told_by_digit h j k a b = elim (first_digits h j k) [ inl f ↦ inl (same_digits h j k a b f) | inr d ↦ inr d ]
+pub differ_in_digit : (h j k : ℕ) → j < 2 ^ h → k < 2 ^ h → (j ≡ k) ⊎ ((i : ℕ) × (i < h) × (digit j i ≡ not (digit k i)))
+differ_in_digit h j k a b = elim (first_digits h j k) [ inl f ↦ inl (same_digits h j k a b f) | inr d ↦ inr d ]
 
 -- solvables whose places have rules for all their digits are the same where the places are, and
 -- else differ in a digit
-pub places_tell : {N S : Type 0} (rules : Rule N S → Type 0) (place : S → ℕ) (h : ℕ) (s t : S) → place s < 2 ^ h → place t < 2 ^ h
-    → ((i : ℕ) → i < h → rules (Rule.has_digit s i (digit (place s) i))) → ((i : ℕ) → i < h → rules (Rule.has_digit t i (digit (place t) i))) → (place s ≡ place t → s ≡ t) → (s ≡ t) ⊎ AreTold rules s t
-places_tell rules place h s t a b first second one = elim (told_by_digit h (place s) (place t) a b) [
+pub places_differ : {N S : Type 0} (rules : Rule N S → Type 0) (place : S → ℕ) (h : ℕ) (s t : S) → place s < 2 ^ h → place t < 2 ^ h
+    → ((i : ℕ) → i < h → rules (Rule.has_digit s i (digit (place s) i))) → ((i : ℕ) → i < h → rules (Rule.has_digit t i (digit (place t) i))) → (place s ≡ place t → s ≡ t) → (s ≡ t) ⊎ DifferInDigit rules s t
+places_differ rules place h s t a b first second one = elim (differ_in_digit h (place s) (place t) a b) [
   | inl e ↦ inl (one e)
   | inr (i, l, d) ↦
       let other : digit (place t) i ≡ not (digit (place s) i) = sym (twice (digit (place t) i)) ∙ ap not (sym d) in

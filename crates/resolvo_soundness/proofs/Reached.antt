@@ -12,13 +12,13 @@ use Rattle.resolvo_pool_core.specs.RuleKeeping.{Packages, Rules, rules_of, is_in
 use Rattle.resolvo_soundness.specs.Encoding.{IsExact, Atom, Rule, plus, minus, case_holds, case_literals, candidate_literals, parent_literals, literals_of, asks, IsRule, value}
 use Rattle.resolvo_soundness.specs.SearchEnd.{IsTrueParent, HasClause, IsAsked, asking, IsCalledFor, IsForced, IsTrail, AreRegistered}
 use Rattle.resolvo_soundness.proofs.Lists.{contains_none, contains_cases, contains_one, contains_parts, contains_first, contains_later, all_contained, contained_all}
-use Rattle.resolvo_soundness.proofs.Members.{plus_true, true_plus, true_minus, made_by, not_both, negate-negate, any_in, in_any, any_in_case, outside_in_case, stands_candidate, binds_case, case_binds, asked}
+use Rattle.resolvo_soundness.proofs.Members.{plus_true, true_plus, true_minus, made_by, not_both, negate-negate, any_in, in_any, any_in_case, outside_in_case, candidate_from, binds_case, case_binds, asked}
 
 module _ {N S : Type 0} (same : S → S → Bool) (exact : IsExact same) (p : Packages N S) (root : Rules) where
   -- a member of the part is a member
-  pub inside_member : (wishes chosen part : List S) (parent : Option S) → IsClosed same p root wishes chosen part → is_member same p root part parent ≡ true → is_member same p root chosen parent ≡ true
-  inside_member wishes chosen part None c m = refl
-  inside_member wishes chosen part (Some s) c m = c.inside s m
+  pub inside_member : (softs chosen part : List S) (parent : Option S) → IsClosed same p root softs chosen part → is_member same p root part parent ≡ true → is_member same p root chosen parent ≡ true
+  inside_member softs chosen part None c m = refl
+  inside_member softs chosen part (Some s) c m = c.inside s m
 
   -- what holds in a part holds in the whole
   set_grows : (chosen part : List S) (v : VersionSetId) → ((s : S) → is_in same p part s ≡ true → is_in same p chosen s ≡ true) → is_met same p part v ≡ true → is_met same p chosen v ≡ true
@@ -33,12 +33,12 @@ module _ {N S : Type 0} (same : S → S → Bool) (exact : IsExact same) (p : Pa
       case_binds same exact p chosen need case a (case_grows chosen part case i c)
 
   -- a closed part of what obeys the rules obeys them
-  pub part_obeys : (wishes chosen part : List S) → IsClosed same p root wishes chosen part → Obeys same p root chosen → Obeys same p root part
-  part_obeys wishes chosen part c o = record {
+  pub part_obeys : (softs chosen part : List S) → IsClosed same p root softs chosen part → Obeys same p root chosen → Obeys same p root part
+  part_obeys softs chosen part c o = record {
     requirements_met = λ parent need m a b.
-        let (s, i, t) = o.requirements_met parent need (inside_member wishes chosen part parent c m) a (binds_grows chosen part need c.inside b) in
+        let (s, i, t) = o.requirements_met parent need (inside_member softs chosen part parent c m) a (binds_grows chosen part need c.inside b) in
         (s, c.matches parent need s m a b t i, t);
-    constraints_kept = λ parent v s m a i. o.constraints_kept parent v s (inside_member wishes chosen part parent c m) a (c.inside s i);
+    constraints_kept = λ parent v s m a i. o.constraints_kept parent v s (inside_member softs chosen part parent c m) a (c.inside s i);
   }
 
   -- where the literals of a case are false under the values of a part, the case holds in the part
@@ -59,7 +59,7 @@ module _ {N S : Type 0} (same : S → S → Bool) (exact : IsExact same) (p : Pa
         → ((m : Literal (Atom N S)) → Contains known m → is_true_at (value same p digits part) m ≡ true) → IsAsked same p rules known r
         → (parent : Option S) × (need : ConditionalRequirement) × (is_member same p root part parent ≡ true) × Contains (rules_for same p root parent).requirements need × (binds same p part need ≡ true) × (r ≡ need.requirement)
     asked_binds digits part known r rule ih (inl k) =
-        let (n, c) = rule (Rule.needs k.parent k.need k.case) k.stands in
+        let (n, c) = rule (Rule.needs k.parent k.need k.case) k.present in
         let holds = case_from_false digits part k.case (λ m b. ih (negate m) (k.holds m b)) in
         (k.parent, k.need, chosen k.parent k.chosen, n, case_binds same exact p part k.need k.case c holds, k.asks)
       where
@@ -88,8 +88,8 @@ module _ {N S : Type 0} (same : S → S → Bool) (exact : IsExact same) (p : Pa
           holds : ((m : Literal (Atom N S)) → Contains older m → is_true_at v m ≡ true) → choice older e ⊎ IsForced same p rules registered older e → is_true_at v e ≡ true
           holds ih (inl c) = picks older e c (contains_first e e older refl) ih
           holds ih (inr f) =
-              let (m, stands, t) = made_by v f.clause (f.implied v all) in
-              elim (f.others m stands) [
+              let (m, present, t) = made_by v f.clause (f.implied v all) in
+              elim (f.others m present) [
                 | inl is ↦ subst (λ x. is_true_at v x ≡ true) is t
                 | inr fell ↦ absurd (not_both v m t (ih (negate m) fell))
               ]
@@ -99,16 +99,16 @@ module _ {N S : Type 0} (same : S → S → Bool) (exact : IsExact same) (p : Pa
           start ih (inr b) = ih l b
 
       -- each literal of a trail is true under the values of a closed part
-      pub trail_holds : (wishes chosen part : List S) (digits : N → ℕ → Bool) (known : List (Literal (Atom N S))) → ((r : Rule N S) → rules r → IsRule same p root r)
-          → ((r : Rule N S) → rules r → clause_true (value same p digits part) (literals_of same p r) ≡ true) → IsClosed same p root wishes chosen part
-          → ((s : S) → Contains known (plus (Atom.solvable s)) → is_in same p chosen s ≡ true) → IsTrail same p rules registered (IsCalledFor same p rules wishes) known
+      pub trail_holds : (softs chosen part : List S) (digits : N → ℕ → Bool) (known : List (Literal (Atom N S))) → ((r : Rule N S) → rules r → IsRule same p root r)
+          → ((r : Rule N S) → rules r → clause_true (value same p digits part) (literals_of same p r) ≡ true) → IsClosed same p root softs chosen part
+          → ((s : S) → Contains known (plus (Atom.solvable s)) → is_in same p chosen s ≡ true) → IsTrail same p rules registered (IsCalledFor same p rules softs) known
           → (l : Literal (Atom N S)) → Contains known l → is_true_at (value same p digits part) l ≡ true
-      trail_holds wishes chosen part digits known rule all c inside t = trail_true (value same p digits part) (IsCalledFor same p rules wishes) known all picks t
+      trail_holds softs chosen part digits known rule all c inside t = trail_true (value same p digits part) (IsCalledFor same p rules softs) known all picks t
         where
           true_there : (l : Literal (Atom N S)) (s : S) → l ≡ plus (Atom.solvable s) → is_in same p part s ≡ true → is_true_at (value same p digits part) l ≡ true
           true_there l s is h = subst (λ m. is_true_at (value same p digits part) m ≡ true) (sym is) (plus_true _ h)
 
-          picks : (older : List (Literal (Atom N S))) (l : Literal (Atom N S)) → IsCalledFor same p rules wishes older l → Contains known l → ((m : Literal (Atom N S)) → Contains older m → is_true_at (value same p digits part) m ≡ true) → is_true_at (value same p digits part) l ≡ true
+          picks : (older : List (Literal (Atom N S))) (l : Literal (Atom N S)) → IsCalledFor same p rules softs older l → Contains known l → ((m : Literal (Atom N S)) → Contains older m → is_true_at (value same p digits part) m ≡ true) → is_true_at (value same p digits part) l ≡ true
           picks older l (inl w) a ih = true_there l w.solvable w.is (c.wished w.solvable w.wished (inside w.solvable (subst (Contains known) w.is a)))
           picks older l (inr k) a ih =
               let (parent, need, m, n, b, r) = asked_binds digits part older k.requirement rule ih k.asked in
@@ -144,19 +144,19 @@ module _ {N S : Type 0} (same : S → S → Bool) (exact : IsExact same) (p : Pa
       one_solvable l s t e f = some_one t s (ap (λ (m : Literal (Atom N S)). solvable_of m.atom) (sym (e ∙ f)))
 
       has_clause : (known : List (Literal (Atom N S))) (r : Requirement) → IsAsked same p rules known r → HasClause same p rules r
-      has_clause known r (inl k) = inl (k.parent, k.need, k.case, k.stands, k.asks)
-      has_clause known r (inr k) = inr k.stands
+      has_clause known r (inl k) = inl (k.parent, k.need, k.case, k.present, k.asks)
+      has_clause known r (inr k) = inr k.present
 
       -- what a trail makes true is registered
-      pub true_registered : (wishes : List S) (known : List (Literal (Atom N S))) (s : S) → AreRegistered same p rules root registered wishes → IsTrail same p rules registered (IsCalledFor same p rules wishes) known → Contains known (plus (Atom.solvable s)) → registered s
-      true_registered wishes [] s g t a = absurd (contains_none _ a)
-      true_registered wishes (e ∷ older) s g t a = go (contains_cases (plus (Atom.solvable s)) e older a) t.0.reasoned (true_registered wishes older s g t.1)
+      pub true_registered : (softs : List S) (known : List (Literal (Atom N S))) (s : S) → AreRegistered same p rules root registered softs → IsTrail same p rules registered (IsCalledFor same p rules softs) known → Contains known (plus (Atom.solvable s)) → registered s
+      true_registered softs [] s g t a = absurd (contains_none _ a)
+      true_registered softs (e ∷ older) s g t a = go (contains_cases (plus (Atom.solvable s)) e older a) t.0.reasoned (true_registered softs older s g t.1)
         where
-          go : (plus (Atom.solvable s) ≡ e) ⊎ Contains older (plus (Atom.solvable s)) → IsCalledFor same p rules wishes older e ⊎ IsForced same p rules registered older e → (Contains older (plus (Atom.solvable s)) → registered s) → registered s
+          go : (plus (Atom.solvable s) ≡ e) ⊎ Contains older (plus (Atom.solvable s)) → IsCalledFor same p rules softs older e ⊎ IsForced same p rules registered older e → (Contains older (plus (Atom.solvable s)) → registered s) → registered s
           go (inr b) r ih = ih b
-          go (inl is) (inl (inl w)) ih = subst registered (one_solvable e s w.solvable is w.is) (g.wish w.solvable w.wished)
+          go (inl is) (inl (inl w)) ih = subst registered (one_solvable e s w.solvable is w.is) (g.soft w.solvable w.wished)
           go (inl is) (inl (inr k)) ih = subst registered (one_solvable e s k.solvable is k.is) (g.candidate k.requirement k.solvable (has_clause older k.requirement k.asked) k.offered)
-          go (inl is) (inr f) ih = f.positive s (subst (λ m. Contains f.clause m) (sym is) f.stands)
+          go (inl is) (inr f) ih = f.positive s (subst (λ m. Contains f.clause m) (sym is) f.present)
 
       denied_parent : (known : List (Literal (Atom N S))) (parent : Option S) → IsTrueParent known parent → (m : Literal (Atom N S)) → Contains (parent_literals parent) m → Contains known (negate m)
       denied_parent known None t m a = absurd (contains_none m a)
@@ -165,11 +165,11 @@ module _ {N S : Type 0} (same : S → S → Bool) (exact : IsExact same) (p : Pa
       -- what a clause asks for is met where one of its literals is true
       pub met_by_literal : (choice : List (Literal (Atom N S)) → Literal (Atom N S) → Type 0) (known : List (Literal (Atom N S))) (r : Requirement) (k : IsAsked same p rules known r) (m : Literal (Atom N S)) → IsTrail same p rules registered choice known
           → Contains (literals_of same p (asking same p rules known r k)) m → Contains known m → (s : S) × (meets same p r s ≡ true) × Contains known (plus (Atom.solvable s))
-      met_by_literal choice known r k m t stands a = go k stands
+      met_by_literal choice known r k m t present a = go k present
         where
           candidate : (q : Requirement) → r ≡ q → Contains (candidate_literals same p (alternatives_of p.members_of q)) m → (s : S) × (meets same p r s ≡ true) × Contains known (plus (Atom.solvable s))
           candidate q e b =
-              let (s, i, h) = stands_candidate same exact p (alternatives_of p.members_of q) m b in
+              let (s, i, h) = candidate_from same exact p (alternatives_of p.members_of q) m b in
               (s, subst (λ x. meets same p x s ≡ true) (sym e) h, subst (Contains known) i a)
 
           not_denied : Contains known (negate m) → ⊥

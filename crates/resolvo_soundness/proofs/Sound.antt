@@ -7,10 +7,10 @@ use Rattle.resolvo_pool_core.specs.declared.id.VersionSetId.{VersionSetId}
 use Rattle.resolvo_pool_core.specs.OnePass.{Literal, is_true_at, clause_true}
 use Rattle.resolvo_pool_core.specs.Provider.{listed}
 use Rattle.resolvo_pool_core.specs.Text.{alternatives_of}
-use Rattle.resolvo_pool_core.specs.RuleKeeping.{Packages, Rules, rules_of, is_unknown, is_barred, is_in, is_match, is_outside, is_met, meets, is_member, IsSingle, Obeys, IsRuleKeeping}
+use Rattle.resolvo_pool_core.specs.RuleKeeping.{Packages, Rules, rules_of, is_unknown, is_forbidden, is_in, is_match, is_outside, is_met, meets, is_member, IsSingle, Obeys, IsRuleKeeping}
 use Rattle.resolvo_soundness.specs.Encoding.{IsExact, Atom, Rule, plus, minus, parent_literals, asks, case_holds, case_literals, candidate_literals, literals_of, is_asked, value, Fits, shown, IsRule, AgreeWith}
 use Rattle.resolvo_soundness.proofs.Lists.{contains_first, contains_later, contains_only, contains_second, all_fails}
-use Rattle.resolvo_soundness.proofs.Members.{plus_true, minus_true, makes, made_left, made_right, any_in, in_any, none_in, candidate_stands, any_in_case, outside_in_case, case_binds, asked, kept_out}
+use Rattle.resolvo_soundness.proofs.Members.{plus_true, minus_true, makes, made_left, made_right, any_in, in_any, none_in, candidate_in, any_in_case, outside_in_case, case_binds, asked, kept_out}
 
 module _ {N S : Type 0} (same : S → S → Bool) (exact : IsExact same) (p : Packages N S) where
   -- the solvable's denial is true, or it is in the set
@@ -59,7 +59,7 @@ module _ {N S : Type 0} (same : S → S → Bool) (exact : IsExact same) (p : Pa
     -- the clause of a rule is true under the values of a set that obeys the rules, whatever the digits of other packages are
     pub clause_holds : (rules : Rule N S → Type 0) (digits : N → ℕ → Bool) (chosen : List S) (r : Rule N S)
         → Obeys same p root chosen → IsRule same p root r → Fits same p rules digits chosen → rules r → clause_true (value same p digits chosen) (literals_of same p r) ≡ true
-    clause_holds rules digits chosen (Rule.needs parent need vs) o (n, c) f stands =
+    clause_holds rules digits chosen (Rule.needs parent need vs) o (n, c) f present =
         let denial : List (Literal (Atom N S)) = parent_literals parent in
         let condition = case_literals same p vs in
         let candidates = candidate_literals same p (alternatives_of p.members_of need.requirement) in
@@ -70,27 +70,27 @@ module _ {N S : Type 0} (same : S → S → Bool) (exact : IsExact same) (p : Pa
             | inl m ↦ made_right v denial (condition ++ candidates) (made_left v condition candidates m)
             | inr holds ↦
                 let (s, i, t) = o.requirements_met parent need here n (case_binds same exact p chosen need vs c holds) in
-                made_right v denial (condition ++ candidates) (made_right v condition candidates (makes v candidates (plus (Atom.solvable s)) (candidate_stands same exact p (alternatives_of p.members_of need.requirement) s t) (plus_true _ i)))
+                made_right v denial (condition ++ candidates) (made_right v condition candidates (makes v candidates (plus (Atom.solvable s)) (candidate_in same exact p (alternatives_of p.members_of need.requirement) s t) (plus_true _ i)))
           ]
         ]
-    clause_holds rules digits chosen (Rule.gated s r) o h f stands = pair_true digits chosen s (plus (Atom.gate r)) (λ e. plus_true _ (in_any same exact p (λ n. asks (rules_of (p.dependencies_of n)).requirements r) s chosen e h))
-    clause_holds rules digits chosen (Rule.shared r) o h f stands =
+    clause_holds rules digits chosen (Rule.gated s r) o h f present = pair_true digits chosen s (plus (Atom.gate r)) (λ e. plus_true _ (in_any same exact p (λ n. asks (rules_of (p.dependencies_of n)).requirements r) s chosen e h))
+    clause_holds rules digits chosen (Rule.shared r) o h f present =
         elim (cases_Bool (is_asked same p chosen r)) [
           | inl e ↦
               let (parent, c, a) = any_in same exact p (λ n. asks (rules_of (p.dependencies_of n)).requirements r) chosen e in
               let (need, n, b, is) = asked same exact p chosen (rules_of (p.dependencies_of parent)).requirements r a in
               let (s, i, t) = o.requirements_met (Some parent) need c n b in
-              makes (value same p digits chosen) (literals_of same p (Rule.shared r)) (plus (Atom.solvable s)) (contains_later (plus (Atom.solvable s)) (minus (Atom.gate r)) (candidate_literals same p (alternatives_of p.members_of r)) (candidate_stands same exact p (alternatives_of p.members_of r) s (subst (λ x. meets same p x s ≡ true) (sym is) t))) (plus_true _ i)
+              makes (value same p digits chosen) (literals_of same p (Rule.shared r)) (plus (Atom.solvable s)) (contains_later (plus (Atom.solvable s)) (minus (Atom.gate r)) (candidate_literals same p (alternatives_of p.members_of r)) (candidate_in same exact p (alternatives_of p.members_of r) s (subst (λ x. meets same p x s ≡ true) (sym is) t))) (plus_true _ i)
           | inr e ↦ makes (value same p digits chosen) (literals_of same p (Rule.shared r)) (minus (Atom.gate r)) (contains_first (minus (Atom.gate r)) (minus (Atom.gate r)) (candidate_literals same p (alternatives_of p.members_of r)) refl) (minus_true _ e)
         ]
-    clause_holds rules digits chosen (Rule.limits parent v s) o (a, out) f stands =
+    clause_holds rules digits chosen (Rule.limits parent v s) o (a, out) f present =
         let denial : List (Literal (Atom N S)) = parent_literals parent in
         let l : Literal (Atom N S) = minus (Atom.solvable s) in
         elim (parent_cases root digits chosen parent) [
           | inl m ↦ made_left (value same p digits chosen) denial (l ∷ []) m
           | inr here ↦ made_right (value same p digits chosen) denial (l ∷ []) (single_true (value same p digits chosen) l (minus_true _ (false_from_ne_true _ (λ c. both_ways _ (o.constraints_kept parent v s here a c) out))))
         ]
-    clause_holds rules digits chosen (Rule.limits_outside parent v) o a f stands =
+    clause_holds rules digits chosen (Rule.limits_outside parent v) o a f present =
         let denial : List (Literal (Atom N S)) = parent_literals parent in
         let l : Literal (Atom N S) = minus (Atom.outside v) in
         elim (parent_cases root digits chosen parent) [
@@ -99,11 +99,11 @@ module _ {N S : Type 0} (same : S → S → Bool) (exact : IsExact same) (p : Pa
               let (s, c, out) = any_in same exact p (is_outside same p v) chosen e in
               both_ways _ (o.constraints_kept parent v s here a c) out))))
         ]
-    clause_holds rules digits chosen (Rule.is_out v s) o (parent, limited, outside) f stands = pair_true digits chosen s (plus (Atom.outside v)) (λ e. plus_true _ (in_any same exact p (is_outside same p v) s chosen e outside))
-    clause_holds rules digits chosen (Rule.bars w s) o h f stands = single_true (value same p digits chosen) (minus (Atom.solvable s)) (minus_true _ (f.unbarred w s stands))
-    clause_holds rules digits chosen (Rule.has_digit s bit true) o h f stands = pair_true digits chosen s (plus (Atom.digit (p.package_of s) bit)) (λ e. plus_true _ (f.told s bit true stands e))
-    clause_holds rules digits chosen (Rule.has_digit s bit false) o h f stands = pair_true digits chosen s (minus (Atom.digit (p.package_of s) bit)) (λ e. minus_true _ (f.told s bit false stands e))
-    clause_holds rules digits chosen (Rule.is_there n s) o h f stands = pair_true digits chosen s (plus (Atom.any_of n)) (λ e. plus_true _ (in_any same exact p (is_in same p (listed (p.candidates_of n))) s chosen e h))
+    clause_holds rules digits chosen (Rule.is_out v s) o (parent, limited, outside) f present = pair_true digits chosen s (plus (Atom.outside v)) (λ e. plus_true _ (in_any same exact p (is_outside same p v) s chosen e outside))
+    clause_holds rules digits chosen (Rule.forbids w s) o h f present = single_true (value same p digits chosen) (minus (Atom.solvable s)) (minus_true _ (f.allowed w s present))
+    clause_holds rules digits chosen (Rule.has_digit s bit true) o h f present = pair_true digits chosen s (plus (Atom.digit (p.package_of s) bit)) (λ e. plus_true _ (f.by_digits s bit true present e))
+    clause_holds rules digits chosen (Rule.has_digit s bit false) o h f present = pair_true digits chosen s (minus (Atom.digit (p.package_of s) bit)) (λ e. minus_true _ (f.by_digits s bit false present e))
+    clause_holds rules digits chosen (Rule.is_there n s) o h f present = pair_true digits chosen s (plus (Atom.any_of n)) (λ e. plus_true _ (in_any same exact p (is_in same p (listed (p.candidates_of n))) s chosen e h))
 
     -- the member's place shows its digits
     pub shows : (same_name : N → N → Bool) → IsExact same_name → (bits : S → ℕ → Bool) (chosen : List S) (s : S) (bit : ℕ) → IsSingle same p chosen → is_in same p chosen s ≡ true → shown same p same_name bits chosen (p.package_of s) bit ≡ bits s bit
@@ -121,10 +121,10 @@ module _ {N S : Type 0} (same : S → S → Bool) (exact : IsExact same) (p : Pa
     -- that has the digits of the rules.
     pub rules_sound : (same_name : N → N → Bool) → IsExact same_name → (rules : Rule N S → Type 0) (bits : S → ℕ → Bool) (chosen : List S) → ((r : Rule N S) → rules r → IsRule same p root r) → AgreeWith rules bits → IsRuleKeeping same p root chosen
         → (r : Rule N S) → rules r → clause_true (value same p (shown same p same_name bits chosen) chosen) (literals_of same p r) ≡ true
-    rules_sound same_name names rules bits chosen rule agree k r stands = clause_holds rules (shown same p same_name bits chosen) chosen r k.obeys (rule r stands) fits stands
+    rules_sound same_name names rules bits chosen rule agree k r present = clause_holds rules (shown same p same_name bits chosen) chosen r k.obeys (rule r present) fits present
       where
         fits : Fits same p rules (shown same p same_name bits chosen) chosen
         fits = record {
-          unbarred = λ w s b. false_from_ne_true _ (λ c. elim (or_cases (is_barred same p s) (is_unknown (p.dependencies_of s)) (kept_out same exact p w s (rule (Rule.bars w s) b))) [ inl e ↦ both_ways _ (k.unbarred s c) e | inr e ↦ both_ways _ (k.known s c) e ]);
-          told = λ s bit b told c. shows same_name names bits chosen s bit k.single c ∙ agree s bit b told;
+          allowed = λ w s b. false_from_ne_true _ (λ c. elim (or_cases (is_forbidden same p s) (is_unknown (p.dependencies_of s)) (kept_out same exact p w s (rule (Rule.forbids w s) b))) [ inl e ↦ both_ways _ (k.allowed s c) e | inr e ↦ both_ways _ (k.known s c) e ]);
+          by_digits = λ s bit b by_digits c. shows same_name names bits chosen s bit k.single c ∙ agree s bit b by_digits;
         }

@@ -19,9 +19,9 @@ use Rattle.resolvo_soundness.specs.SearchEnd as Ending
 use Rattle.resolvo_soundness.specs.First.{IsFirstPick, ArePreferred}
 use Rattle.resolvo_soundness.specs.Numbered.{meaning, meanings, known_of, Spells, AreCalledFor, AreCoded, IsTurnEnd, Denies}
 use Rattle.resolvo_soundness.proofs.FirstLemmas.{end_preferred}
-use Rattle.resolvo_soundness.proofs.Meanings.{meaning_stands, stands_meaning, quiet_meaning, trail_meaning, derived_implied}
+use Rattle.resolvo_soundness.proofs.Meanings.{meaning_in, meaning_from, quiet_meaning, trail_meaning, derived_implied}
 use Rattle.resolvo_soundness.proofs.Reached.{met_by_literal}
-use Rattle.resolvo_soundness.proofs.Ended.{turn_is_right, keeping_without_wishes, refusal_is_right}
+use Rattle.resolvo_soundness.proofs.Ended.{turn_is_right, keeping_without_softs, refusal_is_right}
 
 module _ {N S : Type 0} (same : S → S → Bool) (exact : IsExact same) (same_name : N → N → Bool) (names : IsExact same_name) (p : Packages N S) (root : Rules) (origin : ℕ → Atom N S) (rules : Rule N S → Type 0) (registered : S → Type 0) where
   -- What a clause asks for is met where a literal of that clause, which is not the root's denial, is true on the trail.
@@ -31,33 +31,33 @@ module _ {N S : Type 0} (same : S → S → Bool) (exact : IsExact same) (same_n
       → (s : S) × (meets same p r s ≡ true) × Contains (known_of origin h) (plus (Atom.solvable s))
   met_by_clause choice count clauses h r k clause l coded t rooted called spells a b = elim (spells.only l a) [
     | inl e ↦ absurd (consistent count (lists clauses) h (yes root_variable) t (root_known h rooted) (subst (λ x. has (made_true h) x ≡ true) e b))
-    | inr (o, c) ↦ met_by_literal same exact p root rules registered choice (known_of origin h) r k (meaning origin l) (trail_meaning origin same p rules registered count clauses coded choice h t rooted called) c (meaning_stands origin (made_true h) l b o)
+    | inr (o, c) ↦ met_by_literal same exact p root rules registered choice (known_of origin h) r k (meaning origin l) (trail_meaning origin same p rules registered count clauses coded choice h t rooted called) c (meaning_in origin (made_true h) l b o)
   ]
 
   -- the end of a turn over variables is one over atoms
-  pub end_meaning : (wishes : List S) (count : ℕ) (clauses : List SatClause) (h : List Entry) (members : List S) → IsTurnEnd origin same p rules root registered wishes count clauses h members → Ending.IsEnd same p rules root registered wishes (known_of origin h) members
-  end_meaning wishes count clauses h members t = record {
+  pub end_meaning : (softs : List S) (count : ℕ) (clauses : List SatClause) (h : List Entry) (members : List S) → IsTurnEnd origin same p rules root registered softs count clauses h members → Ending.IsEnd same p rules root registered softs (known_of origin h) members
+  end_meaning softs count clauses h members t = record {
     lawful = t.lawful;
-    trail = trail_meaning origin same p rules registered count clauses t.coded (Ending.IsCalledFor same p rules wishes) h t.trail t.rooted t.choices;
+    trail = trail_meaning origin same p rules registered count clauses t.coded (Ending.IsCalledFor same p rules softs) h t.trail t.rooted t.choices;
     true_on_trail = known;
-    chosen = λ s a. (let (l, b, e) = stands_meaning origin (made_true h) (plus (Atom.solvable s)) a in t.chosen l s b e);
-    quiet = λ r stands. (let (n, below, spells) = t.coded.spelled r stands in quiet_meaning origin count t.coded.once (lists clauses) h (clause_at (lists clauses) n) (literals_of same p r) t.trail t.rooted (t.coded.in_range n) spells (t.quiet n below));
+    chosen = λ s a. (let (l, b, e) = meaning_from origin (made_true h) (plus (Atom.solvable s)) a in t.chosen l s b e);
+    quiet = λ r present. (let (n, below, spells) = t.coded.spelled r present in quiet_meaning origin count t.coded.once (lists clauses) h (clause_at (lists clauses) n) (literals_of same p r) t.trail t.rooted (t.coded.in_range n) spells (t.quiet n below));
     met = λ r asked. elim (t.met r asked) [ inl none ↦ inl none | inr (s, o, c) ↦ inr (s, o, known s c) ];
     register = t.register;
     encoded = t.encoded;
   }
     where
       known : (s : S) → is_in same p members s ≡ true → Contains (known_of origin h) (plus (Atom.solvable s))
-      known s c = let (l, a, (o, e)) = t.true_on_trail s c in subst (Contains (known_of origin h)) (sym e) (meaning_stands origin (made_true h) l a o)
+      known s c = let (l, a, (o, e)) = t.true_on_trail s c in subst (Contains (known_of origin h)) (sym e) (meaning_in origin (made_true h) l a o)
 
   -- An accepted turn's members keep all rules, except exempt soft requirements, and are their
   -- reached part.
-  pub turn_accepted : (wishes : List S) (count : ℕ) (clauses : List SatClause) (h : List Entry) (members : List S) → IsTurnEnd origin same p rules root registered wishes count clauses h members → Ending.IsAccepted same p root wishes members
-  turn_accepted wishes count clauses h members t = turn_is_right same exact same_name names p root rules registered wishes (known_of origin h) members (end_meaning wishes count clauses h members t)
+  pub turn_accepted : (softs : List S) (count : ℕ) (clauses : List SatClause) (h : List Entry) (members : List S) → IsTurnEnd origin same p rules root registered softs count clauses h members → Ending.IsAccepted same p root softs members
+  turn_accepted softs count clauses h members t = turn_is_right same exact same_name names p root rules registered softs (known_of origin h) members (end_meaning softs count clauses h members t)
 
   -- Without soft requirements they keep all rules.
   pub turn_keeps_rules : (count : ℕ) (clauses : List SatClause) (h : List Entry) (members : List S) → IsTurnEnd origin same p rules root registered [] count clauses h members → IsRuleKeeping same p root members
-  turn_keeps_rules count clauses h members t = keeping_without_wishes same exact p root members (turn_accepted [] count clauses h members t).keeping
+  turn_keeps_rules count clauses h members t = keeping_without_softs same exact p root members (turn_accepted [] count clauses h members t).keeping
 
   -- Without soft requirements, and where each choice took the first candidate that was not false, they were chosen in the order in
   -- which they are tried.
@@ -75,7 +75,7 @@ module _ {N S : Type 0} (same : S → S → Bool) (exact : IsExact same) (same_n
   turn_refused count clauses literals causes bits list chosen coded rule agree derived denies =
       refusal_is_right same exact p root same_name names rules bits list (meanings origin literals) chosen rule agree
       (derived_implied origin same p rules registered count clauses coded literals causes derived rootless)
-      (λ m a. (let (l, b, e) = stands_meaning origin literals m a in elim (denies l b) [
+      (λ m a. (let (l, b, e) = meaning_from origin literals m a in elim (denies l b) [
         | inl z ↦ (let other : 0 < l.variable.0 = e.0 in let same_variable : l.variable.0 ≡ 0 = ap (λ (x : Signed). x.variable.0) z in absurd (omega arith))
         | inr d ↦ (d.0, e.1 ∙ sym d.1.1, d.2)
       ]))

@@ -11,7 +11,7 @@ use Rattle.resolvo_pool_core.specs.declared.requirement.Requirement.TheVariants.
 use Rattle.resolvo_pool_core.specs.OnePass.{Literal, clause_true}
 use Rattle.resolvo_pool_core.specs.Provider.{listed, unknown}
 use Rattle.resolvo_pool_core.specs.Text.{alternatives_of}
-use Rattle.resolvo_pool_core.specs.RuleKeeping.{Packages, Rules, rules_of, is_in, is_outside, is_met, listing_for, is_barred, rules_for}
+use Rattle.resolvo_pool_core.specs.RuleKeeping.{Packages, Rules, rules_of, is_in, is_outside, is_met, listing_for, is_forbidden, rules_for}
 use Rattle.resolvo_store_core.specs.Cases.{cases}
 
 -- the test holds of each value with itself, and of no two different ones
@@ -38,9 +38,9 @@ abbrev pub minus : {N S : Type 0} → Atom N S → Literal (Atom N S)
 minus a = record { atom = a; positive = false }
 
 -- Why a solvable is kept out: another one of its package is locked; it is excluded, or its dependencies are unknown, for a reason.
-pub data Bar (S : Type 0) : Type 0 where
-  lock : S → Bar S
-  word : StringId → Bar S
+pub data ForbidReason (S : Type 0) : Type 0 where
+  lock : S → ForbidReason S
+  word : StringId → ForbidReason S
 
 -- The rule that a clause encodes. A parent is a solvable, or None for the root.
 -- needs: for this case of its condition, the parent's requirement has a chosen match
@@ -59,7 +59,7 @@ pub data Rule (N S : Type 0) : Type 0 where
   limits : Option S → VersionSetId → S → Rule N S
   limits_outside : Option S → VersionSetId → Rule N S
   is_out : VersionSetId → S → Rule N S
-  bars : Bar S → S → Rule N S
+  forbids : ForbidReason S → S → Rule N S
   has_digit : S → ℕ → Bool → Rule N S
   is_there : N → S → Rule N S
 
@@ -118,7 +118,7 @@ module _ {N S : Type 0} (same : S → S → Bool) (p : Packages N S) where
   literals_of (Rule.limits parent v s) = parent_literals parent ++ minus (Atom.solvable s) ∷ []
   literals_of (Rule.limits_outside parent v) = parent_literals parent ++ minus (Atom.outside v) ∷ []
   literals_of (Rule.is_out v s) = minus (Atom.solvable s) ∷ plus (Atom.outside v) ∷ []
-  literals_of (Rule.bars w s) = minus (Atom.solvable s) ∷ []
+  literals_of (Rule.forbids w s) = minus (Atom.solvable s) ∷ []
   literals_of (Rule.has_digit s bit b) = minus (Atom.solvable s) ∷ (let l : Literal (Atom N S) = record { atom = Atom.digit (p.package_of s) bit; positive = b } in l) ∷ []
   literals_of (Rule.is_there n s) = minus (Atom.solvable s) ∷ plus (Atom.any_of n) ∷ []
 
@@ -140,22 +140,22 @@ module _ {N S : Type 0} (same : S → S → Bool) (p : Packages N S) where
 
   -- no rule forbids a member, and the digits of members are those in the rules
   pub record Fits (rules : Rule N S → Type 0) (digits : N → ℕ → Bool) (chosen : List S) : Type 0 where
-    pub unbarred : (w : Bar S) (s : S) → rules (Rule.bars w s) → is_in same p chosen s ≡ false
-    pub told : (s : S) (bit : ℕ) (b : Bool) → rules (Rule.has_digit s bit b) → is_in same p chosen s ≡ true → digits (p.package_of s) bit ≡ b
+    pub allowed : (w : ForbidReason S) (s : S) → rules (Rule.forbids w s) → is_in same p chosen s ≡ false
+    pub by_digits : (s : S) (bit : ℕ) (b : Bool) → rules (Rule.has_digit s bit b) → is_in same p chosen s ≡ true → digits (p.package_of s) bit ≡ b
 
   -- the digits of a package that the place of its member shows; `bits s bit` is a digit of the place of s
   abbrev pub shown : (N → N → Bool) → (S → ℕ → Bool) → List S → N → ℕ → Bool
   shown same_name bits chosen n bit = list_any (λ s. same_name n (p.package_of s) && bits s bit) chosen
 
   -- the solvable is a candidate of the package that a lock or an exclusion forbids
-  abbrev pub IsBarredIn : N → S → Type 0
-  IsBarredIn n s = (is_in same p (listed (p.candidates_of n)) s ≡ true) × (is_barred same p s ≡ true)
+  abbrev pub IsForbiddenIn : N → S → Type 0
+  IsForbiddenIn n s = (is_in same p (listed (p.candidates_of n)) s ≡ true) × (is_forbidden same p s ≡ true)
 
   -- This keeps the solvable out: its package's listing locks another one, beside which it is a candidate, or excludes it for the
   -- reason, or its dependencies are unknown for the reason.
-  abbrev pub KeepsOut : Bar S → S → Type 0
-  KeepsOut (Bar.lock l) s = ((listing_for same p s).locked ≡ Some l) × (same l s ≡ false) × (is_in same p (listing_for same p s).candidates s ≡ true)
-  KeepsOut (Bar.word why) s = Contains (listing_for same p s).excluded (s, why) ⊎ (p.dependencies_of s ≡ unknown why)
+  abbrev pub KeepsOut : ForbidReason S → S → Type 0
+  KeepsOut (ForbidReason.lock l) s = ((listing_for same p s).locked ≡ Some l) × (same l s ≡ false) × (is_in same p (listing_for same p s).candidates s ≡ true)
+  KeepsOut (ForbidReason.word why) s = Contains (listing_for same p s).excluded (s, why) ⊎ (p.dependencies_of s ≡ unknown why)
 
   -- The rule is one of the provider's and the root's: some solvable asks for a shared requirement, some parent has a version set
   -- that a solvable is outside of, and a digit is one of 32 of a candidate's place.
@@ -166,13 +166,13 @@ module _ {N S : Type 0} (same : S → S → Bool) (p : Packages N S) where
   IsRule root (Rule.limits parent v s) = Contains (rules_for same p root parent).constraints v × (is_outside same p v s ≡ true)
   IsRule root (Rule.limits_outside parent v) = Contains (rules_for same p root parent).constraints v
   IsRule root (Rule.is_out v s) = (parent : Option S) × Contains (rules_for same p root parent).constraints v × (is_outside same p v s ≡ true)
-  IsRule root (Rule.bars w s) = KeepsOut w s
+  IsRule root (Rule.forbids w s) = KeepsOut w s
   IsRule root (Rule.has_digit s bit b) = (is_in same p (listed (p.candidates_of (p.package_of s))) s ≡ true) × (bit < 32)
   IsRule root (Rule.is_there n s) = is_in same p (listed (p.candidates_of n)) s ≡ true
 
 -- some rule forbids the solvable
-abbrev pub HasBar : {N S : Type 0} → (Rule N S → Type 0) → S → Type 0
-HasBar {N} {S} rules s = (w : Bar S) × rules (Rule.bars w s)
+abbrev pub IsForbidden : {N S : Type 0} → (Rule N S → Type 0) → S → Type 0
+IsForbidden {N} {S} rules s = (w : ForbidReason S) × rules (Rule.forbids w s)
 
 -- the places have the digits that the rules name
 abbrev pub AgreeWith : {N S : Type 0} → (Rule N S → Type 0) → (S → ℕ → Bool) → Type 0

@@ -3,7 +3,7 @@ use Rattle.std.specs.Prelude.{◌≡◌, ◌⊎◌, Bool, true, false, List, Opt
 use Rattle.resolvo_pool_core.specs.declared.id.VersionSetId.{VersionSetId}
 use Rattle.resolvo_pool_core.specs.declared.requirement.ConditionalRequirement.{ConditionalRequirement}
 use Rattle.resolvo_pool_core.specs.RuleKeeping.{Packages, Rules, is_unknown, is_outside, rules_for}
-use Rattle.resolvo_soundness.specs.Encoding.{Rule, cases_for, case_holds, IsBarredIn, HasBar}
+use Rattle.resolvo_soundness.specs.Encoding.{Rule, cases_for, case_holds, IsForbiddenIn, IsForbidden}
 use Rattle.resolvo_soundness.specs.SearchEnd.{IsNeedEncoded}
 
 -- a case of a parent's need that has no clause until it holds
@@ -17,8 +17,8 @@ module _ {N S : Type 0} (same : S → S → Bool) (p : Packages N S) where
   pub record IsParentEncoded (rules : Rule N S → Type 0) (root : Rules) (waiting : Deferred S → Type 0) (parent : Option S) : Type 0 where
     pub need : (need : ConditionalRequirement) (case : List VersionSetId) → Contains (rules_for same p root parent).requirements need → Contains (cases_for same p need) case → IsNeedEncoded same p rules parent need case ⊎ waiting (record { parent = parent; need = need; case = case })
     pub limit : (v : VersionSetId) (s : S) → Contains (rules_for same p root parent).constraints v → is_outside same p v s ≡ true → rules (Rule.limits parent v s) ⊎ (rules (Rule.limits_outside parent v) × rules (Rule.is_out v s))
-    pub bar : (v : VersionSetId) (s : S) → Contains (rules_for same p root parent).constraints v → IsBarredIn same p (p.set_package v) s → HasBar rules s
-    pub unknown : (s : S) → parent ≡ Some s → is_unknown (p.dependencies_of s) ≡ true → HasBar rules s
+    pub forbid : (v : VersionSetId) (s : S) → Contains (rules_for same p root parent).constraints v → IsForbiddenIn same p (p.set_package v) s → IsForbidden rules s
+    pub unknown : (s : S) → parent ≡ Some s → is_unknown (p.dependencies_of s) ≡ true → IsForbidden rules s
 
   -- no case that waits holds in the set
   abbrev pub NoneFires : (Deferred S → Type 0) → List S → Type 0

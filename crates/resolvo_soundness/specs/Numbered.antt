@@ -8,7 +8,7 @@ use Rattle.resolvo_store_core.specs.Clauses.{yes, no, root as root_variable}
 use Rattle.resolvo_store_core.specs.declared.decision.Entry.{Entry}
 use Rattle.resolvo_sat.specs.declared.state.SatClause.{SatClause}
 use Rattle.resolvo_sat.specs.Known.{clause_at}
-use Rattle.resolvo_sat.specs.Entries.{literal_of, made_true, IsChoice, StandsOn, IsTrail, IsRooted}
+use Rattle.resolvo_sat.specs.Entries.{literal_of, made_true, IsChoice, IsOnTrail, IsTrail, IsRooted}
 use Rattle.resolvo_sat.specs.Propagation.{IsQuiet}
 use Rattle.resolvo_sat.specs.State.{lists, AreDerived}
 use Rattle.resolvo_soundness.specs.Encoding.{Atom, Rule, plus, minus, literals_of}
@@ -48,7 +48,7 @@ module _ {N S : Type 0} (origin : ℕ → Atom N S) where
 
   -- each decision, except the root's, has its reason in the literals known before
   abbrev pub AreCalledFor : (List (Literal (Atom N S)) → Literal (Atom N S) → Type 0) → List Entry → Type 0
-  AreCalledFor choice h = (e : Entry) (older : List Entry) → StandsOn h e older → IsChoice e older → 0 < e.decision.variable.0 → choice (known_of older) (meaning (literal_of e))
+  AreCalledFor choice h = (e : Entry) (older : List Entry) → IsOnTrail h e older → IsChoice e older → 0 < e.decision.variable.0 → choice (known_of older) (meaning (literal_of e))
 
   -- each literal denies the root or a solvable of the list
   abbrev pub Denies : (S → S → Bool) → Packages N S → List S → List Signed → Type 0
@@ -72,17 +72,17 @@ module _ {N S : Type 0} (origin : ℕ → Atom N S) where
 
     -- An accepted turn has ended, over variables: nothing is left to propagate, no requirement is asked for in vain, and
     -- all is encoded.
-    pub record IsTurnEnd (root : Rules) (registered : S → Type 0) (wishes : List S) (count : ℕ) (clauses : List SatClause) (h : List Entry) (members : List S) : Type 0 where
+    pub record IsTurnEnd (root : Rules) (registered : S → Type 0) (softs : List S) (count : ℕ) (clauses : List SatClause) (h : List Entry) (members : List S) : Type 0 where
       pub lawful : IsLawful p
       pub coded : AreCoded registered count clauses
       pub trail : IsTrail count (lists clauses) h
       pub rooted : IsRooted h
-      pub choices : AreCalledFor (Ending.IsCalledFor same p rules wishes) h
+      pub choices : AreCalledFor (Ending.IsCalledFor same p rules softs) h
       pub quiet : (n : ℕ) → n < length clauses → IsQuiet (made_true h) (clause_at (lists clauses) n)
       -- the members are the solvables whose variables the trail makes true
       pub true_on_trail : (s : S) → is_in same p members s ≡ true → (l : Signed) × (has (made_true h) l ≡ true) × Means l (plus (Atom.solvable s))
       pub chosen : (l : Signed) (s : S) → has (made_true h) l ≡ true → Means l (plus (Atom.solvable s)) → is_in same p members s ≡ true
       pub met : (r : Requirement) → Ending.IsAsked same p rules (known_of h) r
           → ((s : S) → meets same p r s ≡ true → ⊥) ⊎ ((s : S) × (meets same p r s ≡ true) × (is_in same p members s ≡ true))
-      pub register : Ending.AreRegistered same p rules root registered wishes
+      pub register : Ending.AreRegistered same p rules root registered softs
       pub encoded : Ending.AreEncoded same p rules root members

@@ -9,7 +9,7 @@ use Rattle.resolvo_pool_core.specs.OnePass.{Literal, negate}
 use Rattle.resolvo_pool_core.specs.Provider.{listed}
 use Rattle.resolvo_pool_core.specs.Text.{alternatives_of}
 use Rattle.resolvo_pool_core.specs.RuleKeeping.{Packages, Rules, IsLawful, is_unknown, is_in, is_outside, meets, binds, rules_for, is_member, IsExemptKeeping, IsReached}
-use Rattle.resolvo_soundness.specs.Encoding.{Atom, Rule, plus, minus, cases_for, case_holds, case_literals, literals_of, IsImplied, IsRule, IsBarredIn, HasBar}
+use Rattle.resolvo_soundness.specs.Encoding.{Atom, Rule, plus, minus, cases_for, case_holds, case_literals, literals_of, IsImplied, IsRule, IsForbiddenIn, IsForbidden}
 
 -- each of the literals is false by the known ones
 abbrev pub AreFalse : {A : Type 0} → List (Literal A) → List (Literal A) → Type 0
@@ -26,8 +26,8 @@ IsTrueParent known None = Unit {0}
 IsTrueParent known (Some s) = Contains known (plus (Atom.solvable s))
 
 -- the solvables differ in some digit
-abbrev pub AreTold : {N S : Type 0} → (Rule N S → Type 0) → S → S → Type 0
-AreTold rules s t = (bit : ℕ) × (b : Bool) × rules (Rule.has_digit s bit b) × rules (Rule.has_digit t bit (not b))
+abbrev pub DifferInDigit : {N S : Type 0} → (Rule N S → Type 0) → S → S → Type 0
+DifferInDigit rules s t = (bit : ℕ) × (b : Bool) × rules (Rule.has_digit s bit b) × rules (Rule.has_digit t bit (not b))
 
 -- `rules` are those that clauses encode, `registered` the solvables whose digits have clauses
 module _ {N S : Type 0} (same : S → S → Bool) (p : Packages N S) (rules : Rule N S → Type 0) where
@@ -36,14 +36,14 @@ module _ {N S : Type 0} (same : S → S → Bool) (p : Packages N S) (rules : Ru
     pub parent : Option S
     pub need : ConditionalRequirement
     pub case : List VersionSetId
-    pub stands : rules (Rule.needs parent need case)
+    pub present : rules (Rule.needs parent need case)
     pub chosen : IsTrueParent known parent
     pub holds : AreFalse known (case_literals same p case)
     pub asks : r ≡ need.requirement
 
   -- the clause of an open gate asks for a match of its requirement
   pub record IsAskedByGate (known : List (Literal (Atom N S))) (r : Requirement) : Type 0 where
-    pub stands : rules (Rule.shared r)
+    pub present : rules (Rule.shared r)
     pub opened : Contains known (plus (Atom.gate r))
 
   abbrev pub IsAsked : List (Literal (Atom N S)) → Requirement → Type 0
@@ -59,10 +59,10 @@ module _ {N S : Type 0} (same : S → S → Bool) (p : Packages N S) (rules : Ru
   HasClause r = ((parent : Option S) × (need : ConditionalRequirement) × (case : List VersionSetId) × rules (Rule.needs parent need case) × (r ≡ need.requirement)) ⊎ rules (Rule.shared r)
 
   -- the literal chooses an accepted soft requirement
-  pub record IsWished (wishes : List S) (l : Literal (Atom N S)) : Type 0 where
+  pub record IsSoftChoice (softs : List S) (l : Literal (Atom N S)) : Type 0 where
     pub solvable : S
     pub is : l ≡ plus (Atom.solvable solvable)
-    pub wished : is_in same p wishes solvable ≡ true
+    pub wished : is_in same p softs solvable ≡ true
 
   -- the literal chooses a match of a requirement that is asked for
   pub record IsPicked (known : List (Literal (Atom N S))) (l : Literal (Atom N S)) : Type 0 where
@@ -74,7 +74,7 @@ module _ {N S : Type 0} (same : S → S → Bool) (p : Packages N S) (rules : Ru
 
   -- a choice is an accepted soft requirement, or a match of a requirement that is asked for
   abbrev pub IsCalledFor : List S → List (Literal (Atom N S)) → Literal (Atom N S) → Type 0
-  IsCalledFor wishes known l = IsWished wishes l ⊎ IsPicked known l
+  IsCalledFor softs known l = IsSoftChoice softs l ⊎ IsPicked known l
 
   module _ (registered : S → Type 0) where
     -- A clause that follows from the rules forces the literal, since its others are false; the solvables that it may
@@ -82,7 +82,7 @@ module _ {N S : Type 0} (same : S → S → Bool) (p : Packages N S) (rules : Ru
     pub record IsForced (known : List (Literal (Atom N S))) (l : Literal (Atom N S)) : Type 0 where
       pub clause : List (Literal (Atom N S))
       pub implied : IsImplied same p rules clause
-      pub stands : Contains clause l
+      pub present : Contains clause l
       pub others : (m : Literal (Atom N S)) → Contains clause m → (m ≡ l) ⊎ Contains known (negate m)
       pub positive : (s : S) → Contains clause (plus (Atom.solvable s)) → registered s
 
@@ -97,22 +97,22 @@ module _ {N S : Type 0} (same : S → S → Bool) (p : Packages N S) (rules : Ru
     IsTrail choice (l ∷ known) = Follows choice l known × IsTrail choice known
 
   -- What holds of the clauses, whatever the trail is.
-  pub record AreRegistered (root : Rules) (registered : S → Type 0) (wishes : List S) : Type 0 where
+  pub record AreRegistered (root : Rules) (registered : S → Type 0) (softs : List S) : Type 0 where
     -- each rule is one of the problem
     pub rule : (r : Rule N S) → rules r → IsRule same p root r
     -- registered are soft requirements, candidates of requirements that have a clause, and
     -- solvables outside a condition's version sets
-    pub wish : (s : S) → is_in same p wishes s ≡ true → registered s
+    pub soft : (s : S) → is_in same p softs s ≡ true → registered s
     pub candidate : (r : Requirement) (s : S) → HasClause r → meets same p r s ≡ true → registered s
     pub out : (parent : Option S) (need : ConditionalRequirement) (case : List VersionSetId) (v : VersionSetId) (s : S) → rules (Rule.needs parent need case) → Contains case v → is_outside same p v s ≡ true → registered s
     -- a registered solvable is a candidate, and differs in some digit from the others of its package
     pub candidates : (s : S) → registered s → is_in same p (listed (p.candidates_of (p.package_of s))) s ≡ true
-    pub told : (s t : S) → registered s → registered t → p.package_of s ≡ p.package_of t → (s ≡ t) ⊎ AreTold rules s t
+    pub by_digits : (s t : S) → registered s → registered t → p.package_of s ≡ p.package_of t → (s ≡ t) ⊎ DifferInDigit rules s t
     -- where a condition names its package, an at-least-one clause holds it
     pub there : (parent : Option S) (need : ConditionalRequirement) (case : List VersionSetId) (v : VersionSetId) (s : S) → rules (Rule.needs parent need case) → Contains case v → registered s → p.package_of s ≡ p.set_package v → rules (Rule.is_there (p.set_package v) s)
     -- the candidates of requirements that have a clause are forbidden by rules where a lock or an
     -- exclusion forbids them
-    pub bar : (r : Requirement) (v : VersionSetId) (s : S) → HasClause r → Contains (alternatives_of p.members_of r) v → IsBarredIn same p (p.set_package v) s → HasBar rules s
+    pub forbid : (r : Requirement) (v : VersionSetId) (s : S) → HasClause r → Contains (alternatives_of p.members_of r) v → IsForbiddenIn same p (p.set_package v) s → IsForbidden rules s
 
   -- The clauses for a case of a parent's need: its own; or, without a condition, those of a gate; or none, since a
   -- version set of the case keeps the parent itself out.
@@ -126,28 +126,28 @@ module _ {N S : Type 0} (same : S → S → Bool) (p : Packages N S) (rules : Ru
   pub record AreEncoded (root : Rules) (members : List S) : Type 0 where
     pub need : (parent : Option S) (need : ConditionalRequirement) (case : List VersionSetId) → is_member same p root members parent ≡ true → Contains (rules_for same p root parent).requirements need → Contains (cases_for same p need) case → case_holds same p members case ≡ true → IsNeedEncoded parent need case
     pub limit : (parent : Option S) (v : VersionSetId) (s : S) → is_member same p root members parent ≡ true → Contains (rules_for same p root parent).constraints v → is_outside same p v s ≡ true → rules (Rule.limits parent v s) ⊎ (rules (Rule.limits_outside parent v) × rules (Rule.is_out v s))
-    pub bar : (parent : Option S) (v : VersionSetId) (s : S) → is_member same p root members parent ≡ true → Contains (rules_for same p root parent).constraints v → IsBarredIn same p (p.set_package v) s → HasBar rules s
-    pub unknown : (s : S) → is_in same p members s ≡ true → is_unknown (p.dependencies_of s) ≡ true → HasBar rules s
+    pub forbid : (parent : Option S) (v : VersionSetId) (s : S) → is_member same p root members parent ≡ true → Contains (rules_for same p root parent).constraints v → IsForbiddenIn same p (p.set_package v) s → IsForbidden rules s
+    pub unknown : (s : S) → is_in same p members s ≡ true → is_unknown (p.dependencies_of s) ≡ true → IsForbidden rules s
 
   -- An accepted turn has ended: nothing is left to propagate, no requirement is asked for in vain, all is encoded.
-  pub record IsEnd (root : Rules) (registered : S → Type 0) (wishes : List S) (known : List (Literal (Atom N S))) (members : List S) : Type 0 where
+  pub record IsEnd (root : Rules) (registered : S → Type 0) (softs : List S) (known : List (Literal (Atom N S))) (members : List S) : Type 0 where
     pub lawful : IsLawful p
-    pub trail : IsTrail registered (IsCalledFor wishes) known
+    pub trail : IsTrail registered (IsCalledFor softs) known
     -- the members are the solvables that the trail makes true
     pub true_on_trail : (s : S) → is_in same p members s ≡ true → Contains known (plus (Atom.solvable s))
     pub chosen : (s : S) → Contains known (plus (Atom.solvable s)) → is_in same p members s ≡ true
     pub quiet : (r : Rule N S) → rules r → IsQuiet known (literals_of same p r)
     -- a requirement that is asked for has no candidate, or a chosen one
     pub met : (r : Requirement) → IsAsked known r → ((s : S) → meets same p r s ≡ true → ⊥) ⊎ ((s : S) × (meets same p r s ≡ true) × Contains known (plus (Atom.solvable s)))
-    pub register : AreRegistered root registered wishes
+    pub register : AreRegistered root registered softs
     pub encoded : AreEncoded root members
 
 -- What the end of an accepted turn shows: the members keep all rules, except exempt soft
 -- requirements, and are their reached part.
-pub record IsAccepted {N S : Type 0} (same : S → S → Bool) (p : Packages N S) (root : Rules) (wishes members : List S) : Type 0 where
-  pub keeping : IsExemptKeeping same p root wishes members
-  pub reached : (s : S) → is_in same p members s ≡ true → IsReached same p root wishes members s
-  pub inside : (s : S) → IsReached same p root wishes members s → is_in same p members s ≡ true
+pub record IsAccepted {N S : Type 0} (same : S → S → Bool) (p : Packages N S) (root : Rules) (softs members : List S) : Type 0 where
+  pub keeping : IsExemptKeeping same p root softs members
+  pub reached : (s : S) → is_in same p members s ≡ true → IsReached same p root softs members s
+  pub inside : (s : S) → IsReached same p root softs members s → is_in same p members s ≡ true
 
 -- each literal denies a solvable of the list
 abbrev pub Denies : {N S : Type 0} → (S → S → Bool) → Packages N S → List S → List (Literal (Atom N S)) → Type 0
@@ -156,11 +156,11 @@ Denies {N} {S} same p list clause = (l : Literal (Atom N S)) → Contains clause
 -- A list in the order of its reasons, newest first: each entry is a soft requirement, or matches a requirement of the root or of an
 -- older entry that binds in the older ones.
 abbrev pub IsReasoned : {N S : Type 0} → (S → S → Bool) → Packages N S → Rules → List S → List S → Type 0
-IsReasoned same p root wishes [] = Unit {0}
-IsReasoned {N} {S} same p root wishes (s ∷ older) =
+IsReasoned same p root softs [] = Unit {0}
+IsReasoned {N} {S} same p root softs (s ∷ older) =
     (is_in same p older s ≡ false)
-    × ((is_in same p wishes s ≡ true) ⊎ ((parent : Option S) × (need : ConditionalRequirement) × (is_member same p root older parent ≡ true) × Contains (rules_for same p root parent).requirements need × (binds same p older need ≡ true) × (meets same p need.requirement s ≡ true)))
-    × IsReasoned same p root wishes older
+    × ((is_in same p softs s ≡ true) ⊎ ((parent : Option S) × (need : ConditionalRequirement) × (is_member same p root older parent ≡ true) × Contains (rules_for same p root parent).requirements need × (binds same p older need ≡ true) × (meets same p need.requirement s ≡ true)))
+    × IsReasoned same p root softs older
 
 -- whether the atom is this digit of the package
 abbrev pub is_digit : {N S : Type 0} → (N → N → Bool) → N → ℕ → Atom N S → Bool

@@ -14,9 +14,9 @@ use Rattle.resolvo_soundness.specs.Numbered.{Means}
 use Rattle.resolvo_soundness.proofs.Lists.{contains_none, contains_one, contains_parts, contains_left, contains_right, contains_only}
 use Rattle.resolvo_state.specs.declared.atom.ProofAtom.{ProofAtom}
 use Rattle.resolvo_state.specs.declared.atom.ProofAtom.TheVariants.{Solvable}
-use Rattle.resolvo_state.specs.Atoms.{origin, StandsFor, solvable_of}
+use Rattle.resolvo_state.specs.Atoms.{origin, Represents, solvable_of}
 use Rattle.resolvo_state.specs.Chosen.{AreChosen, choice_of, choices}
-use Rattle.resolvo_state.proofs.Origins.{means_solvable, solvable_means, stands_same, stands_solvable, solvable_stands}
+use Rattle.resolvo_state.proofs.Origins.{means_solvable, solvable_means, represents_same, represents_solvable, solvable_represents}
 
 module _ {N S : Type 0} (atoms : List (ProofAtom N S)) where
   pub chosen_none : (chosen : List S) → chosen ≡ [] → AreChosen atoms [] chosen
@@ -39,27 +39,27 @@ module _ {N S : Type 0} (atoms : List (ProofAtom N S)) where
   denies_none e value s m = both_ways e.decision.value value (means_solvable atoms (literal_of e) s m).0
 
   pub helper_none : (e : Entry) → solvable_of atoms e.decision.variable.0 ≡ None → (s : S) → Means (origin atoms) (literal_of e) (plus (Atom.solvable s)) → ⊥
-  helper_none e none s m = let h = solvable_stands atoms e.decision.variable s (means_solvable atoms (literal_of e) s m).1 in absurd cc
+  helper_none e none s m = let h = solvable_represents atoms e.decision.variable s (means_solvable atoms (literal_of e) s m).1 in absurd cc
 
   -- an entry that chooses a solvable
   pub chosen_more : (e : Entry) (known : List Signed) (chosen more : List S) (s : S) → e.decision.value ≡ true → solvable_of atoms e.decision.variable.0 ≡ Some s → more ≡ chosen ++ s ∷ [] → AreChosen atoms known chosen → AreChosen atoms (literal_of e ∷ known) more
   chosen_more e known chosen more s value is pushed c = record {
     each = λ t h. elim (contains_parts t chosen (s ∷ []) (subst (λ (xs : List S). Contains xs t) pushed h)) [
       | inl a ↦ let (l, b, m) = c.each t a in (l, has_later (literal_of e) known l b, m)
-      | inr a ↦ (literal_of e, has_here (literal_of e) known (literal_of e) refl, solvable_means atoms (literal_of e) t value (subst (λ (x : S). StandsFor atoms e.decision.variable (Solvable x)) (sym (contains_one t s a)) stands))
+      | inr a ↦ (literal_of e, has_here (literal_of e) known (literal_of e) refl, solvable_means atoms (literal_of e) t value (subst (λ (x : S). Represents atoms e.decision.variable (Solvable x)) (sym (contains_one t s a)) present))
     ];
     all = λ l t h m. subst (λ (xs : List S). Contains xs t) (sym pushed) (elim (has-cons (literal_of e) known l h) [
       | inr a ↦ contains_left t chosen (s ∷ []) (c.all l t a m)
       | inl i ↦
-          let there : StandsFor atoms e.decision.variable (Solvable t) = (means_solvable atoms (literal_of e) t (subst (λ (x : Signed). Means (origin atoms) x (plus (Atom.solvable t))) (sym i) m)).1 in
-          let one = stands_same atoms e.decision.variable (Solvable s) (Solvable t) stands there in
+          let there : Represents atoms e.decision.variable (Solvable t) = (means_solvable atoms (literal_of e) t (subst (λ (x : Signed). Means (origin atoms) x (plus (Atom.solvable t))) (sym i) m)).1 in
+          let one = represents_same atoms e.decision.variable (Solvable s) (Solvable t) present there in
           let same : s ≡ t = cc in
           contains_right t chosen (s ∷ []) (subst (λ (x : S). Contains (s ∷ []) x) same (contains_only s))
     ]);
   }
     where
-      stands : StandsFor atoms e.decision.variable (Solvable s)
-      stands = stands_solvable atoms e.decision.variable s is
+      present : Represents atoms e.decision.variable (Solvable s)
+      present = represents_solvable atoms e.decision.variable s is
 
   -- which solvable an entry chooses
   pub denies_choice : (e : Entry) → e.decision.value ≡ false → choice_of atoms e ≡ None

@@ -12,47 +12,47 @@ use Rattle.resolvo_sat.specs.declared.state.VariableKind.TheVariants as Kinds
 use Rattle.resolvo_sat.specs.declared.propagate_and_learn.StepResult.{StepResult}
 use Rattle.resolvo_sat.specs.Known.{clause_at}
 use Rattle.resolvo_sat.specs.State.{AreApart, IsState, lists, clauses_of, count_of}
-use Rattle.resolvo_sat.specs.Analysis.{AreFromClauses, IsBar}
+use Rattle.resolvo_sat.specs.Analysis.{AreFromClauses, IsDenial}
 use Rattle.resolvo_sat.specs.Steps.{AreInRange}
 use Rattle.resolvo_sat.specs.declared.state.SatState.{SatState}
 use Rattle.resolvo_sat.proofs.Literals.{has-cons}
 use Rattle.resolvo_store_core.specs.Clauses.{no, root as root_variable}
 use Rattle.resolvo_sat.specs.Propagation.{IsReady, AreCovered}
-use Rattle.resolvo_sat.specs.AddClause.{Comes}
+use Rattle.resolvo_sat.specs.AddClause.{AddsPending}
 use Rattle.resolvo_sat.specs.PropagateAndLearn.{Improves}
 use Rattle.resolvo_sat.proofs.Clauses.{length-lists}
 use Rattle.resolvo_sat.proofs.StepLemmas.{lists-append}
 use Rattle.resolvo_soundness.proofs.GrowLemmas.{clause_stays}
 use Rattle.resolvo_soundness.proofs.Meanings.{clause_in_range}
-use Rattle.resolvo_state.specs.declared.clause_kind.Stated.{Stated}
-use Rattle.resolvo_state.specs.declared.clause_kind.Stated.TheVariants.{Root, Learnt}
+use Rattle.resolvo_state.specs.declared.clause_kind.ClauseKind.{ClauseKind}
+use Rattle.resolvo_state.specs.declared.clause_kind.ClauseKind.TheVariants.{Root, Learnt}
 use Rattle.resolvo_state.specs.declared.solver_state.SolverState.{SolverState}
 use Rattle.resolvo_state.specs.declared.atom.ProofAtom.{ProofAtom}
 use Rattle.resolvo_state.specs.Atoms.{kind_of}
 use Rattle.resolvo_state.specs.Keys.{AreOnce}
-use Rattle.resolvo_state.specs.Statements.{rule_of, stated_at}
-use Rattle.resolvo_state.specs.SolverState.{IsCoding, States, Bars, Advances}
-use Rattle.resolvo_state.proofs.Positions.{get_front, get_old, get_last, get_push, front_equal}
+use Rattle.resolvo_state.specs.ClauseKinds.{rule_of, kind_at}
+use Rattle.resolvo_state.specs.SolverState.{IsCoding, AddsRule, AddsDenial, Advances}
+use Rattle.resolvo_state.proofs.Positions.{get_in_prefix, get_old, get_last, get_push, prefix_equal}
 
 -- a literal of one of the first clauses is in it among more
-stands_before : (old more : List SatClause) (m : ℕ) (l : Signed) → has (clause_at (lists old) m) l ≡ true → has (clause_at (lists (old ++ more)) m) l ≡ true
-stands_before old more m l h =
+has_before : (old more : List SatClause) (m : ℕ) (l : Signed) → has (clause_at (lists old) m) l ≡ true → has (clause_at (lists (old ++ more)) m) l ≡ true
+has_before old more m l h =
     let within : m < length (lists old) = clause_in_range (lists old) m l h in
     subst (λ (ls : List Signed). has ls l ≡ true) (sym (ap (λ (cs : List (List Signed)). clause_at cs m) (lists-append old more) ∙ clause_stays (lists old) (lists more) m within)) h
 
 -- A clause and its kind were appended: neither is the root's, and a learnt one has causes, no literal beside
 -- its negation, and none but those of the others.
-pub one_more : {N S : Type 0} (old new : SolverState N S) (x : Stated N S) (clause : SatClause) → IsCoding old → IsReady new.search new.watching → AreCovered new.search new.watching
-    → new.atoms ≡ old.atoms → new.search.variables ≡ old.search.variables → new.search.clauses ≡ old.search.clauses ++ clause ∷ [] → new.stated.items ≡ old.stated.items ++ x ∷ []
+pub one_more : {N S : Type 0} (old new : SolverState N S) (x : ClauseKind N S) (clause : SatClause) → IsCoding old → IsReady new.search new.watching → AreCovered new.search new.watching
+    → new.atoms ≡ old.atoms → new.search.variables ≡ old.search.variables → new.search.clauses ≡ old.search.clauses ++ clause ∷ [] → new.kinds.items ≡ old.kinds.items ++ x ∷ []
     → (x ≡ Root → ⊥) → (x ≡ Learnt → 0 < length clause.causes.items) → (x ≡ Learnt → AreApart clause.literals.items) → (x ≡ Learnt → AreFromClauses old.search clause.literals.items) → IsCoding new
-one_more {N} {S} old new x clause coding ready covered atoms variables clauses stated unrooted caused apart from = record {
+one_more {N} {S} old new x clause coding ready covered atoms variables clauses kinds unrooted caused apart from = record {
   ready = ready;
   covered = covered;
-  kinds = ap (λ (kinds : Vec VariableKind Global). kinds.items) variables ∙ coding.kinds ∙ sym (ap (λ (a : HashSet (ProofAtom N S) (BuildHasherDefault FoldHasher)). Kinds.Root ∷ map kind_of a.keys) atoms);
+  variable_kinds = ap (λ (variable_kinds : Vec VariableKind Global). variable_kinds.items) variables ∙ coding.variable_kinds ∙ sym (ap (λ (a : HashSet (ProofAtom N S) (BuildHasherDefault FoldHasher)). Kinds.Root ∷ map kind_of a.keys) atoms);
   each =
-      let a : length new.stated.items ≡ length old.stated.items + 1 = ap length stated ∙ length-append old.stated.items (x ∷ []) in
+      let a : length new.kinds.items ≡ length old.kinds.items + 1 = ap length kinds ∙ length-append old.kinds.items (x ∷ []) in
       let b : length new.search.clauses ≡ length old.search.clauses + 1 = ap length clauses ∙ length-append old.search.clauses (clause ∷ []) in
-      let c : length old.stated.items ≡ length old.search.clauses = coding.each in
+      let c : length old.kinds.items ≡ length old.search.clauses = coding.each in
       omega arith;
   distinct = subst (λ (a : HashSet (ProofAtom N S) (BuildHasherDefault FoldHasher)). AreOnce a.keys) (sym atoms) coding.distinct;
   learnt = λ n held h is. elim (old_or_this n held h is) [ inl (a, at) ↦ coding.learnt n held a at | inr (e, one, place) ↦ subst (λ (d : SatClause). 0 < length d.causes.items) one (caused e) ];
@@ -65,36 +65,36 @@ one_more {N} {S} old new x clause coding ready covered atoms variables clauses s
         let long : length (lists old.search.clauses) ≡ length old.search.clauses = length-lists old.search.clauses in
         (m, omega arith, stays m l there)
   ];
-  first = subst (λ (xs : List (Stated N S)). stated_at xs 0 ≡ Some Root) (sym stated) (get_front old.stated.items (x ∷ []) 0 Root coding.first);
-  rooted = λ n h. elim (get_push old.stated.items x Root n (said n Root h)) [ inl a ↦ coding.rooted n a | inr (e, same) ↦ absurd (unrooted (sym same)) ];
+  first = subst (λ (xs : List (ClauseKind N S)). kind_at xs 0 ≡ Some Root) (sym kinds) (get_in_prefix old.kinds.items (x ∷ []) 0 Root coding.first);
+  rooted = λ n h. elim (get_push old.kinds.items x Root n (kind_is n Root h)) [ inl a ↦ coding.rooted n a | inr (e, same) ↦ absurd (unrooted (sym same)) ];
   alone = λ l a. coding.alone l (subst (λ (ls : List Signed). has ls l ≡ true) first_stays a);
 }
   where
-    said : (n : ℕ) (y : Stated N S) → stated_at new.stated.items n ≡ Some y → slice_get (old.stated.items ++ x ∷ []) n ≡ Some y
-    said n y h = subst (λ (xs : List (Stated N S)). slice_get xs n ≡ Some y) stated h
+    kind_is : (n : ℕ) (y : ClauseKind N S) → kind_at new.kinds.items n ≡ Some y → slice_get (old.kinds.items ++ x ∷ []) n ≡ Some y
+    kind_is n y h = subst (λ (xs : List (ClauseKind N S)). slice_get xs n ≡ Some y) kinds h
 
     holds : (n : ℕ) (held : SatClause) → slice_get new.search.clauses n ≡ Some held → slice_get (old.search.clauses ++ clause ∷ []) n ≡ Some held
     holds n held is = subst (λ (cs : List SatClause). slice_get cs n ≡ Some held) clauses is
 
     first_stays : clause_at (clauses_of new.search) 0 ≡ clause_at (clauses_of old.search) 0
     first_stays =
-        let within : 0 < length old.stated.items = slice_get_within old.stated.items 0 Root coding.first in
-        let each : length old.stated.items ≡ length old.search.clauses = coding.each in
+        let within : 0 < length old.kinds.items = slice_get_within old.kinds.items 0 Root coding.first in
+        let each : length old.kinds.items ≡ length old.search.clauses = coding.each in
         let long : length (lists old.search.clauses) ≡ length old.search.clauses = length-lists old.search.clauses in
         ap (λ (cs : List SatClause). clause_at (lists cs) 0) clauses
         ∙ ap (λ (ls : List (List Signed)). clause_at ls 0) (lists-append old.search.clauses (clause ∷ []))
         ∙ clause_stays (lists old.search.clauses) (lists (clause ∷ [])) 0 (omega arith)
 
     stays : (m : ℕ) (l : Signed) → has (clause_at (clauses_of old.search) m) l ≡ true → has (clause_at (clauses_of new.search) m) l ≡ true
-    stays m l h = subst (λ (cs : List SatClause). has (clause_at (lists cs) m) l ≡ true) (sym clauses) (stands_before old.search.clauses (clause ∷ []) m l h)
+    stays m l h = subst (λ (cs : List SatClause). has (clause_at (lists cs) m) l ≡ true) (sym clauses) (has_before old.search.clauses (clause ∷ []) m l h)
 
     -- a learnt clause is an old one or the new one
-    old_or_this : (n : ℕ) (held : SatClause) → stated_at new.stated.items n ≡ Some Learnt → slice_get new.search.clauses n ≡ Some held
-        → ((stated_at old.stated.items n ≡ Some Learnt) × (slice_get old.search.clauses n ≡ Some held)) ⊎ ((x ≡ Learnt) × (clause ≡ held) × (n ≡ length old.search.clauses))
-    old_or_this n held h is = elim (get_push old.stated.items x Learnt n (said n Learnt h)) [
+    old_or_this : (n : ℕ) (held : SatClause) → kind_at new.kinds.items n ≡ Some Learnt → slice_get new.search.clauses n ≡ Some held
+        → ((kind_at old.kinds.items n ≡ Some Learnt) × (slice_get old.search.clauses n ≡ Some held)) ⊎ ((x ≡ Learnt) × (clause ≡ held) × (n ≡ length old.search.clauses))
+    old_or_this n held h is = elim (get_push old.kinds.items x Learnt n (kind_is n Learnt h)) [
       | inl a ↦
-          let within : n < length old.stated.items = slice_get_within old.stated.items n Learnt a in
-          let long : length old.stated.items ≡ length old.search.clauses = coding.each in
+          let within : n < length old.kinds.items = slice_get_within old.kinds.items n Learnt a in
+          let long : length old.kinds.items ≡ length old.search.clauses = coding.each in
           inl (a, get_old old.search.clauses (clause ∷ []) n held (omega arith) (holds n held is))
       | inr (e, same) ↦
           let here : slice_get (old.search.clauses ++ clause ∷ []) n ≡ Some clause = subst (λ k. slice_get (old.search.clauses ++ clause ∷ []) k ≡ Some clause) (sym (e ∙ coding.each)) (get_last old.search.clauses clause) in
@@ -103,40 +103,40 @@ one_more {N} {S} old new x clause coding ready covered atoms variables clauses s
           inr (sym same, one, e ∙ coding.each)
     ]
 
-pub states_is : {N S : Type 0} (old new : SolverState N S) (x : Stated N S) (clause : SatClause) (id : ClauseId) → IsCoding old → IsSome (rule_of x) → Comes clause id old.search old.watching new.search new.watching
-    → clause.causes.items ≡ [] → new.atoms ≡ old.atoms → new.stated.items ≡ old.stated.items ++ x ∷ [] → States x clause.literals.items id old new
-states_is {N} {S} old new x clause id coding rule comes plain atoms stated = record {
-  coding = one_more old new x clause coding comes.ready comes.covered atoms comes.adds.variables comes.adds.added stated (unrooted x rule) (λ e. absurd (unlearnt x rule e)) (λ e. absurd (unlearnt x rule e)) (λ e. absurd (unlearnt x rule e));
+pub adds_rule_is : {N S : Type 0} (old new : SolverState N S) (x : ClauseKind N S) (clause : SatClause) (id : ClauseId) → IsCoding old → IsSome (rule_of x) → AddsPending clause id old.search old.watching new.search new.watching
+    → clause.causes.items ≡ [] → new.atoms ≡ old.atoms → new.kinds.items ≡ old.kinds.items ++ x ∷ [] → AddsRule x clause.literals.items id old new
+adds_rule_is {N} {S} old new x clause id coding rule addition plain atoms kinds = record {
+  coding = one_more old new x clause coding addition.ready addition.covered atoms addition.adds.variables addition.adds.added kinds (unrooted x rule) (λ e. absurd (unlearnt x rule e)) (λ e. absurd (unlearnt x rule e)) (λ e. absurd (unlearnt x rule e));
   atoms = atoms;
   clause = clause;
   literals = refl;
   plain = plain;
-  number = comes.adds.number;
-  added = comes.adds.added;
-  stated = stated;
-  grows = record { atoms = front_equal old.atoms.keys new.atoms.keys (ap (λ (a : HashSet (ProofAtom N S) (BuildHasherDefault FoldHasher)). a.keys) atoms); clauses = (clause ∷ [], comes.adds.added); stated = (x ∷ [], stated); base_level = comes.adds.base_level };
-  trail = record { tracker = comes.adds.tracker };
+  number = addition.adds.number;
+  added = addition.adds.added;
+  kinds = kinds;
+  grows = record { atoms = prefix_equal old.atoms.keys new.atoms.keys (ap (λ (a : HashSet (ProofAtom N S) (BuildHasherDefault FoldHasher)). a.keys) atoms); clauses = (clause ∷ [], addition.adds.added); kinds = (x ∷ [], kinds); base_level = addition.adds.base_level };
+  trail = record { tracker = addition.adds.tracker };
 }
   where
-    unrooted : (y : Stated N S) → IsSome (rule_of y) → y ≡ Root → ⊥
-    unrooted y h e = both_ways false refl (subst (λ (z : Stated N S). IsSome (rule_of z)) e h)
+    unrooted : (y : ClauseKind N S) → IsSome (rule_of y) → y ≡ Root → ⊥
+    unrooted y h e = both_ways false refl (subst (λ (z : ClauseKind N S). IsSome (rule_of z)) e h)
 
-    unlearnt : (y : Stated N S) → IsSome (rule_of y) → y ≡ Learnt → ⊥
-    unlearnt y h e = both_ways false refl (subst (λ (z : Stated N S). IsSome (rule_of z)) e h)
+    unlearnt : (y : ClauseKind N S) → IsSome (rule_of y) → y ≡ Learnt → ⊥
+    unlearnt y h e = both_ways false refl (subst (λ (z : ClauseKind N S). IsSome (rule_of z)) e h)
 
 -- a learnt clause was added
-pub learnt_is : {N S : Type 0} (old new : SolverState N S) (id : ClauseId) → IsCoding old → (improves : Improves id old.search new.search new.watching) → new.atoms ≡ old.atoms → new.stated.items ≡ old.stated.items ++ Learnt ∷ [] → Advances old new (StepResult.Learnt id)
-learnt_is {N} {S} old new id coding improves atoms stated = record {
-  coding = one_more old new Learnt improves.clause coding improves.ready improves.covered atoms improves.variables improves.added stated (λ e. absurd cc) (λ e. improves.caused) (λ e. improves.apart) (λ e. improves.from);
+pub learnt_is : {N S : Type 0} (old new : SolverState N S) (id : ClauseId) → IsCoding old → (improves : Improves id old.search new.search new.watching) → new.atoms ≡ old.atoms → new.kinds.items ≡ old.kinds.items ++ Learnt ∷ [] → Advances old new (StepResult.Learnt id)
+learnt_is {N} {S} old new id coding improves atoms kinds = record {
+  coding = one_more old new Learnt improves.clause coding improves.ready improves.covered atoms improves.variables improves.added kinds (λ e. absurd cc) (λ e. improves.caused) (λ e. improves.apart) (λ e. improves.from);
   progress = improves;
   atoms = atoms;
-  stated = stated;
-  grows = record { atoms = front_equal old.atoms.keys new.atoms.keys (ap (λ (a : HashSet (ProofAtom N S) (BuildHasherDefault FoldHasher)). a.keys) atoms); clauses = (improves.clause ∷ [], improves.added); stated = (Learnt ∷ [], stated); base_level = improves.base_level };
+  kinds = kinds;
+  grows = record { atoms = prefix_equal old.atoms.keys new.atoms.keys (ap (λ (a : HashSet (ProofAtom N S) (BuildHasherDefault FoldHasher)). a.keys) atoms); clauses = (improves.clause ∷ [], improves.added); kinds = (Learnt ∷ [], kinds); base_level = improves.base_level };
 }
 
 -- a literal of a clause is of one of the variables
-pub bar_in_range : (s : SatState) (literals : List Signed) (causes : List ClauseId) → IsState s → IsBar s literals causes → AreInRange (count_of s) literals
-bar_in_range s literals causes state bar l h = let (n, stands) = bar.from l h in state.in_range n l stands
+pub denial_in_range : (s : SatState) (literals : List Signed) (causes : List ClauseId) → IsState s → IsDenial s literals causes → AreInRange (count_of s) literals
+denial_in_range s literals causes state forbid l h = let (n, present) = forbid.from l h in state.in_range n l present
 
 -- literals that only deny are distinct
 negative_apart : (literals : List Signed) → ((l : Signed) → has literals l ≡ true → l.positive ≡ false) → AreApart literals
@@ -146,18 +146,18 @@ negative_apart literals negative l a b = both_ways (not l.positive) (falls (nega
     falls k h = elim (has-cons (no root_variable) literals k h) [ inl e ↦ ap (λ (x : Signed). x.positive) (sym e) | inr e ↦ negative k e ]
 
 -- a clause of negative literals alone was added
-pub bar_is : {N S : Type 0} (old new : SolverState N S) (clause : SatClause) (id : ClauseId) → IsCoding old → IsBar old.search clause.literals.items clause.causes.items → Comes clause id old.search old.watching new.search new.watching
-    → new.atoms ≡ old.atoms → new.stated.items ≡ old.stated.items ++ Learnt ∷ [] → Bars clause.literals.items clause.causes.items id old new
-bar_is {N} {S} old new clause id coding bar comes atoms stated = record {
-  coding = one_more old new Learnt clause coding comes.ready comes.covered atoms comes.adds.variables comes.adds.added stated (λ e. absurd cc) (λ e. bar.caused) (λ e. negative_apart clause.literals.items bar.negative) (λ e. bar.from);
+pub denial_is : {N S : Type 0} (old new : SolverState N S) (clause : SatClause) (id : ClauseId) → IsCoding old → IsDenial old.search clause.literals.items clause.causes.items → AddsPending clause id old.search old.watching new.search new.watching
+    → new.atoms ≡ old.atoms → new.kinds.items ≡ old.kinds.items ++ Learnt ∷ [] → AddsDenial clause.literals.items clause.causes.items id old new
+denial_is {N} {S} old new clause id coding forbid addition atoms kinds = record {
+  coding = one_more old new Learnt clause coding addition.ready addition.covered atoms addition.adds.variables addition.adds.added kinds (λ e. absurd cc) (λ e. forbid.caused) (λ e. negative_apart clause.literals.items forbid.negative) (λ e. forbid.from);
   atoms = atoms;
-  variables = comes.adds.variables;
+  variables = addition.adds.variables;
   clause = clause;
   literals = refl;
   causes = refl;
-  number = comes.adds.number;
-  added = comes.adds.added;
-  stated = stated;
-  grows = record { atoms = front_equal old.atoms.keys new.atoms.keys (ap (λ (a : HashSet (ProofAtom N S) (BuildHasherDefault FoldHasher)). a.keys) atoms); clauses = (clause ∷ [], comes.adds.added); stated = (Learnt ∷ [], stated); base_level = comes.adds.base_level };
-  trail = record { tracker = comes.adds.tracker };
+  number = addition.adds.number;
+  added = addition.adds.added;
+  kinds = kinds;
+  grows = record { atoms = prefix_equal old.atoms.keys new.atoms.keys (ap (λ (a : HashSet (ProofAtom N S) (BuildHasherDefault FoldHasher)). a.keys) atoms); clauses = (clause ∷ [], addition.adds.added); kinds = (Learnt ∷ [], kinds); base_level = addition.adds.base_level };
+  trail = record { tracker = addition.adds.tracker };
 }

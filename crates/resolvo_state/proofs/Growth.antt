@@ -21,30 +21,30 @@ use Rattle.resolvo_sat.specs.PropagateAndLearn.{IsProgress}
 use Rattle.resolvo_sat.proofs.JumpLemmas.{undone_on}
 use Rattle.resolvo_sat.proofs.Clauses.{length-lists, literals_at}
 use Rattle.resolvo_sat.proofs.StepLemmas.{lists-append, reverse_push}
-use Rattle.resolvo_soundness.specs.Encoding.{Atom, Rule, plus, literals_of, HasBar}
+use Rattle.resolvo_soundness.specs.Encoding.{Atom, Rule, plus, literals_of, IsForbidden}
 use Rattle.resolvo_soundness.specs.Numbered.{meaning, Means, known_of, Spells, AreCalledFor, IsAccounted, AreCoded}
 use Rattle.resolvo_soundness.proofs.GrowLemmas.{clause_stays, called_kept, called_choice, called_grows, spells_agree}
 use Rattle.resolvo_soundness.proofs.Meanings.{clause_in_range}
 use Rattle.resolvo_state.specs.declared.atom.ProofAtom.{ProofAtom}
-use Rattle.resolvo_state.specs.declared.clause_kind.Stated.{Stated}
-use Rattle.resolvo_state.specs.declared.clause_kind.Stated.TheVariants.{Root, Needs, Gated, Shared, Limits, LimitsOutside, IsOut, Locked, Excluded, Digit, IsThere, Learnt}
+use Rattle.resolvo_state.specs.declared.clause_kind.ClauseKind.{ClauseKind}
+use Rattle.resolvo_state.specs.declared.clause_kind.ClauseKind.TheVariants.{Root, Needs, Gated, Shared, Limits, LimitsOutside, IsOut, Locked, Excluded, Digit, IsThere, Learnt}
 use Rattle.resolvo_state.specs.declared.solver_state.SolverState.{SolverState}
-use Rattle.resolvo_state.specs.Atoms.{origin, StandsFor}
-use Rattle.resolvo_state.specs.Statements.{rule_of, stated_at, rule_at, rules_in}
+use Rattle.resolvo_state.specs.Atoms.{origin, Represents}
+use Rattle.resolvo_state.specs.ClauseKinds.{rule_of, kind_at, rule_at, rules_in}
 use Rattle.resolvo_state.specs.SolverState.{IsCoding, Grows, SameTrail, Advances, KeepsCode}
 use Rattle.resolvo_state.specs.Spelled.{Spelled, AreRegistered}
-use Rattle.resolvo_state.proofs.Positions.{front_get, get_old, get_below, contains_get, front_same, front_then}
-use Rattle.resolvo_state.proofs.Origins.{count_is, coding_once, stands_below, stands_front, origin_front, one_variable}
-use Rattle.resolvo_state.proofs.Rules.{rule_stated, stated_rule, rules_front}
+use Rattle.resolvo_state.proofs.Positions.{prefix_get, get_old, get_below, contains_get, prefix_same, prefix_then}
+use Rattle.resolvo_state.proofs.Origins.{count_is, coding_once, represents_below, represents_more, origin_prefix, one_variable}
+use Rattle.resolvo_state.proofs.Rules.{rule_at_kind, kind_of_rule, rules_prefix}
 
 pub grows_same : {N S : Type 0} (c : SolverState N S) → Grows c c
-grows_same c = record { atoms = front_same c.atoms.keys; clauses = front_same c.search.clauses; stated = front_same c.stated.items; base_level = refl }
+grows_same c = record { atoms = prefix_same c.atoms.keys; clauses = prefix_same c.search.clauses; kinds = prefix_same c.kinds.items; base_level = refl }
 
 pub grows_then : {N S : Type 0} (a b c : SolverState N S) → Grows a b → Grows b c → Grows a c
 grows_then a b c f g = record {
-  atoms = front_then a.atoms.keys b.atoms.keys c.atoms.keys f.atoms g.atoms;
-  clauses = front_then a.search.clauses b.search.clauses c.search.clauses f.clauses g.clauses;
-  stated = front_then a.stated.items b.stated.items c.stated.items f.stated g.stated;
+  atoms = prefix_then a.atoms.keys b.atoms.keys c.atoms.keys f.atoms g.atoms;
+  clauses = prefix_then a.search.clauses b.search.clauses c.search.clauses f.clauses g.clauses;
+  kinds = prefix_then a.kinds.items b.kinds.items c.kinds.items f.kinds g.kinds;
   base_level = g.base_level ∙ f.base_level;
 }
 
@@ -55,49 +55,49 @@ pub trail_then : {N S : Type 0} (a b c : SolverState N S) → SameTrail a b → 
 trail_then a b c f g = record { tracker = g.tracker ∙ f.tracker }
 
 -- variables, and what they represent, stay
-pub stands_grow : {N S : Type 0} (old new : SolverState N S) (v : VariableId) (a : ProofAtom N S) → Grows old new → StandsFor old.atoms.keys v a → StandsFor new.atoms.keys v a
-stands_grow old new v a grows stands = stands_front old.atoms.keys new.atoms.keys v a grows.atoms stands
+pub represents_grow : {N S : Type 0} (old new : SolverState N S) (v : VariableId) (a : ProofAtom N S) → Grows old new → Represents old.atoms.keys v a → Represents new.atoms.keys v a
+represents_grow old new v a grows present = represents_more old.atoms.keys new.atoms.keys v a grows.atoms present
 
 -- an atom has one variable
-pub stands_once : {N S : Type 0} (c : SolverState N S) (u v : VariableId) (a : ProofAtom N S) → IsCoding c → StandsFor c.atoms.keys u a → StandsFor c.atoms.keys v a → u ≡ v
-stands_once c u v a coding f g = one_variable c.atoms.keys u v a coding.distinct f g
+pub represents_once : {N S : Type 0} (c : SolverState N S) (u v : VariableId) (a : ProofAtom N S) → IsCoding c → Represents c.atoms.keys u a → Represents c.atoms.keys v a → u ≡ v
+represents_once c u v a coding f g = one_variable c.atoms.keys u v a coding.distinct f g
 
 -- rules stay encoded
-pub rules_grow : {N S : Type 0} (old new : SolverState N S) → Grows old new → (r : Rule N S) → rules_in old.stated.items r → rules_in new.stated.items r
-rules_grow old new grows r h = rules_front old.stated.items new.stated.items r grows.stated h
+pub rules_grow : {N S : Type 0} (old new : SolverState N S) → Grows old new → (r : Rule N S) → rules_in old.kinds.items r → rules_in new.kinds.items r
+rules_grow old new grows r h = rules_prefix old.kinds.items new.kinds.items r grows.kinds h
 
 -- a forbidden solvable stays forbidden
-pub bar_grows : {N S : Type 0} (old new : SolverState N S) → Grows old new → (s : S) → HasBar (rules_in old.stated.items) s → HasBar (rules_in new.stated.items) s
-bar_grows old new grows s (w, h) = (w, rules_grow old new grows (Rule.bars w s) h)
+pub forbid_grows : {N S : Type 0} (old new : SolverState N S) → Grows old new → (s : S) → IsForbidden (rules_in old.kinds.items) s → IsForbidden (rules_in new.kinds.items) s
+forbid_grows old new grows s (w, h) = (w, rules_grow old new grows (Rule.forbids w s) h)
 
-pub stated_grows : {N S : Type 0} (old new : SolverState N S) → Grows old new → (n : ℕ) (x : Stated N S) → stated_at old.stated.items n ≡ Some x → stated_at new.stated.items n ≡ Some x
-stated_grows old new grows n x h = front_get old.stated.items new.stated.items n x grows.stated h
+pub kind_grows : {N S : Type 0} (old new : SolverState N S) → Grows old new → (n : ℕ) (x : ClauseKind N S) → kind_at old.kinds.items n ≡ Some x → kind_at new.kinds.items n ≡ Some x
+kind_grows old new grows n x h = prefix_get old.kinds.items new.kinds.items n x grows.kinds h
 
 -- the number is below the other, or it is not
 pub below_or_not : (n k : ℕ) → (n < k) ⊎ (k ≤ n)
 below_or_not n k = elim (cases_Bool (ltb n k)) [ inl e ↦ inl (ltb-true n k e) | inr e ↦ let h = ltb-false n k e in inr (omega (arith, h)) ]
 
 -- a kind is of an old clause or of a new one
-pub stated_split : {N S : Type 0} (old new : SolverState N S) → IsCoding old → IsCoding new → Grows old new → (n : ℕ) (x : Stated N S) → stated_at new.stated.items n ≡ Some x
-    → (stated_at old.stated.items n ≡ Some x) ⊎ ((length old.search.clauses ≤ n) × (n < length new.search.clauses))
-stated_split {N} {S} old new before after grows n x h = elim (below_or_not n (length old.stated.items)) [
-  | inl below ↦ let (more, e) = grows.stated in inl (get_old old.stated.items more n x below (subst (λ (xs : List (Stated N S)). slice_get xs n ≡ Some x) e h))
+pub kind_split : {N S : Type 0} (old new : SolverState N S) → IsCoding old → IsCoding new → Grows old new → (n : ℕ) (x : ClauseKind N S) → kind_at new.kinds.items n ≡ Some x
+    → (kind_at old.kinds.items n ≡ Some x) ⊎ ((length old.search.clauses ≤ n) × (n < length new.search.clauses))
+kind_split {N} {S} old new before after grows n x h = elim (below_or_not n (length old.kinds.items)) [
+  | inl below ↦ let (more, e) = grows.kinds in inl (get_old old.kinds.items more n x below (subst (λ (xs : List (ClauseKind N S)). slice_get xs n ≡ Some x) e h))
   | inr past ↦
-      let within : n < length new.stated.items = slice_get_within new.stated.items n x h in
-      let a : length old.stated.items ≡ length old.search.clauses = before.each in
-      let b : length new.stated.items ≡ length new.search.clauses = after.each in
+      let within : n < length new.kinds.items = slice_get_within new.kinds.items n x h in
+      let a : length old.kinds.items ≡ length old.search.clauses = before.each in
+      let b : length new.kinds.items ≡ length new.search.clauses = after.each in
       inr (omega arith, omega arith)
 ]
 
-pub rule_split : {N S : Type 0} (old new : SolverState N S) → IsCoding old → IsCoding new → Grows old new → (n : ℕ) (r : Rule N S) → rule_at new.stated.items n ≡ Some r
-    → (rule_at old.stated.items n ≡ Some r) ⊎ ((length old.search.clauses ≤ n) × (n < length new.search.clauses))
+pub rule_split : {N S : Type 0} (old new : SolverState N S) → IsCoding old → IsCoding new → Grows old new → (n : ℕ) (r : Rule N S) → rule_at new.kinds.items n ≡ Some r
+    → (rule_at old.kinds.items n ≡ Some r) ⊎ ((length old.search.clauses ≤ n) × (n < length new.search.clauses))
 rule_split old new before after grows n r h =
-    let (x, at, is) = stated_rule new.stated.items n r h in
-    elim (stated_split old new before after grows n x at) [ inl a ↦ inl (rule_stated old.stated.items n x a ∙ is) | inr a ↦ inr a ]
+    let (x, at, is) = kind_of_rule new.kinds.items n r h in
+    elim (kind_split old new before after grows n x at) [ inl a ↦ inl (rule_at_kind old.kinds.items n x a ∙ is) | inr a ↦ inr a ]
 
 -- a rule is of an old clause or of a new one
-pub rules_split : {N S : Type 0} (old new : SolverState N S) → IsCoding old → IsCoding new → Grows old new → (r : Rule N S) → rules_in new.stated.items r
-    → rules_in old.stated.items r ⊎ ((n : ℕ) × (length old.search.clauses ≤ n) × (n < length new.search.clauses) × (rule_at new.stated.items n ≡ Some r))
+pub rules_split : {N S : Type 0} (old new : SolverState N S) → IsCoding old → IsCoding new → Grows old new → (r : Rule N S) → rules_in new.kinds.items r
+    → rules_in old.kinds.items r ⊎ ((n : ℕ) × (length old.search.clauses ≤ n) × (n < length new.search.clauses) × (rule_at new.kinds.items n ≡ Some r))
 rules_split old new before after grows r (n, h) = elim (rule_split old new before after grows n r h) [ inl a ↦ inl (n, a) | inr (a, b) ↦ inr (n, a, b, h) ]
 
 -- the old clauses are at their places
@@ -109,22 +109,22 @@ clause_grows old new grows n below =
 
 -- the old variables represent the same atoms
 pub origin_grows : {N S : Type 0} (old new : SolverState N S) → IsCoding old → Grows old new → (n : ℕ) → 0 < n → n < count_of old.search → origin old.atoms.keys n ≡ origin new.atoms.keys n
-origin_grows old new coding grows n a b = let c : count_of old.search ≡ suc (length old.atoms.keys) = count_is old coding in origin_front old.atoms.keys new.atoms.keys n grows.atoms a (omega arith)
+origin_grows old new coding grows n a b = let c : count_of old.search ≡ suc (length old.atoms.keys) = count_is old coding in origin_prefix old.atoms.keys new.atoms.keys n grows.atoms a (omega arith)
 
 -- a clause that encodes a rule is one of the search's
-rule_within : {N S : Type 0} (c : SolverState N S) (n : ℕ) (r : Rule N S) → IsCoding c → rule_at c.stated.items n ≡ Some r → n < length c.search.clauses
+rule_within : {N S : Type 0} (c : SolverState N S) (n : ℕ) (r : Rule N S) → IsCoding c → rule_at c.kinds.items n ≡ Some r → n < length c.search.clauses
 rule_within c n r coding h =
-    let (x, at, is) = stated_rule c.stated.items n r h in
-    let within : n < length c.stated.items = slice_get_within c.stated.items n x at in
-    let long : length c.stated.items ≡ length c.search.clauses = coding.each in
+    let (x, at, is) = kind_of_rule c.kinds.items n r h in
+    let within : n < length c.kinds.items = slice_get_within c.kinds.items n x at in
+    let long : length c.kinds.items ≡ length c.search.clauses = coding.each in
     omega arith
 
 -- Where the new clauses have the literals of the rules that they encode, all have.
 pub spelled_grows : {N S : Type 0} (same : S → S → Bool) (p : Packages N S) (old new : SolverState N S) → IsCoding old → IsCoding new → Grows old new → Spelled same p old
-    → ((n : ℕ) (r : Rule N S) → length old.search.clauses ≤ n → n < length new.search.clauses → rule_at new.stated.items n ≡ Some r → Spells (origin new.atoms.keys) (clause_at (clauses_of new.search) n) (literals_of same p r))
+    → ((n : ℕ) (r : Rule N S) → length old.search.clauses ≤ n → n < length new.search.clauses → rule_at new.kinds.items n ≡ Some r → Spells (origin new.atoms.keys) (clause_at (clauses_of new.search) n) (literals_of same p r))
     → Spelled same p new
-spelled_grows same p old new before after grows spelled came n r h = elim (rule_split old new before after grows n r h) [
-  | inr (a, b) ↦ came n r a b h
+spelled_grows same p old new before after grows spelled of_new n r h = elim (rule_split old new before after grows n r h) [
+  | inr (a, b) ↦ of_new n r a b h
   | inl a ↦
       subst (λ (clause : List Signed). Spells (origin new.atoms.keys) clause (literals_of same p r)) (sym (clause_grows old new grows n (rule_within old n r before a)))
       (spells_agree (origin old.atoms.keys) (origin new.atoms.keys) (count_of old.search) (origin_grows old new before grows) (clause_at (clauses_of old.search) n) (literals_of same p r) (before.ready.state.in_range n) (spelled n r a))
@@ -134,7 +134,7 @@ spelled_grows same p old new before after grows spelled came n r h = elim (rule_
 pub registered_grows : {N S : Type 0} (registered wider : S → Type 0) (old new : SolverState N S) → IsCoding old → IsCoding new → Grows old new → ((s : S) → registered s → wider s) → AreRegistered registered old
     → ((n : ℕ) (l : Signed) (s : S) → length old.search.clauses ≤ n → n < length new.search.clauses → has (clause_at (clauses_of new.search) n) l ≡ true → Means (origin new.atoms.keys) l (plus (Atom.solvable s)) → wider s)
     → AreRegistered wider new
-registered_grows {N} {S} registered wider old new before after grows more all came n l s h (other, e) = elim (below_or_not n (length old.search.clauses)) [
+registered_grows {N} {S} registered wider old new before after grows more all of_new n l s h (other, e) = elim (below_or_not n (length old.search.clauses)) [
   | inl below ↦
       let there : has (clause_at (clauses_of old.search) n) l ≡ true = subst (λ (clause : List Signed). has clause l ≡ true) (clause_grows old new grows n below) h in
       let same : origin old.atoms.keys l.variable.0 ≡ origin new.atoms.keys l.variable.0 = origin_grows old new before grows l.variable.0 other (before.ready.state.in_range n l there) in
@@ -142,7 +142,7 @@ registered_grows {N} {S} registered wider old new before after grows more all ca
   | inr past ↦
       let long : length (lists new.search.clauses) ≡ length new.search.clauses = length-lists new.search.clauses in
       let within : n < length (lists new.search.clauses) = clause_in_range (lists new.search.clauses) n l h in
-      came n l s past (omega arith) h (other, e)
+      of_new n l s past (omega arith) h (other, e)
 ]
 
 -- a reason for a choice under one meaning is a reason under the other
@@ -157,7 +157,7 @@ module _ {N S : Type 0} (choice wider : List (Literal (Atom N S)) → Literal (A
   called_loses : new.atoms ≡ old.atoms → KeepsChoices (history old.search) (history new.search) → AreCalledFor (origin old.atoms.keys) choice (history old.search) → AreCalledFor (origin new.atoms.keys) wider (history new.search)
   called_loses atoms keeps called =
       subst (λ (a : HashSet (ProofAtom N S) (BuildHasherDefault FoldHasher)). AreCalledFor (origin a.keys) wider (history new.search)) (sym atoms)
-      (called_kept (origin old.atoms.keys) wider (history old.search) (history new.search) keeps (λ e older stands is other. more (known_of (origin old.atoms.keys) older) (meaning (origin old.atoms.keys) (literal_of e)) (called e older stands is other)))
+      (called_kept (origin old.atoms.keys) wider (history old.search) (history new.search) keeps (λ e older present is other. more (known_of (origin old.atoms.keys) older) (meaning (origin old.atoms.keys) (literal_of e)) (called e older present is other)))
 
   -- a step of the search leaves the trail's choices called for
   pub called_advances : (progress : StepResult) → Advances old new progress → AreCalledFor (origin old.atoms.keys) choice (history old.search) → AreCalledFor (origin new.atoms.keys) wider (history new.search)
@@ -170,7 +170,7 @@ module _ {N S : Type 0} (choice wider : List (Literal (Atom N S)) → Literal (A
 
   -- entries that are undone leave the other choices called for
   pub called_undoes : (level : ℕ) → Undoes level old.search new.search → KeepsCode old new → AreCalledFor (origin old.atoms.keys) choice (history old.search) → AreCalledFor (origin new.atoms.keys) wider (history new.search)
-  called_undoes level undoes kept called = called_loses kept.atoms (λ e older stands is. undone_on level (history old.search) (history new.search) e older undoes.undone stands) called
+  called_undoes level undoes kept called = called_loses kept.atoms (λ e older present is. undone_on level (history old.search) (history new.search) e older undoes.undone present) called
 
   -- one choice more, which is called for
   pub called_chooses : (v : VariableId) (clause : ClauseId) → Chooses v clause old.search new.search → KeepsCode old new
@@ -178,14 +178,14 @@ module _ {N S : Type 0} (choice wider : List (Literal (Atom N S)) → Literal (A
   called_chooses v clause chooses kept now called =
       subst (λ (a : HashSet (ProofAtom N S) (BuildHasherDefault FoldHasher)). AreCalledFor (origin a.keys) wider (history new.search)) (sym kept.atoms)
       (subst (λ (h : List Entry). AreCalledFor (origin old.atoms.keys) wider h) (sym pushed)
-      (λ e older stands is other. more (known_of (origin old.atoms.keys) older) (meaning (origin old.atoms.keys) (literal_of e))
-      (called_choice (origin old.atoms.keys) choice (choice_entry v clause (history old.search)) (history old.search) now called e older stands is other)))
+      (λ e older present is other. more (known_of (origin old.atoms.keys) older) (meaning (origin old.atoms.keys) (literal_of e))
+      (called_choice (origin old.atoms.keys) choice (choice_entry v clause (history old.search)) (history old.search) now called e older present is other)))
     where
       pushed : history new.search ≡ choice_entry v clause (history old.search) ∷ history old.search
       pushed = ap reverse chooses.pushed ∙ reverse_push old.search.tracker.trail (choice_entry v clause (history old.search))
 
 -- a clause that encodes no rule is the root's or a learnt one
-no_rule : {N S : Type 0} (x : Stated N S) → rule_of x ≡ None → (x ≡ Root) ⊎ (x ≡ Learnt)
+no_rule : {N S : Type 0} (x : ClauseKind N S) → rule_of x ≡ None → (x ≡ Root) ⊎ (x ≡ Learnt)
 no_rule Root h = inl refl
 no_rule (Needs parent need case) h = absurd cc
 no_rule (Gated s r) h = absurd cc
@@ -202,7 +202,7 @@ no_rule Learnt h = inr refl
 -- Each clause that encodes a rule has its literals, and makes registered solvables true alone: then
 -- all is coded.
 pub coding_coded : {N S : Type 0} (same : S → S → Bool) (p : Packages N S) (registered : S → Type 0) (c : SolverState N S) → IsCoding c → Spelled same p c → AreRegistered registered c
-    → AreCoded (origin c.atoms.keys) same p (rules_in c.stated.items) registered (count_of c.search) c.search.clauses
+    → AreCoded (origin c.atoms.keys) same p (rules_in c.kinds.items) registered (count_of c.search) c.search.clauses
 coding_coded {N} {S} same p registered c coding spelled positive = record {
   once = coding_once c coding;
   in_range = coding.ready.state.in_range;
@@ -212,26 +212,26 @@ coding_coded {N} {S} same p registered c coding spelled positive = record {
   positive = positive;
 }
   where
-    account : (clause : SatClause) (n : ℕ) → slice_get c.search.clauses n ≡ Some clause → (x : Stated N S) → stated_at c.stated.items n ≡ Some x → (o : Option (Rule N S)) → rule_of x ≡ o → IsAccounted (origin c.atoms.keys) same p (rules_in c.stated.items) clause
-    account clause n at x said (Some r) is =
-        let states : rule_at c.stated.items n ≡ Some r = rule_stated c.stated.items n x said ∙ is in
-        inr (inr (r, (n, states), subst (λ (literals : List Signed). Spells (origin c.atoms.keys) literals (literals_of same p r)) (literals_at c.search.clauses n clause at) (spelled n r states)))
-    account clause n at x said None is = elim (no_rule x is) [
-      | inr e ↦ inl (coding.learnt n clause (said ∙ ap Some e) at)
+    account : (clause : SatClause) (n : ℕ) → slice_get c.search.clauses n ≡ Some clause → (x : ClauseKind N S) → kind_at c.kinds.items n ≡ Some x → (o : Option (Rule N S)) → rule_of x ≡ o → IsAccounted (origin c.atoms.keys) same p (rules_in c.kinds.items) clause
+    account clause n at x kind_is (Some r) is =
+        let added_rule : rule_at c.kinds.items n ≡ Some r = rule_at_kind c.kinds.items n x kind_is ∙ is in
+        inr (inr (r, (n, added_rule), subst (λ (literals : List Signed). Spells (origin c.atoms.keys) literals (literals_of same p r)) (literals_at c.search.clauses n clause at) (spelled n r added_rule)))
+    account clause n at x kind_is None is = elim (no_rule x is) [
+      | inr e ↦ inl (coding.learnt n clause (kind_is ∙ ap Some e) at)
       | inl e ↦
-          let z : n ≡ 0 = coding.rooted n (said ∙ ap Some e) in
+          let z : n ≡ 0 = coding.rooted n (kind_is ∙ ap Some e) in
           let here : clause_at (clauses_of c.search) 0 ≡ clause.literals.items = literals_at c.search.clauses 0 clause (subst (λ k. slice_get c.search.clauses k ≡ Some clause) z at) in
           inr (inl (subst (λ (literals : List Signed). has literals (yes root_variable) ≡ true) here coding.covered.first))
     ]
 
-    accounted : (clause : SatClause) → Contains c.search.clauses clause → IsAccounted (origin c.atoms.keys) same p (rules_in c.stated.items) clause
+    accounted : (clause : SatClause) → Contains c.search.clauses clause → IsAccounted (origin c.atoms.keys) same p (rules_in c.kinds.items) clause
     accounted clause h =
         let (n, at) = contains_get c.search.clauses clause h in
         let within : n < length c.search.clauses = slice_get_within c.search.clauses n clause at in
-        let long : length c.stated.items ≡ length c.search.clauses = coding.each in
-        let (x, said) = get_below c.stated.items n (omega arith) in
-        account clause n at x said (rule_of x) refl
+        let long : length c.kinds.items ≡ length c.search.clauses = coding.each in
+        let (x, kind_is) = get_below c.kinds.items n (omega arith) in
+        account clause n at x kind_is (rule_of x) refl
 
 -- a variable that represents an atom is one of the search's
-pub stands_in_range : {N S : Type 0} (c : SolverState N S) (v : VariableId) (a : ProofAtom N S) → IsCoding c → StandsFor c.atoms.keys v a → v.0 < count_of c.search
-stands_in_range c v a coding stands = let count : count_of c.search ≡ suc (length c.atoms.keys) = count_is c coding in let below : v.0 < suc (length c.atoms.keys) = stands_below c.atoms.keys v a stands in omega arith
+pub represents_in_range : {N S : Type 0} (c : SolverState N S) (v : VariableId) (a : ProofAtom N S) → IsCoding c → Represents c.atoms.keys v a → v.0 < count_of c.search
+represents_in_range c v a coding present = let count : count_of c.search ≡ suc (length c.atoms.keys) = count_is c coding in let below : v.0 < suc (length c.atoms.keys) = represents_below c.atoms.keys v a present in omega arith

@@ -22,7 +22,7 @@ code_kept {N} {S} c s coding ready same = record {
   coding = record {
     ready = ready;
     covered = covered_same c.search s c.watching coding.covered same.clauses;
-    kinds = ap (λ (kinds : Vec VariableKind Global). kinds.items) same.variables ∙ coding.kinds;
+    variable_kinds = ap (λ (variable_kinds : Vec VariableKind Global). variable_kinds.items) same.variables ∙ coding.variable_kinds;
     each = coding.each ∙ sym (ap (λ (cs : List SatClause). length cs) same.clauses);
     distinct = coding.distinct;
     learnt = λ n clause h is. coding.learnt n clause h (subst (λ (cs : List SatClause). slice_get cs n ≡ Some clause) same.clauses is);
@@ -35,7 +35,7 @@ code_kept {N} {S} c s coding ready same = record {
     alone = λ l a. coding.alone l (subst (λ (cs : List SatClause). has (clause_at (lists cs) 0) l ≡ true) same.clauses a);
   };
   atoms = refl;
-  stated = refl;
+  kinds = refl;
   variables = same.variables;
   clauses = same.clauses;
 }

@@ -5,7 +5,7 @@ use Rattle.std.proofs.lemmas.Option.{slice_get_within}
 use Rattle.resolvo_pool_core.specs.declared.id.VariableId.{VariableId}
 use Rattle.resolvo_sat.specs.State.{count_of}
 use Rattle.resolvo_sat.specs.declared.state.VariableKind.{VariableKind}
-use Rattle.resolvo_store_core.specs.AtMostOne.{IsFrontOf}
+use Rattle.resolvo_store_core.specs.AtMostOne.{IsPrefixOf}
 use Rattle.resolvo_pool_core.specs.OnePass.{Literal}
 use Rattle.resolvo_store_core.specs.Signed.{Signed}
 use Rattle.resolvo_soundness.specs.Encoding.{Atom, plus}
@@ -13,10 +13,10 @@ use Rattle.resolvo_soundness.specs.Numbered.{Means, IsOnce}
 use Rattle.resolvo_state.specs.declared.atom.ProofAtom.{ProofAtom}
 use Rattle.resolvo_state.specs.declared.atom.ProofAtom.TheVariants.{Solvable, AtLeastOne, Gate, Outside, Bit}
 use Rattle.resolvo_state.specs.declared.solver_state.SolverState.{SolverState}
-use Rattle.resolvo_state.specs.Atoms.{atom_of, atom_at, origin, kind_of, StandsFor, solvable_in, solvable_of, bit_in, bit_of}
+use Rattle.resolvo_state.specs.Atoms.{atom_of, atom_at, origin, kind_of, Represents, solvable_in, solvable_of, bit_in, bit_of}
 use Rattle.resolvo_state.specs.Keys.{AreOnce}
 use Rattle.resolvo_state.specs.SolverState.{IsCoding}
-use Rattle.resolvo_state.proofs.Positions.{front_get, get_below}
+use Rattle.resolvo_state.proofs.Positions.{prefix_get, get_below}
 
 -- different atoms stay different
 pub atom_of_one : {N S : Type 0} (a b : ProofAtom N S) → atom_of a ≡ atom_of b → a ≡ b
@@ -52,49 +52,49 @@ atom_at_place (b ∷ atoms) zero a h = let e : b ≡ a = cc in ap atom_of e
 atom_at_place (b ∷ atoms) (suc k) a h = atom_at_place atoms k a h
 
 -- a variable's origin is the atom that it represents
-pub origin_stands : {N S : Type 0} (atoms : List (ProofAtom N S)) (v : VariableId) (a : ProofAtom N S) → StandsFor atoms v a → origin atoms v.0 ≡ atom_of a
-origin_stands atoms v a (k, e, at) = ap (origin atoms) e ∙ atom_at_place atoms k a at
+pub origin_represents : {N S : Type 0} (atoms : List (ProofAtom N S)) (v : VariableId) (a : ProofAtom N S) → Represents atoms v a → origin atoms v.0 ≡ atom_of a
+origin_represents atoms v a (k, e, at) = ap (origin atoms) e ∙ atom_at_place atoms k a at
 
-pub stands_other : {N S : Type 0} (atoms : List (ProofAtom N S)) (v : VariableId) (a : ProofAtom N S) → StandsFor atoms v a → 0 < v.0
-stands_other atoms v a (k, e, at) = omega arith
+pub represents_other : {N S : Type 0} (atoms : List (ProofAtom N S)) (v : VariableId) (a : ProofAtom N S) → Represents atoms v a → 0 < v.0
+represents_other atoms v a (k, e, at) = omega arith
 
-pub stands_below : {N S : Type 0} (atoms : List (ProofAtom N S)) (v : VariableId) (a : ProofAtom N S) → StandsFor atoms v a → v.0 < suc (length atoms)
-stands_below atoms v a (k, e, at) = let below : k < length atoms = slice_get_within atoms k a at in omega arith
+pub represents_below : {N S : Type 0} (atoms : List (ProofAtom N S)) (v : VariableId) (a : ProofAtom N S) → Represents atoms v a → v.0 < suc (length atoms)
+represents_below atoms v a (k, e, at) = let below : k < length atoms = slice_get_within atoms k a at in omega arith
 
-pub stands_front : {N S : Type 0} (atoms more : List (ProofAtom N S)) (v : VariableId) (a : ProofAtom N S) → IsFrontOf atoms more → StandsFor atoms v a → StandsFor more v a
-stands_front atoms more v a f (k, e, at) = (k, e, front_get atoms more k a f at)
+pub represents_more : {N S : Type 0} (atoms more : List (ProofAtom N S)) (v : VariableId) (a : ProofAtom N S) → IsPrefixOf atoms more → Represents atoms v a → Represents more v a
+represents_more atoms more v a f (k, e, at) = (k, e, prefix_get atoms more k a f at)
 
 -- a variable represents one atom
-pub stands_same : {N S : Type 0} (atoms : List (ProofAtom N S)) (v : VariableId) (a b : ProofAtom N S) → StandsFor atoms v a → StandsFor atoms v b → a ≡ b
-stands_same atoms v a b (j, d, at) (k, e, bt) =
+pub represents_same : {N S : Type 0} (atoms : List (ProofAtom N S)) (v : VariableId) (a b : ProofAtom N S) → Represents atoms v a → Represents atoms v b → a ≡ b
+represents_same atoms v a b (j, d, at) (k, e, bt) =
     let same : j ≡ k = omega arith in
     let here : slice_get atoms k ≡ Some a = subst (λ i. slice_get atoms i ≡ Some a) same at in
     cc
 
 -- an atom has one variable
-pub one_variable : {N S : Type 0} (atoms : List (ProofAtom N S)) (v w : VariableId) (a : ProofAtom N S) → AreOnce atoms → StandsFor atoms v a → StandsFor atoms w a → v ≡ w
+pub one_variable : {N S : Type 0} (atoms : List (ProofAtom N S)) (v w : VariableId) (a : ProofAtom N S) → AreOnce atoms → Represents atoms v a → Represents atoms w a → v ≡ w
 one_variable atoms v w a once (j, d, at) (k, e, bt) =
     let same : j ≡ k = once j k a at bt in
     let number : v.0 ≡ w.0 = d ∙ ap suc same ∙ sym e in
     λ i. record { 0 = number i }
 
 -- each variable but the root's represents an atom
-pub stands_some : {N S : Type 0} (atoms : List (ProofAtom N S)) (n : ℕ) → 0 < n → n < suc (length atoms) → (k : ℕ) × (a : ProofAtom N S) × (n ≡ suc k) × (slice_get atoms k ≡ Some a)
-stands_some atoms zero a b = absurd (omega arith)
-stands_some atoms (suc k) a b = let (x, at) = get_below atoms k (omega arith) in (k, x, refl, at)
+pub represents_some : {N S : Type 0} (atoms : List (ProofAtom N S)) (n : ℕ) → 0 < n → n < suc (length atoms) → (k : ℕ) × (a : ProofAtom N S) × (n ≡ suc k) × (slice_get atoms k ≡ Some a)
+represents_some atoms zero a b = absurd (omega arith)
+represents_some atoms (suc k) a b = let (x, at) = get_below atoms k (omega arith) in (k, x, refl, at)
 
 length-map : {X Y : Type 0} (f : X → Y) (xs : List X) → length (map f xs) ≡ length xs
 length-map f [] = refl
 length-map f (x ∷ xs) = ap suc (length-map f xs)
 
 pub count_is : {N S : Type 0} (c : SolverState N S) → IsCoding c → count_of c.search ≡ suc (length c.atoms.keys)
-count_is c coding = ap (λ (kinds : List VariableKind). length kinds) coding.kinds ∙ ap suc (length-map kind_of c.atoms.keys)
+count_is c coding = ap (λ (variable_kinds : List VariableKind). length variable_kinds) coding.variable_kinds ∙ ap suc (length-map kind_of c.atoms.keys)
 
 -- no two variables were made for one atom
 pub once_origin : {N S : Type 0} (atoms : List (ProofAtom N S)) (count : ℕ) → count ≡ suc (length atoms) → AreOnce atoms → IsOnce (origin atoms) count
 once_origin atoms count long once m n a b c d same =
-    let (j, x, e, at) = stands_some atoms m a (omega arith) in
-    let (k, y, f, bt) = stands_some atoms n c (omega arith) in
+    let (j, x, e, at) = represents_some atoms m a (omega arith) in
+    let (k, y, f, bt) = represents_some atoms n c (omega arith) in
     let one : atom_of x ≡ atom_of y = sym (ap (origin atoms) e ∙ atom_at_place atoms j x at) ∙ same ∙ ap (origin atoms) f ∙ atom_at_place atoms k y bt in
     let is : x ≡ y = atom_of_one x y one in
     let place : j ≡ k = once j k y (at ∙ ap Some is) bt in
@@ -104,11 +104,11 @@ pub coding_once : {N S : Type 0} (c : SolverState N S) → IsCoding c → IsOnce
 coding_once c coding = once_origin c.atoms.keys (count_of c.search) (count_is c coding) coding.distinct
 
 -- the solvable of a variable that represents one
-pub solvable_stands : {N S : Type 0} (atoms : List (ProofAtom N S)) (v : VariableId) (s : S) → StandsFor atoms v (Solvable s) → solvable_of atoms v.0 ≡ Some s
-solvable_stands atoms v s (k, e, at) = ap (solvable_of atoms) e ∙ ap solvable_in at
+pub solvable_represents : {N S : Type 0} (atoms : List (ProofAtom N S)) (v : VariableId) (s : S) → Represents atoms v (Solvable s) → solvable_of atoms v.0 ≡ Some s
+solvable_represents atoms v s (k, e, at) = ap (solvable_of atoms) e ∙ ap solvable_in at
 
-pub stands_solvable : {N S : Type 0} (atoms : List (ProofAtom N S)) (v : VariableId) (s : S) → solvable_of atoms v.0 ≡ Some s → StandsFor atoms v (Solvable s)
-stands_solvable {N} {S} atoms v s h = go v.0 refl h
+pub represents_solvable : {N S : Type 0} (atoms : List (ProofAtom N S)) (v : VariableId) (s : S) → solvable_of atoms v.0 ≡ Some s → Represents atoms v (Solvable s)
+represents_solvable {N} {S} atoms v s h = go v.0 refl h
   where
     inside : (o : Option (ProofAtom N S)) → solvable_in o ≡ Some s → o ≡ Some (Solvable s)
     inside None e = absurd cc
@@ -118,13 +118,13 @@ stands_solvable {N} {S} atoms v s h = go v.0 refl h
     inside (Some (Outside u)) e = absurd cc
     inside (Some (Bit n bit)) e = absurd cc
 
-    go : (n : ℕ) → v.0 ≡ n → solvable_of atoms n ≡ Some s → StandsFor atoms v (Solvable s)
+    go : (n : ℕ) → v.0 ≡ n → solvable_of atoms n ≡ Some s → Represents atoms v (Solvable s)
     go zero e i = absurd cc
     go (suc k) e i = (k, e, inside (slice_get atoms k) i)
 
 -- the place of the digit of a variable that represents one
-pub bit_stands : {N S : Type 0} (atoms : List (ProofAtom N S)) (v : VariableId) (name : N) (bit : ℕ) → StandsFor atoms v (Bit name bit) → bit_of atoms v.0 ≡ Some bit
-bit_stands atoms v name bit (k, e, at) = ap (bit_of atoms) e ∙ ap bit_in at
+pub bit_represents : {N S : Type 0} (atoms : List (ProofAtom N S)) (v : VariableId) (name : N) (bit : ℕ) → Represents atoms v (Bit name bit) → bit_of atoms v.0 ≡ Some bit
+bit_represents atoms v name bit (k, e, at) = ap (bit_of atoms) e ∙ ap bit_in at
 
 -- the place of a solvable's atom
 atom_at_solvable : {N S : Type 0} (atoms : List (ProofAtom N S)) (k : ℕ) (s : S) → Atom.solvable s ≡ atom_at atoms k → slice_get atoms k ≡ Some (Solvable s)
@@ -133,23 +133,23 @@ atom_at_solvable (b ∷ atoms) zero s h = ap Some (atom_of_one b (Solvable s) (s
 atom_at_solvable (b ∷ atoms) (suc k) s h = atom_at_solvable atoms k s h
 
 -- a literal that means that a solvable is chosen is positive, and its variable represents the solvable
-pub means_solvable : {N S : Type 0} (atoms : List (ProofAtom N S)) (l : Signed) (s : S) → Means (origin atoms) l (plus (Atom.solvable s)) → (l.positive ≡ true) × StandsFor atoms l.variable (Solvable s)
+pub means_solvable : {N S : Type 0} (atoms : List (ProofAtom N S)) (l : Signed) (s : S) → Means (origin atoms) l (plus (Atom.solvable s)) → (l.positive ≡ true) × Represents atoms l.variable (Solvable s)
 means_solvable {N} {S} atoms l s (other, e) = (sym (ap (λ (m : Literal (Atom N S)). m.positive) e), go l.variable.0 refl other)
   where
-    go : (n : ℕ) → l.variable.0 ≡ n → 0 < n → StandsFor atoms l.variable (Solvable s)
+    go : (n : ℕ) → l.variable.0 ≡ n → 0 < n → Represents atoms l.variable (Solvable s)
     go zero i below = absurd (omega arith)
     go (suc k) i below = (k, i, atom_at_solvable atoms k s (ap (λ (m : Literal (Atom N S)). m.atom) e ∙ ap (origin atoms) i))
 
 -- a literal whose variable represents an atom means it, with its sign
-pub means_atom : {N S : Type 0} (atoms : List (ProofAtom N S)) (l : Signed) (a : ProofAtom N S) → StandsFor atoms l.variable a → Means (origin atoms) l (record { atom = atom_of a; positive = l.positive })
-means_atom {N} {S} atoms l a stands = (stands_other atoms l.variable a stands, ap (λ (x : Atom N S). let m : Literal (Atom N S) = record { atom = x; positive = l.positive } in m) (sym (origin_stands atoms l.variable a stands)))
+pub means_atom : {N S : Type 0} (atoms : List (ProofAtom N S)) (l : Signed) (a : ProofAtom N S) → Represents atoms l.variable a → Means (origin atoms) l (record { atom = atom_of a; positive = l.positive })
+means_atom {N} {S} atoms l a present = (represents_other atoms l.variable a present, ap (λ (x : Atom N S). let m : Literal (Atom N S) = record { atom = x; positive = l.positive } in m) (sym (origin_represents atoms l.variable a present)))
 
-pub solvable_means : {N S : Type 0} (atoms : List (ProofAtom N S)) (l : Signed) (s : S) → l.positive ≡ true → StandsFor atoms l.variable (Solvable s) → Means (origin atoms) l (plus (Atom.solvable s))
-solvable_means {N} {S} atoms l s positive stands =
-    subst (λ b. Means (origin atoms) l (let m : Literal (Atom N S) = record { atom = Atom.solvable s; positive = b } in m)) positive (means_atom atoms l (Solvable s) stands)
+pub solvable_means : {N S : Type 0} (atoms : List (ProofAtom N S)) (l : Signed) (s : S) → l.positive ≡ true → Represents atoms l.variable (Solvable s) → Means (origin atoms) l (plus (Atom.solvable s))
+solvable_means {N} {S} atoms l s positive present =
+    subst (λ b. Means (origin atoms) l (let m : Literal (Atom N S) = record { atom = Atom.solvable s; positive = b } in m)) positive (means_atom atoms l (Solvable s) present)
 
 -- appended atoms leave the others at their places
-pub origin_front : {N S : Type 0} (atoms more : List (ProofAtom N S)) (n : ℕ) → IsFrontOf atoms more → 0 < n → n < suc (length atoms) → origin atoms n ≡ origin more n
-origin_front atoms more n f a b =
-    let (k, x, e, at) = stands_some atoms n a b in
-    ap (origin atoms) e ∙ atom_at_place atoms k x at ∙ sym (ap (origin more) e ∙ atom_at_place more k x (front_get atoms more k x f at))
+pub origin_prefix : {N S : Type 0} (atoms more : List (ProofAtom N S)) (n : ℕ) → IsPrefixOf atoms more → 0 < n → n < suc (length atoms) → origin atoms n ≡ origin more n
+origin_prefix atoms more n f a b =
+    let (k, x, e, at) = represents_some atoms n a b in
+    ap (origin atoms) e ∙ atom_at_place atoms k x at ∙ sym (ap (origin more) e ∙ atom_at_place more k x (prefix_get atoms more k x f at))

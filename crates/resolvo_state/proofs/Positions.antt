@@ -2,14 +2,14 @@
 use Rattle.std.proofs.Common.{◌≡◌, ℕ, zero, suc, ◌+◌, ◌<◌, ◌≤◌, ◌⊎◌, inl, inr, List, [], ◌∷◌, ◌++◌, map, length, Some, refl, sym, ◌∙◌, ap, subst, arith}
 use Rattle.std.specs.Prelude.{slice_get, slice_set, Contains}
 use Rattle.std.proofs.lemmas.List.{length-append}
-use Rattle.resolvo_store_core.specs.AtMostOne.{IsFrontOf}
+use Rattle.resolvo_store_core.specs.AtMostOne.{IsPrefixOf}
 use Rattle.resolvo_soundness.proofs.Lists.{contains_first, contains_later, contains_none, contains_cases}
 use Rattle.resolvo_state.specs.Keys.{AreOnce}
 
-pub get_front : {X : Type 0} (xs ys : List X) (k : ℕ) (x : X) → slice_get xs k ≡ Some x → slice_get (xs ++ ys) k ≡ Some x
-get_front [] ys k x h = absurd cc
-get_front (z ∷ xs) ys zero x h = h
-get_front (z ∷ xs) ys (suc k) x h = get_front xs ys k x h
+pub get_in_prefix : {X : Type 0} (xs ys : List X) (k : ℕ) (x : X) → slice_get xs k ≡ Some x → slice_get (xs ++ ys) k ≡ Some x
+get_in_prefix [] ys k x h = absurd cc
+get_in_prefix (z ∷ xs) ys zero x h = h
+get_in_prefix (z ∷ xs) ys (suc k) x h = get_in_prefix xs ys k x h
 
 -- an old place of a longer list
 pub get_old : {X : Type 0} (xs ys : List X) (k : ℕ) (x : X) → k < length xs → slice_get (xs ++ ys) k ≡ Some x → slice_get xs k ≡ Some x
@@ -43,28 +43,28 @@ get_below [] k below = absurd (omega arith)
 get_below (z ∷ xs) zero below = (z, refl)
 get_below (z ∷ xs) (suc k) below = get_below xs k (omega arith)
 
-pub front_get : {X : Type 0} (xs ys : List X) (k : ℕ) (x : X) → IsFrontOf xs ys → slice_get xs k ≡ Some x → slice_get ys k ≡ Some x
-front_get xs ys k x (more, e) h = subst (λ zs. slice_get zs k ≡ Some x) (sym e) (get_front xs more k x h)
+pub prefix_get : {X : Type 0} (xs ys : List X) (k : ℕ) (x : X) → IsPrefixOf xs ys → slice_get xs k ≡ Some x → slice_get ys k ≡ Some x
+prefix_get xs ys k x (more, e) h = subst (λ zs. slice_get zs k ≡ Some x) (sym e) (get_in_prefix xs more k x h)
 
-pub front_same : {X : Type 0} (xs : List X) → IsFrontOf xs xs
-front_same xs = ([], sym (append_none xs))
+pub prefix_same : {X : Type 0} (xs : List X) → IsPrefixOf xs xs
+prefix_same xs = ([], sym (append_none xs))
   where
     append_none : {X : Type 0} (ys : List X) → ys ++ [] ≡ ys
     append_none [] = refl
     append_none (y ∷ ys) = ap (λ zs. y ∷ zs) (append_none ys)
 
-pub front_equal : {X : Type 0} (xs ys : List X) → ys ≡ xs → IsFrontOf xs ys
-front_equal xs ys e = subst (IsFrontOf xs) (sym e) (front_same xs)
+pub prefix_equal : {X : Type 0} (xs ys : List X) → ys ≡ xs → IsPrefixOf xs ys
+prefix_equal xs ys e = subst (IsPrefixOf xs) (sym e) (prefix_same xs)
 
-pub front_then : {X : Type 0} (xs ys zs : List X) → IsFrontOf xs ys → IsFrontOf ys zs → IsFrontOf xs zs
-front_then xs ys zs (a, e) (b, f) = (a ++ b, f ∙ ap (λ (ws : List _). ws ++ b) e ∙ joined xs a b)
+pub prefix_then : {X : Type 0} (xs ys zs : List X) → IsPrefixOf xs ys → IsPrefixOf ys zs → IsPrefixOf xs zs
+prefix_then xs ys zs (a, e) (b, f) = (a ++ b, f ∙ ap (λ (ws : List _). ws ++ b) e ∙ joined xs a b)
   where
     joined : {X : Type 0} (us vs ws : List X) → (us ++ vs) ++ ws ≡ us ++ (vs ++ ws)
     joined [] vs ws = refl
     joined (u ∷ us) vs ws = ap (λ zs. u ∷ zs) (joined us vs ws)
 
-pub front_long : {X : Type 0} (xs ys : List X) → IsFrontOf xs ys → length xs ≤ length ys
-front_long xs ys (more, e) = let a : length ys ≡ length (xs ++ more) = ap length e in let b : length (xs ++ more) ≡ length xs + length more = length-append xs more in omega arith
+pub prefix_long : {X : Type 0} (xs ys : List X) → IsPrefixOf xs ys → length xs ≤ length ys
+prefix_long xs ys (more, e) = let a : length ys ≡ length (xs ++ more) = ap length e in let b : length (xs ++ more) ≡ length xs + length more = length-append xs more in omega arith
 
 pub once_none : {X : Type 0} (xs : List X) → xs ≡ [] → AreOnce xs
 once_none xs e i j x a b = let f : slice_get [] i ≡ Some x = subst (λ ys. slice_get ys i ≡ Some x) e a in absurd cc

@@ -6,47 +6,47 @@ use Rattle.std.proofs.lemmas.Option.{slice_get_within}
 use Rattle.resolvo_pool_core.specs.declared.id.VariableId.{VariableId}
 use Rattle.resolvo_pool_core.specs.OnePass.{Literal}
 use Rattle.resolvo_pool_core.specs.RuleKeeping.{Packages}
-use Rattle.resolvo_store_core.specs.AtMostOne.{Tracking, IsFrontOf, digit}
+use Rattle.resolvo_store_core.specs.AtMostOne.{Tracking, IsPrefixOf, digit}
 use Rattle.resolvo_store_core.specs.Clauses.{no}
 use Rattle.resolvo_store_core.specs.Signed.{Signed, has}
 use Rattle.resolvo_sat.specs.Known.{clause_at}
 use Rattle.resolvo_sat.specs.State.{clauses_of}
 use Rattle.resolvo_sat.proofs.Literals.{has-cons, has_here, has_later}
 use Rattle.resolvo_soundness.specs.Encoding.{Atom, Rule, plus, minus, literals_of}
-use Rattle.resolvo_soundness.specs.SearchEnd.{AreTold}
+use Rattle.resolvo_soundness.specs.SearchEnd.{DifferInDigit}
 use Rattle.resolvo_soundness.specs.Numbered.{meaning, Means, Spells}
 use Rattle.resolvo_soundness.proofs.Lists.{contains_none, contains_one, contains_cases, contains_first, contains_later}
-use Rattle.resolvo_soundness.proofs.Places.{told_by_digit}
+use Rattle.resolvo_soundness.proofs.Places.{differ_in_digit}
 use Rattle.resolvo_soundness.proofs.Members.{twice}
 use Rattle.resolvo_state.specs.declared.atom.ProofAtom.TheVariants.{Solvable, Bit}
-use Rattle.resolvo_state.specs.declared.clause_kind.Stated.{Stated}
-use Rattle.resolvo_state.specs.declared.clause_kind.Stated.TheVariants.{Root, Digit}
+use Rattle.resolvo_state.specs.declared.clause_kind.ClauseKind.{ClauseKind}
+use Rattle.resolvo_state.specs.declared.clause_kind.ClauseKind.TheVariants.{Root, Digit}
 use Rattle.resolvo_state.specs.declared.solver_state.SolverState.{SolverState}
 use Rattle.resolvo_state.specs.declared.registry.Registry.{Registry}
-use Rattle.resolvo_state.specs.Atoms.{origin, StandsFor}
+use Rattle.resolvo_state.specs.Atoms.{origin, Represents}
 use Rattle.resolvo_state.specs.Keys.{AreOnce}
-use Rattle.resolvo_state.specs.Statements.{stated_at, rule_at, rules_in}
+use Rattle.resolvo_state.specs.ClauseKinds.{kind_at, rule_at, rules_in}
 use Rattle.resolvo_state.specs.SolverState.{IsCoding, Grows, Gives}
-use Rattle.resolvo_state.specs.Registered.{digit_literals, IsTied, IsPlaced, AreTied, IsTracked, IsRegistered, IsDigitClause, Registers, PlacesName, StatesTie, Tracks}
-use Rattle.resolvo_state.proofs.Positions.{get_old, get_push, get_contains, contains_get, front_get, front_same, once_none}
-use Rattle.resolvo_state.proofs.Origins.{stands_same, one_variable, means_atom}
-use Rattle.resolvo_state.proofs.Growth.{grows_then, trail_then, stands_grow, stands_once, rules_grow, stated_split, below_or_not}
-use Rattle.resolvo_state.proofs.Rules.{rule_stated}
+use Rattle.resolvo_state.specs.Registered.{digit_literals, IsTied, IsPlaced, AreTied, IsTracked, IsRegistered, IsDigitClause, Registers, PlacesName, IsTieClause, Tracks}
+use Rattle.resolvo_state.proofs.Positions.{get_old, get_push, get_contains, contains_get, prefix_get, prefix_same, once_none}
+use Rattle.resolvo_state.proofs.Origins.{represents_same, one_variable, means_atom}
+use Rattle.resolvo_state.proofs.Growth.{grows_then, trail_then, represents_grow, represents_once, rules_grow, kind_split, below_or_not}
+use Rattle.resolvo_state.proofs.Rules.{rule_at_kind}
 use Rattle.resolvo_state.proofs.TieLemmas.{tie_literals}
 
 -- a package's tracker stays tied
 pub tied_grows : {N S : Type 0} (name : N) (t : Tracking VariableId) (a c : SolverState N S) → Grows a c → IsTied name t a → IsTied name t c
 tied_grows {N} {S} name t a c grows tied = record {
-  solvables = λ v h. (let (s, f) = tied.solvables v h in (s, stands_grow a c v (Solvable s) grows f));
-  digits = λ i v h. stands_grow a c v (Bit name i) grows (tied.digits i v h);
+  solvables = λ v h. (let (s, f) = tied.solvables v h in (s, represents_grow a c v (Solvable s) grows f));
+  digits = λ i v h. represents_grow a c v (Bit name i) grows (tied.digits i v h);
   room = tied.room;
   few = tied.few;
   once = tied.once;
-  told = λ place i v u at f below. (
+  by_digits = λ place i v u at f below. (
       let (s, there) = tied.solvables v (get_contains t.variables place v at) in
-      let one = stands_same c.atoms.keys v (Solvable s) (Solvable u) (stands_grow a c v (Solvable s) grows there) f in
+      let one = represents_same c.atoms.keys v (Solvable s) (Solvable u) (represents_grow a c v (Solvable s) grows there) f in
       let same : s ≡ u = cc in
-      subst (λ (y : S). rules_in c.stated.items (Rule.has_digit y i (digit place i))) same (rules_grow a c grows (Rule.has_digit s i (digit place i)) (tied.told place i v s at there below)));
+      subst (λ (y : S). rules_in c.kinds.items (Rule.has_digit y i (digit place i))) same (rules_grow a c grows (Rule.has_digit s i (digit place i)) (tied.by_digits place i v s at there below)));
 }
 
 -- so does one that has nothing
@@ -57,7 +57,7 @@ tied_none {N} {S} name t c none helpers = record {
   room = (let a : length t.variables ≡ 0 = ap length none in omega arith);
   few = (let a : length t.helpers ≡ 0 = ap length helpers in omega arith);
   once = once_none t.variables none;
-  told = λ place i v s at f below. absurd (nothing place v (subst (λ (xs : List VariableId). slice_get xs place ≡ Some v) none at));
+  by_digits = λ place i v s at f below. absurd (nothing place v (subst (λ (xs : List VariableId). slice_get xs place ≡ Some v) none at));
 }
   where
     nothing : (i : ℕ) (v : VariableId) → slice_get [] i ≡ Some v → ⊥
@@ -65,28 +65,28 @@ tied_none {N} {S} name t c none helpers = record {
 
 -- each digit that clauses encode was encoded before
 abbrev pub KeepsDigits : {N S : Type 0} → SolverState N S → SolverState N S → Type 0
-KeepsDigits {N} {S} a c = (n : ℕ) (name : N) (s : S) (place bit : ℕ) → stated_at c.stated.items n ≡ Some (Digit name s place bit) → stated_at a.stated.items n ≡ Some (Digit name s place bit)
+KeepsDigits {N} {S} a c = (n : ℕ) (name : N) (s : S) (place bit : ℕ) → kind_at c.kinds.items n ≡ Some (Digit name s place bit) → kind_at a.kinds.items n ≡ Some (Digit name s place bit)
 
 -- so it is where no kind was added, or one of another rule
-pub digits_same : {N S : Type 0} (a c : SolverState N S) → c.stated ≡ a.stated → KeepsDigits a c
-digits_same {N} {S} a c e n name s place bit h = subst (λ (xs : Vec (Stated N S) Global). stated_at xs.items n ≡ Some (Digit name s place bit)) e h
+pub digits_same : {N S : Type 0} (a c : SolverState N S) → c.kinds ≡ a.kinds → KeepsDigits a c
+digits_same {N} {S} a c e n name s place bit h = subst (λ (xs : Vec (ClauseKind N S) Global). kind_at xs.items n ≡ Some (Digit name s place bit)) e h
 
-pub digits_more : {N S : Type 0} (x : Stated N S) (a c : SolverState N S) → c.stated.items ≡ a.stated.items ++ x ∷ [] → ((name : N) (s : S) (place bit : ℕ) → x ≡ Digit name s place bit → ⊥) → KeepsDigits a c
-digits_more {N} {S} x a c e other n name s place bit h = elim (get_push a.stated.items x (Digit name s place bit) n (subst (λ (xs : List (Stated N S)). slice_get xs n ≡ Some (Digit name s place bit)) e h)) [
+pub digits_more : {N S : Type 0} (x : ClauseKind N S) (a c : SolverState N S) → c.kinds.items ≡ a.kinds.items ++ x ∷ [] → ((name : N) (s : S) (place bit : ℕ) → x ≡ Digit name s place bit → ⊥) → KeepsDigits a c
+digits_more {N} {S} x a c e other n name s place bit h = elim (get_push a.kinds.items x (Digit name s place bit) n (subst (λ (xs : List (ClauseKind N S)). slice_get xs n ≡ Some (Digit name s place bit)) e h)) [
   | inl old ↦ old
   | inr (last, is) ↦ absurd (other name s place bit (sym is))
 ]
 
 -- places stay where packages and their trackers do
-placed_stays : {N S : Type 0} (r t : Registry N) (a c : SolverState N S) (name : N) (place : ℕ) (s : S) → IsFrontOf r.names.keys t.names.keys → IsFrontOf r.trackers.items t.trackers.items → Grows a c → IsPlaced r a name place s → IsPlaced t c name place s
+placed_stays : {N S : Type 0} (r t : Registry N) (a c : SolverState N S) (name : N) (place : ℕ) (s : S) → IsPrefixOf r.names.keys t.names.keys → IsPrefixOf r.trackers.items t.trackers.items → Grows a c → IsPlaced r a name place s → IsPlaced t c name place s
 placed_stays r t a c name place s names trackers grows h = record {
   number = h.number;
   tracker = h.tracker;
   variable = h.variable;
-  named = front_get r.names.keys t.names.keys h.number name names h.named;
-  tracked = front_get r.trackers.items t.trackers.items h.number h.tracker trackers h.tracked;
-  stands = h.stands;
-  means = stands_grow a c h.variable (Solvable s) grows h.means;
+  named = prefix_get r.names.keys t.names.keys h.number name names h.named;
+  tracked = prefix_get r.trackers.items t.trackers.items h.number h.tracker trackers h.tracked;
+  present = h.present;
+  means = represents_grow a c h.variable (Solvable s) grows h.means;
 }
 
 pub ties_grow : {N S : Type 0} (r : Registry N) (a c : SolverState N S) → Grows a c → KeepsDigits a c → AreTied r a → AreTied r c
@@ -94,20 +94,20 @@ ties_grow r a c grows kept tied = record {
   each = tied.each;
   once = tied.once;
   tied = λ k name t n h. tied_grows name t a c grows (tied.tied k name t n h);
-  placed = λ n name s place bit h. placed_stays r r a c name place s (front_same r.names.keys) (front_same r.trackers.items) grows (tied.placed n name s place bit (kept n name s place bit h));
+  placed = λ n name s place bit h. placed_stays r r a c name place s (prefix_same r.names.keys) (prefix_same r.trackers.items) grows (tied.placed n name s place bit (kept n name s place bit h));
 }
 
 -- registered solvables stay registered
 pub registered_stays : {N S : Type 0} (r : Registry N) (a c : SolverState N S) (name : N) (s : S) → Grows a c → IsRegistered r a name s → IsRegistered r c name s
-registered_stays r a c name s grows (v, f, h) = (v, stands_grow a c v (Solvable s) grows f, h)
+registered_stays r a c name s grows (v, f, h) = (v, represents_grow a c v (Solvable s) grows f, h)
 
 -- no solvable is registered at first
-pub nothing_tied : {N S : Type 0} (r : Registry N) (c : SolverState N S) → r.names.keys ≡ [] → r.trackers.items ≡ [] → c.stated.items ≡ Root ∷ [] → AreTied r c
-nothing_tied {N} {S} r c names trackers stated = record {
+pub nothing_tied : {N S : Type 0} (r : Registry N) (c : SolverState N S) → r.names.keys ≡ [] → r.trackers.items ≡ [] → c.kinds.items ≡ Root ∷ [] → AreTied r c
+nothing_tied {N} {S} r c names trackers kinds = record {
   each = ap length names ∙ sym (ap length trackers);
   once = λ i j x a b. absurd (nothing i x (subst (λ (xs : List N). slice_get xs i ≡ Some x) names a));
   tied = λ k name t n h. absurd (nothing k name (subst (λ (xs : List N). slice_get xs k ≡ Some name) names n));
-  placed = λ n name s place bit h. absurd (no_digit n name s place bit (subst (λ (xs : List (Stated N S)). slice_get xs n ≡ Some (Digit name s place bit)) stated h));
+  placed = λ n name s place bit h. absurd (no_digit n name s place bit (subst (λ (xs : List (ClauseKind N S)). slice_get xs n ≡ Some (Digit name s place bit)) kinds h));
 }
   where
     nothing : (i : ℕ) (x : N) → slice_get [] i ≡ Some x → ⊥
@@ -150,12 +150,12 @@ module _ {N S : Type 0} (name : N) (place : ℕ) (r r1 : Registry N) (a : Solver
 
   old_tracked : (k : ℕ) (m : N) (t : Tracking VariableId) (w : VariableId) → slice_get r1.names.keys k ≡ Some m → slice_get r1.trackers.items k ≡ Some t → Contains t.variables w → IsTracked r m w
   old_tracked k m t w named tracked h = elim (old_or_empty k m t named tracked) [
-    | inl (n, f) ↦ record { place = k; tracker = t; named = n; tracked = f; stands = h }
+    | inl (n, f) ↦ record { place = k; tracker = t; named = n; tracked = f; present = h }
     | inr (none, helpers) ↦ absurd (contains_none w (subst (λ (xs : List VariableId). Contains xs w) none h))
   ]
 
 -- the clause of a tie encodes the digit of its solvable
-pub tie_spells : {N S : Type 0} (name : N) (place : ℕ) (tie : VariableId × VariableId × Bool) (c : SolverState N S) (n : ℕ) → (st : StatesTie name place tie c n) → Spells (origin c.atoms.keys) (clause_at (clauses_of c.search) n) (digit_literals name st.is.solvable st.is.bit tie.2)
+pub tie_spells : {N S : Type 0} (name : N) (place : ℕ) (tie : VariableId × VariableId × Bool) (c : SolverState N S) (n : ℕ) → (st : IsTieClause name place tie c n) → Spells (origin c.atoms.keys) (clause_at (clauses_of c.search) n) (digit_literals name st.is.solvable st.is.bit tie.2)
 tie_spells {N} {S} name place tie c n st = subst (λ (clause : List Signed). Spells (origin c.atoms.keys) clause (digit_literals name st.is.solvable st.is.bit tie.2)) (sym st.clause) (record { only = only; each = each })
   where
     first : Signed
@@ -164,14 +164,14 @@ tie_spells {N} {S} name place tie c n st = subst (λ (clause : List Signed). Spe
     second : Signed
     second = record { variable = tie.1; positive = tie.2 }
 
-    tells : Literal (Atom N S)
-    tells = record { atom = Atom.digit name st.is.bit; positive = tie.2 }
+    is_bit : Literal (Atom N S)
+    is_bit = record { atom = Atom.digit name st.is.bit; positive = tie.2 }
 
     first_means : Means (origin c.atoms.keys) (no tie.0) (minus (Atom.solvable st.is.solvable))
-    first_means = means_atom c.atoms.keys (no tie.0) (Solvable st.is.solvable) st.is.stands
+    first_means = means_atom c.atoms.keys (no tie.0) (Solvable st.is.solvable) st.is.present
 
     second_means : Means (origin c.atoms.keys) (record { variable = tie.1; positive = tie.2 }) (record { atom = Atom.digit name st.is.bit; positive = tie.2 })
-    second_means = means_atom c.atoms.keys (record { variable = tie.1; positive = tie.2 }) (Bit name st.is.bit) st.is.tells
+    second_means = means_atom c.atoms.keys (record { variable = tie.1; positive = tie.2 }) (Bit name st.is.bit) st.is.is_bit
 
     only : (l : Signed) → has (tie_literals tie.0 tie.1 tie.2) l ≡ true → (l ≡ no (record { 0 = 0 })) ⊎ ((0 < l.variable.0) × Contains (digit_literals name st.is.solvable st.is.bit tie.2) (meaning (origin c.atoms.keys) l))
     only l h = elim (has-cons (no tie.0) ((let m : Signed = record { variable = tie.1; positive = tie.2 } in m) ∷ []) l h) [
@@ -207,11 +207,11 @@ module _ {N S : Type 0} (name : N) (s : S) (v : VariableId) (place : ℕ) (r r1 
   named k m h = subst (λ n. slice_get n.keys k ≡ Some m) names h
 
   tied_before : AreTied r1 b
-  tied_before = named_tied name place r r1 a tied places b gives.grows (digits_same a b gives.stated)
+  tied_before = named_tied name place r r1 a tied places b gives.grows (digits_same a b gives.kinds)
 
   -- at the package's place is its new tracker
   at_place : (m : N) (w : Tracking VariableId) → slice_get r2.names.keys place ≡ Some m → slice_get r2.trackers.items place ≡ Some w → (m ≡ name) × (w ≡ u)
-  at_place m w n h = (let x : slice_get r1.names.keys place ≡ Some m = named place m n in let y : slice_get r1.names.keys place ≡ Some name = places.stands in cc, cc)
+  at_place m w n h = (let x : slice_get r1.names.keys place ≡ Some m = named place m n in let y : slice_get r1.names.keys place ≡ Some name = places.present in cc, cc)
 
   renamed : (k : ℕ) (m : N) → slice_get r1.names.keys k ≡ Some m → slice_get r2.names.keys k ≡ Some m
   renamed k m h = subst (λ n. slice_get n.keys k ≡ Some m) (sym names) h
@@ -228,8 +228,8 @@ module _ {N S : Type 0} (name : N) (s : S) (v : VariableId) (place : ℕ) (r r1 
           variable = h.variable;
           named = renamed place m (subst (λ j. slice_get r1.names.keys j ≡ Some m) e h.named);
           tracked = here;
-          stands = front_get t.variables u.variables at h.variable tracks.front (subst (λ (z : Tracking VariableId). slice_get z.variables at ≡ Some h.variable) one h.stands);
-          means = stands_grow b c h.variable (Solvable x) tracks.grows h.means;
+          present = prefix_get t.variables u.variables at h.variable tracks.prefix (subst (λ (z : Tracking VariableId). slice_get z.variables at ≡ Some h.variable) one h.present);
+          means = represents_grow b c h.variable (Solvable x) tracks.grows h.means;
         }
     | inr other ↦ record {
       number = h.number;
@@ -237,17 +237,17 @@ module _ {N S : Type 0} (name : N) (s : S) (v : VariableId) (place : ℕ) (r r1 
       variable = h.variable;
       named = renamed h.number m h.named;
       tracked = others h.number other ∙ h.tracked;
-      stands = h.stands;
-      means = stands_grow b c h.variable (Solvable x) tracks.grows h.means;
+      present = h.present;
+      means = represents_grow b c h.variable (Solvable x) tracks.grows h.means;
     }
   ]
 
   -- a new digit is one of a place of the package's tracker
-  placed_came : (n : ℕ) (m : N) (x : S) (at bit : ℕ) → length b.search.clauses ≤ n → n < length c.search.clauses → stated_at c.stated.items n ≡ Some (Digit m x at bit) → IsPlaced r2 c m at x
-  placed_came n m x at bit low high h =
+  placed_new : (n : ℕ) (m : N) (x : S) (at bit : ℕ) → length b.search.clauses ≤ n → n < length c.search.clauses → kind_at c.kinds.items n ≡ Some (Digit m x at bit) → IsPlaced r2 c m at x
+  placed_new n m x at bit low high h =
       let same : length b.search.clauses ≡ length a.search.clauses = ap length gives.clauses in
-      let (k, tie, stands, st) = tracks.digits n low high in
-      let stated : stated_at c.stated.items n ≡ Some (Digit name st.is.solvable k st.is.bit) = st.stated in
+      let (k, tie, present, st) = tracks.digits n low high in
+      let kinds : kind_at c.kinds.items n ≡ Some (Digit name st.is.solvable k st.is.bit) = st.kinds in
       let one : name ≡ m = cc in
       let it : st.is.solvable ≡ x = cc in
       let there : k ≡ at = cc in
@@ -255,10 +255,10 @@ module _ {N S : Type 0} (name : N) (s : S) (v : VariableId) (place : ℕ) (r r1 
         number = place;
         tracker = u;
         variable = tie.0;
-        named = renamed place name places.stands;
+        named = renamed place name places.present;
         tracked = here;
-        stands = stands;
-        means = st.is.stands;
+        present = present;
+        means = st.is.present;
       })))
 
   tied_after : AreTied r2 c
@@ -271,44 +271,44 @@ module _ {N S : Type 0} (name : N) (s : S) (v : VariableId) (place : ℕ) (r r1 
           subst (λ (z : N). IsTied z w c) (sym x) (subst (λ (z : Tracking VariableId). IsTied name z c) (sym y) tracks.tied)
       | inr other ↦ tied_grows m w b c tracks.grows (tied_before.tied k m w (named k m n) (sym (others k other) ∙ h))
     ];
-    placed = λ n m x at bit h. elim (stated_split b c gives.coding tracks.coding tracks.grows n (Digit m x at bit) h) [
+    placed = λ n m x at bit h. elim (kind_split b c gives.coding tracks.coding tracks.grows n (Digit m x at bit) h) [
       | inl old ↦ placed_after m at x (tied_before.placed n m x at bit old)
-      | inr (low, high) ↦ placed_came n m x at bit low high h
+      | inr (low, high) ↦ placed_new n m x at bit low high h
     ];
   }
 
   in_place : (w : VariableId) → Contains u.variables w → IsTracked r2 name w
-  in_place w h = record { place = place; tracker = u; named = renamed place name places.stands; tracked = here; stands = h }
+  in_place w h = record { place = place; tracker = u; named = renamed place name places.present; tracked = here; present = h }
 
   keeps_tracked : (w : VariableId) → Contains t.variables w → Contains u.variables w
-  keeps_tracked w h = let (k, at) = contains_get t.variables w h in get_contains u.variables k w (front_get t.variables u.variables k w tracks.front at)
+  keeps_tracked w h = let (k, at) = contains_get t.variables w h in get_contains u.variables k w (prefix_get t.variables u.variables k w tracks.prefix at)
 
   tracked_keeps : (m : N) (w : VariableId) → IsTracked r m w → IsTracked r2 m w
   tracked_keeps m w h = elim (same_or_other h.place place) [
     | inl e ↦
-        let n : slice_get r1.names.keys place ≡ Some m = subst (λ j. slice_get r1.names.keys j ≡ Some m) e (front_get r.names.keys r1.names.keys h.place m places.names h.named) in
-        let y : slice_get r1.names.keys place ≡ Some name = places.stands in
+        let n : slice_get r1.names.keys place ≡ Some m = subst (λ j. slice_get r1.names.keys j ≡ Some m) e (prefix_get r.names.keys r1.names.keys h.place m places.names h.named) in
+        let y : slice_get r1.names.keys place ≡ Some name = places.present in
         let same : name ≡ m = cc in
-        let f : slice_get r1.trackers.items place ≡ Some h.tracker = subst (λ j. slice_get r1.trackers.items j ≡ Some h.tracker) e (front_get r.trackers.items r1.trackers.items h.place h.tracker places.trackers h.tracked) in
+        let f : slice_get r1.trackers.items place ≡ Some h.tracker = subst (λ j. slice_get r1.trackers.items j ≡ Some h.tracker) e (prefix_get r.trackers.items r1.trackers.items h.place h.tracker places.trackers h.tracked) in
         let one : h.tracker ≡ t = cc in
-        subst (λ (z : N). IsTracked r2 z w) same (in_place w (keeps_tracked w (subst (λ (z : Tracking VariableId). Contains z.variables w) one h.stands)))
+        subst (λ (z : N). IsTracked r2 z w) same (in_place w (keeps_tracked w (subst (λ (z : Tracking VariableId). Contains z.variables w) one h.present)))
     | inr other ↦ record {
       place = h.place;
       tracker = h.tracker;
-      named = renamed h.place m (front_get r.names.keys r1.names.keys h.place m places.names h.named);
-      tracked = others h.place other ∙ front_get r.trackers.items r1.trackers.items h.place h.tracker places.trackers h.tracked;
-      stands = h.stands;
+      named = renamed h.place m (prefix_get r.names.keys r1.names.keys h.place m places.names h.named);
+      tracked = others h.place other ∙ prefix_get r.trackers.items r1.trackers.items h.place h.tracker places.trackers h.tracked;
+      present = h.present;
     }
   ]
 
   tracked_only : (m : N) (w : VariableId) → IsTracked r2 m w → IsTracked r m w ⊎ ((m ≡ name) × (w ≡ v))
   tracked_only m w h = elim (same_or_other h.place place) [
-    | inr other ↦ inl (old_tracked name place r r1 a tied places h.place m h.tracker w (named h.place m h.named) (sym (others h.place other) ∙ h.tracked) h.stands)
+    | inr other ↦ inl (old_tracked name place r r1 a tied places h.place m h.tracker w (named h.place m h.named) (sym (others h.place other) ∙ h.tracked) h.present)
     | inl e ↦
         let (x, y) = at_place m h.tracker (subst (λ j. slice_get r2.names.keys j ≡ Some m) e h.named) (subst (λ j. slice_get r2.trackers.items j ≡ Some h.tracker) e h.tracked) in
-        elim (tracks.only w (subst (λ (z : Tracking VariableId). Contains z.variables w) y h.stands)) [
+        elim (tracks.only w (subst (λ (z : Tracking VariableId). Contains z.variables w) y h.present)) [
           | inr same ↦ inr (x, same)
-          | inl old ↦ inl (subst (λ (z : N). IsTracked r z w) (sym x) (old_tracked name place r r1 a tied places place name t w places.stands there old))
+          | inl old ↦ inl (subst (λ (z : N). IsTracked r z w) (sym x) (old_tracked name place r r1 a tied places place name t w places.present there old))
         ]
   ]
 
@@ -321,21 +321,21 @@ module _ {N S : Type 0} (name : N) (s : S) (v : VariableId) (place : ℕ) (r r1 
         place = k;
         bit = st.is.bit;
         few = st.is.few;
-        registered = (tie.0, st.is.stands, in_place tie.0 (get_contains u.variables k tie.0 at));
-        stated = st.stated;
+        registered = (tie.0, st.is.present, in_place tie.0 (get_contains u.variables k tie.0 at));
+        kinds = st.kinds;
         spells = subst (λ value. Spells (origin c.atoms.keys) (clause_at (clauses_of c.search) n) (digit_literals name st.is.solvable st.is.bit value)) st.is.value (tie_spells name k tie c n st);
       }
 
   unchanged : IsRegistered r a name s → c ≡ a
   unchanged (w, (k, e, at), h) =
       let first : b ≡ a = gives.same k at in
-      let one : w ≡ v = one_variable b.atoms.keys w v (Solvable s) gives.coding.distinct (stands_grow a b w (Solvable s) gives.grows (k, e, at)) gives.stands in
-      let n : slice_get r1.names.keys h.place ≡ Some name = front_get r.names.keys r1.names.keys h.place name places.names h.named in
-      let f : slice_get r1.trackers.items h.place ≡ Some h.tracker = front_get r.trackers.items r1.trackers.items h.place h.tracker places.trackers h.tracked in
-      let same : h.place ≡ place = places.once tied.once h.place place name n places.stands in
+      let one : w ≡ v = one_variable b.atoms.keys w v (Solvable s) gives.coding.distinct (represents_grow a b w (Solvable s) gives.grows (k, e, at)) gives.present in
+      let n : slice_get r1.names.keys h.place ≡ Some name = prefix_get r.names.keys r1.names.keys h.place name places.names h.named in
+      let f : slice_get r1.trackers.items h.place ≡ Some h.tracker = prefix_get r.trackers.items r1.trackers.items h.place h.tracker places.trackers h.tracked in
+      let same : h.place ≡ place = places.once tied.once h.place place name n places.present in
       let g : slice_get r1.trackers.items place ≡ Some h.tracker = subst (λ j. slice_get r1.trackers.items j ≡ Some h.tracker) same f in
       let is : h.tracker ≡ t = cc in
-      tracks.same (subst (λ (z : VariableId). Contains t.variables z) one (subst (λ (z : Tracking VariableId). Contains z.variables w) is h.stands)) ∙ first
+      tracks.same (subst (λ (z : VariableId). Contains t.variables z) one (subst (λ (z : Tracking VariableId). Contains z.variables w) is h.present)) ∙ first
 
   pub registers_is : Registers name s v r a r2 c
   registers_is = record {
@@ -343,7 +343,7 @@ module _ {N S : Type 0} (name : N) (s : S) (v : VariableId) (place : ℕ) (r r1 
     grows = grows_then a b c gives.grows tracks.grows;
     trail = trail_then a b c gives.trail tracks.trail;
     tied = tied_after;
-    stands = stands_grow b c v (Solvable s) tracks.grows gives.stands;
+    present = represents_grow b c v (Solvable s) tracks.grows gives.present;
     registered = in_place v tracks.tracked;
     keeps = tracked_keeps;
     only = tracked_only;
@@ -352,33 +352,33 @@ module _ {N S : Type 0} (name : N) (s : S) (v : VariableId) (place : ℕ) (r r1 
   }
 
 -- Two registered solvables of one package are the same, or differ in a digit.
-pub told : {N S : Type 0} (r : Registry N) (c : SolverState N S) (name : N) (s t : S) → AreTied r c → IsRegistered r c name s → IsRegistered r c name t → (s ≡ t) ⊎ AreTold (rules_in c.stated.items) s t
-told {N} {S} r c name s t tied (v, f, h) (w, g, k) =
+pub by_digits : {N S : Type 0} (r : Registry N) (c : SolverState N S) (name : N) (s t : S) → AreTied r c → IsRegistered r c name s → IsRegistered r c name t → (s ≡ t) ⊎ DifferInDigit (rules_in c.kinds.items) s t
+by_digits {N} {S} r c name s t tied (v, f, h) (w, g, k) =
     let same : k.place ≡ h.place = tied.once k.place h.place name k.named h.named in
     let there : slice_get r.trackers.items h.place ≡ Some k.tracker = subst (λ j. slice_get r.trackers.items j ≡ Some k.tracker) same k.tracked in
     let here : slice_get r.trackers.items h.place ≡ Some h.tracker = h.tracked in
     let one : k.tracker ≡ h.tracker = cc in
     let is = tied.tied h.place name h.tracker h.named h.tracked in
-    let (i, at) = contains_get h.tracker.variables v h.stands in
-    let (j, bt) = contains_get h.tracker.variables w (subst (λ (z : Tracking VariableId). Contains z.variables w) one k.stands) in
+    let (i, at) = contains_get h.tracker.variables v h.present in
+    let (j, bt) = contains_get h.tracker.variables w (subst (λ (z : Tracking VariableId). Contains z.variables w) one k.present) in
     let low : i < length h.tracker.variables = slice_get_within h.tracker.variables i v at in
     let high : j < length h.tracker.variables = slice_get_within h.tracker.variables j w bt in
     let room : length h.tracker.variables ≤ 2 ^ length h.tracker.helpers = is.room in
-    elim (told_by_digit (length h.tracker.helpers) i j (omega arith) (omega arith)) [
+    elim (differ_in_digit (length h.tracker.helpers) i j (omega arith) (omega arith)) [
       | inl e ↦
           let aligned : slice_get h.tracker.variables j ≡ Some v = subst (λ n. slice_get h.tracker.variables n ≡ Some v) e at in
           let single : v ≡ w = cc in
-          let both = stands_same c.atoms.keys w (Solvable s) (Solvable t) (subst (λ (z : VariableId). StandsFor c.atoms.keys z (Solvable s)) single f) g in
+          let both = represents_same c.atoms.keys w (Solvable s) (Solvable t) (subst (λ (z : VariableId). Represents c.atoms.keys z (Solvable s)) single f) g in
           inl cc
       | inr (bit, below, differs) ↦
           let other : digit j bit ≡ not (digit i bit) = sym (twice (digit j bit)) ∙ ap not (sym differs) in
-          inr (bit, digit i bit, is.told i bit v s at f below, subst (λ b. rules_in c.stated.items (Rule.has_digit t bit b)) other (is.told j bit w t bt g below))
+          inr (bit, digit i bit, is.by_digits i bit v s at f below, subst (λ b. rules_in c.kinds.items (Rule.has_digit t bit b)) other (is.by_digits j bit w t bt g below))
     ]
 
 module _ {N S : Type 0} (r : Registry N) (c : SolverState N S) (name : N) where
   -- a solvable that has a place is registered
   pub placed_registered : (place : ℕ) (s : S) → IsPlaced r c name place s → IsRegistered r c name s
-  placed_registered place s h = (h.variable, h.means, record { place = h.number; tracker = h.tracker; named = h.named; tracked = h.tracked; stands = get_contains h.tracker.variables place h.variable h.stands })
+  placed_registered place s h = (h.variable, h.means, record { place = h.number; tracker = h.tracker; named = h.named; tracked = h.tracked; present = get_contains h.tracker.variables place h.variable h.present })
 
   -- the package has one tracker
   one_tracker : {p q : ℕ} {s t : S} → AreTied r c → (h : IsPlaced r c name p s) → (k : IsPlaced r c name q t) → k.tracker ≡ h.tracker
@@ -392,17 +392,17 @@ module _ {N S : Type 0} (r : Registry N) (c : SolverState N S) (name : N) where
   pub one_place : (p q : ℕ) (s : S) → IsCoding c → AreTied r c → IsPlaced r c name p s → IsPlaced r c name q s → p ≡ q
   one_place p q s coding tied h k =
       let one : k.tracker ≡ h.tracker = one_tracker tied h k in
-      let is : k.variable ≡ h.variable = stands_once c k.variable h.variable (Solvable s) coding k.means h.means in
-      let at : slice_get h.tracker.variables q ≡ Some k.variable = subst (λ (z : Tracking VariableId). slice_get z.variables q ≡ Some k.variable) one k.stands in
-      (tied.tied h.number name h.tracker h.named h.tracked).once p q h.variable h.stands (at ∙ ap Some is)
+      let is : k.variable ≡ h.variable = represents_once c k.variable h.variable (Solvable s) coding k.means h.means in
+      let at : slice_get h.tracker.variables q ≡ Some k.variable = subst (λ (z : Tracking VariableId). slice_get z.variables q ≡ Some k.variable) one k.present in
+      (tied.tied h.number name h.tracker h.named h.tracked).once p q h.variable h.present (at ∙ ap Some is)
 
   pub one_solvable : (p : ℕ) (s t : S) → AreTied r c → IsPlaced r c name p s → IsPlaced r c name p t → s ≡ t
   one_solvable p s t tied h k =
       let one : k.tracker ≡ h.tracker = one_tracker tied h k in
-      let at : slice_get h.tracker.variables p ≡ Some k.variable = subst (λ (z : Tracking VariableId). slice_get z.variables p ≡ Some k.variable) one k.stands in
-      let here : slice_get h.tracker.variables p ≡ Some h.variable = h.stands in
+      let at : slice_get h.tracker.variables p ≡ Some k.variable = subst (λ (z : Tracking VariableId). slice_get z.variables p ≡ Some k.variable) one k.present in
+      let here : slice_get h.tracker.variables p ≡ Some h.variable = h.present in
       let is : h.variable ≡ k.variable = cc in
-      let both = stands_same c.atoms.keys k.variable (Solvable s) (Solvable t) (subst (λ (z : VariableId). StandsFor c.atoms.keys z (Solvable s)) is h.means) k.means in
+      let both = represents_same c.atoms.keys k.variable (Solvable s) (Solvable t) (subst (λ (z : VariableId). Represents c.atoms.keys z (Solvable s)) is h.means) k.means in
       cc
 
 -- a clause that encodes a digit makes no solvable true
@@ -418,31 +418,31 @@ digit_denies {N} {S} r c name n l s d h (other, m) = elim (d.spells.only l h) [
 module _ {N S : Type 0} (name : N) (s : S) (v : VariableId) (r : Registry N) (old : SolverState N S) (t : Registry N) (new : SolverState N S) (registers : Registers name s v r old t new) where
   -- the solvable is registered
   pub registered_now : IsRegistered t new name s
-  registered_now = (v, registers.stands, registers.registered)
+  registered_now = (v, registers.present, registers.registered)
 
   -- those that were stay registered
   pub registered_keeps : (m : N) (u : S) → IsRegistered r old m u → IsRegistered t new m u
-  registered_keeps m u (w, f, h) = (w, stands_grow old new w (Solvable u) registers.grows f, registers.keeps m w h)
+  registered_keeps m u (w, f, h) = (w, represents_grow old new w (Solvable u) registers.grows f, registers.keeps m w h)
 
   -- and no other one is
   pub registered_only : AreTied r old → (m : N) (u : S) → IsRegistered t new m u → IsRegistered r old m u ⊎ ((m ≡ name) × (u ≡ s))
   registered_only tied m u (w, f, h) = elim (registers.only m w h) [
     | inl k ↦
-        let (x, g) = (tied.tied k.place m k.tracker k.named k.tracked).solvables w k.stands in
-        let one = stands_same new.atoms.keys w (Solvable x) (Solvable u) (stands_grow old new w (Solvable x) registers.grows g) f in
+        let (x, g) = (tied.tied k.place m k.tracker k.named k.tracked).solvables w k.present in
+        let one = represents_same new.atoms.keys w (Solvable x) (Solvable u) (represents_grow old new w (Solvable x) registers.grows g) f in
         let same : x ≡ u = cc in
-        inl (w, subst (λ (y : S). StandsFor old.atoms.keys w (Solvable y)) same g, k)
+        inl (w, subst (λ (y : S). Represents old.atoms.keys w (Solvable y)) same g, k)
     | inr (n, e) ↦
-        let one = stands_same new.atoms.keys v (Solvable u) (Solvable s) (subst (λ (z : VariableId). StandsFor new.atoms.keys z (Solvable u)) e f) registers.stands in
+        let one = represents_same new.atoms.keys v (Solvable u) (Solvable s) (subst (λ (z : VariableId). Represents new.atoms.keys z (Solvable u)) e f) registers.present in
         inr (n, cc)
   ]
 
 -- A clause that encodes a digit spells its rule, where the package's registered solvables are the
 -- package's.
 pub digit_spelled : {N S : Type 0} (same : S → S → Bool) (p : Packages N S) (r : Registry N) (c : SolverState N S) (name : N) (n : ℕ) (rule : Rule N S) → ((s : S) → IsRegistered r c name s → p.package_of s ≡ name)
-    → IsDigitClause r c name n → rule_at c.stated.items n ≡ Some rule → Spells (origin c.atoms.keys) (clause_at (clauses_of c.search) n) (literals_of same p rule)
+    → IsDigitClause r c name n → rule_at c.kinds.items n ≡ Some rule → Spells (origin c.atoms.keys) (clause_at (clauses_of c.search) n) (literals_of same p rule)
 digit_spelled {N} {S} same p r c name n rule own d h =
-    let said = rule_stated c.stated.items n (Digit name d.solvable d.place d.bit) d.stated in
+    let kind_is = rule_at_kind c.kinds.items n (Digit name d.solvable d.place d.bit) d.kinds in
     let is : Rule.has_digit d.solvable d.bit (digit d.place d.bit) ≡ rule = cc in
     subst (λ (x : Rule N S). Spells (origin c.atoms.keys) (clause_at (clauses_of c.search) n) (literals_of same p x)) is
     (subst (λ (m : N). Spells (origin c.atoms.keys) (clause_at (clauses_of c.search) n) (digit_literals m d.solvable d.bit (digit d.place d.bit))) (sym (own d.solvable d.registered)) d.spells)

@@ -1,35 +1,35 @@
 -- Lemmas on the rules that clauses encode.
 use Rattle.std.proofs.Common.{◌≡◌, ℕ, zero, suc, Bool, List, [], ◌∷◌, Some, refl, sym, ◌∙◌, ap}
-use Rattle.resolvo_store_core.specs.AtMostOne.{IsFrontOf, digit}
+use Rattle.resolvo_store_core.specs.AtMostOne.{IsPrefixOf, digit}
 use Rattle.resolvo_soundness.specs.Encoding.{Rule}
-use Rattle.resolvo_state.specs.declared.clause_kind.Stated.{Stated}
-use Rattle.resolvo_state.specs.declared.clause_kind.Stated.TheVariants.{Root, Needs, Gated, Shared, Limits, LimitsOutside, IsOut, Locked, Excluded, Digit, IsThere, Learnt}
-use Rattle.resolvo_state.specs.Statements.{rule_of, stated_at, rule_at, rules_in}
-use Rattle.resolvo_state.proofs.Positions.{front_get}
+use Rattle.resolvo_state.specs.declared.clause_kind.ClauseKind.{ClauseKind}
+use Rattle.resolvo_state.specs.declared.clause_kind.ClauseKind.TheVariants.{Root, Needs, Gated, Shared, Limits, LimitsOutside, IsOut, Locked, Excluded, Digit, IsThere, Learnt}
+use Rattle.resolvo_state.specs.ClauseKinds.{rule_of, kind_at, rule_at, rules_in}
+use Rattle.resolvo_state.proofs.Positions.{prefix_get}
 
 -- the rule of a clause is that of its kind
-pub rule_stated : {N S : Type 0} (stated : List (Stated N S)) (n : ℕ) (x : Stated N S) → stated_at stated n ≡ Some x → rule_at stated n ≡ rule_of x
-rule_stated [] n x h = absurd cc
-rule_stated (y ∷ stated) zero x h = let e : y ≡ x = cc in ap rule_of e
-rule_stated (y ∷ stated) (suc n) x h = rule_stated stated n x h
+pub rule_at_kind : {N S : Type 0} (kinds : List (ClauseKind N S)) (n : ℕ) (x : ClauseKind N S) → kind_at kinds n ≡ Some x → rule_at kinds n ≡ rule_of x
+rule_at_kind [] n x h = absurd cc
+rule_at_kind (y ∷ kinds) zero x h = let e : y ≡ x = cc in ap rule_of e
+rule_at_kind (y ∷ kinds) (suc n) x h = rule_at_kind kinds n x h
 
-pub stated_rule : {N S : Type 0} (stated : List (Stated N S)) (n : ℕ) (r : Rule N S) → rule_at stated n ≡ Some r → (x : Stated N S) × (stated_at stated n ≡ Some x) × (rule_of x ≡ Some r)
-stated_rule [] n r h = absurd cc
-stated_rule (y ∷ stated) zero r h = (y, refl, h)
-stated_rule (y ∷ stated) (suc n) r h = stated_rule stated n r h
+pub kind_of_rule : {N S : Type 0} (kinds : List (ClauseKind N S)) (n : ℕ) (r : Rule N S) → rule_at kinds n ≡ Some r → (x : ClauseKind N S) × (kind_at kinds n ≡ Some x) × (rule_of x ≡ Some r)
+kind_of_rule [] n r h = absurd cc
+kind_of_rule (y ∷ kinds) zero r h = (y, refl, h)
+kind_of_rule (y ∷ kinds) (suc n) r h = kind_of_rule kinds n r h
 
 -- appended kinds change no rule
-pub rule_front : {N S : Type 0} (stated more : List (Stated N S)) (n : ℕ) (r : Rule N S) → IsFrontOf stated more → rule_at stated n ≡ Some r → rule_at more n ≡ Some r
-rule_front stated more n r f h = let (x, at, is) = stated_rule stated n r h in rule_stated more n x (front_get stated more n x f at) ∙ is
+pub rule_prefix : {N S : Type 0} (kinds more : List (ClauseKind N S)) (n : ℕ) (r : Rule N S) → IsPrefixOf kinds more → rule_at kinds n ≡ Some r → rule_at more n ≡ Some r
+rule_prefix kinds more n r f h = let (x, at, is) = kind_of_rule kinds n r h in rule_at_kind more n x (prefix_get kinds more n x f at) ∙ is
 
-pub rules_front : {N S : Type 0} (stated more : List (Stated N S)) (r : Rule N S) → IsFrontOf stated more → rules_in stated r → rules_in more r
-rules_front stated more r f (n, h) = (n, rule_front stated more n r f h)
+pub rules_prefix : {N S : Type 0} (kinds more : List (ClauseKind N S)) (r : Rule N S) → IsPrefixOf kinds more → rules_in kinds r → rules_in more r
+rules_prefix kinds more r f (n, h) = (n, rule_prefix kinds more n r f h)
 
 -- a clause that encodes a digit encodes that of a place
-pub digit_stated : {N S : Type 0} (stated : List (Stated N S)) (n : ℕ) (s : S) (bit : ℕ) (b : Bool) → rule_at stated n ≡ Some (Rule.has_digit s bit b) → (name : N) × (place : ℕ) × (stated_at stated n ≡ Some (Digit name s place bit)) × (b ≡ digit place bit)
-digit_stated {N} {S} stated n s bit b h = let (x, at, is) = stated_rule stated n (Rule.has_digit s bit b) h in go x at is
+pub digit_kind : {N S : Type 0} (kinds : List (ClauseKind N S)) (n : ℕ) (s : S) (bit : ℕ) (b : Bool) → rule_at kinds n ≡ Some (Rule.has_digit s bit b) → (name : N) × (place : ℕ) × (kind_at kinds n ≡ Some (Digit name s place bit)) × (b ≡ digit place bit)
+digit_kind {N} {S} kinds n s bit b h = let (x, at, is) = kind_of_rule kinds n (Rule.has_digit s bit b) h in go x at is
   where
-    go : (x : Stated N S) → stated_at stated n ≡ Some x → rule_of x ≡ Some (Rule.has_digit s bit b) → (name : N) × (place : ℕ) × (stated_at stated n ≡ Some (Digit name s place bit)) × (b ≡ digit place bit)
+    go : (x : ClauseKind N S) → kind_at kinds n ≡ Some x → rule_of x ≡ Some (Rule.has_digit s bit b) → (name : N) × (place : ℕ) × (kind_at kinds n ≡ Some (Digit name s place bit)) × (b ≡ digit place bit)
     go Root at is = absurd cc
     go (Needs parent need case) at is = absurd cc
     go (Gated t r) at is = absurd cc
@@ -42,7 +42,7 @@ digit_stated {N} {S} stated n s bit b h = let (x, at, is) = stated_rule stated n
     go (Digit name t place k) at is =
         let one : t ≡ s = cc in
         let same : k ≡ bit = cc in
-        let told : digit place k ≡ b = cc in
-        (name, place, at ∙ (λ i. Some (Digit name (one i) place (same i))), sym told ∙ ap (digit place) same)
+        let by_digits : digit place k ≡ b = cc in
+        (name, place, at ∙ (λ i. Some (Digit name (one i) place (same i))), sym by_digits ∙ ap (digit place) same)
     go (IsThere name t) at is = absurd cc
     go Learnt at is = absurd cc

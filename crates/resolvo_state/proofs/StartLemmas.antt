@@ -16,14 +16,14 @@ use Rattle.resolvo_sat.specs.Begin.{Begun, IsRootClause, AddsVariable}
 use Rattle.resolvo_sat.proofs.Literals.{has-cons}
 use Rattle.resolvo_sat.proofs.Readiness.{ready_same, covered_same}
 use Rattle.resolvo_state.specs.declared.atom.ProofAtom.{ProofAtom}
-use Rattle.resolvo_state.specs.declared.clause_kind.Stated.{Stated}
-use Rattle.resolvo_state.specs.declared.clause_kind.Stated.TheVariants.{Root, Learnt}
+use Rattle.resolvo_state.specs.declared.clause_kind.ClauseKind.{ClauseKind}
+use Rattle.resolvo_state.specs.declared.clause_kind.ClauseKind.TheVariants.{Root, Learnt}
 use Rattle.resolvo_state.specs.declared.solver_state.SolverState.{SolverState}
-use Rattle.resolvo_state.specs.Atoms.{kind_of, StandsFor}
+use Rattle.resolvo_state.specs.Atoms.{kind_of, Represents}
 use Rattle.resolvo_state.specs.Keys.{IsPlace, AreOnce}
-use Rattle.resolvo_state.specs.Statements.{stated_at}
+use Rattle.resolvo_state.specs.ClauseKinds.{kind_at}
 use Rattle.resolvo_state.specs.SolverState.{IsCoding, IsBegun, Gives}
-use Rattle.resolvo_state.proofs.Positions.{get_last, once_none, once_push, front_same, front_equal}
+use Rattle.resolvo_state.proofs.Positions.{get_last, once_none, once_push, prefix_same, prefix_equal}
 use Rattle.resolvo_state.proofs.Origins.{count_is}
 
 one_clause : (cs : List SatClause) → IsRootClause cs → length cs ≡ 1
@@ -38,33 +38,33 @@ root_only (c ∷ []) (is, none) l a = elim (has-cons (yes root_variable) [] l (s
 root_only (c ∷ d ∷ cs) h l a = absurd h
 
 -- the root's clause has the only kind in the list
-root_alone : {N S : Type 0} (stated : List (Stated N S)) (n : ℕ) (x : Stated N S) → stated ≡ Root ∷ [] → stated_at stated n ≡ Some x → (n ≡ 0) × (x ≡ Root)
-root_alone {N} {S} stated n x e h = go n (subst (λ (xs : List (Stated N S)). stated_at xs n ≡ Some x) e h)
+root_alone : {N S : Type 0} (kinds : List (ClauseKind N S)) (n : ℕ) (x : ClauseKind N S) → kinds ≡ Root ∷ [] → kind_at kinds n ≡ Some x → (n ≡ 0) × (x ≡ Root)
+root_alone {N} {S} kinds n x e h = go n (subst (λ (xs : List (ClauseKind N S)). kind_at xs n ≡ Some x) e h)
   where
-    alone : List (Stated N S)
+    alone : List (ClauseKind N S)
     alone = Root ∷ []
 
-    go : (k : ℕ) → stated_at (Root ∷ []) k ≡ Some x → (k ≡ 0) × (x ≡ Root)
+    go : (k : ℕ) → kind_at (Root ∷ []) k ≡ Some x → (k ≡ 0) × (x ≡ Root)
     go zero i = (refl, cc)
     go (suc k) i = absurd cc
 
-pub begun_is : {N S : Type 0} (c : SolverState N S) → Begun c.search c.watching → c.atoms.keys ≡ [] → c.stated.items ≡ Root ∷ [] → IsBegun c
+pub begun_is : {N S : Type 0} (c : SolverState N S) → Begun c.search c.watching → c.atoms.keys ≡ [] → c.kinds.items ≡ Root ∷ [] → IsBegun c
 begun_is {N} {S} c begun none alone = record {
   coding = record {
     ready = begun.ready;
     covered = begun.covered;
-    kinds = begun.variables ∙ sym (ap (λ (atoms : List (ProofAtom N S)). Kinds.Root ∷ map kind_of atoms) none);
+    variable_kinds = begun.variables ∙ sym (ap (λ (atoms : List (ProofAtom N S)). Kinds.Root ∷ map kind_of atoms) none);
     each = ap length alone ∙ sym (one_clause c.search.clauses begun.clause);
     distinct = once_none c.atoms.keys none;
-    learnt = λ n clause h is. (let (z, e) = root_alone c.stated.items n Learnt alone h in absurd cc);
-    apart = λ n clause h is. (let (z, e) = root_alone c.stated.items n Learnt alone h in absurd cc);
-    drawn = λ n clause h is l a. (let (z, e) = root_alone c.stated.items n Learnt alone h in absurd cc);
-    first = ap (λ (xs : List (Stated N S)). stated_at xs 0) alone;
-    rooted = λ n h. (root_alone c.stated.items n Root alone h).0;
+    learnt = λ n clause h is. (let (z, e) = root_alone c.kinds.items n Learnt alone h in absurd cc);
+    apart = λ n clause h is. (let (z, e) = root_alone c.kinds.items n Learnt alone h in absurd cc);
+    drawn = λ n clause h is l a. (let (z, e) = root_alone c.kinds.items n Learnt alone h in absurd cc);
+    first = ap (λ (xs : List (ClauseKind N S)). kind_at xs 0) alone;
+    rooted = λ n h. (root_alone c.kinds.items n Root alone h).0;
     alone = root_only c.search.clauses begun.clause;
   };
   atoms = none;
-  stated = alone;
+  kinds = alone;
   clause = begun.clause;
   trail = begun.trail;
   base_level = begun.base_level;
@@ -76,52 +76,52 @@ map_push f (y ∷ xs) x = ap (λ zs. f y ∷ zs) (map_push f xs x)
 
 -- a variable of an atom that had none
 pub gives_added : {N S : Type 0} (a : ProofAtom N S) (v : VariableId) (old new : SolverState N S) → IsCoding old → IsPlace old.atoms.keys a None
-    → AddsVariable (kind_of a) v old.search new.search → new.watching ≡ old.watching → new.atoms.keys ≡ old.atoms.keys ++ a ∷ [] → new.stated ≡ old.stated → Gives a v old new
-gives_added {N} {S} a v old new coding fresh adds watching pushed stated = record {
+    → AddsVariable (kind_of a) v old.search new.search → new.watching ≡ old.watching → new.atoms.keys ≡ old.atoms.keys ++ a ∷ [] → new.kinds ≡ old.kinds → Gives a v old new
+gives_added {N} {S} a v old new coding fresh adds watching pushed kinds = record {
   coding = record {
-    ready = subst (λ (w : WatchLists). IsReady new.search w) (sym watching) (ready_same old.search new.search old.watching coding.ready adds.state adds.clauses adds.tracker adds.front adds.guard);
+    ready = subst (λ (w : WatchLists). IsReady new.search w) (sym watching) (ready_same old.search new.search old.watching coding.ready adds.state adds.clauses adds.tracker adds.qhead adds.guard);
     covered = subst (λ (w : WatchLists). AreCovered new.search w) (sym watching) (covered_same old.search new.search old.watching coding.covered adds.clauses);
-    kinds = adds.variables ∙ ap (λ (kinds : List VariableKind). kinds ++ kind_of a ∷ []) coding.kinds ∙ sym (ap (λ (atoms : List (ProofAtom N S)). Kinds.Root ∷ map kind_of atoms) pushed ∙ ap (λ (kinds : List VariableKind). Kinds.Root ∷ kinds) (map_push kind_of old.atoms.keys a));
-    each = ap (λ (xs : Vec (Stated N S) Global). length xs.items) stated ∙ coding.each ∙ sym (ap length adds.clauses);
+    variable_kinds = adds.variables ∙ ap (λ (variable_kinds : List VariableKind). variable_kinds ++ kind_of a ∷ []) coding.variable_kinds ∙ sym (ap (λ (atoms : List (ProofAtom N S)). Kinds.Root ∷ map kind_of atoms) pushed ∙ ap (λ (variable_kinds : List VariableKind). Kinds.Root ∷ variable_kinds) (map_push kind_of old.atoms.keys a));
+    each = ap (λ (xs : Vec (ClauseKind N S) Global). length xs.items) kinds ∙ coding.each ∙ sym (ap length adds.clauses);
     distinct = subst (λ (atoms : List (ProofAtom N S)). AreOnce atoms) (sym pushed) (once_push old.atoms.keys a coding.distinct fresh);
     learnt = λ n clause h is. coding.learnt n clause (same n Learnt h) (subst (λ (cs : List SatClause). slice_get cs n ≡ Some clause) adds.clauses is);
     apart = λ n clause h is. coding.apart n clause (same n Learnt h) (subst (λ (cs : List SatClause). slice_get cs n ≡ Some clause) adds.clauses is);
     drawn = λ n clause h is l a. (
         let (m, before, there) = coding.drawn n clause (same n Learnt h) (subst (λ (cs : List SatClause). slice_get cs n ≡ Some clause) adds.clauses is) l a in
         (m, before, subst (λ (cs : List SatClause). has (clause_at (lists cs) m) l ≡ true) (sym adds.clauses) there));
-    first = ap (λ (xs : Vec (Stated N S) Global). stated_at xs.items 0) stated ∙ coding.first;
+    first = ap (λ (xs : Vec (ClauseKind N S) Global). kind_at xs.items 0) kinds ∙ coding.first;
     rooted = λ n h. coding.rooted n (same n Root h);
     alone = λ l a. coding.alone l (subst (λ (cs : List SatClause). has (clause_at (lists cs) 0) l ≡ true) adds.clauses a);
   };
-  stands = (length old.atoms.keys, place, subst (λ (atoms : List (ProofAtom N S)). slice_get atoms (length old.atoms.keys) ≡ Some a) (sym pushed) (get_last old.atoms.keys a));
+  present = (length old.atoms.keys, place, subst (λ (atoms : List (ProofAtom N S)). slice_get atoms (length old.atoms.keys) ≡ Some a) (sym pushed) (get_last old.atoms.keys a));
   same = λ k at. absurd (fresh k at);
   added = λ h. pushed;
   grows = record {
     atoms = (a ∷ [], pushed);
-    clauses = front_equal old.search.clauses new.search.clauses adds.clauses;
-    stated = front_equal old.stated.items new.stated.items (ap (λ (xs : Vec (Stated N S) Global). xs.items) stated);
+    clauses = prefix_equal old.search.clauses new.search.clauses adds.clauses;
+    kinds = prefix_equal old.kinds.items new.kinds.items (ap (λ (xs : Vec (ClauseKind N S) Global). xs.items) kinds);
     base_level = adds.base_level;
   };
   trail = record { tracker = adds.tracker };
   clauses = adds.clauses;
-  stated = stated;
+  kinds = kinds;
 }
   where
-    same : (n : ℕ) (x : Stated N S) → stated_at new.stated.items n ≡ Some x → stated_at old.stated.items n ≡ Some x
-    same n x h = ap (λ (xs : Vec (Stated N S) Global). stated_at xs.items n) (sym stated) ∙ h
+    same : (n : ℕ) (x : ClauseKind N S) → kind_at new.kinds.items n ≡ Some x → kind_at old.kinds.items n ≡ Some x
+    same n x h = ap (λ (xs : Vec (ClauseKind N S) Global). kind_at xs.items n) (sym kinds) ∙ h
 
     place : v.0 ≡ suc (length old.atoms.keys)
     place = adds.number ∙ count_is old coding
 
 -- an atom that has its variable
-pub gives_found : {N S : Type 0} (a : ProofAtom N S) (v : VariableId) (c : SolverState N S) → IsCoding c → StandsFor c.atoms.keys v a → Gives a v c c
+pub gives_found : {N S : Type 0} (a : ProofAtom N S) (v : VariableId) (c : SolverState N S) → IsCoding c → Represents c.atoms.keys v a → Gives a v c c
 gives_found a v c coding (k, e, at) = record {
   coding = coding;
-  stands = (k, e, at);
+  present = (k, e, at);
   same = λ j bt. refl;
   added = λ none. absurd (none k at);
-  grows = record { atoms = front_same c.atoms.keys; clauses = front_same c.search.clauses; stated = front_same c.stated.items; base_level = refl };
+  grows = record { atoms = prefix_same c.atoms.keys; clauses = prefix_same c.search.clauses; kinds = prefix_same c.kinds.items; base_level = refl };
   trail = record { tracker = refl };
   clauses = refl;
-  stated = refl;
+  kinds = refl;
 }

@@ -17,17 +17,17 @@ use Rattle.resolvo_sat.proofs.Clauses.{length-lists}
 use Rattle.resolvo_sat.proofs.StepLemmas.{lists-append, clause_at_end}
 use Rattle.resolvo_soundness.specs.Encoding.{Rule}
 use Rattle.resolvo_state.specs.declared.atom.ProofAtom.TheVariants.{Solvable, Bit}
-use Rattle.resolvo_state.specs.declared.clause_kind.Stated.{Stated}
-use Rattle.resolvo_state.specs.declared.clause_kind.Stated.TheVariants.{Digit}
+use Rattle.resolvo_state.specs.declared.clause_kind.ClauseKind.{ClauseKind}
+use Rattle.resolvo_state.specs.declared.clause_kind.ClauseKind.TheVariants.{Digit}
 use Rattle.resolvo_state.specs.declared.solver_state.SolverState.{SolverState}
-use Rattle.resolvo_state.specs.Atoms.{StandsFor, solvable_of, bit_of}
-use Rattle.resolvo_state.specs.Statements.{stated_at, rules_in}
-use Rattle.resolvo_state.specs.SolverState.{IsCoding, Grows, States}
-use Rattle.resolvo_state.specs.Registered.{IsTie, place_from, StatesTie, StatesOne, StatesAll}
-use Rattle.resolvo_state.proofs.Positions.{get_front, get_last, get_push}
-use Rattle.resolvo_state.proofs.Origins.{stands_solvable, stands_same, bit_stands}
-use Rattle.resolvo_state.proofs.Rules.{rule_stated}
-use Rattle.resolvo_state.proofs.Growth.{grows_same, grows_then, trail_same, trail_then, stands_grow, stated_grows, clause_grows, below_or_not}
+use Rattle.resolvo_state.specs.Atoms.{Represents, solvable_of, bit_of}
+use Rattle.resolvo_state.specs.ClauseKinds.{kind_at, rules_in}
+use Rattle.resolvo_state.specs.SolverState.{IsCoding, Grows, AddsRule}
+use Rattle.resolvo_state.specs.Registered.{IsTie, place_from, IsTieClause, AddsTie, AddsTies}
+use Rattle.resolvo_state.proofs.Positions.{get_in_prefix, get_last, get_push}
+use Rattle.resolvo_state.proofs.Origins.{represents_solvable, represents_same, bit_represents}
+use Rattle.resolvo_state.proofs.Rules.{rule_at_kind}
+use Rattle.resolvo_state.proofs.Growth.{grows_same, grows_then, trail_same, trail_then, represents_grow, kind_grows, clause_grows, below_or_not}
 
 abbrev Tie : Type 0
 Tie = VariableId × VariableId × Bool
@@ -44,27 +44,27 @@ two_literals xs ys zs a l v w b none first second is other =
     ∙ ap (λ (x : Signed). no v ∷ x ∷ []) (other ∙ ap (λ c. let m : Signed = record { variable = w; positive = c } in m) (not_not b))
 
 -- the clause of a tie was added
-pub tie_stated : {N S : Type 0} (name : N) (place : ℕ) (tie : Tie) (old new : SolverState N S) (s : S) (bit : ℕ) (id : ClauseId) (literals : List Signed) → IsCoding old → IsTie name old.atoms.keys place tie
-    → solvable_of old.atoms.keys tie.0.0 ≡ Some s → bit_of old.atoms.keys tie.1.0 ≡ Some bit → literals ≡ tie_literals tie.0 tie.1 tie.2 → States (Digit name s place bit) literals id old new → StatesOne name place tie old new
-tie_stated {N} {S} name place tie old new s bit id literals coding is solvable known_bit spelled states = record {
-  coding = states.coding;
-  grows = states.grows;
-  trail = states.trail;
-  atoms = states.atoms;
-  states = record { is = there; stated = said; clause = clause };
-  one = ap length states.added ∙ length-append old.search.clauses (states.clause ∷ []);
+pub tie_added : {N S : Type 0} (name : N) (place : ℕ) (tie : Tie) (old new : SolverState N S) (s : S) (bit : ℕ) (id : ClauseId) (literals : List Signed) → IsCoding old → IsTie name old.atoms.keys place tie
+    → solvable_of old.atoms.keys tie.0.0 ≡ Some s → bit_of old.atoms.keys tie.1.0 ≡ Some bit → literals ≡ tie_literals tie.0 tie.1 tie.2 → AddsRule (Digit name s place bit) literals id old new → AddsTie name place tie old new
+tie_added {N} {S} name place tie old new s bit id literals coding is solvable known_bit spelled added_rule = record {
+  coding = added_rule.coding;
+  grows = added_rule.grows;
+  trail = added_rule.trail;
+  atoms = added_rule.atoms;
+  added_rule = record { is = there; kinds = kind_is; clause = clause };
+  one = ap length added_rule.added ∙ length-append old.search.clauses (added_rule.clause ∷ []);
 }
   where
     same_bit : is.bit ≡ bit
-    same_bit = let known = bit_stands old.atoms.keys tie.1 name is.bit is.tells in cc
+    same_bit = let known = bit_represents old.atoms.keys tie.1 name is.bit is.is_bit in cc
 
     here : IsTie name old.atoms.keys place tie
     here = record {
       solvable = s;
       bit = bit;
       few = subst (λ k. k < 32) same_bit is.few;
-      stands = stands_solvable old.atoms.keys tie.0 s solvable;
-      tells = subst (λ k. StandsFor old.atoms.keys tie.1 (Bit name k)) same_bit is.tells;
+      present = represents_solvable old.atoms.keys tie.0 s solvable;
+      is_bit = subst (λ k. Represents old.atoms.keys tie.1 (Bit name k)) same_bit is.is_bit;
       value = is.value ∙ ap (digit place) same_bit;
     }
 
@@ -73,21 +73,21 @@ tie_stated {N} {S} name place tie old new s bit id literals coding is solvable k
       solvable = s;
       bit = bit;
       few = here.few;
-      stands = stands_grow old new tie.0 (Solvable s) states.grows here.stands;
-      tells = stands_grow old new tie.1 (Bit name bit) states.grows here.tells;
+      present = represents_grow old new tie.0 (Solvable s) added_rule.grows here.present;
+      is_bit = represents_grow old new tie.1 (Bit name bit) added_rule.grows here.is_bit;
       value = here.value;
     }
 
-    said : stated_at new.stated.items (length old.search.clauses) ≡ Some (Digit name s place bit)
-    said = subst (λ k. stated_at new.stated.items k ≡ Some (Digit name s place bit)) coding.each (subst (λ (xs : List (Stated N S)). stated_at xs (length old.stated.items) ≡ Some (Digit name s place bit)) (sym states.stated) (get_last old.stated.items (Digit name s place bit)))
+    kind_is : kind_at new.kinds.items (length old.search.clauses) ≡ Some (Digit name s place bit)
+    kind_is = subst (λ k. kind_at new.kinds.items k ≡ Some (Digit name s place bit)) coding.each (subst (λ (xs : List (ClauseKind N S)). kind_at xs (length old.kinds.items) ≡ Some (Digit name s place bit)) (sym added_rule.kinds) (get_last old.kinds.items (Digit name s place bit)))
 
     clause : clause_at (clauses_of new.search) (length old.search.clauses) ≡ tie_literals tie.0 tie.1 tie.2
     clause =
-        ap (λ (cs : List SatClause). clause_at (lists cs) (length old.search.clauses)) states.added
-        ∙ ap (λ (ls : List (List Signed)). clause_at ls (length old.search.clauses)) (lists-append old.search.clauses (states.clause ∷ []))
-        ∙ ap (λ k. clause_at (lists old.search.clauses ++ states.clause.literals.items ∷ []) k) (sym (length-lists old.search.clauses))
-        ∙ clause_at_end (lists old.search.clauses) states.clause.literals.items
-        ∙ states.literals ∙ spelled
+        ap (λ (cs : List SatClause). clause_at (lists cs) (length old.search.clauses)) added_rule.added
+        ∙ ap (λ (ls : List (List Signed)). clause_at ls (length old.search.clauses)) (lists-append old.search.clauses (added_rule.clause ∷ []))
+        ∙ ap (λ k. clause_at (lists old.search.clauses ++ added_rule.clause.literals.items ∷ []) k) (sym (length-lists old.search.clauses))
+        ∙ clause_at_end (lists old.search.clauses) added_rule.clause.literals.items
+        ∙ added_rule.literals ∙ spelled
 
 -- a tie stays one
 pub tie_grows : {N S : Type 0} (name : N) (place : ℕ) (tie : Tie) (old new : SolverState N S) → Grows old new → IsTie name old.atoms.keys place tie → IsTie name new.atoms.keys place tie
@@ -95,21 +95,21 @@ tie_grows name place tie old new grows t = record {
   solvable = t.solvable;
   bit = t.bit;
   few = t.few;
-  stands = stands_grow old new tie.0 (Solvable t.solvable) grows t.stands;
-  tells = stands_grow old new tie.1 (Bit name t.bit) grows t.tells;
+  present = represents_grow old new tie.0 (Solvable t.solvable) grows t.present;
+  is_bit = represents_grow old new tie.1 (Bit name t.bit) grows t.is_bit;
   value = t.value;
 }
 
 -- and stays encoded
-pub tie_stays : {N S : Type 0} (name : N) (place : ℕ) (tie : Tie) (old new : SolverState N S) (n : ℕ) → Grows old new → n < length old.search.clauses → StatesTie name place tie old n → StatesTie name place tie new n
+pub tie_stays : {N S : Type 0} (name : N) (place : ℕ) (tie : Tie) (old new : SolverState N S) (n : ℕ) → Grows old new → n < length old.search.clauses → IsTieClause name place tie old n → IsTieClause name place tie new n
 unfolding tie_grows
 tie_stays name place tie old new n grows below t = record {
   is = tie_grows name place tie old new grows t.is;
-  stated = stated_grows old new grows n (Digit name t.is.solvable place t.is.bit) t.stated;
+  kinds = kind_grows old new grows n (Digit name t.is.solvable place t.is.bit) t.kinds;
   clause = clause_grows old new grows n below ∙ t.clause;
 }
 
-pub all_none : {N S : Type 0} (name : N) (first last : ℕ) (c : SolverState N S) → IsCoding c → StatesAll name [] first last c c
+pub all_none : {N S : Type 0} (name : N) (first last : ℕ) (c : SolverState N S) → IsCoding c → AddsTies name [] first last c c
 all_none name first last c coding = record {
   coding = coding;
   grows = grows_same c;
@@ -124,7 +124,7 @@ all_none name first last c coding = record {
     nothing i tie h = absurd cc
 
 -- one tie more
-pub all_more : {N S : Type 0} (name : N) (ties : List Tie) (first last : ℕ) (tie : Tie) (a b c : SolverState N S) → StatesAll name ties first last a b → StatesOne name (place_from first last (length ties)) tie b c → StatesAll name (ties ++ tie ∷ []) first last a c
+pub all_more : {N S : Type 0} (name : N) (ties : List Tie) (first last : ℕ) (tie : Tie) (a b c : SolverState N S) → AddsTies name ties first last a b → AddsTie name (place_from first last (length ties)) tie b c → AddsTies name (ties ++ tie ∷ []) first last a c
 all_more name ties first last tie a b c all one = record {
   coding = one.coding;
   grows = grows_then a b c all.grows one.grows;
@@ -135,28 +135,28 @@ all_more name ties first last tie a b c all one = record {
     | inr (e, is) ↦ (
       length b.search.clauses,
       (let more : length c.search.clauses ≡ length b.search.clauses + 1 = one.one in omega arith),
-      subst (λ k. StatesTie name (place_from first last k) x c (length b.search.clauses)) (sym e) (subst (λ (y : Tie). StatesTie name (place_from first last (length ties)) y c (length b.search.clauses)) (sym is) one.states),
+      subst (λ k. IsTieClause name (place_from first last k) x c (length b.search.clauses)) (sym e) (subst (λ (y : Tie). IsTieClause name (place_from first last (length ties)) y c (length b.search.clauses)) (sym is) one.added_rule),
     )
   ];
   only = λ n low below. elim (below_or_not n (length b.search.clauses)) [
-    | inl old ↦ let (i, x, at, t) = all.only n low old in (i, x, get_front ties (tie ∷ []) i x at, tie_stays name (place_from first last i) x b c n one.grows old t)
+    | inl old ↦ let (i, x, at, t) = all.only n low old in (i, x, get_in_prefix ties (tie ∷ []) i x at, tie_stays name (place_from first last i) x b c n one.grows old t)
     | inr past ↦
         let more : length c.search.clauses ≡ length b.search.clauses + 1 = one.one in
         let end : length b.search.clauses ≡ n = omega arith in
-        (length ties, tie, get_last ties tie, subst (λ k. StatesTie name (place_from first last (length ties)) tie c k) end one.states)
+        (length ties, tie, get_last ties tie, subst (λ k. IsTieClause name (place_from first last (length ties)) tie c k) end one.added_rule)
   ];
   same = λ e. (let long : length (ties ++ tie ∷ []) ≡ 0 = ap length e in let more : length (ties ++ tie ∷ []) ≡ length ties + 1 = length-append ties (tie ∷ []) in absurd (omega arith));
 }
 
 -- the rule of a tie that a clause encodes
-pub tie_rule : {N S : Type 0} (name : N) (place : ℕ) (tie : Tie) (c : SolverState N S) (n : ℕ) (s : S) (i : ℕ) → StatesTie name place tie c n → StandsFor c.atoms.keys tie.0 (Solvable s) → StandsFor c.atoms.keys tie.1 (Bit name i) → rules_in c.stated.items (Rule.has_digit s i tie.2)
-tie_rule name place tie c n s i t stands tells =
-    let first = stands_same c.atoms.keys tie.0 (Solvable t.is.solvable) (Solvable s) t.is.stands stands in
-    let second = stands_same c.atoms.keys tie.1 (Bit name t.is.bit) (Bit name i) t.is.tells tells in
+pub tie_rule : {N S : Type 0} (name : N) (place : ℕ) (tie : Tie) (c : SolverState N S) (n : ℕ) (s : S) (i : ℕ) → IsTieClause name place tie c n → Represents c.atoms.keys tie.0 (Solvable s) → Represents c.atoms.keys tie.1 (Bit name i) → rules_in c.kinds.items (Rule.has_digit s i tie.2)
+tie_rule name place tie c n s i t present is_bit =
+    let first = represents_same c.atoms.keys tie.0 (Solvable t.is.solvable) (Solvable s) t.is.present present in
+    let second = represents_same c.atoms.keys tie.1 (Bit name t.is.bit) (Bit name i) t.is.is_bit is_bit in
     let one : t.is.solvable ≡ s = cc in
     let bit : t.is.bit ≡ i = cc in
     let value = sym t.is.value in
-    (n, rule_stated c.stated.items n (Digit name t.is.solvable place t.is.bit) t.stated ∙ (λ j. Some (Rule.has_digit (one j) (bit j) (value j))))
+    (n, rule_at_kind c.kinds.items n (Digit name t.is.solvable place t.is.bit) t.kinds ∙ (λ j. Some (Rule.has_digit (one j) (bit j) (value j))))
 
 -- the places go on up to the last one
 pub first_from : (first last : ℕ) → first ≤ last → first ≡ place_from first last 0
@@ -180,12 +180,12 @@ tie_next name ties first last i d place a b grows below e are =
     subst (λ k. IsTie name b.atoms.keys k (get_or ties i d)) (sym e) (tie_grows name (place_from first last i) (get_or ties i d) a b grows (are i (get_or ties i d) (slice_get-get_or ties i d below)))
 
 pub all_next : {N S : Type 0} (name : N) (ties : List Tie) (first last i : ℕ) (d : Tie) (place : ℕ) (a b c : SolverState N S) → i < length ties → place ≡ place_from first last i
-    → StatesAll name (take i ties) first last a b → StatesOne name place (get_or ties i d) b c → StatesAll name (take (i + 1) ties) first last a c
+    → AddsTies name (take i ties) first last a b → AddsTie name place (get_or ties i d) b c → AddsTies name (take (i + 1) ties) first last a c
 all_next name ties first last i d place a b c below e all one =
     let long : length (take i ties) ≡ i = length-take-le i ties (let h : i ≤ length ties = omega arith in h) in
     let at : place ≡ place_from first last (length (take i ties)) = e ∙ ap (place_from first last) (sym long) in
-    subst (λ (xs : List Tie). StatesAll name xs first last a c) (sym (take_more ties i d below))
-    (all_more name (take i ties) first last (get_or ties i d) a b c all (subst (λ k. StatesOne name k (get_or ties i d) b c) at one))
+    subst (λ (xs : List Tie). AddsTies name xs first last a c) (sym (take_more ties i d below))
+    (all_more name (take i ties) first last (get_or ties i d) a b c all (subst (λ k. AddsTie name k (get_or ties i d) b c) at one))
 
-pub all_done : {N S : Type 0} (name : N) (ties : List Tie) (first last i : ℕ) (a b : SolverState N S) → length ties ≤ i → StatesAll name (take i ties) first last a b → StatesAll name ties first last a b
-all_done name ties first last i a b past all = subst (λ (xs : List Tie). StatesAll name xs first last a b) (take_all i ties past) all
+pub all_done : {N S : Type 0} (name : N) (ties : List Tie) (first last i : ℕ) (a b : SolverState N S) → length ties ≤ i → AddsTies name (take i ties) first last a b → AddsTies name ties first last a b
+all_done name ties first last i a b past all = subst (λ (xs : List Tie). AddsTies name xs first last a b) (take_all i ties past) all

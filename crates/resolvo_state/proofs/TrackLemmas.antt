@@ -15,13 +15,13 @@ use Rattle.resolvo_soundness.specs.Encoding.{Rule}
 use Rattle.resolvo_soundness.proofs.Lists.{contains_one, contains_parts, contains_left, contains_right, contains_only, contains_first, contains_later, contains_map, any_contained, contained_any}
 use Rattle.resolvo_state.specs.declared.atom.ProofAtom.TheVariants.{Solvable, Bit}
 use Rattle.resolvo_state.specs.declared.solver_state.SolverState.{SolverState}
-use Rattle.resolvo_state.specs.Atoms.{StandsFor}
-use Rattle.resolvo_state.specs.Statements.{rules_in}
+use Rattle.resolvo_state.specs.Atoms.{Represents}
+use Rattle.resolvo_state.specs.ClauseKinds.{rules_in}
 use Rattle.resolvo_state.specs.SolverState.{IsCoding}
-use Rattle.resolvo_state.specs.Registered.{same_variable, IsTied, first_of, place_from, IsTie, StatesAll, GivesDigit, Tracks}
-use Rattle.resolvo_state.proofs.Positions.{get_front, get_last, get_push, get_parts, get_mapped, get_contains, contains_get, get_below, front_same, once_push}
-use Rattle.resolvo_state.proofs.Origins.{stands_same}
-use Rattle.resolvo_state.proofs.Growth.{grows_same, grows_then, trail_same, trail_then, stands_grow, stands_in_range, rules_grow, below_or_not}
+use Rattle.resolvo_state.specs.Registered.{same_variable, IsTied, first_of, place_from, IsTie, AddsTies, GivesDigit, Tracks}
+use Rattle.resolvo_state.proofs.Positions.{get_in_prefix, get_last, get_push, get_parts, get_mapped, get_contains, contains_get, get_below, prefix_same, once_push}
+use Rattle.resolvo_state.proofs.Origins.{represents_same}
+use Rattle.resolvo_state.proofs.Growth.{grows_same, grows_then, trail_same, trail_then, represents_grow, represents_in_range, rules_grow, below_or_not}
 use Rattle.resolvo_state.proofs.TieLemmas.{tie_rule}
 
 abbrev Tie : Type 0
@@ -41,16 +41,16 @@ ties_at k x (w ∷ vs) (suc i) tie h = ties_at (k / 2) x vs i tie h
 
 -- the tie's variable is at the place, and its helper is a digit of that
 record IsTieAt (xs vs : List VariableId) (place : ℕ) (tie : Tie) : Type 0 where
-  stands : slice_get xs place ≡ Some tie.0
+  present : slice_get xs place ≡ Some tie.0
   bit : ℕ
-  tells : slice_get vs bit ≡ Some tie.1
+  is_bit : slice_get vs bit ≡ Some tie.1
   value : tie.2 ≡ digit place bit
 
 -- a tie of the new variable
 own_at : (xs vs more : List VariableId) (x : VariableId) (i : ℕ) (tie : Tie) → slice_get (ties (length xs) x vs) i ≡ Some tie → IsTieAt (xs ++ x ∷ []) (vs ++ more) (length xs) tie
 own_at xs vs more x i tie h =
     let (e, at, value) = ties_at (length xs) x vs i tie h in
-    record { stands = get_last xs x ∙ ap Some (sym e); bit = i; tells = get_front vs more i tie.1 at; value = value }
+    record { present = get_last xs x ∙ ap Some (sym e); bit = i; is_bit = get_in_prefix vs more i tie.1 at; value = value }
 
 -- each new tie is of the place of a tracked variable, or of the new one
 all_at : (xs vs : List VariableId) (x : VariableId) (o : Option VariableId) (i : ℕ) (tie : Tie) → length xs ≤ 2 ^ length vs → (is_some o ≡ true → length xs ≡ 2 ^ length vs) → slice_get (tie_all xs vs x o) i ≡ Some tie
@@ -65,9 +65,9 @@ all_at xs vs x (Some v) i tie few full h = elim (get_parts (map (λ (y : Variabl
       let place : min (0 + i) (length xs) ≡ i = min-eq_left (let b : 0 + i ≤ length xs = omega arith in b) ∙ (let b : 0 + i ≡ i = omega arith in b) in
       let none : digit i (length vs) ≡ false = digit_below (length vs) i (omega arith) in
       subst (λ k. IsTieAt (xs ++ x ∷ []) (vs ++ v ∷ []) k tie) (sym place) (record {
-        stands = get_front xs (x ∷ []) i y at ∙ ap (λ (t : Tie). Some t.0) e;
+        present = get_in_prefix xs (x ∷ []) i y at ∙ ap (λ (t : Tie). Some t.0) e;
         bit = length vs;
-        tells = get_last vs v ∙ ap (λ (t : Tie). Some t.1) e;
+        is_bit = get_last vs v ∙ ap (λ (t : Tie). Some t.1) e;
         value = sym (ap (λ (t : Tie). t.2) e) ∙ sym none;
       })
   | inr (j, e, b) ↦
@@ -78,18 +78,18 @@ all_at xs vs x (Some v) i tie few full h = elim (get_parts (map (λ (y : Variabl
         | inr (at, is) ↦
             let one : digit (length xs) (length vs) ≡ true = ap (λ n. digit n (length vs)) (full refl) ∙ digit_power (length vs) in
             record {
-              stands = get_last xs x ∙ ap (λ (t : Tie). Some t.0) (sym is);
+              present = get_last xs x ∙ ap (λ (t : Tie). Some t.0) (sym is);
               bit = length vs;
-              tells = get_last vs v ∙ ap (λ (t : Tie). Some t.1) (sym is);
+              is_bit = get_last vs v ∙ ap (λ (t : Tie). Some t.1) (sym is);
               value = ap (λ (t : Tie). t.2) is ∙ sym one;
             }
       ])
 ]
 
 -- there is a tie for each place and the new digit
-all_tell : (xs vs : List VariableId) (x : VariableId) (o : Option VariableId) (i : ℕ) (v : VariableId) → length xs ≤ 2 ^ length vs → (is_some o ≡ true → length xs ≡ 2 ^ length vs) → slice_get (vs ++ option_to_list o) i ≡ Some v → Contains (tie_all xs vs x o) (x, v, digit (length xs) i)
-all_tell xs vs x None i v few full h = has_ties (length xs) x vs i v (subst (λ (ws : List VariableId). slice_get ws i ≡ Some v) (append-nil vs) h)
-all_tell xs vs x (Some w) i v few full h =
+tie_of_each : (xs vs : List VariableId) (x : VariableId) (o : Option VariableId) (i : ℕ) (v : VariableId) → length xs ≤ 2 ^ length vs → (is_some o ≡ true → length xs ≡ 2 ^ length vs) → slice_get (vs ++ option_to_list o) i ≡ Some v → Contains (tie_all xs vs x o) (x, v, digit (length xs) i)
+tie_of_each xs vs x None i v few full h = has_ties (length xs) x vs i v (subst (λ (ws : List VariableId). slice_get ws i ≡ Some v) (append-nil vs) h)
+tie_of_each xs vs x (Some w) i v few full h =
     contains_right (x, v, digit (length xs) i) (map (λ (y : VariableId). let t : Tie = (y, w, false) in t) xs) (ties (length xs) x vs ++ (x, w, true) ∷ []) (elim (get_push vs w v i h) [
       | inl a ↦ contains_left (x, v, digit (length xs) i) (ties (length xs) x vs) ((x, w, true) ∷ []) (has_ties (length xs) x vs i v a)
       | inr (e, same) ↦
@@ -98,8 +98,8 @@ all_tell xs vs x (Some w) i v few full h =
     ])
 
 -- so there is for each old place and the new digit
-old_tell : (xs vs : List VariableId) (x w : VariableId) (place : ℕ) (y : VariableId) → length xs ≤ 2 ^ length vs → slice_get xs place ≡ Some y → Contains (tie_all xs vs x (Some w)) (y, w, digit place (length vs))
-old_tell xs vs x w place y few h =
+tie_of_old : (xs vs : List VariableId) (x w : VariableId) (place : ℕ) (y : VariableId) → length xs ≤ 2 ^ length vs → slice_get xs place ≡ Some y → Contains (tie_all xs vs x (Some w)) (y, w, digit place (length vs))
+tie_of_old xs vs x w place y few h =
     let within : place < length xs = slice_get_within xs place y h in
     let none : digit place (length vs) ≡ false = digit_below (length vs) place (omega arith) in
     contains_left (y, w, digit place (length vs)) (map (λ (u : VariableId). let t : Tie = (u, w, false) in t) xs) (ties (length xs) x vs ++ (x, w, true) ∷ [])
@@ -127,8 +127,8 @@ few_tracked {N} {S} name t c coding tied =
     into : (i : ℕ) → i < length t.variables → number_in (slice_get t.variables i) < count_of c.search
     into i below =
         let (v, at) = get_below t.variables i below in
-        let (s, stands) = tied.solvables v (get_contains t.variables i v at) in
-        subst (λ n. n < count_of c.search) (sym (ap number_in at)) (stands_in_range c v (Solvable s) coding stands)
+        let (s, present) = tied.solvables v (get_contains t.variables i v at) in
+        subst (λ n. n < count_of c.search) (sym (ap number_in at)) (represents_in_range c v (Solvable s) coding present)
 
     one : (i j : ℕ) → i < length t.variables → j < length t.variables → number_in (slice_get t.variables i) ≡ number_in (slice_get t.variables j) → i ≡ j
     one i j low high e =
@@ -162,21 +162,21 @@ room_more t x (Some v) few full =
     let low : 1 ≤ 2 ^ length t.helpers = one_or_more (length t.helpers) in
     omega arith
 
-module _ {N S : Type 0} (name : N) (x : VariableId) (s : S) (t : Tracking VariableId) (o : Option VariableId) (a b : SolverState N S) (tied : IsTied name t a) (stands : StandsFor a.atoms.keys x (Solvable s)) (given : GivesDigit name (length t.helpers) o a b) where
-  longer_solvables : (v : VariableId) → Contains (t.variables ++ x ∷ []) v → (u : S) × StandsFor b.atoms.keys v (Solvable u)
+module _ {N S : Type 0} (name : N) (x : VariableId) (s : S) (t : Tracking VariableId) (o : Option VariableId) (a b : SolverState N S) (tied : IsTied name t a) (present : Represents a.atoms.keys x (Solvable s)) (given : GivesDigit name (length t.helpers) o a b) where
+  longer_solvables : (v : VariableId) → Contains (t.variables ++ x ∷ []) v → (u : S) × Represents b.atoms.keys v (Solvable u)
   longer_solvables v h = elim (contains_parts v t.variables (x ∷ []) h) [
-    | inl c ↦ let (u, f) = tied.solvables v c in (u, stands_grow a b v (Solvable u) given.grows f)
-    | inr c ↦ (s, stands_grow a b v (Solvable s) given.grows (subst (λ (w : VariableId). StandsFor a.atoms.keys w (Solvable s)) (sym (contains_one v x c)) stands))
+    | inl c ↦ let (u, f) = tied.solvables v c in (u, represents_grow a b v (Solvable u) given.grows f)
+    | inr c ↦ (s, represents_grow a b v (Solvable s) given.grows (subst (λ (w : VariableId). Represents a.atoms.keys w (Solvable s)) (sym (contains_one v x c)) present))
   ]
 
-  longer_digits : (i : ℕ) (v : VariableId) → slice_get (t.helpers ++ option_to_list o) i ≡ Some v → StandsFor b.atoms.keys v (Bit name i)
-  longer_digits i v h = go o given.stands h
+  longer_digits : (i : ℕ) (v : VariableId) → slice_get (t.helpers ++ option_to_list o) i ≡ Some v → Represents b.atoms.keys v (Bit name i)
+  longer_digits i v h = go o given.present h
     where
-      go : (q : Option VariableId) → ((w : VariableId) → q ≡ Some w → StandsFor b.atoms.keys w (Bit name (length t.helpers))) → slice_get (t.helpers ++ option_to_list q) i ≡ Some v → StandsFor b.atoms.keys v (Bit name i)
-      go None f g = stands_grow a b v (Bit name i) given.grows (tied.digits i v (subst (λ (ws : List VariableId). slice_get ws i ≡ Some v) (append-nil t.helpers) g))
+      go : (q : Option VariableId) → ((w : VariableId) → q ≡ Some w → Represents b.atoms.keys w (Bit name (length t.helpers))) → slice_get (t.helpers ++ option_to_list q) i ≡ Some v → Represents b.atoms.keys v (Bit name i)
+      go None f g = represents_grow a b v (Bit name i) given.grows (tied.digits i v (subst (λ (ws : List VariableId). slice_get ws i ≡ Some v) (append-nil t.helpers) g))
       go (Some w) f g = elim (get_push t.helpers w v i g) [
-        | inl at ↦ stands_grow a b v (Bit name i) given.grows (tied.digits i v at)
-        | inr (e, same) ↦ subst (λ k. StandsFor b.atoms.keys v (Bit name k)) (sym e) (subst (λ (u : VariableId). StandsFor b.atoms.keys u (Bit name (length t.helpers))) (sym same) (f w refl))
+        | inl at ↦ represents_grow a b v (Bit name i) given.grows (tied.digits i v at)
+        | inr (e, same) ↦ subst (λ k. Represents b.atoms.keys v (Bit name k)) (sym e) (subst (λ (u : VariableId). Represents b.atoms.keys u (Bit name (length t.helpers))) (sym same) (f w refl))
       ]
 
   -- the helpers stay few
@@ -197,26 +197,26 @@ module _ {N S : Type 0} (name : N) (x : VariableId) (s : S) (t : Tracking Variab
   ties_are : IsCoding a → (is_some o ≡ true → length t.variables ≡ 2 ^ length t.helpers) → (i : ℕ) (tie : Tie) → slice_get (tie_all t.variables t.helpers x o) i ≡ Some tie → IsTie name b.atoms.keys (place_from (first_of o (length t.variables)) (length t.variables) i) tie
   ties_are coding full i tie h =
       let q = all_at t.variables t.helpers x o i tie tied.room full h in
-      let within : q.bit < length (t.helpers ++ option_to_list o) = slice_get_within (t.helpers ++ option_to_list o) q.bit tie.1 q.tells in
+      let within : q.bit < length (t.helpers ++ option_to_list o) = slice_get_within (t.helpers ++ option_to_list o) q.bit tie.1 q.is_bit in
       let few : length (t.helpers ++ option_to_list o) < 32 = few_more coding full in
-      let (u, f) = longer_solvables tie.0 (get_contains (t.variables ++ x ∷ []) _ tie.0 q.stands) in
-      record { solvable = u; bit = q.bit; few = omega arith; stands = f; tells = longer_digits q.bit tie.1 q.tells; value = q.value }
+      let (u, f) = longer_solvables tie.0 (get_contains (t.variables ++ x ∷ []) _ tie.0 q.present) in
+      record { solvable = u; bit = q.bit; few = omega arith; present = f; is_bit = longer_digits q.bit tie.1 q.is_bit; value = q.value }
 
   -- a helper was added where the helpers distinguished no more places
-  come_full : (q : Bool) → is_some o ≡ (not q && (length t.variables == 2 ^ length t.helpers)) → is_some o ≡ true → length t.variables ≡ 2 ^ length t.helpers
-  come_full true n some = absurd (both_ways _ n some)
-  come_full false n some = eqb-true (length t.variables) (2 ^ length t.helpers) (sym n ∙ some)
+  full_at_new : (q : Bool) → is_some o ≡ (not q && (length t.variables == 2 ^ length t.helpers)) → is_some o ≡ true → length t.variables ≡ 2 ^ length t.helpers
+  full_at_new true n some = absurd (both_ways _ n some)
+  full_at_new false n some = eqb-true (length t.variables) (2 ^ length t.helpers) (sym n ∙ some)
 
   -- with a variable ties are added, of the places one after another
-  pub come_ties : IsCoding a → (ts : List Tie) (first last : ℕ) → is_some o ≡ needs_helper same_variable t x → first ≡ first_of o last → last ≡ length t.variables → ts ≡ new_ties same_variable t x o
+  pub new_are_ties : IsCoding a → (ts : List Tie) (first last : ℕ) → is_some o ≡ needs_helper same_variable t x → first ≡ first_of o last → last ≡ length t.variables → ts ≡ new_ties same_variable t x o
       → (i : ℕ) (tie : Tie) → slice_get ts i ≡ Some tie → IsTie name b.atoms.keys (place_from first last i) tie
-  come_ties coding ts first last needed begins ends e i tie h =
+  new_are_ties coding ts first last needed begins ends e i tie h =
       subst (λ k. IsTie name b.atoms.keys (place_from k last i) tie) (sym begins) (subst (λ k. IsTie name b.atoms.keys (place_from (first_of o k) k i) tie) (sym ends)
       (go (among same_variable t x) needed (subst (λ (us : List Tie). slice_get us i ≡ Some tie) e h)))
     where
       go : (q : Bool) → is_some o ≡ (not q && (length t.variables == 2 ^ length t.helpers)) → slice_get (cond q [] (tie_all t.variables t.helpers x o)) i ≡ Some tie → IsTie name b.atoms.keys (place_from (first_of o (length t.variables)) (length t.variables) i) tie
       go true n f = absurd cc
-      go false n f = ties_are coding (come_full false n) i tie f
+      go false n f = ties_are coding (full_at_new false n) i tie f
 
   pub first_within : (first last : ℕ) → first ≡ first_of o last → first ≤ last
   first_within first last e = go o e
@@ -225,36 +225,36 @@ module _ {N S : Type 0} (name : N) (x : VariableId) (s : S) (t : Tracking Variab
       go None f = let same : first ≡ last = f in omega arith
       go (Some v) f = let same : first ≡ 0 = f in omega arith
 
-  module _ (c : SolverState N S) (all : StatesAll name (tie_all t.variables t.helpers x o) (first_of o (length t.variables)) (length t.variables) b c) (full : is_some o ≡ (length t.variables == 2 ^ length t.helpers)) where
-    tie_told : (v w : VariableId) (place : ℕ) (u : S) (i : ℕ) → Contains (tie_all t.variables t.helpers x o) (v, w, digit place i) → StandsFor c.atoms.keys v (Solvable u) → StandsFor c.atoms.keys w (Bit name i) → rules_in c.stated.items (Rule.has_digit u i (digit place i))
-    tie_told v w place u i h f g =
+  module _ (c : SolverState N S) (all : AddsTies name (tie_all t.variables t.helpers x o) (first_of o (length t.variables)) (length t.variables) b c) (full : is_some o ≡ (length t.variables == 2 ^ length t.helpers)) where
+    tie_encoded : (v w : VariableId) (place : ℕ) (u : S) (i : ℕ) → Contains (tie_all t.variables t.helpers x o) (v, w, digit place i) → Represents c.atoms.keys v (Solvable u) → Represents c.atoms.keys w (Bit name i) → rules_in c.kinds.items (Rule.has_digit u i (digit place i))
+    tie_encoded v w place u i h f g =
         let (j, at) = contains_get (tie_all t.variables t.helpers x o) (v, w, digit place i) h in
         let (n, below, st) = all.each j (v, w, digit place i) at in
         tie_rule name _ (v, w, digit place i) c n u i st f g
 
     -- an old variable, by an old digit or the new one
-    old_told : (place i : ℕ) (v w : VariableId) (u : S) → slice_get t.variables place ≡ Some v → StandsFor c.atoms.keys v (Solvable u) → slice_get (t.helpers ++ option_to_list o) i ≡ Some w → StandsFor c.atoms.keys w (Bit name i) → rules_in c.stated.items (Rule.has_digit u i (digit place i))
-    old_told place i v w u at f wt g = elim (below_or_not i (length t.helpers)) [
+    old_encoded : (place i : ℕ) (v w : VariableId) (u : S) → slice_get t.variables place ≡ Some v → Represents c.atoms.keys v (Solvable u) → slice_get (t.helpers ++ option_to_list o) i ≡ Some w → Represents c.atoms.keys w (Bit name i) → rules_in c.kinds.items (Rule.has_digit u i (digit place i))
+    old_encoded place i v w u at f wt g = elim (below_or_not i (length t.helpers)) [
       | inl below ↦
           let (r, there) = tied.solvables v (get_contains t.variables place v at) in
           let grows = grows_then a b c given.grows all.grows in
-          let one = stands_same c.atoms.keys v (Solvable r) (Solvable u) (stands_grow a c v (Solvable r) grows there) f in
+          let one = represents_same c.atoms.keys v (Solvable r) (Solvable u) (represents_grow a c v (Solvable r) grows there) f in
           let same : r ≡ u = cc in
-          subst (λ (y : S). rules_in c.stated.items (Rule.has_digit y i (digit place i))) same (rules_grow a c grows (Rule.has_digit r i (digit place i)) (tied.told place i v r at there below))
+          subst (λ (y : S). rules_in c.kinds.items (Rule.has_digit y i (digit place i))) same (rules_grow a c grows (Rule.has_digit r i (digit place i)) (tied.by_digits place i v r at there below))
       | inr past ↦ go o refl past wt
     ]
       where
-        go : (q : Option VariableId) → o ≡ q → length t.helpers ≤ i → slice_get (t.helpers ++ option_to_list q) i ≡ Some w → rules_in c.stated.items (Rule.has_digit u i (digit place i))
+        go : (q : Option VariableId) → o ≡ q → length t.helpers ≤ i → slice_get (t.helpers ++ option_to_list q) i ≡ Some w → rules_in c.kinds.items (Rule.has_digit u i (digit place i))
         go None e past h =
             let within : i < length t.helpers = slice_get_within t.helpers i w (subst (λ (ws : List VariableId). slice_get ws i ≡ Some w) (append-nil t.helpers) h) in
             absurd (omega arith)
         go (Some r) e past h = elim (get_push t.helpers r w i h) [
           | inl old ↦ let within : i < length t.helpers = slice_get_within t.helpers i w old in absurd (omega arith)
           | inr (here, same) ↦
-              let there = old_tell t.variables t.helpers x r place v tied.room at in
+              let there = tie_of_old t.variables t.helpers x r place v tied.room at in
               let moved = subst (λ (y : VariableId). Contains (tie_all t.variables t.helpers x (Some r)) (v, y, digit place (length t.helpers))) (sym same) there in
               let placed = subst (λ k. Contains (tie_all t.variables t.helpers x (Some r)) (v, w, digit place k)) (sym here) moved in
-              tie_told v w place u i (subst (λ (y : Option VariableId). Contains (tie_all t.variables t.helpers x y) (v, w, digit place i)) (sym e) placed) f g
+              tie_encoded v w place u i (subst (λ (y : Option VariableId). Contains (tie_all t.variables t.helpers x y) (v, w, digit place i)) (sym e) placed) f g
         ]
 
     unseen : among same_variable t x ≡ false → (k : ℕ) → slice_get t.variables k ≡ Some x → ⊥
@@ -262,20 +262,20 @@ module _ {N S : Type 0} (name : N) (x : VariableId) (s : S) (t : Tracking Variab
 
     tied_more : IsCoding a → among same_variable t x ≡ false → IsTied name (longer t x o) c
     tied_more coding fresh = record {
-      solvables = λ v h. (let (u, f) = longer_solvables v h in (u, stands_grow b c v (Solvable u) all.grows f));
-      digits = λ i v h. stands_grow b c v (Bit name i) all.grows (longer_digits i v h);
+      solvables = λ v h. (let (u, f) = longer_solvables v h in (u, represents_grow b c v (Solvable u) all.grows f));
+      digits = λ i v h. represents_grow b c v (Bit name i) all.grows (longer_digits i v h);
       room = room_more t x o tied.room full;
-      few = few_more coding (come_full false full);
+      few = few_more coding (full_at_new false full);
       once = once_push t.variables x tied.once (unseen fresh);
-      told = λ place i v u at f below. (
+      by_digits = λ place i v u at f below. (
           let (w, wt) = get_below (t.helpers ++ option_to_list o) i below in
-          let g = stands_grow b c w (Bit name i) all.grows (longer_digits i w wt) in
+          let g = represents_grow b c w (Bit name i) all.grows (longer_digits i w wt) in
           elim (get_push t.variables x v place at) [
-            | inl old ↦ old_told place i v w u old f wt g
+            | inl old ↦ old_encoded place i v w u old f wt g
             | inr (e, same) ↦
-                let there = all_tell t.variables t.helpers x o i w tied.room (λ some. eqb-true (length t.variables) (2 ^ length t.helpers) (sym full ∙ some)) wt in
+                let there = tie_of_each t.variables t.helpers x o i w tied.room (λ some. eqb-true (length t.variables) (2 ^ length t.helpers) (sym full ∙ some)) wt in
                 let moved = subst (λ (y : VariableId). Contains (tie_all t.variables t.helpers x o) (y, w, digit (length t.variables) i)) (sym same) there in
-                tie_told v w place u i (subst (λ k. Contains (tie_all t.variables t.helpers x o) (v, w, digit k i)) (sym e) moved) f g
+                tie_encoded v w place u i (subst (λ k. Contains (tie_all t.variables t.helpers x o) (v, w, digit k i)) (sym e) moved) f g
           ]);
     }
 
@@ -286,12 +286,12 @@ module _ {N S : Type 0} (name : N) (x : VariableId) (s : S) (t : Tracking Variab
       trail = trail_then a b c given.trail all.trail;
       tied = tied_more coding fresh;
       tracked = contains_right x t.variables (x ∷ []) (contains_only x);
-      front = (x ∷ [], refl);
+      prefix = (x ∷ [], refl);
       only = λ w h. elim (contains_parts w t.variables (x ∷ []) h) [ inl i ↦ inl i | inr i ↦ inr (contains_one w x i) ];
       digits = λ n low below. (
           let same : length b.search.clauses ≡ length a.search.clauses = ap length given.clauses in
           let (i, tie, at, st) = all.only n (omega arith) below in
-          (place_from (first_of o (length t.variables)) (length t.variables) i, tie, (all_at t.variables t.helpers x o i tie tied.room (come_full false full) at).stands, st));
+          (place_from (first_of o (length t.variables)) (length t.variables) i, tie, (all_at t.variables t.helpers x o i tie tied.room (full_at_new false full) at).present, st));
       same = λ h. absurd (both_ways _ fresh (contained_any (same_variable x) x t.variables h (eq-eqb x.0 x.0 refl)));
     }
 
@@ -302,7 +302,7 @@ module _ {N S : Type 0} (name : N) (x : VariableId) (s : S) (t : Tracking Variab
     trail = trail_same a;
     tied = tied;
     tracked = h;
-    front = front_same t.variables;
+    prefix = prefix_same t.variables;
     only = λ w i. inl i;
     digits = λ n low below. absurd (omega arith);
     same = λ i. refl;
@@ -310,9 +310,9 @@ module _ {N S : Type 0} (name : N) (x : VariableId) (s : S) (t : Tracking Variab
 
   -- The tracker takes the variable, unless it has it, and its ties are added as clauses.
   pub track_is : (u : Tracking VariableId) (ts : List Tie) (first last : ℕ) (c : SolverState N S) → IsCoding a → is_some o ≡ needs_helper same_variable t x → first ≡ first_of o last → last ≡ length t.variables → u ≡ tracked same_variable t x o → ts ≡ new_ties same_variable t x o
-      → StatesAll name ts first last b c → Tracks name x t a u c
-  track_is u ts first last c coding needed begins ends next come all =
-      go (among same_variable t x) refl (needed ∙ refl) next come
+      → AddsTies name ts first last b c → Tracks name x t a u c
+  track_is u ts first last c coding needed begins ends next are_new all =
+      go (among same_variable t x) refl (needed ∙ refl) next are_new
     where
       go : (q : Bool) → among same_variable t x ≡ q → is_some o ≡ (not q && (length t.variables == 2 ^ length t.helpers)) → u ≡ cond q t (longer t x o) → ts ≡ cond q [] (tie_all t.variables t.helpers x o) → Tracks name x t a u c
       go true e n is are =
@@ -326,4 +326,4 @@ module _ {N S : Type 0} (name : N) (x : VariableId) (s : S) (t : Tracking Variab
           no_digit None h = refl
           no_digit (Some v) h = absurd (both_ways true h refl)
       go false e n is are = subst (λ (w : Tracking VariableId). Tracks name x t a w c) (sym is) (tracks_more c
-          (subst (λ k. StatesAll name (tie_all t.variables t.helpers x o) (first_of o k) k b c) ends (subst (λ k. StatesAll name (tie_all t.variables t.helpers x o) k last b c) begins (subst (λ (us : List Tie). StatesAll name us first last b c) are all))) n coding e)
+          (subst (λ k. AddsTies name (tie_all t.variables t.helpers x o) (first_of o k) k b c) ends (subst (λ k. AddsTies name (tie_all t.variables t.helpers x o) k last b c) begins (subst (λ (us : List Tie). AddsTies name us first last b c) are all))) n coding e)

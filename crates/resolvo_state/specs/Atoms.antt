@@ -40,13 +40,13 @@ origin atoms zero = no_atom
 origin atoms (suc k) = atom_at atoms k
 
 -- the variable represents the atom
-abbrev pub StandsFor : {N S : Type 0} → List (ProofAtom N S) → VariableId → ProofAtom N S → Type 0
-StandsFor atoms v a = (k : ℕ) × (v.0 ≡ suc k) × (slice_get atoms k ≡ Some a)
+abbrev pub Represents : {N S : Type 0} → List (ProofAtom N S) → VariableId → ProofAtom N S → Type 0
+Represents atoms v a = (k : ℕ) × (v.0 ≡ suc k) × (slice_get atoms k ≡ Some a)
 
 -- the variable of the atom, or there is none
 abbrev pub IsFound : {N S : Type 0} → List (ProofAtom N S) → ProofAtom N S → Option VariableId → Type 0
 IsFound atoms a None = (k : ℕ) → slice_get atoms k ≡ Some a → ⊥
-IsFound atoms a (Some v) = StandsFor atoms v a
+IsFound atoms a (Some v) = Represents atoms v a
 
 -- the solvable of an atom
 abbrev pub solvable_in : {N S : Type 0} → Option (ProofAtom N S) → Option S

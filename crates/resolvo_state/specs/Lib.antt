@@ -1,7 +1,7 @@
 pub mod AtomLaws
 pub mod Atoms
 pub mod Keys
-pub mod Statements
+pub mod ClauseKinds
 pub mod SolverState
 pub mod Chosen
 pub mod Registered

@@ -4,19 +4,19 @@ use Rattle.resolvo_pool_core.specs.declared.id.VariableId.{VariableId}
 use Rattle.resolvo_pool_core.specs.OnePass.{Literal}
 use Rattle.resolvo_store_core.specs.Clauses.{no}
 use Rattle.resolvo_store_core.specs.Signed.{Signed}
-use Rattle.resolvo_store_core.specs.AtMostOne.{Tracking, IsFrontOf, digit}
+use Rattle.resolvo_store_core.specs.AtMostOne.{Tracking, IsPrefixOf, digit}
 use Rattle.resolvo_sat.specs.Known.{clause_at}
 use Rattle.resolvo_sat.specs.State.{clauses_of}
 use Rattle.resolvo_soundness.specs.Encoding.{Atom, Rule, minus}
 use Rattle.resolvo_soundness.specs.Numbered.{Spells}
 use Rattle.resolvo_state.specs.declared.atom.ProofAtom.{ProofAtom}
 use Rattle.resolvo_state.specs.declared.atom.ProofAtom.TheVariants.{Solvable, Bit}
-use Rattle.resolvo_state.specs.declared.clause_kind.Stated.TheVariants.{Digit}
+use Rattle.resolvo_state.specs.declared.clause_kind.ClauseKind.TheVariants.{Digit}
 use Rattle.resolvo_state.specs.declared.solver_state.SolverState.{SolverState}
 use Rattle.resolvo_state.specs.declared.registry.Registry.{Registry}
-use Rattle.resolvo_state.specs.Atoms.{origin, StandsFor}
+use Rattle.resolvo_state.specs.Atoms.{origin, Represents}
 use Rattle.resolvo_state.specs.Keys.{AreOnce}
-use Rattle.resolvo_state.specs.Statements.{stated_at, rules_in}
+use Rattle.resolvo_state.specs.ClauseKinds.{kind_at, rules_in}
 use Rattle.resolvo_state.specs.SolverState.{IsCoding, Grows, SameTrail}
 
 abbrev pub same_variable : VariableId → VariableId → Bool
@@ -29,12 +29,12 @@ digit_literals {N} {S} name s bit value = minus (Atom.solvable s) ∷ (let l : L
 -- The tracker of a package: its variables represent solvables, its helpers the digits in order, as many as distinguish the
 -- places apart and fewer than 32, and a clause encodes each digit of each place.
 pub record IsTied {N S : Type 0} (name : N) (t : Tracking VariableId) (c : SolverState N S) : Type 0 where
-  pub solvables : (v : VariableId) → Contains t.variables v → (s : S) × StandsFor c.atoms.keys v (Solvable s)
-  pub digits : (i : ℕ) (v : VariableId) → slice_get t.helpers i ≡ Some v → StandsFor c.atoms.keys v (Bit name i)
+  pub solvables : (v : VariableId) → Contains t.variables v → (s : S) × Represents c.atoms.keys v (Solvable s)
+  pub digits : (i : ℕ) (v : VariableId) → slice_get t.helpers i ≡ Some v → Represents c.atoms.keys v (Bit name i)
   pub room : length t.variables ≤ 2 ^ length t.helpers
   pub few : length t.helpers < 32
   pub once : AreOnce t.variables
-  pub told : (place i : ℕ) (v : VariableId) (s : S) → slice_get t.variables place ≡ Some v → StandsFor c.atoms.keys v (Solvable s) → i < length t.helpers → rules_in c.stated.items (Rule.has_digit s i (digit place i))
+  pub by_digits : (place i : ℕ) (v : VariableId) (s : S) → slice_get t.variables place ≡ Some v → Represents c.atoms.keys v (Solvable s) → i < length t.helpers → rules_in c.kinds.items (Rule.has_digit s i (digit place i))
 
 -- at this place of the package's tracker is the solvable's variable
 pub record IsPlaced {N S : Type 0} (r : Registry N) (c : SolverState N S) (name : N) (place : ℕ) (s : S) : Type 0 where
@@ -43,8 +43,8 @@ pub record IsPlaced {N S : Type 0} (r : Registry N) (c : SolverState N S) (name 
   pub variable : VariableId
   pub named : slice_get r.names.keys number ≡ Some name
   pub tracked : slice_get r.trackers.items number ≡ Some tracker
-  pub stands : slice_get tracker.variables place ≡ Some variable
-  pub means : StandsFor c.atoms.keys variable (Solvable s)
+  pub present : slice_get tracker.variables place ≡ Some variable
+  pub means : Represents c.atoms.keys variable (Solvable s)
 
 -- Each package has one tracker, and each is tied. A clause that encodes a digit of a place encodes
 -- it of the solvable there.
@@ -52,7 +52,7 @@ pub record AreTied {N S : Type 0} (r : Registry N) (c : SolverState N S) : Type 
   pub each : length r.names.keys ≡ length r.trackers.items
   pub once : AreOnce r.names.keys
   pub tied : (k : ℕ) (name : N) (t : Tracking VariableId) → slice_get r.names.keys k ≡ Some name → slice_get r.trackers.items k ≡ Some t → IsTied name t c
-  pub placed : (n : ℕ) (name : N) (s : S) (place bit : ℕ) → stated_at c.stated.items n ≡ Some (Digit name s place bit) → IsPlaced r c name place s
+  pub placed : (n : ℕ) (name : N) (s : S) (place bit : ℕ) → kind_at c.kinds.items n ≡ Some (Digit name s place bit) → IsPlaced r c name place s
 
 -- the variable is in the package's tracker
 pub record IsTracked {N : Type 0} (r : Registry N) (name : N) (v : VariableId) : Type 0 where
@@ -60,11 +60,11 @@ pub record IsTracked {N : Type 0} (r : Registry N) (name : N) (v : VariableId) :
   pub tracker : Tracking VariableId
   pub named : slice_get r.names.keys place ≡ Some name
   pub tracked : slice_get r.trackers.items place ≡ Some tracker
-  pub stands : Contains tracker.variables v
+  pub present : Contains tracker.variables v
 
 -- the solvable is registered as one of the package's
 abbrev pub IsRegistered : {N S : Type 0} → Registry N → SolverState N S → N → S → Type 0
-IsRegistered r c name s = (v : VariableId) × StandsFor c.atoms.keys v (Solvable s) × IsTracked r name v
+IsRegistered r c name s = (v : VariableId) × Represents c.atoms.keys v (Solvable s) × IsTracked r name v
 
 -- no solvable is registered
 pub record IsNothing {N : Type 0} (r : Registry N) : Type 0 where
@@ -78,7 +78,7 @@ pub record IsDigitClause {N S : Type 0} (r : Registry N) (c : SolverState N S) (
   pub bit : ℕ
   pub few : bit < 32
   pub registered : IsRegistered r c name solvable
-  pub stated : stated_at c.stated.items n ≡ Some (Digit name solvable place bit)
+  pub kinds : kind_at c.kinds.items n ≡ Some (Digit name solvable place bit)
   pub spells : Spells (origin c.atoms.keys) (clause_at (clauses_of c.search) n) (digit_literals name solvable bit (digit place bit))
 
 -- The solvable is registered, with this variable; no other one was added. Each new clause ties a solvable to a digit.
@@ -87,7 +87,7 @@ pub record Registers {N S : Type 0} (name : N) (s : S) (v : VariableId) (r : Reg
   pub grows : Grows old new
   pub trail : SameTrail old new
   pub tied : AreTied t new
-  pub stands : StandsFor new.atoms.keys v (Solvable s)
+  pub present : Represents new.atoms.keys v (Solvable s)
   pub registered : IsTracked t name v
   pub keeps : (m : N) (u : VariableId) → IsTracked r m u → IsTracked t m u
   pub only : (m : N) (u : VariableId) → IsTracked t m u → IsTracked r m u ⊎ ((m ≡ name) × (u ≡ v))
@@ -96,10 +96,10 @@ pub record Registers {N S : Type 0} (name : N) (s : S) (v : VariableId) (r : Reg
 
 -- the place is the package's; a new one was appended, with nothing tracked
 pub record PlacesName {N : Type 0} (name : N) (place : ℕ) (old new : Registry N) : Type 0 where
-  pub names : IsFrontOf old.names.keys new.names.keys
-  pub trackers : IsFrontOf old.trackers.items new.trackers.items
+  pub names : IsPrefixOf old.names.keys new.names.keys
+  pub trackers : IsPrefixOf old.trackers.items new.trackers.items
   pub each : length new.names.keys ≡ length new.trackers.items
-  pub stands : slice_get new.names.keys place ≡ Some name
+  pub present : slice_get new.names.keys place ≡ Some name
   pub once : AreOnce old.names.keys → AreOnce new.names.keys
   pub fresh : (k : ℕ) (t : Tracking VariableId) → length old.trackers.items ≤ k → slice_get new.trackers.items k ≡ Some t → (t.variables ≡ []) × (t.helpers ≡ [])
 
@@ -109,8 +109,8 @@ pub record GivesDigit {N S : Type 0} (name : N) (count : ℕ) (given : Option Va
   pub grows : Grows old new
   pub trail : SameTrail old new
   pub clauses : new.search.clauses ≡ old.search.clauses
-  pub stated : new.stated ≡ old.stated
-  pub stands : (v : VariableId) → given ≡ Some v → StandsFor new.atoms.keys v (Bit name count)
+  pub kinds : new.kinds ≡ old.kinds
+  pub present : (v : VariableId) → given ≡ Some v → Represents new.atoms.keys v (Bit name count)
   pub same : given ≡ None → new ≡ old
 
 -- the place of the first tie: the first one where a helper was added, else that of the new variable
@@ -127,33 +127,33 @@ pub record IsTie {N S : Type 0} (name : N) (atoms : List (ProofAtom N S)) (place
   pub solvable : S
   pub bit : ℕ
   pub few : bit < 32
-  pub stands : StandsFor atoms tie.0 (Solvable solvable)
-  pub tells : StandsFor atoms tie.1 (Bit name bit)
+  pub present : Represents atoms tie.0 (Solvable solvable)
+  pub is_bit : Represents atoms tie.1 (Bit name bit)
   pub value : tie.2 ≡ digit place bit
 
 -- the clause of this number encodes the tie
-pub record StatesTie {N S : Type 0} (name : N) (place : ℕ) (tie : VariableId × VariableId × Bool) (c : SolverState N S) (n : ℕ) : Type 0 where
+pub record IsTieClause {N S : Type 0} (name : N) (place : ℕ) (tie : VariableId × VariableId × Bool) (c : SolverState N S) (n : ℕ) : Type 0 where
   pub is : IsTie name c.atoms.keys place tie
-  pub stated : stated_at c.stated.items n ≡ Some (Digit name is.solvable place is.bit)
+  pub kinds : kind_at c.kinds.items n ≡ Some (Digit name is.solvable place is.bit)
   pub clause : clause_at (clauses_of c.search) n ≡ no tie.0 ∷ (let l : Signed = record { variable = tie.1; positive = tie.2 } in l) ∷ []
 
 -- the tie was added as a clause
-pub record StatesOne {N S : Type 0} (name : N) (place : ℕ) (tie : VariableId × VariableId × Bool) (old new : SolverState N S) : Type 0 where
+pub record AddsTie {N S : Type 0} (name : N) (place : ℕ) (tie : VariableId × VariableId × Bool) (old new : SolverState N S) : Type 0 where
   pub coding : IsCoding new
   pub grows : Grows old new
   pub trail : SameTrail old new
   pub atoms : new.atoms ≡ old.atoms
-  pub states : StatesTie name place tie new (length old.search.clauses)
+  pub added_rule : IsTieClause name place tie new (length old.search.clauses)
   pub one : length new.search.clauses ≡ length old.search.clauses + 1
 
 -- each tie was added as a clause, and nothing else was
-pub record StatesAll {N S : Type 0} (name : N) (ties : List (VariableId × VariableId × Bool)) (first last : ℕ) (old new : SolverState N S) : Type 0 where
+pub record AddsTies {N S : Type 0} (name : N) (ties : List (VariableId × VariableId × Bool)) (first last : ℕ) (old new : SolverState N S) : Type 0 where
   pub coding : IsCoding new
   pub grows : Grows old new
   pub trail : SameTrail old new
   pub atoms : new.atoms ≡ old.atoms
-  pub each : (i : ℕ) (tie : VariableId × VariableId × Bool) → slice_get ties i ≡ Some tie → (n : ℕ) × (n < length new.search.clauses) × StatesTie name (place_from first last i) tie new n
-  pub only : (n : ℕ) → length old.search.clauses ≤ n → n < length new.search.clauses → (i : ℕ) × (tie : VariableId × VariableId × Bool) × (slice_get ties i ≡ Some tie) × StatesTie name (place_from first last i) tie new n
+  pub each : (i : ℕ) (tie : VariableId × VariableId × Bool) → slice_get ties i ≡ Some tie → (n : ℕ) × (n < length new.search.clauses) × IsTieClause name (place_from first last i) tie new n
+  pub only : (n : ℕ) → length old.search.clauses ≤ n → n < length new.search.clauses → (i : ℕ) × (tie : VariableId × VariableId × Bool) × (slice_get ties i ≡ Some tie) × IsTieClause name (place_from first last i) tie new n
   pub same : ties ≡ [] → new ≡ old
 
 -- The variable is tracked, behind the others, and no other one was added. Each new clause ties a tracked one to a digit,
@@ -164,7 +164,7 @@ pub record Tracks {N S : Type 0} (name : N) (v : VariableId) (t : Tracking Varia
   pub trail : SameTrail old new
   pub tied : IsTied name u new
   pub tracked : Contains u.variables v
-  pub front : IsFrontOf t.variables u.variables
+  pub prefix : IsPrefixOf t.variables u.variables
   pub only : (w : VariableId) → Contains u.variables w → Contains t.variables w ⊎ (w ≡ v)
-  pub digits : (n : ℕ) → length old.search.clauses ≤ n → n < length new.search.clauses → (place : ℕ) × (tie : VariableId × VariableId × Bool) × (slice_get u.variables place ≡ Some tie.0) × StatesTie name place tie new n
+  pub digits : (n : ℕ) → length old.search.clauses ≤ n → n < length new.search.clauses → (place : ℕ) × (tie : VariableId × VariableId × Bool) × (slice_get u.variables place ≡ Some tie.0) × IsTieClause name place tie new n
   pub same : Contains t.variables v → new ≡ old

@@ -8,12 +8,12 @@ use Rattle.resolvo_soundness.specs.Encoding.{Atom, Rule, plus, literals_of}
 use Rattle.resolvo_soundness.specs.Numbered.{Means, Spells}
 use Rattle.resolvo_state.specs.declared.solver_state.SolverState.{SolverState}
 use Rattle.resolvo_state.specs.Atoms.{origin}
-use Rattle.resolvo_state.specs.Statements.{rule_at}
+use Rattle.resolvo_state.specs.ClauseKinds.{rule_at}
 
 module _ {N S : Type 0} (same : S → S → Bool) (p : Packages N S) where
   -- each clause that encodes a rule has the rule's literals
   abbrev pub Spelled : SolverState N S → Type 0
-  Spelled c = (n : ℕ) (r : Rule N S) → rule_at c.stated.items n ≡ Some r → Spells (origin c.atoms.keys) (clause_at (clauses_of c.search) n) (literals_of same p r)
+  Spelled c = (n : ℕ) (r : Rule N S) → rule_at c.kinds.items n ≡ Some r → Spells (origin c.atoms.keys) (clause_at (clauses_of c.search) n) (literals_of same p r)
 
 -- the solvables that clauses may make true are registered
 abbrev pub AreRegistered : {N S : Type 0} → (S → Type 0) → SolverState N S → Type 0

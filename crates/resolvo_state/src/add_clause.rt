@@ -3,11 +3,11 @@ ghost use Rattle.std.specs.Prelude.{◌≡◌, ◌<◌, length, IfOk, IsErrOf, I
 ghost use Rattle.resolvo_pool_core.specs.declared.want.Want.TheVariants.{Ids};
 ghost use Rattle.resolvo_sat.specs.State.{count_of};
 ghost use Rattle.resolvo_sat.specs.Steps.{AreInRange};
-ghost use Rattle.resolvo_sat.specs.Analysis.{IsBar};
-ghost use Rattle.resolvo_state.specs.Statements.{rule_of};
-ghost use Rattle.resolvo_state.specs.SolverState.{IsCoding, States, Bars, LacksNumber};
+ghost use Rattle.resolvo_sat.specs.Analysis.{IsDenial};
+ghost use Rattle.resolvo_state.specs.ClauseKinds.{rule_of};
+ghost use Rattle.resolvo_state.specs.SolverState.{IsCoding, AddsRule, AddsDenial, LacksNumber};
 
-use crate::clause_kind::Stated;
+use crate::clause_kind::ClauseKind;
 use crate::solver_state::SolverState;
 use resolvo_pool_core::id::{ClauseId, Exact};
 use resolvo_pool_core::want::R;
@@ -19,13 +19,13 @@ use std::hash::Hash;
 
 impl<N: Copy + Exact + Hash + Debug, S: Copy + Exact + Hash + Debug> SolverState<N, S> {
     /// Adds a clause that encodes a rule.
-    pub fn state(&mut self, kind: Stated<N, S>, literals: Vec<Literal>) -> R<ClauseId>
+    pub fn state(&mut self, kind: ClauseKind<N, S>, literals: Vec<Literal>) -> R<ClauseId>
         requires coding { IsCoding self.old }
         requires rule { IsSome (rule_of kind) }
         requires some { 0 < length literals.items }
         requires in_range { AreInRange (count_of self.old.search) literals.items }
         // After an answer.
-        ensures states { IfOk result (λ id. States kind literals.items id self.old self.new) }
+        ensures added_rule { IfOk result (λ id. AddsRule kind literals.items id self.old self.new) }
         // After a refusal.
         ensures ids { IsErrOf result Ids → length self.old.search.clauses ≡ 4294967295 }
         ensures full { IsErrOf result Ids → LacksNumber self.new }
@@ -34,18 +34,18 @@ impl<N: Copy + Exact + Hash + Debug, S: Copy + Exact + Hash + Debug> SolverState
         let clause = self
             .search
             .add_clause(&mut self.watching, SatClause { literals, causes })?;
-        self.stated.push(kind)?;
+        self.kinds.push(kind)?;
         Ok(clause)
     }
 
     /// Adds a clause that follows from others, and has negative literals alone.
-    pub fn bar(&mut self, refusal: FinalConflict) -> R<ClauseId>
+    pub fn forbid(&mut self, refusal: FinalConflict) -> R<ClauseId>
         requires coding { IsCoding self.old }
         requires some { 0 < length refusal.literals.items }
-        requires bar { IsBar self.old.search refusal.literals.items refusal.causes.items }
+        requires forbid { IsDenial self.old.search refusal.literals.items refusal.causes.items }
         // After an answer.
-        ensures barred { IfOk result
-            (λ id. Bars refusal.literals.items refusal.causes.items id self.old self.new) }
+        ensures learnt { IfOk result
+            (λ id. AddsDenial refusal.literals.items refusal.causes.items id self.old self.new) }
         // After a refusal.
         ensures ids { IsErrOf result Ids → length self.old.search.clauses ≡ 4294967295 }
         ensures full { IsErrOf result Ids → LacksNumber self.new }
@@ -54,7 +54,7 @@ impl<N: Copy + Exact + Hash + Debug, S: Copy + Exact + Hash + Debug> SolverState
         let clause = self
             .search
             .add_clause(&mut self.watching, SatClause { literals, causes })?;
-        self.stated.push(Stated::Learnt)?;
+        self.kinds.push(ClauseKind::Learnt)?;
         Ok(clause)
     }
 }

@@ -9,7 +9,7 @@ ghost use Rattle.resolvo_sat.specs.State.{count_of, history};
 ghost use Rattle.resolvo_sat.specs.Steps.{Chooses, Undoes};
 ghost use Rattle.resolvo_state.specs.SolverState.{IsCoding, Advances, KeepsCode, SetsFloor, LacksNumber};
 
-use crate::clause_kind::Stated;
+use crate::clause_kind::ClauseKind;
 use crate::solver_state::SolverState;
 use resolvo_pool_core::id::{ClauseId, Exact, VariableId};
 use resolvo_pool_core::want::R;
@@ -31,7 +31,7 @@ impl<N: Copy + Exact + Hash + Debug, S: Copy + Exact + Hash + Debug> SolverState
             StepResult::Complete => Ok(StepResult::Complete),
             StepResult::Refused(refusal) => Ok(StepResult::Refused(refusal)),
             StepResult::Learnt(clause) => {
-                self.stated.push(Stated::Learnt)?;
+                self.kinds.push(ClauseKind::Learnt)?;
                 Ok(StepResult::Learnt(clause))
             }
         }

@@ -5,7 +5,7 @@ use resolvo_pool_core::requirement::{ConditionalRequirement, Requirement};
 
 /// The rule that a clause encodes.
 #[derive(Debug, Drop)]
-pub enum Stated<N, S> {
+pub enum ClauseKind<N, S> {
     /// The root is true.
     Root,
     /// For this case of its condition, the parent's requirement has a chosen match.

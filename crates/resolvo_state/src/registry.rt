@@ -7,13 +7,13 @@ ghost use Rattle.resolvo_pool_core.specs.declared.want.Want.TheVariants.{Memory,
 ghost use Rattle.resolvo_pool_core.specs.declared.id.VariableId.{VariableId};
 ghost use Rattle.resolvo_store_core.specs.AtMostOne.{needs_helper};
 ghost use Rattle.resolvo_state.specs.declared.atom.ProofAtom.TheVariants.{Solvable, Bit};
-ghost use Rattle.resolvo_state.specs.Atoms.{StandsFor};
+ghost use Rattle.resolvo_state.specs.Atoms.{Represents};
 ghost use Rattle.resolvo_state.specs.SolverState.{IsCoding, LacksNumber};
 ghost use Rattle.resolvo_state.specs.Keys.{AreOnce};
-ghost use Rattle.resolvo_state.specs.Registered.{same_variable, IsNothing, AreTied, IsTracked, Registers, PlacesName, IsTied, Tracks, GivesDigit, IsTie, first_of, place_from, StatesOne, StatesAll};
+ghost use Rattle.resolvo_state.specs.Registered.{same_variable, IsNothing, AreTied, IsTracked, Registers, PlacesName, IsTied, Tracks, GivesDigit, IsTie, first_of, place_from, AddsTie, AddsTies};
 
 use crate::atom::ProofAtom;
-use crate::clause_kind::Stated;
+use crate::clause_kind::ClauseKind;
 use crate::keys::{place_in, push_key};
 use crate::solver_state::SolverState;
 use indexmap::IndexSet;
@@ -117,7 +117,7 @@ fn track<N: Copy + Exact + Hash + Debug, S: Copy + Exact + Hash + Debug>(
 ) -> R<()>
     requires coding { IsCoding coding.old }
     requires tied { IsTied name tracker.old coding.old }
-    requires solvable { (s : S) × StandsFor coding.old.atoms.keys variable (Solvable s) }
+    requires solvable { (s : S) × Represents coding.old.atoms.keys variable (Solvable s) }
     ensures tracked { OnOk result (Tracks name variable tracker.old coding.old tracker.new coding.new) }
     ensures ids { IsErrOf result Ids → LacksNumber coding.new }
 {
@@ -126,7 +126,7 @@ fn track<N: Copy + Exact + Hash + Debug, S: Copy + Exact + Hash + Debug>(
     let first = first_place(digit, last);
     let mut ties = Vec::new(alloc);
     tracker.add(variable, digit, &mut ties)?;
-    state_ties(alloc, coding, name, ties.as_slice(), first, last)?;
+    add_ties(alloc, coding, name, ties.as_slice(), first, last)?;
     Ok(())
 }
 
@@ -166,7 +166,7 @@ fn next_digit<N: Copy + Exact + Hash + Debug, S: Copy + Exact + Hash + Debug>(
 
 /// Adds the clause of each tie of a package's solvables to its digits. The places of the ties rise
 /// by one from `first` up to `last`, the place of all that are left.
-fn state_ties<N: Copy + Exact + Hash + Debug, S: Copy + Exact + Hash + Debug>(
+fn add_ties<N: Copy + Exact + Hash + Debug, S: Copy + Exact + Hash + Debug>(
     alloc: Global,
     coding: &mut SolverState<N, S>,
     name: N,
@@ -179,12 +179,12 @@ fn state_ties<N: Copy + Exact + Hash + Debug, S: Copy + Exact + Hash + Debug>(
     requires ties { (i : ℕ) (tie : VariableId × VariableId × Bool)
         → slice_get ties.now i ≡ Some tie
         → IsTie name coding.old.atoms.keys (place_from first last i) tie }
-    ensures stated { OnOk result (StatesAll name ties.now first last coding.old coding.new) }
+    ensures encoded { OnOk result (AddsTies name ties.now first last coding.old coding.new) }
     ensures ids { IsErrOf result Ids → LacksNumber coding.new }
 {
     let mut place = first;
     for tie in ties {
-        state_tie(alloc, coding, name, *tie, place)?;
+        add_tie(alloc, coding, name, *tie, place)?;
         place = next_place(place, last);
     }
     Ok(())
@@ -198,7 +198,7 @@ fn next_place(place: u32, last: u32) -> u32
 }
 
 /// Adds the clause that ties a solvable at a place to a digit of its package.
-fn state_tie<N: Copy + Exact + Hash + Debug, S: Copy + Exact + Hash + Debug>(
+fn add_tie<N: Copy + Exact + Hash + Debug, S: Copy + Exact + Hash + Debug>(
     alloc: Global,
     coding: &mut SolverState<N, S>,
     name: N,
@@ -207,7 +207,7 @@ fn state_tie<N: Copy + Exact + Hash + Debug, S: Copy + Exact + Hash + Debug>(
 ) -> R<()>
     requires coding { IsCoding coding.old }
     requires tie { IsTie name coding.old.atoms.keys place tie }
-    ensures stated { OnOk result (StatesOne name place tie coding.old coding.new) }
+    ensures encoded { OnOk result (AddsTie name place tie coding.old coding.new) }
     ensures ids { IsErrOf result Ids → LacksNumber coding.new }
 {
     let (variable, digit, value) = tie;
@@ -217,7 +217,7 @@ fn state_tie<N: Copy + Exact + Hash + Debug, S: Copy + Exact + Hash + Debug>(
     let (Some(solvable), Some(bit)) = (coding.solvable(variable), coding.bit(digit)) else {
         unreachable!()
     };
-    let kind = Stated::Digit {
+    let kind = ClauseKind::Digit {
         name,
         solvable,
         place,

@@ -1,6 +1,6 @@
 //! The search, with the atoms of its variables and the rules of its clauses.
 //! Variable 0 is the root's. Variable k + 1 represents the k-th atom, and the n-th clause encodes
-//! the n-th of `stated`.
+//! the n-th of `kinds`.
 ghost use Rattle.std.specs.Prelude.{◌≡◌, ◌<◌, IfOk, IfSome, IsErrOf, IsOkUnless};
 ghost use Rattle.resolvo_pool_core.specs.declared.want.Want.TheVariants.{Memory, Ids};
 ghost use Rattle.resolvo_sat.specs.State.{count_of};
@@ -8,7 +8,7 @@ ghost use Rattle.resolvo_state.specs.Atoms.{IsFound, solvable_of, bit_of};
 ghost use Rattle.resolvo_state.specs.SolverState.{IsCoding, IsBegun, Gives, LacksNumber};
 
 use crate::atom::ProofAtom;
-use crate::clause_kind::Stated;
+use crate::clause_kind::ClauseKind;
 use crate::keys::{place_in, push_key};
 use indexmap::IndexSet;
 use resolvo_pool_core::id::{Exact, VariableId};
@@ -25,7 +25,7 @@ pub struct SolverState<N: Copy + Eq + Hash, S: Copy + Eq + Hash> {
     pub search: SatState,
     pub watching: WatchLists,
     pub atoms: IndexSet<ProofAtom<N, S>>,
-    pub stated: Vec<Stated<N, S>>,
+    pub kinds: Vec<ClauseKind<N, S>>,
 }
 
 // split for the prover: what owns one calls this drop, and doesn't drop each field at each exit
@@ -35,7 +35,7 @@ impl<N: Copy + Eq + Hash, S: Copy + Eq + Hash> Drop for SolverState<N, S> {
             search: _,
             watching: _,
             atoms: _,
-            stated: _,
+            kinds: _,
         } = self;
     }
 }
@@ -47,13 +47,13 @@ impl<N: Copy + Exact + Hash + Debug, S: Copy + Exact + Hash + Debug> SolverState
         ensures refusal { IsOkUnless result Memory }
     {
         let (search, watching) = begin(alloc)?;
-        let mut stated = Vec::new(alloc);
-        stated.push(Stated::Root)?;
+        let mut kinds = Vec::new(alloc);
+        kinds.push(ClauseKind::Root)?;
         Ok(SolverState {
             search,
             watching,
             atoms: IndexSet::new(alloc),
-            stated,
+            kinds,
         })
     }
 

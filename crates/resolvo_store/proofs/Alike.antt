@@ -10,13 +10,13 @@ use Rattle.resolvo_pool_core.specs.declared.requirement.Requirement.{Requirement
 use Rattle.resolvo_store_core.specs.Signed.{Signed}
 use Rattle.resolvo_store_core.specs.Trail.{value_in, last_level}
 use Rattle.resolvo_store_core.specs.AddPairs.{set_for, entered}
-use Rattle.resolvo_store_core.specs.Clauses.{is_in_range, is_own_in_range, lists_there, literals_by}
+use Rattle.resolvo_store_core.specs.Clauses.{is_in_range, is_own_in_range, lists_exist, literals_by}
 use Rattle.resolvo_store_core.specs.Pairs.{watches}
 use Rattle.resolvo_store_core.specs.Walk.{pairs_after, lists_after}
 use Rattle.resolvo_store_core.specs.Pick.{first_broken_by, pick_by}
 use Rattle.resolvo_store.specs.Stored.{Stored, Like, names_in, condition_among}
 use Rattle.resolvo_store.specs.Changes.{candidates_from, same_requirement, all_but_last, last_undone, down_to, watching, highest}
-use Rattle.resolvo_store.specs.Calls.{Told, Became, Undone, Met, Falsified, Bad, Added, has_condition, has_candidates_for, has_learnt_in, has_clause, can_watch, can_add, can_register, can_assign, may, answer_to, changed_by, step, answer_of, after, answers_of, broken_in, picked_in, broken_or_next, LacksNumber}
+use Rattle.resolvo_store.specs.Calls.{PlainAnswer, Became, Undone, Met, Falsified, Bad, Added, has_condition, has_candidates_for, has_learnt_in, has_clause, can_watch, can_add, can_register, can_assign, may, answer_to, changed_by, step, answer_of, after, answers_of, broken_in, picked_in, broken_or_next, LacksNumber}
 use Rattle.resolvo_store_core.specs.declared.decision.Entry.{Entry}
 use Rattle.resolvo_store_core.specs.declared.decide_queue.NeedClause.{NeedClause}
 use Rattle.resolvo_store_core.specs.declared.decide_queue.NextDecision.{NextDecision}
@@ -25,7 +25,7 @@ use Rattle.resolvo_store_core.specs.declared.watched_literals.WatchedLiterals.{W
 use Rattle.resolvo_store.specs.declared.store_call.StoreCall.{StoreCall}
 use Rattle.resolvo_store.specs.declared.store_call.StoreCall.TheVariants as call
 use Rattle.resolvo_store.proofs.Picks.{SameNames, first_broken_same, pick_same}
-use Rattle.resolvo_store.proofs.FitLemmas.{literals_same, there_same}
+use Rattle.resolvo_store.proofs.FitLemmas.{literals_same, exist_same}
 use Rattle.resolvo_store_core.proofs.Walks.{lists_after_same}
 
 pub like_refl : {N : Type 0} (s : Stored N) → Like s s
@@ -64,8 +64,8 @@ module _ {N : Type 0} (s t : Stored N) (like : Like s t) where
 
   add_like : (c : Clause N) (w : Option WatchedLiterals) → can_add s c w ≡ can_add t c w
   add_like c w = ap (λ b. is_own_in_range c && b)
-      (ap (λ b. b && can_watch (literals_by (names_in s) c) w) (there_same (has_condition s) (has_condition t) (has_candidates_for s) (has_candidates_for t) (has_learnt_in s) (has_learnt_in t) condition_like (λ r. ap is_some (like.candidates r)) (λ l. ap (λ (ls : List (List Signed)). nat_lt l.raw (length ls)) like.learnt) c)
-      ∙ ap (λ ls. lists_there (has_condition t) (has_candidates_for t) (has_learnt_in t) c && can_watch ls w) (literals_same (names_in s) (names_in t) names_like c))
+      (ap (λ b. b && can_watch (literals_by (names_in s) c) w) (exist_same (has_condition s) (has_condition t) (has_candidates_for s) (has_candidates_for t) (has_learnt_in s) (has_learnt_in t) condition_like (λ r. ap is_some (like.candidates r)) (λ l. ap (λ (ls : List (List Signed)). nat_lt l.raw (length ls)) like.learnt) c)
+      ∙ ap (λ ls. lists_exist (has_condition t) (has_candidates_for t) (has_learnt_in t) c && can_watch ls w) (literals_same (names_in s) (names_in t) names_like c))
 
   register_like : (r : NeedClause) → can_register s r ≡ can_register t r
   register_like r = ap (λ b. b && (has_candidates_for s r.requirement && has_condition s r.condition)) (clause_like r.clause)
@@ -112,7 +112,7 @@ module _ {N : Type 0} (s t : Stored N) (like : Like s t) where
   answer_to_like call.NextDecision = ap (λ (o : Option ClauseId). broken_or_next o (picked_in s)) broken_like ∙ ap (λ (o : Option NextDecision). broken_or_next (broken_in t) o) picked_like
 
   pub answer_like : (c : StoreCall N) → answer_of s c ≡ answer_of t c
-  answer_like c = ap (λ b. cond b (answer_to s c) Bad) (may_like c) ∙ ap (λ (a : Told). cond (may t c) a Bad) (answer_to_like c)
+  answer_like c = ap (λ b. cond b (answer_to s c) Bad) (may_like c) ∙ ap (λ (a : PlainAnswer). cond (may t c) a Bad) (answer_to_like c)
 
   -- both lack an id
   pub lacks_like : (c : StoreCall N) → LacksNumber s c → LacksNumber t c

@@ -9,7 +9,7 @@ use Rattle.resolvo_pool_core.specs.declared.requirement.Requirement.{Requirement
 use Rattle.resolvo_pool_core.specs.ByRequirement.{slot_of}
 use Rattle.resolvo_store_core.specs.Signed.{Signed}
 use Rattle.resolvo_store_core.specs.Lists.{Named, has_candidates, has_disjunction, HasDisjunction, has_learnt}
-use Rattle.resolvo_store_core.specs.Clauses.{no, candidate_literals, literals_by, lists_there, has_lists, is_own_in_range, OwnInRange, HasLists, Fits}
+use Rattle.resolvo_store_core.specs.Clauses.{no, candidate_literals, literals_by, lists_exist, has_lists, is_own_in_range, OwnInRange, HasLists, Fits}
 use Rattle.resolvo_store.specs.Stored.{Kept, plain}
 use Rattle.resolvo_store.specs.Calls.{has_condition, has_candidates_for, has_learnt_in}
 use Rattle.resolvo_store_core.specs.declared.lists.Disjunction.{Disjunction}
@@ -32,26 +32,26 @@ literals_same n m same (Excluded v s) = refl
 literals_same n m same (AnyOf x v) = refl
 
 -- tests of ids that agree
-pub there_same : {N : Type 0} (f g : Option (DenseId DisjunctionTag ℕ) → Bool) (h k : Requirement → Bool) (i j : DenseId LearntClauseTag ℕ → Bool) → ((d : Option (DenseId DisjunctionTag ℕ)) → f d ≡ g d) → ((r : Requirement) → h r ≡ k r) → ((l : DenseId LearntClauseTag ℕ) → i l ≡ j l)
-    → (c : Clause N) → lists_there f h i c ≡ lists_there g k j c
-there_same f g h k i j fg hk ij InstallRoot = refl
-there_same f g h k i j fg hk ij (Requires p d r) = ap (λ b. b && h r) (fg d) ∙ ap (λ b. g d && b) (hk r)
-there_same f g h k i j fg hk ij (ForbidMultipleInstances v l p) = refl
-there_same f g h k i j fg hk ij (Constrains p c s) = refl
-there_same f g h k i j fg hk ij (ConstrainsParent p x s) = refl
-there_same f g h k i j fg hk ij (ConstrainsExcluded c x s) = refl
-there_same f g h k i j fg hk ij (Lock l o) = refl
-there_same f g h k i j fg hk ij (Learnt l) = ij l
-there_same f g h k i j fg hk ij (Excluded v s) = refl
-there_same f g h k i j fg hk ij (AnyOf x v) = refl
+pub exist_same : {N : Type 0} (f g : Option (DenseId DisjunctionTag ℕ) → Bool) (h k : Requirement → Bool) (i j : DenseId LearntClauseTag ℕ → Bool) → ((d : Option (DenseId DisjunctionTag ℕ)) → f d ≡ g d) → ((r : Requirement) → h r ≡ k r) → ((l : DenseId LearntClauseTag ℕ) → i l ≡ j l)
+    → (c : Clause N) → lists_exist f h i c ≡ lists_exist g k j c
+exist_same f g h k i j fg hk ij InstallRoot = refl
+exist_same f g h k i j fg hk ij (Requires p d r) = ap (λ b. b && h r) (fg d) ∙ ap (λ b. g d && b) (hk r)
+exist_same f g h k i j fg hk ij (ForbidMultipleInstances v l p) = refl
+exist_same f g h k i j fg hk ij (Constrains p c s) = refl
+exist_same f g h k i j fg hk ij (ConstrainsParent p x s) = refl
+exist_same f g h k i j fg hk ij (ConstrainsExcluded c x s) = refl
+exist_same f g h k i j fg hk ij (Lock l o) = refl
+exist_same f g h k i j fg hk ij (Learnt l) = ij l
+exist_same f g h k i j fg hk ij (Excluded v s) = refl
+exist_same f g h k i j fg hk ij (AnyOf x v) = refl
 
 some_mapped : {X Y : Type 0} (f : X → Y) (o : Option X) → is_some o ≡ is_some (option_map f o)
 some_mapped f None = refl
 some_mapped f (Some x) = refl
 
 -- the lists of a clause exist where the plain lists have them
-pub lists_plain : {N S : Type 0} (score : S → N → ℕ) (k : Kept N S) (c : Clause N) → has_lists k.lists c ≡ lists_there (has_condition (plain score k)) (has_candidates_for (plain score k)) (has_learnt_in (plain score k)) c
-lists_plain score k c = there_same (has_disjunction k.lists) (has_condition (plain score k)) (has_candidates k.lists) (has_candidates_for (plain score k)) (has_learnt k.lists) (has_learnt_in (plain score k)) condition (λ r. some_mapped (λ v. v.items) (slot_of k.lists.candidates r))
+pub lists_plain : {N S : Type 0} (score : S → N → ℕ) (k : Kept N S) (c : Clause N) → has_lists k.lists c ≡ lists_exist (has_condition (plain score k)) (has_candidates_for (plain score k)) (has_learnt_in (plain score k)) c
+lists_plain score k c = exist_same (has_disjunction k.lists) (has_condition (plain score k)) (has_candidates k.lists) (has_candidates_for (plain score k)) (has_learnt k.lists) (has_learnt_in (plain score k)) condition (λ r. some_mapped (λ v. v.items) (slot_of k.lists.candidates r))
     (λ l. ap (nat_lt l.raw) (sym (length-map k.lists.learnt (λ (v : Vec Signed Global). v.items)))) c
   where
     condition : (d : Option (DenseId DisjunctionTag ℕ)) → has_disjunction k.lists d ≡ has_condition (plain score k) d

@@ -14,7 +14,7 @@ use Rattle.resolvo_pool_core.specs.ByRequirement.{index_in}
 use Rattle.resolvo_store_core.specs.Signed.{Signed, same_literal, has}
 use Rattle.resolvo_store_core.specs.Trail.{value_in, last_level}
 use Rattle.resolvo_store_core.specs.AddPairs.{set_for}
-use Rattle.resolvo_store_core.specs.Clauses.{is_in_range, is_own_in_range, lists_there, literals_by}
+use Rattle.resolvo_store_core.specs.Clauses.{is_in_range, is_own_in_range, lists_exist, literals_by}
 use Rattle.resolvo_store_core.specs.Pick.{first_broken_by, pick_by}
 use Rattle.resolvo_store.specs.Stored.{Stored, Like, names_in}
 use Rattle.resolvo_store.specs.Changes.{candidates_from, with_candidates, with_disjunction, with_learnt, with_clause, with_need, with_decision, undone, last_undone, undone_until, bumped, decayed, walked}
@@ -56,7 +56,7 @@ can_watch literals (Some p) = has literals p.first && (has literals p.second && 
 
 -- the lists that the clause names exist, and it watches literals of its own
 abbrev pub can_add : {N : Type 0} → Stored N → Clause N → Option WatchedLiterals → Bool
-can_add s c w = is_own_in_range c && (lists_there (has_condition s) (has_candidates_for s) (has_learnt_in s) c && can_watch (literals_by (names_in s) c) w)
+can_add s c w = is_own_in_range c && (lists_exist (has_condition s) (has_candidates_for s) (has_learnt_in s) c && can_watch (literals_by (names_in s) c) w)
 
 -- the lists that the need clause names exist
 abbrev pub can_register : {N : Type 0} → Stored N → NeedClause → Bool
@@ -72,27 +72,27 @@ can_decay per_million = not (nat_lt 1000000 per_million)
 -- ---- one call
 
 -- an answer, with plain lists
-pub data Told : Type 0 where
-  Done : Told
-  Added : ClauseId → Told
-  Became : Set → Told
-  Undone : Option (Decision × ℕ) → Told
-  Met : List ClauseId → Told
-  Falsified : Option ClauseId → Told
-  Next : Option NextDecision → Told
-  Broken : ClauseId → Told
-  Bad : Told
+pub data PlainAnswer : Type 0 where
+  Done : PlainAnswer
+  Added : ClauseId → PlainAnswer
+  Became : Set → PlainAnswer
+  Undone : Option (Decision × ℕ) → PlainAnswer
+  Met : List ClauseId → PlainAnswer
+  Falsified : Option ClauseId → PlainAnswer
+  Next : Option NextDecision → PlainAnswer
+  Broken : ClauseId → PlainAnswer
+  Bad : PlainAnswer
 
-abbrev pub told : StoreAnswer → Told
-told answer.Done = Done
-told (answer.Added c) = Added c
-told (answer.Set s) = Became s
-told (answer.Undone d) = Undone d
-told (answer.Met cs) = Met cs.items
-told (answer.Falsified c) = Falsified c
-told (answer.Next d) = Next d
-told (answer.Broken c) = Broken c
-told answer.Bad = Bad
+abbrev pub plain_answer : StoreAnswer → PlainAnswer
+plain_answer answer.Done = Done
+plain_answer (answer.Added c) = Added c
+plain_answer (answer.Set s) = Became s
+plain_answer (answer.Undone d) = Undone d
+plain_answer (answer.Met cs) = Met cs.items
+plain_answer (answer.Falsified c) = Falsified c
+plain_answer (answer.Next d) = Next d
+plain_answer (answer.Broken c) = Broken c
+plain_answer answer.Bad = Bad
 
 -- the first falsified registered clause
 abbrev pub broken_in : {N : Type 0} → Stored N → Option ClauseId
@@ -103,7 +103,7 @@ abbrev pub picked_in : {N : Type 0} → Stored N → Option NextDecision
 picked_in s = pick_by (names_in s) (value_in s.trail) s.score s.needs
 
 -- the broken clause, if there is one, in place of the decision
-abbrev pub broken_or_next : Option ClauseId → Option NextDecision → Told
+abbrev pub broken_or_next : Option ClauseId → Option NextDecision → PlainAnswer
 broken_or_next None d = Next d
 broken_or_next (Some c) d = Broken c
 
@@ -124,7 +124,7 @@ may s call.Falsified = true
 may s call.NextDecision = true
 
 -- the answer to a call whose condition holds
-abbrev pub answer_to : {N : Type 0} → Stored N → StoreCall N → Told
+abbrev pub answer_to : {N : Type 0} → Stored N → StoreCall N → PlainAnswer
 answer_to s (call.FixCandidates r groups) = Done
 answer_to s (call.FixDisjunction ls) = Done
 answer_to s (call.FixLearnt ls) = Done
@@ -140,7 +140,7 @@ answer_to s call.Falsified = Falsified (broken_in s)
 answer_to s call.NextDecision = broken_or_next (broken_in s) (picked_in s)
 
 -- a call whose condition doesn't hold is answered `Bad`
-abbrev pub answer_of : {N : Type 0} → Stored N → StoreCall N → Told
+abbrev pub answer_of : {N : Type 0} → Stored N → StoreCall N → PlainAnswer
 answer_of s c = cond (may s c) (answer_to s c) Bad
 
 module _ {N : Type 0} (eq : N → N → Bool) where
@@ -170,7 +170,7 @@ module _ {N : Type 0} (eq : N → N → Bool) where
   after s [] = s
   after s (c ∷ cs) = after (step s c) cs
 
-  abbrev pub answers_of : Stored N → List (StoreCall N) → List Told
+  abbrev pub answers_of : Stored N → List (StoreCall N) → List PlainAnswer
   answers_of s [] = []
   answers_of s (c ∷ cs) = answer_of s c ∷ answers_of (step s c) cs
 

@@ -6,7 +6,7 @@ ghost use Rattle.resolvo_pool_core.specs.ByRequirement.{index_in};
 ghost use Rattle.resolvo_store_core.specs.Trail.{value_in};
 ghost use Rattle.resolvo_store_core.specs.AddPairs.{set_for};
 ghost use Rattle.resolvo_store.specs.Changes.{candidates_from, with_candidates, with_disjunction, with_learnt, with_clause, with_need, with_decision, decayed};
-ghost use Rattle.resolvo_store.specs.Calls.{Done, Added, Became, Bad, told, can_fix, can_add, can_register, can_assign, can_decay, broken_in, picked_in, broken_or_next, step, answer_of, after, answers_of, LacksNumber, StopsAt};
+ghost use Rattle.resolvo_store.specs.Calls.{Done, Added, Became, Bad, plain_answer, can_fix, can_add, can_register, can_assign, can_decay, broken_in, picked_in, broken_or_next, step, answer_of, after, answers_of, LacksNumber, StopsAt};
 
 use crate::clause_store::ClauseStore;
 use crate::store_call::{StoreAnswer, StoreCall};
@@ -32,7 +32,7 @@ impl<N: SolverId + Drop> ClauseStore<N> {
     /// refused call.
     pub fn run(&mut self, alloc: Global, calls: &[StoreCall<N>]) -> R<Vec<StoreAnswer>>
         ensures answers { IfOk result
-            (λ v. map told v.items ≡ answers_of N.eq (plain N.Scores.score_of self.old) calls.now) }
+            (λ v. map plain_answer v.items ≡ answers_of N.eq (plain N.Scores.score_of self.old) calls.now) }
         ensures store { OnOk result
             (Like (plain N.Scores.score_of self.new)
             (after N.eq (plain N.Scores.score_of self.old) calls.now)) }
@@ -50,7 +50,7 @@ impl<N: SolverId + Drop> ClauseStore<N> {
 
     /// Carries out a call.
     fn do_call(&mut self, alloc: Global, call: &StoreCall<N>) -> R<StoreAnswer>
-        ensures answer { IfOk result (λ a. told a ≡ answer_of (plain N.Scores.score_of self.old)
+        ensures answer { IfOk result (λ a. plain_answer a ≡ answer_of (plain N.Scores.score_of self.old)
             call.now) }
         ensures store { OnOk result
             (Like (plain N.Scores.score_of self.new)
@@ -114,7 +114,7 @@ impl<N: SolverId + Drop> ClauseStore<N> {
     ) -> R<StoreAnswer>
         ensures answer { IfOk result
             (λ a.
-            told a
+            plain_answer a
             ≡ cond (can_fix (plain N.Scores.score_of self.old) requirement groups.now) (Done)
             Bad) }
         ensures store { OnOk result
@@ -136,7 +136,7 @@ impl<N: SolverId + Drop> ClauseStore<N> {
 
     /// Adds a copy of the literals of a condition's case.
     fn copy_disjunction(&mut self, alloc: Global, literals: &[Literal]) -> R<StoreAnswer>
-        ensures answer { IfOk result (λ a. told a ≡ Done) }
+        ensures answer { IfOk result (λ a. plain_answer a ≡ Done) }
         ensures store { OnOk result
             (Like (plain N.Scores.score_of self.new)
             (with_disjunction literals.now (plain N.Scores.score_of self.old))) }
@@ -151,7 +151,7 @@ impl<N: SolverId + Drop> ClauseStore<N> {
 
     /// Adds a copy of the literals of a learnt clause.
     fn copy_learnt(&mut self, alloc: Global, literals: &[Literal]) -> R<StoreAnswer>
-        ensures answer { IfOk result (λ a. told a ≡ Done) }
+        ensures answer { IfOk result (λ a. plain_answer a ≡ Done) }
         ensures store { OnOk result
             (Like (plain N.Scores.score_of self.new)
             (with_learnt literals.now (plain N.Scores.score_of self.old))) }
@@ -168,7 +168,7 @@ impl<N: SolverId + Drop> ClauseStore<N> {
     fn try_add(&mut self, clause: Clause<N>, watched: Option<WatchedLiterals>) -> R<StoreAnswer>
         ensures answer { IfOk result
             (λ a.
-            told a
+            plain_answer a
             ≡ cond (can_add (plain N.Scores.score_of self.old) clause watched)
             (Added (record { 0 = length (plain N.Scores.score_of self.old).clauses })) Bad) }
         ensures store { OnOk result
@@ -190,7 +190,7 @@ impl<N: SolverId + Drop> ClauseStore<N> {
     /// Registers a need clause, if the lists that it names exist.
     fn try_register(&mut self, need: NeedClause) -> R<StoreAnswer>
         ensures answer { IfOk result
-            (λ a. told a ≡ cond (can_register (plain N.Scores.score_of self.old) need) (Done) Bad) }
+            (λ a. plain_answer a ≡ cond (can_register (plain N.Scores.score_of self.old) need) (Done) Bad) }
         ensures store { OnOk result
             (Like (plain N.Scores.score_of self.new)
             (cond (can_register (plain N.Scores.score_of self.old) need)
@@ -211,7 +211,7 @@ impl<N: SolverId + Drop> ClauseStore<N> {
     fn try_assign(&mut self, decision: Decision, level: u32) -> R<StoreAnswer>
         ensures answer { IfOk result
             (λ a.
-            told a
+            plain_answer a
             ≡ cond (can_assign (plain N.Scores.score_of self.old) decision.derived_from level)
             (Became
             (set_for decision.value
@@ -234,7 +234,7 @@ impl<N: SolverId + Drop> ClauseStore<N> {
 
     /// Decays each score, if none grows by it.
     fn try_decay(&mut self, per_million: u64) -> StoreAnswer
-        ensures answer { told result ≡ cond (can_decay per_million) Done Bad }
+        ensures answer { plain_answer result ≡ cond (can_decay per_million) Done Bad }
         ensures store { Like (plain N.Scores.score_of self.new)
             (cond (can_decay per_million) (decayed per_million (plain N.Scores.score_of self.old))
             (plain N.Scores.score_of self.old)) }
@@ -250,7 +250,7 @@ impl<N: SolverId + Drop> ClauseStore<N> {
     fn decide(&mut self) -> R<StoreAnswer>
         ensures answer { IfOk result
             (λ a.
-            told a
+            plain_answer a
             ≡ broken_or_next (broken_in (plain N.Scores.score_of self.old))
             (picked_in (plain N.Scores.score_of self.old))) }
         ensures store { Like (plain N.Scores.score_of self.new) (plain N.Scores.score_of self.old) }

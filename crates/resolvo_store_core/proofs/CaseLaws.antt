@@ -11,8 +11,8 @@ use Rattle.resolvo_pool_core.specs.declared.condition.Condition.TheVariants.{Bin
 use Rattle.resolvo_pool_core.specs.declared.condition.LogicalOperator.{LogicalOperator}
 use Rattle.resolvo_pool_core.specs.declared.condition.LogicalOperator.TheVariants.{And, Or}
 use Rattle.resolvo_pool_core.specs.Provider.{OperandsBelow}
-use Rattle.resolvo_pool_core.specs.RuleKeeping.{says}
-use Rattle.resolvo_store_core.specs.Cases.{pairs, cases_by, cases_within, cases, says_within, says_so, some_case_met}
+use Rattle.resolvo_pool_core.specs.RuleKeeping.{truth_of}
+use Rattle.resolvo_store_core.specs.Cases.{pairs, cases_by, cases_within, cases, truth_within, condition_holds, some_case_met}
 
 or_assoc : (a b c : Bool) → ((a || b) || c) ≡ (a || (b || c))
 or_assoc true b c = refl
@@ -62,16 +62,16 @@ one_case : (b : Bool) → ((b && true) || false) ≡ b
 one_case true = refl
 one_case false = refl
 
-step_exact : (met : VersionSetId → Bool) (below : ConditionId → List (List VersionSetId)) (holds : ConditionId → Bool) → ((a : ConditionId) → some_case_met met (below a) ≡ holds a) → (q : Condition) → some_case_met met (cases_by below q) ≡ says met holds q
+step_exact : (met : VersionSetId → Bool) (below : ConditionId → List (List VersionSetId)) (holds : ConditionId → Bool) → ((a : ConditionId) → some_case_met met (below a) ≡ holds a) → (q : Condition) → some_case_met met (cases_by below q) ≡ truth_of met holds q
 step_exact met below holds h (Requirement v) = one_case (met v)
 step_exact met below holds h (Binary And a b) = of_pairs (below a) (below b) met ∙ ap (λ (x : Bool). x && some_case_met met (below b)) (h a) ∙ ap (λ (x : Bool). holds a && x) (h b)
 step_exact met below holds h (Binary Or a b) = list_any-append (below a) (below b) met ∙ ap (λ (x : Bool). x || some_case_met met (below b)) (h a) ∙ ap (λ (x : Bool). holds a || x) (h b)
 
-within_exact : (condition_of : ConditionId → Condition) (met : VersionSetId → Bool) (n : ℕ) (c : ConditionId) → some_case_met met (cases_within condition_of n c) ≡ says_within met condition_of n c
+within_exact : (condition_of : ConditionId → Condition) (met : VersionSetId → Bool) (n : ℕ) (c : ConditionId) → some_case_met met (cases_within condition_of n c) ≡ truth_within met condition_of n c
 within_exact condition_of met zero c = refl
-within_exact condition_of met (suc n) c = step_exact met (cases_within condition_of n) (says_within met condition_of n) (within_exact condition_of met n) (condition_of c)
+within_exact condition_of met (suc n) c = step_exact met (cases_within condition_of n) (truth_within met condition_of n) (within_exact condition_of met n) (condition_of c)
 
-pub exact_cases : (condition_of : ConditionId → Condition) (met : VersionSetId → Bool) (c : ConditionId) → some_case_met met (cases condition_of c) ≡ says_so met condition_of c
+pub exact_cases : (condition_of : ConditionId → Condition) (met : VersionSetId → Bool) (c : ConditionId) → some_case_met met (cases condition_of c) ≡ condition_holds met condition_of c
 exact_cases condition_of met c = within_exact condition_of met (suc c.0) c
 
 -- the bound on the steps down never shows

@@ -88,8 +88,8 @@ at_most_one_is_met t value one = (λ i. digit (position_or_len value t.variables
         one (position_or_len value t.variables) k d (omega arith) a (passes_at_first value t.variables d (omega arith)) p
 
 -- the clauses of a new variable and the older clauses are those of the tracker with it
-pub come_all : {V : Type 0} (eq : V → V → Bool) (t : Tracking V) (x : V) (o : Option V) → is_some o ≡ needs_helper eq t x → (p : V × V × Bool → Bool) → count_by p (all_ties (tracked eq t x o)) ≡ count_by p (all_ties t) + count_by p (new_ties eq t x o)
-come_all {V} eq t x o need p = go (among eq t x) o need
+pub add_ties : {V : Type 0} (eq : V → V → Bool) (t : Tracking V) (x : V) (o : Option V) → is_some o ≡ needs_helper eq t x → (p : V × V × Bool → Bool) → count_by p (all_ties (tracked eq t x o)) ≡ count_by p (all_ties t) + count_by p (new_ties eq t x o)
+add_ties {V} eq t x o need p = go (among eq t x) o need
   where
     go : (b : Bool) (h : Option V) → is_some h ≡ (not b && (length t.variables == 2 ^ length t.helpers))
         → count_by p (all_ties (cond b t (record { variables = t.variables ++ x ∷ []; helpers = t.helpers ++ option_to_list h }))) ≡ count_by p (all_ties t) + count_by p (cond b [] (tie_all t.variables t.helpers x h))

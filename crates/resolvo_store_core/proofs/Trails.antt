@@ -45,9 +45,9 @@ assigned_end_other [] e v h = go (e.decision.variable.0 == v) refl
 assigned_end_other (d ∷ es) e v h = ap (λ o. cond (d.decision.variable.0 == v) (Some (assignment_of d)) o) (assigned_end_other es e v h)
 
 -- a variable without a value in a trail has none in a prefix of it
-assigned_front : (es : List Entry) (e : Entry) (v : ℕ) → assigned (es ++ e ∷ []) v ≡ None → assigned es v ≡ None
-assigned_front [] e v h = refl
-assigned_front (d ∷ es) e v h = go (d.decision.variable.0 == v) h (assigned_front es e v)
+assigned_prefix : (es : List Entry) (e : Entry) (v : ℕ) → assigned (es ++ e ∷ []) v ≡ None → assigned es v ≡ None
+assigned_prefix [] e v h = refl
+assigned_prefix (d ∷ es) e v h = go (d.decision.variable.0 == v) h (assigned_prefix es e v)
   where
     go : (b : Bool) → cond b (Some (assignment_of d)) (assigned (es ++ e ∷ []) v) ≡ None → (assigned (es ++ e ∷ []) v ≡ None → assigned es v ≡ None) → cond b (Some (assignment_of d)) (assigned es v) ≡ None
     go true k more = cc
@@ -61,9 +61,9 @@ once_end (d ∷ es) e h k = go (d.decision.variable.0 == e.decision.variable.0) 
     go true q r more = cc
     go false q r more = (assigned_end_other es e d.decision.variable.0 (λ x. both_ways (d.decision.variable.0 == e.decision.variable.0) q (eq-eqb _ _ x)) ∙ h.0, more r)
 
-once_front : (es : List Entry) (e : Entry) → EachOnce (es ++ e ∷ []) → EachOnce es
-once_front [] e h = tt
-once_front (d ∷ es) e h = (assigned_front es e d.decision.variable.0 h.0, once_front es e h.1)
+once_prefix : (es : List Entry) (e : Entry) → EachOnce (es ++ e ∷ []) → EachOnce es
+once_prefix [] e h = tt
+once_prefix (d ∷ es) e h = (assigned_prefix es e d.decision.variable.0 h.0, once_prefix es e h.1)
 
 last_open : (es : List Entry) (e : Entry) → EachOnce (es ++ e ∷ []) → assigned es e.decision.variable.0 ≡ None
 last_open [] e h = refl
@@ -72,8 +72,8 @@ last_open (d ∷ es) e h = go (d.decision.variable.0 == e.decision.variable.0) r
     go : (b : Bool) → (d.decision.variable.0 == e.decision.variable.0) ≡ b → assigned es e.decision.variable.0 ≡ None → cond b (Some (assignment_of d)) (assigned es e.decision.variable.0) ≡ None
     go true q more =
         let same : d.decision.variable.0 ≡ e.decision.variable.0 = eqb-true _ _ q in
-        let front : assigned es d.decision.variable.0 ≡ None = assigned_front es e d.decision.variable.0 h.0 in
-        let there : assigned (es ++ e ∷ []) e.decision.variable.0 ≡ Some (assignment_of e) = assigned_end_same es e (subst (λ (v : ℕ). assigned es v ≡ None) same front) in
+        let qhead : assigned es d.decision.variable.0 ≡ None = assigned_prefix es e d.decision.variable.0 h.0 in
+        let there : assigned (es ++ e ∷ []) e.decision.variable.0 ≡ Some (assignment_of e) = assigned_end_same es e (subst (λ (v : ℕ). assigned es v ≡ None) same qhead) in
         let open_ : assigned (es ++ e ∷ []) e.decision.variable.0 ≡ None = subst (λ (v : ℕ). assigned (es ++ e ∷ []) v ≡ None) same h.0 in
         absurd cc
     go false q more = more
@@ -92,11 +92,11 @@ undecided_at map v h = go (at map v) h
     go None k = refl
     go (Some a) k = cc
 
-pub trail_pushed : (map map' : List (Option Assignment)) (es : List Entry) (e : Entry) (front floor : ℕ) → IsTrail map es front floor → at map e.decision.variable.0 ≡ None → PutsSlot map map' e.decision.variable.0 (Some (assignment_of e)) → IsTrail map' (es ++ e ∷ []) front floor
-trail_pushed map map' es e front floor old undecided put =
+pub trail_pushed : (map map' : List (Option Assignment)) (es : List Entry) (e : Entry) (qhead floor : ℕ) → IsTrail map es qhead floor → at map e.decision.variable.0 ≡ None → PutsSlot map map' e.decision.variable.0 (Some (assignment_of e)) → IsTrail map' (es ++ e ∷ []) qhead floor
+trail_pushed map map' es e qhead floor old undecided put =
     let open_ : assigned es e.decision.variable.0 ≡ None = sym (old.mapped e.decision.variable.0) ∙ undecided in
     let long : length (es ++ e ∷ []) ≡ length es + 1 = length-append es (e ∷ []) in
-    let a = old.front_within in
+    let a = old.qhead_within in
     let b = old.floor_within in
     record {
       mapped = λ v. elim (cases_number v e.decision.variable.0) [
@@ -104,12 +104,12 @@ trail_pushed map map' es e front floor old undecided put =
         | inr h ↦ put.1 v h ∙ old.mapped v ∙ sym (assigned_end_other es e v h)
       ];
       once = once_end es e old.once open_;
-      front_within = omega arith;
+      qhead_within = omega arith;
       floor_within = omega arith;
     }
 
-pub trail_popped : (map map' : List (Option Assignment)) (all es : List Entry) (e : Entry) (front floor : ℕ) → IsTrail map all front floor → all ≡ es ++ e ∷ [] → PutsSlot map map' e.decision.variable.0 None → IsTrail map' es (min front (length es)) (min floor (length es))
-trail_popped map map' all es e front floor old is put =
+pub trail_popped : (map map' : List (Option Assignment)) (all es : List Entry) (e : Entry) (qhead floor : ℕ) → IsTrail map all qhead floor → all ≡ es ++ e ∷ [] → PutsSlot map map' e.decision.variable.0 None → IsTrail map' es (min qhead (length es)) (min floor (length es))
+trail_popped map map' all es e qhead floor old is put =
     let once' : EachOnce (es ++ e ∷ []) = subst EachOnce is old.once in
     let open_ : assigned es e.decision.variable.0 ≡ None = last_open es e once' in
     record {
@@ -117,8 +117,8 @@ trail_popped map map' all es e front floor old is put =
         | inl h ↦ subst (λ (w : ℕ). at map' w ≡ assigned es w) (sym h) (put.0 ∙ sym open_)
         | inr h ↦ put.1 v h ∙ old.mapped v ∙ ap (λ (xs : List Entry). assigned xs v) is ∙ assigned_end_other es e v h
       ];
-      once = once_front es e once';
-      front_within = omega arith;
+      once = once_prefix es e once';
+      qhead_within = omega arith;
       floor_within = omega arith;
     }
 
@@ -126,8 +126,8 @@ all_cons : (level : ℕ) (e : Entry) (es : List Entry) → level < e.level → A
 all_cons level e es p h zero d k = p
 all_cons level e es p h (suc i) d k = h i d (omega arith)
 
-pub takes_nothing : (level : ℕ) (t : Tracked) → t.front ≤ length t.trail → t.floor ≤ length t.trail → TakesAway level t t
-takes_nothing level t a b = record { undone = []; trail = sym (append-nil t.trail); above = λ k d h. absurd (omega arith); front = omega arith; floor = omega arith }
+pub takes_nothing : (level : ℕ) (t : Tracked) → t.qhead ≤ length t.trail → t.floor ≤ length t.trail → TakesAway level t t
+takes_nothing level t a b = record { undone = []; trail = sym (append-nil t.trail); above = λ k d h. absurd (omega arith); qhead = omega arith; floor = omega arith }
 
 pub takes_one_more : (level : ℕ) (a b c : Tracked) (d : Decision) → TakesAway level a b → PopsLast b c d → level < last_level b.trail → TakesAway level a c
 takes_one_more level a b c d took pops above =
@@ -135,15 +135,15 @@ takes_one_more level a b c d took pops above =
     let long : length b.trail ≡ length c.trail + 1 = ap length pops.trail ∙ length-append c.trail (e ∷ []) in
     let is : last_level b.trail ≡ pops.level = ap last_level pops.trail ∙ last_level_end c.trail e in
     let h : level < pops.level = omega arith in
-    let x = took.front in
-    let y = pops.front in
+    let x = took.qhead in
+    let y = pops.qhead in
     let z = took.floor in
     let w = pops.floor in
     record {
       undone = e ∷ took.undone;
       trail = took.trail ∙ ap (λ (xs : List Entry). xs ++ took.undone) pops.trail ∙ append_assoc c.trail (e ∷ []) took.undone;
       above = all_cons level e took.undone h took.above;
-      front = omega arith;
+      qhead = omega arith;
       floor = omega arith;
     }
 

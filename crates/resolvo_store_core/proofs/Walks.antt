@@ -50,7 +50,7 @@ pub moved_is : (c : ClauseId) (from : Signed) (place : ℕ) (to : Signed) (v u :
 moved_is c from place to v u once moved m = go (cases_literal from m) (cases_literal to m)
   where
     go : (from ≡ m) ⊎ (same_literal from m ≡ false) → (to ≡ m) ⊎ (same_literal to m ≡ false) → u m ≡ moved_view from c (Some to) v m
-    go (inl f) t = subst (λ (n : Signed). u n ≡ moved_view from c (Some to) v n) f (rw (same_literal-self from) (moved.taken ∙ taken_out (v from) place c moved.stood once))
+    go (inl f) t = subst (λ (n : Signed). u n ≡ moved_view from c (Some to) v n) f (rw (same_literal-self from) (moved.taken ∙ taken_out (v from) place c moved.was_in once))
     go (inr f) (inl t) = subst (λ (n : Signed). same_literal from n ≡ false → u n ≡ moved_view from c (Some to) v n) t (λ g. rw g (rw (same_literal-self to) moved.put)) f
     go (inr f) (inr t) = rw f (rw t (moved.others m f t))
 
@@ -77,7 +77,7 @@ pub walking_moves : (from to : Signed) (met more : List ClauseId) (moves : List 
     → IsWalking from met moves pairs view place rest now v → slice_get (v from) place ≡ Some c → more ≡ met ++ c ∷ [] → Some to ≡ new_watch (pair_at now c.0) (first_target rest) → Moves from place to now new v u → IsWalking from more moves pairs view place (drop 1 rest) new u
 walking_moves from to met more moves pairs view place rest now new v u c walk at grown goes moved =
     let within : place < length (v from) = in_range_from (v from) place c at in
-    let both : Some moved.clause ≡ Some c = sym moved.lists.stood ∙ at in
+    let both : Some moved.clause ≡ Some c = sym moved.lists.was_in ∙ at in
     let is : moved.clause ≡ c = cc in
     let here : drop place (v from) ≡ c ∷ drop (suc place) (v from) = drop_here (v from) place c at in
     let behind : drop (suc place) (v from) ≡ drop place (u from) = sym (drop_taken (v from) place within) ∙ ap (drop place) (sym moved.lists.taken) in
@@ -99,7 +99,7 @@ walking_moves from to met more moves pairs view place rest now new v u c walk at
 
 -- the list is one shorter after a move
 pub shorter : (from to : Signed) (place : ℕ) (now new : List (Option WatchedLiterals)) (v u : Signed → List ClauseId) → Moves from place to now new v u → length (u from) + 1 ≡ length (v from)
-shorter from to place now new v u moved = go (v from) place (u from) moved.clause moved.lists.stood moved.lists.taken
+shorter from to place now new v u moved = go (v from) place (u from) moved.clause moved.lists.was_in moved.lists.taken
   where
     go : (xs : List ClauseId) (n : ℕ) (ys : List ClauseId) (c : ClauseId) → slice_get xs n ≡ Some c → ys ≡ take n xs ++ drop (suc n) xs → length ys + 1 ≡ length xs
     go [] n ys c at e = cc

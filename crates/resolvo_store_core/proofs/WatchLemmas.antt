@@ -46,10 +46,10 @@ put_and_taken c l a b b' d put same out m = go (cases_literal l m)
     go (inr n) = out.others m n ∙ same m ∙ put.others m n
 
 pub moved_between : (c : ClauseId) (from to : Signed) (place : ℕ) (a b d : Signed → List ClauseId) → same_literal from to ≡ false → slice_get (a from) place ≡ Some c → PutsFirst c to a b → TakesOut from place b d → MovesIn c from place to a d
-moved_between c from to place a b d apart stood put out =
+moved_between c from to place a b d apart was_in put out =
     let here : b from ≡ a from = put.others from (differs_sym from to apart) in
     record {
-      stood = stood;
+      was_in = was_in;
       taken = out.taken ∙ ap (λ (xs : List ClauseId). take place xs ++ drop (suc place) xs) here;
       put = out.others to apart ∙ put.put;
       others = λ l n m. out.others l n ∙ put.others l m;
@@ -58,14 +58,14 @@ moved_between c from to place a b d apart stood put out =
 -- the clause at the cursor watches the other literal now
 pub updated : (c : ClauseId) (p : WatchedLiterals) (from to : Signed) (place : ℕ) (pairs new_pairs : List (Option WatchedLiterals)) (a b d : Signed → List ClauseId)
     → IsWatched pairs a → slice_get (a from) place ≡ Some c → pair_at pairs c.0 ≡ Some p → watches (pair_at pairs c.0) to ≡ false → PutsFirst c to a b → TakesOut from place b d → new_pairs ≡ slice_set pairs c.0 (Some (moved_pair p from to)) → Moves from place to pairs new_pairs a d
-updated c p from to place pairs new_pairs a b d fit stood is free put out wrote =
-    let found = pair_of_watcher pairs a from place c fit stood in
+updated c p from to place pairs new_pairs a b d fit was_in is free put out wrote =
+    let found = pair_of_watcher pairs a from place c fit was_in in
     let both : Some found.0 ≡ Some p = sym found.1 ∙ is in
     let same : found.0 ≡ p = cc in
     let watching : watches (Some p) from ≡ true = subst (λ (x : WatchedLiterals). watches (Some x) from ≡ true) same found.2 in
     let not_to : watches (Some p) to ≡ false = subst (λ (o : Option WatchedLiterals). watches o to ≡ false) is free in
     let apart : same_literal from to ≡ false = not_same_watch p from to watching not_to in
-    let lists : MovesIn c from place to a d = moved_between c from to place a b d apart stood put out in
+    let lists : MovesIn c from place to a d = moved_between c from to place a b d apart was_in put out in
     record {
       clause = c;
       pair = p;

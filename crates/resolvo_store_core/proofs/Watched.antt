@@ -157,7 +157,7 @@ moved_well ps old new cl p from place to well is w n moves = record { once = λ 
         → count d (new l) ≡ one_if (watches (pair_at (set ps cl.0 (Some (moved_pair p from to))) d) l)
     go l d (inl f) (inl t) k = absurd (not_same from to (not_same_watch p from to w n) (f ∙ sym t))
     go l d (inl f) (inr t) (inl k) =
-        let a : count cl.0 (old from) ≡ one_if (eqb cl.0 cl.0) + count cl.0 (take place (old from) ++ drop (suc place) (old from)) = count_split (old from) place cl cl.0 moves.stood in
+        let a : count cl.0 (old from) ≡ one_if (eqb cl.0 cl.0) + count cl.0 (take place (old from) ++ drop (suc place) (old from)) = count_split (old from) place cl cl.0 moves.was_in in
         let b : one_if (eqb cl.0 cl.0) ≡ 1 = one_same cl.0 in
         let e : count cl.0 (old from) ≡ 1 = old_c from ∙ ap one_if w in
         let g : count cl.0 (new from) ≡ count cl.0 (take place (old from) ++ drop (suc place) (old from)) = ap (count cl.0) moves.taken in
@@ -166,7 +166,7 @@ moved_well ps old new cl p from place to well is w n moves = record { once = λ 
         subst (λ (m : Signed). count d (new m) ≡ one_if (watches (pair_at (set ps cl.0 (Some (moved_pair p from to))) d) m)) f
         (subst (λ (y : ℕ). count y (new from) ≡ one_if (watches (pair_at (set ps cl.0 (Some (moved_pair p from to))) y) from)) (sym k.1) goal)
     go l d (inl f) (inr t) (inr k) =
-        let a : count d (old from) ≡ one_if (eqb d cl.0) + count d (take place (old from) ++ drop (suc place) (old from)) = count_split (old from) place cl d moves.stood in
+        let a : count d (old from) ≡ one_if (eqb d cl.0) + count d (take place (old from) ++ drop (suc place) (old from)) = count_split (old from) place cl d moves.was_in in
         let b : one_if (eqb d cl.0) ≡ 0 = ap one_if k.0 in
         let g : count d (new from) ≡ count d (take place (old from) ++ drop (suc place) (old from)) = ap (count d) moves.taken in
         let x : one_if (watches (pair_at (set ps cl.0 (Some (moved_pair p from to))) d) from) ≡ count d (old from) = same_number d from k.1 in

@@ -53,8 +53,8 @@ module _ {V : Type 0} (eq : V → V → Bool) where
   new_ties t x v = cond (among t x) [] (tie_all t.variables t.helpers x v)
 
 -- the one list begins the other
-abbrev pub IsFrontOf : {X : Type 0} → List X → List X → Type 0
-IsFrontOf {X} xs ys = (zs : List X) × (ys ≡ xs ++ zs)
+abbrev pub IsPrefixOf : {X : Type 0} → List X → List X → Type 0
+IsPrefixOf {X} xs ys = (zs : List X) × (ys ≡ xs ++ zs)
 
 -- under values of the variables and of the helpers, each clause is met: where the k-th variable is true, the helper at i has the digit of k there
 abbrev pub IsMet : {V : Type 0} → (V → Bool) → (ℕ → Bool) → Tracking V → Type 0

@@ -7,7 +7,7 @@ use Rattle.resolvo_pool_core.specs.declared.id.VersionSetId.{VersionSetId}
 use Rattle.resolvo_pool_core.specs.declared.condition.Condition.{Condition}
 use Rattle.resolvo_pool_core.specs.declared.condition.Condition.TheVariants.{Binary, Requirement}
 use Rattle.resolvo_pool_core.specs.declared.condition.LogicalOperator.TheVariants.{And, Or}
-use Rattle.resolvo_pool_core.specs.RuleKeeping.{says}
+use Rattle.resolvo_pool_core.specs.RuleKeeping.{truth_of}
 
 -- each case with each of these, in order
 abbrev pub pairs : List (List VersionSetId) → List (List VersionSetId) → List (List VersionSetId)
@@ -28,12 +28,12 @@ abbrev pub cases : (ConditionId → Condition) → ConditionId → List (List Ve
 cases condition_of c = cases_within condition_of (suc c.0) c
 
 -- the truth of a condition to depth n, where these version sets are met
-abbrev pub says_within : (VersionSetId → Bool) → (ConditionId → Condition) → ℕ → ConditionId → Bool
-says_within met condition_of zero c = false
-says_within met condition_of (suc n) c = says met (says_within met condition_of n) (condition_of c)
+abbrev pub truth_within : (VersionSetId → Bool) → (ConditionId → Condition) → ℕ → ConditionId → Bool
+truth_within met condition_of zero c = false
+truth_within met condition_of (suc n) c = truth_of met (truth_within met condition_of n) (condition_of c)
 
-abbrev pub says_so : (VersionSetId → Bool) → (ConditionId → Condition) → ConditionId → Bool
-says_so met condition_of c = says_within met condition_of (suc c.0) c
+abbrev pub condition_holds : (VersionSetId → Bool) → (ConditionId → Condition) → ConditionId → Bool
+condition_holds met condition_of c = truth_within met condition_of (suc c.0) c
 
 -- all version sets of some case are met
 abbrev pub some_case_met : (VersionSetId → Bool) → List (List VersionSetId) → Bool

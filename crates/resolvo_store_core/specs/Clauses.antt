@@ -106,20 +106,20 @@ HasLists ls (Excluded v s) = ⊤
 HasLists ls (AnyOf x v) = ⊤
 
 -- the same by tests of ids: the condition's case, the candidates or the learnt literals are there
-abbrev pub lists_there : {N : Type 0} → (Option (DenseId DisjunctionTag ℕ) → Bool) → (Requirement → Bool) → (DenseId LearntClauseTag ℕ → Bool) → Clause N → Bool
-lists_there condition candidates learnt InstallRoot = true
-lists_there condition candidates learnt (Requires p d r) = condition d && candidates r
-lists_there condition candidates learnt (ForbidMultipleInstances v l n) = true
-lists_there condition candidates learnt (Constrains p c s) = true
-lists_there condition candidates learnt (ConstrainsParent p x s) = true
-lists_there condition candidates learnt (ConstrainsExcluded c x s) = true
-lists_there condition candidates learnt (Lock l o) = true
-lists_there condition candidates learnt (Learnt l) = learnt l
-lists_there condition candidates learnt (Excluded v s) = true
-lists_there condition candidates learnt (AnyOf x v) = true
+abbrev pub lists_exist : {N : Type 0} → (Option (DenseId DisjunctionTag ℕ) → Bool) → (Requirement → Bool) → (DenseId LearntClauseTag ℕ → Bool) → Clause N → Bool
+lists_exist condition candidates learnt InstallRoot = true
+lists_exist condition candidates learnt (Requires p d r) = condition d && candidates r
+lists_exist condition candidates learnt (ForbidMultipleInstances v l n) = true
+lists_exist condition candidates learnt (Constrains p c s) = true
+lists_exist condition candidates learnt (ConstrainsParent p x s) = true
+lists_exist condition candidates learnt (ConstrainsExcluded c x s) = true
+lists_exist condition candidates learnt (Lock l o) = true
+lists_exist condition candidates learnt (Learnt l) = learnt l
+lists_exist condition candidates learnt (Excluded v s) = true
+lists_exist condition candidates learnt (AnyOf x v) = true
 
 abbrev pub has_lists : {N : Type 0} → FixedLists N → Clause N → Bool
-has_lists ls c = lists_there (has_disjunction ls) (has_candidates ls) (has_learnt ls) c
+has_lists ls c = lists_exist (has_disjunction ls) (has_candidates ls) (has_learnt ls) c
 
 -- the lists that the clause names exist
 pub record Fits {N : Type 0} (ls : FixedLists N) (c : Clause N) : Type 0 where

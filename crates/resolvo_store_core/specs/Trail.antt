@@ -49,14 +49,14 @@ last_level (e ∷ d ∷ es) = last_level (d ∷ es)
 -- the trail, the number of propagated entries, and the trail's least length since the last reset
 pub record Tracked : Type 0 where
   pub trail : List Entry
-  pub front : ℕ
+  pub qhead : ℕ
   pub floor : ℕ
 
 -- the last entry was taken away, which held this decision
 pub record PopsLast (old new : Tracked) (d : Decision) : Type 0 where
   pub level : ℕ
   pub trail : old.trail ≡ new.trail ++ record { decision = d; level = level } ∷ []
-  pub front : new.front ≡ min old.front (length new.trail)
+  pub qhead : new.qhead ≡ min old.qhead (length new.trail)
   pub floor : new.floor ≡ min old.floor (length new.trail)
 
 -- entries above the level were taken away from the end
@@ -64,7 +64,7 @@ pub record TakesAway (level : ℕ) (old new : Tracked) : Type 0 where
   pub undone : List Entry
   pub trail : old.trail ≡ new.trail ++ undone
   pub above : All (λ e. level < e.level) undone
-  pub front : new.front ≡ min old.front (length new.trail)
+  pub qhead : new.qhead ≡ min old.qhead (length new.trail)
   pub floor : new.floor ≡ min old.floor (length new.trail)
 
 -- the entries above the level were taken away from the end, up to the first that is not above it
@@ -72,8 +72,8 @@ abbrev pub Undoes : ℕ → Tracked → Tracked → Type 0
 Undoes level old new = TakesAway level old new × (last_level new.trail ≤ level)
 
 -- the map agrees with the trail, no variable is assigned twice, and both numbers are within the trail
-pub record IsTrail (map : List (Option Assignment)) (trail : List Entry) (front floor : ℕ) : Type 0 where
+pub record IsTrail (map : List (Option Assignment)) (trail : List Entry) (qhead floor : ℕ) : Type 0 where
   pub mapped : (v : ℕ) → at map v ≡ assigned trail v
   pub once : EachOnce trail
-  pub front_within : front ≤ length trail
+  pub qhead_within : qhead ≤ length trail
   pub floor_within : floor ≤ length trail

@@ -74,7 +74,7 @@ pub record StartsIn (c : ClauseId) (p : WatchedLiterals) (old new : Signed → L
 
 -- the clause at the place was moved from the one list, to be the first of the other
 pub record MovesIn (c : ClauseId) (from : Signed) (place : ℕ) (to : Signed) (old new : Signed → List ClauseId) : Type 0 where
-  pub stood : slice_get (old from) place ≡ Some c
+  pub was_in : slice_get (old from) place ≡ Some c
   pub taken : new from ≡ take place (old from) ++ drop (suc place) (old from)
   pub put : new to ≡ c ∷ old to
   pub others : (l : Signed) → same_literal from l ≡ false → same_literal to l ≡ false → new l ≡ old l

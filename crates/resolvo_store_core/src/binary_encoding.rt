@@ -6,7 +6,7 @@
 ghost use Rattle.std.specs.Prelude.{◌≡◌, ◌==◌, ◌&&◌, ◌+◌, ◌*◌, ◌^◌, ◌++◌, ◌∷◌, [], ◌↔◌, Bool, ℕ, not, true, false, is_some, length, map, IfOk, OnOk, OnErr, IsOkUnless};
 ghost use Rattle.std.specs.List.{list_any, count_by};
 ghost use Rattle.resolvo_pool_core.specs.declared.want.Want.TheVariants.{Memory};
-ghost use Rattle.resolvo_store_core.specs.AtMostOne.{among, needs_helper, tracked, ties, tie_all, new_ties, all_ties, IsLeastCount, IsFrontOf, IsMet, IsAtMostOne};
+ghost use Rattle.resolvo_store_core.specs.AtMostOne.{among, needs_helper, tracked, ties, tie_all, new_ties, all_ties, IsLeastCount, IsPrefixOf, IsMet, IsAtMostOne};
 
 use indexmap::IndexSet;
 use resolvo_pool_core::want::R;
@@ -122,7 +122,7 @@ impl<V: Copy + Eq + Hash + Drop> AtMostOnceTracker<V> {
 impl<V: Copy + Eq + Hash + Drop> AtMostOnceTracker<V> {
     /// The law of the clauses: there are as many as variables times helpers. Some values of the
     /// helpers satisfy them exactly if at most one of the variables is true.
-    pub fn say_at_most_one(&self)
+    pub fn at_most_one_law(&self)
         ensures count { length (all_ties self.now) ≡ length self.now.variables *
             length self.now.helpers }
         ensures exact { (value : V → Bool)
@@ -133,7 +133,7 @@ impl<V: Copy + Eq + Hash + Drop> AtMostOnceTracker<V> {
 
     /// The law of `add`: the clauses of the tracker after it are those before it and the new ones,
     /// as multisets.
-    pub fn come_to_all(&self, variable: V, helper: Option<V>)
+    pub fn add_law(&self, variable: V, helper: Option<V>)
         requires { is_some helper ≡ needs_helper V.eq self.now variable }
         ensures { (p : V × V × Bool → Bool)
             → count_by p (all_ties (tracked V.eq self.now variable helper))
@@ -151,7 +151,7 @@ fn tie<V: Copy + Drop>(
     helper: Option<V>,
     out: &mut Vec<(V, V, bool)>,
 ) -> R<()>
-    ensures front { IsFrontOf out.old.items out.new.items }
+    ensures prefix { IsPrefixOf out.old.items out.new.items }
     ensures ties { OnOk result
         (out.new.items ≡ out.old.items ++ tie_all variables.now helpers.now variable helper) }
     ensures refusal { IsOkUnless result Memory }
@@ -169,7 +169,7 @@ fn tie<V: Copy + Drop>(
 
 /// Ties the earlier variables to the new helper, at which the digit of each of their places is 0.
 fn tie_to_helper<V: Copy + Drop>(variables: &[V], helper: V, out: &mut Vec<(V, V, bool)>) -> R<()>
-    ensures front { IsFrontOf out.old.items out.new.items }
+    ensures prefix { IsPrefixOf out.old.items out.new.items }
     ensures ties { OnOk result (out.new.items ≡ out.old.items ++ map (λ x. (x, helper, false))
         variables.now) }
     ensures refusal { IsOkUnless result Memory }
@@ -187,7 +187,7 @@ fn tie_variable<V: Copy + Drop>(
     helpers: &[V],
     out: &mut Vec<(V, V, bool)>,
 ) -> R<()>
-    ensures front { IsFrontOf out.old.items out.new.items }
+    ensures prefix { IsPrefixOf out.old.items out.new.items }
     ensures ties { OnOk result (out.new.items ≡ out.old.items ++ ties place variable helpers.now) }
     ensures refusal { IsOkUnless result Memory }
 {

@@ -4,7 +4,7 @@
 ghost use Rattle.std.specs.Prelude.{◌≡◌, ◌++◌, ◌∷◌, [], Bool, map, IfOk};
 ghost use Rattle.resolvo_pool_core.specs.declared.id.ConditionId.{ConditionId};
 ghost use Rattle.resolvo_pool_core.specs.declared.id.VersionSetId.{VersionSetId};
-ghost use Rattle.resolvo_store_core.specs.Cases.{cases, cases_of, pairs, says_so, some_case_met};
+ghost use Rattle.resolvo_store_core.specs.Cases.{cases, cases_of, pairs, condition_holds, some_case_met};
 
 use resolvo_pool_core::condition::{Condition, LogicalOperator};
 use resolvo_pool_core::id::{ConditionId, VersionSetId};
@@ -78,7 +78,7 @@ pub fn convert_conditions_to_dnf<I: Interner>(
 pub fn cases_are_exact<I: Interner>(interner: &I)
     ensures { (met : VersionSetId → Bool) (c : ConditionId)
         → some_case_met met (cases (I.condition_of interner.now) c)
-        ≡ says_so met (I.condition_of interner.now) c }
+        ≡ condition_holds met (I.condition_of interner.now) c }
 {}
 
 /// The one case of a version set.

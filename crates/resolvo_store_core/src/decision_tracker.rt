@@ -32,7 +32,7 @@ pub enum Set {
 pub struct DecisionTracker {
     map: DecisionMap,
     stack: Vec<Entry>,
-    front: usize,
+    qhead: usize,
     floor: usize,
 }
 
@@ -41,20 +41,20 @@ impl Model for DecisionTracker {
 
     ghost Value = { Tracked };
 
-    ghost view = { λ t. record { trail = t.stack.items; front = t.front; floor = t.floor } };
+    ghost view = { λ t. record { trail = t.stack.items; qhead = t.qhead; floor = t.floor } };
 
-    ghost invariant = { λ t. IsTrail t.map t.stack.items t.front t.floor };
+    ghost invariant = { λ t. IsTrail t.map t.stack.items t.qhead t.floor };
 }
 
 impl DecisionTracker {
     /// An empty trail.
     pub fn new(alloc: Global) -> DecisionTracker
-        ensures { result ≡ record { trail = []; front = 0; floor = 0 } }
+        ensures { result ≡ record { trail = []; qhead = 0; floor = 0 } }
     {
         DecisionTracker {
             map: DecisionMap::new(alloc),
             stack: Vec::new(alloc),
-            front: 0,
+            qhead: 0,
             floor: 0,
         }
     }
@@ -153,7 +153,7 @@ impl DecisionTracker {
             Some(entry) => {
                 self.map.reset(entry.decision.variable);
                 let len = self.stack.len();
-                self.front = self.front.min(len);
+                self.qhead = self.qhead.min(len);
                 self.floor = self.floor.min(len);
                 (entry.decision, top_level(self.stack.as_slice()))
             }
@@ -175,15 +175,15 @@ impl DecisionTracker {
     /// The next decision that was not propagated, and marks it as propagated.
     pub fn next_unpropagated(&mut self) -> Option<Decision>
         ensures decision { result ≡ option_map (λ e. e.decision)
-            (slice_get self.old.trail self.old.front) }
-        ensures front { self.new ≡ record self.old {
-          front = min (self.old.front + 1)
+            (slice_get self.old.trail self.old.qhead) }
+        ensures qhead { self.new ≡ record self.old {
+          qhead = min (self.old.qhead + 1)
               (length self.old.trail);
         } }
     {
-        if self.front < self.stack.len() {
-            let decision = self.stack[self.front].decision;
-            self.front += 1;
+        if self.qhead < self.stack.len() {
+            let decision = self.stack[self.qhead].decision;
+            self.qhead += 1;
             Some(decision)
         } else {
             None
@@ -192,9 +192,9 @@ impl DecisionTracker {
 
     /// Restarts propagation at the first decision.
     pub fn again(&mut self)
-        ensures { self.new ≡ record self.old { front = 0 } }
+        ensures { self.new ≡ record self.old { qhead = 0 } }
     {
-        self.front = 0;
+        self.qhead = 0;
     }
 
     /// The least length of the trail since this was last called, at first 0.
@@ -209,7 +209,7 @@ impl DecisionTracker {
 
     /// Removes all decisions.
     pub fn clear(&mut self)
-        ensures { self.new ≡ record { trail = []; front = 0; floor = 0 } }
+        ensures { self.new ≡ record { trail = []; qhead = 0; floor = 0 } }
     {
         while !self.stack.is_empty() {
             self.undo_last();

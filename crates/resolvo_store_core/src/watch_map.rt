@@ -254,7 +254,7 @@ impl WatchMapCursor {
         clauses: &[Option<WatchedLiterals>],
     ) -> WatchedLiterals
         requires fit { IsWatched clauses.now (watchers map.now) }
-        requires stands { self.now.place < length (watchers map.now self.now.literal) }
+        requires in_list { self.now.place < length (watchers map.now self.now.literal) }
         ensures { (c : ClauseId)
             → slice_get (watchers map.now self.now.literal) self.now.place ≡ Some c
             → pair_at clauses.now c.0 ≡ Some result }
@@ -273,7 +273,7 @@ impl WatchMapCursor {
         to: Option<Literal>,
     ) -> Option<Literal>
         requires fit { IsWatched clauses.now (watchers map.now) }
-        requires stands { self.now.place < length (watchers map.now self.now.literal) }
+        requires in_list { self.now.place < length (watchers map.now self.now.literal) }
         ensures { (c : ClauseId)
             → slice_get (watchers map.now self.now.literal) self.now.place ≡ Some c
             → result ≡ new_watch (pair_at clauses.now c.0) to }
@@ -301,7 +301,7 @@ impl WatchMapCursor {
         to: Literal,
     ) -> R<()>
         requires fit { IsWatched clauses.old (watchers map.old) }
-        requires stands { self.now.place < length (watchers map.old self.now.literal) }
+        requires in_list { self.now.place < length (watchers map.old self.now.literal) }
         requires free { (c : ClauseId)
             → slice_get (watchers map.old self.now.literal) self.now.place ≡ Some c
             → watches (pair_at clauses.old c.0) to ≡ false }

@@ -56,7 +56,7 @@ impl<P: Interner> TestProvider<P> {
         }
     }
 
-    fn note(&self, question: Question<P::NameId, P::SolvableId>) -> R<()>
+    fn record_question(&self, question: Question<P::NameId, P::SolvableId>) -> R<()>
         ensures { IsOkUnless result Memory }
     {
         match self.asked.try_borrow_mut() {
@@ -315,7 +315,7 @@ impl<P: DependencyProvider> DependencyProvider for TestProvider<P> {
         alloc: Global,
         name: SparseId<NameTag, P::NameId>,
     ) -> R<Option<Candidates<SparseId<SolvableTag, P::SolvableId>>>> {
-        self.note(Question::Candidates(name.into_raw()))?;
+        self.record_question(Question::Candidates(name.into_raw()))?;
         match self.inner.get_candidates(alloc, name.into_raw())? {
             Some(listed) => Ok(Some(sparse_candidates(alloc, &listed)?)),
             None => Ok(None),
@@ -337,7 +337,7 @@ impl<P: DependencyProvider> DependencyProvider for TestProvider<P> {
         alloc: Global,
         solvable: SparseId<SolvableTag, P::SolvableId>,
     ) -> R<Dependencies> {
-        self.note(Question::Dependencies(solvable.into_raw()))?;
+        self.record_question(Question::Dependencies(solvable.into_raw()))?;
         self.inner.get_dependencies(alloc, solvable.into_raw())
     }
 

@@ -12,8 +12,8 @@ use Rattle.resolvo_text.specs.declared.line.LineFault.TheVariants.{Fault, Memory
 use Rattle.resolvo_text.specs.Parse.{◌>>=◌, Fails, name_in, span_at, span_in, with_span, spec_at, skip, with_first, alternatives_at}
 
 -- the alternatives read so far, and the rest
-abbrev pub with_front : List Spec → Option (List Spec × Words) → Option (List Spec × Words)
-with_front front read = read >>= λ x. Some (front ++ x.0, x.1)
+abbrev pub with_prefix : List Spec → Option (List Spec × Words) → Option (List Spec × Words)
+with_prefix prefix read = read >>= λ x. Some (prefix ++ x.0, x.1)
 
 -- the steps of a chain at its end
 pub bind_some : {A B : Type 0} (o : Option A) (f : A → Option B) (y : B) → (o >>= f) ≡ Some y → (x : A) × (o ≡ Some x) × (f x ≡ Some y)
@@ -42,39 +42,39 @@ unfolding skip
 skip_shorter k [] = omega arith
 skip_shorter k (word ∷ words) = cond_both {A = Bool × Words} (bytes_eq word k) (true, words) (false, word ∷ words) (λ x. length x.1 ≤ suc (length words)) (λ e. omega arith) (λ e. omega arith)
 
-pub at_start : (read : Option (List Spec × Words)) → with_front [] read ≡ read
+pub at_start : (read : Option (List Spec × Words)) → with_prefix [] read ≡ read
 at_start None = refl
 at_start (Some x) = refl
 
-regroup : (front : List Spec) (s : Spec) (read : Option (List Spec × Words)) → with_front front (with_first s read) ≡ with_front (front ++ s ∷ []) read
-regroup front s None = refl
-regroup front s (Some x) = ap (λ (ss : List Spec). Some (ss, x.1)) (simp append_assoc)
+regroup : (prefix : List Spec) (s : Spec) (read : Option (List Spec × Words)) → with_prefix prefix (with_first s read) ≡ with_prefix (prefix ++ s ∷ []) read
+regroup prefix s None = refl
+regroup prefix s (Some x) = ap (λ (ss : List Spec). Some (ss, x.1)) (simp append_assoc)
 
-pub goes_on : (front : List Spec) (n : ℕ) (words : Words) (s : Spec) (after : Words) (more : Bool) (others : Words) (total : Option (List Spec × Words)) → length words ≤ n → spec_at words ≡ Some (s, after)
-    → skip (codes "|") after ≡ (more, others) → more ≡ true → with_front front (alternatives_at n words) ≡ total
-    → (m : ℕ) × (length others ≤ m) × (with_front (front ++ s ∷ []) (alternatives_at m others) ≡ total)
+pub goes_on : (prefix : List Spec) (n : ℕ) (words : Words) (s : Spec) (after : Words) (more : Bool) (others : Words) (total : Option (List Spec × Words)) → length words ≤ n → spec_at words ≡ Some (s, after)
+    → skip (codes "|") after ≡ (more, others) → more ≡ true → with_prefix prefix (alternatives_at n words) ≡ total
+    → (m : ℕ) × (length others ≤ m) × (with_prefix (prefix ++ s ∷ []) (alternatives_at m others) ≡ total)
 unfolding alternatives_at
-goes_on front zero words s after more others total le h bar is_more so_far = absurd (omega (arith, spec_at_shorter words s after h))
-goes_on front (suc n) words s after more others total le h bar is_more so_far =
-    let one : with_front front (alternatives_at (suc n) words) ≡ with_front (front ++ s ∷ []) (alternatives_at n others) = rw (h, bar, is_more) (regroup front s (alternatives_at n others)) in
+goes_on prefix zero words s after more others total le h bar is_more so_far = absurd (omega (arith, spec_at_shorter words s after h))
+goes_on prefix (suc n) words s after more others total le h bar is_more so_far =
+    let one : with_prefix prefix (alternatives_at (suc n) words) ≡ with_prefix (prefix ++ s ∷ []) (alternatives_at n others) = rw (h, bar, is_more) (regroup prefix s (alternatives_at n others)) in
     (n, omega (arith, spec_at_shorter words s after h, skip_shorter (codes "|") after, ap (λ (x : Bool × Words). length x.1) bar), sym one ∙ so_far)
 
-pub ends : (front : List Spec) (n : ℕ) (words : Words) (s : Spec) (after : Words) (more : Bool) (others : Words) (total : Option (List Spec × Words)) → length words ≤ n → spec_at words ≡ Some (s, after)
-    → skip (codes "|") after ≡ (more, others) → more ≡ false → with_front front (alternatives_at n words) ≡ total → total ≡ Some (front ++ s ∷ [], others)
+pub ends : (prefix : List Spec) (n : ℕ) (words : Words) (s : Spec) (after : Words) (more : Bool) (others : Words) (total : Option (List Spec × Words)) → length words ≤ n → spec_at words ≡ Some (s, after)
+    → skip (codes "|") after ≡ (more, others) → more ≡ false → with_prefix prefix (alternatives_at n words) ≡ total → total ≡ Some (prefix ++ s ∷ [], others)
 unfolding alternatives_at
-ends front zero words s after more others total le h bar is_end so_far = absurd (omega (arith, spec_at_shorter words s after h))
-ends front (suc n) words s after more others total le h bar is_end so_far =
-    let one : with_front front (alternatives_at (suc n) words) ≡ Some (front ++ s ∷ [], others) = rw (h, bar, is_end) refl in
+ends prefix zero words s after more others total le h bar is_end so_far = absurd (omega (arith, spec_at_shorter words s after h))
+ends prefix (suc n) words s after more others total le h bar is_end so_far =
+    let one : with_prefix prefix (alternatives_at (suc n) words) ≡ Some (prefix ++ s ∷ [], others) = rw (h, bar, is_end) refl in
     sym so_far ∙ one
 
-pub fails : (front : List Spec) (n : ℕ) (words : Words) (total : Option (List Spec × Words)) → spec_at words ≡ None → with_front front (alternatives_at n words) ≡ total → total ≡ None
+pub fails : (prefix : List Spec) (n : ℕ) (words : Words) (total : Option (List Spec × Words)) → spec_at words ≡ None → with_prefix prefix (alternatives_at n words) ≡ total → total ≡ None
 unfolding alternatives_at
-fails front zero words total h so_far = sym so_far
-fails front (suc n) words total h so_far =
-    let one : with_front front (alternatives_at (suc n) words) ≡ None = rw h refl in
+fails prefix zero words total h so_far = sym so_far
+fails prefix (suc n) words total h so_far =
+    let one : with_prefix prefix (alternatives_at (suc n) words) ≡ None = rw h refl in
     sym so_far ∙ one
 
-pub fails_so : (e : LineFault) (front : List Spec) (n : ℕ) (words : Words) (total : Option (List Spec × Words))
-    → Fails e (spec_at words) → with_front front (alternatives_at n words) ≡ total → Fails e total
-fails_so Fault front n words total h so_far = fails front n words total h so_far
-fails_so Memory front n words total h so_far = tt
+pub fails_so : (e : LineFault) (prefix : List Spec) (n : ℕ) (words : Words) (total : Option (List Spec × Words))
+    → Fails e (spec_at words) → with_prefix prefix (alternatives_at n words) ≡ total → Fails e total
+fails_so Fault prefix n words total h so_far = fails prefix n words total h so_far
+fails_so Memory prefix n words total h so_far = tt

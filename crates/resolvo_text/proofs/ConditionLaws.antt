@@ -35,21 +35,21 @@ abbrev count_before : Option Written → ℕ
 count_before None = 0
 count_before (Some v) = spec_count v
 
-abbrev front : Joint → Option Written → Words → Words
-front j None words = words
-front j (Some v) words = written_words v ++ word_of j ∷ words
+abbrev prefix : Joint → Option Written → Words → Words
+prefix j None words = words
+prefix j (Some v) words = written_words v ++ word_of j ∷ words
 
 -- The parts before can be joined so.
-abbrev MayStandBefore : Joint → ℕ → Option Written → Type 0
-MayStandBefore j deep None = ⊤
-MayStandBefore j deep (Some v) = IsWritten v × (looseness v ≤ suc (tightness j)) × (depth_of v ≤ deep)
+abbrev MayPrecede : Joint → ℕ → Option Written → Type 0
+MayPrecede j deep None = ⊤
+MayPrecede j deep (Some v) = IsWritten v × (looseness v ≤ suc (tightness j)) × (depth_of v ≤ deep)
 
 pub record Fits (loose deep : ℕ) (w : Written) : Type 0 where
   pub form : IsWritten w
   pub binds : looseness w ≤ loose
   pub depth : depth_of w ≤ deep
 
-joined_fits : (j : Joint) (deep : ℕ) (before : Option Written) (w : Written) → MayStandBefore j deep before → Fits (tightness j) deep w → Fits (suc (tightness j)) deep (written_joined j before w)
+joined_fits : (j : Joint) (deep : ℕ) (before : Option Written) (w : Written) → MayPrecede j deep before → Fits (tightness j) deep w → Fits (suc (tightness j)) deep (written_joined j before w)
 joined_fits j deep None w first f = record { form = f.form; binds = omega (arith, f.binds); depth = f.depth }
 joined_fits And deep (Some v) w first f = record { form = (first.0, f.form, first.1, f.binds); binds = omega arith; depth = omega (arith, first.2, f.depth) }
 joined_fits Or deep (Some v) w first f = record { form = (first.0, f.form, f.binds); binds = omega arith; depth = omega (arith, first.2, f.depth) }
@@ -64,13 +64,13 @@ joined_means j None w = refl
 joined_means And (Some v) w = refl
 joined_means Or (Some v) w = refl
 
-joined_words : (j : Joint) (before : Option Written) (w : Written) (rest : Words) → front j before (written_words w ++ rest) ≡ written_words (written_joined j before w) ++ rest
+joined_words : (j : Joint) (before : Option Written) (w : Written) (rest : Words) → prefix j before (written_words w ++ rest) ≡ written_words (written_joined j before w) ++ rest
 joined_words j None w rest = refl
 joined_words And (Some v) w rest = sym (append_assoc (written_words v) (codes "and" ∷ written_words w) rest)
 joined_words Or (Some v) w rest = sym (append_assoc (written_words v) (codes "or" ∷ written_words w) rest)
 
-may_stand : (j : Joint) (deep : ℕ) (w : Written) → Fits (suc (tightness j)) deep w → MayStandBefore j deep (Some w)
-may_stand j deep w f = (f.form, f.binds, f.depth)
+may_precede : (j : Joint) (deep : ℕ) (w : Written) → Fits (suc (tightness j)) deep w → MayPrecede j deep (Some w)
+may_precede j deep w f = (f.form, f.binds, f.depth)
 
 -- ---- a parsed condition has this spelling
 
@@ -100,9 +100,9 @@ pub record IsJoined (j : Joint) (deep : ℕ) (before : Option Written) (room : �
   pub fits : Fits (suc (tightness j)) deep written
   pub specs : spec_count written + x.1 ≡ count_before before + room
   pub means : meant written ≡ x.0
-  pub spelled : front j before words ≡ written_words written ++ x.2
+  pub spelled : prefix j before words ≡ written_words written ++ x.2
 
-parts_take : (j : Joint) (deep : ℕ) (part : PartReader) → Takes (tightness j) deep part → (n : ℕ) (before : Option Written) → MayStandBefore j deep before → (room : ℕ) (words : Words) (x : Part)
+parts_take : (j : Joint) (deep : ℕ) (part : PartReader) → Takes (tightness j) deep part → (n : ℕ) (before : Option Written) → MayPrecede j deep before → (room : ℕ) (words : Words) (x : Part)
     → parts_at j part n (option_map meant before) room words ≡ Some x → IsJoined j deep before room words x
 unfolding parts_at
 parts_take j deep part takes zero before first room words x e = absurd cc
@@ -113,11 +113,11 @@ parts_take j deep part takes (suc n) before first room words x e =
     let whole = written_joined j before r.written in
     let f = joined_fits j deep before r.written first r.fits in
     let means : meant whole ≡ joined j (option_map meant before) a.0.0 = joined_means j before r.written ∙ ap (λ (c : Cond). joined j (option_map meant before) c) r.means in
-    let spelled : front j before words ≡ written_words whole ++ a.0.2 = ap (front j before) r.spelled ∙ joined_words j before r.written a.0.2 in
+    let spelled : prefix j before words ≡ written_words whole ++ a.0.2 = ap (prefix j before) r.spelled ∙ joined_words j before r.written a.0.2 in
     elim (chosen (skip (word_of j) a.0.2).0 _ _ _ a.2) [
       | inl more ↦
-          let on = parts_take j deep part takes n (Some whole) (may_stand j deep whole f) a.0.1 (skip (word_of j) a.0.2).1 x (ap (λ (c : Cond). parts_at j part n (Some c) a.0.1 (skip (word_of j) a.0.2).1) means ∙ more.1) in
-          let next : front j before words ≡ front j (Some whole) (skip (word_of j) a.0.2).1 = spelled ∙ ap (λ (ws : Words). written_words whole ++ ws) (skip_takes (word_of j) a.0.2 more.0) in
+          let on = parts_take j deep part takes n (Some whole) (may_precede j deep whole f) a.0.1 (skip (word_of j) a.0.2).1 x (ap (λ (c : Cond). parts_at j part n (Some c) a.0.1 (skip (word_of j) a.0.2).1) means ∙ more.1) in
+          let next : prefix j before words ≡ prefix j (Some whole) (skip (word_of j) a.0.2).1 = spelled ∙ ap (λ (ws : Words). written_words whole ++ ws) (skip_takes (word_of j) a.0.2 more.0) in
           record { written = on.written; fits = on.fits; specs = omega (arith, on.specs, joined_count j before r.written, r.specs); means = on.means; spelled = next ∙ on.spelled }
       | inr end ↦
           subst (λ (p : Part). IsJoined j deep before room words p) (same_Some _ _ end.1)

@@ -8,7 +8,7 @@ use Rattle.std.proofs.lemmas.Option.{same_Some}
 use Rattle.std.proofs.lemmas.List.{append-nil, length-append}
 use Rattle.resolvo_text.specs.Line.{Version, Spec, Cond, Line, Skipped, Listed, Needs, Limits, Unknown, Lock, Favour, Exclude, Wish}
 use Rattle.resolvo_text.specs.Spelling.{Words, is_name, IsVersion, IsSpec, version_words, spec_words, alternatives_words, AreWordsOf, AreWordsOfCondition, HasForm}
-use Rattle.resolvo_text.specs.Parse.{◌>>=◌, version_at, reason_at, spec_at, alternatives_at, version_in, reason_in, spec_in, span_in, skip, end_at, behind_if, condition_in, needs_in, said_by}
+use Rattle.resolvo_text.specs.Parse.{◌>>=◌, version_at, reason_at, spec_at, alternatives_at, version_in, reason_in, spec_in, span_in, skip, end_at, behind_if, condition_in, needs_in, line_by}
 use Rattle.resolvo_text.proofs.AlternativeLemmas.{bind_some}
 use Rattle.resolvo_text.proofs.PartLaws.{version_takes, version_again, reason_takes, reason_again, spec_takes, spec_again, alternatives_take, alternatives_again, AreAlternatives, chosen, skip_takes, skip_is, no_skip, BeginsNoSpan, BeginsNot, whole_takes, whole_again}
 use Rattle.resolvo_text.proofs.SpanLaws.{not_a_span}
@@ -80,15 +80,15 @@ ends_alternatives words (Some c) (others, is, spelled) = subst (λ (ws : Words).
 -- ---- the words of a line
 
 -- The words spell the line, and the line has a form.
-pub record Says (words : Words) (line : Line) : Type 0 where
+pub record AreSpelling (words : Words) (line : Line) : Type 0 where
   pub spelled : AreWordsOf words line
   pub form : HasForm line
 
 -- a part, and the line that is made of it
-made_takes : {X : Type 0} (o : Option X) (make : X → Line) (words : Words) (line : Line) → (o >>= λ x. Some (make x)) ≡ Some line → ((x : X) → o ≡ Some x → Says words (make x)) → Says words line
+made_takes : {X : Type 0} (o : Option X) (make : X → Line) (words : Words) (line : Line) → (o >>= λ x. Some (make x)) ≡ Some line → ((x : X) → o ≡ Some x → AreSpelling words (make x)) → AreSpelling words line
 made_takes o make words line e takes =
     let b = bind_some o (λ x. Some (make x)) line e in
-    subst (λ (l : Line). Says words l) (same_Some _ _ b.2) (takes b.0 b.1)
+    subst (λ (l : Line). AreSpelling words l) (same_Some _ _ b.2) (takes b.0 b.1)
 
 keyword_is : (keyword : List ℕ) (word : List ℕ) → bytes_eq keyword word ≡ true → keyword ≡ word
 keyword_is keyword word e = (bytes_eq-Decides keyword word).0 e
@@ -103,34 +103,34 @@ headed keyword k words ws e is = ap (λ (w : List ℕ). w ∷ words) (keyword_is
 
 -- a line of a keyword and a version
 of_version : (keyword k : List ℕ) (words : Words) (line : Line) (make : Version → Line) → bytes_eq keyword k ≡ true → (version_in words >>= λ v. Some (make v)) ≡ Some line
-    → ((v : Version) → IsVersion v → Says (k ∷ version_words v) (make v)) → Says (keyword ∷ words) line
-of_version keyword k words line make same e says = made_takes (version_in words) make (keyword ∷ words) line e (λ v h.
-    let t = version_in_takes words v h in subst (λ (ws : Words). Says ws (make v)) (sym (headed keyword k words (version_words v) same t.0)) (says v t.1))
+    → ((v : Version) → IsVersion v → AreSpelling (k ∷ version_words v) (make v)) → AreSpelling (keyword ∷ words) line
+of_version keyword k words line make same e each_version = made_takes (version_in words) make (keyword ∷ words) line e (λ v h.
+    let t = version_in_takes words v h in subst (λ (ws : Words). AreSpelling ws (make v)) (sym (headed keyword k words (version_words v) same t.0)) (each_version v t.1))
 
 exclude_takes : (keyword : List ℕ) (words : Words) (line : Line) → bytes_eq keyword (codes "exclude") ≡ true
-    → (version_at words >>= λ v. reason_in v.1 >>= λ reason. Some (Exclude v.0 reason)) ≡ Some line → Says (keyword ∷ words) line
+    → (version_at words >>= λ v. reason_in v.1 >>= λ reason. Some (Exclude v.0 reason)) ≡ Some line → AreSpelling (keyword ∷ words) line
 exclude_takes keyword words line same e =
     let a = bind_some (version_at words) (λ v. reason_in v.1 >>= λ reason. Some (Exclude v.0 reason)) line e in
     let b = bind_some (reason_in a.0.1) (λ reason. Some (Exclude a.0.0 reason)) line a.2 in
     let v = version_takes words a.0.0 a.0.1 a.1 in
     let r = reason_in_takes a.0.1 b.0 b.1 in
-    subst (λ (l : Line). Says (keyword ∷ words) l) (same_Some _ _ b.2)
+    subst (λ (l : Line). AreSpelling (keyword ∷ words) l) (same_Some _ _ b.2)
     (record { spelled = headed keyword (codes "exclude") words _ same (v.0 ∙ ap (λ (ws : Words). version_words a.0.0 ++ ws) r.0); form = (v.1, r.1) })
 
 -- a line whose alternatives and condition are spelled so
-needs_said : (keyword : List ℕ) (words rest : Words) (ss : List Spec) (c : Option Cond) → bytes_eq keyword (codes "needs") ≡ true → AreAlternatives words ss rest → IsBehindNeeds rest c → Says (keyword ∷ words) (Needs ss c)
-needs_said keyword words rest ss None same are is =
+needs_spelled : (keyword : List ℕ) (words rest : Words) (ss : List Spec) (c : Option Cond) → bytes_eq keyword (codes "needs") ≡ true → AreAlternatives words ss rest → IsBehindNeeds rest c → AreSpelling (keyword ∷ words) (Needs ss c)
+needs_spelled keyword words rest ss None same are is =
     record { spelled = headed keyword (codes "needs") words (alternatives_words ss) same (are.spelled ∙ ap (λ (ws : Words). alternatives_words ss ++ ws) is ∙ append-nil (alternatives_words ss)); form = (are.some, are.each) }
-needs_said keyword words rest ss (Some c) same are (others, is, spelled) =
+needs_spelled keyword words rest ss (Some c) same are (others, is, spelled) =
     record { spelled = (others, headed keyword (codes "needs") words (alternatives_words ss ++ codes "if" ∷ others) same (are.spelled ∙ ap (λ (ws : Words). alternatives_words ss ++ ws) is), spelled); form = (are.some, are.each) }
 
-needs_take : (keyword : List ℕ) (words : Words) (line : Line) → bytes_eq keyword (codes "needs") ≡ true → needs_in words ≡ Some line → Says (keyword ∷ words) line
+needs_take : (keyword : List ℕ) (words : Words) (line : Line) → bytes_eq keyword (codes "needs") ≡ true → needs_in words ≡ Some line → AreSpelling (keyword ∷ words) line
 unfolding needs_in
 needs_take keyword words line same e =
     let a = bind_some (alternatives_at (length words) words) (λ x. condition_in x.1 >>= λ c. Some (Needs x.0 c)) line e in
     let b = bind_some (condition_in a.0.1) (λ c. Some (Needs a.0.0 c)) line a.2 in
-    subst (λ (l : Line). Says (keyword ∷ words) l) (same_Some _ _ b.2)
-    (needs_said keyword words a.0.1 a.0.0 b.0 same (alternatives_take (length words) words a.0.0 a.0.1 a.1) (condition_in_takes a.0.1 b.0 b.1))
+    subst (λ (l : Line). AreSpelling (keyword ∷ words) l) (same_Some _ _ b.2)
+    (needs_spelled keyword words a.0.1 a.0.0 b.0 same (alternatives_take (length words) words a.0.0 a.0.1 a.1) (condition_in_takes a.0.1 b.0 b.1))
 
 needs_again : (ss : List Spec) (rest : Words) (c : Option Cond) → 0 < length ss → AllByRecursion IsSpec ss → IsBehindNeeds rest c → needs_in (alternatives_words ss ++ rest) ≡ Some (Needs ss c)
 unfolding needs_in
@@ -139,9 +139,9 @@ needs_again ss rest c some each is =
     let enough : length ss ≤ length (alternatives_words ss ++ rest) = omega (arith, words_each ss, length-append (alternatives_words ss) rest) in
     rw (alternatives_again (length (alternatives_words ss ++ rest)) ss rest some enough each ends.0 ends.1, condition_in_again rest c is) refl
 
-pub said_takes : (keyword : List ℕ) (words : Words) (line : Line) → said_by keyword words ≡ Some line → Says (keyword ∷ words) line
-unfolding said_by
-said_takes keyword words line e =
+pub line_by_takes : (keyword : List ℕ) (words : Words) (line : Line) → line_by keyword words ≡ Some line → AreSpelling (keyword ∷ words) line
+unfolding line_by
+line_by_takes keyword words line e =
     chooses (bytes_eq keyword (codes "version")) _ _ line
     (λ same made. of_version keyword (codes "version") words line (λ v. Listed v) same made (λ v fits. record { spelled = refl; form = fits }))
     (chooses (bytes_eq keyword (codes "needs")) _ _ line
@@ -162,19 +162,19 @@ said_takes keyword words line e =
     (λ same made. of_version keyword (codes "wish") words line (λ v. Wish v) same made (λ v fits. record { spelled = refl; form = fits }))
     (λ none. absurd cc)))))))) e
 
-abbrev said_of : Words → Option Line
-said_of [] = None
-said_of (keyword ∷ words) = said_by keyword words
+abbrev line_of_words : Words → Option Line
+line_of_words [] = None
+line_of_words (keyword ∷ words) = line_by keyword words
 
-pub said_again : (keyword : List ℕ) (words : Words) (line : Line) → HasForm line → AreWordsOf (keyword ∷ words) line → said_by keyword words ≡ Some line
-unfolding said_by
-said_again keyword words Skipped form spelled = absurd spelled
-said_again keyword words (Listed v) form spelled = ap said_of spelled ∙ rw (version_in_again v form) refl
-said_again keyword words (Needs ss None) form spelled = ap said_of (spelled ∙ ap (λ (ws : Words). codes "needs" ∷ ws) (sym (append-nil (alternatives_words ss)))) ∙ rw (needs_again ss [] None form.0 form.1 refl) refl
-said_again keyword words (Needs ss (Some c)) form (others, spelled, is) = ap said_of spelled ∙ rw (needs_again ss (codes "if" ∷ others) (Some c) form.0 form.1 (others, refl, is)) refl
-said_again keyword words (Limits s) form spelled = ap said_of spelled ∙ rw (spec_in_again s form) refl
-said_again keyword words (Unknown reason) form spelled = ap said_of spelled ∙ rw (reason_in_again reason form) refl
-said_again keyword words (Lock v) form spelled = ap said_of spelled ∙ rw (version_in_again v form) refl
-said_again keyword words (Favour v) form spelled = ap said_of spelled ∙ rw (version_in_again v form) refl
-said_again keyword words (Exclude v reason) form spelled = ap said_of spelled ∙ rw (version_again v (reason ∷ []) form.0, reason_in_again reason form.1) refl
-said_again keyword words (Wish v) form spelled = ap said_of spelled ∙ rw (version_in_again v form) refl
+pub line_by_again : (keyword : List ℕ) (words : Words) (line : Line) → HasForm line → AreWordsOf (keyword ∷ words) line → line_by keyword words ≡ Some line
+unfolding line_by
+line_by_again keyword words Skipped form spelled = absurd spelled
+line_by_again keyword words (Listed v) form spelled = ap line_of_words spelled ∙ rw (version_in_again v form) refl
+line_by_again keyword words (Needs ss None) form spelled = ap line_of_words (spelled ∙ ap (λ (ws : Words). codes "needs" ∷ ws) (sym (append-nil (alternatives_words ss)))) ∙ rw (needs_again ss [] None form.0 form.1 refl) refl
+line_by_again keyword words (Needs ss (Some c)) form (others, spelled, is) = ap line_of_words spelled ∙ rw (needs_again ss (codes "if" ∷ others) (Some c) form.0 form.1 (others, refl, is)) refl
+line_by_again keyword words (Limits s) form spelled = ap line_of_words spelled ∙ rw (spec_in_again s form) refl
+line_by_again keyword words (Unknown reason) form spelled = ap line_of_words spelled ∙ rw (reason_in_again reason form) refl
+line_by_again keyword words (Lock v) form spelled = ap line_of_words spelled ∙ rw (version_in_again v form) refl
+line_by_again keyword words (Favour v) form spelled = ap line_of_words spelled ∙ rw (version_in_again v form) refl
+line_by_again keyword words (Exclude v reason) form spelled = ap line_of_words spelled ∙ rw (version_again v (reason ∷ []) form.0, reason_in_again reason form.1) refl
+line_by_again keyword words (Wish v) form spelled = ap line_of_words spelled ∙ rw (version_in_again v form) refl

@@ -79,7 +79,7 @@ lines_of-whole (b ∷ line) lt none = lines_of-last b line none
 
 -- ---- bytes of the piece that are no newline
 
-plain_taken : (told : Option (List ℕ)) (bytes rest : List ℕ) → Consumes (prepend_known (bytes ++ rest) told) (prepend_known rest told) bytes
+plain_taken : (remaining : Option (List ℕ)) (bytes rest : List ℕ) → Consumes (prepend_known (bytes ++ rest) remaining) (prepend_known rest remaining) bytes
 plain_taken None bytes rest = tt
 plain_taken (Some t) bytes rest = append_assoc bytes rest t
 
@@ -89,11 +89,11 @@ pub record IsBegun (before after : Option (List ℕ)) (room : ℕ) (r : LineRead
   pub sum : r.room + length r.line.items ≡ room
   pub plain : newlines r.line.items ≡ 0
 
-pub plain_more : (before told : Option (List ℕ)) (room : ℕ) (r s : LineReader) → Consumes before (left r told) r.line.items → r.room + length r.line.items ≡ room → newlines r.line.items ≡ 0 → TakesPlain r s → IsBegun before (left s told) room s
-plain_more before told room r s first sum none takes =
-    let mid : Consumes (left r told) (left s told) takes.bytes = subst (λ (bs : List ℕ). Consumes (prepend_known bs told) (left s told) takes.bytes) (sym takes.piece) (plain_taken told takes.bytes (unread s)) in
-    let both : Consumes before (left s told) (r.line.items ++ takes.bytes) = consumed_both before (left r told) (left s told) r.line.items takes.bytes first mid in record {
-      consumed = subst (λ (bs : List ℕ). Consumes before (left s told) bs) (sym takes.line) both;
+pub plain_more : (before remaining : Option (List ℕ)) (room : ℕ) (r s : LineReader) → Consumes before (left r remaining) r.line.items → r.room + length r.line.items ≡ room → newlines r.line.items ≡ 0 → TakesPlain r s → IsBegun before (left s remaining) room s
+plain_more before remaining room r s first sum none takes =
+    let mid : Consumes (left r remaining) (left s remaining) takes.bytes = subst (λ (bs : List ℕ). Consumes (prepend_known bs remaining) (left s remaining) takes.bytes) (sym takes.piece) (plain_taken remaining takes.bytes (unread s)) in
+    let both : Consumes before (left s remaining) (r.line.items ++ takes.bytes) = consumed_both before (left r remaining) (left s remaining) r.line.items takes.bytes first mid in record {
+      consumed = subst (λ (bs : List ℕ). Consumes before (left s remaining) bs) (sym takes.line) both;
       sum = omega (arith, sum, takes.room, ap (λ (bs : List ℕ). length bs) takes.line, length-append r.line.items takes.bytes);
       plain = ap newlines takes.line ∙ newlines-append r.line.items takes.bytes ∙ omega (arith, none, takes.plain);
     }
@@ -176,8 +176,8 @@ fault_later TooLong before mid after line room mid_room failures mid_failures fa
     let c = consumed before mid line first bytes e in
     let d = h c.0 c.1 in
     let sum : room ≡ length line + mid_room = omega arith in
-    let front : take room bytes ≡ line ++ take mid_room c.0 = ap (λ (bs : List ℕ). take room bs) c.2 ∙ ap (λ (r : ℕ). take r (line ++ c.0)) sum ∙ take-append-add line c.0 mid_room in
-    (omega (arith, ap (λ (bs : List ℕ). length bs) c.2, length-append line c.0, d.0), ap newlines front ∙ newlines-append line (take mid_room c.0) ∙ omega (arith, d.1))
+    let prefix : take room bytes ≡ line ++ take mid_room c.0 = ap (λ (bs : List ℕ). take room bs) c.2 ∙ ap (λ (r : ℕ). take r (line ++ c.0)) sum ∙ take-append-add line c.0 mid_room in
+    (omega (arith, ap (λ (bs : List ℕ). length bs) c.2, length-append line c.0, d.0), ap newlines prefix ∙ newlines-append line (take mid_room c.0) ∙ omega (arith, d.1))
 fault_later Memory before mid after line room mid_room failures mid_failures failures_now interruptions first none so_far same h = tt
 fault_later Ids before mid after line room mid_room failures mid_failures failures_now interruptions first none so_far same h = h
 

@@ -96,7 +96,7 @@ range_takes word span e =
     let c = bind_some (number_after_dot (drop (a.0 + 1) word)) (λ high. cond (ltb b.0 high) (Some (Range b.0 high)) None) span b.2 in
     let g = cond_some (ltb b.0 c.0) (Range b.0 c.0) span c.2 in
     let dot = position-Some is_dot word a.0 0 a.1 in
-    let front = number_in_spells (take a.0 word) b.0 b.1 in
+    let prefix = number_in_spells (take a.0 word) b.0 b.1 in
     let back = number_after_dot_takes (drop (a.0 + 1) word) c.0 c.1 in
     let here : drop a.0 word ≡ dots c.0 = drop_more word a.0 0 dot.0 ∙ ap (λ (x : ℕ). x ∷ drop (a.0 + 1) word) (eqb-true (get_or word a.0 0) 46 dot.1) ∙ ap (λ (xs : List ℕ). 46 ∷ xs) back.0 in
     record {
@@ -105,7 +105,7 @@ range_takes word span e =
       is = sym g.1;
       rises = ltb-true b.0 c.0 g.0;
       small = back.1;
-      spelled = sym (take-append-drop a.0 word) ∙ ap (λ (xs : List ℕ). xs ++ drop a.0 word) front.0 ∙ ap (λ (xs : List ℕ). decimal b.0 ++ xs) here;
+      spelled = sym (take-append-drop a.0 word) ∙ ap (λ (xs : List ℕ). xs ++ drop a.0 word) prefix.0 ∙ ap (λ (xs : List ℕ). decimal b.0 ++ xs) here;
     }
 
 -- ---- spans

@@ -13,12 +13,12 @@ use Rattle.std.proofs.lemmas.Str.Parse.{digit_at}
 use Rattle.resolvo_text.specs.declared.spec.Span.{Span}
 use Rattle.resolvo_text.specs.declared.spec.Span.TheVariants.{Any, One, Range}
 use Rattle.resolvo_text.specs.Line.{Version, Spec, Cond, Line, Skipped, Listed, Needs, Limits, Unknown, Lock, Favour, Exclude, Wish}
-use Rattle.resolvo_text.specs.Spelling.{Words, starts_name, continues_name, is_word, is_reserved, is_name, IsVersion, IsSpec, IsSpan, version_words, span_words, spec_words, alternatives_words, AreWordsOf, AreWordsOfCondition, Written, Lone, Group, Both, Either, IsWritten, written_words, SaysLine, HasForm, Spells, IsSkipped}
-use Rattle.resolvo_text.specs.Parse.{is_space, word_at, said_by, is_skipped, line_in}
+use Rattle.resolvo_text.specs.Spelling.{Words, starts_name, continues_name, is_word, is_reserved, is_name, IsVersion, IsSpec, IsSpan, version_words, span_words, spec_words, alternatives_words, AreWordsOf, AreWordsOfCondition, Written, Lone, Group, Both, Either, IsWritten, written_words, SpellsLine, HasForm, Spells, IsSkipped}
+use Rattle.resolvo_text.specs.Parse.{is_space, word_at, line_by, is_skipped, line_in}
 use Rattle.resolvo_text.proofs.NumberLemmas.{digits}
 use Rattle.resolvo_text.proofs.AlternativeLemmas.{bind_some}
 use Rattle.resolvo_text.proofs.PartLaws.{word_takes, chosen}
-use Rattle.resolvo_text.proofs.LineLaws.{said_takes, said_again}
+use Rattle.resolvo_text.proofs.LineLaws.{line_by_takes, line_by_again}
 
 -- ---- words without a space
 
@@ -100,26 +100,26 @@ join_begins b bs [] = refl
 join_begins b bs (w ∷ ws) = refl
 
 text_again : (text : List ℕ) (b : ℕ) (bs : List ℕ) (words : Words) (line : Line) → eqb b 35 ≡ false → text ≡ join_with_byte 32 ((b ∷ bs) ∷ words) → AreWords ((b ∷ bs) ∷ words)
-    → said_by (b ∷ bs) words ≡ Some line → line_in text ≡ Some line
+    → line_by (b ∷ bs) words ≡ Some line → line_in text ≡ Some line
 unfolding line_in
-text_again text b bs words line first spelled each said =
+text_again text b bs words line first spelled each by_keyword =
     let begins : is_skipped text ≡ false = ap is_skipped spelled ∙ join_begins b bs words ∙ first in
     let split : slice_split is_space text ≡ (b ∷ bs) ∷ words = ap (slice_split is_space) spelled ∙ split_join (b ∷ bs) words each in
-    rw (begins, split) said
+    rw (begins, split) by_keyword
 
 -- ---- the two laws
 
-spells_said : (text : List ℕ) (words : Words) (line : Line) → AreWordsOf words line → text ≡ join_with_byte 32 words → Spells text line
-spells_said text words Skipped is e = absurd is
-spells_said text words (Listed v) is e = (words, e, is)
-spells_said text words (Needs ss None) is e = (words, e, is)
-spells_said text words (Needs ss (Some c)) is e = (words, e, is)
-spells_said text words (Limits s) is e = (words, e, is)
-spells_said text words (Unknown reason) is e = (words, e, is)
-spells_said text words (Lock v) is e = (words, e, is)
-spells_said text words (Favour v) is e = (words, e, is)
-spells_said text words (Exclude v reason) is e = (words, e, is)
-spells_said text words (Wish v) is e = (words, e, is)
+spells_words : (text : List ℕ) (words : Words) (line : Line) → AreWordsOf words line → text ≡ join_with_byte 32 words → Spells text line
+spells_words text words Skipped is e = absurd is
+spells_words text words (Listed v) is e = (words, e, is)
+spells_words text words (Needs ss None) is e = (words, e, is)
+spells_words text words (Needs ss (Some c)) is e = (words, e, is)
+spells_words text words (Limits s) is e = (words, e, is)
+spells_words text words (Unknown reason) is e = (words, e, is)
+spells_words text words (Lock v) is e = (words, e, is)
+spells_words text words (Favour v) is e = (words, e, is)
+spells_words text words (Exclude v reason) is e = (words, e, is)
+spells_words text words (Wish v) is e = (words, e, is)
 
 skipped_is : (text : List ℕ) → is_skipped text ≡ true → IsSkipped text
 skipped_is [] e = inl refl
@@ -130,16 +130,16 @@ is_skipped_from [] h = refl
 is_skipped_from (b ∷ bs) h = ⊎_elim (λ none. absurd cc) (λ first. ap (λ (n : ℕ). eqb n 35) (same_Some b 35 first)) h
 
 -- the text spells the parsed line
-pub line_takes : (text : List ℕ) (line : Line) → line_in text ≡ Some line → SaysLine text line
+pub line_takes : (text : List ℕ) (line : Line) → line_in text ≡ Some line → SpellsLine text line
 unfolding line_in
 line_takes text line e =
     elim (chosen (is_skipped text) _ _ _ e) [
-      | inl skipped ↦ subst (λ (l : Line). SaysLine text l) (same_Some Skipped line skipped.1) (record { spelled = skipped_is text skipped.0; form = tt })
-      | inr said ↦
-          let b = bind_some (word_at (slice_split is_space text)) (λ x. said_by x.0 x.1) line said.1 in
-          let words = said_takes b.0.0 b.0.1 line b.2 in
+      | inl skipped ↦ subst (λ (l : Line). SpellsLine text l) (same_Some Skipped line skipped.1) (record { spelled = skipped_is text skipped.0; form = tt })
+      | inr by_keyword ↦
+          let b = bind_some (word_at (slice_split is_space text)) (λ x. line_by x.0 x.1) line by_keyword.1 in
+          let words = line_by_takes b.0.0 b.0.1 line b.2 in
           let joined : text ≡ join_with_byte 32 (b.0.0 ∷ b.0.1) = sym (join_with_byte-slice_split 32 text) ∙ ap (join_with_byte 32) (word_takes (slice_split is_space text) b.0.0 b.0.1 b.1) in
-          record { spelled = spells_said text (b.0.0 ∷ b.0.1) line words.spelled joined; form = words.form }
+          record { spelled = spells_words text (b.0.0 ∷ b.0.1) line words.spelled joined; form = words.form }
     ]
 
 skipped_again : (text : List ℕ) → IsSkipped text → line_in text ≡ Some Skipped
@@ -153,25 +153,25 @@ joined_of text words ws e is = e ∙ ap (join_with_byte 32) is
 -- a line that the text spells is parsed
 pub line_again : (text : List ℕ) (line : Line) → HasForm line → Spells text line → line_in text ≡ Some line
 line_again text Skipped form spells = skipped_again text spells
-line_again text (Listed v) form (words, joined, is) = text_again text _ _ (version_words v) (Listed v) refl (joined_of text words _ joined is) (by_test (codes "version") refl, version_are_words v form) (said_again (codes "version") _ (Listed v) form refl)
-line_again text (Needs ss None) form (words, joined, is) = text_again text _ _ (alternatives_words ss) (Needs ss None) refl (joined_of text words _ joined is) (by_test (codes "needs") refl, alternatives_are_words ss form.1) (said_again (codes "needs") _ (Needs ss None) form refl)
+line_again text (Listed v) form (words, joined, is) = text_again text _ _ (version_words v) (Listed v) refl (joined_of text words _ joined is) (by_test (codes "version") refl, version_are_words v form) (line_by_again (codes "version") _ (Listed v) form refl)
+line_again text (Needs ss None) form (words, joined, is) = text_again text _ _ (alternatives_words ss) (Needs ss None) refl (joined_of text words _ joined is) (by_test (codes "needs") refl, alternatives_are_words ss form.1) (line_by_again (codes "needs") _ (Needs ss None) form refl)
 line_again text (Needs ss (Some c)) form (words, joined, (others, is, spelled)) =
     let each : AreWords (alternatives_words ss ++ codes "if" ∷ others) = both (alternatives_words ss) (codes "if" ∷ others) (alternatives_are_words ss form.1) (by_test (codes "if") refl, condition_are_words others c spelled) in
-    text_again text _ _ (alternatives_words ss ++ codes "if" ∷ others) (Needs ss (Some c)) refl (joined_of text words _ joined is) (by_test (codes "needs") refl, each) (said_again (codes "needs") _ (Needs ss (Some c)) form (others, refl, spelled))
-line_again text (Limits s) form (words, joined, is) = text_again text _ _ (spec_words s) (Limits s) refl (joined_of text words _ joined is) (by_test (codes "limits") refl, spec_are_words s form) (said_again (codes "limits") _ (Limits s) form refl)
-line_again text (Unknown reason) form (words, joined, is) = text_again text _ _ (reason ∷ []) (Unknown reason) refl (joined_of text words _ joined is) (by_test (codes "unknown") refl, (name_has_no_space reason form, tt)) (said_again (codes "unknown") _ (Unknown reason) form refl)
-line_again text (Lock v) form (words, joined, is) = text_again text _ _ (version_words v) (Lock v) refl (joined_of text words _ joined is) (by_test (codes "lock") refl, version_are_words v form) (said_again (codes "lock") _ (Lock v) form refl)
-line_again text (Favour v) form (words, joined, is) = text_again text _ _ (version_words v) (Favour v) refl (joined_of text words _ joined is) (by_test (codes "favour") refl, version_are_words v form) (said_again (codes "favour") _ (Favour v) form refl)
-line_again text (Exclude v reason) form (words, joined, is) = text_again text _ _ (version_words v ++ reason ∷ []) (Exclude v reason) refl (joined_of text words _ joined is) (by_test (codes "exclude") refl, both (version_words v) (reason ∷ []) (version_are_words v form.0) (name_has_no_space reason form.1, tt)) (said_again (codes "exclude") _ (Exclude v reason) form refl)
-line_again text (Wish v) form (words, joined, is) = text_again text _ _ (version_words v) (Wish v) refl (joined_of text words _ joined is) (by_test (codes "wish") refl, version_are_words v form) (said_again (codes "wish") _ (Wish v) form refl)
+    text_again text _ _ (alternatives_words ss ++ codes "if" ∷ others) (Needs ss (Some c)) refl (joined_of text words _ joined is) (by_test (codes "needs") refl, each) (line_by_again (codes "needs") _ (Needs ss (Some c)) form (others, refl, spelled))
+line_again text (Limits s) form (words, joined, is) = text_again text _ _ (spec_words s) (Limits s) refl (joined_of text words _ joined is) (by_test (codes "limits") refl, spec_are_words s form) (line_by_again (codes "limits") _ (Limits s) form refl)
+line_again text (Unknown reason) form (words, joined, is) = text_again text _ _ (reason ∷ []) (Unknown reason) refl (joined_of text words _ joined is) (by_test (codes "unknown") refl, (name_has_no_space reason form, tt)) (line_by_again (codes "unknown") _ (Unknown reason) form refl)
+line_again text (Lock v) form (words, joined, is) = text_again text _ _ (version_words v) (Lock v) refl (joined_of text words _ joined is) (by_test (codes "lock") refl, version_are_words v form) (line_by_again (codes "lock") _ (Lock v) form refl)
+line_again text (Favour v) form (words, joined, is) = text_again text _ _ (version_words v) (Favour v) refl (joined_of text words _ joined is) (by_test (codes "favour") refl, version_are_words v form) (line_by_again (codes "favour") _ (Favour v) form refl)
+line_again text (Exclude v reason) form (words, joined, is) = text_again text _ _ (version_words v ++ reason ∷ []) (Exclude v reason) refl (joined_of text words _ joined is) (by_test (codes "exclude") refl, both (version_words v) (reason ∷ []) (version_are_words v form.0) (name_has_no_space reason form.1, tt)) (line_by_again (codes "exclude") _ (Exclude v reason) form refl)
+line_again text (Wish v) form (words, joined, is) = text_again text _ _ (version_words v) (Wish v) refl (joined_of text words _ joined is) (by_test (codes "wish") refl, version_are_words v form) (line_by_again (codes "wish") _ (Wish v) form refl)
 
 -- a text spells one line at most
-pub one_line : (text : List ℕ) (a b : Line) → SaysLine text a → SaysLine text b → a ≡ b
+pub one_line : (text : List ℕ) (a b : Line) → SpellsLine text a → SpellsLine text b → a ≡ b
 one_line text a b p q = same_Some a b (sym (line_again text a p.form p.spelled) ∙ line_again text b q.form q.spelled)
 
 some_is_none : (line : Line) → Some line ≡ None → ⊥
 some_is_none line e = cc
 
 -- where nothing is read, the text spells no line
-pub says_none : (text : List ℕ) → line_in text ≡ None → (line : Line) → SaysLine text line → ⊥
-says_none text none line p = some_is_none line (sym (line_again text line p.form p.spelled) ∙ none)
+pub spells_none : (text : List ℕ) → line_in text ≡ None → (line : Line) → SpellsLine text line → ⊥
+spells_none text none line p = some_is_none line (sym (line_again text line p.form p.spelled) ∙ none)

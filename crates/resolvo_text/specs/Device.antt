@@ -43,5 +43,5 @@ abbrev pub WriterFailed : ℕ → ℕ → ℕ → ℕ → ℕ → Type 0
 WriterFailed failures_before failures_now interruptions empty_before empty_now = DeviceFailed failures_before failures_now interruptions ⊎ (empty_before < empty_now) ⊎ (last ≤ empty_before)
 
 -- The device took the first of these bytes, and no others.
-abbrev pub TakesFront : Option (List ℕ) → Option (List ℕ) → List ℕ → Type 0
-TakesFront before after bytes = (front : List ℕ) × (rest : List ℕ) × (bytes ≡ front ++ rest) × Appends before after front
+abbrev pub TakesPrefix : Option (List ℕ) → Option (List ℕ) → List ℕ → Type 0
+TakesPrefix before after bytes = (prefix : List ℕ) × (rest : List ℕ) × (bytes ≡ prefix ++ rest) × Appends before after prefix

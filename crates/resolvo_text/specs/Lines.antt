@@ -16,4 +16,4 @@ newlines bytes = count_by is_newline bytes
 
 -- The lines of the text that end among the bytes read, a prefix of the text.
 abbrev pub whole_lines : List ℕ → List ℕ → List (List ℕ)
-whole_lines text came = take (newlines came) (lines_of text)
+whole_lines text received = take (newlines received) (lines_of text)

@@ -213,8 +213,8 @@ unfoldable pub needs_in : Words → Option Line
 needs_in words = alternatives_at (length words) words >>= λ x. condition_in x.1 >>= λ c. Some (Needs x.0 c)
 
 -- the line of this keyword and the words after it
-unfoldable pub said_by : List ℕ → Words → Option Line
-said_by keyword words =
+unfoldable pub line_by : List ℕ → Words → Option Line
+line_by keyword words =
     if bytes_eq keyword (codes "version") then (version_in words >>= λ v. Some (Listed v))
     else if bytes_eq keyword (codes "needs") then needs_in words
     else if bytes_eq keyword (codes "limits") then (spec_in words >>= λ s. Some (Limits s))
@@ -230,4 +230,4 @@ is_skipped [] = true
 is_skipped (b ∷ bs) = b == 35
 
 unfoldable pub line_in : List ℕ → Option Line
-line_in text = if is_skipped text then Some Skipped else (word_at (slice_split is_space text) >>= λ x. said_by x.0 x.1)
+line_in text = if is_skipped text then Some Skipped else (word_at (slice_split is_space text) >>= λ x. line_by x.0 x.1)

@@ -13,7 +13,7 @@ unread r = drop r.at (take r.end r.piece.items)
 
 -- the rest of the text, where the device knows it
 abbrev pub left : LineReader → Option (List ℕ) → Option (List ℕ)
-left r told = prepend_known (unread r) told
+left r remaining = prepend_known (unread r) remaining
 
 -- Bytes of the piece were appended to the line, none of them a newline.
 pub record TakesPlain (old new : LineReader) : Type 0 where
@@ -40,14 +40,14 @@ EndsLine true before room line after room_after = Consumes before after (line ++
 EndsLine false before room line after room_after = Consumes before after line × IfKnown before (λ bytes. bytes ≡ line) × (newlines line ≡ 0) × (room_after + length line ≡ room)
 
 -- Some of the bytes that were left were read, and no line ends among them.
-abbrev pub NoLineCame : Option (List ℕ) → Option (List ℕ) → Type 0
-NoLineCame before after = IfKnown before (λ bytes. (came : List ℕ) × (rest : List ℕ) × (after ≡ Some rest) × (bytes ≡ came ++ rest) × (newlines came ≡ 0))
+abbrev pub NoLineReceived : Option (List ℕ) → Option (List ℕ) → Type 0
+NoLineReceived before after = IfKnown before (λ bytes. (received : List ℕ) × (rest : List ℕ) × (after ≡ Some rest) × (bytes ≡ received ++ rest) × (newlines received ≡ 0))
 
 -- When reading a line may fail so: the rest of the text before, the device's bytes after, the room before, and
 -- that the device failed.
 abbrev pub IsReadFault : ReadFault → Option (List ℕ) → Option (List ℕ) → ℕ → Type 0 → Type 0
 IsReadFault (Fault n) before after room failed = ⊥
-IsReadFault Reader before after room failed = failed × NoLineCame before after
+IsReadFault Reader before after room failed = failed × NoLineReceived before after
 IsReadFault TooLong before after room failed = IfKnown before (λ bytes. (room < length bytes) × (newlines (take room bytes) ≡ 0))
 IsReadFault Memory before after room failed = ⊤
 IsReadFault Ids before after room failed = ⊥

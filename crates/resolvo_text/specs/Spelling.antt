@@ -170,6 +170,6 @@ HasForm (Exclude v reason) = IsVersion v × IsTrue (is_name reason)
 HasForm (Wish v) = IsVersion v
 
 -- The text spells the line.
-pub record SaysLine (text : List ℕ) (line : Line) : Type 0 where
+pub record SpellsLine (text : List ℕ) (line : Line) : Type 0 where
   pub spelled : Spells text line
   pub form : HasForm line

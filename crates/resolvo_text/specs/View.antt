@@ -3,7 +3,7 @@ use Rattle.std.specs.Prelude.{List, map, Option}
 use Rattle.std.specs.Option.{option_map}
 use Rattle.std.specs.String.{string_bytes}
 use Rattle.std.specs.Global.{Vec}
-use Rattle.resolvo_text.specs.Line as says
+use Rattle.resolvo_text.specs.Line as parsed
 use Rattle.resolvo_text.specs.Matches as meaning
 use Rattle.resolvo_text.specs.declared.spec.Version.{Version}
 use Rattle.resolvo_text.specs.declared.spec.Spec as code
@@ -11,21 +11,21 @@ use Rattle.resolvo_text.specs.declared.condition.Cond.{Cond, Spec, And', Or'}
 use Rattle.resolvo_text.specs.declared.line.Line.{Line}
 use Rattle.resolvo_text.specs.declared.line.Line.TheVariants as line
 
-abbrev pub version_of : Version → says.Version
+abbrev pub version_of : Version → parsed.Version
 version_of v = record { name = string_bytes v.name; number = v.number }
 
-abbrev pub spec_of : code.Spec → says.Spec
+abbrev pub spec_of : code.Spec → parsed.Spec
 spec_of s = record { name = string_bytes s.name; span = s.span }
 
-abbrev pub specs_of : List code.Spec → List says.Spec
+abbrev pub specs_of : List code.Spec → List parsed.Spec
 specs_of ss = map spec_of ss
 
-abbrev pub cond_of : Cond → says.Cond
-cond_of (Spec s) = says.Is (spec_of s)
-cond_of (And' p a q b) = says.And (cond_of a) (cond_of b)
-cond_of (Or' p a q b) = says.Or (cond_of a) (cond_of b)
+abbrev pub cond_of : Cond → parsed.Cond
+cond_of (Spec s) = parsed.Is (spec_of s)
+cond_of (And' p a q b) = parsed.And (cond_of a) (cond_of b)
+cond_of (Or' p a q b) = parsed.Or (cond_of a) (cond_of b)
 
-abbrev pub condition_of : Option Cond → Option says.Cond
+abbrev pub condition_of : Option Cond → Option parsed.Cond
 condition_of c = option_map cond_of c
 
 -- a list of versions as a set
@@ -33,16 +33,16 @@ abbrev pub set_of : List Version → meaning.Set
 set_of versions = map version_of versions
 
 -- lists of SPECs
-abbrev pub cases_of : List (Vec code.Spec) → List (List says.Spec)
+abbrev pub cases_of : List (Vec code.Spec) → List (List parsed.Spec)
 cases_of cs = map (λ c. specs_of c.items) cs
 
-abbrev pub view : Line → says.Line
-view line.Skipped = says.Skipped
-view (line.Listed v) = says.Listed (version_of v)
-view (line.Needs alternatives condition) = says.Needs (specs_of alternatives.items) (condition_of condition)
-view (line.Limits s) = says.Limits (spec_of s)
-view (line.Unknown reason) = says.Unknown (string_bytes reason)
-view (line.Lock v) = says.Lock (version_of v)
-view (line.Favour v) = says.Favour (version_of v)
-view (line.Exclude v reason) = says.Exclude (version_of v) (string_bytes reason)
-view (line.Wish v) = says.Wish (version_of v)
+abbrev pub view : Line → parsed.Line
+view line.Skipped = parsed.Skipped
+view (line.Listed v) = parsed.Listed (version_of v)
+view (line.Needs alternatives condition) = parsed.Needs (specs_of alternatives.items) (condition_of condition)
+view (line.Limits s) = parsed.Limits (spec_of s)
+view (line.Unknown reason) = parsed.Unknown (string_bytes reason)
+view (line.Lock v) = parsed.Lock (version_of v)
+view (line.Favour v) = parsed.Favour (version_of v)
+view (line.Exclude v reason) = parsed.Exclude (version_of v) (string_bytes reason)
+view (line.Wish v) = parsed.Wish (version_of v)

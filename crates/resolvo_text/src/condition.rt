@@ -8,7 +8,7 @@ ghost use Rattle.resolvo_text.specs.Parse.{Gives, words_in, word_of, joined, con
 ghost use Rattle.resolvo_text.specs.View.{condition_of, spec_of, specs_of, cond_of, set_of, cases_of};
 ghost use Rattle.resolvo_text.specs.Matches.{Set, holds};
 ghost use Rattle.resolvo_text.specs.Cases.{cases, pairs, some_case_met};
-ghost use Rattle.resolvo_text.specs.Line as says;
+ghost use Rattle.resolvo_text.specs.Line as parsed;
 
 use crate::line::LineFault;
 use crate::parse::{no_more, skip, spec_at};
@@ -208,7 +208,7 @@ pub fn holds(condition: &Cond, set: &[Version]) -> bool
 
 /// A condition holds in a set exactly if all SPECs of some of its cases are met.
 pub fn cases_are_exact()
-    ensures { (c : says.Cond) (set : Set) → some_case_met (cases c) set ≡ holds c set }
+    ensures { (c : parsed.Cond) (set : Set) → some_case_met (cases c) set ≡ holds c set }
 {}
 
 fn copies_of(alloc: Global, specs: &[Spec]) -> Result<Vec<Spec>, AllocError>

@@ -68,10 +68,10 @@ impl Turns {
 }
 
 /// Copies as much as fits, at most `most` bytes, and returns how many.
-fn copy_front(buf: &mut [u8], bytes: &[u8], most: usize) -> usize
+fn copy_prefix(buf: &mut [u8], bytes: &[u8], most: usize) -> usize
     requires { 0 < most }
     ensures within { result ≤ length buf.new }
-    ensures front { bytes.now ≡ take result buf.new ++ drop result bytes.now }
+    ensures prefix { bytes.now ≡ take result buf.new ++ drop result bytes.now }
     ensures short { result ≤ length bytes.now }
     ensures none { result ≡ 0 → 0 < length buf.new → bytes.now ≡ [] }
 {
@@ -137,7 +137,7 @@ impl Source for MemorySource<'_> {
 
     fn read(&mut self, buf: &mut [u8]) -> Result<usize, IoFault> {
         self.turns.next()?;
-        let count = copy_front(buf, self.left, self.per_call);
+        let count = copy_prefix(buf, self.left, self.per_call);
         self.left = &self.left[count..];
         Ok(count)
     }

@@ -8,11 +8,11 @@ ghost use Rattle.std.specs.Prelude.{◌≡◌, ◌<◌, ◌≤◌, ◌∷◌, Li
 ghost use Rattle.std.specs.List.{position, slice_split, count_by};
 ghost use Rattle.std.specs.Option.{option_map};
 ghost use Rattle.std.specs.String.{string_bytes};
-ghost use Rattle.resolvo_text.specs.Line as says;
-ghost use Rattle.resolvo_text.specs.Spelling.{SaysLine};
+ghost use Rattle.resolvo_text.specs.Line as parsed;
+ghost use Rattle.resolvo_text.specs.Spelling.{SpellsLine};
 ghost use Rattle.resolvo_text.specs.declared.line.LineFault.TheVariants.{Fault};
 ghost use Rattle.resolvo_text.specs.View.{version_of, spec_of, specs_of, view};
-ghost use Rattle.resolvo_text.specs.Parse.{Gives, word_at, version_at, reason_at, span_at, spec_at, skip, alternatives_at, name_in, number_in, end_at, version_in, reason_in, spec_in, needs_in, said_by, is_space, words_in, is_bar, is_skipped, line_in};
+ghost use Rattle.resolvo_text.specs.Parse.{Gives, word_at, version_at, reason_at, span_at, spec_at, skip, alternatives_at, name_in, number_in, end_at, version_in, reason_in, spec_in, needs_in, line_by, is_space, words_in, is_bar, is_skipped, line_in};
 
 use crate::condition::condition_in;
 use crate::line::{Line, LineFault};
@@ -204,9 +204,9 @@ fn needs_in(alloc: Global, words: &[u8]) -> Result<Line, LineFault>
 }
 
 /// Parses the words after the keyword.
-#[tactic(auto, unfolding(crate::specs::Parse::said_by))]
-fn said_by(alloc: Global, keyword: &[u8], words: &[u8]) -> Result<Line, LineFault>
-    ensures { Gives (λ line. view line) result (said_by keyword.now (words_in words.now)) }
+#[tactic(auto, unfolding(crate::specs::Parse::line_by))]
+fn line_by(alloc: Global, keyword: &[u8], words: &[u8]) -> Result<Line, LineFault>
+    ensures { Gives (λ line. view line) result (line_by keyword.now (words_in words.now)) }
 {
     if keyword == b"version".as_slice() {
         return Ok(Line::Listed(version_in(alloc, words)?));
@@ -248,8 +248,8 @@ fn is_skipped(text: &[u8]) -> bool
 
 /// Parses the text of a line, without its newline.
 pub fn line_in(alloc: Global, text: &[u8]) -> Result<Line, LineFault>
-    ensures says { IfOk result (λ line. SaysLine text.now (view line)) }
-    ensures fault { result ≡ Err Fault → (line : says.Line) → SaysLine text.now line → ⊥ }
+    ensures parsed { IfOk result (λ line. SpellsLine text.now (view line)) }
+    ensures fault { result ≡ Err Fault → (line : parsed.Line) → SpellsLine text.now line → ⊥ }
 {
     line_read(alloc, text)
 }
@@ -262,10 +262,10 @@ fn line_read(alloc: Global, text: &[u8]) -> Result<Line, LineFault>
         return Ok(Line::Skipped);
     }
     let (keyword, words) = first_word(text);
-    said_by(alloc, keyword, words)
+    line_by(alloc, keyword, words)
 }
 
 /// A text is that of one line at most.
-pub fn texts_say_one_line()
-    ensures { (text : List ℕ) (a b : says.Line) → SaysLine text a → SaysLine text b → a ≡ b }
+pub fn text_is_one_line()
+    ensures { (text : List ℕ) (a b : parsed.Line) → SpellsLine text a → SpellsLine text b → a ≡ b }
 {}

@@ -5,7 +5,7 @@
 
 ghost use Rattle.std.specs.Prelude.{◌≡◌, ◌<◌, ◌≤◌, length, take, IfOk, OnOk, OnErr, MatchResult};
 ghost use Rattle.std.specs.Io.KnownBytes.{Appends, Keeps};
-ghost use Rattle.resolvo_text.specs.Device.{WriterFailed, TakesFront};
+ghost use Rattle.resolvo_text.specs.Device.{WriterFailed, TakesPrefix};
 
 use crate::device::{IoFault, MOST_INTERRUPTIONS, Sink};
 use thiserror::Error;
@@ -18,7 +18,7 @@ pub struct WriteFault;
 /// Writes all of the bytes, in as many calls as the device needs.
 pub fn write_all<S: Sink>(sink: &mut S, bytes: &[u8]) -> Result<(), WriteFault>
     ensures whole { OnOk result (Appends (S.contents sink.old) (S.contents sink.new) bytes.now) }
-    ensures front { OnErr result (TakesFront (S.contents sink.old) (S.contents sink.new) bytes.now) }
+    ensures prefix { OnErr result (TakesPrefix (S.contents sink.old) (S.contents sink.new) bytes.now) }
     ensures failures { OnOk result (S.failures sink.new ≡ S.failures sink.old) }
     ensures empty { OnOk result (S.empty_writes sink.new ≡ S.empty_writes sink.old) }
     ensures fault { OnErr result (WriterFailed (S.failures sink.old) (S.failures sink.new) (S.interruptions sink.new)

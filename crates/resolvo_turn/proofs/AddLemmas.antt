@@ -15,10 +15,10 @@ use Rattle.resolvo_pool_core.specs.Provider.{Needs as Asked, needs_of}
 use Rattle.resolvo_pool_core.specs.RuleKeeping.{Packages, Rules, rules_of as rules_in, is_unknown}
 use Rattle.resolvo_soundness.proofs.Lists.{contains_none, contains_one, contains_only, contains_parts, contains_left, contains_right, contains_map}
 use Rattle.resolvo_store_core.specs.Cases.{cases_of}
-use Rattle.resolvo_soundness.specs.Encoding.{IsExact, Rule, Bar, IsRule, HasBar}
+use Rattle.resolvo_soundness.specs.Encoding.{IsExact, Rule, ForbidReason, IsRule, IsForbidden}
 use Rattle.resolvo_soundness.specs.SearchEnd.{IsNeedEncoded}
 use Rattle.resolvo_state.proofs.Growth.{grows_same, grows_then}
-use Rattle.resolvo_state.proofs.Positions.{front_equal, front_get, front_same, front_then}
+use Rattle.resolvo_state.proofs.Positions.{prefix_equal, prefix_get, prefix_same, prefix_then}
 use Rattle.resolvo_state.specs.declared.solver_state.SolverState.{SolverState}
 use Rattle.resolvo_state.specs.SolverState.{Grows}
 use Rattle.resolvo_encoder.specs.declared.encoder.Encoder.{Encoder}
@@ -39,11 +39,11 @@ use Rattle.resolvo_turn.specs.Encoder.{IsRoot, AreRulesOf, IsInOrder, AddsNeeds,
 -- ---- parents alone
 
 pub parents_none : {N S : Type 0} (e : Encoder N S) → AddsParent e e
-parents_none e = record { front = front_same e.parents.keys; rest = refl }
+parents_none e = record { prefix = prefix_same e.parents.keys; rest = refl }
 
 pub parents_then : {N S : Type 0} (a b c : Encoder N S) → AddsParent a b → AddsParent b c → AddsParent a c
 parents_then {N} {S} a b c f g = record {
-  front = front_then a.parents.keys b.parents.keys c.parents.keys f.front g.front;
+  prefix = prefix_then a.parents.keys b.parents.keys c.parents.keys f.prefix g.prefix;
   rest = subst (λ (x : Encoder N S). c ≡ record x { parents = c.parents }) f.rest g.rest;
 }
 
@@ -82,67 +82,67 @@ module _ {N S : Type 0} (same : S → S → Bool) (p : Packages N S) (orders : R
 -- ---- requirements
 
 -- where the trail is the same, the turn is
-coding_turns : {N S : Type 0} (a b : Encoder N S) → b.coding ≡ a.coding → b.noted.wishes.items ≡ a.noted.wishes.items → KeepsTurns a b
-coding_turns {N} {S} a b same wishes = same_turns a b (subst (λ (x : SolverState N S). Grows a.coding x) (sym same) (grows_same a.coding)) (record { tracker = ap (λ (x : SolverState N S). x.search.tracker) same }) wishes
+coding_turns : {N S : Type 0} (a b : Encoder N S) → b.coding ≡ a.coding → b.recorded.softs.items ≡ a.recorded.softs.items → KeepsTurns a b
+coding_turns {N} {S} a b same softs = same_turns a b (subst (λ (x : SolverState N S). Grows a.coding x) (sym same) (grows_same a.coding)) (record { tracker = ap (λ (x : SolverState N S). x.search.tracker) same }) softs
 
 pub needs_none : {N S : Type 0} (e : Encoder N S) → AddsNeeds e e
-needs_none e = record { grows = grows_same e.coding; turn = λ wish. turn_same wish e; wishes = refl; parents = front_same e.parents.keys; encoded = refl; deferred = front_same e.deferred.items; fired = front_same e.fired.keys }
+needs_none e = record { grows = grows_same e.coding; turn = λ soft. turn_same soft e; softs = refl; parents = prefix_same e.parents.keys; encoded = refl; deferred = prefix_same e.deferred.items; fired = prefix_same e.fired.keys }
 
 pub needs_then : {N S : Type 0} (a b c : Encoder N S) → AddsNeeds a b → AddsNeeds b c → AddsNeeds a c
 needs_then a b c f g = record {
   grows = grows_then a.coding b.coding c.coding f.grows g.grows;
   turn = turns_then a b c f.turn g.turn;
-  wishes = g.wishes ∙ f.wishes;
-  parents = front_then a.parents.keys b.parents.keys c.parents.keys f.parents g.parents;
+  softs = g.softs ∙ f.softs;
+  parents = prefix_then a.parents.keys b.parents.keys c.parents.keys f.parents g.parents;
   encoded = g.encoded ∙ f.encoded;
-  deferred = front_then a.deferred.items b.deferred.items c.deferred.items f.deferred g.deferred;
-  fired = front_then a.fired.keys b.fired.keys c.fired.keys f.fired g.fired;
+  deferred = prefix_then a.deferred.items b.deferred.items c.deferred.items f.deferred g.deferred;
+  fired = prefix_then a.fired.keys b.fired.keys c.fired.keys f.fired g.fired;
 }
 
 pub extends_needs : {N S : Type 0} (a b : Encoder N S) → Extends a b → AddsNeeds a b
 extends_needs a b f = record {
   grows = f.grows;
-  turn = same_turns a b f.grows f.trail f.wishes;
-  wishes = f.wishes;
-  parents = front_equal a.parents.keys b.parents.keys (ap (λ ks. ks.keys) f.parents);
+  turn = same_turns a b f.grows f.trail f.softs;
+  softs = f.softs;
+  parents = prefix_equal a.parents.keys b.parents.keys (ap (λ ks. ks.keys) f.parents);
   encoded = f.encoded;
-  deferred = front_equal a.deferred.items b.deferred.items (ap (λ ds. ds.items) f.deferred);
-  fired = front_equal a.fired.keys b.fired.keys (ap (λ ks. ks.keys) f.fired);
+  deferred = prefix_equal a.deferred.items b.deferred.items (ap (λ ds. ds.items) f.deferred);
+  fired = prefix_equal a.fired.keys b.fired.keys (ap (λ ks. ks.keys) f.fired);
 }
 
 pub parents_needs : {N S : Type 0} (a b : Encoder N S) → AddsParent a b → AddsNeeds a b
 parents_needs {N} {S} a b f = record {
   grows = subst (λ (x : SolverState N S). Grows a.coding x) (sym (parents_coding a b f)) (grows_same a.coding);
-  turn = coding_turns a b (ap (λ (x : Encoder N S). x.coding) f.rest) (ap (λ (x : Encoder N S). x.noted.wishes.items) f.rest);
-  wishes = ap (λ (x : Encoder N S). x.noted.wishes.items) f.rest;
-  parents = f.front;
+  turn = coding_turns a b (ap (λ (x : Encoder N S). x.coding) f.rest) (ap (λ (x : Encoder N S). x.recorded.softs.items) f.rest);
+  softs = ap (λ (x : Encoder N S). x.recorded.softs.items) f.rest;
+  parents = f.prefix;
   encoded = parents_encoded a b f;
-  deferred = front_equal a.deferred.items b.deferred.items (ap (λ (x : Encoder N S). x.deferred.items) f.rest);
-  fired = front_equal a.fired.keys b.fired.keys (ap (λ (x : Encoder N S). x.fired.keys) f.rest);
+  deferred = prefix_equal a.deferred.items b.deferred.items (ap (λ (x : Encoder N S). x.deferred.items) f.rest);
+  fired = prefix_equal a.fired.keys b.fired.keys (ap (λ (x : Encoder N S). x.fired.keys) f.rest);
 }
 
 -- a deferred case is added after the others
 pub defers_needs : {N S : Type 0} (a b : Encoder N S) → Defers a b → AddsNeeds a b
 defers_needs {N} {S} a b f = record {
   grows = subst (λ (x : SolverState N S). Grows a.coding x) (sym (ap (λ (x : Encoder N S). x.coding) f.rest)) (grows_same a.coding);
-  turn = coding_turns a b (ap (λ (x : Encoder N S). x.coding) f.rest) (ap (λ (x : Encoder N S). x.noted.wishes.items) f.rest);
-  wishes = ap (λ (x : Encoder N S). x.noted.wishes.items) f.rest;
-  parents = front_equal a.parents.keys b.parents.keys (ap (λ (x : Encoder N S). x.parents.keys) f.rest);
+  turn = coding_turns a b (ap (λ (x : Encoder N S). x.coding) f.rest) (ap (λ (x : Encoder N S). x.recorded.softs.items) f.rest);
+  softs = ap (λ (x : Encoder N S). x.recorded.softs.items) f.rest;
+  parents = prefix_equal a.parents.keys b.parents.keys (ap (λ (x : Encoder N S). x.parents.keys) f.rest);
   encoded = ap (λ (x : Encoder N S). x.encoded) f.rest;
-  deferred = f.front;
-  fired = front_equal a.fired.keys b.fired.keys (ap (λ (x : Encoder N S). x.fired.keys) f.rest);
+  deferred = f.prefix;
+  fired = prefix_equal a.fired.keys b.fired.keys (ap (λ (x : Encoder N S). x.fired.keys) f.rest);
 }
 
 -- a case became a clause
 pub fires_needs : {N S : Type 0} (index : ℕ) (a b : Encoder N S) → Fires index a b → AddsNeeds a b
 fires_needs {N} {S} index a b f = record {
   grows = subst (λ (x : SolverState N S). Grows a.coding x) (sym (ap (λ (x : Encoder N S). x.coding) f.rest)) (grows_same a.coding);
-  turn = coding_turns a b (ap (λ (x : Encoder N S). x.coding) f.rest) (ap (λ (x : Encoder N S). x.noted.wishes.items) f.rest);
-  wishes = ap (λ (x : Encoder N S). x.noted.wishes.items) f.rest;
-  parents = front_equal a.parents.keys b.parents.keys (ap (λ (x : Encoder N S). x.parents.keys) f.rest);
+  turn = coding_turns a b (ap (λ (x : Encoder N S). x.coding) f.rest) (ap (λ (x : Encoder N S). x.recorded.softs.items) f.rest);
+  softs = ap (λ (x : Encoder N S). x.recorded.softs.items) f.rest;
+  parents = prefix_equal a.parents.keys b.parents.keys (ap (λ (x : Encoder N S). x.parents.keys) f.rest);
   encoded = ap (λ (x : Encoder N S). x.encoded) f.rest;
-  deferred = front_equal a.deferred.items b.deferred.items (ap (λ (x : Encoder N S). x.deferred.items) f.rest);
-  fired = f.front;
+  deferred = prefix_equal a.deferred.items b.deferred.items (ap (λ (x : Encoder N S). x.deferred.items) f.rest);
+  fired = f.prefix;
 }
 
 -- the search adds nothing else
@@ -150,11 +150,11 @@ pub goes_needs : {N S : Type 0} (a b : Encoder N S) → GoesOn a b → KeepsTurn
 goes_needs {N} {S} a b f turn = record {
   grows = f.grows;
   turn = turn;
-  wishes = ap (λ (y : EncodedOnce N S). y.wishes.items) f.rest.noted;
-  parents = front_equal a.parents.keys b.parents.keys (ap (λ ks. ks.keys) f.rest.parents);
+  softs = ap (λ (y : EncodedOnce N S). y.softs.items) f.rest.recorded;
+  parents = prefix_equal a.parents.keys b.parents.keys (ap (λ ks. ks.keys) f.rest.parents);
   encoded = f.rest.encoded;
-  deferred = front_equal a.deferred.items b.deferred.items (ap (λ ds. ds.items) f.rest.deferred);
-  fired = front_equal a.fired.keys b.fired.keys (ap (λ ks. ks.keys) f.rest.fired);
+  deferred = prefix_equal a.deferred.items b.deferred.items (ap (λ ds. ds.items) f.rest.deferred);
+  fired = prefix_equal a.fired.keys b.fired.keys (ap (λ ks. ks.keys) f.rest.fired);
 }
 
 -- a case that wasn't fired before is one more
@@ -171,7 +171,7 @@ need_stays same exact p root a b parent need case f h = need_grows same exact p 
 
 -- a deferred case stays deferred, or was fired
 pub deferred_stays : {N S : Type 0} (a b : Encoder N S) (parent : Option S) (need : ConditionalRequirement) (case : List VersionSetId) → AddsNeeds a b → IsDeferred a parent need case → IsDeferred b parent need case
-deferred_stays a b parent need case f (i, d, at, one, two, three) = (i, d, front_get a.deferred.items b.deferred.items i d f.deferred at, one, two, three)
+deferred_stays a b parent need case f (i, d, at, one, two, three) = (i, d, prefix_get a.deferred.items b.deferred.items i d f.deferred at, one, two, three)
 
 pub case_stays : {N S : Type 0} (same : S → S → Bool) (exact : IsExact same) (p : Packages N S) (root : Rules) (a b : Encoder N S) (parent : Option S) (need : ConditionalRequirement) (case : List VersionSetId) → AddsNeeds a b → IsCaseEncoded same p a parent need case → IsCaseEncoded same p b parent need case
 case_stays same exact p root a b parent need case f (inl h) = inl (need_grows same exact p root a b parent need case f.grows h)
@@ -204,8 +204,8 @@ cases_more [] x = refl
 cases_more (y ∷ xs) x = ap (λ zs. y.items ∷ zs) (cases_more xs x)
 
 -- the last one taken is one of the cases
-pub taken_stands : (xs : List (Vec VersionSetId Global)) (i : ℕ) (x : Vec VersionSetId Global) → take (i + 1) xs ≡ take i xs ++ x ∷ [] → Contains (cases_of xs) x.items
-taken_stands xs i x more = contains_map (λ (v : Vec VersionSetId Global). v.items) x xs (taken_contained (i + 1) xs x (subst (λ (ys : List (Vec VersionSetId Global)). Contains ys x) (sym more) (contains_right x (take i xs) (x ∷ []) (contains_only x))))
+pub taken_case : (xs : List (Vec VersionSetId Global)) (i : ℕ) (x : Vec VersionSetId Global) → take (i + 1) xs ≡ take i xs ++ x ∷ [] → Contains (cases_of xs) x.items
+taken_case xs i x more = contains_map (λ (v : Vec VersionSetId Global). v.items) x xs (taken_contained (i + 1) xs x (subst (λ (ys : List (Vec VersionSetId Global)). Contains ys x) (sym more) (contains_right x (take i xs) (x ∷ []) (contains_only x))))
 
 -- constraints, and the locks and exclusions of the candidates that they name
 pub more_limited : {N S : Type 0} (same : S → S → Bool) (exact : IsExact same) (p : Packages N S) (root : Rules) (a b : Encoder N S) (parent : Option S) (done : List VersionSetId) (last : VersionSetId) → AddsNeeds a b
@@ -220,7 +220,7 @@ more_limited same exact p root a b parent done last adds before now v h = elim (
 pub next_all : {N S : Type 0} (same : S → S → Bool) (p : Packages N S) (root : Rules) (a b : Encoder N S) (parent : SolvableIdOrRoot S) → AddsNeeds a b → slice_get a.parents.keys a.encoded ≡ Some parent
     → IsParentEncoded same p b root (solvable_of parent) → IsNextEncoded same p root b
 next_all {N} {S} same p root a b parent adds here done other at =
-    let there : slice_get b.parents.keys b.encoded ≡ Some parent = subst (λ n. slice_get b.parents.keys n ≡ Some parent) (sym adds.encoded) (front_get a.parents.keys b.parents.keys a.encoded parent adds.parents here) in
+    let there : slice_get b.parents.keys b.encoded ≡ Some parent = subst (λ n. slice_get b.parents.keys n ≡ Some parent) (sym adds.encoded) (prefix_get a.parents.keys b.parents.keys a.encoded parent adds.parents here) in
     let one : other ≡ parent = some_one other parent (sym at ∙ there) in
     subst (λ (x : SolvableIdOrRoot S). IsParentEncoded same p b root (solvable_of x)) (sym one) done
 
@@ -243,52 +243,52 @@ known_rules same p root s known requirements constraints asked needs limits = re
 }
 
 -- a solvable with unknown dependencies is excluded
-pub bars_rule : {N S : Type 0} (same : S → S → Bool) (p : Packages N S) (root : Rules) (s : S) (why : StringId) → p.dependencies_of s ≡ needs_of (Unknown why) → (r : Rule N S) → Contains (Rule.bars (Bar.word why) s ∷ []) r → IsRule same p root r
-bars_rule same p root s why asked r h = subst (IsRule same p root) (sym (contains_one r (Rule.bars (Bar.word why) s) h)) (inr asked)
+pub excluded_rule : {N S : Type 0} (same : S → S → Bool) (p : Packages N S) (root : Rules) (s : S) (why : StringId) → p.dependencies_of s ≡ needs_of (Unknown why) → (r : Rule N S) → Contains (Rule.forbids (ForbidReason.word why) s ∷ []) r → IsRule same p root r
+excluded_rule same p root s why asked r h = subst (IsRule same p root) (sym (contains_one r (Rule.forbids (ForbidReason.word why) s) h)) (inr asked)
 
 -- and has no other rules
-pub unknown_encoded : {N S : Type 0} (same : S → S → Bool) (p : Packages N S) (root : Rules) (e : Encoder N S) (s : S) (why : StringId) → p.dependencies_of s ≡ needs_of (Unknown why) → ((r : Rule N S) → Contains (Rule.bars (Bar.word why) s ∷ []) r → rules_of e r)
+pub unknown_encoded : {N S : Type 0} (same : S → S → Bool) (p : Packages N S) (root : Rules) (e : Encoder N S) (s : S) (why : StringId) → p.dependencies_of s ≡ needs_of (Unknown why) → ((r : Rule N S) → Contains (Rule.forbids (ForbidReason.word why) s ∷ []) r → rules_of e r)
     → IsParentEncoded same p e root (Some s)
-unknown_encoded same p root e s why asked stated = record {
+unknown_encoded same p root e s why asked is_encoded = record {
   needs = λ need case h one. absurd (contains_none need (subst (λ (n : Asked). Contains (rules_in n).requirements need) asked h));
   limits = λ v h. absurd (contains_none v (subst (λ (n : Asked). Contains (rules_in n).constraints v) asked h));
   guarded = λ v h. absurd (contains_none v (subst (λ (n : Asked). Contains (rules_in n).constraints v) asked h));
-  unknown = λ t is h. subst (λ x. HasBar (rules_of e) x) (some_one s t is) (Bar.word why, stated (Rule.bars (Bar.word why) s) (contains_only (Rule.bars (Bar.word why) s)));
+  unknown = λ t is h. subst (λ x. IsForbidden (rules_of e) x) (some_one s t is) (ForbidReason.word why, is_encoded (Rule.forbids (ForbidReason.word why) s) (contains_only (Rule.forbids (ForbidReason.word why) s)));
 }
 
 -- ---- encoded parents
 
 pub all_none : {N S : Type 0} (e : Encoder N S) → AddsParents e e
-all_none e = record { grows = grows_same e.coding; wishes = refl; parents = front_same e.parents.keys; encoded = omega arith; deferred = front_same e.deferred.items; fired = front_same e.fired.keys }
+all_none e = record { grows = grows_same e.coding; softs = refl; parents = prefix_same e.parents.keys; encoded = omega arith; deferred = prefix_same e.deferred.items; fired = prefix_same e.fired.keys }
 
 pub all_then : {N S : Type 0} (a b c : Encoder N S) → AddsParents a b → AddsParents b c → AddsParents a c
 all_then a b c f g = record {
   grows = grows_then a.coding b.coding c.coding f.grows g.grows;
-  wishes = g.wishes ∙ f.wishes;
-  parents = front_then a.parents.keys b.parents.keys c.parents.keys f.parents g.parents;
+  softs = g.softs ∙ f.softs;
+  parents = prefix_then a.parents.keys b.parents.keys c.parents.keys f.parents g.parents;
   encoded = (let x : a.encoded ≤ b.encoded = f.encoded in let y : b.encoded ≤ c.encoded = g.encoded in omega arith);
-  deferred = front_then a.deferred.items b.deferred.items c.deferred.items f.deferred g.deferred;
-  fired = front_then a.fired.keys b.fired.keys c.fired.keys f.fired g.fired;
+  deferred = prefix_then a.deferred.items b.deferred.items c.deferred.items f.deferred g.deferred;
+  fired = prefix_then a.fired.keys b.fired.keys c.fired.keys f.fired g.fired;
 }
 
 -- the rules of one more parent
 pub one_more : {N S : Type 0} (a b : Encoder N S) → AddsNeeds a b → AddsParents a (record b { encoded = b.encoded + 1 })
-one_more a b f = record { grows = f.grows; wishes = f.wishes; parents = f.parents; encoded = (let x : b.encoded ≡ a.encoded = f.encoded in omega arith); deferred = f.deferred; fired = f.fired }
+one_more a b f = record { grows = f.grows; softs = f.softs; parents = f.parents; encoded = (let x : b.encoded ≡ a.encoded = f.encoded in omega arith); deferred = f.deferred; fired = f.fired }
 
 pub needs_parents : {N S : Type 0} (a b : Encoder N S) → AddsNeeds a b → AddsParents a b
-needs_parents a b f = record { grows = f.grows; wishes = f.wishes; parents = f.parents; encoded = (let x : b.encoded ≡ a.encoded = f.encoded in omega arith); deferred = f.deferred; fired = f.fired }
+needs_parents a b f = record { grows = f.grows; softs = f.softs; parents = f.parents; encoded = (let x : b.encoded ≡ a.encoded = f.encoded in omega arith); deferred = f.deferred; fired = f.fired }
 
 -- the end of a parent keeps the turn
 pub next_turns : {N S : Type 0} (a b : Encoder N S) → b ≡ record a { encoded = a.encoded + 1 } → KeepsTurns a b
-next_turns {N} {S} a b is = coding_turns a b (ap (λ (x : Encoder N S). x.coding) is) (ap (λ (x : Encoder N S). x.noted.wishes.items) is)
+next_turns {N} {S} a b is = coding_turns a b (ap (λ (x : Encoder N S). x.coding) is) (ap (λ (x : Encoder N S). x.recorded.softs.items) is)
 
 -- the search adds no parent
 pub goes_parents : {N S : Type 0} (a b : Encoder N S) → GoesOn a b → AddsParents a b
 goes_parents {N} {S} a b f = record {
   grows = f.grows;
-  wishes = ap (λ (y : EncodedOnce N S). y.wishes.items) f.rest.noted;
-  parents = front_equal a.parents.keys b.parents.keys (ap (λ ks. ks.keys) f.rest.parents);
+  softs = ap (λ (y : EncodedOnce N S). y.softs.items) f.rest.recorded;
+  parents = prefix_equal a.parents.keys b.parents.keys (ap (λ ks. ks.keys) f.rest.parents);
   encoded = (let x : b.encoded ≡ a.encoded = f.rest.encoded in omega arith);
-  deferred = front_equal a.deferred.items b.deferred.items (ap (λ ds. ds.items) f.rest.deferred);
-  fired = front_equal a.fired.keys b.fired.keys (ap (λ ks. ks.keys) f.rest.fired);
+  deferred = prefix_equal a.deferred.items b.deferred.items (ap (λ ds. ds.items) f.rest.deferred);
+  fired = prefix_equal a.fired.keys b.fired.keys (ap (λ ks. ks.keys) f.rest.fired);
 }

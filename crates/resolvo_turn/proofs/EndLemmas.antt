@@ -15,18 +15,18 @@ use Rattle.resolvo_sat.proofs.Literals.{has_here, has_later}
 use Rattle.resolvo_sat.specs.State.{history}
 use Rattle.resolvo_state.specs.Chosen.{AreChosen}
 use Rattle.resolvo_state.proofs.Growth.{below_or_not}
-use Rattle.resolvo_state.proofs.Positions.{contains_get, front_get, front_long, get_below}
+use Rattle.resolvo_state.proofs.Positions.{contains_get, prefix_get, prefix_long, get_below}
 use Rattle.resolvo_encoder.specs.declared.encoder.Encoder.{Encoder}
 use Rattle.resolvo_encoder.specs.Steps.{AddsParent}
 use Rattle.resolvo_encoder.specs.Conditions.{AreSpent}
 use Rattle.resolvo_encoder.specs.Base.{base_of, HasTurn, KeepsFirst, KeepsTurn}
-use Rattle.resolvo_encoder.specs.Progress.{IsSettled, GoesOn, IsDecision}
+use Rattle.resolvo_encoder.specs.Progress.{IsDone, GoesOn, IsDecision}
 use Rattle.resolvo_encoder.proofs.Bases.{turn_decided}
-use Rattle.resolvo_store_core.specs.AtMostOne.{IsFrontOf}
+use Rattle.resolvo_store_core.specs.AtMostOne.{IsPrefixOf}
 use Rattle.resolvo_soundness.proofs.Lists.{contains_one, contains_left, contains_parts}
 use Rattle.resolvo_state.specs.declared.solver_state.SolverState.{SolverState}
 use Rattle.resolvo_turn.specs.Encoder.{AddsNeeds, AddsParents, AddsAll}
-use Rattle.resolvo_turn.specs.Turn.{AddsChosen, FindsMore, FindsNone, FiresMore, GoesFurther, HasWish, IsBegunBy, IsDecisionOf, IsRooted, IsTurn, IsWhole, rounds_left}
+use Rattle.resolvo_turn.specs.Turn.{AddsChosen, FindsMore, FindsNone, FiresMore, MakesProgress, HasSoft, IsBegunBy, IsDecisionOf, IsRooted, IsTurn, AreChosenEncoded, rounds_left}
 use Rattle.resolvo_turn.proofs.AddLemmas.{all_then, goes_parents, needs_parents, parents_needs, parents_coding, parents_then}
 
 -- there is nothing from the end on
@@ -37,12 +37,12 @@ past_end xs n none = elim (below_or_not n (length xs)) [
 ]
 
 -- more parents keep the end of the search
-pub settled_parents : {N S : Type 0} (a b : Encoder N S) → AddsParent a b → IsSettled a → IsSettled b
-settled_parents {N} {S} a b f s = subst (λ (x : Encoder N S). IsSettled x) (sym f.rest) (record { quiet = s.quiet; values = s.values; score = s.score; agree = s.agree; decided = s.decided })
+pub done_parents : {N S : Type 0} (a b : Encoder N S) → AddsParent a b → IsDone a → IsDone b
+done_parents {N} {S} a b f s = subst (λ (x : Encoder N S). IsDone x) (sym f.rest) (record { quiet = s.quiet; values = s.values; score = s.score; agree = s.agree; decided = s.decided })
 
 -- where the chosen solvables are parents, and all parents are encoded, their rules are clauses
-pub turn_whole : {N S : Type 0} (a b : Encoder N S) → AddsChosen a b → slice_get b.parents.keys 0 ≡ Some Place.Root → slice_get b.parents.keys b.encoded ≡ None → IsWhole b
-turn_whole {N} {S} a b f rooted none = λ members chosen. record {
+pub chosen_encoded : {N S : Type 0} (a b : Encoder N S) → AddsChosen a b → slice_get b.parents.keys 0 ≡ Some Place.Root → slice_get b.parents.keys b.encoded ≡ None → AreChosenEncoded b
+chosen_encoded {N} {S} a b f rooted none = λ members chosen. record {
   root = (0, (let x : 0 < length b.parents.keys = slice_get_within b.parents.keys 0 Place.Root rooted in let y : length b.parents.keys ≤ b.encoded = past_end b.parents.keys b.encoded none in omega arith), rooted);
   each = λ s h. (
       let (k, at) = contains_get b.parents.keys (Place.Solvable s) (f.chosen members chosen s h) in
@@ -52,14 +52,14 @@ turn_whole {N} {S} a b f rooted none = λ members chosen. record {
 }
 
 -- an item of a list is in each list with that prefix
-pub contains_longer : {X : Type 0} (xs ys : List X) (x : X) → IsFrontOf xs ys → Contains xs x → Contains ys x
+pub contains_longer : {X : Type 0} (xs ys : List X) (x : X) → IsPrefixOf xs ys → Contains xs x → Contains ys x
 contains_longer xs ys x (more, is) h = subst (λ (zs : List _). Contains zs x) (sym is) (contains_left x xs more h)
 
 -- one more parent is there
 pub among_more : {N S : Type 0} (a b : Encoder N S) (done : List S) (last : S) → AddsParent a b → ((s : S) → Contains done s → Contains a.parents.keys (Place.Solvable s)) → Contains b.parents.keys (Place.Solvable last)
     → (s : S) → Contains (done ++ last ∷ []) s → Contains b.parents.keys (Place.Solvable s)
 among_more a b done last added before now s h = elim (contains_parts s done (last ∷ []) h) [
-  | inl c ↦ contains_longer a.parents.keys b.parents.keys (Place.Solvable s) added.front (before s c)
+  | inl c ↦ contains_longer a.parents.keys b.parents.keys (Place.Solvable s) added.prefix (before s c)
   | inr c ↦ subst (λ x. Contains b.parents.keys (Place.Solvable x)) (sym (contains_one s last c)) now
 ]
 
@@ -89,12 +89,12 @@ some_is (Some x) h = (x, refl)
 
 -- the root is still the first parent
 pub still_rooted : {N S : Type 0} (a b : Encoder N S) → IsRooted a → AddsParents a b → IsRooted b
-still_rooted a b rooted adds = front_get a.parents.keys b.parents.keys 0 Place.Root adds.parents rooted
+still_rooted a b rooted adds = prefix_get a.parents.keys b.parents.keys 0 Place.Root adds.parents rooted
 
 -- where the trail is the same, a soft requirement stays true
-pub wish_stays : {N S : Type 0} (wish : Option VariableId) (a b : Encoder N S) → b.coding ≡ a.coding → HasWish wish a → HasWish wish b
-wish_stays None a b same h = tt
-wish_stays {N} {S} (Some v) a b same h = subst (λ (x : SolverState N S). has (made_true (history x.search)) (yes v) ≡ true) (sym same) h
+pub soft_stays : {N S : Type 0} (soft : Option VariableId) (a b : Encoder N S) → b.coding ≡ a.coding → HasSoft soft a → HasSoft soft b
+soft_stays None a b same h = tt
+soft_stays {N} {S} (Some v) a b same h = subst (λ (x : SolverState N S). has (made_true (history x.search)) (yes v) ≡ true) (sym same) h
 
 module _ {N S : Type 0} (same : S → S → Bool) (a b c : Encoder N S) (first : IsRooted a) (all : AddsAll a b) (chosen : AddsChosen b c) where
   pub round_adds : AddsParents a c
@@ -105,20 +105,20 @@ module _ {N S : Type 0} (same : S → S → Bool) (a b c : Encoder N S) (first :
   round_rooted = still_rooted a c first round_adds
 
   -- where no parent is to be encoded and no case holds, the turn has ended
-  pub round_whole : (wish : Option VariableId) → IsSettled b × HasWish wish b → slice_get c.parents.keys c.encoded ≡ None → AreSpent same c → IsTurn same wish c None
-  round_whole wish (settled, has) none spent = (settled_parents b c chosen.added settled, turn_whole b c chosen round_rooted none, spent, wish_stays wish b c (parents_coding b c chosen.added) has)
+  pub round_complete : (soft : Option VariableId) → IsDone b × HasSoft soft b → slice_get c.parents.keys c.encoded ≡ None → AreSpent same c → IsTurn same soft c None
+  round_complete soft (is_done, has) none spent = (done_parents b c chosen.added is_done, chosen_encoded b c chosen round_rooted none, spent, soft_stays soft b c (parents_coding b c chosen.added) has)
 
 -- there is progress where cases became clauses
-pub fires_goes : {N S : Type 0} (a b c : Encoder N S) → AddsParents a b → FiresMore b c → GoesFurther a c
+pub fires_goes : {N S : Type 0} (a b c : Encoder N S) → AddsParents a b → FiresMore b c → MakesProgress a c
 fires_goes a b c adds fires =
-    let long : length a.fired.keys ≤ length b.fired.keys = front_long a.fired.keys b.fired.keys adds.fired in
+    let long : length a.fired.keys ≤ length b.fired.keys = prefix_long a.fired.keys b.fired.keys adds.fired in
     let more : length b.fired.keys < length c.fired.keys = fires.more in
     inr (inl (record { more = omega arith; bounded = fires.bounded }))
 
 -- and where there is a parent to encode, since there was none
-pub finds_goes : {N S : Type 0} (a b c : Encoder N S) → AddsAll a b → AddsNeeds b c → FindsMore b c → GoesFurther a c
+pub finds_goes : {N S : Type 0} (a b c : Encoder N S) → AddsAll a b → AddsNeeds b c → FindsMore b c → MakesProgress a c
 finds_goes a b c all adds (inl (waits, small)) =
-    let long : length a.parents.keys ≤ length b.parents.keys = front_long a.parents.keys b.parents.keys all.adds.parents in
+    let long : length a.parents.keys ≤ length b.parents.keys = prefix_long a.parents.keys b.parents.keys all.adds.parents in
     let whole : b.encoded ≡ length b.parents.keys = all.all in
     let stays : c.encoded ≡ b.encoded = adds.encoded in
     elim (below_or_not a.encoded (length a.parents.keys)) [
@@ -131,7 +131,7 @@ finds_goes a b c all adds (inr fires) = fires_goes a b c all.adds fires
 pub finds_then : {N S : Type 0} (a b c : Encoder N S) → AddsNeeds a b → FindsMore b c → FindsMore a c
 finds_then a b c adds (inl waits) = inl waits
 finds_then a b c adds (inr fires) =
-    let long : length a.fired.keys ≤ length b.fired.keys = front_long a.fired.keys b.fired.keys adds.fired in
+    let long : length a.fired.keys ≤ length b.fired.keys = prefix_long a.fired.keys b.fired.keys adds.fired in
     let more : length b.fired.keys < length c.fired.keys = fires.more in
     inr (record { more = omega arith; bounded = fires.bounded })
 
@@ -166,9 +166,9 @@ one_left true h = absurd (false≢true (sym h))
 one_left false h = omega arith
 
 -- progress leaves fewer rounds
-pub fewer_left : {N S : Type 0} (a b : Encoder N S) → AddsParents a b → GoesFurther a b → rounds_left b < rounds_left a
+pub fewer_left : {N S : Type 0} (a b : Encoder N S) → AddsParents a b → MakesProgress a b → rounds_left b < rounds_left a
 fewer_left a b adds goes =
-    let long : length a.fired.keys ≤ length b.fired.keys = front_long a.fired.keys b.fired.keys adds.fired in
+    let long : length a.fired.keys ≤ length b.fired.keys = prefix_long a.fired.keys b.fired.keys adds.fired in
     let far : a.encoded ≤ b.encoded = adds.encoded in
     let one : cond (nat_lt b.encoded (length b.parents.keys)) 0 1 ≤ 1 = one_at_most (nat_lt b.encoded (length b.parents.keys)) in
     elim goes [
@@ -187,30 +187,30 @@ chosen_stays : (p : List Entry) (e : Entry) (base : List Entry) (v : VariableId)
 chosen_stays [] e base v is = has_here (literal_of e) (made_true base) (yes v) is
 chosen_stays (d ∷ p) e base v is = has_later (literal_of d) (made_true (p ++ e ∷ base)) (yes v) (chosen_stays p e base v is)
 
-pub wish_kept : {N S : Type 0} (wish : Option VariableId) (a b : Encoder N S) → HasTurn wish a → HasWish wish a → KeepsFirst a b → HasWish wish b
-wish_kept None a b turn h first = tt
-wish_kept (Some v) a b turn h first =
+pub soft_kept : {N S : Type 0} (soft : Option VariableId) (a b : Encoder N S) → HasTurn soft a → HasSoft soft a → KeepsFirst a b → HasSoft soft b
+soft_kept None a b turn h first = tt
+soft_kept (Some v) a b turn h first =
     let (c, ends) = turn.first h in
     let begun : top_level (base_of a) + 1 ≡ a.coding.search.base_level = turn.begun in
     let (p, is) = first (choice_entry v c (base_of a) ∷ base_of a) (omega arith) ends in
     subst (λ (x : List Entry). has (made_true x) (yes v) ≡ true) (sym is) (chosen_stays p (choice_entry v c (base_of a)) (base_of a) v refl)
 
 -- and its turn is kept
-pub decided_turn : {N S : Type 0} (wish : Option VariableId) (a b : Encoder N S) → GoesOn a b → KeepsFirst a b → HasWish wish a → KeepsTurn wish a b
+pub decided_turn : {N S : Type 0} (soft : Option VariableId) (a b : Encoder N S) → GoesOn a b → KeepsFirst a b → HasSoft soft a → KeepsTurn soft a b
 decided_turn None a b goes first h = λ one. goes.grows.base_level ∙ one
 decided_turn (Some v) a b goes first h = turn_decided a b v goes first h
 
 -- the result of the decisions for the turn's soft requirement
-pub decided_of : {N S : Type 0} (wish : Option VariableId) (e : Encoder N S) (o : Option FinalConflict) → IsDecision e o → HasWish wish e → IsDecisionOf wish e o
-decided_of wish e None settled has = (settled, has)
+pub decided_of : {N S : Type 0} (soft : Option VariableId) (e : Encoder N S) (o : Option FinalConflict) → IsDecision e o → HasSoft soft e → IsDecisionOf soft e o
+decided_of soft e None is_done has = (is_done, has)
 decided_of None e (Some r) refusal has = refusal
 decided_of (Some v) e (Some r) refusal has = inl (refusal, has)
 
 -- a soft requirement that is false before its turn
-pub begun_of : {N S : Type 0} (wish : Option VariableId) (e : Encoder N S) (r : FinalConflict) → IsBegunBy wish e (Some r) → IsDecisionOf wish e (Some r)
+pub begun_of : {N S : Type 0} (soft : Option VariableId) (e : Encoder N S) (r : FinalConflict) → IsBegunBy soft e (Some r) → IsDecisionOf soft e (Some r)
 begun_of None e r h = absurd h
 begun_of (Some v) e r h = inr h
 
 -- a conflict is one of the encoding that was decided
-pub refused_of : {N S : Type 0} (same : S → S → Bool) (wish : Option VariableId) (e : Encoder N S) (r : FinalConflict) (o : Option FinalConflict) → o ≡ Some r → IsDecisionOf wish e o → IsTurn same wish e (Some r)
-refused_of same wish e r o is h = subst (λ (x : Option FinalConflict). IsDecisionOf wish e x) is h
+pub refused_of : {N S : Type 0} (same : S → S → Bool) (soft : Option VariableId) (e : Encoder N S) (r : FinalConflict) (o : Option FinalConflict) → o ≡ Some r → IsDecisionOf soft e o → IsTurn same soft e (Some r)
+refused_of same soft e r o is h = subst (λ (x : Option FinalConflict). IsDecisionOf soft e x) is h

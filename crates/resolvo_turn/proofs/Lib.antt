@@ -1,4 +1,4 @@
 pub mod AddLemmas
 pub mod EndLemmas
-pub mod CaseStated
+pub mod CaseEncoded
 pub mod PassLemmas

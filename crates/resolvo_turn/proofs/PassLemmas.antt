@@ -2,7 +2,7 @@
 use Rattle.std.proofs.Common.{◌≡◌, ℕ, ◌+◌, ◌<◌, ◌≤◌, inl, inr, ◌⊎◌, Bool, true, false, length, sym, ◌∙◌, subst, arith}
 use Rattle.std.proofs.lemmas.Bool.{both_ways}
 use Rattle.resolvo_state.proofs.Growth.{below_or_not}
-use Rattle.resolvo_state.proofs.Positions.{front_long}
+use Rattle.resolvo_state.proofs.Positions.{prefix_long}
 use Rattle.resolvo_encoder.specs.declared.encoder.Encoder.{Encoder}
 use Rattle.resolvo_encoder.specs.Conditions.{IsSpent}
 use Rattle.resolvo_turn.specs.Encoder.{AddsNeeds}
@@ -16,7 +16,7 @@ module _ {N S : Type 0} (start e next : Encoder N S) (fired now after : Bool) wh
   -- whether some case became a clause, after one more case
   pub fires_on : AddsNeeds start e → (fired ≡ true → FiresMore start e) → (now ≡ true → FiresMore e next) → (now ≡ false → next ≡ e) → IsFired fired now after → after ≡ true → FiresMore start next
   fires_on adds before fires stays (inl (is, all)) h =
-      let long : length start.fired.keys ≤ length e.fired.keys = front_long start.fired.keys e.fired.keys adds.fired in
+      let long : length start.fired.keys ≤ length e.fired.keys = prefix_long start.fired.keys e.fired.keys adds.fired in
       let more : length e.fired.keys < length next.fired.keys = (fires is).more in
       record { more = omega arith; bounded = (fires is).bounded }
   fires_on adds before fires stays (inr (is, as_before)) h = subst (λ (x : Encoder N S). FiresMore start x) (sym (stays is)) (before (sym as_before ∙ h))

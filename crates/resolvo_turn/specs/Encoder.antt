@@ -4,7 +4,7 @@ use Rattle.resolvo_pool_core.specs.declared.id.VersionSetId.{VersionSetId}
 use Rattle.resolvo_pool_core.specs.declared.requirement.ConditionalRequirement.{ConditionalRequirement}
 use Rattle.resolvo_pool_core.specs.declared.requirement.Requirement.{Requirement}
 use Rattle.resolvo_pool_core.specs.RuleKeeping.{Packages, Rules, rules_for, is_unknown}
-use Rattle.resolvo_store_core.specs.AtMostOne.{IsFrontOf}
+use Rattle.resolvo_store_core.specs.AtMostOne.{IsPrefixOf}
 use Rattle.resolvo_state.specs.SolverState.{Grows}
 use Rattle.resolvo_encoder.specs.declared.encoder.Encoder.{Encoder}
 use Rattle.resolvo_encoder.specs.Base.{KeepsTurns}
@@ -49,20 +49,20 @@ IsConditionalEncoded {N} {S} same p e parent need = (case : List VersionSetId) �
 pub record AddsNeeds {N S : Type 0} (old new : Encoder N S) : Type 0 where
   pub grows : Grows old.coding new.coding
   pub turn : KeepsTurns old new
-  pub wishes : new.noted.wishes.items ≡ old.noted.wishes.items
-  pub parents : IsFrontOf old.parents.keys new.parents.keys
+  pub softs : new.recorded.softs.items ≡ old.recorded.softs.items
+  pub parents : IsPrefixOf old.parents.keys new.parents.keys
   pub encoded : new.encoded ≡ old.encoded
-  pub deferred : IsFrontOf old.deferred.items new.deferred.items
-  pub fired : IsFrontOf old.fired.keys new.fired.keys
+  pub deferred : IsPrefixOf old.deferred.items new.deferred.items
+  pub fired : IsPrefixOf old.fired.keys new.fired.keys
 
 -- the same, and more parents may be encoded
 pub record AddsParents {N S : Type 0} (old new : Encoder N S) : Type 0 where
   pub grows : Grows old.coding new.coding
-  pub wishes : new.noted.wishes.items ≡ old.noted.wishes.items
-  pub parents : IsFrontOf old.parents.keys new.parents.keys
+  pub softs : new.recorded.softs.items ≡ old.recorded.softs.items
+  pub parents : IsPrefixOf old.parents.keys new.parents.keys
   pub encoded : old.encoded ≤ new.encoded
-  pub deferred : IsFrontOf old.deferred.items new.deferred.items
-  pub fired : IsFrontOf old.fired.keys new.fired.keys
+  pub deferred : IsPrefixOf old.deferred.items new.deferred.items
+  pub fired : IsPrefixOf old.fired.keys new.fired.keys
 
 -- the same, and all parents are encoded
 pub record AddsAll {N S : Type 0} (old new : Encoder N S) : Type 0 where

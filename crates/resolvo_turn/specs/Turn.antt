@@ -6,7 +6,7 @@ use Rattle.resolvo_store_core.specs.Signed.{has}
 use Rattle.resolvo_encoder.specs.Base.{IsTried}
 use Rattle.resolvo_pool_core.specs.declared.solver_id.SolvableIdOrRoot.TheVariants.{Root, Solvable}
 use Rattle.resolvo_turn.specs.declared.turn.Round.{Round}
-use Rattle.resolvo_turn.specs.declared.turn.Round.TheVariants.{Goes, Whole, Refused}
+use Rattle.resolvo_turn.specs.declared.turn.Round.TheVariants.{Continues, Complete, Refused}
 use Rattle.resolvo_sat.specs.declared.analyze.FinalConflict.{FinalConflict}
 use Rattle.resolvo_sat.specs.Analysis.{IsRefusal}
 use Rattle.resolvo_sat.specs.Entries.{made_true}
@@ -14,42 +14,42 @@ use Rattle.resolvo_sat.specs.State.{history}
 use Rattle.resolvo_state.specs.Chosen.{AreChosen}
 use Rattle.resolvo_encoder.specs.Conditions.{AreSpent}
 use Rattle.resolvo_encoder.specs.TurnLevels.{AreAmongEncoded}
-use Rattle.resolvo_encoder.specs.Progress.{IsSettled}
+use Rattle.resolvo_encoder.specs.Progress.{IsDone}
 use Rattle.resolvo_encoder.specs.Steps.{AddsParent}
 use Rattle.resolvo_encoder.specs.declared.encoder.Encoder.{Encoder}
 
 -- the rules of the root and of each chosen solvable are clauses
-abbrev pub IsWhole : {N S : Type 0} → Encoder N S → Type 0
-IsWhole {N} {S} e = (members : List S) → AreChosen e.coding.atoms.keys (made_true (history e.coding.search)) members → AreAmongEncoded e members
+abbrev pub AreChosenEncoded : {N S : Type 0} → Encoder N S → Type 0
+AreChosenEncoded {N} {S} e = (members : List S) → AreChosen e.coding.atoms.keys (made_true (history e.coding.search)) members → AreAmongEncoded e members
 
 -- the turn's soft requirement, if there is one, is true
-abbrev pub HasWish : {N S : Type 0} → Option VariableId → Encoder N S → Type 0
-HasWish None e = Unit {0}
-HasWish (Some v) e = has (made_true (history e.coding.search)) (yes v) ≡ true
+abbrev pub HasSoft : {N S : Type 0} → Option VariableId → Encoder N S → Type 0
+HasSoft None e = Unit {0}
+HasSoft (Some v) e = has (made_true (history e.coding.search)) (yes v) ≡ true
 
 -- the clauses and the turn's assumption are unsatisfiable, or the soft requirement is false by the
 -- trail before its turn
 abbrev pub IsRefusedBy : {N S : Type 0} → Option VariableId → Encoder N S → FinalConflict → Type 0
 IsRefusedBy None e r = IsRefusal e.coding.search r.literals.items r.causes.items
-IsRefusedBy (Some v) e r = (IsRefusal e.coding.search r.literals.items r.causes.items × HasWish (Some v) e) ⊎ IsTried e v (Some r)
+IsRefusedBy (Some v) e r = (IsRefusal e.coding.search r.literals.items r.causes.items × HasSoft (Some v) e) ⊎ IsTried e v (Some r)
 
 -- nothing is left to propagate or to decide in the turn, or it is refused
 abbrev pub IsDecisionOf : {N S : Type 0} → Option VariableId → Encoder N S → Option FinalConflict → Type 0
-IsDecisionOf wish e None = IsSettled e × HasWish wish e
-IsDecisionOf wish e (Some r) = IsRefusedBy wish e r
+IsDecisionOf soft e None = IsDone e × HasSoft soft e
+IsDecisionOf soft e (Some r) = IsRefusedBy soft e r
 
 -- the first try of the turn's soft requirement: it is true, or this conflict is the reason that it
 -- is false
 abbrev pub IsBegunBy : {N S : Type 0} → Option VariableId → Encoder N S → Option FinalConflict → Type 0
-IsBegunBy wish e None = HasWish wish e
+IsBegunBy soft e None = HasSoft soft e
 IsBegunBy None e (Some r) = ⊥
 IsBegunBy (Some v) e (Some r) = IsTried e v (Some r)
 
 -- nothing is left to propagate, decide or encode, and no deferred case holds; or the turn is
 -- refused
 abbrev pub IsTurn : {N S : Type 0} → (S → S → Bool) → Option VariableId → Encoder N S → Option FinalConflict → Type 0
-IsTurn same wish e None = IsSettled e × IsWhole e × AreSpent same e × HasWish wish e
-IsTurn same wish e (Some r) = IsRefusedBy wish e r
+IsTurn same soft e None = IsDone e × AreChosenEncoded e × AreSpent same e × HasSoft soft e
+IsTurn same soft e (Some r) = IsRefusedBy soft e r
 
 -- the chosen solvables are among the parents
 pub record AddsChosen {N S : Type 0} (old new : Encoder N S) : Type 0 where
@@ -71,8 +71,8 @@ IsWaiting e = e.encoded < length e.parents.keys
 
 -- More parents are encoded, more cases became clauses, or there is a parent to encode where there
 -- was none.
-abbrev pub GoesFurther : {N S : Type 0} → Encoder N S → Encoder N S → Type 0
-GoesFurther old new = ((old.encoded < new.encoded) × (new.encoded < 18446744073709551616)) ⊎ (FiresMore old new ⊎ ((length old.parents.keys ≤ old.encoded) × IsWaiting new))
+abbrev pub MakesProgress : {N S : Type 0} → Encoder N S → Encoder N S → Type 0
+MakesProgress old new = ((old.encoded < new.encoded) × (new.encoded < 18446744073709551616)) ⊎ (FiresMore old new ⊎ ((length old.parents.keys ≤ old.encoded) × IsWaiting new))
 
 -- A bound of the rounds: one for each parent and for each case that may still be encoded. One more
 -- where no parent is to be encoded.
@@ -81,9 +81,9 @@ rounds_left e = 2 * (18446744073709551616 - e.encoded) + 2 * (184467440737095516
 
 -- the result of a round: progress, or the end of the turn
 abbrev pub IsRound : {N S : Type 0} → (S → S → Bool) → Option VariableId → Encoder N S → Encoder N S → Round → Type 0
-IsRound same wish old new Goes = GoesFurther old new
-IsRound same wish old new Whole = IsTurn same wish new None
-IsRound same wish old new (Refused r) = IsTurn same wish new (Some r)
+IsRound same soft old new Continues = MakesProgress old new
+IsRound same soft old new Complete = IsTurn same soft new None
+IsRound same soft old new (Refused r) = IsTurn same soft new (Some r)
 
 -- there is a parent to encode, or more cases became clauses
 abbrev pub FindsMore : {N S : Type 0} → Encoder N S → Encoder N S → Type 0

@@ -7,7 +7,7 @@ ghost use Rattle.resolvo_encoder.specs.Steps.{IsBuilt};
 ghost use Rattle.resolvo_encoder.specs.Progress.{GoesOn, IsDecision};
 ghost use Rattle.resolvo_turn.specs.Encoder.{StaysInOrder};
 
-use crate::looked::Looked;
+use crate::scan::Scan;
 use resolvo_decide::scores::Scores;
 use resolvo_encoder::decide::Step;
 use resolvo_encoder::encoder::Encoder;
@@ -76,7 +76,7 @@ pub fn decide<A: PackageSource, C: ScoreMap<A::NameId>>(
     encoding: &mut Encoder<A::NameId, A::SolvableId>,
     scores: &mut Scores<A::NameId, C>,
     activity: Activity,
-    looked: &mut Looked<A::NameId>,
+    scan: &mut Scan<A::NameId>,
 ) -> Result<Option<FinalConflict>, CacheFault<A::Cancel>>
     requires built { IsBuilt encoding.old }
     // After an answer.
@@ -93,11 +93,11 @@ pub fn decide<A: PackageSource, C: ScoreMap<A::NameId>>(
     loop {
         answers.check()?;
         match encoding.step(alloc, scores)? {
-            Step::Settled => return Ok(None),
+            Step::Done => return Ok(None),
             Step::Refused(refusal) => return Ok(Some(refusal)),
             Step::Chosen => {}
             Step::Learnt(clause) => {
-                looked.go_back(encoding);
+                scan.go_back(encoding);
                 bump_activity(answers, &encoding.coding, clause, scores, activity)?;
             }
         }

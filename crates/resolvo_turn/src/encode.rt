@@ -6,7 +6,7 @@ ghost use Rattle.resolvo_pool_core.specs.RuleKeeping.{Rules, rules_for};
 ghost use Rattle.resolvo_pool_core.specs.Text.{solvable_of};
 ghost use Rattle.resolvo_pool_core.specs.declared.requirement.ConditionalRequirement.{ConditionalRequirement};
 ghost use Rattle.resolvo_pool_core.specs.declared.requirement.Requirement.TheVariants.{Single};
-ghost use Rattle.resolvo_soundness.specs.Encoding.{IsBarredIn, HasBar};
+ghost use Rattle.resolvo_soundness.specs.Encoding.{IsForbiddenIn, IsForbidden};
 ghost use Rattle.resolvo_soundness.specs.SearchEnd.{IsNeedEncoded};
 ghost use Rattle.resolvo_encoder.specs.Encoded.{IsGuarded, IsLimitEncoded, IsParentEncoded, rules_of};
 ghost use Rattle.resolvo_encoder.specs.Base.{KeepsTurns};
@@ -41,7 +41,7 @@ pub fn add_available<A: PackageSource>(
 }
 
 /// Encodes the locks and exclusions of a package, once.
-fn bar_package<A: PackageSource>(
+fn forbid_package<A: PackageSource>(
     alloc: Global,
     answers: &mut A,
     encoding: &mut Encoder<A::NameId, A::SolvableId>,
@@ -58,8 +58,8 @@ fn bar_package<A: PackageSource>(
         → IsInOrder A.SolvableId.eq (A.packages answers.old) (A.orders answers.old) root
         encoding.new
         × ((s : A.SolvableId)
-        → IsBarredIn A.SolvableId.eq (A.packages answers.old) name s
-        → HasBar (rules_of encoding.new) s)) }
+        → IsForbiddenIn A.SolvableId.eq (A.packages answers.old) name s
+        → IsForbidden (rules_of encoding.new) s)) }
     ensures kept { OnOk result (AddsNeeds encoding.old encoding.new) }
     ensures fired { OnOk result (encoding.new.fired ≡ encoding.old.fired) }
     ensures built { OnOk result (IsBuilt encoding.new) }
@@ -69,13 +69,13 @@ fn bar_package<A: PackageSource>(
     if encoding.is_encoded(name) {
         return Ok(());
     }
-    let barred = answers.barred(name)?;
-    encoding.bar(alloc, name, barred.as_slice())?;
+    let forbidden = answers.forbidden(name)?;
+    encoding.forbid(alloc, name, forbidden.as_slice())?;
     Ok(())
 }
 
 /// Encodes the locks and exclusions of these packages.
-fn bar_packages<A: PackageSource>(
+fn forbid_packages<A: PackageSource>(
     alloc: Global,
     answers: &mut A,
     encoding: &mut Encoder<A::NameId, A::SolvableId>,
@@ -93,8 +93,8 @@ fn bar_packages<A: PackageSource>(
         encoding.new
         × ((name : A.NameId) (s : A.SolvableId)
         → Contains names.now name
-        → IsBarredIn A.SolvableId.eq (A.packages answers.old) name s
-        → HasBar (rules_of encoding.new) s)) }
+        → IsForbiddenIn A.SolvableId.eq (A.packages answers.old) name s
+        → IsForbidden (rules_of encoding.new) s)) }
     ensures kept { OnOk result (AddsNeeds encoding.old encoding.new) }
     ensures fired { OnOk result (encoding.new.fired ≡ encoding.old.fired) }
     ensures built { OnOk result (IsBuilt encoding.new) }
@@ -102,7 +102,7 @@ fn bar_packages<A: PackageSource>(
     ensures cancelled { IfErr result (IsCancelledBy (A.may_cancel answers.old)) }
 {
     for name in names {
-        bar_package(alloc, answers, encoding, *name)?;
+        forbid_package(alloc, answers, encoding, *name)?;
     }
     Ok(())
 }
@@ -133,7 +133,7 @@ pub fn guard<A: PackageSource>(
     ensures cancelled { IfErr result (IsCancelledBy (A.may_cancel answers.old)) }
 {
     let names = answers.named(requirement)?;
-    bar_packages(alloc, answers, encoding, names.as_slice())?;
+    forbid_packages(alloc, answers, encoding, names.as_slice())?;
     Ok(())
 }
 

@@ -59,7 +59,7 @@ fn sets_of<A: PackageSource>(
 }
 
 /// Encodes a case of a parent's requirement, whose packages are guarded.
-fn state_case<A: PackageSource>(
+fn add_case<A: PackageSource>(
     alloc: Global,
     answers: &mut A,
     encoding: &mut Encoder<A::NameId, A::SolvableId>,
@@ -129,7 +129,7 @@ fn encode_case<A: PackageSource>(
 {
     guard(alloc, answers, encoding, need.requirement)?;
     let sets = sets_of(alloc, answers, case)?;
-    state_case(alloc, answers, encoding, parent, need, sets.as_slice())?;
+    add_case(alloc, answers, encoding, parent, need, sets.as_slice())?;
     Ok(())
 }
 

@@ -7,5 +7,5 @@ pub mod cdcl;
 pub mod defer;
 pub mod encode;
 pub mod fire;
-pub mod looked;
+pub mod scan;
 pub mod turn;

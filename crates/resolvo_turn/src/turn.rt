@@ -14,7 +14,7 @@ ghost use Rattle.resolvo_turn.specs.Turn.{AddsChosen, FiresMore, IsBegunBy, IsDe
 use crate::cdcl::{Activity, decide};
 use crate::encode::encode_parents;
 use crate::fire::{fire_cases, fire_each};
-use crate::looked::{Looked, find_touched, note_all};
+use crate::scan::{Scan, find_touched, mark_all};
 use resolvo_decide::scores::Scores;
 use resolvo_encoder::encoder::Encoder;
 use resolvo_packages::package_source::PackageSource;
@@ -34,7 +34,7 @@ use std::hash::Hash;
 struct Aim<'a> {
     requirements: &'a [ConditionalRequirement],
     constraints: &'a [VersionSetId],
-    wish: Option<VariableId>,
+    soft: Option<VariableId>,
 }
 
 /// Adds each chosen solvable as a parent, in the order of the trail.
@@ -68,7 +68,7 @@ fn is_any_broken(search: &SatState, from: usize) -> bool {
 fn undo_broken<N: Copy + Exact + Hash + Debug, S: Copy + Exact + Hash + Debug>(
     encoding: &mut Encoder<N, S>,
     from: usize,
-    looked: &mut Looked<N>,
+    scan: &mut Scan<N>,
 )
     requires { IsBuilt encoding.old }
     ensures stays { StaysEncoding S.eq encoding.old encoding.new }
@@ -78,7 +78,7 @@ fn undo_broken<N: Copy + Exact + Hash + Debug, S: Copy + Exact + Hash + Debug>(
 {
     if is_any_broken(&encoding.coding.search, from) {
         encoding.undo_turn();
-        looked.go_back(encoding);
+        scan.go_back(encoding);
     }
 }
 
@@ -89,7 +89,7 @@ fn encode<A: PackageSource>(
     encoding: &mut Encoder<A::NameId, A::SolvableId>,
     requirements: &[ConditionalRequirement],
     constraints: &[VersionSetId],
-    looked: &mut Looked<A::NameId>,
+    scan: &mut Scan<A::NameId>,
 ) -> Result<(), CacheFault<A::Cancel>>
     requires { IsBuilt encoding.old }
     // Whatever the answer.
@@ -107,7 +107,7 @@ fn encode<A: PackageSource>(
 {
     let before = encoding.coding.search.clauses.len();
     encode_parents(alloc, answers, encoding, requirements, constraints)?;
-    undo_broken(encoding, before, looked);
+    undo_broken(encoding, before, scan);
     Ok(())
 }
 
@@ -117,7 +117,7 @@ fn fire<A: PackageSource>(
     alloc: Global,
     answers: &mut A,
     encoding: &mut Encoder<A::NameId, A::SolvableId>,
-    looked: &mut Looked<A::NameId>,
+    scan: &mut Scan<A::NameId>,
 ) -> Result<bool, CacheFault<A::Cancel>>
     requires { IsBuilt encoding.old }
     // Whatever the answer.
@@ -138,8 +138,8 @@ fn fire<A: PackageSource>(
     if !fire_cases(alloc, answers, encoding)? {
         return Ok(false);
     }
-    note_all(alloc, answers, encoding, looked)?;
-    undo_broken(encoding, before, looked);
+    mark_all(alloc, answers, encoding, scan)?;
+    undo_broken(encoding, before, scan);
     Ok(true)
 }
 
@@ -148,18 +148,18 @@ fn fire<A: PackageSource>(
 fn choose_first<N: Copy + Exact + Hash + Debug, S: Copy + Exact + Hash + Debug>(
     alloc: Global,
     encoding: &mut Encoder<N, S>,
-    wish: Option<VariableId>,
+    soft: Option<VariableId>,
 ) -> R<Option<FinalConflict>>
     requires built { IsBuilt encoding.old }
-    requires turn { HasTurn wish encoding.old }
+    requires turn { HasTurn soft encoding.old }
     // After an answer.
     ensures stays { OnOk result (StaysEncoding S.eq encoding.old encoding.new) }
     ensures goes_on { OnOk result (GoesOn encoding.old encoding.new) }
-    ensures turn { OnOk result (KeepsTurn wish encoding.old encoding.new) }
-    ensures begun { IfOk result (IsBegunBy wish encoding.new) }
+    ensures turn { OnOk result (KeepsTurn soft encoding.old encoding.new) }
+    ensures begun { IfOk result (IsBegunBy soft encoding.new) }
     ensures built { OnOk result (IsBuilt encoding.new) }
 {
-    match wish {
+    match soft {
         None => Ok(None),
         Some(variable) => encoding.assume_soft(alloc, variable),
     }
@@ -172,27 +172,27 @@ fn choose_and_decide<A: PackageSource, C: ScoreMap<A::NameId>>(
     encoding: &mut Encoder<A::NameId, A::SolvableId>,
     scores: &mut Scores<A::NameId, C>,
     activity: Activity,
-    wish: Option<VariableId>,
-    looked: &mut Looked<A::NameId>,
+    soft: Option<VariableId>,
+    scan: &mut Scan<A::NameId>,
 ) -> Result<Option<FinalConflict>, CacheFault<A::Cancel>>
     requires built { IsBuilt encoding.old }
-    requires turn { HasTurn wish encoding.old }
+    requires turn { HasTurn soft encoding.old }
     // After an answer.
     ensures stays { OnOk result
         (StaysInOrder A.SolvableId.eq (A.packages answers.now) (A.orders answers.now)
         encoding.old encoding.new) }
     ensures goes_on { OnOk result (GoesOn encoding.old encoding.new) }
-    ensures turn { OnOk result (KeepsTurn wish encoding.old encoding.new) }
-    ensures decided { IfOk result (IsDecisionOf wish encoding.new) }
+    ensures turn { OnOk result (KeepsTurn soft encoding.old encoding.new) }
+    ensures decided { IfOk result (IsDecisionOf soft encoding.new) }
     ensures built { OnOk result (IsBuilt encoding.new) }
     // After a refusal.
     ensures cancelled { IfErr result (IsCancelledBy (A.may_cancel answers.now)) }
 {
-    if let Some(refusal) = choose_first(alloc, encoding, wish)? {
+    if let Some(refusal) = choose_first(alloc, encoding, soft)? {
         return Ok(Some(refusal));
     }
-    looked.go_back(encoding);
-    let refusal = decide(alloc, answers, encoding, scores, activity, looked)?;
+    scan.go_back(encoding);
+    let refusal = decide(alloc, answers, encoding, scores, activity, scan)?;
     Ok(refusal)
 }
 
@@ -204,10 +204,10 @@ fn encode_and_decide<A: PackageSource, C: ScoreMap<A::NameId>>(
     scores: &mut Scores<A::NameId, C>,
     activity: Activity,
     aim: &Aim<'_>,
-    looked: &mut Looked<A::NameId>,
+    scan: &mut Scan<A::NameId>,
 ) -> Result<Option<FinalConflict>, CacheFault<A::Cancel>>
     requires built { IsBuilt encoding.old }
-    requires turn { HasTurn aim.now.wish encoding.old }
+    requires turn { HasTurn aim.now.soft encoding.old }
     // Whatever the answer.
     ensures same { answers.new ≡ answers.old }
     // After an answer.
@@ -216,8 +216,8 @@ fn encode_and_decide<A: PackageSource, C: ScoreMap<A::NameId>>(
         A.SolvableId.eq (A.packages answers.old) (A.orders answers.old)
         encoding.old encoding.new) }
     ensures all { OnOk result (AddsAll encoding.old encoding.new) }
-    ensures turn { OnOk result (KeepsTurn aim.now.wish encoding.old encoding.new) }
-    ensures decided { IfOk result (IsDecisionOf aim.now.wish encoding.new) }
+    ensures turn { OnOk result (KeepsTurn aim.now.soft encoding.old encoding.new) }
+    ensures decided { IfOk result (IsDecisionOf aim.now.soft encoding.new) }
     ensures built { OnOk result (IsBuilt encoding.new) }
     // After a refusal.
     ensures cancelled { IfErr result (IsCancelledBy (A.may_cancel answers.old)) }
@@ -228,9 +228,9 @@ fn encode_and_decide<A: PackageSource, C: ScoreMap<A::NameId>>(
         encoding,
         aim.requirements,
         aim.constraints,
-        looked,
+        scan,
     )?;
-    let refusal = choose_and_decide(alloc, answers, encoding, scores, activity, aim.wish, looked)?;
+    let refusal = choose_and_decide(alloc, answers, encoding, scores, activity, aim.soft, scan)?;
     Ok(refusal)
 }
 
@@ -240,14 +240,14 @@ fn add_new_chosen<A: PackageSource>(
     alloc: Global,
     answers: &A,
     encoding: &mut Encoder<A::NameId, A::SolvableId>,
-    looked: &mut Looked<A::NameId>,
+    scan: &mut Scan<A::NameId>,
 ) -> R<()>
     ensures { OnOk result (AddsParent encoding.old encoding.new) }
 {
-    let chosen = looked.new_chosen(alloc, encoding)?;
+    let chosen = scan.new_chosen(alloc, encoding)?;
     for solvable in &chosen {
         encoding.add_parent(*solvable)?;
-        looked.touch(answers.package(*solvable))?;
+        scan.touch(answers.package(*solvable))?;
     }
     Ok(())
 }
@@ -259,7 +259,7 @@ fn fire_touched<A: PackageSource>(
     alloc: Global,
     answers: &mut A,
     encoding: &mut Encoder<A::NameId, A::SolvableId>,
-    looked: &mut Looked<A::NameId>,
+    scan: &mut Scan<A::NameId>,
 ) -> Result<bool, CacheFault<A::Cancel>>
     requires { IsBuilt encoding.old }
     // Whatever the answer.
@@ -275,27 +275,27 @@ fn fire_touched<A: PackageSource>(
     // After a refusal.
     ensures cancelled { IfErr result (IsCancelledBy (A.may_cancel answers.old)) }
 {
-    if !looked.is_begun() {
+    if !scan.is_begun() {
         return Ok(false);
     }
-    find_touched(alloc, answers, encoding, looked)?;
+    find_touched(alloc, answers, encoding, scan)?;
     let before = encoding.coding.search.clauses.len();
-    let has_fired = fire_each(alloc, answers, encoding, looked.touched())?;
-    looked.end_touched();
+    let has_fired = fire_each(alloc, answers, encoding, scan.touched())?;
+    scan.end_touched();
     if !has_fired {
         return Ok(false);
     }
-    undo_broken(encoding, before, looked);
+    undo_broken(encoding, before, scan);
     Ok(true)
 }
 
 /// Scans the choices since the last scan. Whether there is a parent to encode then, or a case
 /// became a clause.
-fn look_at_new<A: PackageSource>(
+fn scan_new<A: PackageSource>(
     alloc: Global,
     answers: &mut A,
     encoding: &mut Encoder<A::NameId, A::SolvableId>,
-    looked: &mut Looked<A::NameId>,
+    scan: &mut Scan<A::NameId>,
 ) -> Result<bool, CacheFault<A::Cancel>>
     requires { IsBuilt encoding.old }
     // Whatever the answer.
@@ -311,21 +311,21 @@ fn look_at_new<A: PackageSource>(
     // After a refusal.
     ensures cancelled { IfErr result (IsCancelledBy (A.may_cancel answers.old)) }
 {
-    add_new_chosen(alloc, answers, encoding, looked)?;
+    add_new_chosen(alloc, answers, encoding, scan)?;
     if encoding.next_parent().is_some() {
         return Ok(true);
     }
-    let has_fired = fire_touched(alloc, answers, encoding, looked)?;
+    let has_fired = fire_touched(alloc, answers, encoding, scan)?;
     Ok(has_fired)
 }
 
 /// Scans all that is chosen, and all deferred cases. Whether there is a parent to encode then, or a
 /// case became a clause.
-fn look_at_all<A: PackageSource>(
+fn scan_all<A: PackageSource>(
     alloc: Global,
     answers: &mut A,
     encoding: &mut Encoder<A::NameId, A::SolvableId>,
-    looked: &mut Looked<A::NameId>,
+    scan: &mut Scan<A::NameId>,
 ) -> Result<bool, CacheFault<A::Cancel>>
     requires { IsBuilt encoding.old }
     // Whatever the answer.
@@ -346,7 +346,7 @@ fn look_at_all<A: PackageSource>(
     if encoding.next_parent().is_some() {
         return Ok(true);
     }
-    let has_fired = fire(alloc, answers, encoding, looked)?;
+    let has_fired = fire(alloc, answers, encoding, scan)?;
     Ok(has_fired)
 }
 
@@ -354,9 +354,9 @@ fn look_at_all<A: PackageSource>(
 #[derive(Debug, Drop)]
 enum Round {
     /// There is a parent to encode, or a case became a clause.
-    Goes,
+    Continues,
     /// Nothing is left to propagate, decide or encode.
-    Whole,
+    Complete,
     /// The turn is refused.
     Refused(FinalConflict),
 }
@@ -370,11 +370,11 @@ fn run_round<A: PackageSource, C: ScoreMap<A::NameId>>(
     scores: &mut Scores<A::NameId, C>,
     activity: Activity,
     aim: &Aim<'_>,
-    looked: &mut Looked<A::NameId>,
+    scan: &mut Scan<A::NameId>,
 ) -> Result<Round, CacheFault<A::Cancel>>
     requires built { IsBuilt encoding.old }
     requires rooted { IsRooted encoding.old }
-    requires turn { HasTurn aim.now.wish encoding.old }
+    requires turn { HasTurn aim.now.soft encoding.old }
     // Whatever the answer.
     ensures same { answers.new ≡ answers.old }
     // After an answer.
@@ -383,25 +383,25 @@ fn run_round<A: PackageSource, C: ScoreMap<A::NameId>>(
         A.SolvableId.eq (A.packages answers.old) (A.orders answers.old)
         encoding.old encoding.new) }
     ensures adds { OnOk result (AddsParents encoding.old encoding.new) }
-    ensures turn { OnOk result (KeepsTurn aim.now.wish encoding.old encoding.new) }
-    ensures round { IfOk result (IsRound A.SolvableId.eq aim.now.wish encoding.old encoding.new) }
+    ensures turn { OnOk result (KeepsTurn aim.now.soft encoding.old encoding.new) }
+    ensures round { IfOk result (IsRound A.SolvableId.eq aim.now.soft encoding.old encoding.new) }
     ensures built { OnOk result (IsBuilt encoding.new) }
     // After a refusal.
     ensures cancelled { IfErr result (IsCancelledBy (A.may_cancel answers.old)) }
 {
-    let decided = encode_and_decide(alloc, answers, encoding, scores, activity, aim, looked)?;
+    let decided = encode_and_decide(alloc, answers, encoding, scores, activity, aim, scan)?;
     if let Some(refusal) = decided {
         return Ok(Round::Refused(refusal));
     }
-    let has_new = look_at_new(alloc, answers, encoding, looked)?;
+    let has_new = scan_new(alloc, answers, encoding, scan)?;
     if has_new {
-        return Ok(Round::Goes);
+        return Ok(Round::Continues);
     }
-    let has_more = look_at_all(alloc, answers, encoding, looked)?;
+    let has_more = scan_all(alloc, answers, encoding, scan)?;
     if has_more {
-        Ok(Round::Goes)
+        Ok(Round::Continues)
     } else {
-        Ok(Round::Whole)
+        Ok(Round::Complete)
     }
 }
 
@@ -414,11 +414,11 @@ pub fn run_turn<A: PackageSource, C: ScoreMap<A::NameId>>(
     activity: Activity,
     requirements: &[ConditionalRequirement],
     constraints: &[VersionSetId],
-    wish: Option<VariableId>,
+    soft: Option<VariableId>,
 ) -> Result<Option<FinalConflict>, CacheFault<A::Cancel>>
     requires built { IsBuilt encoding.old }
     requires rooted { IsRooted encoding.old }
-    requires turn { HasTurn wish encoding.old }
+    requires turn { HasTurn soft encoding.old }
     // Whatever the answer.
     ensures same { answers.new ≡ answers.old }
     // After an answer.
@@ -427,8 +427,8 @@ pub fn run_turn<A: PackageSource, C: ScoreMap<A::NameId>>(
         A.SolvableId.eq (A.packages answers.old) (A.orders answers.old)
         encoding.old encoding.new) }
     ensures adds { OnOk result (AddsParents encoding.old encoding.new) }
-    ensures turn { OnOk result (KeepsTurn wish encoding.old encoding.new) }
-    ensures ended { IfOk result (IsTurn A.SolvableId.eq wish encoding.new) }
+    ensures turn { OnOk result (KeepsTurn soft encoding.old encoding.new) }
+    ensures ended { IfOk result (IsTurn A.SolvableId.eq soft encoding.new) }
     ensures built { OnOk result (IsBuilt encoding.new) }
     // After a refusal.
     ensures cancelled { IfErr result (IsCancelledBy (A.may_cancel answers.old)) }
@@ -436,9 +436,9 @@ pub fn run_turn<A: PackageSource, C: ScoreMap<A::NameId>>(
     let aim = Aim {
         requirements,
         constraints,
-        wish,
+        soft,
     };
-    let mut looked = Looked::begin(alloc, encoding.coding.search.tracker.stack().len());
+    let mut scan = Scan::begin(alloc, encoding.coding.search.tracker.stack().len());
     loop {
         match run_round(
             alloc,
@@ -447,10 +447,10 @@ pub fn run_turn<A: PackageSource, C: ScoreMap<A::NameId>>(
             scores,
             activity,
             &aim,
-            &mut looked,
+            &mut scan,
         )? {
-            Round::Goes => {}
-            Round::Whole => return Ok(None),
+            Round::Continues => {}
+            Round::Complete => return Ok(None),
             Round::Refused(refusal) => return Ok(Some(refusal)),
         }
     }

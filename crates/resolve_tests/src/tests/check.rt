@@ -70,12 +70,12 @@ impl IoFault {
 }
 
 /// How a check over these devices ends.
-fn checked<W: Sink>(alloc: Global, trouble: IoFault, writer: &mut W) -> Result<Checked, RunFault> {
+fn checked<W: Sink>(alloc: Global, faulty_device: IoFault, writer: &mut W) -> Result<Checked, RunFault> {
     check(
         alloc,
-        &mut trouble.source(Device::Catalogue, CATALOGUE),
-        &mut trouble.source(Device::Request, REQUEST),
-        &mut trouble.source(Device::Report, REPORT),
+        &mut faulty_device.source(Device::Catalogue, CATALOGUE),
+        &mut faulty_device.source(Device::Request, REQUEST),
+        &mut faulty_device.source(Device::Report, REPORT),
         writer,
     )
 }
@@ -83,11 +83,11 @@ fn checked<W: Sink>(alloc: Global, trouble: IoFault, writer: &mut W) -> Result<C
 /// Whether a check ends so, and writes this.
 fn ends(
     alloc: Global,
-    trouble: IoFault,
+    faulty_device: IoFault,
     (wanted, written): (Result<Checked, RunFault>, &str),
 ) -> Result<bool, AllocError> {
-    let mut writer = trouble.sink(alloc)?;
-    let ended = checked(alloc, trouble, &mut writer);
+    let mut writer = faulty_device.sink(alloc)?;
+    let ended = checked(alloc, faulty_device, &mut writer);
     Ok(ended == wanted && writer.bytes() == written.as_bytes())
 }
 
@@ -105,9 +105,9 @@ fn each_read_failing(rt: HostRuntime) -> Result<(), Fail> {
         (Device::Report, REPORT),
     ] {
         for calls in 0..=text.len() as u64 {
-            let trouble = IoFault::failing(*device, calls);
+            let faulty_device = IoFault::failing(*device, calls);
             let failed = (Err(RunFault::Reader), "");
-            assert!(rt; ends(rt.alloc(), trouble, failed)?, "{text} {calls}");
+            assert!(rt; ends(rt.alloc(), faulty_device, failed)?, "{text} {calls}");
         }
     }
     Ok(())

@@ -55,7 +55,7 @@ fn written(
 }
 
 /// Whether such a run fails, and writes this prefix of the report.
-fn writes_front(
+fn writes_prefix(
     alloc: Global,
     per_call: usize,
     calls: u64,
@@ -67,7 +67,7 @@ fn writes_front(
 
 #[test]
 fn a_writer_that_takes_five_bytes_and_then_fails(rt: HostRuntime) -> Result<(), Fail> {
-    assert!(rt; writes_front(rt.alloc(), 5, 1, 5)?);
+    assert!(rt; writes_prefix(rt.alloc(), 5, 1, 5)?);
     Ok(())
 }
 
@@ -75,7 +75,7 @@ fn a_writer_that_takes_five_bytes_and_then_fails(rt: HostRuntime) -> Result<(), 
 fn each_write_failing(rt: HostRuntime) -> Result<(), Fail> {
     for calls in 0..REPORT.len() {
         assert!(rt;
-            writes_front(rt.alloc(), 1, calls as u64, calls)?,
+            writes_prefix(rt.alloc(), 1, calls as u64, calls)?,
             "{calls}"
         );
         assert_eq!(rt; ended_full(rt.alloc(), calls), Err(RunFault::Writer));
@@ -116,24 +116,24 @@ fn each_read_failing(rt: HostRuntime) -> Result<(), Fail> {
 }
 
 /// How a run ends whose catalogue's device fails after so many calls, and whether this is all that it writes.
-fn told_where_failing(
+fn written_where_failing(
     alloc: Global,
     text: &str,
     calls: u64,
-    told: &str,
+    output: &str,
 ) -> Result<(Result<Outcome, RunFault>, bool), AllocError> {
     let catalogue = MemorySource::new(text.as_bytes(), 1).failing_after(calls);
     let request = MemorySource::new(REQUEST.as_bytes(), 1);
     let mut writer = MemorySink::new(alloc, 100, 1)?;
     let ended = ended(alloc, catalogue, request, &mut writer);
-    Ok((ended, writer.bytes() == told.as_bytes()))
+    Ok((ended, writer.bytes() == output.as_bytes()))
 }
 
 /// A whole line that was read is judged before the read that fails, and reported; an unfinished one
 /// isn't.
 #[test]
 fn faults_before_failures(rt: HostRuntime) -> Result<(), Fail> {
-    for (text, calls, wanted, told) in &[
+    for (text, calls, wanted, output) in &[
         ("version a 1\nvers", 16u64, Err(RunFault::Reader), ""),
         (
             "vers\nversion",
@@ -143,7 +143,7 @@ fn faults_before_failures(rt: HostRuntime) -> Result<(), Fail> {
         ),
         ("vers", 4, Err(RunFault::Reader), ""),
     ] {
-        let found = told_where_failing(rt.alloc(), text, *calls, told)?;
+        let found = written_where_failing(rt.alloc(), text, *calls, output)?;
         assert_eq!(rt; found, (*wanted, true), "{text}");
     }
     Ok(())

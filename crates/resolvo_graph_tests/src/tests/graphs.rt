@@ -1,6 +1,6 @@
 //! Graphs that are copied, and that lose their unresolved node.
 
-use super::sample::{Link, Place, drawn, message, told};
+use super::sample::{Link, Place, drawn, message, message_of};
 use resolvo_graph::graph::{
     ConflictCause, ConflictEdge, ConflictGraph, ConflictNode, EdgeIndex, NodeIndex,
 };
@@ -18,27 +18,27 @@ fn message_of_copy(alloc: Global, graph: &ConflictGraph) -> R<String> {
 }
 
 /// The message of the copy of a drawing.
-fn told_by_copy(alloc: Global, links: &[Link]) -> R<String> {
+fn copied_message(alloc: Global, links: &[Link]) -> R<String> {
     message_of_copy(alloc, &drawn(alloc, links)?)
 }
 
 /// The drawing and its copy have one message.
-fn copies_say_the_same(rt: &impl Abort, alloc: Global, links: &[Link]) -> Result<(), Fail> {
-    let first = told(alloc, links)?;
-    let second = told_by_copy(alloc, links)?;
+fn copies_are_equal(rt: &impl Abort, alloc: Global, links: &[Link]) -> Result<(), Fail> {
+    let first = message_of(alloc, links)?;
+    let second = copied_message(alloc, links)?;
     assert_eq!(rt; first.as_str(), second.as_str());
     Ok(())
 }
 
 #[test]
-fn clone_says_the_same(rt: HostRuntime) -> Result<(), Fail> {
+fn clone_is_equal(rt: HostRuntime) -> Result<(), Fail> {
     let links = [
         Link::Needs(ROOT, 1_000_100, Place::Version(142)),
         Link::Needs(Place::Version(142), 3_000_054, Place::Version(353)),
         Link::Needs(ROOT, 3_054_100, Place::Version(354)),
         Link::Forbids(Place::Version(354), Place::Version(353)),
     ];
-    copies_say_the_same(&rt, rt.alloc(), &links)
+    copies_are_equal(&rt, rt.alloc(), &links)
 }
 
 /// Where the first edge leads.

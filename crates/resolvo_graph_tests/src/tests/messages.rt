@@ -1,7 +1,7 @@
 //! Messages worked out by hand from the words of docs/MESSAGES.md. An edge is walked before those that
 //! were drawn earlier.
 
-use super::sample::{Link, Place, told};
+use super::sample::{Link, Place, message_of};
 use std::alloc::Global;
 use std::process::Abort;
 use std::test::Fail;
@@ -11,8 +11,8 @@ const ROOT: Place = Place::Root;
 const NOTHING: Place = Place::Unresolved;
 
 /// The message of the links is this text.
-fn is_told(rt: &impl Abort, alloc: Global, links: &[Link], text: &str) -> Result<(), Fail> {
-    let shown = told(alloc, links)?;
+fn message_is(rt: &impl Abort, alloc: Global, links: &[Link], text: &str) -> Result<(), Fail> {
+    let shown = message_of(alloc, links)?;
     assert_eq!(rt; shown.as_str(), text);
     Ok(())
 }
@@ -25,7 +25,7 @@ fn two_needs_that_clash(rt: HostRuntime) -> Result<(), Fail> {
         Link::Needs(ROOT, 3_054_100, Place::Version(354)),
         Link::Forbids(Place::Version(354), Place::Version(353)),
     ];
-    is_told(
+    message_is(
         &rt,
         rt.alloc(),
         &links,
@@ -41,7 +41,7 @@ fn merged_versions_miss_a_candidate(rt: HostRuntime) -> Result<(), Fail> {
         Link::Needs(Place::Version(2), 2_009_000, NOTHING),
         Link::Needs(Place::Version(1), 2_009_000, NOTHING),
     ];
-    is_told(
+    message_is(
         &rt,
         rt.alloc(),
         &links,
@@ -56,7 +56,7 @@ fn versions_that_need_each_other(rt: HostRuntime) -> Result<(), Fail> {
         Link::Needs(Place::Version(1), 1_000_000, Place::Version(101)),
         Link::Needs(Place::Version(101), 0, Place::Version(1)),
     ];
-    is_told(
+    message_is(
         &rt,
         rt.alloc(),
         &links,
@@ -70,7 +70,7 @@ fn an_exclusion(rt: HostRuntime) -> Result<(), Fail> {
         Link::Needs(ROOT, 0, Place::Version(1)),
         Link::Excludes(Place::Version(1), Place::Word(0)),
     ];
-    is_told(
+    message_is(
         &rt,
         rt.alloc(),
         &links,
@@ -84,7 +84,7 @@ fn a_lock_before_the_last_edge(rt: HostRuntime) -> Result<(), Fail> {
         Link::Needs(ROOT, 2_000, Place::Version(2)),
         Link::Locks(1, Place::Version(2)),
     ];
-    is_told(
+    message_is(
         &rt,
         rt.alloc(),
         &links,
@@ -98,7 +98,7 @@ fn a_lock_as_the_last_edge(rt: HostRuntime) -> Result<(), Fail> {
         Link::Locks(1, Place::Version(2)),
         Link::Needs(ROOT, 2_000, Place::Version(2)),
     ];
-    is_told(
+    message_is(
         &rt,
         rt.alloc(),
         &links,
@@ -112,7 +112,7 @@ fn a_constraint_of_the_problem(rt: HostRuntime) -> Result<(), Fail> {
         Link::Admits(ROOT, 9_000, Place::Version(1)),
         Link::Needs(ROOT, 0, Place::Version(1)),
     ];
-    is_told(
+    message_is(
         &rt,
         rt.alloc(),
         &links,
@@ -121,12 +121,12 @@ fn a_constraint_of_the_problem(rt: HostRuntime) -> Result<(), Fail> {
 }
 
 #[test]
-fn a_version_that_bars_itself(rt: HostRuntime) -> Result<(), Fail> {
+fn a_version_that_forbids_itself(rt: HostRuntime) -> Result<(), Fail> {
     let links = [
         Link::Needs(ROOT, 0, Place::Version(1)),
         Link::Admits(Place::Version(1), 2_000, Place::Version(1)),
     ];
-    is_told(
+    message_is(
         &rt,
         rt.alloc(),
         &links,
@@ -143,7 +143,7 @@ fn constraints_alike_that_are_neighbours(rt: HostRuntime) -> Result<(), Fail> {
         Link::Admits(Place::Version(1), 2_002_000, Place::Version(201)),
         Link::Admits(Place::Version(1), 1_001_003, Place::Version(107)),
     ];
-    is_told(
+    message_is(
         &rt,
         rt.alloc(),
         &links,
@@ -162,7 +162,7 @@ fn merged_versions_at_two_places(rt: HostRuntime) -> Result<(), Fail> {
         Link::Needs(Place::Version(2), 2_009_000, NOTHING),
         Link::Needs(Place::Version(1), 2_009_000, NOTHING),
     ];
-    is_told(
+    message_is(
         &rt,
         rt.alloc(),
         &links,
@@ -178,7 +178,7 @@ fn a_single_version_at_two_places(rt: HostRuntime) -> Result<(), Fail> {
         Link::Needs(Place::Version(101), 0, Place::Version(1)),
         Link::Excludes(Place::Version(1), Place::Word(0)),
     ];
-    is_told(
+    message_is(
         &rt,
         rt.alloc(),
         &links,
@@ -194,7 +194,7 @@ fn what_is_missing_beside_what_can_be_installed(rt: HostRuntime) -> Result<(), F
         Link::Needs(ROOT, 4_000_000, NOTHING),
         Link::Forbids(Place::Version(2), Place::Version(1)),
     ];
-    is_told(
+    message_is(
         &rt,
         rt.alloc(),
         &links,
@@ -212,7 +212,7 @@ fn a_cycle_through_merged_versions(rt: HostRuntime) -> Result<(), Fail> {
         Link::Needs(Place::Version(101), 0, Place::Version(2)),
         Link::Needs(Place::Version(101), 0, Place::Version(1)),
     ];
-    is_told(
+    message_is(
         &rt,
         rt.alloc(),
         &links,
@@ -228,7 +228,7 @@ fn a_union(rt: HostRuntime) -> Result<(), Fail> {
         Link::Excludes(Place::Version(101), Place::Word(1)),
         Link::Excludes(Place::Version(203), Place::Word(0)),
     ];
-    is_told(
+    message_is(
         &rt,
         rt.alloc(),
         &links,
@@ -237,14 +237,14 @@ fn a_union(rt: HostRuntime) -> Result<(), Fail> {
 }
 
 #[test]
-fn two_packages_are_not_told_as_one(rt: HostRuntime) -> Result<(), Fail> {
+fn two_packages_are_not_merged(rt: HostRuntime) -> Result<(), Fail> {
     let links = [
         Link::NeedsEither(ROOT, Place::Version(101)),
         Link::NeedsEither(ROOT, Place::Version(201)),
         Link::Needs(Place::Version(101), 0, NOTHING),
         Link::Needs(Place::Version(201), 0, NOTHING),
     ];
-    is_told(
+    message_is(
         &rt,
         rt.alloc(),
         &links,
@@ -255,7 +255,7 @@ fn two_packages_are_not_told_as_one(rt: HostRuntime) -> Result<(), Fail> {
 #[test]
 fn several_edges_to_nothing(rt: HostRuntime) -> Result<(), Fail> {
     let links = [Link::Needs(ROOT, 0, NOTHING), Link::Needs(ROOT, 0, NOTHING)];
-    is_told(
+    message_is(
         &rt,
         rt.alloc(),
         &links,
@@ -264,14 +264,14 @@ fn several_edges_to_nothing(rt: HostRuntime) -> Result<(), Fail> {
 }
 
 #[test]
-fn what_can_be_installed_is_told_first(rt: HostRuntime) -> Result<(), Fail> {
+fn installable_comes_first(rt: HostRuntime) -> Result<(), Fail> {
     let links = [
         Link::Needs(ROOT, 0, Place::Version(1)),
         Link::Needs(Place::Version(1), 2_000_000, Place::Version(201)),
         Link::Needs(Place::Version(1), 1_000_000, Place::Version(101)),
         Link::Excludes(Place::Version(201), Place::Word(0)),
     ];
-    is_told(
+    message_is(
         &rt,
         rt.alloc(),
         &links,
@@ -280,14 +280,14 @@ fn what_can_be_installed_is_told_first(rt: HostRuntime) -> Result<(), Fail> {
 }
 
 #[test]
-fn what_cannot_be_installed_is_told_last(rt: HostRuntime) -> Result<(), Fail> {
+fn not_installable_comes_last(rt: HostRuntime) -> Result<(), Fail> {
     let links = [
         Link::Needs(ROOT, 0, Place::Version(1)),
         Link::Needs(Place::Version(1), 1_000_000, Place::Version(101)),
         Link::Needs(Place::Version(1), 2_000_000, Place::Version(201)),
         Link::Excludes(Place::Version(201), Place::Word(0)),
     ];
-    is_told(
+    message_is(
         &rt,
         rt.alloc(),
         &links,

@@ -264,6 +264,6 @@ pub fn message(alloc: Global, graph: &ConflictGraph) -> R<String> {
 }
 
 /// The message of the graph of some links.
-pub fn told(alloc: Global, links: &[Link]) -> R<String> {
+pub fn message_of(alloc: Global, links: &[Link]) -> R<String> {
     message(alloc, &drawn(alloc, links)?)
 }

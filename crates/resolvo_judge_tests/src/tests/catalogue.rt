@@ -123,7 +123,7 @@ fn shown(rule: Option<&Rule>) -> (&'static str, Option<VersionNo>) {
     }
 }
 
-fn tells_rules(rt: &impl Abort, market: &Catalogue) {
+fn reads_rules(rt: &impl Abort, market: &Catalogue) {
     for (line, kind, version) in &[
         (0u32, "none", None),
         (1, "none", None),
@@ -141,7 +141,7 @@ fn tells_rules(rt: &impl Abort, market: &Catalogue) {
     }
 }
 
-fn tells_rules_of_request(rt: &impl Abort, request: &Request) {
+fn reads_rules_of_request(rt: &impl Abort, request: &Request) {
     assert_eq!(rt; request.line_count(), 6);
     for (line, kind) in &[(1u32, "needs"), (2, "none"), (3, "none"), (4, "limits")] {
         assert_eq!(rt; shown(request.rule(*line)), (*kind, None), "{line}");
@@ -153,8 +153,8 @@ fn tells_rules_of_request(rt: &impl Abort, request: &Request) {
 #[test]
 fn rules(rt: HostRuntime) -> Result<(), Fail> {
     let market = catalogue_of(rt.alloc(), MARKET, 4096)?;
-    tells_rules(&rt, &market);
-    tells_rules_of_request(&rt, &request_of(rt.alloc(), ASKED, 4096, &market)?);
+    reads_rules(&rt, &market);
+    reads_rules_of_request(&rt, &request_of(rt.alloc(), ASKED, 4096, &market)?);
     Ok(())
 }
 

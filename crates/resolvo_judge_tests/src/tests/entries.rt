@@ -92,9 +92,9 @@ fn chosen_by(alloc: Global, turn: &RowTurn) -> Result<Vec<VersionNo>, AllocError
     }
 }
 
-fn chosen_of(alloc: Global, told: &[RowTurn]) -> Result<Vec<Vec<VersionNo>>, AllocError> {
+fn chosen_of(alloc: Global, outcome: &[RowTurn]) -> Result<Vec<Vec<VersionNo>>, AllocError> {
     let mut chosen = Vec::new(alloc);
-    for turn in told {
+    for turn in outcome {
         chosen.push(chosen_by(alloc, turn)?)?;
     }
     Ok(chosen)
@@ -118,10 +118,10 @@ fn turn_of<'a>(request: &Request, turn: &RowTurn, chosen: &'a [VersionNo]) -> Op
 fn add_turns<'a>(
     turns: &mut Vec<Turn<'a>>,
     request: &Request,
-    told: &[RowTurn],
+    outcome: &[RowTurn],
     chosen: &'a [Vec<VersionNo>],
 ) -> Result<(), AllocError> {
-    for (turn, chosen) in told.iter().zip(chosen) {
+    for (turn, chosen) in outcome.iter().zip(chosen) {
         if let Some(turn) = turn_of(request, turn, chosen) {
             turns.push(turn)?;
         }
@@ -195,7 +195,7 @@ fn written(alloc: Global, report: &Report, room: usize) -> Result<MemorySink, Fa
 }
 
 /// Whether the report has the row's text, and the judge's verdict on it.
-fn told_over(
+fn outcome_over(
     alloc: Global,
     catalogue: &Catalogue,
     request: &Request,
@@ -208,8 +208,8 @@ fn told_over(
     Ok((sink.bytes() == row.report.as_bytes(), verdict))
 }
 
-fn told_of(alloc: Global, catalogue: &Catalogue, row: &Row) -> Result<(bool, Verdict), Fail> {
-    told_over(
+fn outcome_of(alloc: Global, catalogue: &Catalogue, row: &Row) -> Result<(bool, Verdict), Fail> {
+    outcome_over(
         alloc,
         catalogue,
         &request_of(alloc, row.request, catalogue)?,
@@ -217,24 +217,24 @@ fn told_of(alloc: Global, catalogue: &Catalogue, row: &Row) -> Result<(bool, Ver
     )
 }
 
-fn told(alloc: Global, row: &Row) -> Result<(bool, Verdict), Fail> {
-    told_of(alloc, &catalogue_of(alloc, row.catalogue)?, row)
+fn outcome(alloc: Global, row: &Row) -> Result<(bool, Verdict), Fail> {
+    outcome_of(alloc, &catalogue_of(alloc, row.catalogue)?, row)
 }
 
 #[test]
 fn steps_in_any_order(rt: HostRuntime) -> Result<(), Fail> {
-    assert_eq!(rt; told(rt.alloc(), &WISHES)?, (true, Verdict::Yes));
+    assert_eq!(rt; outcome(rt.alloc(), &WISHES)?, (true, Verdict::Yes));
     Ok(())
 }
 
 #[test]
 fn lines_in_order(rt: HostRuntime) -> Result<(), Fail> {
-    assert_eq!(rt; told(rt.alloc(), &MARKET)?, (true, Verdict::Yes));
+    assert_eq!(rt; outcome(rt.alloc(), &MARKET)?, (true, Verdict::Yes));
     Ok(())
 }
 
 #[test]
 fn conditions_in_time(rt: HostRuntime) -> Result<(), Fail> {
-    assert_eq!(rt; told(rt.alloc(), &WAITING)?, (true, Verdict::Yes));
+    assert_eq!(rt; outcome(rt.alloc(), &WAITING)?, (true, Verdict::Yes));
     Ok(())
 }

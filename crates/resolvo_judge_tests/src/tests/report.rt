@@ -1,7 +1,7 @@
 //! Reports whose reader or writer fails, and reports that are read line by line.
 
 use resolvo_report::{
-    Report, ReportFault, ReportReader, ReportWriteFault, reports_are_read, texts_say_one_report,
+    Report, ReportFault, ReportReader, ReportWriteFault, reports_are_read, text_is_one_report,
 };
 use resolvo_text::{MemorySink, MemorySource};
 use std::alloc::{AllocError, Global};
@@ -60,11 +60,11 @@ const REFUSAL: &str = "refused\ncatalogue line 1\nrequest line 1\nstep 1 any a=1
 
 /// Whether a report that doesn't fit into so much room is written up to its end, and the writer's
 /// fault returned.
-fn front_is_written(alloc: Global, report: &Report, room: usize) -> Result<bool, AllocError> {
+fn prefix_is_written(alloc: Global, report: &Report, room: usize) -> Result<bool, AllocError> {
     let mut sink = MemorySink::new(alloc, room, 1)?;
     let fault = report.write(alloc, &mut sink).err();
-    let front = REFUSAL.as_bytes().starts_with(sink.bytes());
-    Ok(fault == Some(ReportWriteFault::Writer) && front)
+    let prefix = REFUSAL.as_bytes().starts_with(sink.bytes());
+    Ok(fault == Some(ReportWriteFault::Writer) && prefix)
 }
 
 /// A report that is read; none where it isn't.
@@ -74,7 +74,7 @@ fn refusal(alloc: Global) -> Option<Report> {
 
 fn fronts_are_written(rt: &impl Abort, alloc: Global, report: &Report) -> Result<(), AllocError> {
     for room in 0..REFUSAL.len() {
-        assert!(rt; front_is_written(alloc, report, room)?, "{room}");
+        assert!(rt; prefix_is_written(alloc, report, room)?, "{room}");
     }
     Ok(())
 }
@@ -82,7 +82,7 @@ fn fronts_are_written(rt: &impl Abort, alloc: Global, report: &Report) -> Result
 #[test]
 fn writer_faults(rt: HostRuntime) -> Result<(), Fail> {
     fronts_are_written(&rt, rt.alloc(), &refusal(rt.alloc()).ok_or("no report")?)?;
-    texts_say_one_report();
+    text_is_one_report();
     reports_are_read();
     Ok(())
 }

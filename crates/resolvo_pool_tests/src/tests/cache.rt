@@ -129,7 +129,7 @@ fn dependencies_asked_once(rt: HostRuntime) -> Result<(), Fail> {
     Ok(())
 }
 
-fn keeps_what_came(rt: &impl Abort, cache: &mut SolverCache<Tens>) {
+fn keeps_answers(rt: &impl Abort, cache: &mut SolverCache<Tens>) {
     assert!(rt; matching(cache, 1, &[1, 2]));
     assert!(rt; matching(cache, 11, &[11, 12]));
     assert_eq!(rt; cancelled(cache, 21), Some(3));
@@ -141,6 +141,6 @@ fn keeps_what_came(rt: &impl Abort, cache: &mut SolverCache<Tens>) {
 
 #[test]
 fn third_question_cancelled(rt: HostRuntime) -> Result<(), Fail> {
-    keeps_what_came(&rt, &mut cache(rt.alloc(), 3)?);
+    keeps_answers(&rt, &mut cache(rt.alloc(), 3)?);
     Ok(())
 }

@@ -222,7 +222,7 @@ fn put(values: &mut RequirementMap<u32>, requirement: Requirement) -> R<()> {
     Ok(())
 }
 
-fn tells_kinds_apart(rt: &impl Abort, values: &mut RequirementMap<u32>) -> R<()> {
+fn distinguishes_kinds(rt: &impl Abort, values: &mut RequirementMap<u32>) -> R<()> {
     let single = Requirement::from(VersionSetId(2));
     let union = Requirement::from(VersionSetUnionId(2));
     values.insert(single, 1)?;
@@ -242,6 +242,6 @@ fn tells_kinds_apart(rt: &impl Abort, values: &mut RequirementMap<u32>) -> R<()>
 
 #[test]
 fn values_of_requirements(rt: HostRuntime) -> Result<(), Fail> {
-    tells_kinds_apart(&rt, &mut RequirementMap::new(rt.alloc())?)?;
+    distinguishes_kinds(&rt, &mut RequirementMap::new(rt.alloc())?)?;
     Ok(())
 }

@@ -40,7 +40,7 @@ pub fn small_provider(alloc: Global, favored: Option<SolvableId>, cancels_at: u3
 }
 
 impl Tens {
-    fn note(&self) {
+    fn count_question(&self) {
         self.asked.set(self.asked.get().wrapping_add(1));
     }
 }
@@ -171,7 +171,7 @@ impl DependencyProvider for Tens {
         version_set: VersionSetId,
         inverse: bool,
     ) -> R<Vec<SolvableId>> {
-        self.note();
+        self.count_question();
         let mut found = Vec::new(alloc);
         for candidate in candidates {
             if (version_set.0 <= candidate.into_raw()) != inverse {
@@ -182,7 +182,7 @@ impl DependencyProvider for Tens {
     }
 
     fn get_candidates(&self, alloc: Global, name: NameId) -> R<Option<Candidates<SolvableId>>> {
-        self.note();
+        self.count_question();
         let number = name.into_raw();
         if number > 2 {
             return Ok(None);
@@ -197,13 +197,13 @@ impl DependencyProvider for Tens {
     }
 
     fn sort_candidates(&self, alloc: Global, candidates: &mut [SolvableId]) -> R<()> {
-        self.note();
+        self.count_question();
         candidates.sort_by_key(alloc, |s| Reverse(s.into_raw()))?;
         Ok(())
     }
 
     fn get_dependencies(&self, alloc: Global, solvable: SolvableId) -> R<Dependencies> {
-        self.note();
+        self.count_question();
         if solvable.into_raw() % 10 == 2 {
             return Ok(Dependencies::Unknown(StringId(0)));
         }

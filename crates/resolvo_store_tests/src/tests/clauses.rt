@@ -18,7 +18,7 @@ fn literals_of_a_lock(alloc: Global) -> R<Vec<Literal>> {
 }
 
 #[test]
-fn lock_bars_the_other(rt: HostRuntime) -> Result<(), Fail> {
+fn lock_forbids_the_other(rt: HostRuntime) -> Result<(), Fail> {
     let clause: Clause<NameId> = Clause::Lock(VariableId(3), VariableId(4));
     assert!(rt; clause.is_binary());
     let literals = literals_of_a_lock(rt.alloc())?;
@@ -69,7 +69,7 @@ fn value_of_a_clause(rt: HostRuntime) -> Result<(), Fail> {
 }
 
 #[test]
-fn bars_another(rt: HostRuntime) {
+fn forbids_another(rt: HostRuntime) {
     let (_, watched) = WatchedLiterals::constrains::<NameId>(
         VariableId(5),
         VariableId(6),
@@ -79,7 +79,7 @@ fn bars_another(rt: HostRuntime) {
 }
 
 #[test]
-fn bars_itself(rt: HostRuntime) {
+fn forbids_itself(rt: HostRuntime) {
     let (_, watched) = WatchedLiterals::constrains::<NameId>(
         VariableId(5),
         VariableId(5),

@@ -7,7 +7,7 @@ ghost use Rattle.resolvo_state.specs.Registered.{AreTied};
 use resolvo_pool_core::id::{NameId, SolvableId, StringId, VariableId, VersionSetId};
 use resolvo_pool_core::requirement::ConditionalRequirement;
 use resolvo_pool_core::want::R;
-use resolvo_state::clause_kind::Stated;
+use resolvo_state::clause_kind::ClauseKind;
 use resolvo_state::registry::Registry;
 use resolvo_state::solver_state::SolverState;
 use resolvo_store_core::literal::Literal;
@@ -48,8 +48,8 @@ fn clauses(alloc: Global, count: u32) -> R<usize> {
 fn places(alloc: Global, count: u32) -> R<Vec<(u32, u32)>> {
     let coding = registered(alloc, count)?;
     let mut places = Vec::new(alloc);
-    for stated in coding.stated.iter() {
-        if let Stated::Digit { place, bit, .. } = stated {
+    for kinds in coding.kinds.iter() {
+        if let ClauseKind::Digit { place, bit, .. } = kinds {
             places.push((*place, *bit))?;
         }
     }
@@ -132,12 +132,12 @@ fn need_one(
     literals.push(Literal::new(first, false))?;
     literals.push(Literal::new(second, false))?;
     let need = ConditionalRequirement::from(VersionSetId(0));
-    let stated = Stated::Needs {
+    let kinds = ClauseKind::Needs {
         parent: None,
         need,
         case: Vec::new(alloc),
     };
-    coding.state(stated, literals)?;
+    coding.state(kinds, literals)?;
     Ok(())
 }
 
@@ -154,11 +154,11 @@ fn exclude(
 {
     let mut literals = Vec::new(alloc);
     literals.push(Literal::new(variable, true))?;
-    let stated = Stated::Excluded {
+    let kinds = ClauseKind::Excluded {
         solvable,
         reason: StringId(0),
     };
-    coding.state(stated, literals)?;
+    coding.state(kinds, literals)?;
     Ok(())
 }
 

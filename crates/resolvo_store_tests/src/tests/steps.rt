@@ -3,7 +3,7 @@ ghost use Rattle.std.specs.Prelude.{◌<◌, OnOk, IfOk, IsSome};
 ghost use Rattle.resolvo_sat.specs.State.{count_of};
 ghost use Rattle.resolvo_sat.specs.Steps.{AreInRange};
 ghost use Rattle.resolvo_state.specs.SolverState.{IsCoding};
-ghost use Rattle.resolvo_state.specs.Statements.{rule_of};
+ghost use Rattle.resolvo_state.specs.ClauseKinds.{rule_of};
 
 use resolvo_pool_core::id::{ClauseId, NameId, SolvableId, StringId, VariableId, VersionSetId};
 use resolvo_pool_core::requirement::{ConditionalRequirement, Requirement};
@@ -14,7 +14,7 @@ use resolvo_proof::trim::{Trimmed, trim, trim_to};
 use resolvo_sat::propagate_and_learn::StepResult;
 use resolvo_sat::state::SatState;
 use resolvo_state::atom::ProofAtom;
-use resolvo_state::clause_kind::Stated;
+use resolvo_state::clause_kind::ClauseKind;
 use resolvo_state::solver_state::SolverState;
 use resolvo_store_core::literal::Literal;
 use std::alloc::Global;
@@ -42,18 +42,18 @@ fn literals_of(alloc: Global, search: &SatState, signs: &[(u32, bool)]) -> R<Vec
 fn state(
     alloc: Global,
     coding: &mut TestCoding,
-    stated: Stated<NameId, SolvableId>,
+    kind: ClauseKind<NameId, SolvableId>,
     signs: &[(u32, bool)],
 ) -> R<()>
     requires coding { IsCoding coding.old }
-    requires rule { IsSome (rule_of stated) }
+    requires rule { IsSome (rule_of kind) }
     ensures { OnOk result (IsCoding coding.new) }
 {
     let literals = literals_of(alloc, &coding.search, signs)?;
     if literals.is_empty() {
         return Ok(());
     }
-    coding.state(stated, literals)?;
+    coding.state(kind, literals)?;
     Ok(())
 }
 
@@ -72,7 +72,7 @@ fn solvables(alloc: Global, count: u32) -> R<TestCoding>
 fn refuse(alloc: Global, coding: &mut TestCoding) -> R<Vec<TestStep>>
     requires { IsCoding coding.old }
 {
-    let needs = Stated::Needs {
+    let needs = ClauseKind::Needs {
         parent: None,
         need: ConditionalRequirement::from(VersionSetId(3)),
         case: Vec::new(alloc),
@@ -92,7 +92,7 @@ fn exclude(alloc: Global, coding: &mut TestCoding, number: u16) -> R<()>
     requires { IsCoding coding.old }
     ensures { OnOk result (IsCoding coding.new) }
 {
-    let excluded = Stated::Excluded {
+    let excluded = ClauseKind::Excluded {
         solvable: SolvableId::from_raw(u32::from(number)),
         reason: StringId(5),
     };
@@ -113,11 +113,11 @@ fn steps_of_next(alloc: Global, coding: &mut TestCoding) -> R<Vec<TestStep>>
 fn learn(alloc: Global, coding: &mut TestCoding) -> R<Vec<TestStep>>
     requires { IsCoding coding.old }
 {
-    let shared = Stated::Shared {
+    let shared = ClauseKind::Shared {
         requirement: Requirement::Single(VersionSetId(3)),
     };
     state(alloc, coding, shared, &[(1, false), (2, true)])?;
-    let limits = Stated::Limits {
+    let limits = ClauseKind::Limits {
         parent: Some(SolvableId::from_raw(0)),
         version_set: VersionSetId(4),
         barred: SolvableId::from_raw(1),
@@ -180,7 +180,7 @@ fn causes(step: &TestStep) -> Option<&[usize]> {
     }
 }
 
-fn tells_a_refusal(rt: &impl Abort, steps: &[TestStep]) {
+fn shows_a_refusal(rt: &impl Abort, steps: &[TestStep]) {
     assert_eq!(rt; steps.len(), 4);
     assert_eq!(rt;
         needed(&steps[0]),
@@ -196,11 +196,11 @@ fn tells_a_refusal(rt: &impl Abort, steps: &[TestStep]) {
 /// solvables are out, which falsifies the first rule.
 #[test]
 fn refusal(rt: HostRuntime) -> Result<(), Fail> {
-    tells_a_refusal(&rt, refused(rt.alloc())?.as_slice());
+    shows_a_refusal(&rt, refused(rt.alloc())?.as_slice());
     Ok(())
 }
 
-fn tells_what_was_learnt(rt: &impl Abort, steps: &[TestStep]) {
+fn shows_the_learnt_clause(rt: &impl Abort, steps: &[TestStep]) {
     let out = ProofLiteral {
         atom: ProofAtom::Solvable(SolvableId::from_raw(0)),
         positive: false,
@@ -214,7 +214,7 @@ fn tells_what_was_learnt(rt: &impl Abort, steps: &[TestStep]) {
 /// keeps the second one out. Then the other rule is falsified.
 #[test]
 fn learning(rt: HostRuntime) -> Result<(), Fail> {
-    tells_what_was_learnt(&rt, learnt(rt.alloc())?.as_slice());
+    shows_the_learnt_clause(&rt, learnt(rt.alloc())?.as_slice());
     Ok(())
 }
 

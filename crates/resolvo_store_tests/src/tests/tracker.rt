@@ -73,7 +73,7 @@ fn four_variables(rt: HostRuntime) -> Result<(), Fail> {
 }
 
 /// How many variables there are, and that of the first solvable.
-fn told(map: &VariableMap<NameId, SolvableId>) -> (usize, Option<u32>) {
+fn count_and_first(map: &VariableMap<NameId, SolvableId>) -> (usize, Option<u32>) {
     let variable = map.lookup_solvable(SolvableId::from_raw(40));
     (map.count(), variable.map(|variable| variable.0))
 }
@@ -98,10 +98,10 @@ fn of_others(map: &mut VariableMap<NameId, SolvableId>) -> R<(u32, u32, u32, u32
 }
 
 fn gives_all(rt: &impl Abort, map: &mut VariableMap<NameId, SolvableId>) -> R<()> {
-    assert_eq!(rt; told(map), (1, None));
+    assert_eq!(rt; count_and_first(map), (1, None));
     assert_eq!(rt; of_a_package(map)?, (1, 1, 2, 3));
     assert_eq!(rt; of_others(map)?, (4, 5, 0, 6));
-    assert_eq!(rt; told(map), (7, Some(1)));
+    assert_eq!(rt; count_and_first(map), (7, Some(1)));
     Ok(())
 }
 
@@ -123,7 +123,7 @@ fn kind(origin: VariableOrigin<NameId, SolvableId>) -> &'static str {
     }
 }
 
-fn tells_origins(rt: &impl Abort, map: &mut VariableMap<NameId, SolvableId>) -> R<()> {
+fn shows_origins(rt: &impl Abort, map: &mut VariableMap<NameId, SolvableId>) -> R<()> {
     map.intern_solvable(SolvableId::from_raw(4))?;
     map.alloc_at_least_one_variable(NameId::from_raw(6))?;
     for (variable, word) in &[(0u32, "root"), (1, "solvable"), (2, "some version")] {
@@ -135,7 +135,7 @@ fn tells_origins(rt: &impl Abort, map: &mut VariableMap<NameId, SolvableId>) -> 
 }
 
 #[test]
-fn origins_are_told(rt: HostRuntime) -> Result<(), Fail> {
-    tells_origins(&rt, &mut VariableMap::new(rt.alloc()))?;
+fn origins_are_shown(rt: HostRuntime) -> Result<(), Fail> {
+    shows_origins(&rt, &mut VariableMap::new(rt.alloc()))?;
     Ok(())
 }

@@ -26,7 +26,7 @@ fn undo(trail: &mut DecisionTracker) -> Option<(u32, u32)> {
     Some((decision.variable.0, level))
 }
 
-fn tells_least_lengths(rt: &impl Abort, trail: &mut DecisionTracker) -> R<()> {
+fn finds_least_lengths(rt: &impl Abort, trail: &mut DecisionTracker) -> R<()> {
     let first = trail.take_sync_floor();
     for (variable, level) in &[(0u32, 1u32), (1, 2), (2, 2)] {
         assert_eq!(rt; decide(trail, *variable, *level)?, Set::New);
@@ -41,7 +41,7 @@ fn tells_least_lengths(rt: &impl Abort, trail: &mut DecisionTracker) -> R<()> {
 
 #[test]
 fn least_length(rt: HostRuntime) -> Result<(), Fail> {
-    tells_least_lengths(&rt, &mut DecisionTracker::new(rt.alloc()))?;
+    finds_least_lengths(&rt, &mut DecisionTracker::new(rt.alloc()))?;
     Ok(())
 }
 
@@ -61,7 +61,7 @@ fn takes_decisions(rt: &impl Abort, trail: &mut DecisionTracker) -> R<()> {
     Ok(())
 }
 
-fn tells_values(rt: &impl Abort, trail: &DecisionTracker) {
+fn has_values(rt: &impl Abort, trail: &DecisionTracker) {
     assert_eq!(rt;
         (trail.level(VariableId(5)), trail.level(VariableId(8))),
         (3, 0)
@@ -101,15 +101,15 @@ fn goes_back(rt: &impl Abort, trail: &mut DecisionTracker) -> R<()> {
     Ok(())
 }
 
-fn tells_values_and_levels(rt: &impl Abort, trail: &mut DecisionTracker) -> R<()> {
+fn has_values_and_levels(rt: &impl Abort, trail: &mut DecisionTracker) -> R<()> {
     takes_decisions(rt, trail)?;
-    tells_values(rt, trail);
+    has_values(rt, trail);
     hands_out(rt, trail);
     goes_back(rt, trail)
 }
 
 #[test]
 fn values_and_levels(rt: HostRuntime) -> Result<(), Fail> {
-    tells_values_and_levels(&rt, &mut DecisionTracker::new(rt.alloc()))?;
+    has_values_and_levels(&rt, &mut DecisionTracker::new(rt.alloc()))?;
     Ok(())
 }

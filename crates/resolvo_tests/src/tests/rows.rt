@@ -15,7 +15,7 @@ use std::process::Abort;
 
 const MARKET: &str = "version a 1\nversion a 2\nneeds b 1\nversion b 1\nversion b 2\nneeds a\n";
 
-const BARRED: &str =
+const FORBIDDEN: &str =
     "version b 1\nversion b 2\nversion b 3\nunknown later\nversion b 4\nexclude b 4 old\nversion c 1\nversion c 2\nlock c 1\n";
 
 const MANY: &str =
@@ -58,8 +58,8 @@ static ROWS: [[&str; 3]; 44] = [
         "b 1\na 1\nleft out b 2\n",
     ],
     [MARKET, "wish a 2\nwish b 2\n", "a 2\nb 1\nleft out b 2\n"],
-    [BARRED, "needs b\n", "b 2\n"],
-    [BARRED, "needs c\n", "c 1\n"],
+    [FORBIDDEN, "needs b\n", "b 2\n"],
+    [FORBIDDEN, "needs c\n", "c 1\n"],
     [MANY, "needs a\nneeds b 2\n", "refused\n"],
     [MANY, "needs a\nneeds b\n", "a 1\nb 1\n"],
     [IF, "needs a\nneeds b if a\n", "a 1\nb 1\nc 1\n"],
@@ -222,7 +222,7 @@ impl fmt::Display for Package<'_> {
     }
 }
 
-fn tell_version(
+fn write_version(
     rt: &impl Abort,
     text: &mut String,
     source: &Source,
@@ -234,13 +234,13 @@ fn tell_version(
 }
 
 /// The chosen versions, the wishes left out, and how many cases wait.
-fn tell_chosen(rt: &impl Abort, text: &mut String, solver: &Solver<Source>, chosen: &[Version]) {
+fn write_chosen(rt: &impl Abort, text: &mut String, solver: &Solver<Source>, chosen: &[Version]) {
     for version in chosen {
-        tell_version(rt, text, solver.provider(), "", *version);
+        write_version(rt, text, solver.provider(), "", *version);
     }
     for turn in solver.turns() {
         if !turn.accepted {
-            tell_version(rt, text, solver.provider(), "left out ", turn.solvable);
+            write_version(rt, text, solver.provider(), "left out ", turn.solvable);
         }
     }
     match solver.deferred_requirements_count() {
@@ -250,7 +250,7 @@ fn tell_chosen(rt: &impl Abort, text: &mut String, solver: &Solver<Source>, chos
     }
 }
 
-fn tell_why(
+fn write_why(
     rt: &impl Abort,
     alloc: Global,
     why: &mut String,
@@ -264,7 +264,7 @@ fn tell_why(
     write!(why, "{message}").expect(rt, "room");
 }
 
-fn tell_asked(rt: &impl Abort, text: &mut String, source: &Source) {
+fn write_asked(rt: &impl Abort, text: &mut String, source: &Source) {
     if let Ok(asked) = source.asked.try_borrow() {
         for question in asked.iter() {
             match question {
@@ -274,7 +274,7 @@ fn tell_asked(rt: &impl Abort, text: &mut String, source: &Source) {
                     writeln!(text, "{package}").expect(rt, "room");
                 }
                 Question::Dependencies(solvable) => {
-                    tell_version(rt, text, source, "", SparseId::from_raw(*solvable));
+                    write_version(rt, text, source, "", SparseId::from_raw(*solvable));
                 }
             }
         }
@@ -282,7 +282,7 @@ fn tell_asked(rt: &impl Abort, text: &mut String, source: &Source) {
 }
 
 /// Writes a solver's answer, and why it refuses. Whether it was stopped.
-fn tell(
+fn write_answer(
     rt: &impl Abort,
     alloc: Global,
     solver: &mut Solver<Source>,
@@ -290,10 +290,10 @@ fn tell(
     (text, why): (&mut String, &mut String),
 ) -> bool {
     match solved(rt, alloc, solver, asked) {
-        Ok(chosen) => tell_chosen(rt, text, solver, chosen.as_slice()),
+        Ok(chosen) => write_chosen(rt, text, solver, chosen.as_slice()),
         Err(UnsolvableOrCancelled::Unsolvable(conflict)) => {
             text.push_str("refused\n").expect(rt, "room");
-            tell_why(rt, alloc, why, solver, &conflict);
+            write_why(rt, alloc, why, solver, &conflict);
         }
         Err(UnsolvableOrCancelled::Cancelled(value)) => {
             writeln!(text, "cancelled with {value}").expect(rt, "room");
@@ -309,7 +309,7 @@ fn tell(
 }
 
 /// Fills in a solver's answer. Where it is stopped nothing is left, and it is asked again.
-fn tell_twice(
+fn write_twice(
     rt: &impl Abort,
     alloc: Global,
     solver: &mut Solver<Source>,
@@ -320,7 +320,7 @@ fn tell_twice(
         (solver.clause_count(), solver.deferred_requirements_count()),
         (0, 0)
     );
-    if tell(
+    if write_answer(
         rt,
         alloc,
         solver,
@@ -331,7 +331,7 @@ fn tell_twice(
             solver.turns().is_empty() && solver.proof().is_empty(),
             "asked again"
         );
-        tell(
+        write_answer(
             rt,
             alloc,
             solver,
@@ -339,7 +339,7 @@ fn tell_twice(
             (&mut answer.again, &mut answer.why),
         );
     }
-    tell_asked(rt, &mut answer.asked, solver.provider());
+    write_asked(rt, &mut answer.asked, solver.provider());
     if asked.0.is_empty() && asked.1.is_empty() && asked.2.is_empty() {
         assert_eq!(rt; solver.clause_count(), 1);
     }
@@ -370,23 +370,23 @@ fn answer_of(
         root.constraints.as_slice(),
         wishes.as_slice(),
     );
-    tell_twice(rt, alloc, &mut solver, asked, &mut answer);
+    write_twice(rt, alloc, &mut solver, asked, &mut answer);
     answer
 }
 
 #[test]
 fn requests_are_answered(rt: HostRuntime) {
-    for [listed, wanted, says] in &ROWS {
+    for [listed, wanted, expected] in &ROWS {
         let answer = answer_of(&rt, rt.alloc(), (listed, Hint::All, wanted), u32::MAX);
         if answer.first.as_str() == "no memory\n" {
             assert_eq!(rt;
                 answer.again.as_str(),
-                *says,
+                *expected,
                 "asked again: {listed}{wanted}"
             );
             panic!(rt; "assertion failed: it lacked memory, and then answered");
         }
-        assert_eq!(rt; answer.first.as_str(), *says, "{listed}{wanted}");
+        assert_eq!(rt; answer.first.as_str(), *expected, "{listed}{wanted}");
     }
 }
 
@@ -394,16 +394,16 @@ fn requests_are_answered(rt: HostRuntime) {
 fn is_cancelled(
     rt: &impl Abort,
     alloc: Global,
-    [listed, wanted, says]: &[&str; 3],
+    [listed, wanted, expected]: &[&str; 3],
     passed: u32,
 ) -> bool {
     let answer = answer_of(rt, alloc, (listed, Hint::All, wanted), passed);
-    if answer.first.as_str() == *says {
+    if answer.first.as_str() == *expected {
         return false;
     }
     let stopped = format!(in alloc; "cancelled with {passed}\n").expect(rt, "room");
     assert_eq!(rt; answer.first.as_str(), stopped.as_str(), "{listed}{wanted}");
-    assert_eq!(rt; answer.again.as_str(), *says, "{listed}{wanted}");
+    assert_eq!(rt; answer.again.as_str(), *expected, "{listed}{wanted}");
     true
 }
 

@@ -9,7 +9,7 @@ use Rattle.resolvo_catalogue.specs.declared.impls.GivenUp.{GivenUp}
 use Rattle.resolvo.specs.Solver.{IsAnswer, IfEnded, Leaves, Kept, root_of as asked_of}
 use Rattle.resolvo.specs.declared.conflict.Conflict.{Conflict}
 use Rattle.resolvo.specs.declared.solver.UnsolvableOrCancelled.{UnsolvableOrCancelled}
-use Rattle.resolvo.specs.Wished.{AreCandidates}
+use Rattle.resolvo.specs.SoftTurns.{AreCandidates}
 use Rattle.resolvo.specs.declared.solver.UnsolvableOrCancelled.TheVariants.{Unsolvable}
 use Rattle.resolve_answer.specs.First.{orders_of}
 use Rattle.resolve_answer.specs.Solved.{IsInstalledOver}
@@ -26,8 +26,8 @@ exact : IsExact same
 exact = record { one = λ x y h. ap (λ k. record { raw = k; tag = record {} }) (eqb-true x.raw y.raw (and_parts (x.raw == y.raw) true h).0); own = λ x. and_from (x.raw == x.raw) true (eq-eqb x.raw x.raw refl) refl }
 
 -- the answer for these wishes, for a root of these rules
-abbrev SaysOf : Rules → List SolvableId → Verdict → Kept Provider NameId SolvableId → Provider → Type 0
-SaysOf root free verdict solver p = AreCandidates same (packages_of p) free → IsAnswer same (packages_of p) root (orders_of same p) free verdict solver
+abbrev IsAnswerUnder : Rules → List SolvableId → Verdict → Kept Provider NameId SolvableId → Provider → Type 0
+IsAnswerUnder root free verdict solver p = AreCandidates same (packages_of p) free → IsAnswer same (packages_of p) root (orders_of same p) free verdict solver
 
 abbrev IfGiven : Verdict → Type 0 → Type 0
 IfGiven verdict P = IfEnded verdict P
@@ -42,21 +42,21 @@ ended {P} is h = subst (λ (x : UnsolvableOrCancelled GivenUp). IfGiven (Err x) 
 pub returns-in-Ok-clause-report : goal.returns-in-Ok-clause-report
 returns-in-Ok-clause-report c =
     let catalogue = c.args.catalogue.now in
-    let said = c.args.request.now in
+    let source = c.args.request.now in
     let solver = c.solve.new.self in
     let old = c.args.solver.now.provider in
     let wishes = c.in_ok-wishes.wishes.items in
     let (free, whole, answers, alone) = c.in-Ok.ensures.answer in
     let free_is : free ≡ free_of wishes = c.problem_of.ensures.wishes free whole ∙ (c.in_ok-free.ensures ∙ ap free_of c.as_slice.ensures.value) in
-    λ asks versions over asked. c.in_ok-told-in-Ok.ensures asks
-    (subst (λ (xs : List SolvableId). IsInstalledOver catalogue said solver.provider wishes xs solver.turns solver.proof) (sym c.as_slice-in-Ok.ensures.value)
-    (answer_installed catalogue said wishes c.args.asked same exact old solver asks c.in_ok-wishes.ensures.lines versions c.in_ok-wishes.ensures.wishes c.solve.ensures.provider over asked free free_is c.in-Ok.chosen
-    (subst (λ (root : Rules). SaysOf root free (Ok c.in-Ok.chosen) solver old) c.problem_of.ensures.root answers)))
+    λ asks versions over asked. c.in_ok-matched-in-Ok.ensures asks
+    (subst (λ (xs : List SolvableId). IsInstalledOver catalogue source solver.provider wishes xs solver.turns solver.proof) (sym c.as_slice-in-Ok.ensures.value)
+    (answer_installed catalogue source wishes c.args.asked same exact old solver asks c.in_ok-wishes.ensures.lines versions c.in_ok-wishes.ensures.wishes c.solve.ensures.provider over asked free free_is c.in-Ok.chosen
+    (subst (λ (root : Rules). IsAnswerUnder root free (Ok c.in-Ok.chosen) solver old) c.problem_of.ensures.root answers)))
 
 pub returns-in-Err-Unsolvable-clause-report : goal.returns-in-Err-Unsolvable-clause-report
 returns-in-Err-Unsolvable-clause-report c =
     let catalogue = c.args.catalogue.now in
-    let said = c.args.request.now in
+    let source = c.args.request.now in
     let solver = c.solve.new.self in
     let old = c.args.solver.now.provider in
     let wishes = c.in_ok-wishes.wishes.items in
@@ -66,5 +66,5 @@ returns-in-Err-Unsolvable-clause-report c =
     let (count, ends, turnless, holds, listed) = subst (λ (e : UnsolvableOrCancelled GivenUp). IsLeftBy (Err e) solver) is c.in-Err-Unsolvable.ensures.leaves in
     let free_is : free ≡ free_of wishes = c.problem_of.ensures.wishes free whole ∙ (c.in_ok-free.ensures ∙ ap free_of c.as_slice.ensures.value) in
     λ asks versions over asked. c.in_ok-refused-in-Err-Unsolvable.ensures asks
-    (answer_refuted catalogue said wishes c.args.asked same exact old solver asks c.in_ok-wishes.ensures.lines versions c.in_ok-wishes.ensures.wishes c.solve.ensures.provider over asked free free_is conflict
-    (subst (λ (root : Rules). SaysOf root free (Err (Unsolvable conflict)) solver old) c.problem_of.ensures.root (subst (λ (e : UnsolvableOrCancelled GivenUp). SaysOf (asked_of c.problem_of.result) free (Err e) solver old) is answers)) ends)
+    (answer_refuted catalogue source wishes c.args.asked same exact old solver asks c.in_ok-wishes.ensures.lines versions c.in_ok-wishes.ensures.wishes c.solve.ensures.provider over asked free free_is conflict
+    (subst (λ (root : Rules). IsAnswerUnder root free (Err (Unsolvable conflict)) solver old) c.problem_of.ensures.root (subst (λ (e : UnsolvableOrCancelled GivenUp). IsAnswerUnder (asked_of c.problem_of.result) free (Err e) solver old) is answers)) ends)

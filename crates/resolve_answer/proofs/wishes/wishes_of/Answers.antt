@@ -6,7 +6,7 @@ use Rattle.resolvo_soundness.proofs.Lists.{contains_one, contains_parts}
 use Rattle.resolvo_catalogue_core.specs.Questions.{AreAll, IsWish, LineIs}
 use Rattle.resolvo_catalogue_core.specs.declared.rule.VersionNo.{VersionNo}
 use Rattle.resolvo_report.specs.View.{step_of}
-use Rattle.resolve_refusal.specs.InstallSteps.{IsBarringStepOf}
+use Rattle.resolve_refusal.specs.InstallSteps.{IsForbidStepOf}
 use Rattle.resolve_answer.specs.Wishes.{asked_by}
 use Rattle.resolve_answer.specs.declared.wishes.Wish.{Wish}
 use Rattle.resolve_answer.proofs.wishes.wishes_of.Goals as goal
@@ -19,9 +19,9 @@ loop-wish-preserved c =
     let w = c.in_ok-wish_of.field-0 in
     record {
       are = more_are c.wishes-wish-items.result.now c.loop-wish.wish-index _ c.loop-wish.wishes.items c.push.new.self.items w c.loop-wish-test.true c.in_ok-push.ensures.items c.in_ok-wish_of.ensures.asked c.loop-wish.invariant.are;
-      bars = λ u h. elim (contains_parts u c.loop-wish.wishes.items (w ∷ []) (subst (λ (ys : List Wish). Contains ys u) c.in_ok-push.ensures.items h)) [
-        | inl old ↦ c.loop-wish.invariant.bars u old
-        | inr new ↦ subst (λ (x : Wish). IsBarringStepOf c.args.catalogue.now x.version.0 (option_map step_of x.bar)) (sym (contains_one u w new)) c.in_ok-wish_of.ensures.barred
+      forbids = λ u h. elim (contains_parts u c.loop-wish.wishes.items (w ∷ []) (subst (λ (ys : List Wish). Contains ys u) c.in_ok-push.ensures.items h)) [
+        | inl old ↦ c.loop-wish.invariant.forbids u old
+        | inr new ↦ subst (λ (x : Wish). IsForbidStepOf c.args.catalogue.now x.version.0 (option_map step_of x.forbidden_by)) (sym (contains_one u w new)) c.in_ok-wish_of.ensures.forbidden
       ];
     }
 

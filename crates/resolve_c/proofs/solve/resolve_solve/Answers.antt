@@ -1,12 +1,12 @@
 use Rattle.std.proofs.Common.{refl}
-use Rattle.resolve_c.specs.Told.{answered}
+use Rattle.resolve_c.specs.CallResult.{answered}
 use Rattle.resolve_c.proofs.Calls.{leaves_as, unanswered_without}
 use Rattle.resolve_c.proofs.solve.resolve_solve.Goals as goal
 
 pub returns-in-Ok : goal.returns-in-Ok
 returns-in-Ok c = answered c.in-Ok.answer.outcome c.in-Ok.answer.text.items c.in-Ok.ensures.ok
-    (leaves_as _ _ _ _ _ _ _ c.ending_of.ensures c.deref.ensures.value c.tell.ensures)
+    (leaves_as _ _ _ _ _ _ _ c.ending_of.ensures c.deref.ensures.value c.write_text.ensures)
 
 pub returns-in-Err : goal.returns-in-Err
 returns-in-Err c = unanswered_without c.in-Err.stop _ _ _ _ _ c.in-Err.ensures.err
-    (leaves_as _ _ _ _ _ _ _ c.stop_ending_of.ensures refl c.tell-in-Err.ensures)
+    (leaves_as _ _ _ _ _ _ _ c.stop_ending_of.ensures refl c.write_text-in-Err.ensures)

@@ -1,19 +1,19 @@
 use Rattle.std.proofs.Common.{refl, inr}
 use Rattle.resolve_check.specs.Devices.{in_request}
-use Rattle.resolve_check.proofs.CheckLemmas.{catalogue_good, catalogue_told, request_good, request_told, told_err, verdict_checks}
+use Rattle.resolve_check.proofs.CheckLemmas.{catalogue_good, catalogue_answer, request_good, request_answer, answered_err, verdict_checks}
 use Rattle.resolve_check.proofs.check.answer.Goals as goal
 
 pub returns-in-Err-clause-ok : goal.returns-in-Err-clause-ok
-returns-in-Err-clause-ok g c = catalogue_told _ _ _ _ _ c.in-Err.fault c.fault_told.result c.in-Err.ensures.fault c.fault_told.ensures
+returns-in-Err-clause-ok g c = catalogue_answer _ _ _ _ _ c.in-Err.fault c.fault_answer.result c.in-Err.ensures.fault c.fault_answer.ensures
 
 pub returns-in-Err-read-clause-ok : goal.returns-in-Err-read-clause-ok
-returns-in-Err-read-clause-ok g c = request_told _ _ _ _ _ _ c.in-Err-read.fault c.fault_told-in-Err-read.result c.in-Ok.ensures.ok c.in-Err-read.ensures.fault c.fault_told-in-Err-read.ensures
+returns-in-Err-read-clause-ok g c = request_answer _ _ _ _ _ _ c.in-Err-read.fault c.fault_answer-in-Err-read.result c.in-Ok.ensures.ok c.in-Err-read.ensures.fault c.fault_answer-in-Err-read.ensures
 
 pub returns-in-Err-read-clause-err : goal.returns-in-Err-read-clause-err
-returns-in-Err-read-clause-err g c = told_err _ _ _ c.in-Err-read.fault _ c.fault_told-in-Err-read.result c.fault_told-in-Err-read.ensures (in_request _ c.in-Ok.ensures.ok c.in-Err-read.ensures.fault) refl
+returns-in-Err-read-clause-err g c = answered_err _ _ _ c.in-Err-read.fault _ c.fault_answer-in-Err-read.result c.fault_answer-in-Err-read.ensures (in_request _ c.in-Ok.ensures.ok c.in-Err-read.ensures.fault) refl
 
 pub returns-in-Ok-judge-clause-ok : goal.returns-in-Ok-judge-clause-ok
-returns-in-Ok-judge-clause-ok g c = verdict_checks _ _ _ _ _ c.in-Ok-judge.verdict c.verdict_told.result c.in-Ok.ensures.ok c.in-Ok-read.ensures.ok c.in-Ok-judge.ensures.verdict c.in-Ok-judge.ensures.claim c.verdict_told.ensures.ok
+returns-in-Ok-judge-clause-ok g c = verdict_checks _ _ _ _ _ c.in-Ok-judge.verdict c.verdict_answer.result c.in-Ok.ensures.ok c.in-Ok-read.ensures.ok c.in-Ok-judge.ensures.verdict c.in-Ok-judge.ensures.claim c.verdict_answer.ensures.ok
 
 pub returns-in-Err-Reader-clause-err : goal.returns-in-Err-Reader-clause-err
 returns-in-Err-Reader-clause-err g c = inr (record { catalogue_lines = _; request_lines = _; catalogue_read = c.in-Ok.ensures.ok; request_read = c.in-Ok-read.ensures.ok; stops = rw c.in-Err-Reader.field-0-is at c.in-Err-Reader.ensures.fault })

@@ -7,11 +7,11 @@ pub loop-piece-init : goal.loop-piece-init
 loop-piece-init g c = (consumes_nothing _ _ c.new-all.ensures.items, refl)
 
 pub returns-then-count-eq0-clause-all : goal.returns-then-count-eq0-clause-all
-returns-then-count-eq0-clause-all g c = (consumes_no_more _ _ _ _ _ c.in_ok-count.count c.loop-piece.invariant.0 c.in_ok-count.ensures.came c.if-count-eq0.true, c.in_ok-count.ensures.end c.if-count-eq0.true)
+returns-then-count-eq0-clause-all g c = (consumes_no_more _ _ _ _ _ c.in_ok-count.count c.loop-piece.invariant.0 c.in_ok-count.ensures.consumed c.if-count-eq0.true, c.in_ok-count.ensures.end c.if-count-eq0.true)
 
 pub loop-piece-preserved : goal.loop-piece-preserved
 loop-piece-preserved g c = (
-  subst (λ (xs : List ℕ). Consumes (g.S.Source.left c.args.source.now) (g.S.Source.left c.read_some.new.source) xs) (sym (c.in_ok-extend_from_slice.ensures.items)) (consumes_both _ _ _ c.loop-piece.all.items _ c.loop-piece.invariant.0 c.in_ok-count.ensures.came),
+  subst (λ (xs : List ℕ). Consumes (g.S.Source.left c.args.source.now) (g.S.Source.left c.read_some.new.source) xs) (sym (c.in_ok-extend_from_slice.ensures.items)) (consumes_both _ _ _ c.loop-piece.all.items _ c.loop-piece.invariant.0 c.in_ok-count.ensures.consumed),
   c.in_ok-count.ensures.counted ∙ c.loop-piece.invariant.1,
 )
 

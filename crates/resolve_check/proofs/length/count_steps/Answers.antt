@@ -4,7 +4,7 @@ use Rattle.std.specs.Prelude.{codes}
 use Rattle.std.specs.String.{string_bytes}
 use Rattle.std.proofs.Math.ListN.{get_or-map}
 use Rattle.std.proofs.lemmas.List.{length-map, take_all}
-use Rattle.resolvo_report.specs.Value as says
+use Rattle.resolvo_report.specs.Value as values
 use Rattle.resolvo_report.specs.View.{step_of, steps_of}
 use Rattle.resolvo_report.specs.Text.{line_text, lines_text, numbered, step_text}
 use Rattle.resolvo_report.proofs.WriteLemmas.{lines_next, length-numbered, numbered_at}
@@ -14,11 +14,11 @@ use Rattle.resolve_check.proofs.length.count_steps.Goals as goal
 
 pub loop-i-preserved : goal.loop-i-preserved
 loop-i-preserved c =
-    let ls : List says.ReportLine = numbered 1 (steps_of c.args.steps.now) in
+    let ls : List values.ReportLine = numbered 1 (steps_of c.args.steps.now) in
     let i = c.loop-i.i in
-    let x : says.ReportLine = says.Numbered (c.loop-i.i + 1) (step_of c.index-steps-i.result) in
+    let x : values.ReportLine = values.Numbered (c.loop-i.i + 1) (step_of c.index-steps-i.result) in
     let within : i < length ls = omega (arith, c.loop-i-test.true, length-numbered 1 (steps_of c.args.steps.now), length-map c.args.steps.now step_of) in
-    let at : get_or ls i x ≡ x = numbered_at 1 i (steps_of c.args.steps.now) (step_of c.index-steps-i.result) x (omega (arith, c.loop-i-test.true, length-map c.args.steps.now step_of)) (get_or-map step_of c.args.steps.now i c.index-steps-i.result ∙ ap step_of (sym c.index-steps-i.is)) ∙ ap (λ (k : ℕ). says.Numbered k (step_of c.index-steps-i.result)) (omega arith) in
+    let at : get_or ls i x ≡ x = numbered_at 1 i (steps_of c.args.steps.now) (step_of c.index-steps-i.result) x (omega (arith, c.loop-i-test.true, length-map c.args.steps.now step_of)) (get_or-map step_of c.args.steps.now i c.index-steps-i.result ∙ ap step_of (sym c.index-steps-i.is)) ∙ ap (λ (k : ℕ). values.Numbered k (step_of c.index-steps-i.result)) (omega arith) in
     let n = decimal (c.loop-i.i + 1) in
     let t = step_text (step_of c.index-steps-i.result) in
     let text : string_bytes c.in_ok-text.text ≡ line_text x ++ codes "\n" = c.in_ok-text.ensures.ok ∙ sym (ap (λ (y : List ℕ). y ++ codes "\n") (append_assoc (codes "step " ++ n) (codes " ") t ∙ append_assoc (codes "step ") n (32 ∷ t)) ∙ append_assoc (codes "step ") (n ++ 32 ∷ t) (codes "\n") ∙ ap (λ (y : List ℕ). codes "step " ++ y) (append_assoc n (32 ∷ t) (codes "\n"))) in
@@ -26,6 +26,6 @@ loop-i-preserved c =
 
 pub returns : goal.returns
 returns c =
-    let ls : List says.ReportLine = numbered 1 (steps_of c.args.steps.now) in
+    let ls : List values.ReportLine = numbered 1 (steps_of c.args.steps.now) in
     let all : take c.loop-i.i ls ≡ ls = take_all c.loop-i.i ls (omega (arith, c.loop-i-test.false, length-numbered 1 (steps_of c.args.steps.now), length-map c.args.steps.now step_of)) in
-    c.loop-i.invariant ∙ ap (λ (xs : List says.ReportLine). min (c.args.above + length (lines_text xs)) last) all
+    c.loop-i.invariant ∙ ap (λ (xs : List values.ReportLine). min (c.args.above + length (lines_text xs)) last) all

@@ -15,10 +15,10 @@ returns c = λ serve.
     let request = c.args.request.now.lines in
     let turns = c.args.turns.now in
     let steps = steps_of c.args.steps.items in
-    let told = c.in_ok-answers.ensures in
+    let in_order = c.in_ok-answers.ensures in
     let are = are_turns catalogue request turns steps serve in
-    let say = c.in_ok-answer_lines.ensures.say ∙ ap (answers_of (listed catalogue)) c.deref.ensures.value in
+    let all_written = c.in_ok-answer_lines.ensures.all_written ∙ ap (answers_of (listed catalogue)) c.deref.ensures.value in
     install_is catalogue request turns steps serve (answer_lines_of c.in_ok-answer_lines.field-0.items)
-    (subst (λ (xs : List answers.Answer). AreTurns catalogue request [] [] (turns_of (listed catalogue) turns) xs) (sym say) (told.order are))
-    (subst (λ (xs : List answers.Answer). IsReasoned catalogue request [] xs) (sym say) (told.reasoned are))
+    (subst (λ (xs : List answers.Answer). AreTurns catalogue request [] [] (turns_of (listed catalogue) turns) xs) (sym all_written) (in_order.order are))
+    (subst (λ (xs : List answers.Answer). IsReasoned catalogue request [] xs) (sym all_written) (in_order.reasoned are))
     c.lines_are_in_place.ensures c.in_ok-answer_lines.ensures.numbered

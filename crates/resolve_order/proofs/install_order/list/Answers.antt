@@ -40,8 +40,8 @@ returns-clause-reasoned c = λ are.
     let turns = c.args.turns.now in
     let answers = answers_of vs c.loop-turn.listing.answers.items in
     let all = take_all c.loop-turn.turn-index turns (omega (arith, c.loop-turn-test.false)) in
-    let told = subst (λ ts. AreTurns c.args.catalogue.now c.args.request.now.lines [] [] (turns_of vs ts) answers) all (c.loop-turn.invariant are).turns_listed in
-    reasoned_turns c.args.catalogue.now c.args.request.now.lines [] [] (turns_of vs turns) answers told (all_accepted vs c.args.request.now.lines [] turns are.wishes)
+    let in_order = subst (λ ts. AreTurns c.args.catalogue.now c.args.request.now.lines [] [] (turns_of vs ts) answers) all (c.loop-turn.invariant are).turns_listed in
+    reasoned_turns c.args.catalogue.now c.args.request.now.lines [] [] (turns_of vs turns) answers in_order (all_accepted vs c.args.request.now.lines [] turns are.wishes)
 
 pub returns-clause-reached : goal.returns-clause-reached
 returns-clause-reached c = λ are reached.
@@ -49,8 +49,8 @@ returns-clause-reached c = λ are reached.
     let turns = c.args.turns.now in
     let answers = answers_of vs c.loop-turn.listing.answers.items in
     let all = take_all c.loop-turn.turn-index turns (omega (arith, c.loop-turn-test.false)) in
-    let told = subst (λ ts. AreTurns c.args.catalogue.now c.args.request.now.lines [] [] (turns_of vs ts) answers) all (c.loop-turn.invariant are).turns_listed in
-    exact_entries c.args.catalogue.now c.args.request.now.lines (turns_of vs turns) answers told (all_accepted vs c.args.request.now.lines [] turns are.wishes) reached
+    let in_order = subst (λ ts. AreTurns c.args.catalogue.now c.args.request.now.lines [] [] (turns_of vs ts) answers) all (c.loop-turn.invariant are).turns_listed in
+    exact_entries c.args.catalogue.now c.args.request.now.lines (turns_of vs turns) answers in_order (all_accepted vs c.args.request.now.lines [] turns are.wishes) reached
 
 pub returns-clause-numbered : goal.returns-clause-numbered
 returns-clause-numbered c = λ are. (c.loop-turn.invariant are).listing.numbered

@@ -1,4 +1,4 @@
-use Rattle.resolve_refusal.proofs.BarLemmas.{no_lock}
+use Rattle.resolve_refusal.proofs.ForbidLemmas.{no_lock}
 use Rattle.resolve_refusal.proofs.lines.is_lock.Goals as goal
 
 pub returns-in-None : goal.returns-in-None

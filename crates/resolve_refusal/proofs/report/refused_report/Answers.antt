@@ -17,6 +17,6 @@ returns-clause-refusal c =
     let asked : length c.args.request.now.lines < 4294967296 = (let is : c.line_count-2.result ≡ length c.args.request.now.lines = c.line_count-2.ensures in omega (arith, is)) in
     λ refutes. refusal c.args.catalogue.now c.args.request.now c.args.provider.now c.args.steps.now refutes (omega (arith, most)) long asked catalogue request steps _
     (ap (λ (ms : List (List ℕ)). Refused catalogue request steps ms) (ap messages_of c.new.ensures.items))
-    c.in_ok-written.ensures.tells c.in_ok-written.ensures.written
+    c.in_ok-written.ensures.names_rule c.in_ok-written.ensures.written
     (subst (λ (ss : List Step). AreAll catalogue (IsNamedBy text.Catalogue (length c.args.catalogue.now) ss)) (ap steps_of c.as_slice.ensures.value) (subst (λ (k : ℕ). AreAll catalogue (IsNamedBy text.Catalogue k (steps_of c.as_slice.result.now))) c.line_count.ensures c.in_ok-in_catalogue.ensures))
     (subst (λ (ss : List Step). AreAll request (IsNamedBy text.Request (length c.args.request.now.lines) ss)) (ap steps_of c.as_slice-2.ensures.value) (subst (λ (k : ℕ). AreAll request (IsNamedBy text.Request k (steps_of c.as_slice-2.result.now))) c.line_count-2.ensures c.in_ok-in_request.ensures))

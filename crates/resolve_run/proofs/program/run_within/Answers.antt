@@ -1,6 +1,6 @@
 use Rattle.std.proofs.Common.{refl, subst, List, ℕ}
 use Rattle.std.specs.Io.KnownBytes.{Appends}
-use Rattle.resolvo_text.specs.Device.{TakesFront}
+use Rattle.resolvo_text.specs.Device.{TakesPrefix}
 use Rattle.resolve_run.proofs.Reports.{nothing_written_within}
 use Rattle.resolve_run.proofs.program.run_within.Goals as goal
 
@@ -18,7 +18,7 @@ returns-in-Ok-clause-stopped g c = (
     c.in-Ok.answer.outcome,
     c.in-Ok.answer.text.items,
     c.in-Ok.ensures.ok,
-    subst (λ (xs : List ℕ). TakesFront (g.W.Sink.contents c.args.writer.now) (g.W.Sink.contents c.write_all.new.sink) xs) c.as_slice.ensures.value c.in-Err-write_all.ensures.front,
+    subst (λ (xs : List ℕ). TakesPrefix (g.W.Sink.contents c.args.writer.now) (g.W.Sink.contents c.write_all.new.sink) xs) c.as_slice.ensures.value c.in-Err-write_all.ensures.prefix,
   ),
 )
 

@@ -5,8 +5,8 @@ use Rattle.resolvo.specs.declared.search.SearchResult.{SearchResult}
 use Rattle.resolvo.proofs.OfferLemmas.{want_ends}
 use Rattle.resolvo.proofs.conflict.conflict_left.Goals as goal
 
-pub returns-in_err-told-in-Clash-clause-cancelled : goal.returns-in_err-told-in-Clash-clause-cancelled
-returns-in_err-told-in-Clash-clause-cancelled g c = want_ends (g.A.PackageSource.may_cancel c.args.answers.now) c.from_residual-in_err-told-in-Clash.result c.in_err-told-in-Clash.field-0.0 c.from_residual-in_err-told-in-Clash.ensures.1
+pub returns-in_err-ids-in-Clash-clause-cancelled : goal.returns-in_err-ids-in-Clash-clause-cancelled
+returns-in_err-ids-in-Clash-clause-cancelled g c = want_ends (g.A.PackageSource.may_cancel c.args.answers.now) c.from_residual-in_err-ids-in-Clash.result c.in_err-ids-in-Clash.field-0.0 c.from_residual-in_err-ids-in-Clash.ensures.1
 
 pub returns-in_ok-clauses-in-Clash-clause-left : goal.returns-in_ok-clauses-in-Clash-clause-left
 returns-in_ok-clauses-in-Clash-clause-left g c =
@@ -15,5 +15,5 @@ returns-in_ok-clauses-in-Clash-clause-left g c =
     let orders = g.A.PackageSource.orders c.args.answers.now in
     let steps = c.args.solved.now.proof.items in
     let offers = subst (λ (xs : List (ProofStep g.row.A-NameId.Denot g.row.A-SolvableId.Denot)). AreOffers same p orders xs c.in_ok-offers-in-Clash.offers) c.as_slice.ensures.value c.in_ok-offers-in-Clash.ensures.offers in
-    subst (λ (f : SearchResult g.row.A-SolvableId.Denot). IsLeft same p orders f steps c.in_ok-told-in-Clash.told.items (Some (record { clauses = c.in_ok-clauses-in-Clash.clauses; offers = c.in_ok-offers-in-Clash.offers }))) (sym c.in-Clash.is)
-    (_, refl, c.in_ok-clauses-in-Clash.ensures.items ∙ c.as_slice-in-Clash-2.ensures.value, c.in_ok-told-in-Clash.ensures ∙ ap conflict_clauses c.as_slice-in-Clash.ensures.value, offers)
+    subst (λ (f : SearchResult g.row.A-SolvableId.Denot). IsLeft same p orders f steps c.in_ok-ids-in-Clash.ids.items (Some (record { clauses = c.in_ok-clauses-in-Clash.clauses; offers = c.in_ok-offers-in-Clash.offers }))) (sym c.in-Clash.is)
+    (_, refl, c.in_ok-clauses-in-Clash.ensures.items ∙ c.as_slice-in-Clash-2.ensures.value, c.in_ok-ids-in-Clash.ensures ∙ ap conflict_clauses c.as_slice-in-Clash.ensures.value, offers)

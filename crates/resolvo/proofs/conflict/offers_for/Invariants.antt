@@ -9,6 +9,6 @@ use Rattle.resolvo.proofs.conflict.offers_for.Given as goal
 abbrev pub invariant-loop-requirement : goal.invariant-loop-requirement
 invariant-loop-requirement g l = record {
   same : l.answers ≡ l.initial.answers;
-  noted : (r : Requirement) → Contains (take l.requirement-index l.requirement-items) r → was_offered l.offers r ≡ true;
+  recorded : (r : Requirement) → Contains (take l.requirement-index l.requirement-items) r → was_offered l.offers r ≡ true;
   right : (r : Requirement) → was_offered l.offers r ≡ true → IsRightOffer g.A.SolvableId.PartialEq.eq (g.A.PackageSource.packages l.initial.answers) (g.A.PackageSource.orders l.initial.answers) r (offered_by l.offers r);
 }

@@ -1,5 +1,5 @@
 use Rattle.std.proofs.Common.{refl, arith, sym, subst}
-use Rattle.resolvo.proofs.Nothing.{nothing_encoded, nothing_found, nothing_listed, nothing_stated, parent_left}
+use Rattle.resolvo.proofs.Nothing.{nothing_encoded, nothing_found, nothing_listed, only_root, parent_left}
 use Rattle.resolvo_encoder.proofs.BuildLemmas.{built_begun}
 use Rattle.resolvo.proofs.search.find_nothing.Goals as goal
 
@@ -20,4 +20,4 @@ pub returns-clause-provable : goal.returns-clause-provable
 returns-clause-provable g c = record { built = c.end_parent.ensures.built (built_begun c.args.encoding.now c.requires); denial = tt }
 
 pub returns-clause-alone : goal.returns-clause-alone
-returns-clause-alone g c = nothing_stated c.args.encoding.now c.end_parent.new.self c.requires c.end_parent.ensures.next
+returns-clause-alone g c = only_root c.args.encoding.now c.end_parent.new.self c.requires c.end_parent.ensures.next

@@ -6,7 +6,7 @@ use Rattle.resolvo_encoder.proofs.BuildLemmas.{built_begun}
 use Rattle.resolvo_turn.specs.Turn.{IsTurn}
 use Rattle.resolvo_turn.specs.Encoder.{IsInOrder}
 use Rattle.resolvo.specs.Turns.{IsRootOf}
-use Rattle.resolvo.specs.Wished.{AreCandidates}
+use Rattle.resolvo.specs.SoftTurns.{AreCandidates}
 use Rattle.resolvo.specs.Solve.{IsFound, IsPreferred}
 use Rattle.resolvo.proofs.Found.{begun_rooted, root_denial, root_refused}
 use Rattle.resolvo.proofs.search.run_turns.Goals as goal
@@ -33,7 +33,7 @@ returns-in-Some-clause-denial g c =
 
 pub returns-clause-found : goal.returns-clause-found
 returns-clause-found g c = λ root is candidates e.
-    (subst (λ (a : g.row.A.Denot). (root : Rules) → IsRootOf c.args.input.now root → AreCandidates g.A.SolvableId.PartialEq.eq (g.A.PackageSource.packages a) c.args.wishes.now
+    (subst (λ (a : g.row.A.Denot). (root : Rules) → IsRootOf c.args.input.now root → AreCandidates g.A.SolvableId.PartialEq.eq (g.A.PackageSource.packages a) c.args.softs.now
     → IsInOrder g.A.SolvableId.PartialEq.eq (g.A.PackageSource.packages a) (g.A.PackageSource.orders a) root c.run_turn.new.encoding → IsInOrder g.A.SolvableId.PartialEq.eq (g.A.PackageSource.packages a) (g.A.PackageSource.orders a) root c.run_others.new.encoding
-    × IsFound g.A.SolvableId.PartialEq.eq (g.A.PackageSource.packages a) root c.args.wishes.now c.run_others.new.encoding c.in_ok-found.found × IsPreferred g.A.SolvableId.PartialEq.eq (g.A.PackageSource.packages a) (g.A.PackageSource.orders a) root c.in_ok-found.found)
+    × IsFound g.A.SolvableId.PartialEq.eq (g.A.PackageSource.packages a) root c.args.softs.now c.run_others.new.encoding c.in_ok-found.found × IsPreferred g.A.SolvableId.PartialEq.eq (g.A.PackageSource.packages a) (g.A.PackageSource.orders a) root c.in_ok-found.found)
     c.in_ok-turn.ensures.same c.in_ok-found.ensures.found) root is candidates (c.in_ok-turn.ensures.stays root is e)

@@ -1,7 +1,7 @@
 use Rattle.std.proofs.Common.{Option, refl, sym, subst}
 use Rattle.std.specs.Prelude.{IfSome}
 use Rattle.resolvo_sat.specs.declared.analyze.FinalConflict.{FinalConflict}
-use Rattle.resolvo.specs.Wished.{IsClosed, IsRefusable}
+use Rattle.resolvo.specs.SoftTurns.{IsClosed, IsRefusable}
 use Rattle.resolvo.specs.declared.soft_requirements.SoftOutcome.TheVariants.{Chosen, Refused}
 use Rattle.resolvo.proofs.soft_requirements.close_turn.Goals as goal
 

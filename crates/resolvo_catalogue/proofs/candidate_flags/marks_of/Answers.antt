@@ -2,8 +2,8 @@ use Rattle.std.proofs.Common.{[], sym, ap, ◌∙◌, length}
 use Rattle.std.proofs.lemmas.List.{take_all, length-map}
 use Rattle.std.proofs.lemmas.Option.{slice_get-get_or}
 use Rattle.resolvo_catalogue_core.specs.Listed.{listed}
-use Rattle.resolvo_catalogue.proofs.StandLemmas.{interns_on, interns_own}
-use Rattle.resolvo_catalogue.proofs.TellLemmas.{text_next, text_step}
+use Rattle.resolvo_catalogue.proofs.GrowLemmas.{interns_on, interns_own}
+use Rattle.resolvo_catalogue.proofs.DependencyLemmas.{text_next, text_step}
 use Rattle.resolvo_catalogue.proofs.MarkLemmas.{marked_none, favours_next, all_favours}
 use Rattle.resolvo_catalogue.proofs.candidate_flags.marks_of.Goals as goal
 use Rattle.resolvo_catalogue.proofs.candidate_flags.marks_of.Goals.{in-Some+in_ok-mark, in_default}
@@ -15,8 +15,8 @@ loop-line-init c =
 pub loop-line-preserved : goal.loop-line-preserved
 loop-line-preserved c = elim c.match-rule.branch [
   | in-Some+in_ok-mark w ↦
-      let stated = rw w.in-Some.is at c.rule.ensures.stated in (
-        rw (w.ids-is, w.marks-is, text_step c.args.catalogue.now c.loop-line.line stated.0 stated.1) (w.in_ok-mark.ensures.marked _ _ stated.0 _ [] c.versions.ensures.distinct stated.2 c.loop-line.invariant.0),
+      let of_line = rw w.in-Some.is at c.rule.ensures.of_line in (
+        rw (w.ids-is, w.marks-is, text_step c.args.catalogue.now c.loop-line.line of_line.0 of_line.1) (w.in_ok-mark.ensures.marked _ _ of_line.0 _ [] c.versions.ensures.distinct of_line.2 c.loop-line.invariant.0),
         rw w.ids-is (interns_on _ _ _ c.loop-line.invariant.1 w.in_ok-mark.ensures.interns),
       )
   | in_default w ↦

@@ -5,8 +5,8 @@ use Rattle.resolvo_report.specs.View.{step_of}
 use Rattle.resolvo_checker.specs.StepClauses.{clause_of}
 use Rattle.resolvo_checker.specs.Proof.{rests_on_named, follows}
 use Rattle.resolvo_checker.specs.Keys.{Numbered}
-use Rattle.resolvo_checker.specs.CheckStep.{names_catalogue, names_request, clause_or_none, StandFor}
-use Rattle.resolvo_checker.proofs.CheckLemmas.{numbers_some, numbers_keep, numbers_are, stands_after, stand_more, all_three}
+use Rattle.resolvo_checker.specs.CheckStep.{names_catalogue, names_request, clause_or_none, CheckerInvariant}
+use Rattle.resolvo_checker.proofs.CheckLemmas.{numbers_some, numbers_keep, numbers_are, invariant_kept, invariant_push, all_three}
 use Rattle.resolvo_checker.proofs.check_step.advance.Goals as goal
 
 pub returns-then-not-fine-clause-answer : goal.returns-then-not-fine-clause-answer
@@ -18,10 +18,10 @@ returns-then-not-fine-clause-answer c = λ earlier s.
     let there = numbers_some (clause_of cat req st) c.in_ok-there.there vs c.args.checker.now.numbers c.number_step.new.numbers c.number_step.new.out.items c.in_ok-there.ensures c.if-not-there.false in
     let keeps = numbers_keep (clause_of cat req st) c.in_ok-there.there vs c.args.checker.now.numbers c.number_step.new.numbers c.number_step.new.out.items c.in_ok-there.ensures c.if-not-there.false in
     let ids = numbers_are (clause_of cat req st) c.in_ok-there.there vs c.args.checker.now.numbers c.number_step.new.numbers c.number_step.new.out.items c.in_ok-there.ensures c.if-not-there.false in
-    let stands = subst (λ ps. StandFor cat req c.number_step.new.numbers c.args.clauses.now.kept ps earlier) (sym c.deref.ensures.value) (stands_after cat req c.args.checker.now.numbers c.number_step.new.numbers c.args.clauses.now.kept c.args.checker.now.places.items earlier keeps s) in
+    let represents = subst (λ ps. CheckerInvariant cat req c.number_step.new.numbers c.args.clauses.now.kept ps earlier) (sym c.deref.ensures.value) (invariant_kept cat req c.args.checker.now.numbers c.number_step.new.numbers c.args.clauses.now.kept c.args.checker.now.places.items earlier keeps s) in
     let numbered = subst (Numbered vs c.number_step.new.numbers (clause_or_none cat req st)) (sym c.deref-2.ensures.value) ids in
     all_three (is_some (clause_of cat req st)) (rests_on_named (names_catalogue c.args.scope.now) (names_request c.args.scope.now) st) (follows cat req earlier st) false there (sym c.is_named.ensures ∙ c.if-not-is_named.false)
-    (sym c.if-not-fine.true ∙ c.in_ok-fine.ensures.answer req c.number_step.new.numbers earlier c.count-count.result c.count-count.ensures c.versions-versions.ensures.distinct there stands numbered)
+    (sym c.if-not-fine.true ∙ c.in_ok-fine.ensures.answer req c.number_step.new.numbers earlier c.count-count.result c.count-count.ensures c.versions-versions.ensures.distinct there represents numbered)
 
 pub returns-clause-answer : goal.returns-clause-answer
 returns-clause-answer c = λ earlier s.
@@ -32,13 +32,13 @@ returns-clause-answer c = λ earlier s.
     let there = numbers_some (clause_of cat req st) c.in_ok-there.there vs c.args.checker.now.numbers c.number_step.new.numbers c.number_step.new.out.items c.in_ok-there.ensures c.if-not-there.false in
     let keeps = numbers_keep (clause_of cat req st) c.in_ok-there.there vs c.args.checker.now.numbers c.number_step.new.numbers c.number_step.new.out.items c.in_ok-there.ensures c.if-not-there.false in
     let ids = numbers_are (clause_of cat req st) c.in_ok-there.there vs c.args.checker.now.numbers c.number_step.new.numbers c.number_step.new.out.items c.in_ok-there.ensures c.if-not-there.false in
-    let stands = subst (λ ps. StandFor cat req c.number_step.new.numbers c.args.clauses.now.kept ps earlier) (sym c.deref.ensures.value) (stands_after cat req c.args.checker.now.numbers c.number_step.new.numbers c.args.clauses.now.kept c.args.checker.now.places.items earlier keeps s) in
+    let represents = subst (λ ps. CheckerInvariant cat req c.number_step.new.numbers c.args.clauses.now.kept ps earlier) (sym c.deref.ensures.value) (invariant_kept cat req c.args.checker.now.numbers c.number_step.new.numbers c.args.clauses.now.kept c.args.checker.now.places.items earlier keeps s) in
     let numbered = subst (Numbered vs c.number_step.new.numbers (clause_or_none cat req st)) (sym c.deref-2.ensures.value) ids in
     all_three (is_some (clause_of cat req st)) (rests_on_named (names_catalogue c.args.scope.now) (names_request c.args.scope.now) st) (follows cat req earlier st) true there (sym c.is_named.ensures ∙ c.if-not-is_named.false)
-    (sym c.if-not-fine.false ∙ c.in_ok-fine.ensures.answer req c.number_step.new.numbers earlier c.count-count.result c.count-count.ensures c.versions-versions.ensures.distinct there stands numbered)
+    (sym c.if-not-fine.false ∙ c.in_ok-fine.ensures.answer req c.number_step.new.numbers earlier c.count-count.result c.count-count.ensures c.versions-versions.ensures.distinct there represents numbered)
 
-pub returns-clause-stands : goal.returns-clause-stands
-returns-clause-stands c = λ _ earlier s.
+pub returns-clause-represents : goal.returns-clause-represents
+returns-clause-represents c = λ _ earlier s.
     let cat = c.args.catalogue.now in
     let req = c.args.request.now.lines in
     let st = step_of c.args.step.now in
@@ -46,10 +46,10 @@ returns-clause-stands c = λ _ earlier s.
     let there = numbers_some (clause_of cat req st) c.in_ok-there.there vs c.args.checker.now.numbers c.number_step.new.numbers c.number_step.new.out.items c.in_ok-there.ensures c.if-not-there.false in
     let keeps = numbers_keep (clause_of cat req st) c.in_ok-there.there vs c.args.checker.now.numbers c.number_step.new.numbers c.number_step.new.out.items c.in_ok-there.ensures c.if-not-there.false in
     let ids = numbers_are (clause_of cat req st) c.in_ok-there.there vs c.args.checker.now.numbers c.number_step.new.numbers c.number_step.new.out.items c.in_ok-there.ensures c.if-not-there.false in
-    let stands = subst (λ ps. StandFor cat req c.number_step.new.numbers c.args.clauses.now.kept ps earlier) (sym c.deref.ensures.value) (stands_after cat req c.args.checker.now.numbers c.number_step.new.numbers c.args.clauses.now.kept c.args.checker.now.places.items earlier keeps s) in
+    let represents = subst (λ ps. CheckerInvariant cat req c.number_step.new.numbers c.args.clauses.now.kept ps earlier) (sym c.deref.ensures.value) (invariant_kept cat req c.args.checker.now.numbers c.number_step.new.numbers c.args.clauses.now.kept c.args.checker.now.places.items earlier keeps s) in
     let numbered = subst (Numbered vs c.number_step.new.numbers (clause_or_none cat req st)) (sym c.deref-2.ensures.value) ids in
-    let fine = sym c.if-not-fine.false ∙ c.in_ok-fine.ensures.answer req c.number_step.new.numbers earlier c.count-count.result c.count-count.ensures c.versions-versions.ensures.distinct there stands numbered in
-    subst (λ cs. StandFor cat req c.number_step.new.numbers cs c.note_place.new.places.items (earlier ++ st ∷ []))
+    let fine = sym c.if-not-fine.false ∙ c.in_ok-fine.ensures.answer req c.number_step.new.numbers earlier c.count-count.result c.count-count.ensures c.versions-versions.ensures.distinct there represents numbered in
+    subst (λ cs. CheckerInvariant cat req c.number_step.new.numbers cs c.record_place.new.places.items (earlier ++ st ∷ []))
     (sym (c.in_ok-push.ensures.ok ∙ (ap (λ ks. ks ++ c.deref-3.result.now ∷ []) c.follows.ensures.kept ∙ ap (λ is. c.args.clauses.now.kept ++ is ∷ []) c.deref-3.ensures.value)))
-    (stand_more cat req c.args.checker.now.numbers c.number_step.new.numbers c.args.clauses.now.kept c.args.checker.now.places.items c.note_place.new.places.items c.number_step.new.out.items earlier st s keeps ids
-    (c.note_place.ensures.given req earlier c.versions-versions.ensures.distinct there (sym fine) s.placed))
+    (invariant_push cat req c.args.checker.now.numbers c.number_step.new.numbers c.args.clauses.now.kept c.args.checker.now.places.items c.record_place.new.places.items c.number_step.new.out.items earlier st s keeps ids
+    (c.record_place.ensures.given req earlier c.versions-versions.ensures.distinct there (sym fine) s.placed))

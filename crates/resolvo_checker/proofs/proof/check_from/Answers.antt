@@ -3,7 +3,7 @@ use Rattle.resolvo_report.specs.View.{step_of, steps_of}
 use Rattle.resolvo_checker.specs.declared.clauses.Readings.{Readings}
 use Rattle.resolvo_checker.specs.declared.literal.Literal.{Literal}
 use Rattle.resolvo_checker.specs.Proof.{IsProof}
-use Rattle.resolvo_checker.specs.CheckStep.{names_catalogue, names_request, StandFor}
+use Rattle.resolvo_checker.specs.CheckStep.{names_catalogue, names_request, CheckerInvariant}
 use Rattle.resolvo_checker.proofs.WholeProofs.{steps_more, count_more, room_for, proof_push, wrong_at}
 use Rattle.resolvo_checker.proofs.proof.check_from.Goals as goal
 
@@ -13,7 +13,7 @@ advance-requires-clause-room c = omega (arith, c.loop-at.invariant.read, room_fo
 pub returns-then-not-branch-clause-wrong : goal.returns-then-not-branch-clause-wrong
 returns-then-not-branch-clause-wrong c =
     wrong_at c.args.catalogue.now c.args.request.now.lines (names_catalogue c.args.scope.now) (names_request c.args.scope.now) c.args.steps.now c.loop-at.at c.index-steps-at.result c.loop-at-test.true c.index-steps-at.is c.loop-at.invariant.proof
-    (sym (c.in_ok-advance.ensures.answer (steps_of (take c.loop-at.at c.args.steps.now)) c.loop-at.invariant.stands) ∙ c.if-not-branch.true)
+    (sym (c.in_ok-advance.ensures.answer (steps_of (take c.loop-at.at c.args.steps.now)) c.loop-at.invariant.represents) ∙ c.if-not-branch.true)
 
 pub name-requires : goal.name-requires
 name-requires c =
@@ -33,9 +33,9 @@ loop-at-preserved c =
     let advanced = c.in_ok-advance.ensures.read c.if-not-branch.false in
     let same : c.name.new.self.kept ≡ c.advance.new.clauses.kept = c.name.ensures.kept in
     record {
-      stands = subst (λ (ks : List (List Literal)). StandFor cat req c.advance.new.checker.numbers ks c.advance.new.checker.places.items (steps_of (take (c.loop-at.at + 1) c.args.steps.now))) (sym same)
-          (subst (StandFor cat req c.advance.new.checker.numbers c.advance.new.clauses.kept c.advance.new.checker.places.items) (sym more) (c.in_ok-advance.ensures.stands c.if-not-branch.false before c.loop-at.invariant.stands));
-      proof = subst (IsProof cat req ct rt) (sym more) (proof_push cat req ct rt before s c.loop-at.invariant.proof (sym (c.in_ok-advance.ensures.answer before c.loop-at.invariant.stands) ∙ c.if-not-branch.false));
+      represents = subst (λ (ks : List (List Literal)). CheckerInvariant cat req c.advance.new.checker.numbers ks c.advance.new.checker.places.items (steps_of (take (c.loop-at.at + 1) c.args.steps.now))) (sym same)
+          (subst (CheckerInvariant cat req c.advance.new.checker.numbers c.advance.new.clauses.kept c.advance.new.checker.places.items) (sym more) (c.in_ok-advance.ensures.represents c.if-not-branch.false before c.loop-at.invariant.represents));
+      proof = subst (IsProof cat req ct rt) (sym more) (proof_push cat req ct rt before s c.loop-at.invariant.proof (sym (c.in_ok-advance.ensures.answer before c.loop-at.invariant.represents) ∙ c.if-not-branch.false));
       later = subst (λ (ks : List (List Literal)). c.advance.new.checker.truth.pass ≤ length ks) (sym same) (c.in_ok-advance.ensures.later c.if-not-branch.false);
       count = omega (arith, ap (λ (ks : List (List Literal)). length ks) same, c.in_ok-advance.ensures.count c.if-not-branch.false, c.loop-at.invariant.count);
       long = c.in_ok-advance.ensures.long c.if-not-branch.false;

@@ -4,7 +4,7 @@ use Rattle.resolvo_catalogue_core.specs.Grammar.{line_at, owner_of}
 use Rattle.resolvo_catalogue_core.specs.Listed.{listed}
 use Rattle.resolvo_checker.specs.StepClauses.{Clause, exclude_clause}
 use Rattle.resolvo_checker.specs.Built.{seen, somes}
-use Rattle.resolvo_checker.specs.Stated.{IsValid}
+use Rattle.resolvo_checker.specs.RuleLines.{IsValid}
 use Rattle.resolvo_checker.proofs.StepLines.{if_copied, exclude_rule}
 use Rattle.resolvo_checker.proofs.steps.exclude_at.Goals as goal
 
@@ -12,5 +12,5 @@ pub returns : goal.returns
 returns c =
     let vs = listed c.args.catalogue.now in
     subst (λ (x : Option Clause). IfOk c.exclude_in.result (λ o. seen vs o ≡ option_map somes x))
-    (ap exclude_clause (sym c.rule_of-rule.ensures.said) ∙ exclude_rule (line_at c.args.catalogue.now c.args.line))
+    (ap exclude_clause (sym c.rule_of-rule.ensures.from_line) ∙ exclude_rule (line_at c.args.catalogue.now c.args.line))
     (c.exclude_in.ensures (owner_of c.args.catalogue.now c.args.line) (if_copied (IsValid vs (owner_of c.args.catalogue.now c.args.line)) c.rule_of-rule.result c.rule_of-rule.ensures.valid))

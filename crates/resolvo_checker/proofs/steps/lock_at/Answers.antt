@@ -12,5 +12,5 @@ pub returns : goal.returns
 returns c =
     let vs = listed c.args.catalogue.now in
     subst (λ (x : Option Clause). IfOk c.lock_in.result (λ o. seen vs o ≡ option_map somes x))
-    (ap (lock_clause c.args.catalogue.now (version_of c.args.version.now)) (sym c.rule_of-rule.ensures.said) ∙ lock_rule c.args.catalogue.now (version_of c.args.version.now) (line_at c.args.catalogue.now c.args.line))
+    (ap (lock_clause c.args.catalogue.now (version_of c.args.version.now)) (sym c.rule_of-rule.ensures.from_line) ∙ lock_rule c.args.catalogue.now (version_of c.args.version.now) (line_at c.args.catalogue.now c.args.line))
     c.lock_in.ensures

@@ -4,7 +4,7 @@ use Rattle.resolvo_catalogue_core.specs.Grammar.{line_at, owner_of}
 use Rattle.resolvo_catalogue_core.specs.Listed.{listed}
 use Rattle.resolvo_checker.specs.StepClauses.{Clause, unknown_clause}
 use Rattle.resolvo_checker.specs.Built.{seen, somes}
-use Rattle.resolvo_checker.specs.Stated.{IsValid}
+use Rattle.resolvo_checker.specs.RuleLines.{IsValid}
 use Rattle.resolvo_checker.proofs.StepLines.{if_copied, unknown_rule}
 use Rattle.resolvo_checker.proofs.steps.unknown_at.Goals as goal
 
@@ -12,5 +12,5 @@ pub returns : goal.returns
 returns c =
     let vs = listed c.args.catalogue.now in
     subst (λ (x : Option Clause). IfOk c.unknown_in.result (λ o. seen vs o ≡ option_map somes x))
-    (ap (unknown_clause (owner_of c.args.catalogue.now c.args.line)) (sym c.rule_of-rule.ensures.said) ∙ unknown_rule (owner_of c.args.catalogue.now c.args.line) (line_at c.args.catalogue.now c.args.line))
+    (ap (unknown_clause (owner_of c.args.catalogue.now c.args.line)) (sym c.rule_of-rule.ensures.from_line) ∙ unknown_rule (owner_of c.args.catalogue.now c.args.line) (line_at c.args.catalogue.now c.args.line))
     (c.unknown_in.ensures (owner_of c.args.catalogue.now c.args.line) (if_copied (IsValid vs (owner_of c.args.catalogue.now c.args.line)) c.rule_of-rule.result c.rule_of-rule.ensures.valid))

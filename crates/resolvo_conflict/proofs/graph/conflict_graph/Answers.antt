@@ -4,7 +4,7 @@ use Rattle.resolvo_conflict.specs.Offered.{offered_by}
 use Rattle.resolvo_conflict.specs.Order.{rules_at}
 use Rattle.resolvo_conflict.specs.LinkRules.{all_links, each_limit_once}
 use Rattle.resolvo_conflict.specs.Draw.{drawn, conflict_drawing}
-use Rattle.resolvo_conflict.specs.Truth.{TellsTruth}
+use Rattle.resolvo_conflict.specs.Truth.{IsTrueConflictGraph}
 use Rattle.resolvo_conflict.proofs.TruthEdges.{conflict_true}
 use Rattle.resolvo_conflict.proofs.graph.conflict_graph.Goals as goal
 
@@ -23,5 +23,5 @@ returns-clause-truth g c =
     let same = g.I.SolvableId.PartialEq.eq in
     let name_of = g.I.Interner.name_of_solvable c.args.interner.now in
     let offered = offered_by c.args.offers.now in
-    subst (TellsTruth same name_of offered c.args.steps.now) (sym (returns-clause-graph g c))
+    subst (IsTrueConflictGraph same name_of offered c.args.steps.now) (sym (returns-clause-graph g c))
     (conflict_true g.I.NameId.PartialEq.eq (record { one = λ x y h. g.met.I.NameId.Exact.exact x y h; own = g.met.I.NameId.Eq.laws.refl }) same (record { one = λ x y h. g.met.I.SolvableId.Exact.exact x y h; own = g.met.I.SolvableId.Eq.laws.refl }) name_of offered c.args.steps.now)

@@ -6,8 +6,8 @@ use Rattle.resolvo_conflict.specs.LinkRules.{is_new, limited_in}
 use Rattle.resolvo_conflict.proofs.LinkLemmas.{turned_test}
 use Rattle.resolvo_conflict.proofs.link_rules.is_new.Goals as goal
 
-pub returns-in_ok-new-in-Constrains-clause-noted : goal.returns-in_ok-new-in-Constrains-clause-noted
-returns-in_ok-new-in-Constrains-clause-noted g c =
+pub returns-in_ok-new-in-Constrains-clause-recorded : goal.returns-in_ok-new-in-Constrains-clause-recorded
+returns-in_ok-new-in-Constrains-clause-recorded g c =
     let joined = c.args.limits.now.keys in
     let put : c.insert_full.new.self.keys ≡ cond (list_any (same_limited g.S.PartialEq.eq (c.in-Constrains.parent, c.in-Constrains.version_set, c.in-Constrains.solvable)) joined) joined (joined ++ (c.in-Constrains.parent, c.in-Constrains.version_set, c.in-Constrains.solvable) ∷ []) = c.in_ok-new-in-Constrains.ensures.keys in
     put ∙ turned_test (list_any (same_limited g.S.PartialEq.eq (c.in-Constrains.parent, c.in-Constrains.version_set, c.in-Constrains.solvable)) joined) joined (joined ++ (c.in-Constrains.parent, c.in-Constrains.version_set, c.in-Constrains.solvable) ∷ [])

@@ -15,7 +15,7 @@ pub loop-place-init : goal.loop-place-init
 unfolding all_links
 loop-place-init g c = record {
   links = ap (λ xs. xs ++ links_after g.I.NameId.PartialEq.eq (g.I.Interner.name_of_solvable c.args.interner.now) (offered_by c.args.offers.now) (rules_at c.args.steps.now c.args.order.now) [] (rules_at c.args.steps.now c.args.order.now)) c.new-links.ensures.items;
-  noted = λ n. ap (lookup (g.I.NameId.PartialEq.eq n)) c.new-instances.ensures.empty;
+  recorded = λ n. ap (lookup (g.I.NameId.PartialEq.eq n)) c.new-instances.ensures.empty;
 }
 
 pub loop-place-preserved : goal.loop-place-preserved
@@ -37,11 +37,11 @@ loop-place-preserved g c =
             links =
                 ap (λ rs. c.match-rule_at.links.items ++ links_after eq name offered rules rs rest) more
                 ∙ links_more eq name offered rules (rules_at steps (take k places)) rest r c.loop-place.links.items c.match-rule_at.links.items c.in_ok-shares.shares.gates.items c.in_ok-shares.shares.limits.items c.in_ok-shares.shares.outsides.items w.in_ok-before.before (get eq c.loop-place.instances)
-                c.in_ok-shares.ensures.gates c.in_ok-shares.ensures.limits c.in_ok-shares.ensures.outsides w.in_ok-before.ensures.before c.loop-place.invariant.noted (ap (λ v. v.items) w.links-is ∙ w.in_ok-link.ensures.links)
+                c.in_ok-shares.ensures.gates c.in_ok-shares.ensures.limits c.in_ok-shares.ensures.outsides w.in_ok-before.ensures.before c.loop-place.invariant.recorded (ap (λ v. v.items) w.links-is ∙ w.in_ok-link.ensures.links)
                 ∙ ap (λ rs. c.loop-place.links.items ++ links_after eq name offered rules (rules_at steps (take k places)) rs) (sym (rules_left_some steps places k r c.loop-place-test.true at))
                 ∙ c.loop-place.invariant.links;
-            noted = λ n.
-                ap (λ m. get eq m n) w.instances-is ∙ w.in_ok-before.ensures.noted n ∙ ap (option_or (named eq name n (instance_in r))) (c.loop-place.invariant.noted n)
+            recorded = λ n.
+                ap (λ m. get eq m n) w.instances-is ∙ w.in_ok-before.ensures.recorded n ∙ ap (option_or (named eq name n (instance_in r))) (c.loop-place.invariant.recorded n)
                 ∙ sym (ap (λ rs. last_instance eq name rs n) more ∙ last_push eq name (rules_at steps (take k places)) r n);
           }
       | in_default w ↦
@@ -53,7 +53,7 @@ loop-place-preserved g c =
                 ∙ ap (λ rs. c.loop-place.links.items ++ links_after eq name offered rules rs rest) (sym same)
                 ∙ ap (λ rs. c.loop-place.links.items ++ links_after eq name offered rules (rules_at steps (take k places)) rs) (sym (rules_left_none steps places k c.loop-place-test.true at))
                 ∙ c.loop-place.invariant.links;
-            noted = λ n. ap (λ m. get eq m n) w.instances-is ∙ c.loop-place.invariant.noted n ∙ ap (λ rs. last_instance eq name rs n) same;
+            recorded = λ n. ap (λ m. get eq m n) w.instances-is ∙ c.loop-place.invariant.recorded n ∙ ap (λ rs. last_instance eq name rs n) same;
           }
     ]
 

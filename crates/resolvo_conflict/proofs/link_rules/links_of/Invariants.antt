@@ -11,5 +11,5 @@ abbrev pub invariant-loop-place : goal.invariant-loop-place
 invariant-loop-place g l = record {
   links : l.links.items ++ links_after g.I.NameId.PartialEq.eq (g.I.Interner.name_of_solvable l.interner) (offered_by l.offers) (rules_at l.steps l.order) (rules_at l.steps (take l.place-index l.order)) (rules_at l.steps (drop l.place-index l.order))
       ≡ all_links g.I.NameId.PartialEq.eq (g.I.Interner.name_of_solvable l.interner) (offered_by l.offers) (rules_at l.steps l.order);
-  noted : (n : g.row.I-NameId.Denot) → get g.I.NameId.PartialEq.eq l.instances n ≡ last_instance g.I.NameId.PartialEq.eq (g.I.Interner.name_of_solvable l.interner) (rules_at l.steps (take l.place-index l.order)) n;
+  recorded : (n : g.row.I-NameId.Denot) → get g.I.NameId.PartialEq.eq l.instances n ≡ last_instance g.I.NameId.PartialEq.eq (g.I.Interner.name_of_solvable l.interner) (rules_at l.steps (take l.place-index l.order)) n;
 }

@@ -12,8 +12,8 @@ loop-node-preserved g c =
     let test = can_be_installed c.args.graph.now in
     let all = marked_along test c.args.marked.now.keys c.args.order.now in
     elim c.if-branch.branch [
-      | then-branch+in_ok-insert_full w ↦ marks test c.args.order.now c.loop-node.node-index d c.loop-node-test.true all c.loop-node.marked.keys c.if-branch.marked.keys c.loop-node.invariant (sym c.in_ok-can_install.ensures.said ∙ w.if-branch.true) (ap (λ s. s.keys) w.marked-is ∙ w.in_ok-insert_full.ensures.keys)
-      | else-branch w ↦ passes_over test c.args.order.now c.loop-node.node-index d c.loop-node-test.true all c.loop-node.marked.keys c.if-branch.marked.keys c.loop-node.invariant (sym c.in_ok-can_install.ensures.said ∙ w.if-branch.false) (ap (λ s. s.keys) w.marked-is)
+      | then-branch+in_ok-insert_full w ↦ marks test c.args.order.now c.loop-node.node-index d c.loop-node-test.true all c.loop-node.marked.keys c.if-branch.marked.keys c.loop-node.invariant (sym c.in_ok-can_install.ensures.answer ∙ w.if-branch.true) (ap (λ s. s.keys) w.marked-is ∙ w.in_ok-insert_full.ensures.keys)
+      | else-branch w ↦ passes_over test c.args.order.now c.loop-node.node-index d c.loop-node-test.true all c.loop-node.marked.keys c.if-branch.marked.keys c.loop-node.invariant (sym c.in_ok-can_install.ensures.answer ∙ w.if-branch.false) (ap (λ s. s.keys) w.marked-is)
     ]
 
 pub returns-clause-marked : goal.returns-clause-marked

@@ -2,7 +2,7 @@ use Rattle.std.proofs.Common.{◌≡◌, ◌∙◌, sym, subst, ◌++◌, ◌∷
 use Rattle.resolvo_report.specs.Value.{Numbered}
 use Rattle.resolvo_report.specs.View.{step_of}
 use Rattle.resolvo_judge.specs.Refusal.{steps_in}
-use Rattle.resolvo_judge.specs.Log.{LogStands}
+use Rattle.resolvo_judge.specs.Log.{LogInvariant}
 use Rattle.resolvo_judge.proofs.LogLemmas.{passes_so, step_more}
 use Rattle.resolvo_judge.proofs.log.take_step.Goals as goal
 
@@ -11,8 +11,8 @@ returns-clause-answer c = λ above n s.
     c.in_ok-fine.ensures.answer (steps_in above) s.steps
     ∙ passes_so c.args.catalogue.now c.args.request.now.lines c.args.log.now.checker.numbers c.args.clauses.now.kept c.args.log.now.checker.places.items c.args.log.now.scope c.args.log.now.ends_empty above s n (step_of c.args.step.now)
 
-pub returns-clause-stands : goal.returns-clause-stands
-returns-clause-stands c = λ fine above n s.
-    subst (λ (b : Bool). LogStands c.args.catalogue.now c.args.request.now.lines c.advance.new.checker.numbers c.advance.new.clauses.kept c.advance.new.checker.places.items c.args.log.now.scope b (above ++ Numbered n (step_of c.args.step.now) ∷ [])) (sym c.derives_empty-log.ensures)
+pub returns-clause-represents : goal.returns-clause-represents
+returns-clause-represents c = λ fine above n s.
+    subst (λ (b : Bool). LogInvariant c.args.catalogue.now c.args.request.now.lines c.advance.new.checker.numbers c.advance.new.clauses.kept c.advance.new.checker.places.items c.args.log.now.scope b (above ++ Numbered n (step_of c.args.step.now) ∷ [])) (sym c.derives_empty-log.ensures)
     (step_more c.args.catalogue.now c.args.request.now.lines c.args.log.now.checker.numbers c.args.clauses.now.kept c.args.log.now.checker.places.items c.args.log.now.scope c.args.log.now.ends_empty above s
-    c.advance.new.checker.numbers c.advance.new.clauses.kept c.advance.new.checker.places.items n (step_of c.args.step.now) (c.in_ok-fine.ensures.stands fine (steps_in above) s.steps))
+    c.advance.new.checker.numbers c.advance.new.clauses.kept c.advance.new.checker.places.items n (step_of c.args.step.now) (c.in_ok-fine.ensures.represents fine (steps_in above) s.steps))

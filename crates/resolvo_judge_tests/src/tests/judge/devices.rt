@@ -26,7 +26,7 @@ fn asked(alloc: Global) -> Result<(Catalogue, Request), Fail> {
     Ok((catalogue, request))
 }
 
-fn tells_each_read(rt: &impl Abort, alloc: Global, asked: &(Catalogue, Request)) {
+fn reports_each_read(rt: &impl Abort, alloc: Global, asked: &(Catalogue, Request)) {
     for calls in 0..32u64 {
         let found = after_calls(alloc, asked, (REPORT, 1), calls);
         assert_eq!(rt; found, Err(JudgeFault::Reader), "{calls}");
@@ -38,11 +38,11 @@ fn tells_each_read(rt: &impl Abort, alloc: Global, asked: &(Catalogue, Request))
 /// A read that fails is reported, at any call.
 #[test]
 fn each_read_failing(rt: HostRuntime) -> Result<(), Fail> {
-    tells_each_read(&rt, rt.alloc(), &asked(rt.alloc())?);
+    reports_each_read(&rt, rt.alloc(), &asked(rt.alloc())?);
     Ok(())
 }
 
-fn tells_the_line(rt: &impl Abort, alloc: Global, asked: &(Catalogue, Request)) {
+fn reports_the_line(rt: &impl Abort, alloc: Global, asked: &(Catalogue, Request)) {
     let found = after_calls(alloc, asked, ("install\na=2 for request line 1\n", 64), 1);
     assert_eq!(rt; found, Ok(Verdict::No(2)));
     let found = after_calls(alloc, asked, ("install\na=2 for request line", 64), 1);
@@ -52,6 +52,6 @@ fn tells_the_line(rt: &impl Abort, alloc: Global, asked: &(Catalogue, Request)) 
 /// A whole line that was read is judged before the read that fails; an unfinished one isn't.
 #[test]
 fn a_wrong_line_before_a_failing_read(rt: HostRuntime) -> Result<(), Fail> {
-    tells_the_line(&rt, rt.alloc(), &asked(rt.alloc())?);
+    reports_the_line(&rt, rt.alloc(), &asked(rt.alloc())?);
     Ok(())
 }

@@ -4,7 +4,7 @@ use super::{catalogue_of, request_of};
 use resolvo_catalogue_core::{Catalogue, MemorySource, Request, Version};
 use resolvo_judge::{
     Premises, accepted_install_is_true, accepted_refusal_is_true, check_steps, count_causes,
-    places_are_one, proof_bars, proof_refutes, steps_are_true, upheld_texts_are_refused_nowhere,
+    places_are_one, proof_forbids, proof_refutes, steps_are_true, upheld_texts_are_refused_nowhere,
 };
 use resolvo_report::{Atom, Literal, Report, Step};
 use std::alloc::{AllocError, Global};
@@ -116,7 +116,7 @@ fn named_lines(rt: HostRuntime) -> Result<(), Fail> {
 fn laws() {
     steps_are_true();
     proof_refutes();
-    proof_bars();
+    proof_forbids();
     accepted_refusal_is_true();
     accepted_install_is_true();
     places_are_one();

@@ -4,4 +4,4 @@ use Rattle.resolvo_packages.proofs.cached_packages.add_excluded.Given as goal
 
 -- the excluded ones so far follow the others
 abbrev pub invariant-loop-one : goal.invariant-loop-one
-invariant-loop-one g l = l.barred.items ≡ l.initial.barred.items ++ map excluded_by (take l.one-index l.excluded)
+invariant-loop-one g l = l.forbidden.items ≡ l.initial.forbidden.items ++ map excluded_by (take l.one-index l.excluded)

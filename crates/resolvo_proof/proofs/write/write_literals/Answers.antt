@@ -26,8 +26,8 @@ loop-literal-preserved g c =
     elim c.match-atom_of.branch [
       | in-Some+in_ok-push w ↦ ap items w.written-is ∙ (ap (map literal_in) w.in_ok-push.ensures.items ∙ (written_more atoms (take i xs) l w.in-Some.atom w.satisfying_value.result c.loop-literal.written.items w.satisfying_value.ensures (known ∙ sym w.in-Some.ensures) c.loop-literal.invariant ∙ back))
       | in_default w ↦
-          let stands : has xs l ≡ true = subst (λ (x : Signed). has xs x ≡ true) (sym c.literal-item.is) (has_read xs i l c.loop-literal-test.true) in
-          let below : l.variable.0 < count_of c.args.coding.now.search = c.requires.in_range l stands in
+          let present : has xs l ≡ true = subst (λ (x : Signed). has xs x ≡ true) (sym c.literal-item.is) (has_read xs i l c.loop-literal-test.true) in
+          let below : l.variable.0 < count_of c.args.coding.now.search = c.requires.in_range l present in
           let count : count_of c.args.coding.now.search ≡ suc (length atoms) = count_is c.args.coding.now c.requires.coding in
           ap items w.written-is ∙ (written_skip atoms (take i xs) l c.loop-literal.written.items (known ∙ sym w.in_default.ensures) (omega arith) c.loop-literal.invariant ∙ back)
     ]

@@ -1,22 +1,22 @@
 use Rattle.std.proofs.Common.{subst, sym, ap, Some}
-use Rattle.resolvo_state.specs.declared.clause_kind.Stated.{Stated}
-use Rattle.resolvo_proof.specs.Written.{IsTold}
+use Rattle.resolvo_state.specs.declared.clause_kind.ClauseKind.{ClauseKind}
+use Rattle.resolvo_proof.specs.Written.{IsRuleOf}
 use Rattle.resolvo_proof.proofs.Parts.{zip_same}
 use Rattle.resolvo_proof.proofs.write.write_rule.Goals as goal
 use Rattle.resolvo_proof.proofs.write.write_rule.Goals.{in-Needs+in_ok-clone-in-Needs, in-Gated, in-Shared, in-Limits, in-LimitsOutside, in-IsOut, in-Locked, in-Excluded, in-Digit, in-IsThere}
 
-pub returns-clause-told : goal.returns-clause-told
-returns-clause-told g c =
-    let told = λ (x : Stated g.row.N.Denot g.row.S.Denot). IsTold x (Some c.match-kind.rule) in
+pub returns-clause-encoded : goal.returns-clause-encoded
+returns-clause-encoded g c =
+    let encoded = λ (x : ClauseKind g.row.N.Denot g.row.S.Denot). IsRuleOf x (Some c.match-kind.rule) in
     elim c.match-kind.branch [
-      | in-Needs+in_ok-clone-in-Needs w ↦ subst told (sym w.in-Needs.is) (w.in_ok-clone-in-Needs.field-0, ap Some w.rule-is, zip_same w.in-Needs.case.items w.in_ok-clone-in-Needs.field-0.items w.in_ok-clone-in-Needs.ensures.cases.0)
-      | in-Gated w ↦ subst told (sym w.in-Gated.is) (ap Some w.rule-is)
-      | in-Shared w ↦ subst told (sym w.in-Shared.is) (ap Some w.rule-is)
-      | in-Limits w ↦ subst told (sym w.in-Limits.is) (ap Some w.rule-is)
-      | in-LimitsOutside w ↦ subst told (sym w.in-LimitsOutside.is) (ap Some w.rule-is)
-      | in-IsOut w ↦ subst told (sym w.in-IsOut.is) (ap Some w.rule-is)
-      | in-Locked w ↦ subst told (sym w.in-Locked.is) (ap Some w.rule-is)
-      | in-Excluded w ↦ subst told (sym w.in-Excluded.is) (ap Some w.rule-is)
-      | in-Digit w ↦ subst told (sym w.in-Digit.is) (ap Some w.rule-is)
-      | in-IsThere w ↦ subst told (sym w.in-IsThere.is) (ap Some w.rule-is)
+      | in-Needs+in_ok-clone-in-Needs w ↦ subst encoded (sym w.in-Needs.is) (w.in_ok-clone-in-Needs.field-0, ap Some w.rule-is, zip_same w.in-Needs.case.items w.in_ok-clone-in-Needs.field-0.items w.in_ok-clone-in-Needs.ensures.cases.0)
+      | in-Gated w ↦ subst encoded (sym w.in-Gated.is) (ap Some w.rule-is)
+      | in-Shared w ↦ subst encoded (sym w.in-Shared.is) (ap Some w.rule-is)
+      | in-Limits w ↦ subst encoded (sym w.in-Limits.is) (ap Some w.rule-is)
+      | in-LimitsOutside w ↦ subst encoded (sym w.in-LimitsOutside.is) (ap Some w.rule-is)
+      | in-IsOut w ↦ subst encoded (sym w.in-IsOut.is) (ap Some w.rule-is)
+      | in-Locked w ↦ subst encoded (sym w.in-Locked.is) (ap Some w.rule-is)
+      | in-Excluded w ↦ subst encoded (sym w.in-Excluded.is) (ap Some w.rule-is)
+      | in-Digit w ↦ subst encoded (sym w.in-Digit.is) (ap Some w.rule-is)
+      | in-IsThere w ↦ subst encoded (sym w.in-IsThere.is) (ap Some w.rule-is)
     ]

@@ -3,7 +3,7 @@ use Rattle.std.specs.Prelude.{codes}
 use Rattle.std.proofs.Math.ListN.{get_or-map}
 use Rattle.std.proofs.lemmas.List.{length-map}
 use Rattle.std.proofs.lemmas.Result.{err_from_is_err_and}
-use Rattle.resolvo_report.specs.Value as says
+use Rattle.resolvo_report.specs.Value as model
 use Rattle.resolvo_report.specs.View.{answer_line_of, answer_lines_of}
 use Rattle.resolvo_report.specs.Text.{line_text, lines_text}
 use Rattle.resolvo_report.proofs.WriteLemmas.{wrote_more, stops_there, stops_later, lines_next, lines_split, lines_rest}
@@ -11,28 +11,28 @@ use Rattle.resolvo_report.proofs.write.write_answers.Goals as goal
 
 pub returns-in_err-text-clause-fault : goal.returns-in_err-text-clause-fault
 returns-in_err-text-clause-fault g c =
-    let ls : List says.ReportLine = map says.Answer (answer_lines_of c.args.lines.now) in
+    let ls : List model.ReportLine = map model.Answer (answer_lines_of c.args.lines.now) in
     let i = c.loop-line.line-index in
     let p = err_from_is_err_and c.from_residual.result c.from_residual.ensures.1 in
     rw (p.1, p.2) (stops_there _ _ _ _ _ _ _ (lines_text (take i ls)) (lines_text (drop i ls)) (lines_text ls) c.loop-line.invariant (lines_rest ls i))
 
 pub returns-in_err-write_line-clause-fault : goal.returns-in_err-write_line-clause-fault
 returns-in_err-write_line-clause-fault g c =
-    let ls : List says.ReportLine = map says.Answer (answer_lines_of c.args.lines.now) in
+    let ls : List model.ReportLine = map model.Answer (answer_lines_of c.args.lines.now) in
     let i = c.loop-line.line-index in
-    let x : says.ReportLine = says.Answer (answer_line_of c.line-item.result) in
-    let within : i < length ls = omega (arith, c.loop-line-test.true, length-map (answer_lines_of c.args.lines.now) says.Answer, length-map c.args.lines.now answer_line_of) in
-    let at : get_or ls i x ≡ x = get_or-map says.Answer (answer_lines_of c.args.lines.now) i (answer_line_of c.line-item.result) ∙ ap says.Answer (get_or-map answer_line_of c.args.lines.now i c.line-item.result ∙ ap answer_line_of (sym c.line-item.is)) in
+    let x : model.ReportLine = model.Answer (answer_line_of c.line-item.result) in
+    let within : i < length ls = omega (arith, c.loop-line-test.true, length-map (answer_lines_of c.args.lines.now) model.Answer, length-map c.args.lines.now answer_line_of) in
+    let at : get_or ls i x ≡ x = get_or-map model.Answer (answer_lines_of c.args.lines.now) i (answer_line_of c.line-item.result) ∙ ap model.Answer (get_or-map answer_line_of c.args.lines.now i c.line-item.result ∙ ap answer_line_of (sym c.line-item.is)) in
     let text : c.as_str.result.now ≡ line_text x ++ codes "\n" = c.as_str.ensures.value ∙ c.in_ok-text.ensures.ok in
     let p = err_from_is_err_and c.from_residual-in_err-write_line.result c.from_residual-in_err-write_line.ensures.1 in
     rw (p.1, p.2) (stops_later c.in_err-write_line.field-0.0 _ _ _ _ _ _ _ _ _ _ (lines_text (take i ls)) c.as_str.result.now (lines_text (drop (i + 1) ls)) (lines_text ls) c.loop-line.invariant c.in_err-write_line.ensures.fault (lines_split ls i x within at ∙ ap (λ (t : List ℕ). lines_text (take i ls) ++ (t ++ lines_text (drop (i + 1) ls))) (sym text)))
 
 pub loop-line-preserved : goal.loop-line-preserved
 loop-line-preserved g c =
-    let ls : List says.ReportLine = map says.Answer (answer_lines_of c.args.lines.now) in
+    let ls : List model.ReportLine = map model.Answer (answer_lines_of c.args.lines.now) in
     let i = c.loop-line.line-index in
-    let x : says.ReportLine = says.Answer (answer_line_of c.line-item.result) in
-    let within : i < length ls = omega (arith, c.loop-line-test.true, length-map (answer_lines_of c.args.lines.now) says.Answer, length-map c.args.lines.now answer_line_of) in
-    let at : get_or ls i x ≡ x = get_or-map says.Answer (answer_lines_of c.args.lines.now) i (answer_line_of c.line-item.result) ∙ ap says.Answer (get_or-map answer_line_of c.args.lines.now i c.line-item.result ∙ ap answer_line_of (sym c.line-item.is)) in
+    let x : model.ReportLine = model.Answer (answer_line_of c.line-item.result) in
+    let within : i < length ls = omega (arith, c.loop-line-test.true, length-map (answer_lines_of c.args.lines.now) model.Answer, length-map c.args.lines.now answer_line_of) in
+    let at : get_or ls i x ≡ x = get_or-map model.Answer (answer_lines_of c.args.lines.now) i (answer_line_of c.line-item.result) ∙ ap model.Answer (get_or-map answer_line_of c.args.lines.now i c.line-item.result ∙ ap answer_line_of (sym c.line-item.is)) in
     let text : c.as_str.result.now ≡ line_text x ++ codes "\n" = c.as_str.ensures.value ∙ c.in_ok-text.ensures.ok in
     wrote_more _ _ _ _ _ _ _ _ _ (lines_text (take i ls)) c.as_str.result.now (lines_text (take (i + 1) ls)) c.loop-line.invariant c.in_ok-write_line.ensures.whole (ap (λ (t : List ℕ). lines_text (take i ls) ++ t) text ∙ lines_next ls i x within at)

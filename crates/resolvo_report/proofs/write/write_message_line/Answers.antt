@@ -19,7 +19,7 @@ returns-in_err-write_line-clause-fault g c =
 pub returns-in_err-write_all-clause-fault : goal.returns-in_err-write_all-clause-fault
 returns-in_err-write_all-clause-fault g c =
     let p = err_from_is_err_and c.from_residual-in_err-write_all.result c.from_residual-in_err-write_all.ensures.1 in
-    rw (p.1, p.2) (stops_later Writer _ _ _ _ _ _ _ _ _ _ (codes "| ") c.args.bytes.now (codes "\n") (codes "| " ++ c.args.bytes.now ++ codes "\n") c.in_ok-write_line.ensures.whole (c.in_err-write_all.ensures.front, λ _. c.in_err-write_all.ensures.fault) refl)
+    rw (p.1, p.2) (stops_later Writer _ _ _ _ _ _ _ _ _ _ (codes "| ") c.args.bytes.now (codes "\n") (codes "| " ++ c.args.bytes.now ++ codes "\n") c.in_ok-write_line.ensures.whole (c.in_err-write_all.ensures.prefix, λ _. c.in_err-write_all.ensures.fault) refl)
 
 pub returns-clause-fault : goal.returns-clause-fault
 returns-clause-fault g c =

@@ -1,7 +1,7 @@
 use Rattle.std.proofs.Common.{List, ℕ, [], ◌++◌, map, refl, sym, ap, ◌∙◌, append_assoc, append-nil}
 use Rattle.std.specs.Prelude.{codes}
 use Rattle.std.proofs.lemmas.Result.{err_from_is_err_and}
-use Rattle.resolvo_report.specs.Value as says
+use Rattle.resolvo_report.specs.Value as model
 use Rattle.resolvo_report.specs.View.{steps_of, messages_of}
 use Rattle.resolvo_report.specs.Text.{lines_text, numbered, report_text}
 use Rattle.resolvo_report.proofs.WriteLemmas.{wrote_more, stops_first, stops_later, refused_text, if_err, on_ok}
@@ -10,11 +10,11 @@ use Rattle.resolvo_report.proofs.write.write_refused.Goals as goal
 pub returns-in_err-write_line-clause-fault : goal.returns-in_err-write_line-clause-fault
 returns-in_err-write_line-clause-fault g c =
     let h = codes "refused\n" in
-    let cat = lines_text (map says.CatalogueLine c.args.catalogue.now) in
-    let req = lines_text (map says.RequestLine c.args.request.now) in
+    let cat = lines_text (map model.CatalogueLine c.args.catalogue.now) in
+    let req = lines_text (map model.RequestLine c.args.request.now) in
     let n = lines_text (numbered 1 (steps_of c.args.steps.now)) in
-    let m = lines_text (map says.Message (messages_of c.args.message.now)) in
-    let all = report_text (says.Refused c.args.catalogue.now c.args.request.now (steps_of c.args.steps.now) (messages_of c.args.message.now)) in
+    let m = lines_text (map model.Message (messages_of c.args.message.now)) in
+    let all = report_text (model.Refused c.args.catalogue.now c.args.request.now (steps_of c.args.steps.now) (messages_of c.args.message.now)) in
     let is = refused_text c.args.catalogue.now c.args.request.now (steps_of c.args.steps.now) (messages_of c.args.message.now) in
     let is2 = is ∙ sym (append_assoc h cat (req ++ (n ++ m))) in
     let is3 = is2 ∙ sym (append_assoc (h ++ cat) req (n ++ m)) in
@@ -25,11 +25,11 @@ returns-in_err-write_line-clause-fault g c =
 pub returns-in_err-write_named-clause-fault : goal.returns-in_err-write_named-clause-fault
 returns-in_err-write_named-clause-fault g c =
     let h = codes "refused\n" in
-    let cat = lines_text (map says.CatalogueLine c.args.catalogue.now) in
-    let req = lines_text (map says.RequestLine c.args.request.now) in
+    let cat = lines_text (map model.CatalogueLine c.args.catalogue.now) in
+    let req = lines_text (map model.RequestLine c.args.request.now) in
     let n = lines_text (numbered 1 (steps_of c.args.steps.now)) in
-    let m = lines_text (map says.Message (messages_of c.args.message.now)) in
-    let all = report_text (says.Refused c.args.catalogue.now c.args.request.now (steps_of c.args.steps.now) (messages_of c.args.message.now)) in
+    let m = lines_text (map model.Message (messages_of c.args.message.now)) in
+    let all = report_text (model.Refused c.args.catalogue.now c.args.request.now (steps_of c.args.steps.now) (messages_of c.args.message.now)) in
     let is = refused_text c.args.catalogue.now c.args.request.now (steps_of c.args.steps.now) (messages_of c.args.message.now) in
     let is2 = is ∙ sym (append_assoc h cat (req ++ (n ++ m))) in
     let is3 = is2 ∙ sym (append_assoc (h ++ cat) req (n ++ m)) in
@@ -40,11 +40,11 @@ returns-in_err-write_named-clause-fault g c =
 pub returns-in_err-write_asked-clause-fault : goal.returns-in_err-write_asked-clause-fault
 returns-in_err-write_asked-clause-fault g c =
     let h = codes "refused\n" in
-    let cat = lines_text (map says.CatalogueLine c.args.catalogue.now) in
-    let req = lines_text (map says.RequestLine c.args.request.now) in
+    let cat = lines_text (map model.CatalogueLine c.args.catalogue.now) in
+    let req = lines_text (map model.RequestLine c.args.request.now) in
     let n = lines_text (numbered 1 (steps_of c.args.steps.now)) in
-    let m = lines_text (map says.Message (messages_of c.args.message.now)) in
-    let all = report_text (says.Refused c.args.catalogue.now c.args.request.now (steps_of c.args.steps.now) (messages_of c.args.message.now)) in
+    let m = lines_text (map model.Message (messages_of c.args.message.now)) in
+    let all = report_text (model.Refused c.args.catalogue.now c.args.request.now (steps_of c.args.steps.now) (messages_of c.args.message.now)) in
     let is = refused_text c.args.catalogue.now c.args.request.now (steps_of c.args.steps.now) (messages_of c.args.message.now) in
     let is2 = is ∙ sym (append_assoc h cat (req ++ (n ++ m))) in
     let is3 = is2 ∙ sym (append_assoc (h ++ cat) req (n ++ m)) in
@@ -56,11 +56,11 @@ returns-in_err-write_asked-clause-fault g c =
 pub returns-in_err-write_steps-clause-fault : goal.returns-in_err-write_steps-clause-fault
 returns-in_err-write_steps-clause-fault g c =
     let h = codes "refused\n" in
-    let cat = lines_text (map says.CatalogueLine c.args.catalogue.now) in
-    let req = lines_text (map says.RequestLine c.args.request.now) in
+    let cat = lines_text (map model.CatalogueLine c.args.catalogue.now) in
+    let req = lines_text (map model.RequestLine c.args.request.now) in
     let n = lines_text (numbered 1 (steps_of c.args.steps.now)) in
-    let m = lines_text (map says.Message (messages_of c.args.message.now)) in
-    let all = report_text (says.Refused c.args.catalogue.now c.args.request.now (steps_of c.args.steps.now) (messages_of c.args.message.now)) in
+    let m = lines_text (map model.Message (messages_of c.args.message.now)) in
+    let all = report_text (model.Refused c.args.catalogue.now c.args.request.now (steps_of c.args.steps.now) (messages_of c.args.message.now)) in
     let is = refused_text c.args.catalogue.now c.args.request.now (steps_of c.args.steps.now) (messages_of c.args.message.now) in
     let is2 = is ∙ sym (append_assoc h cat (req ++ (n ++ m))) in
     let is3 = is2 ∙ sym (append_assoc (h ++ cat) req (n ++ m)) in
@@ -73,11 +73,11 @@ returns-in_err-write_steps-clause-fault g c =
 pub returns-clause-whole : goal.returns-clause-whole
 returns-clause-whole g c =
     let h = codes "refused\n" in
-    let cat = lines_text (map says.CatalogueLine c.args.catalogue.now) in
-    let req = lines_text (map says.RequestLine c.args.request.now) in
+    let cat = lines_text (map model.CatalogueLine c.args.catalogue.now) in
+    let req = lines_text (map model.RequestLine c.args.request.now) in
     let n = lines_text (numbered 1 (steps_of c.args.steps.now)) in
-    let m = lines_text (map says.Message (messages_of c.args.message.now)) in
-    let all = report_text (says.Refused c.args.catalogue.now c.args.request.now (steps_of c.args.steps.now) (messages_of c.args.message.now)) in
+    let m = lines_text (map model.Message (messages_of c.args.message.now)) in
+    let all = report_text (model.Refused c.args.catalogue.now c.args.request.now (steps_of c.args.steps.now) (messages_of c.args.message.now)) in
     let is = refused_text c.args.catalogue.now c.args.request.now (steps_of c.args.steps.now) (messages_of c.args.message.now) in
     let is2 = is ∙ sym (append_assoc h cat (req ++ (n ++ m))) in
     let is3 = is2 ∙ sym (append_assoc (h ++ cat) req (n ++ m)) in
@@ -90,11 +90,11 @@ returns-clause-whole g c =
 pub returns-clause-fault : goal.returns-clause-fault
 returns-clause-fault g c =
     let h = codes "refused\n" in
-    let cat = lines_text (map says.CatalogueLine c.args.catalogue.now) in
-    let req = lines_text (map says.RequestLine c.args.request.now) in
+    let cat = lines_text (map model.CatalogueLine c.args.catalogue.now) in
+    let req = lines_text (map model.RequestLine c.args.request.now) in
     let n = lines_text (numbered 1 (steps_of c.args.steps.now)) in
-    let m = lines_text (map says.Message (messages_of c.args.message.now)) in
-    let all = report_text (says.Refused c.args.catalogue.now c.args.request.now (steps_of c.args.steps.now) (messages_of c.args.message.now)) in
+    let m = lines_text (map model.Message (messages_of c.args.message.now)) in
+    let all = report_text (model.Refused c.args.catalogue.now c.args.request.now (steps_of c.args.steps.now) (messages_of c.args.message.now)) in
     let is = refused_text c.args.catalogue.now c.args.request.now (steps_of c.args.steps.now) (messages_of c.args.message.now) in
     let is2 = is ∙ sym (append_assoc h cat (req ++ (n ++ m))) in
     let is3 = is2 ∙ sym (append_assoc (h ++ cat) req (n ++ m)) in

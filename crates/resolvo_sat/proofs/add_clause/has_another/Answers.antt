@@ -3,7 +3,7 @@ use Rattle.std.proofs.lemmas.List.{take_all}
 use Rattle.std.proofs.lemmas.Bool.{not-true}
 use Rattle.resolvo_store_core.specs.Signed.{Signed, has, same_literal}
 use Rattle.resolvo_store_core.proofs.Watched.{differs_sym}
-use Rattle.resolvo_sat.proofs.ComeLemmas.{has_contained}
+use Rattle.resolvo_sat.proofs.PendingLemmas.{has_contained}
 use Rattle.resolvo_sat.proofs.add_clause.has_another.Goals as goal
 
 pub returns-then-ne : goal.returns-then-ne
@@ -19,6 +19,6 @@ pub returns : goal.returns
 returns c =
     let whole : take c.loop-literal.literal-index c.args.literals.now ≡ c.args.literals.now = take_all c.loop-literal.literal-index c.args.literals.now c.loop-literal-test.false in
     record {
-      stands = c.requires;
+      present = c.requires;
       alone = subst (λ (xs : List Signed). (x : Signed) → has xs x ≡ true → x ≡ c.args.first) whole c.loop-literal.invariant;
     }

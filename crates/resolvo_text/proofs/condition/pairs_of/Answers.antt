@@ -1,7 +1,7 @@
 use Rattle.std.proofs.Common.{◌≡◌, ◌+◌, List, [], ◌∷◌, ◌++◌, map, take, get_or, sym, ap, ◌∙◌}
 use Rattle.std.specs.Global.{Vec}
 use Rattle.std.proofs.lemmas.List.{map_more, map-append}
-use Rattle.resolvo_text.specs.Line as says
+use Rattle.resolvo_text.specs.Line as parsed
 use Rattle.resolvo_text.specs.View.{specs_of}
 use Rattle.resolvo_text.specs.View.{cases_of}
 use Rattle.resolvo_text.specs.Cases.{pairs}
@@ -16,10 +16,10 @@ loop-case-preserved c =
     let i = c.loop-case.case-index in
     let case = c.case-item.result in
     let item : specs_of c.deref.result.now ≡ specs_of (get_or left i case).items = ap specs_of c.deref.ensures.value ∙ ap (λ (v : Vec Spec). specs_of v.items) c.case-item.is in
-    let paired : cases_of c.in_ok-paired.paired.items ≡ map (λ r. specs_of (get_or left i case).items ++ r) right = c.in_ok-paired.ensures ∙ ap (λ (l : List says.Spec). map (λ r. l ++ r) right) item in
+    let paired : cases_of c.in_ok-paired.paired.items ≡ map (λ r. specs_of (get_or left i case).items ++ r) right = c.in_ok-paired.ensures ∙ ap (λ (l : List parsed.Spec). map (λ r. l ++ r) right) item in
     let more : cases_of (take (i + 1) left) ≡ cases_of (take i left) ++ specs_of (get_or left i case).items ∷ [] = map_more (λ (v : Vec Spec). specs_of v.items) left i case c.loop-case-test.true in
     ap cases_of c.in_ok-append.ensures.items ∙ map-append (λ (v : Vec Spec). specs_of v.items) c.loop-case.all.items c.in_ok-paired.paired.items
-    ∙ ap (λ (cs : List (List says.Spec)). cs ++ cases_of c.in_ok-paired.paired.items) c.loop-case.invariant
-    ∙ ap (λ (cs : List (List says.Spec)). pairs (cases_of (take i left)) right ++ cs) paired
+    ∙ ap (λ (cs : List (List parsed.Spec)). cs ++ cases_of c.in_ok-paired.paired.items) c.loop-case.invariant
+    ∙ ap (λ (cs : List (List parsed.Spec)). pairs (cases_of (take i left)) right ++ cs) paired
     ∙ sym (pairs_more (cases_of (take i left)) (specs_of (get_or left i case).items) right)
-    ∙ ap (λ (cs : List (List says.Spec)). pairs cs right) (sym more)
+    ∙ ap (λ (cs : List (List parsed.Spec)). pairs cs right) (sym more)

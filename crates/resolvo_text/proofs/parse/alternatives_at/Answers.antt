@@ -1,10 +1,10 @@
 use Rattle.std.proofs.Common.{◌≡◌, List, ◌∷◌, [], ◌++◌, Some, sym, ap, ◌∙◌}
-use Rattle.resolvo_text.specs.Line as says
+use Rattle.resolvo_text.specs.Line as parsed
 use Rattle.resolvo_text.specs.View.{specs_of, spec_of}
 use Rattle.resolvo_text.specs.Parse.{words_in, alternatives_at}
 use Rattle.std.proofs.lemmas.List.{map_push}
 use Rattle.std.proofs.lemmas.Result.{err_from_is_err_and}
-use Rattle.resolvo_text.proofs.AlternativeLemmas.{with_front, goes_on, ends, fails_so}
+use Rattle.resolvo_text.proofs.AlternativeLemmas.{with_prefix, goes_on, ends, fails_so}
 use Rattle.resolvo_text.proofs.parse.alternatives_at.Goals as goal
 
 pub returns-in_err-spec : goal.returns-in_err-spec
@@ -18,11 +18,11 @@ returns-then-not-more c =
     let inv = c.loop-specs.invariant in
     let total = ends (specs_of c.loop-specs.specs.items) inv.0 (words_in c.loop-specs.rest.now) (spec_of c.in_ok-spec.spec) (words_in c.in_ok-spec.after.now) c.skip-more.result.0 (words_in c.skip-more.result.1.now) _ inv.1 c.in_ok-spec.ensures.words (sym c.skip-more.ensures.words) c.if-not-more.true inv.2 in
     let pushed : specs_of c.push.new.self.items ≡ specs_of c.loop-specs.specs.items ++ spec_of c.in_ok-spec.spec ∷ [] = ap specs_of c.in_ok-push.ensures.items ∙ map_push spec_of c.loop-specs.specs.items c.in_ok-spec.spec in
-    total ∙ ap (λ (ss : List says.Spec). Some (ss, words_in c.skip-more.result.1.now)) (sym pushed)
+    total ∙ ap (λ (ss : List parsed.Spec). Some (ss, words_in c.skip-more.result.1.now)) (sym pushed)
 
 pub loop-specs-preserved : goal.loop-specs-preserved
 loop-specs-preserved c =
     let inv = c.loop-specs.invariant in
     let on = goes_on (specs_of c.loop-specs.specs.items) inv.0 (words_in c.loop-specs.rest.now) (spec_of c.in_ok-spec.spec) (words_in c.in_ok-spec.after.now) c.skip-more.result.0 (words_in c.skip-more.result.1.now) _ inv.1 c.in_ok-spec.ensures.words (sym c.skip-more.ensures.words) c.if-not-more.false inv.2 in
     let pushed : specs_of c.push.new.self.items ≡ specs_of c.loop-specs.specs.items ++ spec_of c.in_ok-spec.spec ∷ [] = ap specs_of c.in_ok-push.ensures.items ∙ map_push spec_of c.loop-specs.specs.items c.in_ok-spec.spec in
-    (on.0, on.1, ap (λ (ss : List says.Spec). with_front ss (alternatives_at on.0 (words_in c.skip-more.result.1.now))) pushed ∙ on.2)
+    (on.0, on.1, ap (λ (ss : List parsed.Spec). with_prefix ss (alternatives_at on.0 (words_in c.skip-more.result.1.now))) pushed ∙ on.2)

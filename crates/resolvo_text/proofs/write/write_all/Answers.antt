@@ -4,10 +4,10 @@ use Rattle.std.proofs.lemmas.List.{take-append-drop, take_rest}
 use Rattle.resolvo_text.proofs.write.write_all.Goals as goal
 
 -- some more bytes of the rest are written
-split_more : (bytes front rest : List ℕ) (count : ℕ) → bytes ≡ front ++ rest → bytes ≡ (front ++ take count rest) ++ take (length rest - count) (drop count rest)
-split_more bytes front rest count e =
+split_more : (bytes prefix rest : List ℕ) (count : ℕ) → bytes ≡ prefix ++ rest → bytes ≡ (prefix ++ take count rest) ++ take (length rest - count) (drop count rest)
+split_more bytes prefix rest count e =
     let parts : rest ≡ take count rest ++ take (length rest - count) (drop count rest) = sym (take-append-drop count rest) ∙ ap (λ (xs : List ℕ). take count rest ++ xs) (sym (take_rest rest count)) in
-    e ∙ ap (λ (xs : List ℕ). front ++ xs) parts ∙ sym (append_assoc front (take count rest) (take (length rest - count) (drop count rest)))
+    e ∙ ap (λ (xs : List ℕ). prefix ++ xs) parts ∙ sym (append_assoc prefix (take count rest) (take (length rest - count) (drop count rest)))
 
 pub loop-rest-preserved : goal.loop-rest-preserved
 loop-rest-preserved g c =

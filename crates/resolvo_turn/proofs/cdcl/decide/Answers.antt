@@ -9,11 +9,11 @@ loop-encoding-init g c = record { stays = λ root e. e; goes_on = goes_none c.ar
 pub step-requires : goal.step-requires
 step-requires g c = c.loop-encoding.invariant.built
 
-pub returns-in-Settled-clause-stays : goal.returns-in-Settled-clause-stays
-returns-in-Settled-clause-stays g c = λ root e. goes_in_order g.A.SolvableId.PartialEq.eq (g.A.PackageSource.packages c.args.answers.now) (g.A.PackageSource.orders c.args.answers.now) root c.loop-encoding.encoding c.step.new.self c.in_ok-step.ensures.goes_on (c.in_ok-step.ensures.stays (g.A.PackageSource.packages c.args.answers.now) root (g.met.A.PackageSource.lawful c.args.answers.now)) (c.loop-encoding.invariant.stays root e)
+pub returns-in-Done-clause-stays : goal.returns-in-Done-clause-stays
+returns-in-Done-clause-stays g c = λ root e. goes_in_order g.A.SolvableId.PartialEq.eq (g.A.PackageSource.packages c.args.answers.now) (g.A.PackageSource.orders c.args.answers.now) root c.loop-encoding.encoding c.step.new.self c.in_ok-step.ensures.goes_on (c.in_ok-step.ensures.stays (g.A.PackageSource.packages c.args.answers.now) root (g.met.A.PackageSource.lawful c.args.answers.now)) (c.loop-encoding.invariant.stays root e)
 
-pub returns-in-Settled-clause-goes_on : goal.returns-in-Settled-clause-goes_on
-returns-in-Settled-clause-goes_on g c = goes_then c.args.encoding.now c.loop-encoding.encoding c.step.new.self c.loop-encoding.invariant.goes_on c.in_ok-step.ensures.goes_on
+pub returns-in-Done-clause-goes_on : goal.returns-in-Done-clause-goes_on
+returns-in-Done-clause-goes_on g c = goes_then c.args.encoding.now c.loop-encoding.encoding c.step.new.self c.loop-encoding.invariant.goes_on c.in_ok-step.ensures.goes_on
 
 pub returns-in-Refused-clause-stays : goal.returns-in-Refused-clause-stays
 returns-in-Refused-clause-stays g c = λ root e. goes_in_order g.A.SolvableId.PartialEq.eq (g.A.PackageSource.packages c.args.answers.now) (g.A.PackageSource.orders c.args.answers.now) root c.loop-encoding.encoding c.step.new.self c.in_ok-step.ensures.goes_on (c.in_ok-step.ensures.stays (g.A.PackageSource.packages c.args.answers.now) root (g.met.A.PackageSource.lawful c.args.answers.now)) (c.loop-encoding.invariant.stays root e)
@@ -37,8 +37,8 @@ loop-encoding-preserved g c = record {
   built = c.in_ok-step.ensures.built;
 }
 
-pub returns-in-Settled-clause-first : goal.returns-in-Settled-clause-first
-returns-in-Settled-clause-first g c = first_then c.args.encoding.now c.loop-encoding.encoding c.step.new.self c.loop-encoding.invariant.goes_on.grows.base_level c.loop-encoding.invariant.first c.in_ok-step.ensures.first
+pub returns-in-Done-clause-first : goal.returns-in-Done-clause-first
+returns-in-Done-clause-first g c = first_then c.args.encoding.now c.loop-encoding.encoding c.step.new.self c.loop-encoding.invariant.goes_on.grows.base_level c.loop-encoding.invariant.first c.in_ok-step.ensures.first
 
 pub returns-in-Refused-clause-first : goal.returns-in-Refused-clause-first
 returns-in-Refused-clause-first g c = first_then c.args.encoding.now c.loop-encoding.encoding c.step.new.self c.loop-encoding.invariant.goes_on.grows.base_level c.loop-encoding.invariant.first c.in_ok-step.ensures.first

@@ -8,7 +8,7 @@ use Rattle.resolvo_soundness.specs.Encoding.{cases_for}
 use Rattle.resolvo_soundness.proofs.Lists.{contains_none}
 use Rattle.resolvo_encoder.specs.Conditions.{IsDeferred}
 use Rattle.resolvo_turn.specs.Encoder.{IsInOrder, AreDeferred}
-use Rattle.resolvo_turn.proofs.AddLemmas.{needs_none, needs_then, more_deferred, cases_more, taken_stands}
+use Rattle.resolvo_turn.proofs.AddLemmas.{needs_none, needs_then, more_deferred, cases_more, taken_case}
 use Rattle.resolvo_turn.proofs.defer.defer_cases.Goals as goal
 
 pub loop-case-init : goal.loop-case-init
@@ -24,14 +24,14 @@ loop-case-preserved g c =
     let i = c.loop-case.case-index in
     let item = c.case-item.result in
     let more : take (i + 1) xs ≡ take i xs ++ item ∷ [] = take_more xs i item c.loop-case-test.true ∙ ap (λ x. take i xs ++ x ∷ []) (sym c.case-item.is) in
-    let came = subst (λ (a : g.row.A.Denot). (root : Rules) → IsInOrder same (g.A.PackageSource.packages a) (g.A.PackageSource.orders a) root old → Contains (rules_for same (g.A.PackageSource.packages a) root c.args.parent).requirements c.args.need → Contains (cases_for same (g.A.PackageSource.packages a) c.args.need) c.as_slice.result.now
+    let ensured = subst (λ (a : g.row.A.Denot). (root : Rules) → IsInOrder same (g.A.PackageSource.packages a) (g.A.PackageSource.orders a) root old → Contains (rules_for same (g.A.PackageSource.packages a) root c.args.parent).requirements c.args.need → Contains (cases_for same (g.A.PackageSource.packages a) c.args.need) c.as_slice.result.now
     → IsInOrder same (g.A.PackageSource.packages a) (g.A.PackageSource.orders a) root new × IsDeferred new c.args.parent c.args.need c.as_slice.result.now) before.same c.in_ok-defer_case.ensures.encoded in
     record {
       same = c.in_ok-defer_case.ensures.same ∙ before.same;
       encoded = λ root e listed among. (
           let (middle, waits) = before.encoded root e listed among in
-          let stands : Contains (cases_of xs) c.as_slice.result.now = subst (λ (y : List VersionSetId). Contains (cases_of xs) y) (sym c.as_slice.ensures.value) (taken_stands xs i item more) in
-          let (last, one) = came root middle listed (among c.as_slice.result.now stands) in (
+          let inside : Contains (cases_of xs) c.as_slice.result.now = subst (λ (y : List VersionSetId). Contains (cases_of xs) y) (sym c.as_slice.ensures.value) (taken_case xs i item more) in
+          let (last, one) = ensured root middle listed (among c.as_slice.result.now inside) in (
             last,
             subst (λ (ys : List (List VersionSetId)). AreDeferred new c.args.parent c.args.need ys) (sym (ap cases_of more ∙ cases_more (take i xs) item))
                 (more_deferred old new c.args.parent c.args.need (cases_of (take i xs)) item.items c.in_ok-defer_case.ensures.kept waits (subst (λ (y : List VersionSetId). IsDeferred new c.args.parent c.args.need y) c.as_slice.ensures.value one)),

@@ -17,9 +17,9 @@ returns-clause-encoded g c = λ root e limited.
     let middle = c.guard.new.encoding in
     let new = c.limit.new.encoding in
     let (first, guarded) = c.in_ok-guard.ensures.encoded root e in
-    let came = subst (λ (a : g.row.A.Denot). (root : Rules) → IsInOrder same (g.A.PackageSource.packages a) (g.A.PackageSource.orders a) root middle → Contains (rules_for same (g.A.PackageSource.packages a) root c.args.parent).constraints c.args.version_set
+    let ensured = subst (λ (a : g.row.A.Denot). (root : Rules) → IsInOrder same (g.A.PackageSource.packages a) (g.A.PackageSource.orders a) root middle → Contains (rules_for same (g.A.PackageSource.packages a) root c.args.parent).constraints c.args.version_set
     → IsInOrder same (g.A.PackageSource.packages a) (g.A.PackageSource.orders a) root new × IsLimitEncoded same (g.A.PackageSource.packages a) (rules_of new) c.args.parent c.args.version_set) c.in_ok-guard.ensures.same c.in_ok-limit.ensures.encoded in
-    let (last, done) = came root first limited in
+    let (last, done) = ensured root first limited in
     (last, done, guard_grows same exact p root middle new (Single c.args.version_set) c.in_ok-limit.ensures.kept.grows guarded)
 
 pub returns-clause-kept : goal.returns-clause-kept

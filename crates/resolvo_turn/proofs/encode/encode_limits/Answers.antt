@@ -24,13 +24,13 @@ loop-version_set-preserved g c =
     let item : VersionSetId = slice_index_or c.args.constraints.now c.loop-version_set.version_set-index blank in
     let before = c.loop-version_set.invariant in
     let new = c.encode_limit.new.encoding in
-    let came = subst (λ (a : g.row.A.Denot). (root : Rules) → IsInOrder same (g.A.PackageSource.packages a) (g.A.PackageSource.orders a) root c.loop-version_set.encoding → Contains (rules_for same (g.A.PackageSource.packages a) root c.args.parent).constraints item
+    let ensured = subst (λ (a : g.row.A.Denot). (root : Rules) → IsInOrder same (g.A.PackageSource.packages a) (g.A.PackageSource.orders a) root c.loop-version_set.encoding → Contains (rules_for same (g.A.PackageSource.packages a) root c.args.parent).constraints item
     → IsInOrder same (g.A.PackageSource.packages a) (g.A.PackageSource.orders a) root new × IsLimitEncoded same (g.A.PackageSource.packages a) (rules_of new) c.args.parent item × IsGuarded same (g.A.PackageSource.packages a) (rules_of new) (Single item)) before.same c.in_ok-encode_limit.ensures.encoded in
     record {
       same = c.in_ok-encode_limit.ensures.same ∙ before.same;
       encoded = λ root e limited. (
           let (middle, done) = before.encoded root e limited in
-          let (last, limit, guard) = came root middle (limited item (Contains-get_or c.args.constraints.now c.loop-version_set.version_set-index blank c.loop-version_set-test.true)) in (
+          let (last, limit, guard) = ensured root middle (limited item (Contains-get_or c.args.constraints.now c.loop-version_set.version_set-index blank c.loop-version_set-test.true)) in (
             last,
             λ v h. more_limited same exact p root c.loop-version_set.encoding new c.args.parent (take c.loop-version_set.version_set-index c.args.constraints.now) item c.in_ok-encode_limit.ensures.kept done (limit, guard) v
                 (subst (λ (xs : List VersionSetId). Contains xs v) (take_more c.args.constraints.now c.loop-version_set.version_set-index blank c.loop-version_set-test.true) h),

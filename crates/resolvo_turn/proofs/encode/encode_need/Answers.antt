@@ -13,11 +13,11 @@ returns-in_ok-encode_plain_need-in-None-clause-encoded g c = λ root e listed.
     let same = g.A.SolvableId.PartialEq.eq in
     let p = g.A.PackageSource.packages c.args.answers.now in
     let new = c.encode_plain_need.new.encoding in
-    let (last, stated) = c.in_ok-encode_plain_need-in-None.ensures.encoded root e (record { listed = listed; free = c.in-None.is }) in (
+    let (last, is_encoded) = c.in_ok-encode_plain_need-in-None.ensures.encoded root e (record { listed = listed; free = c.in-None.is }) in (
       last,
       λ case one. (
           let none = contains_one case [] (subst (λ (o : Option ConditionId). Contains (cases_under p.condition_of o) case) c.in-None.is one) in
-          inl (subst (λ (xs : List VersionSetId). IsNeedEncoded same p (rules_of new) c.args.parent c.args.need xs) (sym none) stated)),
+          inl (subst (λ (xs : List VersionSetId). IsNeedEncoded same p (rules_of new) c.args.parent c.args.need xs) (sym none) is_encoded)),
     )
 
 pub returns-in_ok-defer_need-in-Some-clause-encoded : goal.returns-in_ok-defer_need-in-Some-clause-encoded

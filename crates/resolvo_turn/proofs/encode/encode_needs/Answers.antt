@@ -22,13 +22,13 @@ loop-need-preserved g c =
     let blank : ConditionalRequirement = record { condition = None; requirement = Single (record { 0 = 0 }) } in
     let item : ConditionalRequirement = slice_index_or c.args.needs.now c.loop-need.need-index blank in
     let before = c.loop-need.invariant in
-    let came = subst (λ (a : g.row.A.Denot). (root : Rules) → IsInOrder same (g.A.PackageSource.packages a) (g.A.PackageSource.orders a) root c.loop-need.encoding → Contains (rules_for same (g.A.PackageSource.packages a) root c.args.parent).requirements item
+    let ensured = subst (λ (a : g.row.A.Denot). (root : Rules) → IsInOrder same (g.A.PackageSource.packages a) (g.A.PackageSource.orders a) root c.loop-need.encoding → Contains (rules_for same (g.A.PackageSource.packages a) root c.args.parent).requirements item
     → IsInOrder same (g.A.PackageSource.packages a) (g.A.PackageSource.orders a) root c.encode_need.new.encoding × IsConditionalEncoded same (g.A.PackageSource.packages a) c.encode_need.new.encoding c.args.parent item) before.same c.in_ok-encode_need.ensures.encoded in
     record {
       same = c.in_ok-encode_need.ensures.same ∙ before.same;
       encoded = λ root e needs. (
           let (middle, done) = before.encoded root e needs in
-          let (last, one) = came root middle (needs item (Contains-get_or c.args.needs.now c.loop-need.need-index blank c.loop-need-test.true)) in (
+          let (last, one) = ensured root middle (needs item (Contains-get_or c.args.needs.now c.loop-need.need-index blank c.loop-need-test.true)) in (
             last,
             λ need h. more_encoded same exact p root c.loop-need.encoding c.encode_need.new.encoding c.args.parent (take c.loop-need.need-index c.args.needs.now) item c.in_ok-encode_need.ensures.kept done one need
                 (subst (λ (xs : List ConditionalRequirement). Contains xs need) (take_more c.args.needs.now c.loop-need.need-index blank c.loop-need-test.true) h),

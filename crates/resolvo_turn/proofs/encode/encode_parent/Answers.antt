@@ -7,7 +7,7 @@ use Rattle.resolvo_pool_core.specs.Text.{solvable_of}
 use Rattle.resolvo_encoder.specs.Encoded.{IsParentEncoded}
 use Rattle.resolvo_encoder.proofs.PickLemmas.{ordered_stays}
 use Rattle.resolvo_turn.specs.Encoder.{AreRulesOf, IsInOrder}
-use Rattle.resolvo_turn.proofs.AddLemmas.{extends_needs, root_rules, known_rules, unknown_encoded, bars_rule}
+use Rattle.resolvo_turn.proofs.AddLemmas.{extends_needs, root_rules, known_rules, unknown_encoded, excluded_rule}
 use Rattle.resolvo_turn.proofs.encode.encode_parent.Goals as goal
 
 pub returns-in_ok-encode_rules-in-Root-clause-encoded : goal.returns-in_ok-encode_rules-in-Root-clause-encoded
@@ -25,9 +25,9 @@ returns-in_ok-encode_rules-in-Known-clause-encoded g c = λ root is e.
     let new = c.encode_rules-in-Known.new.encoding in
     let asked : p.dependencies_of solvable ≡ needs_of (Known c.in-Known.known) = sym c.in_ok-known-in-Solvable.ensures.answer ∙ ap needs_of c.in-Known.is in
     let are = known_rules same p root solvable c.in-Known.known c.as_slice.result.now c.as_slice-in-Known.result.now asked c.as_slice.ensures.value c.as_slice-in-Known.ensures.value in
-    let came = subst (λ (a : g.row.A.Denot). (root : Rules) → AreRulesOf same (g.A.PackageSource.packages a) root (Some solvable) c.as_slice.result.now c.as_slice-in-Known.result.now → IsInOrder same (g.A.PackageSource.packages a) (g.A.PackageSource.orders a) root c.args.encoding.now
+    let ensured = subst (λ (a : g.row.A.Denot). (root : Rules) → AreRulesOf same (g.A.PackageSource.packages a) root (Some solvable) c.as_slice.result.now c.as_slice-in-Known.result.now → IsInOrder same (g.A.PackageSource.packages a) (g.A.PackageSource.orders a) root c.args.encoding.now
     → IsInOrder same (g.A.PackageSource.packages a) (g.A.PackageSource.orders a) root new × IsParentEncoded same (g.A.PackageSource.packages a) new root (Some solvable)) c.in_ok-known-in-Solvable.ensures.same c.in_ok-encode_rules-in-Known.ensures.encoded in
-    let (last, done) = came root are e in
+    let (last, done) = ensured root are e in
     (last, subst (λ (x : SolvableIdOrRoot _). IsParentEncoded same p new root (solvable_of x)) (sym c.in-Solvable.is) done)
 
 pub returns-in_ok-exclude-in-Unknown-clause-encoded : goal.returns-in_ok-exclude-in-Unknown-clause-encoded
@@ -37,11 +37,11 @@ returns-in_ok-exclude-in-Unknown-clause-encoded g c = λ root is e.
     let orders = g.A.PackageSource.orders c.args.answers.now in
     let solvable = c.in-Solvable.solvable in
     let new = c.exclude.new.self in
-    let told = c.in_ok-exclude-in-Unknown.ensures in
+    let excluded = c.in_ok-exclude-in-Unknown.ensures in
     let asked : p.dependencies_of solvable ≡ needs_of (Unknown c.in-Unknown.reason) = sym c.in_ok-known-in-Solvable.ensures.answer ∙ ap needs_of c.in-Unknown.is in
-    let (last, stated) = told.encoding p root (g.met.A.PackageSource.lawful c.args.answers.now) e.encoding (bars_rule same p root solvable c.in-Unknown.reason asked) in (
-      record { encoding = last; ordered = ordered_stays orders c.args.encoding.now new told.extends.grows told.lists e.ordered },
-      subst (λ (x : SolvableIdOrRoot _). IsParentEncoded same p new root (solvable_of x)) (sym c.in-Solvable.is) (unknown_encoded same p root new solvable c.in-Unknown.reason asked stated),
+    let (last, is_encoded) = excluded.encoding p root (g.met.A.PackageSource.lawful c.args.answers.now) e.encoding (excluded_rule same p root solvable c.in-Unknown.reason asked) in (
+      record { encoding = last; ordered = ordered_stays orders c.args.encoding.now new excluded.extends.grows excluded.lists e.ordered },
+      subst (λ (x : SolvableIdOrRoot _). IsParentEncoded same p new root (solvable_of x)) (sym c.in-Solvable.is) (unknown_encoded same p root new solvable c.in-Unknown.reason asked is_encoded),
     )
 
 pub returns-in_ok-exclude-in-Unknown-clause-kept : goal.returns-in_ok-exclude-in-Unknown-clause-kept

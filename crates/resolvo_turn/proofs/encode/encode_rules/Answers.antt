@@ -20,10 +20,10 @@ returns-clause-encoded g c = λ root are e.
     let new = c.encode_limits.new.encoding in
     let needs : (need : ConditionalRequirement) → Contains c.args.requirements.now need → Contains (rules_for same p root c.args.parent).requirements need = λ need h. subst (λ (xs : List ConditionalRequirement). Contains xs need) (sym are.requirements) h in
     let (first, done) = c.in_ok-encode_needs.ensures.encoded root e needs in
-    let came = subst (λ (a : g.row.A.Denot). (root : Rules) → IsInOrder same (g.A.PackageSource.packages a) (g.A.PackageSource.orders a) root middle → ((v : VersionSetId) → Contains c.args.constraints.now v → Contains (rules_for same (g.A.PackageSource.packages a) root c.args.parent).constraints v)
+    let ensured = subst (λ (a : g.row.A.Denot). (root : Rules) → IsInOrder same (g.A.PackageSource.packages a) (g.A.PackageSource.orders a) root middle → ((v : VersionSetId) → Contains c.args.constraints.now v → Contains (rules_for same (g.A.PackageSource.packages a) root c.args.parent).constraints v)
     → IsInOrder same (g.A.PackageSource.packages a) (g.A.PackageSource.orders a) root new × ((v : VersionSetId) → Contains c.args.constraints.now v → IsLimitEncoded same (g.A.PackageSource.packages a) (rules_of new) c.args.parent v × IsGuarded same (g.A.PackageSource.packages a) (rules_of new) (Single v)))
     c.in_ok-encode_needs.ensures.same c.in_ok-encode_limits.ensures.encoded in
-    let (last, limits) = came root first (λ v h. subst (λ (xs : List VersionSetId). Contains xs v) (sym are.constraints) h) in (
+    let (last, limits) = ensured root first (λ v h. subst (λ (xs : List VersionSetId). Contains xs v) (sym are.constraints) h) in (
       last,
       record {
         needs = λ need case h one. case_stays same exact p root middle new c.args.parent need case c.in_ok-encode_limits.ensures.kept (done need (subst (λ (xs : List ConditionalRequirement). Contains xs need) are.requirements h) case one);

@@ -15,10 +15,10 @@ returns-clause-encoded g c = λ root e guarded needs.
     let exact : IsExact same = record { one = g.met.A.SolvableId.Exact.exact; own = g.met.A.SolvableId.Eq.laws.refl } in
     let offered : AreOffered same p c.args.need.requirement c.as_slice.result.now = subst (λ (xs : List (Offered _ _)). AreOffered same p c.args.need.requirement xs) (sym c.as_slice.ensures.value) c.in_ok-offered.ensures.offered in
     let tried : orders c.args.need.requirement (offered_solvables c.as_slice.result.now) = subst (λ (xs : List (Offered _ _)). orders c.args.need.requirement (offered_solvables xs)) (sym c.as_slice.ensures.value) c.in_ok-offered.ensures.ordered in
-    let (middle, stated) = c.in_ok-require.ensures.encoded p root (g.met.A.PackageSource.lawful c.args.answers.now) e.encoding offered guarded needs in
+    let (middle, is_encoded) = c.in_ok-require.ensures.encoded p root (g.met.A.PackageSource.lawful c.args.answers.now) e.encoding offered guarded needs in
     let ordered = ordered_adds orders c.args.need.requirement c.as_slice.result.now c.args.encoding.now c.require.new.self c.in_ok-require.ensures.kept.grows c.in_ok-require.ensures.candidates tried e.ordered in (
       parents_in_order same p orders root c.require.new.self c.add_available.new.encoding (record { encoding = middle; ordered = ordered }) c.in_ok-add_available.ensures,
-      need_stays same exact p root c.require.new.self c.add_available.new.encoding c.args.parent c.args.need [] (parents_needs c.require.new.self c.add_available.new.encoding c.in_ok-add_available.ensures) stated,
+      need_stays same exact p root c.require.new.self c.add_available.new.encoding c.args.parent c.args.need [] (parents_needs c.require.new.self c.add_available.new.encoding c.in_ok-add_available.ensures) is_encoded,
     )
 
 pub returns-clause-kept : goal.returns-clause-kept

@@ -16,18 +16,18 @@ returns-clause-encoded g c = λ root e listed among.
     let same = g.A.SolvableId.PartialEq.eq in
     let p = g.A.PackageSource.packages c.args.answers.now in
     let middle = c.guard.new.encoding in
-    let new = c.state_case.new.encoding in
+    let new = c.add_case.new.encoding in
     let parent = c.args.parent in
     let need = c.args.need in
     let answers = c.in_ok-sets.ensures.same ∙ c.in_ok-guard.ensures.same in
     let case : sets_case c.as_slice.result.now ≡ c.args.case.now = subst (λ (xs : List (ConditionSet _ _)). sets_case xs ≡ c.args.case.now) (sym c.as_slice.ensures.value) c.in_ok-sets.ensures.case in
     let sets : AreSets same p c.as_slice.result.now = subst (λ (xs : List (ConditionSet _ _)). AreSets same p xs) (sym c.as_slice.ensures.value) (subst (λ (a : g.row.A.Denot). AreSets same (g.A.PackageSource.packages a) c.in_ok-sets.sets.items) c.in_ok-guard.ensures.same c.in_ok-sets.ensures.sets) in
     let (first, guarded) = c.in_ok-guard.ensures.encoded root e in
-    let (last, stated) = (subst (λ (a : g.row.A.Denot). (root : Rules) → IsInOrder same (g.A.PackageSource.packages a) (g.A.PackageSource.orders a) root middle → IsGuarded same (g.A.PackageSource.packages a) (rules_of middle) need.requirement → AreSets same (g.A.PackageSource.packages a) c.as_slice.result.now
+    let (last, is_encoded) = (subst (λ (a : g.row.A.Denot). (root : Rules) → IsInOrder same (g.A.PackageSource.packages a) (g.A.PackageSource.orders a) root middle → IsGuarded same (g.A.PackageSource.packages a) (rules_of middle) need.requirement → AreSets same (g.A.PackageSource.packages a) c.as_slice.result.now
     → Contains (rules_for same (g.A.PackageSource.packages a) root parent).requirements need → Contains (cases_for same (g.A.PackageSource.packages a) need) (sets_case c.as_slice.result.now)
-    → IsInOrder same (g.A.PackageSource.packages a) (g.A.PackageSource.orders a) root new × IsNeedEncoded same (g.A.PackageSource.packages a) (rules_of new) parent need (sets_case c.as_slice.result.now)) answers c.in_ok-state_case.ensures.encoded)
+    → IsInOrder same (g.A.PackageSource.packages a) (g.A.PackageSource.orders a) root new × IsNeedEncoded same (g.A.PackageSource.packages a) (rules_of new) parent need (sets_case c.as_slice.result.now)) answers c.in_ok-add_case.ensures.encoded)
     root first guarded sets listed (subst (λ (xs : List VersionSetId). Contains (cases_for same p need) xs) (sym case) among) in
-    (last, subst (λ (xs : List VersionSetId). IsNeedEncoded same p (rules_of new) parent need xs) case stated)
+    (last, subst (λ (xs : List VersionSetId). IsNeedEncoded same p (rules_of new) parent need xs) case is_encoded)
 
 pub returns-clause-kept : goal.returns-clause-kept
-returns-clause-kept g c = needs_then c.args.encoding.now c.guard.new.encoding c.state_case.new.encoding c.in_ok-guard.ensures.kept c.in_ok-state_case.ensures.kept
+returns-clause-kept g c = needs_then c.args.encoding.now c.guard.new.encoding c.add_case.new.encoding c.in_ok-guard.ensures.kept c.in_ok-add_case.ensures.kept

@@ -3,15 +3,15 @@ use Rattle.std.specs.Prelude.{Contains}
 use Rattle.resolvo_pool_core.specs.declared.id.VersionSetId.{VersionSetId}
 use Rattle.resolvo_soundness.specs.Encoding.{cases_for}
 use Rattle.resolvo_soundness.specs.SearchEnd.{IsNeedEncoded}
-use Rattle.resolvo_state.proofs.Positions.{front_long}
+use Rattle.resolvo_state.proofs.Positions.{prefix_long}
 use Rattle.resolvo_encoder.specs.Encoded.{rules_of}
 use Rattle.resolvo_turn.proofs.AddLemmas.{needs_then, fires_needs, fired_more}
-use Rattle.resolvo_turn.proofs.CaseStated.{stated_in_order}
+use Rattle.resolvo_turn.proofs.CaseEncoded.{encoded_in_order}
 use Rattle.resolvo_turn.proofs.fire.fire.Goals as goal
 
 pub end_case-requires : goal.end_case-requires
 end_case-requires g c =
-    let long : length c.args.encoding.now.deferred.items ≤ length c.encode_case.new.encoding.deferred.items = front_long c.args.encoding.now.deferred.items c.encode_case.new.encoding.deferred.items c.in_ok-encode_case.ensures.kept.deferred in
+    let long : length c.args.encoding.now.deferred.items ≤ length c.encode_case.new.encoding.deferred.items = prefix_long c.args.encoding.now.deferred.items c.encode_case.new.encoding.deferred.items c.in_ok-encode_case.ensures.kept.deferred in
     let within : c.args.index < length c.args.encoding.now.deferred.items = c.requires.within in
     omega arith
 
@@ -20,10 +20,10 @@ returns-clause-stays g c = λ root e.
     let same = g.A.SolvableId.PartialEq.eq in
     let p = g.A.PackageSource.packages c.args.answers.now in
     let w = c.in_ok-parent.field-0 in
-    stated_in_order g.A.SolvableId.PartialEq.eq (g.A.PackageSource.packages c.args.answers.now) (g.A.PackageSource.orders c.args.answers.now) root c.args.index c.args.encoding.now c.encode_case.new.encoding c.end_case.new.self c.in_ok-parent.field-0 c.in_ok-parent.ensures e
+    encoded_in_order g.A.SolvableId.PartialEq.eq (g.A.PackageSource.packages c.args.answers.now) (g.A.PackageSource.orders c.args.answers.now) root c.args.index c.args.encoding.now c.encode_case.new.encoding c.end_case.new.self c.in_ok-parent.field-0 c.in_ok-parent.ensures e
     c.in_ok-encode_case.ensures.kept.deferred (λ listed among. (
-    let (order, told) = c.in_ok-encode_case.ensures.encoded root e listed (subst (λ (xs : List VersionSetId). Contains (cases_for same p w.need) xs) (sym c.as_slice.ensures.value) among) in
-    (order, subst (λ (xs : List VersionSetId). IsNeedEncoded same p (rules_of c.encode_case.new.encoding) w.parent w.need xs) c.as_slice.ensures.value told))) c.in_ok-end_case.ensures.fired (c.in_ok-end_case.ensures.encoding (g.A.PackageSource.packages c.args.answers.now) root)
+    let (order, is_encoded) = c.in_ok-encode_case.ensures.encoded root e listed (subst (λ (xs : List VersionSetId). Contains (cases_for same p w.need) xs) (sym c.as_slice.ensures.value) among) in
+    (order, subst (λ (xs : List VersionSetId). IsNeedEncoded same p (rules_of c.encode_case.new.encoding) w.parent w.need xs) c.as_slice.ensures.value is_encoded))) c.in_ok-end_case.ensures.fired (c.in_ok-end_case.ensures.encoding (g.A.PackageSource.packages c.args.answers.now) root)
 
 pub returns-clause-kept : goal.returns-clause-kept
 returns-clause-kept g c = needs_then c.args.encoding.now c.encode_case.new.encoding c.end_case.new.self c.in_ok-encode_case.ensures.kept (fires_needs c.args.index c.encode_case.new.encoding c.end_case.new.self c.in_ok-end_case.ensures.fired)

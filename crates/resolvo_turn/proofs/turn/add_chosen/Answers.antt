@@ -17,7 +17,7 @@ loop-solvable-preserved g c =
     let more : take (i + 1) xs ≡ take i xs ++ item ∷ [] = take_more xs i item c.loop-solvable-test.true ∙ ap (λ x. take i xs ++ x ∷ []) (sym c.solvable-item.is) in
     record {
       added = parents_then c.args.encoding.now c.loop-solvable.encoding c.add_parent.new.self c.loop-solvable.invariant.added c.in_ok-add_parent.ensures.added;
-      among = λ s h. among_more c.loop-solvable.encoding c.add_parent.new.self (take i xs) item c.in_ok-add_parent.ensures.added c.loop-solvable.invariant.among c.in_ok-add_parent.ensures.stands s (subst (λ (ys : List _). Contains ys s) more h);
+      among = λ s h. among_more c.loop-solvable.encoding c.add_parent.new.self (take i xs) item c.in_ok-add_parent.ensures.added c.loop-solvable.invariant.among c.in_ok-add_parent.ensures.present s (subst (λ (ys : List _). Contains ys s) more h);
     }
 
 pub returns : goal.returns

@@ -2,9 +2,9 @@ use Rattle.std.proofs.Common.{Option, subst}
 use Rattle.resolvo_sat.specs.declared.analyze.FinalConflict.{FinalConflict}
 use Rattle.resolvo_encoder.proofs.Bases.{turn_has, turn_then}
 use Rattle.resolvo_encoder.proofs.StayLemmas.{goes_then}
-use Rattle.resolvo_turn.specs.Turn.{HasWish, IsBegunBy}
+use Rattle.resolvo_turn.specs.Turn.{HasSoft, IsBegunBy}
 use Rattle.resolvo_turn.proofs.AddLemmas.{goes_in_order}
-use Rattle.resolvo_turn.proofs.EndLemmas.{begun_of, decided_of, decided_turn, wish_kept}
+use Rattle.resolvo_turn.proofs.EndLemmas.{begun_of, decided_of, decided_turn, soft_kept}
 use Rattle.resolvo_turn.proofs.turn.choose_and_decide.Goals as goal
 
 pub returns-in-Some-clause-stays : goal.returns-in-Some-clause-stays
@@ -14,7 +14,7 @@ returns-in-Some-clause-stays g c = λ root e.
 
 pub returns-in-Some-clause-decided : goal.returns-in-Some-clause-decided
 returns-in-Some-clause-decided g c =
-    begun_of c.args.wish c.choose_first.new.encoding c.in-Some.refusal (subst (λ (o : Option FinalConflict). IsBegunBy c.args.wish c.choose_first.new.encoding o) c.in-Some.is c.in_ok-refusal.ensures.begun)
+    begun_of c.args.soft c.choose_first.new.encoding c.in-Some.refusal (subst (λ (o : Option FinalConflict). IsBegunBy c.args.soft c.choose_first.new.encoding o) c.in-Some.is c.in_ok-refusal.ensures.begun)
 
 pub returns-clause-stays : goal.returns-clause-stays
 returns-clause-stays g c = λ root e.
@@ -27,12 +27,12 @@ returns-clause-goes_on g c = goes_then c.args.encoding.now c.choose_first.new.en
 
 pub returns-clause-turn : goal.returns-clause-turn
 returns-clause-turn g c =
-    let has : HasWish c.args.wish c.choose_first.new.encoding = subst (λ (o : Option FinalConflict). IsBegunBy c.args.wish c.choose_first.new.encoding o) c.in_default.is c.in_ok-refusal.ensures.begun in
-    turn_then c.args.wish c.args.encoding.now c.choose_first.new.encoding c.decide.new.encoding c.in_ok-refusal.ensures.turn
-    (decided_turn c.args.wish c.choose_first.new.encoding c.decide.new.encoding c.in_ok-refusal-2.ensures.goes_on c.in_ok-refusal-2.ensures.first has)
+    let has : HasSoft c.args.soft c.choose_first.new.encoding = subst (λ (o : Option FinalConflict). IsBegunBy c.args.soft c.choose_first.new.encoding o) c.in_default.is c.in_ok-refusal.ensures.begun in
+    turn_then c.args.soft c.args.encoding.now c.choose_first.new.encoding c.decide.new.encoding c.in_ok-refusal.ensures.turn
+    (decided_turn c.args.soft c.choose_first.new.encoding c.decide.new.encoding c.in_ok-refusal-2.ensures.goes_on c.in_ok-refusal-2.ensures.first has)
 
 pub returns-clause-decided : goal.returns-clause-decided
 returns-clause-decided g c =
-    let has : HasWish c.args.wish c.choose_first.new.encoding = subst (λ (o : Option FinalConflict). IsBegunBy c.args.wish c.choose_first.new.encoding o) c.in_default.is c.in_ok-refusal.ensures.begun in
-    let turn = turn_has c.args.wish c.args.encoding.now c.choose_first.new.encoding c.requires.turn c.in_ok-refusal.ensures.turn in
-    decided_of c.args.wish c.decide.new.encoding c.in_ok-refusal-2.refusal c.in_ok-refusal-2.ensures.decided (wish_kept c.args.wish c.choose_first.new.encoding c.decide.new.encoding turn has c.in_ok-refusal-2.ensures.first)
+    let has : HasSoft c.args.soft c.choose_first.new.encoding = subst (λ (o : Option FinalConflict). IsBegunBy c.args.soft c.choose_first.new.encoding o) c.in_default.is c.in_ok-refusal.ensures.begun in
+    let turn = turn_has c.args.soft c.args.encoding.now c.choose_first.new.encoding c.requires.turn c.in_ok-refusal.ensures.turn in
+    decided_of c.args.soft c.decide.new.encoding c.in_ok-refusal-2.refusal c.in_ok-refusal-2.ensures.decided (soft_kept c.args.soft c.choose_first.new.encoding c.decide.new.encoding turn has c.in_ok-refusal-2.ensures.first)

@@ -5,7 +5,7 @@ use Rattle.resolvo_encoder.proofs.Bases.{turn_then}
 use Rattle.resolvo_turn.specs.Encoder.{IsInOrder}
 use Rattle.resolvo_turn.specs.Turn.{IsDecisionOf}
 use Rattle.resolvo_turn.proofs.AddLemmas.{all_then, needs_parents, needs_then}
-use Rattle.resolvo_turn.proofs.EndLemmas.{chosen_then, finds_goes, finds_then, round_whole}
+use Rattle.resolvo_turn.proofs.EndLemmas.{chosen_then, finds_goes, finds_then, round_complete}
 use Rattle.resolvo_turn.proofs.turn.run_round.Goals as goal
 
 -- ---- where the turn is refused
@@ -26,7 +26,7 @@ pub returns-in-Some-clause-built : goal.returns-in-Some-clause-built
 returns-in-Some-clause-built g c = c.in_ok-decided.ensures.built
 
 pub returns-in-Some-clause-round : goal.returns-in-Some-clause-round
-returns-in-Some-clause-round g c = subst (λ (o : Option FinalConflict). IsDecisionOf c.args.aim.now.wish c.encode_and_decide.new.encoding o) c.in-Some.is c.in_ok-decided.ensures.decided
+returns-in-Some-clause-round g c = subst (λ (o : Option FinalConflict). IsDecisionOf c.args.aim.now.soft c.encode_and_decide.new.encoding o) c.in-Some.is c.in_ok-decided.ensures.decided
 
 -- ---- where something new was found
 
@@ -37,27 +37,27 @@ pub returns-then-has_new-clause-stays : goal.returns-then-has_new-clause-stays
 returns-then-has_new-clause-stays g c = λ root is e.
     let same = g.A.SolvableId.PartialEq.eq in
     let old = c.encode_and_decide.new.encoding in
-    let new = c.look_at_new.new.encoding in
+    let new = c.scan_new.new.encoding in
     (subst (λ (a : g.row.A.Denot). (root : Rules) → IsInOrder same (g.A.PackageSource.packages a) (g.A.PackageSource.orders a) root old → IsInOrder same (g.A.PackageSource.packages a) (g.A.PackageSource.orders a) root new) c.in_ok-decided.ensures.same c.in_ok-has_new.ensures.stays)
     root (c.in_ok-decided.ensures.stays root is e)
 
 pub returns-then-has_new-clause-adds : goal.returns-then-has_new-clause-adds
 returns-then-has_new-clause-adds g c =
-    all_then c.args.encoding.now c.encode_and_decide.new.encoding c.look_at_new.new.encoding c.in_ok-decided.ensures.all.adds (needs_parents c.encode_and_decide.new.encoding c.look_at_new.new.encoding c.in_ok-has_new.ensures.adds)
+    all_then c.args.encoding.now c.encode_and_decide.new.encoding c.scan_new.new.encoding c.in_ok-decided.ensures.all.adds (needs_parents c.encode_and_decide.new.encoding c.scan_new.new.encoding c.in_ok-has_new.ensures.adds)
 
 pub returns-then-has_new-clause-turn : goal.returns-then-has_new-clause-turn
 returns-then-has_new-clause-turn g c =
-    turn_then c.args.aim.now.wish c.args.encoding.now c.encode_and_decide.new.encoding c.look_at_new.new.encoding c.in_ok-decided.ensures.turn (c.in_ok-has_new.ensures.adds.turn c.args.aim.now.wish)
+    turn_then c.args.aim.now.soft c.args.encoding.now c.encode_and_decide.new.encoding c.scan_new.new.encoding c.in_ok-decided.ensures.turn (c.in_ok-has_new.ensures.adds.turn c.args.aim.now.soft)
 
 pub returns-then-has_new-clause-round : goal.returns-then-has_new-clause-round
 returns-then-has_new-clause-round g c =
-    finds_goes c.args.encoding.now c.encode_and_decide.new.encoding c.look_at_new.new.encoding c.in_ok-decided.ensures.all c.in_ok-has_new.ensures.adds (c.in_ok-has_new.ensures.more c.if-has_new.true)
+    finds_goes c.args.encoding.now c.encode_and_decide.new.encoding c.scan_new.new.encoding c.in_ok-decided.ensures.all c.in_ok-has_new.ensures.adds (c.in_ok-has_new.ensures.more c.if-has_new.true)
 
 pub returns-then-has_new-clause-built : goal.returns-then-has_new-clause-built
 returns-then-has_new-clause-built g c = c.in_ok-has_new.ensures.built
 
-pub look_at_all-requires : goal.look_at_all-requires
-look_at_all-requires g c = c.in_ok-has_new.ensures.built
+pub scan_all-requires : goal.scan_all-requires
+scan_all-requires g c = c.in_ok-has_new.ensures.built
 
 -- ---- where something more was found
 
@@ -68,27 +68,27 @@ pub returns-then-has_more-clause-stays : goal.returns-then-has_more-clause-stays
 returns-then-has_more-clause-stays g c = λ root is e.
     let same = g.A.SolvableId.PartialEq.eq in
     let first = c.encode_and_decide.new.encoding in
-    let old = c.look_at_new.new.encoding in
-    let new = c.look_at_all.new.encoding in
+    let old = c.scan_new.new.encoding in
+    let new = c.scan_all.new.encoding in
     let one = subst (λ (a : g.row.A.Denot). (root : Rules) → IsInOrder same (g.A.PackageSource.packages a) (g.A.PackageSource.orders a) root first → IsInOrder same (g.A.PackageSource.packages a) (g.A.PackageSource.orders a) root old) c.in_ok-decided.ensures.same c.in_ok-has_new.ensures.stays in
     let two = subst (λ (a : g.row.A.Denot). (root : Rules) → IsInOrder same (g.A.PackageSource.packages a) (g.A.PackageSource.orders a) root old → IsInOrder same (g.A.PackageSource.packages a) (g.A.PackageSource.orders a) root new) (c.in_ok-has_new.ensures.same ∙ c.in_ok-decided.ensures.same) c.in_ok-has_more.ensures.stays in
     two root (one root (c.in_ok-decided.ensures.stays root is e))
 
 pub returns-then-has_more-clause-adds : goal.returns-then-has_more-clause-adds
 returns-then-has_more-clause-adds g c =
-    all_then c.args.encoding.now c.encode_and_decide.new.encoding c.look_at_all.new.encoding c.in_ok-decided.ensures.all.adds
-    (needs_parents c.encode_and_decide.new.encoding c.look_at_all.new.encoding (needs_then c.encode_and_decide.new.encoding c.look_at_new.new.encoding c.look_at_all.new.encoding c.in_ok-has_new.ensures.adds c.in_ok-has_more.ensures.adds))
+    all_then c.args.encoding.now c.encode_and_decide.new.encoding c.scan_all.new.encoding c.in_ok-decided.ensures.all.adds
+    (needs_parents c.encode_and_decide.new.encoding c.scan_all.new.encoding (needs_then c.encode_and_decide.new.encoding c.scan_new.new.encoding c.scan_all.new.encoding c.in_ok-has_new.ensures.adds c.in_ok-has_more.ensures.adds))
 
 pub returns-then-has_more-clause-turn : goal.returns-then-has_more-clause-turn
 returns-then-has_more-clause-turn g c =
-    turn_then c.args.aim.now.wish c.args.encoding.now c.encode_and_decide.new.encoding c.look_at_all.new.encoding c.in_ok-decided.ensures.turn
-    ((needs_then c.encode_and_decide.new.encoding c.look_at_new.new.encoding c.look_at_all.new.encoding c.in_ok-has_new.ensures.adds c.in_ok-has_more.ensures.adds).turn c.args.aim.now.wish)
+    turn_then c.args.aim.now.soft c.args.encoding.now c.encode_and_decide.new.encoding c.scan_all.new.encoding c.in_ok-decided.ensures.turn
+    ((needs_then c.encode_and_decide.new.encoding c.scan_new.new.encoding c.scan_all.new.encoding c.in_ok-has_new.ensures.adds c.in_ok-has_more.ensures.adds).turn c.args.aim.now.soft)
 
 pub returns-then-has_more-clause-round : goal.returns-then-has_more-clause-round
 returns-then-has_more-clause-round g c =
     let b = c.encode_and_decide.new.encoding in
-    let old = c.look_at_new.new.encoding in
-    let new = c.look_at_all.new.encoding in
+    let old = c.scan_new.new.encoding in
+    let new = c.scan_all.new.encoding in
     finds_goes c.args.encoding.now b new c.in_ok-decided.ensures.all (needs_then b old new c.in_ok-has_new.ensures.adds c.in_ok-has_more.ensures.adds) (finds_then b old new c.in_ok-has_new.ensures.adds (c.in_ok-has_more.ensures.more c.if-has_more.true))
 
 pub returns-then-has_more-clause-built : goal.returns-then-has_more-clause-built
@@ -103,28 +103,28 @@ pub returns-else-has_more-clause-stays : goal.returns-else-has_more-clause-stays
 returns-else-has_more-clause-stays g c = λ root is e.
     let same = g.A.SolvableId.PartialEq.eq in
     let first = c.encode_and_decide.new.encoding in
-    let old = c.look_at_new.new.encoding in
-    let new = c.look_at_all.new.encoding in
+    let old = c.scan_new.new.encoding in
+    let new = c.scan_all.new.encoding in
     let one = subst (λ (a : g.row.A.Denot). (root : Rules) → IsInOrder same (g.A.PackageSource.packages a) (g.A.PackageSource.orders a) root first → IsInOrder same (g.A.PackageSource.packages a) (g.A.PackageSource.orders a) root old) c.in_ok-decided.ensures.same c.in_ok-has_new.ensures.stays in
     let two = subst (λ (a : g.row.A.Denot). (root : Rules) → IsInOrder same (g.A.PackageSource.packages a) (g.A.PackageSource.orders a) root old → IsInOrder same (g.A.PackageSource.packages a) (g.A.PackageSource.orders a) root new) (c.in_ok-has_new.ensures.same ∙ c.in_ok-decided.ensures.same) c.in_ok-has_more.ensures.stays in
     two root (one root (c.in_ok-decided.ensures.stays root is e))
 
 pub returns-else-has_more-clause-adds : goal.returns-else-has_more-clause-adds
 returns-else-has_more-clause-adds g c =
-    all_then c.args.encoding.now c.encode_and_decide.new.encoding c.look_at_all.new.encoding c.in_ok-decided.ensures.all.adds
-    (needs_parents c.encode_and_decide.new.encoding c.look_at_all.new.encoding (needs_then c.encode_and_decide.new.encoding c.look_at_new.new.encoding c.look_at_all.new.encoding c.in_ok-has_new.ensures.adds c.in_ok-has_more.ensures.adds))
+    all_then c.args.encoding.now c.encode_and_decide.new.encoding c.scan_all.new.encoding c.in_ok-decided.ensures.all.adds
+    (needs_parents c.encode_and_decide.new.encoding c.scan_all.new.encoding (needs_then c.encode_and_decide.new.encoding c.scan_new.new.encoding c.scan_all.new.encoding c.in_ok-has_new.ensures.adds c.in_ok-has_more.ensures.adds))
 
 pub returns-else-has_more-clause-turn : goal.returns-else-has_more-clause-turn
 returns-else-has_more-clause-turn g c =
-    turn_then c.args.aim.now.wish c.args.encoding.now c.encode_and_decide.new.encoding c.look_at_all.new.encoding c.in_ok-decided.ensures.turn
-    ((needs_then c.encode_and_decide.new.encoding c.look_at_new.new.encoding c.look_at_all.new.encoding c.in_ok-has_new.ensures.adds c.in_ok-has_more.ensures.adds).turn c.args.aim.now.wish)
+    turn_then c.args.aim.now.soft c.args.encoding.now c.encode_and_decide.new.encoding c.scan_all.new.encoding c.in_ok-decided.ensures.turn
+    ((needs_then c.encode_and_decide.new.encoding c.scan_new.new.encoding c.scan_all.new.encoding c.in_ok-has_new.ensures.adds c.in_ok-has_more.ensures.adds).turn c.args.aim.now.soft)
 
 pub returns-else-has_more-clause-round : goal.returns-else-has_more-clause-round
 returns-else-has_more-clause-round g c =
     let b = c.encode_and_decide.new.encoding in
     let found = c.in_ok-has_more.ensures.none c.if-has_more.false in
-    round_whole g.A.SolvableId.PartialEq.eq c.args.encoding.now b c.look_at_all.new.encoding c.requires.rooted c.in_ok-decided.ensures.all (chosen_then b c.look_at_new.new.encoding c.look_at_all.new.encoding (c.in_ok-has_new.ensures.none c.if-has_new.false) found.chosen) c.args.aim.now.wish
-    (subst (λ (o : Option FinalConflict). IsDecisionOf c.args.aim.now.wish b o) c.in_default.is c.in_ok-decided.ensures.decided) found.none found.spent
+    round_complete g.A.SolvableId.PartialEq.eq c.args.encoding.now b c.scan_all.new.encoding c.requires.rooted c.in_ok-decided.ensures.all (chosen_then b c.scan_new.new.encoding c.scan_all.new.encoding (c.in_ok-has_new.ensures.none c.if-has_new.false) found.chosen) c.args.aim.now.soft
+    (subst (λ (o : Option FinalConflict). IsDecisionOf c.args.aim.now.soft b o) c.in_default.is c.in_ok-decided.ensures.decided) found.none found.spent
 
 pub returns-else-has_more-clause-built : goal.returns-else-has_more-clause-built
 returns-else-has_more-clause-built g c = c.in_ok-has_more.ensures.built

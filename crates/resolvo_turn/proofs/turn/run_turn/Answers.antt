@@ -8,69 +8,69 @@ use Rattle.resolvo_turn.proofs.AddLemmas.{all_none, all_then}
 use Rattle.resolvo_turn.proofs.EndLemmas.{fewer_left, still_rooted}
 use Rattle.resolvo_turn.proofs.turn.run_turn.Goals as goal
 
-pub loop-looked-init : goal.loop-looked-init
-loop-looked-init g c = record { same = refl; stays = λ root is e. e; adds = all_none c.args.encoding.now; built = c.requires.built; rooted = c.requires.rooted; turn = turn_same c.args.wish c.args.encoding.now }
+pub loop-scan-init : goal.loop-scan-init
+loop-scan-init g c = record { same = refl; stays = λ root is e. e; adds = all_none c.args.encoding.now; built = c.requires.built; rooted = c.requires.rooted; turn = turn_same c.args.soft c.args.encoding.now }
 
 pub run_round-requires-clause-built : goal.run_round-requires-clause-built
-run_round-requires-clause-built g c = c.loop-looked.invariant.built
+run_round-requires-clause-built g c = c.loop-scan.invariant.built
 
 pub run_round-requires-clause-rooted : goal.run_round-requires-clause-rooted
-run_round-requires-clause-rooted g c = c.loop-looked.invariant.rooted
+run_round-requires-clause-rooted g c = c.loop-scan.invariant.rooted
 
-pub loop-looked-smaller : goal.loop-looked-smaller
-loop-looked-smaller g c =
-    fewer_left c.loop-looked.encoding c.run_round.new.encoding c.in_ok-run_round.ensures.adds (subst (λ (r : Round). IsRound g.A.SolvableId.PartialEq.eq c.args.wish c.loop-looked.encoding c.run_round.new.encoding r) c.in-Goes.is c.in_ok-run_round.ensures.round)
+pub loop-scan-smaller : goal.loop-scan-smaller
+loop-scan-smaller g c =
+    fewer_left c.loop-scan.encoding c.run_round.new.encoding c.in_ok-run_round.ensures.adds (subst (λ (r : Round). IsRound g.A.SolvableId.PartialEq.eq c.args.soft c.loop-scan.encoding c.run_round.new.encoding r) c.in-Continues.is c.in_ok-run_round.ensures.round)
 
-pub loop-looked-preserved : goal.loop-looked-preserved
-loop-looked-preserved g c =
+pub loop-scan-preserved : goal.loop-scan-preserved
+loop-scan-preserved g c =
     let same = g.A.SolvableId.PartialEq.eq in
-    let before = c.loop-looked.invariant in
-    let stays = subst (λ (a : g.row.A.Denot). (root : Rules) → IsRoot c.args.requirements.now c.args.constraints.now root → IsInOrder same (g.A.PackageSource.packages a) (g.A.PackageSource.orders a) root c.loop-looked.encoding
+    let before = c.loop-scan.invariant in
+    let stays = subst (λ (a : g.row.A.Denot). (root : Rules) → IsRoot c.args.requirements.now c.args.constraints.now root → IsInOrder same (g.A.PackageSource.packages a) (g.A.PackageSource.orders a) root c.loop-scan.encoding
     → IsInOrder same (g.A.PackageSource.packages a) (g.A.PackageSource.orders a) root c.run_round.new.encoding) before.same c.in_ok-run_round.ensures.stays in
     record {
       same = c.in_ok-run_round.ensures.same ∙ before.same;
       stays = λ root is e. stays root is (before.stays root is e);
-      adds = all_then c.args.encoding.now c.loop-looked.encoding c.run_round.new.encoding before.adds c.in_ok-run_round.ensures.adds;
+      adds = all_then c.args.encoding.now c.loop-scan.encoding c.run_round.new.encoding before.adds c.in_ok-run_round.ensures.adds;
       built = c.in_ok-run_round.ensures.built;
-      turn = turn_then c.args.wish c.args.encoding.now c.loop-looked.encoding c.run_round.new.encoding before.turn c.in_ok-run_round.ensures.turn;
-      rooted = still_rooted c.loop-looked.encoding c.run_round.new.encoding before.rooted c.in_ok-run_round.ensures.adds;
+      turn = turn_then c.args.soft c.args.encoding.now c.loop-scan.encoding c.run_round.new.encoding before.turn c.in_ok-run_round.ensures.turn;
+      rooted = still_rooted c.loop-scan.encoding c.run_round.new.encoding before.rooted c.in_ok-run_round.ensures.adds;
     }
 
-pub returns-in-Whole-clause-stays : goal.returns-in-Whole-clause-stays
-returns-in-Whole-clause-stays g c = λ root is e.
+pub returns-in-Complete-clause-stays : goal.returns-in-Complete-clause-stays
+returns-in-Complete-clause-stays g c = λ root is e.
     let same = g.A.SolvableId.PartialEq.eq in
-    (subst (λ (a : g.row.A.Denot). (root : Rules) → IsRoot c.args.requirements.now c.args.constraints.now root → IsInOrder same (g.A.PackageSource.packages a) (g.A.PackageSource.orders a) root c.loop-looked.encoding
-    → IsInOrder same (g.A.PackageSource.packages a) (g.A.PackageSource.orders a) root c.run_round.new.encoding) c.loop-looked.invariant.same c.in_ok-run_round.ensures.stays) root is (c.loop-looked.invariant.stays root is e)
+    (subst (λ (a : g.row.A.Denot). (root : Rules) → IsRoot c.args.requirements.now c.args.constraints.now root → IsInOrder same (g.A.PackageSource.packages a) (g.A.PackageSource.orders a) root c.loop-scan.encoding
+    → IsInOrder same (g.A.PackageSource.packages a) (g.A.PackageSource.orders a) root c.run_round.new.encoding) c.loop-scan.invariant.same c.in_ok-run_round.ensures.stays) root is (c.loop-scan.invariant.stays root is e)
 
-pub returns-in-Whole-clause-same : goal.returns-in-Whole-clause-same
-returns-in-Whole-clause-same g c = c.in_ok-run_round.ensures.same ∙ c.loop-looked.invariant.same
+pub returns-in-Complete-clause-same : goal.returns-in-Complete-clause-same
+returns-in-Complete-clause-same g c = c.in_ok-run_round.ensures.same ∙ c.loop-scan.invariant.same
 
-pub returns-in-Whole-clause-adds : goal.returns-in-Whole-clause-adds
-returns-in-Whole-clause-adds g c = all_then c.args.encoding.now c.loop-looked.encoding c.run_round.new.encoding c.loop-looked.invariant.adds c.in_ok-run_round.ensures.adds
+pub returns-in-Complete-clause-adds : goal.returns-in-Complete-clause-adds
+returns-in-Complete-clause-adds g c = all_then c.args.encoding.now c.loop-scan.encoding c.run_round.new.encoding c.loop-scan.invariant.adds c.in_ok-run_round.ensures.adds
 
-pub returns-in-Whole-clause-ended : goal.returns-in-Whole-clause-ended
-returns-in-Whole-clause-ended g c = subst (λ (r : Round). IsRound g.A.SolvableId.PartialEq.eq c.args.wish c.loop-looked.encoding c.run_round.new.encoding r) c.in-Whole.is c.in_ok-run_round.ensures.round
+pub returns-in-Complete-clause-ended : goal.returns-in-Complete-clause-ended
+returns-in-Complete-clause-ended g c = subst (λ (r : Round). IsRound g.A.SolvableId.PartialEq.eq c.args.soft c.loop-scan.encoding c.run_round.new.encoding r) c.in-Complete.is c.in_ok-run_round.ensures.round
 
 pub returns-in-Refused-clause-stays : goal.returns-in-Refused-clause-stays
 returns-in-Refused-clause-stays g c = λ root is e.
     let same = g.A.SolvableId.PartialEq.eq in
-    (subst (λ (a : g.row.A.Denot). (root : Rules) → IsRoot c.args.requirements.now c.args.constraints.now root → IsInOrder same (g.A.PackageSource.packages a) (g.A.PackageSource.orders a) root c.loop-looked.encoding
-    → IsInOrder same (g.A.PackageSource.packages a) (g.A.PackageSource.orders a) root c.run_round.new.encoding) c.loop-looked.invariant.same c.in_ok-run_round.ensures.stays) root is (c.loop-looked.invariant.stays root is e)
+    (subst (λ (a : g.row.A.Denot). (root : Rules) → IsRoot c.args.requirements.now c.args.constraints.now root → IsInOrder same (g.A.PackageSource.packages a) (g.A.PackageSource.orders a) root c.loop-scan.encoding
+    → IsInOrder same (g.A.PackageSource.packages a) (g.A.PackageSource.orders a) root c.run_round.new.encoding) c.loop-scan.invariant.same c.in_ok-run_round.ensures.stays) root is (c.loop-scan.invariant.stays root is e)
 
 pub returns-in-Refused-clause-same : goal.returns-in-Refused-clause-same
-returns-in-Refused-clause-same g c = c.in_ok-run_round.ensures.same ∙ c.loop-looked.invariant.same
+returns-in-Refused-clause-same g c = c.in_ok-run_round.ensures.same ∙ c.loop-scan.invariant.same
 
 pub returns-in-Refused-clause-adds : goal.returns-in-Refused-clause-adds
-returns-in-Refused-clause-adds g c = all_then c.args.encoding.now c.loop-looked.encoding c.run_round.new.encoding c.loop-looked.invariant.adds c.in_ok-run_round.ensures.adds
+returns-in-Refused-clause-adds g c = all_then c.args.encoding.now c.loop-scan.encoding c.run_round.new.encoding c.loop-scan.invariant.adds c.in_ok-run_round.ensures.adds
 
 pub returns-in-Refused-clause-ended : goal.returns-in-Refused-clause-ended
-returns-in-Refused-clause-ended g c = subst (λ (r : Round). IsRound g.A.SolvableId.PartialEq.eq c.args.wish c.loop-looked.encoding c.run_round.new.encoding r) c.in-Refused.is c.in_ok-run_round.ensures.round
+returns-in-Refused-clause-ended g c = subst (λ (r : Round). IsRound g.A.SolvableId.PartialEq.eq c.args.soft c.loop-scan.encoding c.run_round.new.encoding r) c.in-Refused.is c.in_ok-run_round.ensures.round
 
-pub returns-in-Whole-clause-turn : goal.returns-in-Whole-clause-turn
-returns-in-Whole-clause-turn g c = turn_then c.args.wish c.args.encoding.now c.loop-looked.encoding c.run_round.new.encoding c.loop-looked.invariant.turn c.in_ok-run_round.ensures.turn
+pub returns-in-Complete-clause-turn : goal.returns-in-Complete-clause-turn
+returns-in-Complete-clause-turn g c = turn_then c.args.soft c.args.encoding.now c.loop-scan.encoding c.run_round.new.encoding c.loop-scan.invariant.turn c.in_ok-run_round.ensures.turn
 
 pub returns-in-Refused-clause-turn : goal.returns-in-Refused-clause-turn
-returns-in-Refused-clause-turn g c = turn_then c.args.wish c.args.encoding.now c.loop-looked.encoding c.run_round.new.encoding c.loop-looked.invariant.turn c.in_ok-run_round.ensures.turn
+returns-in-Refused-clause-turn g c = turn_then c.args.soft c.args.encoding.now c.loop-scan.encoding c.run_round.new.encoding c.loop-scan.invariant.turn c.in_ok-run_round.ensures.turn
 
 pub run_round-requires-clause-turn : goal.run_round-requires-clause-turn
-run_round-requires-clause-turn g c = turn_has c.args.wish c.args.encoding.now c.loop-looked.encoding c.requires.turn c.loop-looked.invariant.turn
+run_round-requires-clause-turn g c = turn_has c.args.soft c.args.encoding.now c.loop-scan.encoding c.requires.turn c.loop-scan.invariant.turn

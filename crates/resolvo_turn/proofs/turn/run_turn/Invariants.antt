@@ -7,16 +7,16 @@ use Rattle.resolvo_turn.specs.Turn.{IsRooted, rounds_left}
 use Rattle.resolvo_turn.proofs.turn.run_turn.Given as goal
 
 -- the encoding is one of the packages, and the root is the first parent
-abbrev pub invariant-loop-looked : goal.invariant-loop-looked
-invariant-loop-looked g l = record {
+abbrev pub invariant-loop-scan : goal.invariant-loop-scan
+invariant-loop-scan g l = record {
   same : l.answers ≡ l.initial.answers;
   stays : (root : Rules) → IsRoot l.requirements l.constraints root → IsInOrder g.A.SolvableId.PartialEq.eq (g.A.PackageSource.packages l.initial.answers) (g.A.PackageSource.orders l.initial.answers) root l.initial.encoding
       → IsInOrder g.A.SolvableId.PartialEq.eq (g.A.PackageSource.packages l.initial.answers) (g.A.PackageSource.orders l.initial.answers) root l.encoding;
   adds : AddsParents l.initial.encoding l.encoding;
   built : IsBuilt l.encoding;
-  turn : KeepsTurn l.fn.wish l.initial.encoding l.encoding;
+  turn : KeepsTurn l.fn.soft l.initial.encoding l.encoding;
   rooted : IsRooted l.encoding;
 }
 
-abbrev pub decreases-loop-looked : goal.decreases-loop-looked
-decreases-loop-looked g l = rounds_left l.encoding
+abbrev pub decreases-loop-scan : goal.decreases-loop-scan
+decreases-loop-scan g l = rounds_left l.encoding

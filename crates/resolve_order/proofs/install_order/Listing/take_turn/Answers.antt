@@ -24,6 +24,6 @@ returns-in_ok-leave_out-in-LeftOut c = λ before chosen is h one wish.
     let x = c.args.self.now in
     let was = c.in-LeftOut.is in
     let same : chosen ≡ before = subst (λ (t : Turn). chosen ≡ before ++ chosen_by (turn_of vs t)) was is ∙ append-nil before in
-    let told = subst (IsWishOf vs request chosen) was wish in
+    let is_wish = subst (IsWishOf vs request chosen) was wish in
     subst (λ (t : Turn). TakesTurn catalogue request chosen (turn_of vs t) x c.leave_out.new.self) (sym was)
-    (c.in_ok-leave_out-in-LeftOut.ensures catalogue request chosen (subst (IsListing catalogue request x) (sym same) h) (slice_get_within vs c.in-LeftOut.wish.1.0 told.0 told.1))
+    (c.in_ok-leave_out-in-LeftOut.ensures catalogue request chosen (subst (IsListing catalogue request x) (sym same) h) (slice_get_within vs c.in-LeftOut.wish.1.0 is_wish.0 is_wish.1))

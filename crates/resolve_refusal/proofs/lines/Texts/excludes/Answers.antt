@@ -4,4 +4,4 @@ use Rattle.resolvo_text.specs.Line.{Exclude}
 use Rattle.resolve_refusal.proofs.lines.Texts.excludes.Goals as goal
 
 pub returns-in-None : goal.returns-in-None
-returns-in-None c = λ v at. (λ e. absurd (false≢true e), λ says. sym (c.in-None.ensures.none (Exclude v c.args.word.now) says))
+returns-in-None c = λ v at. (λ e. absurd (false≢true e), λ content. sym (c.in-None.ensures.none (Exclude v c.args.word.now) content))

@@ -1,4 +1,4 @@
-use Rattle.resolve_refusal.proofs.BarLemmas.{marks_least}
+use Rattle.resolve_refusal.proofs.ForbidLemmas.{marks_least}
 use Rattle.resolve_refusal.proofs.lines.Texts.word_line.Goals as goal
 
 pub returns : goal.returns

@@ -3,7 +3,7 @@ use Rattle.resolvo_packages.specs.PackageSource.{packages_by, orders_by}
 use Rattle.std.specs.Option.{option_map}
 use Rattle.resolvo.specs.Conflicts.{left_of}
 use Rattle.resolvo.specs.Solver.{IsAnswer, root_of}
-use Rattle.resolvo.specs.Wished.{AreCandidates}
+use Rattle.resolvo.specs.SoftTurns.{AreCandidates}
 use Rattle.resolvo.proofs.Answered.{kept_answers, kept_count, kept_ended, kept_leaves, kept_once, kept_provider, kept_unstopped}
 use Rattle.resolvo.proofs.solver.Solver.solve.Goals as goal
 

@@ -1,19 +1,19 @@
-use Rattle.resolvo_catalogue.specs.Told.{told_of}
-use Rattle.resolvo_catalogue.proofs.StandLemmas.{interns_on}
-use Rattle.resolvo_catalogue.proofs.TellLemmas.{lines_next, lines_step, tells_none}
+use Rattle.resolvo_catalogue.specs.Dependencies.{deps_of}
+use Rattle.resolvo_catalogue.proofs.GrowLemmas.{interns_on}
+use Rattle.resolvo_catalogue.proofs.DependencyLemmas.{lines_next, lines_step, deps_none}
 use Rattle.resolvo_catalogue.proofs.dependencies.VersionDependencies.of_lines.Goals as goal
 use Rattle.resolvo_catalogue.proofs.dependencies.VersionDependencies.of_lines.Goals.{in-Some+in_ok-add, in_default}
 
 pub loop-line-preserved : goal.loop-line-preserved
 loop-line-preserved c = elim c.match-rule.branch [
   | in-Some+in_ok-add w ↦
-      let stated = rw w.in-Some.is at c.rule.ensures.stated in (
-        rw (w.ids-is, w.told-is, lines_step c.args.catalogue.now c.args.lines.now c.loop-line.line-index _ _ c.loop-line-test.true stated.1) (w.in_ok-add.ensures.tells _ _ stated.0 _ stated.2 c.loop-line.invariant.0),
+      let of_line = rw w.in-Some.is at c.rule.ensures.of_line in (
+        rw (w.ids-is, w.deps-is, lines_step c.args.catalogue.now c.args.lines.now c.loop-line.line-index _ _ c.loop-line-test.true of_line.1) (w.in_ok-add.ensures.as_ids _ _ of_line.0 _ of_line.2 c.loop-line.invariant.0),
         rw w.ids-is (interns_on _ _ _ c.loop-line.invariant.1 w.in_ok-add.ensures.interns),
       )
   | in_default w ↦
       let none = rw w.in_default.is at c.rule.ensures.none in (
-        rw (w.ids-is, w.told-is, lines_next c.args.catalogue.now c.args.lines.now c.loop-line.line-index 0 c.loop-line-test.true) (tells_none c.loop-line.ids (told_of c.loop-line.told) c.args.catalogue.now _ _ c.loop-line.invariant.0 none),
+        rw (w.ids-is, w.deps-is, lines_next c.args.catalogue.now c.args.lines.now c.loop-line.line-index 0 c.loop-line-test.true) (deps_none c.loop-line.ids (deps_of c.loop-line.deps) c.args.catalogue.now _ _ c.loop-line.invariant.0 none),
         rw w.ids-is c.loop-line.invariant.1,
       )
 ]

@@ -1,7 +1,7 @@
 use Rattle.std.proofs.Common.{take}
 use Rattle.resolvo_catalogue.specs.Ids.{Interns}
-use Rattle.resolvo_catalogue.specs.Told.{Tells, told_of, lines_at}
+use Rattle.resolvo_catalogue.specs.Dependencies.{AreDependenciesOf, deps_of, lines_at}
 use Rattle.resolvo_catalogue.proofs.dependencies.VersionDependencies.of_lines.Given as goal
 
 abbrev pub invariant-loop-line : goal.invariant-loop-line
-invariant-loop-line l = Tells l.ids (lines_at l.catalogue (take l.line-index l.lines)) (told_of l.told) × Interns l.initial.ids l.ids
+invariant-loop-line l = AreDependenciesOf l.ids (lines_at l.catalogue (take l.line-index l.lines)) (deps_of l.deps) × Interns l.initial.ids l.ids

@@ -1,4 +1,4 @@
-use Rattle.resolvo_catalogue.proofs.StandLemmas.{condition_stays, condition_within}
+use Rattle.resolvo_catalogue.proofs.GrowLemmas.{condition_stays, condition_within}
 use Rattle.resolvo_catalogue.proofs.id_table.IdTable.+condition.Goals as goal
 
 pub join-requires-clause-left : goal.join-requires-clause-left

@@ -2,7 +2,7 @@ use Rattle.std.proofs.Common.{[], ◌∷◌}
 use Rattle.std.proofs.lemmas.List.{map_more}
 use Rattle.resolvo_text.specs.View.{spec_of}
 use Rattle.resolvo_catalogue.specs.Ids.{IsSpec}
-use Rattle.resolvo_catalogue.proofs.StandLemmas.{specs_stay, each_more, interns_on}
+use Rattle.resolvo_catalogue.proofs.GrowLemmas.{specs_stay, each_more, interns_on}
 use Rattle.resolvo_catalogue.proofs.id_table.IdTable.specs.Goals as goal
 
 pub loop-spec-preserved : goal.loop-spec-preserved

@@ -1,4 +1,4 @@
-use Rattle.resolvo_catalogue.proofs.StandLemmas.{grows_on}
+use Rattle.resolvo_catalogue.proofs.GrowLemmas.{grows_on}
 use Rattle.resolvo_catalogue.proofs.FoundLemmas.{extends_to}
 use Rattle.resolvo_catalogue.proofs.id_table.IdTable.version.Goals as goal
 

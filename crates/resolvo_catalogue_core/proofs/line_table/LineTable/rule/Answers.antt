@@ -1,18 +1,18 @@
 use Rattle.std.proofs.Common.{◌∙◌, sym, ap, Option}
 use Rattle.std.specs.Prelude.{option_and_then}
 use Rattle.resolvo_catalogue_core.specs.declared.line_table.StoredLine.{StoredLine}
-use Rattle.resolvo_catalogue_core.specs.Held.{rule_of, said_in}
+use Rattle.resolvo_catalogue_core.specs.Held.{rule_of, kind_in}
 use Rattle.resolvo_catalogue_core.proofs.HeldLemmas.{rule_held, rule_placed, no_rule_held}
 use Rattle.resolvo_catalogue_core.proofs.line_table.LineTable.rule.Goals as goal
 
 pub returns-in-Rule : goal.returns-in-Rule
 returns-in-Rule c =
     let rules = c.args.self.now.rules.items in
-    let states = λ (h : StoredLine). rule_of (said_in rules h) in
-    c.rule_at.ensures ∙ sym (rule_held rules c.args.self.now.held.items c.args.line ∙ ap (λ (o : Option StoredLine). option_and_then states o) (sym c.in_ok-place.ensures) ∙ ap states c.in-Rule.is ∙ rule_placed _)
+    let rule_here = λ (h : StoredLine). rule_of (kind_in rules h) in
+    c.rule_at.ensures ∙ sym (rule_held rules c.args.self.now.held.items c.args.line ∙ ap (λ (o : Option StoredLine). option_and_then rule_here o) (sym c.in_ok-place.ensures) ∙ ap rule_here c.in-Rule.is ∙ rule_placed _)
 
 pub returns-in_default : goal.returns-in_default
 returns-in_default c =
     let rules = c.args.self.now.rules.items in
-    let states = λ (h : StoredLine). rule_of (said_in rules h) in
-    sym (rule_held rules c.args.self.now.held.items c.args.line ∙ ap (λ (o : Option StoredLine). option_and_then states o) (sym c.in_ok-place.ensures) ∙ no_rule_held rules c.in_ok-place.field-0.now c.in_default.not-Rule)
+    let rule_here = λ (h : StoredLine). rule_of (kind_in rules h) in
+    sym (rule_held rules c.args.self.now.held.items c.args.line ∙ ap (λ (o : Option StoredLine). option_and_then rule_here o) (sym c.in_ok-place.ensures) ∙ no_rule_held rules c.in_ok-place.field-0.now c.in_default.not-Rule)

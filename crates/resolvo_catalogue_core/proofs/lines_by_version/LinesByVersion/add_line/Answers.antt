@@ -4,7 +4,7 @@ use Rattle.std.proofs.lemmas.List.{length-append, length-map}
 use Rattle.std.proofs.lemmas.Option.{slice_get-get_or}
 use Rattle.resolvo_catalogue_core.specs.LinesByVersion.{lists_of}
 use Rattle.resolvo_catalogue_core.specs.declared.lines_by_version.Place.{Place}
-use Rattle.resolvo_catalogue_core.proofs.BelongingLemmas.{added}
+use Rattle.resolvo_catalogue_core.proofs.OwnedLemmas.{added}
 use Rattle.resolvo_catalogue_core.proofs.lines_by_version.LinesByVersion.add_line.Goals as goal
 
 pub returns-clause-added : goal.returns-clause-added

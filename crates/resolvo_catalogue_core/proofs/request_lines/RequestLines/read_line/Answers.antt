@@ -8,5 +8,5 @@ use Rattle.resolvo_catalogue_core.proofs.request_lines.RequestLines.read_line.Go
 
 pub returns-clause-fault : goal.returns-clause-fault
 returns-clause-fault c = λ e line p.
-    let same = one_line c.args.text.now line (view c.in_ok-line.line) p.says c.in_ok-line.ensures.says in
+    let same = one_line c.args.text.now line (view c.in_ok-line.line) p.parsed c.in_ok-line.ensures.parsed in
     c.add.ensures.fault e (subst (λ (l : Line). MayFollowInRequest c.args.catalogue.now (asked_lines c.args.self.now) l) same p.place)

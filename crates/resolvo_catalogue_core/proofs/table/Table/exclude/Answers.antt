@@ -14,5 +14,5 @@ returns-clause-placed c = exclude_placed c.args.self.now c.requires.table (versi
 
 pub returns-clause-ok : goal.returns-clause-ok
 returns-clause-ok c =
-    exclude c.args.self.now (record c.args.self.now { said = c.push.new.self; excluded = c.insert.new.self }) c.args.line c.in_ok-version.version (version_of c.args.version) c.args.word c.requires.table c.requires.line
+    exclude c.args.self.now (record c.args.self.now { line_kinds = c.push.new.self; excluded = c.insert.new.self }) c.args.line c.in_ok-version.version (version_of c.args.version) c.args.word c.requires.table c.requires.line
     c.in_ok-version.ensures.found (sym c.is_excluded.ensures ∙ c.if-is_excluded.false) c.in_ok-push.ensures (updates_number c.in_ok-version.version.0 c.args.self.now.excluded c.insert.new.self _ c.in_ok-insert.ensures.updates.0)

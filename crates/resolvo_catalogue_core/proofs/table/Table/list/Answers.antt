@@ -19,11 +19,11 @@ overflow_cast-number c = omega (arith, versions_few c.args.self.now c.requires.t
 pub returns-clause-ok : goal.returns-clause-ok
 returns-clause-ok c =
     let t = c.args.self.now in
-    let u = record t { versions = c.push.new.self; said = c.push-2.new.self; packages = c.add_version.new.packages; belonging = c.add_version-2.new.self } in
+    let u = record t { versions = c.push.new.self; line_kinds = c.push-2.new.self; packages = c.add_version.new.packages; owned = c.add_version-2.new.self } in
     let number : c.len.result ≡ length (versions_in c.args.self.now) = omega (arith, t.versions.ok, c.len.ensures, length-map t.versions.items pair_version) in
     let listed = ap (λ vs. map pair_version vs) c.in_ok-push.ensures.items ∙ map_push pair_version t.versions.items (record { 0 = c.args.version.name; 1 = c.args.version.number }) in
-    let kept = empty_more t.belonging c.add_version-2.new.self c.in_ok-add_version-2.ensures in
-    let as_many : length c.add_version-2.new.self ≡ length t.belonging + 1 = omega (arith, ap (λ xs. length xs) c.in_ok-add_version-2.ensures, length-append t.belonging ([] ∷ [])) in
+    let kept = empty_more t.owned c.add_version-2.new.self c.in_ok-add_version-2.ensures in
+    let as_many : length c.add_version-2.new.self ≡ length t.owned + 1 = omega (arith, ap (λ xs. length xs) c.in_ok-add_version-2.ensures, length-append t.owned ([] ∷ [])) in
     list t u (record { 0 = c.len.result }) (version_of c.args.version) c.requires.table number (unlisted_by_number t c.requires.table (version_of c.args.version) (was_new c.in_ok-add_version.field-0 _ c.in_ok-add_version.ensures.new c.if-not-branch.false)) (c.in_ok-add_version.ensures.put c.if-not-branch.false) listed c.in_ok-push-2.ensures kept as_many
 
 pub add_version-requires : goal.add_version-requires

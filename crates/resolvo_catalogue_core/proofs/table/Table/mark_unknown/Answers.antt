@@ -18,5 +18,5 @@ returns-clause-placed c =
 pub returns-clause-ok : goal.returns-clause-ok
 returns-clause-ok c =
     let owner = c.in_ok-version.ensures.found in
-    mark_unknown c.args.self.now (record c.args.self.now { said = c.push.new.self; belonging = c.add_line.new.self; unknown = c.insert.new.self }) c.args.line c.in_ok-version.version owner.0 c.args.word c.requires.table c.requires.line
+    mark_unknown c.args.self.now (record c.args.self.now { line_kinds = c.push.new.self; owned = c.add_line.new.self; unknown = c.insert.new.self }) c.args.line c.in_ok-version.version owner.0 c.args.word c.requires.table c.requires.line
     owner.1 owner.2 (sym c.is_unknown.ensures ∙ c.if-is_unknown.false) c.in_ok-push.ensures c.in_ok-add_line.ensures.added c.in_ok-add_line.ensures.same (updates_number c.in_ok-version.version.0 c.args.self.now.unknown c.insert.new.self _ c.in_ok-insert.ensures.updates.0)

@@ -1,5 +1,5 @@
 use Rattle.std.proofs.Common.{sym, ◌∙◌}
-use Rattle.resolvo_catalogue_core.proofs.BarLemmas.{other_lock, own_lock, no_lock}
+use Rattle.resolvo_catalogue_core.proofs.ForbidLemmas.{other_lock, own_lock, no_lock}
 use Rattle.resolvo_catalogue_core.proofs.table.Table.other_lock.Goals as goal
 
 pub returns-then-locks_another : goal.returns-then-locks_another

@@ -6,4 +6,4 @@ pub returns-clause-seen : goal.returns-clause-seen
 returns-clause-seen c =
     let n = c.common-common.result in
     let es = c.args.trail.now in
-    (drop n es, sym (ap (λ xs. xs ++ drop n es) (c.go_back.ensures.seen ∙ c.common-common.ensures.same) ∙ take-append-drop n es))
+    (drop n es, sym (ap (λ xs. xs ++ drop n es) (c.undo_to.ensures.seen ∙ c.common-common.ensures.same) ∙ take-append-drop n es))

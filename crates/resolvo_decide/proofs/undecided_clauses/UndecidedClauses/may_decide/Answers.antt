@@ -8,7 +8,7 @@ use Rattle.resolvo_decide.proofs.FitLemmas.{read_nothing, read_fits}
 use Rattle.resolvo_decide.proofs.undecided_clauses.UndecidedClauses.may_decide.Goals as goal
 
 pub returns-clause-nothing : goal.returns-clause-nothing
-returns-clause-nothing g c = λ shut score q at.
+returns-clause-nothing g c = λ closed score q at.
     read_nothing c.args.lists.now (value_at c.args.values.now) c.args.self.now.seen.items c.requires.values c.args.queue.now c.args.position _ c.requires.within c.found-state.result c.found-state.ensures (sym c.is_open.ensures ∙ c.if-is_open.false) score q at
 
 pub returns-clause-fits : goal.returns-clause-fits

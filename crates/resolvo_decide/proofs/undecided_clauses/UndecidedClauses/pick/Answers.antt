@@ -3,7 +3,7 @@ use Rattle.resolvo_store_core.specs.Pick.{pick_after}
 use Rattle.resolvo_store_core.specs.Trail.{value_in}
 use Rattle.resolvo_store_core.specs.Values.{value_at}
 use Rattle.resolvo_decide.specs.Needs.{literals_in}
-use Rattle.resolvo_decide.proofs.FitLemmas.{fits_same, pick_taken, pick_passed, pick_shut, pick_final}
+use Rattle.resolvo_decide.proofs.FitLemmas.{fits_same, pick_taken, pick_passed, pick_closed, pick_final}
 use Rattle.resolvo_decide.proofs.undecided_clauses.UndecidedClauses.pick.Goals.{then-may_decide+else-is_final, else-may_decide}
 use Rattle.resolvo_decide.proofs.undecided_clauses.UndecidedClauses.pick.Goals as goal
 
@@ -11,7 +11,7 @@ pub loop-position-init : goal.loop-position-init
 loop-position-init g c = record {
   fits = fits_same (literals_in c.args.lists.now) c.args.self.now c.args.queue.now c.next_open-position.new.self c.next_open-position.ensures.same c.requires.fits;
   seen = refl;
-  picked = pick_shut c.args.lists.now (value_at c.args.values.now) (g.C.ScoreMap.score_of c.args.scores.now) c.args.self.now c.args.queue.now c.requires.fits c.requires.values _ 0 c.next_open-position.result c.next_open-position.ensures.behind c.next_open-position.ensures.passed;
+  picked = pick_closed c.args.lists.now (value_at c.args.values.now) (g.C.ScoreMap.score_of c.args.scores.now) c.args.self.now c.args.queue.now c.requires.fits c.requires.values _ 0 c.next_open-position.result c.next_open-position.ensures.behind c.next_open-position.ensures.passed;
 }
 
 pub loop-position-preserved : goal.loop-position-preserved
@@ -30,7 +30,7 @@ loop-position-preserved g c =
       | else-may_decide w ↦ pick_passed lists values score best qs i c.loop-position-test.true (c.may_decide.ensures.nothing w.if-may_decide.false score) ∙ ap (λ b. pick_after lists values score b (drop (i + 1) qs)) (sym w.best-is)
     ] in
     let behind : pick_after lists values score more (drop (i + 1) qs) ≡ pick_after lists values score more (drop next.result qs) =
-    pick_shut lists values score c.may_decide.new.self qs c.may_decide.ensures.fits (λ v. c.requires.values v ∙ ap (λ es. value_in es.items v) (sym same)) more (i + 1) next.result next.ensures.behind next.ensures.passed in
+    pick_closed lists values score c.may_decide.new.self qs c.may_decide.ensures.fits (λ v. c.requires.values v ∙ ap (λ es. value_in es.items v) (sym same)) more (i + 1) next.result next.ensures.behind next.ensures.passed in
     record {
       fits = fits_same (literals_in lists) c.may_decide.new.self qs next.new.self next.ensures.same c.may_decide.ensures.fits;
       seen = same;

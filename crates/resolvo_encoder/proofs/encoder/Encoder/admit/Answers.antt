@@ -2,8 +2,8 @@ use Rattle.std.proofs.Common.{◌≡◌, ◌+◌, ◌∷◌, ◌++◌, [], ◌�
 use Rattle.std.proofs.lemmas.List.{take_more, take_all}
 use Rattle.resolvo_soundness.specs.Encoding.{IsExact}
 use Rattle.resolvo_packages.specs.declared.package_source.Offered.{Offered}
-use Rattle.resolvo_encoder.specs.Helped.{Admits}
-use Rattle.resolvo_encoder.proofs.Helps.{admits_none, admits_then}
+use Rattle.resolvo_encoder.specs.AtLeastOneClauses.{Admits}
+use Rattle.resolvo_encoder.proofs.CaseLiterals.{admits_none, admits_then}
 use Rattle.resolvo_encoder.proofs.encoder.Encoder.admit.Goals as goal
 
 pub loop-one-init : goal.loop-one-init
@@ -12,7 +12,7 @@ loop-one-init g c =
     admits_none g.S.PartialEq.eq exact c.args.self.now c.requires
 
 pub admit_one-requires : goal.admit_one-requires
-admit_one-requires g c = c.loop-one.invariant.says.built
+admit_one-requires g c = c.loop-one.invariant.adds.built
 
 pub loop-one-preserved : goal.loop-one-preserved
 loop-one-preserved g c =

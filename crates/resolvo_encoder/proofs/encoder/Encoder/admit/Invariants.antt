@@ -1,5 +1,5 @@
 use Rattle.std.proofs.Common.{take}
-use Rattle.resolvo_encoder.specs.Helped.{Admits}
+use Rattle.resolvo_encoder.specs.AtLeastOneClauses.{Admits}
 use Rattle.resolvo_encoder.proofs.encoder.Encoder.admit.Given as goal
 
 -- those so far have at-least-one clauses, if their packages are recorded

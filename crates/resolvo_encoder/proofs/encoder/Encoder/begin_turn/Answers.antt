@@ -4,7 +4,7 @@ use Rattle.resolvo_state.specs.declared.solver_state.SolverState.{SolverState}
 use Rattle.resolvo_state.specs.SolverState.{IsCoding}
 use Rattle.resolvo_encoder.specs.Encoded.{IsEncoding}
 use Rattle.resolvo_encoder.specs.Steps.{IsBuilt}
-use Rattle.resolvo_encoder.proofs.WishLemmas.{floor_built, floor_keeps}
+use Rattle.resolvo_encoder.proofs.SoftLemmas.{floor_built, floor_keeps}
 use Rattle.resolvo_encoder.proofs.encoder.Encoder.begin_turn.Goals as goal
 
 pub overflow_add-level : goal.overflow_add-level

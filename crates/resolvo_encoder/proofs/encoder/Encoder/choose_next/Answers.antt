@@ -7,7 +7,7 @@ use Rattle.resolvo_encoder.specs.Progress.{AreQuiet}
 use Rattle.resolvo_encoder.specs.declared.encoder.Encoder.{Encoder}
 use Rattle.resolvo_encoder.proofs.DecideLemmas.{choice_taken, none_picked}
 use Rattle.resolvo_encoder.proofs.BuildLemmas.{built_choice, built_rest}
-use Rattle.resolvo_encoder.proofs.StayLemmas.{digits_kept, choice_goes, choice_keeps, choice_gains, goes_then, noted_goes, noted_keeps}
+use Rattle.resolvo_encoder.proofs.StayLemmas.{digits_kept, choice_goes, choice_keeps, choice_gains, goes_then, recorded_goes, recorded_keeps}
 use Rattle.resolvo_encoder.proofs.Bases.{choice_first, first_same, first_then}
 use Rattle.resolvo_encoder.proofs.encoder.Encoder.choose_next.Goals as goal
 
@@ -24,10 +24,10 @@ choose-requires-clause-undecided g c =
 pub returns-in-None-clause-stays : goal.returns-in-None-clause-stays
 returns-in-None-clause-stays g c = λ p root lawful e.
     let exact : IsExact g.S.PartialEq.eq = record { one = g.met.S.Exact.exact; own = g.met.S.Eq.laws.refl } in
-    noted_keeps c.args.self.now c.next_decision.new.self c.in_ok-next_decision.ensures.rest g.S.PartialEq.eq exact p root lawful e
+    recorded_keeps c.args.self.now c.next_decision.new.self c.in_ok-next_decision.ensures.rest g.S.PartialEq.eq exact p root lawful e
 
 pub returns-in-None-clause-goes_on : goal.returns-in-None-clause-goes_on
-returns-in-None-clause-goes_on g c = noted_goes c.args.self.now c.next_decision.new.self c.in_ok-next_decision.ensures.rest c.requires.coding
+returns-in-None-clause-goes_on g c = recorded_goes c.args.self.now c.next_decision.new.self c.in_ok-next_decision.ensures.rest c.requires.coding
 
 pub returns-in-None-clause-built : goal.returns-in-None-clause-built
 returns-in-None-clause-built g c = c.in_ok-next_decision.ensures.built
@@ -50,13 +50,13 @@ pub returns-in_ok-choose-in-Some-clause-stays : goal.returns-in_ok-choose-in-Som
 returns-in_ok-choose-in-Some-clause-stays g c = λ p root lawful e.
     let exact : IsExact g.S.PartialEq.eq = record { one = g.met.S.Exact.exact; own = g.met.S.Eq.laws.refl } in
     let next = c.in_ok-next_decision.ensures.next in
-    let noted = noted_keeps c.args.self.now c.next_decision.new.self c.in_ok-next_decision.ensures.rest g.S.PartialEq.eq exact p root lawful e in
-    let taken = choice_taken g.S.PartialEq.eq p root c.next_decision.new.self noted next.values (g.C.ScoreMap.score_of c.args.scores.now.map) c.in-Some.next next.agree (next.picked ∙ c.in-Some.is) in
-    choice_keeps c.next_decision.new.self c.choose.new.self g.S.PartialEq.eq exact p root lawful c.in-Some.next.candidate c.in-Some.next.clause_id c.in_ok-choose-in-Some.ensures.chosen c.in_ok-choose-in-Some.ensures.kept (inr taken) noted
+    let recorded = recorded_keeps c.args.self.now c.next_decision.new.self c.in_ok-next_decision.ensures.rest g.S.PartialEq.eq exact p root lawful e in
+    let taken = choice_taken g.S.PartialEq.eq p root c.next_decision.new.self recorded next.values (g.C.ScoreMap.score_of c.args.scores.now.map) c.in-Some.next next.agree (next.picked ∙ c.in-Some.is) in
+    choice_keeps c.next_decision.new.self c.choose.new.self g.S.PartialEq.eq exact p root lawful c.in-Some.next.candidate c.in-Some.next.clause_id c.in_ok-choose-in-Some.ensures.chosen c.in_ok-choose-in-Some.ensures.kept (inr taken) recorded
 
 pub returns-in_ok-choose-in-Some-clause-goes_on : goal.returns-in_ok-choose-in-Some-clause-goes_on
 returns-in_ok-choose-in-Some-clause-goes_on g c =
-    goes_then c.args.self.now c.next_decision.new.self (record c.next_decision.new.self { coding = c.choose.new.self }) (noted_goes c.args.self.now c.next_decision.new.self c.in_ok-next_decision.ensures.rest c.requires.coding)
+    goes_then c.args.self.now c.next_decision.new.self (record c.next_decision.new.self { coding = c.choose.new.self }) (recorded_goes c.args.self.now c.next_decision.new.self c.in_ok-next_decision.ensures.rest c.requires.coding)
     (choice_goes c.next_decision.new.self c.choose.new.self c.in-Some.next.candidate c.in-Some.next.clause_id c.in_ok-choose-in-Some.ensures.chosen c.in_ok-choose-in-Some.ensures.kept)
 
 pub returns-in_ok-choose-in-Some-clause-chosen : goal.returns-in_ok-choose-in-Some-clause-chosen
@@ -66,14 +66,14 @@ returns-in_ok-choose-in-Some-clause-chosen g c =
 
 pub returns-in_ok-choose-in-Some-clause-built : goal.returns-in_ok-choose-in-Some-clause-built
 returns-in_ok-choose-in-Some-clause-built g c =
-    let noted = c.next_decision.new.self in
-    let new : Encoder _ _ = record noted { coding = c.choose.new.self } in
+    let recorded = c.next_decision.new.self in
+    let new : Encoder _ _ = record recorded { coding = c.choose.new.self } in
     let built = c.in_ok-next_decision.ensures.built in
-    let goes = choice_goes noted c.choose.new.self c.in-Some.next.candidate c.in-Some.next.clause_id c.in_ok-choose-in-Some.ensures.chosen c.in_ok-choose-in-Some.ensures.kept in
-    built_rest noted new built goes.coding goes.grows (digits_kept noted new built.coding goes) goes.rest refl (_ ∷ [], c.in_ok-choose-in-Some.ensures.chosen.pushed)
+    let goes = choice_goes recorded c.choose.new.self c.in-Some.next.candidate c.in-Some.next.clause_id c.in_ok-choose-in-Some.ensures.chosen c.in_ok-choose-in-Some.ensures.kept in
+    built_rest recorded new built goes.coding goes.grows (digits_kept recorded new built.coding goes) goes.rest refl (_ ∷ [], c.in_ok-choose-in-Some.ensures.chosen.pushed)
 
 pub returns-in_ok-choose-in-Some-clause-first : goal.returns-in_ok-choose-in-Some-clause-first
 returns-in_ok-choose-in-Some-clause-first g c =
-    let noted = c.next_decision.new.self in
-    first_then c.args.self.now noted (record noted { coding = c.choose.new.self }) (ap (λ (x : Encoder _ _). x.coding.search.base_level) c.in_ok-next_decision.ensures.rest)
-    (subst (λ (x : Encoder _ _). KeepsFirst c.args.self.now x) (sym c.in_ok-next_decision.ensures.rest) (first_same c.args.self.now)) (choice_first noted c.choose.new.self _ _ c.in_ok-choose-in-Some.ensures.chosen)
+    let recorded = c.next_decision.new.self in
+    first_then c.args.self.now recorded (record recorded { coding = c.choose.new.self }) (ap (λ (x : Encoder _ _). x.coding.search.base_level) c.in_ok-next_decision.ensures.rest)
+    (subst (λ (x : Encoder _ _). KeepsFirst c.args.self.now x) (sym c.in_ok-next_decision.ensures.rest) (first_same c.args.self.now)) (choice_first recorded c.choose.new.self _ _ c.in_ok-choose-in-Some.ensures.chosen)

@@ -6,8 +6,8 @@ use Rattle.resolvo_encoder.proofs.encoder.Encoder.end_case.Goals as goal
 
 pub returns-clause-fired : goal.returns-clause-fired
 returns-clause-fired g c = record {
-  fired = c.in_ok-add_key.ensures.stands (λ y e. sym (eqb-true c.args.index y e));
-  front = c.in_ok-add_key.ensures.front;
+  fired = c.in_ok-add_key.ensures.present (λ y e. sym (eqb-true c.args.index y e));
+  prefix = c.in_ok-add_key.ensures.prefix;
   fresh = λ none. ap length c.in_ok-add_key.ensures.added ∙ inserted_long (λ m n. m == n) c.args.self.now.fired.keys c.args.index (λ y e. sym (eqb-true c.args.index y e)) none;
   small = let count : c.len-count.result ≡ length c.add_key.new.keys.keys = c.len-count.ensures.len in let small = c.len-count.ensures.small in omega (arith, count, small);
   rest = refl;

@@ -3,52 +3,52 @@ use Rattle.resolvo_sat.specs.State.{count_of}
 use Rattle.std.specs.Prelude.{option_copied}
 use Rattle.resolvo_soundness.specs.Encoding.{IsExact, Rule}
 use Rattle.resolvo_state.specs.declared.atom.ProofAtom.TheVariants.{Gate}
-use Rattle.resolvo_state.specs.declared.clause_kind.Stated.TheVariants as Says
+use Rattle.resolvo_state.specs.declared.clause_kind.ClauseKind.TheVariants as Kind
 use Rattle.resolvo_encoder.specs.declared.encoder.Encoder.{Encoder}
 use Rattle.resolvo_encoder.specs.Steps.{SameButCoding, LacksNumberFor}
-use Rattle.resolvo_state.proofs.Growth.{stands_grow, stands_in_range}
+use Rattle.resolvo_state.proofs.Growth.{represents_grow, represents_in_range}
 use Rattle.resolvo_encoder.proofs.RequireLemmas.{guard_grows}
-use Rattle.resolvo_encoder.proofs.NeedLemmas.{need_keeps, shared_ready, gives_keeps, gate_noted}
-use Rattle.resolvo_encoder.proofs.BuildLemmas.{built_gives, built_states, built_gate, built_in_range, none_in_range}
+use Rattle.resolvo_encoder.proofs.NeedLemmas.{need_keeps, shared_ready, gives_keeps, gate_recorded}
+use Rattle.resolvo_encoder.proofs.BuildLemmas.{built_gives, built_encodes, built_gate, built_in_range, none_in_range}
 use Rattle.resolvo_encoder.proofs.encoder.Encoder.gate.Goals as goal
 
-pub state_need-requires-clause-in_range : goal.state_need-requires-clause-in_range
-state_need-requires-clause-in_range g c =
+pub encode_need-requires-clause-in_range : goal.encode_need-requires-clause-in_range
+encode_need-requires-clause-in_range g c =
     let middle : Encoder _ _ = record c.args.self.now { coding = c.variable.new.self } in
     let gives = c.in_ok-gate.ensures.given in
     built_in_range middle c.in_ok-gate.gate None c.args.requirement (built_gives (Gate c.args.requirement) c.in_ok-gate.gate c.args.self.now c.variable.new.self c.requires gives)
-    (stands_in_range c.variable.new.self c.in_ok-gate.gate (Gate c.args.requirement) gives.coding gives.stands) (none_in_range (count_of c.variable.new.self.search))
+    (represents_in_range c.variable.new.self c.in_ok-gate.gate (Gate c.args.requirement) gives.coding gives.present) (none_in_range (count_of c.variable.new.self.search))
 
 pub returns-clause-encoded : goal.returns-clause-encoded
 returns-clause-encoded g c = λ p root lawful e has guarded asked.
     let exact : IsExact g.S.PartialEq.eq = record { one = g.met.S.Exact.exact; own = g.met.S.Eq.laws.refl } in
     let middle : Encoder _ _ = record c.args.self.now { coding = c.variable.new.self } in
     let gives = c.in_ok-gate.ensures.given in
-    let rest : SameButCoding c.args.self.now middle = record { registry = refl; lists = refl; queue = refl; gates = refl; noted = refl; parents = refl; encoded = refl; deferred = refl; fired = refl } in
+    let rest : SameButCoding c.args.self.now middle = record { registry = refl; lists = refl; queue = refl; gates = refl; recorded = refl; parents = refl; encoded = refl; deferred = refl; fired = refl } in
     let kept = gives_keeps g.S.PartialEq.eq exact p root lawful (Gate c.args.requirement) c.in_ok-gate.gate c.args.self.now middle e gives rest in
-    let came = c.in_ok-state_need.ensures.stated in
-    let (stated, rules) = need_keeps g.S.PartialEq.eq exact p root lawful (Says.Shared c.args.requirement) c.in_ok-gate.gate None c.args.requirement middle c.state_need.new.self kept has (guard_grows g.S.PartialEq.eq exact p root c.args.self.now middle c.args.requirement gives.grows guarded) (refl, refl, gives.stands, asked) (shared_ready g.S.PartialEq.eq exact p root lawful middle c.args.requirement) came in
+    let new_clause = c.in_ok-encode_need.ensures.kind in
+    let (kind, rules) = need_keeps g.S.PartialEq.eq exact p root lawful (Kind.Shared c.args.requirement) c.in_ok-gate.gate None c.args.requirement middle c.encode_need.new.self kept has (guard_grows g.S.PartialEq.eq exact p root c.args.self.now middle c.args.requirement gives.grows guarded) (refl, refl, gives.present, asked) (shared_ready g.S.PartialEq.eq exact p root lawful middle c.args.requirement) new_clause in
     let rule = rules (Rule.shared c.args.requirement) refl in
-    let stands = stands_grow c.variable.new.self c.state_need.new.self.coding c.in_ok-gate.gate (Gate c.args.requirement) came.states.grows gives.stands in
-    (gate_noted g.S.PartialEq.eq exact p root lawful c.state_need.new.self (record c.state_need.new.self { gates = c.insert.new.self }) c.args.requirement c.in_ok-gate.gate stated stands rule c.in_ok-insert.ensures.put refl, rule)
+    let present = represents_grow c.variable.new.self c.encode_need.new.self.coding c.in_ok-gate.gate (Gate c.args.requirement) new_clause.states.grows gives.present in
+    (gate_recorded g.S.PartialEq.eq exact p root lawful c.encode_need.new.self (record c.encode_need.new.self { gates = c.insert.new.self }) c.args.requirement c.in_ok-gate.gate kind present rule c.in_ok-insert.ensures.put refl, rule)
 
-pub returns-in-Some-clause-stands : goal.returns-in-Some-clause-stands
-returns-in-Some-clause-stands g c = c.requires.gates c.args.requirement c.in-Some.gate.now (sym c.get.ensures ∙ ap option_copied c.in-Some.is)
+pub returns-in-Some-clause-present : goal.returns-in-Some-clause-present
+returns-in-Some-clause-present g c = c.requires.gates c.args.requirement c.in-Some.gate.now (sym c.get.ensures ∙ ap option_copied c.in-Some.is)
 
 pub returns-clause-built : goal.returns-clause-built
 returns-clause-built g c =
     let middle : Encoder _ _ = record c.args.self.now { coding = c.variable.new.self } in
     let gives = c.in_ok-gate.ensures.given in
-    let came = c.in_ok-state_need.ensures.stated in
-    let stated = built_states (Says.Shared c.args.requirement) c.in_ok-gate.gate None c.args.requirement middle c.state_need.new.self (built_gives (Gate c.args.requirement) c.in_ok-gate.gate c.args.self.now c.variable.new.self c.requires gives) (λ name s place bit h. absurd cc) came in
-    let stands = stands_grow c.variable.new.self c.state_need.new.self.coding c.in_ok-gate.gate (Gate c.args.requirement) came.states.grows gives.stands in
-    built_gate c.state_need.new.self (record c.state_need.new.self { gates = c.insert.new.self }) c.args.requirement c.in_ok-gate.gate stated stands c.in_ok-insert.ensures.put refl
+    let new_clause = c.in_ok-encode_need.ensures.kind in
+    let kind = built_encodes (Kind.Shared c.args.requirement) c.in_ok-gate.gate None c.args.requirement middle c.encode_need.new.self (built_gives (Gate c.args.requirement) c.in_ok-gate.gate c.args.self.now c.variable.new.self c.requires gives) (λ name s place bit h. absurd cc) new_clause in
+    let present = represents_grow c.variable.new.self c.encode_need.new.self.coding c.in_ok-gate.gate (Gate c.args.requirement) new_clause.states.grows gives.present in
+    built_gate c.encode_need.new.self (record c.encode_need.new.self { gates = c.insert.new.self }) c.args.requirement c.in_ok-gate.gate kind present c.in_ok-insert.ensures.put refl
 
 pub returns-in_err-gate-clause-ids : goal.returns-in_err-gate-clause-ids
 returns-in_err-gate-clause-ids g c = search (rules, LacksNumberFor.coding)
 
-pub returns-in_err-state_need-clause-ids : goal.returns-in_err-state_need-clause-ids
-returns-in_err-state_need-clause-ids g c = search (rules, LacksNumberFor.coding)
+pub returns-in_err-encode_need-clause-ids : goal.returns-in_err-encode_need-clause-ids
+returns-in_err-encode_need-clause-ids g c = search (rules, LacksNumberFor.coding)
 
 pub returns-in_err-insert-clause-ids : goal.returns-in_err-insert-clause-ids
 returns-in_err-insert-clause-ids g c = search (rules, LacksNumberFor.requirement)

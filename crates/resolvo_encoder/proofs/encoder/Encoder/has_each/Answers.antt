@@ -28,4 +28,4 @@ loop-conjunct-preserved g c =
     (subst (λ (xs : List _). IsOneChosen c.args.self.now xs) c.candidates.ensures (c.has_one.ensures.chosen c.if-not-has_one.false))
 
 pub returns-clause-chosen : goal.returns-clause-chosen
-returns-clause-chosen g c = λ h x stands. c.loop-conjunct.invariant x (subst (λ (xs : List (DeferredConjunct _)). Contains xs x) (sym (take_all c.loop-conjunct.conjunct-index c.args.conjuncts.now c.loop-conjunct-test.false)) stands)
+returns-clause-chosen g c = λ h x present. c.loop-conjunct.invariant x (subst (λ (xs : List (DeferredConjunct _)). Contains xs x) (sym (take_all c.loop-conjunct.conjunct-index c.args.conjuncts.now c.loop-conjunct-test.false)) present)

@@ -16,4 +16,4 @@ loop-candidate-preserved g c =
     none_more (λ s. IsTrueNow c.args.self.now s → ⊥) (take c.loop-candidate.candidate-index c.args.candidates.now) c.candidate-item.result (take (c.loop-candidate.candidate-index + 1) c.args.candidates.now) more c.loop-candidate.invariant (c.is_chosen.ensures.not_chosen c.if-is_chosen.false)
 
 pub returns-clause-none : goal.returns-clause-none
-returns-clause-none g c = λ h (s, stands, now). c.loop-candidate.invariant s (subst (λ (xs : List _). Contains xs s) (sym (take_all c.loop-candidate.candidate-index c.args.candidates.now c.loop-candidate-test.false)) stands) now
+returns-clause-none g c = λ h (s, present, now). c.loop-candidate.invariant s (subst (λ (xs : List _). Contains xs s) (sym (take_all c.loop-candidate.candidate-index c.args.candidates.now c.loop-candidate-test.false)) present) now

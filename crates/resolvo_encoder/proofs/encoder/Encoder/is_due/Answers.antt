@@ -4,7 +4,7 @@ use Rattle.std.proofs.lemmas.Option.{slice_get_within}
 use Rattle.resolvo_store_core.specs.declared.conditions.DeferredConjunct.{DeferredConjunct}
 use Rattle.resolvo_soundness.specs.Encoding.{IsExact}
 use Rattle.resolvo_encoder.proofs.FireLemmas.{looked_up, not_contained, unmet_spent}
-use Rattle.resolvo_encoder.proofs.Parents.{any_stands}
+use Rattle.resolvo_encoder.proofs.Parents.{any_is_in}
 use Rattle.resolvo_encoder.proofs.encoder.Encoder.is_due.Goals as goal
 
 pub returns-then-not-contains-clause-due : goal.returns-then-not-contains-clause-due
@@ -27,8 +27,8 @@ pub returns-then-not-contains-clause-spent : goal.returns-then-not-contains-clau
 returns-then-not-contains-clause-spent g c = λ h.
     let exact : IsExact g.S.PartialEq.eq = record { one = g.met.S.Exact.exact; own = g.met.S.Eq.laws.refl } in
     let (found, is, more, (below, other), rest) = c.in-Some.ensures.lookup in
-    let (x, stands, none) = c.has_each.ensures.missing h in
-    unmet_spent g.S.PartialEq.eq exact c.args.self.now c.args.index c.in-Some.deferred.now x (looked_up c.deref.result.now c.args.self.now.deferred.items c.args.index c.in-Some.deferred.now c.deref.ensures.value below is) (subst (λ (xs : List (DeferredConjunct _)). Contains xs x) c.as_slice.ensures.value stands) none
+    let (x, present, none) = c.has_each.ensures.missing h in
+    unmet_spent g.S.PartialEq.eq exact c.args.self.now c.args.index c.in-Some.deferred.now x (looked_up c.deref.result.now c.args.self.now.deferred.items c.args.index c.in-Some.deferred.now c.deref.ensures.value below is) (subst (λ (xs : List (DeferredConjunct _)). Contains xs x) c.as_slice.ensures.value present) none
 
 pub returns-else-not-contains-clause-spent : goal.returns-else-not-contains-clause-spent
-returns-else-not-contains-clause-spent g c = λ h. inl (any_stands (λ m n. m == n) c.args.self.now.fired.keys c.args.index (λ y e. sym (eqb-true c.args.index y e)) (sym c.contains.ensures ∙ c.if-not-contains.false))
+returns-else-not-contains-clause-spent g c = λ h. inl (any_is_in (λ m n. m == n) c.args.self.now.fired.keys c.args.index (λ y e. sym (eqb-true c.args.index y e)) (sym c.contains.ensures ∙ c.if-not-contains.false))

@@ -1,16 +1,16 @@
 use Rattle.std.proofs.Common.{[], ◌∷◌, subst}
 use Rattle.resolvo_store_core.specs.Signed.{Signed}
 use Rattle.resolvo_store_core.specs.Clauses.{no}
-use Rattle.resolvo_state.specs.declared.clause_kind.Stated.TheVariants as Says
+use Rattle.resolvo_state.specs.declared.clause_kind.ClauseKind.TheVariants as Kind
 use Rattle.resolvo_soundness.specs.Encoding.{IsExact, Rule}
-use Rattle.resolvo_encoder.specs.ClauseRules.{StatesPair}
-use Rattle.resolvo_encoder.proofs.TellLemmas.{parent_variable_grows, tells_then, outside_tells}
+use Rattle.resolvo_encoder.specs.ClauseRules.{EncodesPair}
+use Rattle.resolvo_encoder.proofs.EncodesLemmas.{parent_variable_grows, encodes_then, outside_encodes}
 use Rattle.resolvo_encoder.proofs.encoder.Encoder.limit_outside.Goals as goal
 
-pub returns-clause-told : goal.returns-clause-told
-returns-clause-told g c =
+pub returns-clause-encodes : goal.returns-clause-encodes
+returns-clause-encodes g c =
     let exact : IsExact g.S.PartialEq.eq = record { one = g.met.S.Exact.exact; own = g.met.S.Eq.laws.refl } in
-    let told = tells_then g.S.PartialEq.eq exact [] [] c.args.self.now c.parent_variable.new.self c.give.new.self c.in_ok-first.ensures.told c.in_ok-second.ensures.told in
-    let first = parent_variable_grows c.parent_variable.new.self c.give.new.self c.args.parent c.in_ok-first.first c.in_ok-second.ensures.told.extends c.in_ok-first.ensures.stands in
-    tells_then g.S.PartialEq.eq exact [] (Rule.limits_outside c.args.parent c.args.version_set ∷ []) c.args.self.now c.give.new.self c.state_pair.new.self told
-    (outside_tells g.S.PartialEq.eq exact c.args.parent c.args.version_set c.in_ok-first.first c.in_ok-second.second c.give.new.self c.state_pair.new.self told.built first c.in_ok-second.ensures.stands (subst (λ (x : Signed). StatesPair (Says.LimitsOutside c.args.parent c.args.version_set) (no c.in_ok-first.first) x c.give.new.self c.state_pair.new.self) c.new.ensures c.in_ok-state_pair.ensures.stated))
+    let encodes = encodes_then g.S.PartialEq.eq exact [] [] c.args.self.now c.parent_variable.new.self c.give.new.self c.in_ok-first.ensures.encodes c.in_ok-second.ensures.encodes in
+    let first = parent_variable_grows c.parent_variable.new.self c.give.new.self c.args.parent c.in_ok-first.first c.in_ok-second.ensures.encodes.extends c.in_ok-first.ensures.present in
+    encodes_then g.S.PartialEq.eq exact [] (Rule.limits_outside c.args.parent c.args.version_set ∷ []) c.args.self.now c.give.new.self c.encode_pair.new.self encodes
+    (outside_encodes g.S.PartialEq.eq exact c.args.parent c.args.version_set c.in_ok-first.first c.in_ok-second.second c.give.new.self c.encode_pair.new.self encodes.built first c.in_ok-second.ensures.present (subst (λ (x : Signed). EncodesPair (Kind.LimitsOutside c.args.parent c.args.version_set) (no c.in_ok-first.first) x c.give.new.self c.encode_pair.new.self) c.new.ensures c.in_ok-encode_pair.ensures.kind))

@@ -3,8 +3,8 @@ use Rattle.resolvo_sat.specs.State.{count_of}
 use Rattle.resolvo_encoder.proofs.BuildLemmas.{built_in_range, none_in_range}
 use Rattle.resolvo_encoder.proofs.encoder.Encoder.need_directly.Goals as goal
 
-pub state_need-requires-clause-in_range : goal.state_need-requires-clause-in_range
-state_need-requires-clause-in_range g c = built_in_range c.args.self.now c.args.variable None c.args.need.requirement c.requires.built c.requires.in_range (none_in_range (count_of c.args.self.now.coding.search))
+pub encode_need-requires-clause-in_range : goal.encode_need-requires-clause-in_range
+encode_need-requires-clause-in_range g c = built_in_range c.args.self.now c.args.variable None c.args.need.requirement c.requires.built c.requires.in_range (none_in_range (count_of c.args.self.now.coding.search))
 
 pub returns-clause-needed : goal.returns-clause-needed
-returns-clause-needed g c = record { case = c.new.result; none = c.new.ensures.items; states = c.in_ok-state_need.ensures.stated }
+returns-clause-needed g c = record { case = c.new.result; none = c.new.ensures.items; states = c.in_ok-encode_need.ensures.kind }

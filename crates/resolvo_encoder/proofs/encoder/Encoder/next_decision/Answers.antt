@@ -1,5 +1,5 @@
 use Rattle.std.proofs.Common.{refl, rules, sym}
-use Rattle.resolvo_state.proofs.Positions.{front_equal}
+use Rattle.resolvo_state.proofs.Positions.{prefix_equal}
 use Rattle.resolvo_store_core.specs.Values.{value_at}
 use Rattle.resolvo_sat.specs.State.{count_of, clauses_of}
 use Rattle.resolvo_encoder.proofs.BuildLemmas.{built_needs}
@@ -12,7 +12,7 @@ returns g c =
     let pick = c.in_ok-next.ensures.picked in
     record {
       next = record { values = value_at pick.values; agree = trail_values (count_of s) (clauses_of s) s.tracker.trail pick.values c.requires.coding.ready.state.trail pick.agree; picked = pick.picked };
-      built = built_needs c.args.self.now c.next_decision.new.self c.requires c.in_ok-next.ensures.fits (front_equal c.next_decision.new.self.seen.items s.tracker.trail (sym c.in_ok-next.ensures.seen));
+      built = built_needs c.args.self.now c.next_decision.new.self c.requires c.in_ok-next.ensures.fits (prefix_equal c.next_decision.new.self.seen.items s.tracker.trail (sym c.in_ok-next.ensures.seen));
       rest = refl;
       refusal = search rules;
     }

@@ -3,7 +3,7 @@ use Rattle.resolvo_encoder.proofs.EnrollLemmas.{enrols}
 use Rattle.resolvo_encoder.proofs.encoder.Encoder.register.Goals as goal
 
 pub register_all-requires : goal.register_all-requires
-register_all-requires g c = record { coding = c.in_ok-admit.ensures.admitted.says.built.coding; tied = c.in_ok-admit.ensures.admitted.says.built.tied }
+register_all-requires g c = record { coding = c.in_ok-admit.ensures.admitted.adds.built.coding; tied = c.in_ok-admit.ensures.admitted.adds.built.tied }
 
 pub returns-clause-enrolled : goal.returns-clause-enrolled
 returns-clause-enrolled g c =

@@ -2,7 +2,7 @@ use Rattle.std.proofs.Common.{◌≡◌, ◌+◌, ◌∷◌, ◌++◌, [], List,
 use Rattle.std.proofs.lemmas.List.{take_more, take_all}
 use Rattle.resolvo_pool_core.specs.declared.id.VariableId.{VariableId}
 use Rattle.resolvo_packages.specs.declared.package_source.Offered.{Offered}
-use Rattle.resolvo_encoder.proofs.Helps.{AreOf, of_more, of_other, those_of}
+use Rattle.resolvo_encoder.proofs.CaseLiterals.{AreOf, of_more, of_other, those_of}
 use Rattle.resolvo_encoder.proofs.encoder.Encoder.registered.Goals as goal
 use Rattle.resolvo_encoder.proofs.encoder.Encoder.registered.Goals.{in-Some+in_ok-push, in_default}
 

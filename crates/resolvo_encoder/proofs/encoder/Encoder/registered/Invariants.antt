@@ -1,5 +1,5 @@
 use Rattle.std.proofs.Common.{take}
-use Rattle.resolvo_encoder.proofs.Helps.{AreOf}
+use Rattle.resolvo_encoder.proofs.CaseLiterals.{AreOf}
 use Rattle.resolvo_encoder.proofs.encoder.Encoder.registered.Given as goal
 
 -- these are the solvables of the variables so far

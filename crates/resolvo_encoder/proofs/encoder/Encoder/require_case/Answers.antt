@@ -4,34 +4,34 @@ use Rattle.resolvo_store_core.specs.declared.lists.Disjunction.{Disjunction}
 use Rattle.resolvo_encoder.specs.Encoded.{rules_of}
 use Rattle.resolvo_encoder.specs.Steps.{LacksNumberFor}
 use Rattle.resolvo_encoder.proofs.EnrollLemmas.{built_fixes}
-use Rattle.resolvo_encoder.proofs.FireLemmas.{StatesCase, case_in_range, case_extends, case_adds, case_built, case_encoded, case_left_out}
-use Rattle.resolvo_encoder.proofs.TellLemmas.{parent_variable_grows}
+use Rattle.resolvo_encoder.proofs.FireLemmas.{EncodesCase, case_in_range, case_extends, case_adds, case_built, case_encoded, case_left_out}
+use Rattle.resolvo_encoder.proofs.EncodesLemmas.{parent_variable_grows}
 use Rattle.resolvo_encoder.proofs.encoder.Encoder.require_case.Goals as goal
 
 pub returns-then-keeps_out-clause-encoded : goal.returns-then-keeps_out-clause-encoded
 returns-then-keeps_out-clause-encoded g c = λ p root lawful e sets offered guarded listed cased.
     let exact : IsExact g.S.PartialEq.eq = record { one = g.met.S.Exact.exact; own = g.met.S.Eq.laws.refl } in
-    let (s, set, who, stands, there) = c.keeps_out.ensures c.if-keeps_out.true in
-    (e, case_left_out g.S.PartialEq.eq exact p (rules_of c.args.self.now) c.args.parent c.args.need c.args.sets.now s set sets who stands there)
+    let (s, set, who, present, there) = c.keeps_out.ensures c.if-keeps_out.true in
+    (e, case_left_out g.S.PartialEq.eq exact p (rules_of c.args.self.now) c.args.parent c.args.need c.args.sets.now s set sets who present there)
 
 pub parent_variable-requires : goal.parent_variable-requires
 parent_variable-requires g c = built_fixes g.S.PartialEq.eq c.args.need.requirement c.args.offered.now c.args.self.now c.fix_candidates.new.self c.requires c.in_ok-fix_candidates.ensures.fixed
 
-pub state_need-requires-clause-in_range : goal.state_need-requires-clause-in_range
-state_need-requires-clause-in_range g c =
+pub encode_need-requires-clause-in_range : goal.encode_need-requires-clause-in_range
+encode_need-requires-clause-in_range g c =
     let given : Disjunction = record { literals = c.in_ok-literals.literals } in
-    let helps = c.in_ok-literals.ensures.helped in
-    case_in_range c.add_each_at_least_one.new.self c.args.parent c.in_ok-variable.variable c.in_ok-condition.condition given c.fix_disjunction.new.self c.args.need.requirement helps.built c.in_ok-condition.ensures.fixed
-    (parent_variable_grows c.parent_variable.new.self c.add_each_at_least_one.new.self c.args.parent c.in_ok-variable.variable helps.extends c.in_ok-variable.ensures.stands) helps.in_range
+    let negates = c.in_ok-literals.ensures.at_least_one in
+    case_in_range c.add_each_at_least_one.new.self c.args.parent c.in_ok-variable.variable c.in_ok-condition.condition given c.fix_disjunction.new.self c.args.need.requirement negates.built c.in_ok-condition.ensures.fixed
+    (parent_variable_grows c.parent_variable.new.self c.add_each_at_least_one.new.self c.args.parent c.in_ok-variable.variable negates.extends c.in_ok-variable.ensures.present) negates.in_range
 
 pub returns : goal.returns
 returns g c =
     let exact : IsExact g.S.PartialEq.eq = record { one = g.met.S.Exact.exact; own = g.met.S.Eq.laws.refl } in
     let given : Disjunction = record { literals = c.in_ok-literals.literals } in
-    let came : StatesCase g.S.PartialEq.eq c.args.parent c.args.need c.args.sets.now c.args.offered.now c.args.self.now c.state_need.new.self = record {
+    let new_clause : EncodesCase g.S.PartialEq.eq c.args.parent c.args.need c.args.sets.now c.args.offered.now c.args.self.now c.encode_need.new.self = record {
       fixed = c.fix_candidates.new.self;
       named = c.parent_variable.new.self;
-      helped = c.add_each_at_least_one.new.self;
+      at_least_one = c.add_each_at_least_one.new.self;
       lists = c.fix_disjunction.new.self;
       variable = c.in_ok-variable.variable;
       id = c.in_ok-condition.condition;
@@ -39,19 +39,19 @@ returns g c =
       case = c.in_ok-case.case;
       is_case = c.in_ok-case.ensures.case;
       fixes = c.in_ok-fix_candidates.ensures.fixed;
-      tells = c.in_ok-variable.ensures.told;
-      stands = c.in_ok-variable.ensures.stands;
-      helps = c.in_ok-literals.ensures.helped;
+      encodes = c.in_ok-variable.ensures.encodes;
+      present = c.in_ok-variable.ensures.present;
+      negates = c.in_ok-literals.ensures.at_least_one;
       disjoins = c.in_ok-condition.ensures.fixed;
-      states = c.in_ok-state_need.ensures.stated;
+      states = c.in_ok-encode_need.ensures.kind;
     } in
     record {
       encoded = λ p root lawful e sets offered guarded listed cased.
-          let (keeps, rule) = case_encoded g.S.PartialEq.eq exact c.args.parent c.args.need c.args.sets.now c.args.offered.now c.args.self.now c.state_need.new.self came p root lawful e sets offered guarded listed cased in
+          let (keeps, rule) = case_encoded g.S.PartialEq.eq exact c.args.parent c.args.need c.args.sets.now c.args.offered.now c.args.self.now c.encode_need.new.self new_clause p root lawful e sets offered guarded listed cased in
           (keeps, inl rule);
-      candidates = case_adds g.S.PartialEq.eq exact c.args.parent c.args.need c.args.sets.now c.args.offered.now c.args.self.now c.state_need.new.self came;
-      kept = case_extends g.S.PartialEq.eq exact c.args.parent c.args.need c.args.sets.now c.args.offered.now c.args.self.now c.state_need.new.self came;
-      built = case_built g.S.PartialEq.eq exact c.args.parent c.args.need c.args.sets.now c.args.offered.now c.args.self.now c.state_need.new.self came;
+      candidates = case_adds g.S.PartialEq.eq exact c.args.parent c.args.need c.args.sets.now c.args.offered.now c.args.self.now c.encode_need.new.self new_clause;
+      kept = case_extends g.S.PartialEq.eq exact c.args.parent c.args.need c.args.sets.now c.args.offered.now c.args.self.now c.encode_need.new.self new_clause;
+      built = case_built g.S.PartialEq.eq exact c.args.parent c.args.need c.args.sets.now c.args.offered.now c.args.self.now c.encode_need.new.self new_clause;
       ids = search rules;
     }
 
@@ -64,5 +64,5 @@ returns-in_err-literals-clause-ids g c = search (rules, LacksNumberFor.coding)
 pub returns-in_err-condition-clause-ids : goal.returns-in_err-condition-clause-ids
 returns-in_err-condition-clause-ids g c = search (rules, LacksNumberFor.disjunctions)
 
-pub returns-in_err-state_need-clause-ids : goal.returns-in_err-state_need-clause-ids
-returns-in_err-state_need-clause-ids g c = search (rules, LacksNumberFor.coding)
+pub returns-in_err-encode_need-clause-ids : goal.returns-in_err-encode_need-clause-ids
+returns-in_err-encode_need-clause-ids g c = search (rules, LacksNumberFor.coding)

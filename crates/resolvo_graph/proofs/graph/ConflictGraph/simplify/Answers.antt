@@ -1,8 +1,8 @@
 use Rattle.std.proofs.Common.{◌≡◌, ◌∙◌, ℕ, ap, map}
 use Rattle.resolvo_graph.specs.Kept.{ids_at}
-use Rattle.resolvo_graph.specs.Merge.{numbered, told_together}
+use Rattle.resolvo_graph.specs.Merge.{numbered, group_among}
 use Rattle.resolvo_graph.proofs.ResultLemmas.{ok_map}
-use Rattle.resolvo_graph.proofs.MemberLemmas.{told_is_group}
+use Rattle.resolvo_graph.proofs.MemberLemmas.{group_among_is_group}
 use Rattle.resolvo_graph.proofs.graph.ConflictGraph.simplify.Goals as goal
 
 pub returns : goal.returns
@@ -14,5 +14,5 @@ returns g c =
     ok_map c.merged.result (λ m so. (
       ps,
       c.in_ok-profiles.ensures,
-      λ s. so s ∙ ap (λ ns. told_together g.S.PartialEq.eq (ids_at groups) ns s) c.deref-2.ensures.value ∙ told_is_group g.I.NameId.PartialEq.eq g.S.PartialEq.eq (ids_at groups) ps ms ids ps ms c.in_ok-members.ensures s,
+      λ s. so s ∙ ap (λ ns. group_among g.S.PartialEq.eq (ids_at groups) ns s) c.deref-2.ensures.value ∙ group_among_is_group g.I.NameId.PartialEq.eq g.S.PartialEq.eq (ids_at groups) ps ms ids ps ms c.in_ok-members.ensures s,
     )) c.merged.ensures

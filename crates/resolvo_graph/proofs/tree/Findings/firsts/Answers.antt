@@ -10,4 +10,4 @@ loop-node-preserved g c =
     let f = findings g.S.PartialEq.eq c.args.self.now.graph.now c.args.self.now.installable.keys c.args.self.now.merged in
     let cs = c.args.candidates.now in
     let v = c.loop-node-item.result in
-    first_more f cs c.loop-node.node-index v c.loop-node.told.keys c.add_first.new.told.keys (firsts_after f [] cs) c.loop-node.found.items c.add_first.new.found.items (left cs c.loop-node.node-index v v c.loop-node-test.true c.loop-node-item.is) c.loop-node.invariant c.in_ok-add_first.ensures.told c.in_ok-add_first.ensures.found
+    first_more f cs c.loop-node.node-index v c.loop-node.covered.keys c.add_first.new.covered.keys (firsts_after f [] cs) c.loop-node.found.items c.add_first.new.found.items (left cs c.loop-node.node-index v v c.loop-node-test.true c.loop-node-item.is) c.loop-node.invariant c.in_ok-add_first.ensures.covered c.in_ok-add_first.ensures.found

@@ -24,8 +24,8 @@ loop-entry-smaller g c =
     let us = reached c.args.self.now.graph.now c.args.edges.now in
     let below = c.pop.new.self.items in
     let e = c.in-Some.entry in
-    let parts = All-pop (λ d. IsKnown f us d.op) (below ++ e ∷ []) below (Some e) refl (All-same (λ d. IsKnown f us d.op) (below ++ e ∷ []) c.loop-entry.telling.stack.items (sym c.in-Some.ensures.items) c.loop-entry.invariant.known) in
-    smaller f us c.loop-entry.telling.stack.items below c.tell.new.telling.stack.items c.loop-entry.telling.told.keys e parts.1 c.in-Some.ensures.items c.in_ok-tell.ensures.stack
+    let parts = All-pop (λ d. IsKnown f us d.op) (below ++ e ∷ []) below (Some e) refl (All-same (λ d. IsKnown f us d.op) (below ++ e ∷ []) c.loop-entry.writer.stack.items (sym c.in-Some.ensures.items) c.loop-entry.invariant.known) in
+    smaller f us c.loop-entry.writer.stack.items below c.write_entry.new.writer.stack.items c.loop-entry.writer.covered.keys e parts.1 c.in-Some.ensures.items c.in_ok-write_entry.ensures.stack
 
 pub loop-entry-preserved : goal.loop-entry-preserved
 loop-entry-preserved g c =
@@ -34,13 +34,13 @@ loop-entry-preserved g c =
     let us = reached c.args.self.now.graph.now es in
     let below = c.pop.new.self.items in
     let e = c.in-Some.entry in
-    let parts = All-pop (λ d. IsKnown f us d.op) (below ++ e ∷ []) below (Some e) refl (All-same (λ d. IsKnown f us d.op) (below ++ e ∷ []) c.loop-entry.telling.stack.items (sym c.in-Some.ensures.items) c.loop-entry.invariant.known) in
+    let parts = All-pop (λ d. IsKnown f us d.op) (below ++ e ∷ []) below (Some e) refl (All-same (λ d. IsKnown f us d.op) (below ++ e ∷ []) c.loop-entry.writer.stack.items (sym c.in-Some.ensures.items) c.loop-entry.invariant.known) in
     record {
-      known = known_next f us (reached_edges c.args.self.now.graph.now es) below c.tell.new.telling.stack.items c.loop-entry.telling.told.keys e parts.0 parts.1 c.in_ok-tell.ensures.stack;
-      gives = steps f (siblings (record { levels = []; top_level_indent = c.args.top_level_indent }) [] (reverse (in_rank f (runs_of es)))) c.loop-entry.telling.stack.items below c.tell.new.telling.stack.items c.loop-entry.telling.told.keys c.tell.new.telling.told.keys c.loop-entry.telling.lines.items c.tell.new.telling.lines.items e c.loop-entry.invariant.gives c.in-Some.ensures.items c.in_ok-tell.ensures.stack c.in_ok-tell.ensures.told c.in_ok-tell.ensures.lines;
+      known = known_next f us (reached_edges c.args.self.now.graph.now es) below c.write_entry.new.writer.stack.items c.loop-entry.writer.covered.keys e parts.0 parts.1 c.in_ok-write_entry.ensures.stack;
+      gives = steps f (siblings (record { levels = []; top_level_indent = c.args.top_level_indent }) [] (reverse (in_rank f (runs_of es)))) c.loop-entry.writer.stack.items below c.write_entry.new.writer.stack.items c.loop-entry.writer.covered.keys c.write_entry.new.writer.covered.keys c.loop-entry.writer.lines.items c.write_entry.new.writer.lines.items e c.loop-entry.invariant.gives c.in-Some.ensures.items c.in_ok-write_entry.ensures.stack c.in_ok-write_entry.ensures.covered c.in_ok-write_entry.ensures.lines;
     }
 
 pub returns : goal.returns
 returns g c =
     let f = findings g.S.PartialEq.eq c.args.self.now.graph.now c.args.self.now.installable.keys c.args.self.now.merged in
-    ends f (siblings (record { levels = []; top_level_indent = c.args.top_level_indent }) [] (reverse (in_rank f (runs_of c.args.edges.now)))) c.loop-entry.telling.stack.items c.loop-entry.telling.told.keys c.loop-entry.telling.lines.items c.loop-entry.invariant.gives (nil_from_length c.loop-entry.telling.stack.items (omega (arith, c.loop-entry.telling.stack.ok, c.in_default.ensures.cases)))
+    ends f (siblings (record { levels = []; top_level_indent = c.args.top_level_indent }) [] (reverse (in_rank f (runs_of c.args.edges.now)))) c.loop-entry.writer.stack.items c.loop-entry.writer.covered.keys c.loop-entry.writer.lines.items c.loop-entry.invariant.gives (nil_from_length c.loop-entry.writer.stack.items (omega (arith, c.loop-entry.writer.stack.ok, c.in_default.ensures.cases)))

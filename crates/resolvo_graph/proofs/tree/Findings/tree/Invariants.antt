@@ -8,10 +8,10 @@ use Rattle.resolvo_graph.proofs.tree.Findings.tree.Given as goal
 -- the lines of the stack's entries follow the lines so far
 abbrev pub invariant-loop-entry : goal.invariant-loop-entry
 invariant-loop-entry g l = record {
-  known : All (λ e. IsKnown (findings g.S.PartialEq.eq l.self.graph.now l.self.installable.keys l.self.merged) (reached l.self.graph.now l.edges) e.op) l.telling.stack.items;
-  gives : Gives (findings g.S.PartialEq.eq l.self.graph.now l.self.installable.keys l.self.merged) (siblings (record { levels = []; top_level_indent = l.top_level_indent }) [] (reverse (in_rank (findings g.S.PartialEq.eq l.self.graph.now l.self.installable.keys l.self.merged) (runs_of l.edges)))) l.telling.stack.items l.telling.told.keys l.telling.lines.items;
+  known : All (λ e. IsKnown (findings g.S.PartialEq.eq l.self.graph.now l.self.installable.keys l.self.merged) (reached l.self.graph.now l.edges) e.op) l.writer.stack.items;
+  gives : Gives (findings g.S.PartialEq.eq l.self.graph.now l.self.installable.keys l.self.merged) (siblings (record { levels = []; top_level_indent = l.top_level_indent }) [] (reverse (in_rank (findings g.S.PartialEq.eq l.self.graph.now l.self.installable.keys l.self.merged) (runs_of l.edges)))) l.writer.stack.items l.writer.covered.keys l.writer.lines.items;
 }
 
 -- the weight of the remaining entries falls
 abbrev pub decreases-loop-entry : goal.decreases-loop-entry
-decreases-loop-entry g l = weights l.self.graph.now (reached l.self.graph.now l.edges) (reverse l.telling.stack.items)
+decreases-loop-entry g l = weights l.self.graph.now (reached l.self.graph.now l.edges) (reverse l.writer.stack.items)

@@ -15,6 +15,6 @@ returns-then-is_place_taken c = λ before h.
     let o = line_of c.args.catalogue.now c.args.request.now.lines (place_of c.args.place.now) c.args.line in
     let taken = sym (c.is_place_taken.ensures before h) ∙ c.if-is_place_taken.true in
     c.gives.ensures entries (listed c.args.catalogue.now) h.chosen
-    ∙ ap (λ (l : Option Line). gives l entries v) (sym c.rule_at.ensures.said)
+    ∙ ap (λ (l : Option Line). gives l entries v) (sym c.rule_at.ensures.from_line)
     ∙ gives_owned o entries v
     ∙ sym (ap (λ (b : Bool). b && gives o entries v) taken)

@@ -1,7 +1,7 @@
 use Rattle.std.proofs.Common.{◌≡◌, sym, ◌∙◌, ap, refl, true, false, not, length, List, [], Some}
 use Rattle.resolvo_text.specs.View.{version_of}
 use Rattle.resolvo_report.specs.View.{place_of}
-use Rattle.resolvo_report.specs.Value as said
+use Rattle.resolvo_report.specs.Value as model
 use Rattle.resolvo_judge.specs.Entries.{entries_of}
 use Rattle.resolvo_judge.proofs.EntryLemmas.{wished_kept, lines_stay}
 use Rattle.resolvo_judge.proofs.entries.Entries.take_wished.Goals as goal
@@ -13,4 +13,4 @@ returns-clause-kept c = λ before h _.
     wished_kept c.args.self.now c.add.new.self c.args.catalogue.now c.args.request.now.lines before (version_of c.args.version.now) c.args.line h may wish c.in_ok-add.ensures.added
 
 pub returns-clause-lines : goal.returns-clause-lines
-returns-clause-lines c = λ before h lines _. lines_stay c.args.request.now.lines c.args.self.now (record c.args.self.now { chosen = c.add.new.self; last_wish = Some c.args.line }) before (said.Wished (version_of c.args.version.now) c.args.line) refl (λ w n. refl) lines
+returns-clause-lines c = λ before h lines _. lines_stay c.args.request.now.lines c.args.self.now (record c.args.self.now { chosen = c.add.new.self; last_wish = Some c.args.line }) before (model.Wished (version_of c.args.version.now) c.args.line) refl (λ w n. refl) lines

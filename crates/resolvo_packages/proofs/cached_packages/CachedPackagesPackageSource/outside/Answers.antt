@@ -2,7 +2,7 @@ use Rattle.std.proofs.Common.{rules, ◌≡◌, true, List, map, subst, sym}
 use Rattle.resolvo_pool_core.specs.Provider.{matching_in}
 use Rattle.resolvo_packages.specs.declared.package_source.Offered.{Offered}
 use Rattle.resolvo_packages.specs.PackageSource.{packages_by, offer_by, AreOutside}
-use Rattle.resolvo_packages.proofs.BarLemmas.{are_outside}
+use Rattle.resolvo_packages.proofs.ForbiddenLemmas.{are_outside}
 use Rattle.resolvo_packages.proofs.cached_packages.CachedPackagesPackageSource.outside.Goals as goal
 
 pub returns-clause-outside : goal.returns-clause-outside

@@ -4,7 +4,7 @@ use Rattle.std.specs.List.{join_with_byte}
 use Rattle.std.proofs.lemmas.Grind.{put_two}
 use Rattle.resolvo_text.specs.Spelling.{alternatives_words, spec_words}
 use Rattle.resolvo_text.specs.View.{spec_of, specs_of}
-use Rattle.resolvo_report.specs.Pieces.{spaced, barred}
+use Rattle.resolvo_report.specs.Pieces.{spaced, with_bars}
 use Rattle.resolvo_report.proofs.TextLemmas.{alternatives_spaced}
 use Rattle.resolvo_report.proofs.text.AlternativesDisplay.fmt.Goals as goal
 
@@ -12,6 +12,6 @@ pub returns-after-loop-spec-clause-writes : goal.returns-after-loop-spec-clause-
 returns-after-loop-spec-clause-writes g c = λ plain ok.
     let h1 = c.in_ok-write.ensures.writes plain (search rules) in
     let h2 = c.loop-spec.invariant h1.plain in
-    let told = ap (λ ss. spaced (alternatives_words (specs_of ss))) c.in-Some.ensures.cases.0 ∙ alternatives_spaced c.in-Some.spec.now c.in-Some.others.now in
+    let text_is = ap (λ ss. spaced (alternatives_words (specs_of ss))) c.in-Some.ensures.cases.0 ∙ alternatives_spaced c.in-Some.spec.now c.in-Some.others.now in
     let all : take c.loop-spec.spec-index c.in-Some.others.now ≡ c.in-Some.others.now = take_all _ _ (omega (arith, c.loop-spec-test.false)) in
-    put_two _ _ _ _ _ _ _ h1 h2 (ap (λ ss. 32 ∷ join_with_byte 32 (spec_words (spec_of c.in-Some.spec.now)) ++ barred ss) all ∙ sym told)
+    put_two _ _ _ _ _ _ _ h1 h2 (ap (λ ss. 32 ∷ join_with_byte 32 (spec_words (spec_of c.in-Some.spec.now)) ++ with_bars ss) all ∙ sym text_is)

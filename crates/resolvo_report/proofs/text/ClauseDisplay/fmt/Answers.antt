@@ -12,7 +12,7 @@ returns-clause-writes g c = λ plain ok.
     let h1 = c.in_ok-write.ensures.writes plain (search rules) in
     let h2 = c.loop-literal.invariant h1.plain in
     let h3 = c.write-3.ensures.writes h2.plain ok in
-    let told = ap (λ ls. clause_text (literals_of ls)) c.in-Some.ensures.cases.0 ∙ clause_parted c.in-Some.first.now c.in-Some.others.now in
+    let text_is = ap (λ ls. clause_text (literals_of ls)) c.in-Some.ensures.cases.0 ∙ clause_parted c.in-Some.first.now c.in-Some.others.now in
     let first : List ℕ = codes "[" ++ literal_text (literal_of c.in-Some.first.now) in
     let all : take c.loop-literal.literal-index c.in-Some.others.now ≡ c.in-Some.others.now = take_all _ _ (omega (arith, c.loop-literal-test.false)) in
-    put_three _ _ _ _ _ (codes "[" ++ literal_text (literal_of c.in-Some.first.now)) (parted (take c.loop-literal.literal-index c.in-Some.others.now)) (codes "]") _ h1 h2 h3 (ap (λ ls. first ++ (parted ls ++ codes "]")) all ∙ sym (append_assoc first (parted c.in-Some.others.now) (codes "]")) ∙ sym told)
+    put_three _ _ _ _ _ (codes "[" ++ literal_text (literal_of c.in-Some.first.now)) (parted (take c.loop-literal.literal-index c.in-Some.others.now)) (codes "]") _ h1 h2 h3 (ap (λ ls. first ++ (parted ls ++ codes "]")) all ∙ sym (append_assoc first (parted c.in-Some.others.now) (codes "]")) ∙ sym text_is)

@@ -1,7 +1,7 @@
 use Rattle.std.proofs.Common.{◌≡◌, true, List, sym, subst}
 use Rattle.resolvo_store_core.specs.Signed.{Signed, has}
 use Rattle.resolvo_sat.specs.AddClause.{HasAnother}
-use Rattle.resolvo_sat.proofs.ComeLemmas.{clause_comes, first_has}
+use Rattle.resolvo_sat.proofs.PendingLemmas.{clause_pending, first_has}
 use Rattle.resolvo_sat.proofs.state.SatState.add_clause.Goals as goal
 
 pub has_another-is_long-requires : goal.has_another-is_long-requires
@@ -11,5 +11,5 @@ has_another-is_long-requires c =
 
 pub returns-clause-added : goal.returns-clause-added
 returns-clause-added c =
-    clause_comes c.args.clause c.in_ok-clause.clause c.index-literal.result.now c.has_another-is_long.result c.is_empty-is_rule.result c.args.self.now c.hold.new.self c.args.watching.now c.begin.new.self c.requires.ready c.requires.covered (subst (λ (ls : List Signed). HasAnother ls c.index-literal.result.now c.has_another-is_long.result) c.as_slice.ensures.value c.has_another-is_long.ensures)
+    clause_pending c.args.clause c.in_ok-clause.clause c.index-literal.result.now c.has_another-is_long.result c.is_empty-is_rule.result c.args.self.now c.push_clause.new.self c.args.watching.now c.begin.new.self c.requires.ready c.requires.covered (subst (λ (ls : List Signed). HasAnother ls c.index-literal.result.now c.has_another-is_long.result) c.as_slice.ensures.value c.has_another-is_long.ensures)
     c.in_ok-clause.ensures.added c.in_ok-begin.ensures.begun

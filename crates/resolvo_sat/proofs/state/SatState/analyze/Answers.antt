@@ -7,7 +7,7 @@ use Rattle.resolvo_sat.specs.declared.state.SatState.{SatState}
 use Rattle.resolvo_sat.specs.Entries.{before, top_level, IsPropagated, reason_of}
 use Rattle.resolvo_sat.specs.State.{clauses_of}
 use Rattle.resolvo_sat.specs.Known.{clause_at}
-use Rattle.resolvo_sat.specs.Analysis.{Walks, Seen, IsKeptOrForced, is_seen}
+use Rattle.resolvo_sat.specs.Analysis.{Walks, Seen, IsDecisionOrForced, is_seen}
 use Rattle.resolvo_sat.proofs.Clauses.{length-lists}
 use Rattle.resolvo_sat.proofs.WalkLemmas.{Meets, meets, walk_starts, walk_keeps, walk_resolves, walk_at, rooted_before, kept_low, in_range_from, learnt_analysis, if_ok_more}
 use Rattle.resolvo_sat.proofs.state.SatState.analyze.Goals as goal
@@ -15,15 +15,15 @@ use Rattle.resolvo_sat.proofs.state.SatState.analyze.Goals as goal
 pub loop-place-init : goal.loop-place-init
 loop-place-init c =
     let s : SatState = c.args.self.now in
-    let pushed : c.push.new.self.items ≡ c.args.broken ∷ [] =
-    chosen _ _ _ _ c.push.ensures.items (ap is_ok c.in_ok-push.was) ∙ ap (λ (l : List ClauseId). l ++ c.args.broken ∷ []) c.new-causes.ensures.items in
+    let pushed : c.push.new.self.items ≡ c.args.falsified ∷ [] =
+    chosen _ _ _ _ c.push.ensures.items (ap is_ok c.in_ok-push.was) ∙ ap (λ (l : List ClauseId). l ++ c.args.falsified ∷ []) c.new-causes.ensures.items in
     let whole : length c.stack-place.result.now ≡ length s.tracker.trail = ap length c.stack-place.ensures.trail in
-    let bound : c.args.broken.0 < length (clauses_of s) = omega (arith, length-lists s.clauses, c.requires.in_range) in
-    let marked : Seen (clause_at (clauses_of s) c.args.broken.0) c.new-seen.result c.mark_seen.new.seen = subst (λ (l : List Signed). Seen l c.new-seen.result c.mark_seen.new.seen) c.literals.ensures c.in_ok-pending.ensures.marked in
+    let bound : c.args.falsified.0 < length (clauses_of s) = omega (arith, length-lists s.clauses, c.requires.in_range) in
+    let marked : Seen (clause_at (clauses_of s) c.args.falsified.0) c.new-seen.result c.mark_seen.new.seen = subst (λ (l : List Signed). Seen l c.new-seen.result c.mark_seen.new.seen) c.literals.ensures c.in_ok-pending.ensures.marked in
     subst (λ (n : ℕ). Walks s [] n c.mark_seen.new.seen c.new-kept.result.items c.push.new.self.items) (sym whole)
     (subst (λ (k : List Signed). Walks s [] (length s.tracker.trail) c.mark_seen.new.seen k c.push.new.self.items) (sym c.new-kept.ensures.items)
     (subst (λ (r : List ClauseId). Walks s [] (length s.tracker.trail) c.mark_seen.new.seen [] r) (sym pushed)
-    (walk_starts s c.args.broken c.new-seen.result c.mark_seen.new.seen c.requires.state bound c.requires.falls c.new-seen.ensures marked)))
+    (walk_starts s c.args.falsified c.new-seen.result c.mark_seen.new.seen c.requires.state bound c.requires.falls c.new-seen.ensures marked)))
 
 pub returns-in-Some-clause-analysis : goal.returns-in-Some-clause-analysis
 returns-in-Some-clause-analysis c =
@@ -48,10 +48,10 @@ loop-place-preserved-in-Continue-branch-4 c =
     let within : p < length s.tracker.trail = omega arith in
     let m : Meets s p d = meets s p d c.requires.state within c.entry-entry.ensures.next in
     let marked : is_seen c.loop-place.seen d ≡ true = sym c.contains.ensures ∙ c.if-contains.true in
-    let pushed = chosen _ _ _ _ c.push-then-is_kept.ensures.items (ap is_ok c.in_ok-push-2.was) ∙ ap (λ (l : Signed). c.loop-place.kept.items ++ l ∷ []) (c.negate.ensures ∙ ap Rattle.resolvo_store_core.specs.Signed.negation c.literal_made_true.ensures) in
-    walk_keeps s [] p d c.loop-place.seen c.loop-place.kept.items c.push-then-is_kept.new.self.items c.loop-place.causes.items m marked
+    let pushed = chosen _ _ _ _ c.push-then-is_decision.ensures.items (ap is_ok c.in_ok-push-2.was) ∙ ap (λ (l : Signed). c.loop-place.kept.items ++ l ∷ []) (c.negate.ensures ∙ ap Rattle.resolvo_store_core.specs.Signed.negation c.literal_made_true.ensures) in
+    walk_keeps s [] p d c.loop-place.seen c.loop-place.kept.items c.push-then-is_decision.new.self.items c.loop-place.causes.items m marked
     (kept_low s p d (top_level (before s.tracker.trail p)) (omega arith) c.in_default.ensures
-    (subst (IsKeptOrForced s d (before s.tracker.trail p)) c.if-is_kept.true c.is_kept.ensures))
+    (subst (IsDecisionOrForced s d (before s.tracker.trail p)) c.if-is_decision.true c.is_decision.ensures))
     pushed (walk_at s [] c.loop-place.place c.loop-place.seen c.loop-place.kept.items c.loop-place.causes.items c.loop-place-test.true c.loop-place.invariant)
 
 pub literals-reason-requires : goal.literals-reason-requires
@@ -59,11 +59,11 @@ literals-reason-requires c =
     let s : SatState = c.args.self.now in
     let p : ℕ = c.loop-place.place - 1 in
     let d : Entry = c.entry-entry.result in
-    let forced : IsPropagated (clauses_of s) d (before s.tracker.trail p) = subst (IsKeptOrForced s d (before s.tracker.trail p)) c.if-is_kept.false c.is_kept.ensures in
-    omega (arith, length-lists s.clauses, in_range_from (clauses_of s) (reason_of d) _ forced.forced.stands)
+    let forced : IsPropagated (clauses_of s) d (before s.tracker.trail p) = subst (IsDecisionOrForced s d (before s.tracker.trail p)) c.if-is_decision.false c.is_decision.ensures in
+    omega (arith, length-lists s.clauses, in_range_from (clauses_of s) (reason_of d) _ forced.forced.present)
 
-pub loop-place-preserved-else-is_kept : goal.loop-place-preserved-else-is_kept
-loop-place-preserved-else-is_kept c =
+pub loop-place-preserved-else-is_decision : goal.loop-place-preserved-else-is_decision
+loop-place-preserved-else-is_decision c =
     let s : SatState = c.args.self.now in
     let p : ℕ = c.loop-place.place - 1 in
     let d : Entry = c.entry-entry.result in
@@ -71,9 +71,9 @@ loop-place-preserved-else-is_kept c =
     let within : p < length s.tracker.trail = omega arith in
     let m : Meets s p d = meets s p d c.requires.state within c.entry-entry.ensures.next in
     let is_marked_d : is_seen c.loop-place.seen d ≡ true = sym c.contains.ensures ∙ c.if-contains.true in
-    let forced : IsPropagated (clauses_of s) d (before s.tracker.trail p) = subst (IsKeptOrForced s d (before s.tracker.trail p)) c.if-is_kept.false c.is_kept.ensures in
-    let marked : Seen (clause_at (clauses_of s) (reason_of d)) c.loop-place.seen c.mark_seen-else-is_kept.new.seen = subst (λ (l : List Signed). Seen l c.loop-place.seen c.mark_seen-else-is_kept.new.seen) c.literals-reason.ensures c.in_ok-more.ensures.marked in
-    let pushed = chosen _ _ _ _ c.push-else-is_kept.ensures.items (ap is_ok c.in_ok-push-3.was) in
-    walk_resolves s [] p d c.loop-place.seen c.mark_seen-else-is_kept.new.seen c.loop-place.kept.items c.loop-place.causes.items c.push-else-is_kept.new.self.items m
+    let forced : IsPropagated (clauses_of s) d (before s.tracker.trail p) = subst (IsDecisionOrForced s d (before s.tracker.trail p)) c.if-is_decision.false c.is_decision.ensures in
+    let marked : Seen (clause_at (clauses_of s) (reason_of d)) c.loop-place.seen c.mark_seen-else-is_decision.new.seen = subst (λ (l : List Signed). Seen l c.loop-place.seen c.mark_seen-else-is_decision.new.seen) c.literals-reason.ensures c.in_ok-more.ensures.marked in
+    let pushed = chosen _ _ _ _ c.push-else-is_decision.ensures.items (ap is_ok c.in_ok-push-3.was) in
+    walk_resolves s [] p d c.loop-place.seen c.mark_seen-else-is_decision.new.seen c.loop-place.kept.items c.loop-place.causes.items c.push-else-is_decision.new.self.items m
     (rooted_before s p d c.loop-place.seen c.requires.state m c.loop-place.invariant.rootless is_marked_d) forced marked pushed
     (walk_at s [] c.loop-place.place c.loop-place.seen c.loop-place.kept.items c.loop-place.causes.items c.loop-place-test.true c.loop-place.invariant)

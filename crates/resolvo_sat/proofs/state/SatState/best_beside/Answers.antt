@@ -4,7 +4,7 @@ use Rattle.resolvo_store_core.specs.Signed.{Signed}
 use Rattle.resolvo_sat.specs.State.{history}
 use Rattle.resolvo_sat.specs.Entries.{made_true}
 use Rattle.resolvo_sat.specs.Attach.{IsBestBeside}
-use Rattle.resolvo_sat.proofs.SettleLemmas.{best_found}
+use Rattle.resolvo_sat.proofs.AttachLemmas.{best_found}
 use Rattle.resolvo_sat.proofs.state.SatState.best_beside.Goals as goal
 
 pub returns : goal.returns

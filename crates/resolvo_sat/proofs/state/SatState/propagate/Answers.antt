@@ -1,38 +1,38 @@
 use Rattle.std.proofs.Common.{◌≡◌, ◌+◌, ◌^◌, ◌<◌, ◌≤◌, List, length, None, subst, arith}
 use Rattle.resolvo_sat.specs.declared.state.SatState.{SatState}
 use Rattle.resolvo_sat.specs.declared.watch_lists.UnitClause.{UnitClause}
-use Rattle.resolvo_sat.specs.Propagation.{IsSinglesEnd, SetsSingles, IsVisit, Walked}
+use Rattle.resolvo_sat.specs.Propagation.{IsUnitsEnd, AssignsUnits, IsVisit, Walked}
 use Rattle.resolvo_sat.specs.State.{count_of}
-use Rattle.resolvo_sat.specs.Attach.{IsWaitingEnd}
+use Rattle.resolvo_sat.specs.Attach.{IsPendingEnd}
 use Rattle.resolvo_sat.proofs.Readiness.{ready_extends, same_watching}
-use Rattle.resolvo_sat.proofs.CompleteLemmas.{entries_bounded, running_starts, running_goes_on, running_ends, running_smaller, singles_ready, singles_break, conflicts_later}
+use Rattle.resolvo_sat.proofs.CompleteLemmas.{entries_bounded, running_starts, running_goes_on, running_ends, running_smaller, units_ready, units_falsified, conflicts_later}
 use Rattle.resolvo_sat.proofs.state.SatState.propagate.Goals as goal
 
 pub loop-literal-init : goal.loop-literal-init
 loop-literal-init c =
     let s : SatState = c.assign_units-2.new.self in
-    let rules : SetsSingles c.args.watching.now.assertions.items c.args.self.now c.assign_units.new.self = subst (λ (xs : List UnitClause). SetsSingles xs c.args.self.now c.assign_units.new.self) c.as_slice.ensures.value (subst (IsSinglesEnd c.as_slice.result.now c.args.self.now c.assign_units.new.self) c.in_default.is c.in_ok-clause.ensures.set) in
-    let learnt : SetsSingles c.args.watching.now.learnt.items c.assign_units.new.self s = subst (λ (xs : List UnitClause). SetsSingles xs c.assign_units.new.self s) c.as_slice-2.ensures.value (subst (IsSinglesEnd c.as_slice-2.result.now c.assign_units.new.self s) c.in_default-2.is c.in_ok-clause-2.ensures.set) in
-    let settled : IsWaitingEnd s c.attach_pending.new.self c.args.watching.now c.attach_pending.new.watching None = subst (IsWaitingEnd s c.attach_pending.new.self c.args.watching.now c.attach_pending.new.watching) c.in_default-3.is c.in_ok-clause-3.ensures.settled in
-    running_starts c.args.self.now c.assign_units.new.self s c.attach_pending.new.self c.args.watching.now c.attach_pending.new.watching rules learnt settled.0 settled.1
+    let rules : AssignsUnits c.args.watching.now.assertions.items c.args.self.now c.assign_units.new.self = subst (λ (xs : List UnitClause). AssignsUnits xs c.args.self.now c.assign_units.new.self) c.as_slice.ensures.value (subst (IsUnitsEnd c.as_slice.result.now c.args.self.now c.assign_units.new.self) c.in_default.is c.in_ok-clause.ensures.set) in
+    let learnt : AssignsUnits c.args.watching.now.learnt.items c.assign_units.new.self s = subst (λ (xs : List UnitClause). AssignsUnits xs c.assign_units.new.self s) c.as_slice-2.ensures.value (subst (IsUnitsEnd c.as_slice-2.result.now c.assign_units.new.self s) c.in_default-2.is c.in_ok-clause-2.ensures.set) in
+    let attached : IsPendingEnd s c.attach_pending.new.self c.args.watching.now c.attach_pending.new.watching None = subst (IsPendingEnd s c.attach_pending.new.self c.args.watching.now c.attach_pending.new.watching) c.in_default-3.is c.in_ok-clause-3.ensures.attached in
+    running_starts c.args.self.now c.assign_units.new.self s c.attach_pending.new.self c.args.watching.now c.attach_pending.new.watching rules learnt attached.0 attached.1
 
 pub returns-in-Some-clause-propagation : goal.returns-in-Some-clause-propagation
 returns-in-Some-clause-propagation c =
-    singles_break c.in-Some.clause.0 c.args.self.now c.assign_units.new.self c.args.watching.now c.requires.ready
-    (subst (IsSinglesEnd c.as_slice.result.now c.args.self.now c.assign_units.new.self) c.in-Some.is c.in_ok-clause.ensures.set)
+    units_falsified c.in-Some.clause.0 c.args.self.now c.assign_units.new.self c.args.watching.now c.requires.ready
+    (subst (IsUnitsEnd c.as_slice.result.now c.args.self.now c.assign_units.new.self) c.in-Some.is c.in_ok-clause.ensures.set)
 
 pub returns-in-Some-2-clause-propagation : goal.returns-in-Some-2-clause-propagation
 returns-in-Some-2-clause-propagation c =
-    let rules : SetsSingles c.as_slice.result.now c.args.self.now c.assign_units.new.self = subst (IsSinglesEnd c.as_slice.result.now c.args.self.now c.assign_units.new.self) c.in_default.is c.in_ok-clause.ensures.set in
+    let rules : AssignsUnits c.as_slice.result.now c.args.self.now c.assign_units.new.self = subst (IsUnitsEnd c.as_slice.result.now c.args.self.now c.assign_units.new.self) c.in_default.is c.in_ok-clause.ensures.set in
     conflicts_later c.in-Some-2.clause.0 c.args.self.now c.assign_units.new.self c.assign_units-2.new.self c.args.watching.now c.args.watching.now c.args.watching.now (same_watching c.args.watching.now) rules.extends
-    (singles_break c.in-Some-2.clause.0 c.assign_units.new.self c.assign_units-2.new.self c.args.watching.now (ready_extends c.args.self.now c.assign_units.new.self c.args.watching.now c.requires.ready rules.extends rules.front)
-    (subst (IsSinglesEnd c.as_slice-2.result.now c.assign_units.new.self c.assign_units-2.new.self) c.in-Some-2.is c.in_ok-clause-2.ensures.set))
+    (units_falsified c.in-Some-2.clause.0 c.assign_units.new.self c.assign_units-2.new.self c.args.watching.now (ready_extends c.args.self.now c.assign_units.new.self c.args.watching.now c.requires.ready rules.extends rules.qhead)
+    (subst (IsUnitsEnd c.as_slice-2.result.now c.assign_units.new.self c.assign_units-2.new.self) c.in-Some-2.is c.in_ok-clause-2.ensures.set))
 
 pub attach_pending-requires : goal.attach_pending-requires
 attach_pending-requires c = record {
-  ready = singles_ready c.args.self.now c.assign_units.new.self c.assign_units-2.new.self c.args.watching.now c.as_slice.result.now c.as_slice-2.result.now c.requires.ready
-      (subst (IsSinglesEnd c.as_slice.result.now c.args.self.now c.assign_units.new.self) c.in_default.is c.in_ok-clause.ensures.set)
-      (subst (IsSinglesEnd c.as_slice-2.result.now c.assign_units.new.self c.assign_units-2.new.self) c.in_default-2.is c.in_ok-clause-2.ensures.set);
+  ready = units_ready c.args.self.now c.assign_units.new.self c.assign_units-2.new.self c.args.watching.now c.as_slice.result.now c.as_slice-2.result.now c.requires.ready
+      (subst (IsUnitsEnd c.as_slice.result.now c.args.self.now c.assign_units.new.self) c.in_default.is c.in_ok-clause.ensures.set)
+      (subst (IsUnitsEnd c.as_slice-2.result.now c.assign_units.new.self c.assign_units-2.new.self) c.in_default-2.is c.in_ok-clause-2.ensures.set);
 }
 
 pub returns-in-Some-4-clause-propagation : goal.returns-in-Some-4-clause-propagation
@@ -44,9 +44,9 @@ returns-in-Some-4-clause-propagation c =
 pub pass_entry-requires : goal.pass_entry-requires
 pass_entry-requires c =
     let s : SatState = c.loop-literal.self in
-    let walked : Walked (s.front + 1) s c.propagate_literal.new.self c.loop-literal.watching c.propagate_literal.new.watching = subst (IsVisit s c.propagate_literal.new.self c.loop-literal.watching c.propagate_literal.new.watching) c.in_default-4.is c.in_ok-clause-4.ensures.propagate_literal in
-    let kept : c.propagate_literal.new.self.front ≡ s.front = walked.front in
-    let within : s.front < length s.tracker.trail = c.in-Some-next_fallen.ensures.in_range in
+    let walked : Walked (s.qhead + 1) s c.propagate_literal.new.self c.loop-literal.watching c.propagate_literal.new.watching = subst (IsVisit s c.propagate_literal.new.self c.loop-literal.watching c.propagate_literal.new.watching) c.in_default-4.is c.in_ok-clause-4.ensures.propagate_literal in
+    let kept : c.propagate_literal.new.self.qhead ≡ s.qhead = walked.qhead in
+    let within : s.qhead < length s.tracker.trail = c.in-Some-next_fallen.ensures.in_range in
     let bound : length s.tracker.trail ≤ count_of s = entries_bounded s c.loop-literal.invariant.extends.state in
     let small : count_of s < 2 ^ 31 = c.loop-literal.invariant.extends.state.small in
     omega arith

@@ -7,4 +7,4 @@ abbrev pub invariant-loop-literal : goal.invariant-loop-literal
 invariant-loop-literal l = Running l.fn.self l.self l.fn.watching l.watching
 
 abbrev pub decreases-loop-literal : goal.decreases-loop-literal
-decreases-loop-literal l = count_of l.self - l.self.front
+decreases-loop-literal l = count_of l.self - l.self.qhead

@@ -10,11 +10,11 @@ use Rattle.resolvo_sat.proofs.state.SatState.propagate_literal.Goals as goal
 
 pub loop-clause-init : goal.loop-clause-init
 loop-clause-init c =
-    subst (λ (x : WatchMapCursor). IsVisiting c.args.self.now.front x.literal x.place c.args.self.now c.args.self.now c.args.watching.now c.args.watching.now) (sym c.cursor-cursor.ensures)
-    (visiting_starts c.args.self.now.front c.args.self.now c.args.watching.now c.args.literal c.requires.state c.requires.fits c.requires.fell c.requires.walked)
+    subst (λ (x : WatchMapCursor). IsVisiting c.args.self.now.qhead x.literal x.place c.args.self.now c.args.self.now c.args.watching.now c.args.watching.now) (sym c.cursor-cursor.ensures)
+    (visiting_starts c.args.self.now.qhead c.args.self.now c.args.watching.now c.args.literal c.requires.state c.requires.fits c.requires.fell c.requires.walked)
 
 pub visit_clause-requires-clause-known : goal.visit_clause-requires-clause-known
-visit_clause-requires-clause-known c = fallen_now c.args.self.now.front c.loop-clause.cursor.literal c.loop-clause.cursor.place c.args.self.now c.loop-clause.self c.args.watching.now c.loop-clause.watching c.loop-clause.invariant
+visit_clause-requires-clause-known c = fallen_now c.args.self.now.qhead c.loop-clause.cursor.literal c.loop-clause.cursor.place c.args.self.now c.loop-clause.self c.args.watching.now c.loop-clause.watching c.loop-clause.invariant
 
 pub loop-clause-smaller-in-Kept : goal.loop-clause-smaller-in-Kept
 loop-clause-smaller-in-Kept c =
@@ -27,8 +27,8 @@ loop-clause-smaller-in-Kept c =
 
 pub loop-clause-preserved-in-Kept : goal.loop-clause-preserved-in-Kept
 loop-clause-preserved-in-Kept c =
-    subst (λ (x : WatchMapCursor). IsVisiting c.args.self.now.front x.literal x.place c.args.self.now c.visit_clause.new.self c.args.watching.now c.visit_clause.new.watching) (sym c.next.ensures)
-    (visiting_keeps c.args.self.now.front c.loop-clause.cursor.literal c.loop-clause.cursor.place c.in-Some.clause c.watched_literals-watched.result c.args.self.now c.loop-clause.self c.visit_clause.new.self c.args.watching.now c.loop-clause.watching c.visit_clause.new.watching c.loop-clause.invariant (sym c.in-Some.ensures.clause)
+    subst (λ (x : WatchMapCursor). IsVisiting c.args.self.now.qhead x.literal x.place c.args.self.now c.visit_clause.new.self c.args.watching.now c.visit_clause.new.watching) (sym c.next.ensures)
+    (visiting_keeps c.args.self.now.qhead c.loop-clause.cursor.literal c.loop-clause.cursor.place c.in-Some.clause c.watched_literals-watched.result c.args.self.now c.loop-clause.self c.visit_clause.new.self c.args.watching.now c.loop-clause.watching c.visit_clause.new.watching c.loop-clause.invariant (sym c.in-Some.ensures.clause)
     (subst (λ (xs : List (Option WatchedLiterals)). pair_at xs c.in-Some.clause.0 ≡ Some c.watched_literals-watched.result) c.as_slice.ensures.value (c.watched_literals-watched.ensures c.in-Some.clause (sym c.in-Some.ensures.clause)))
     (subst (IsMeeting c.loop-clause.cursor.literal c.loop-clause.cursor.place c.in-Some.clause.0 c.watched_literals-watched.result c.loop-clause.self c.loop-clause.watching c.visit_clause.new.self c.visit_clause.new.watching) c.in-Kept.is c.in_ok-visit_clause.ensures.met))
 
@@ -41,13 +41,13 @@ loop-clause-smaller c =
 
 pub loop-clause-preserved : goal.loop-clause-preserved
 loop-clause-preserved c =
-    visiting_moves c.args.self.now.front c.loop-clause.cursor.literal c.loop-clause.cursor.place c.in-Some.clause c.args.self.now c.loop-clause.self c.visit_clause.new.self c.args.watching.now c.loop-clause.watching c.visit_clause.new.watching c.loop-clause.invariant (sym c.in-Some.ensures.clause)
+    visiting_moves c.args.self.now.qhead c.loop-clause.cursor.literal c.loop-clause.cursor.place c.in-Some.clause c.args.self.now c.loop-clause.self c.visit_clause.new.self c.args.watching.now c.loop-clause.watching c.visit_clause.new.watching c.loop-clause.invariant (sym c.in-Some.ensures.clause)
     (subst (IsMeeting c.loop-clause.cursor.literal c.loop-clause.cursor.place c.in-Some.clause.0 c.watched_literals-watched.result c.loop-clause.self c.loop-clause.watching c.visit_clause.new.self c.visit_clause.new.watching) c.in-Moved.is c.in_ok-visit_clause.ensures.met)
 
-pub returns-in-Broken-clause-propagate_literal : goal.returns-in-Broken-clause-propagate_literal
-returns-in-Broken-clause-propagate_literal c =
+pub returns-in-Falsified-clause-propagate_literal : goal.returns-in-Falsified-clause-propagate_literal
+returns-in-Falsified-clause-propagate_literal c =
     visiting_breaks c.loop-clause.cursor.literal c.loop-clause.cursor.place c.in-Some.clause.0 c.watched_literals-watched.result c.args.self.now c.loop-clause.self c.visit_clause.new.self c.args.watching.now c.loop-clause.watching c.visit_clause.new.watching c.loop-clause.invariant (subst (λ (xs : List (Option WatchedLiterals)). pair_at xs c.in-Some.clause.0 ≡ Some c.watched_literals-watched.result) c.as_slice.ensures.value (c.watched_literals-watched.ensures c.in-Some.clause (sym c.in-Some.ensures.clause)))
-    (subst (IsMeeting c.loop-clause.cursor.literal c.loop-clause.cursor.place c.in-Some.clause.0 c.watched_literals-watched.result c.loop-clause.self c.loop-clause.watching c.visit_clause.new.self c.visit_clause.new.watching) c.in-Broken.is c.in_ok-visit_clause.ensures.met)
+    (subst (IsMeeting c.loop-clause.cursor.literal c.loop-clause.cursor.place c.in-Some.clause.0 c.watched_literals-watched.result c.loop-clause.self c.loop-clause.watching c.visit_clause.new.self c.visit_clause.new.watching) c.in-Falsified.is c.in_ok-visit_clause.ensures.met)
 
 pub returns-clause-propagate_literal : goal.returns-clause-propagate_literal
-returns-clause-propagate_literal c = visiting_ends c.args.self.now.front c.loop-clause.cursor.literal c.loop-clause.cursor.place c.args.self.now c.loop-clause.self c.args.watching.now c.loop-clause.watching c.loop-clause.invariant (sym c.in_default.ensures.clause)
+returns-clause-propagate_literal c = visiting_ends c.args.self.now.qhead c.loop-clause.cursor.literal c.loop-clause.cursor.place c.args.self.now c.loop-clause.self c.args.watching.now c.loop-clause.watching c.loop-clause.invariant (sym c.in_default.ensures.clause)

@@ -4,7 +4,7 @@ use Rattle.resolvo_sat.specs.Propagation.{IsVisiting}
 use Rattle.resolvo_sat.proofs.state.SatState.propagate_literal.Given as goal
 
 abbrev pub invariant-loop-clause : goal.invariant-loop-clause
-invariant-loop-clause l = IsVisiting l.initial.self.front l.cursor.literal l.cursor.place l.initial.self l.self l.initial.watching l.watching
+invariant-loop-clause l = IsVisiting l.initial.self.qhead l.cursor.literal l.cursor.place l.initial.self l.self l.initial.watching l.watching
 
 abbrev pub decreases-loop-clause : goal.decreases-loop-clause
 decreases-loop-clause l = length (watchers l.watching.watches l.cursor.literal) - l.cursor.place

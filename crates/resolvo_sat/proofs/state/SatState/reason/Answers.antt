@@ -7,7 +7,7 @@ use Rattle.resolvo_sat.specs.declared.state.SatState.{SatState}
 use Rattle.resolvo_sat.specs.Entries.{before, literal_of, reason_of, IsPropagated}
 use Rattle.resolvo_sat.specs.State.{clauses_of, count_of}
 use Rattle.resolvo_sat.specs.Known.{clause_at}
-use Rattle.resolvo_sat.specs.Analysis.{Walks, Seen, IsKeptOrForced, is_seen}
+use Rattle.resolvo_sat.specs.Analysis.{Walks, Seen, IsDecisionOrForced, is_seen}
 use Rattle.resolvo_sat.proofs.Clauses.{length-lists}
 use Rattle.resolvo_sat.proofs.WalkLemmas.{Meets, meets, walk_begins, walk_keeps, walk_resolves, walk_at, rooted_before, rooted_before_false, false_forced, below_turn, kept_low, in_range_from}
 use Rattle.resolvo_sat.proofs.state.SatState.reason.Goals as goal
@@ -17,7 +17,7 @@ literals-requires c =
     let s : SatState = c.args.self.now in
     let m : Meets s c.args.place c.args.entry = meets s c.args.place c.args.entry c.requires.state c.requires.in_range c.requires.next in
     let forced : IsPropagated (clauses_of s) c.args.entry (before s.tracker.trail c.args.place) = false_forced s c.args.place c.args.entry m c.requires.fell in
-    omega (arith, length-lists s.clauses, in_range_from (clauses_of s) (reason_of c.args.entry) _ forced.forced.stands)
+    omega (arith, length-lists s.clauses, in_range_from (clauses_of s) (reason_of c.args.entry) _ forced.forced.present)
 
 pub literal_made_true-requires : goal.literal_made_true-requires
 literal_made_true-requires c =
@@ -53,19 +53,19 @@ loop-at-preserved-in-Continue-branch-4 c =
     let m : Meets s p d = meets s p d c.requires.state within c.entry-earlier.ensures.next in
     let marked : is_seen c.loop-at.seen d ≡ true = sym c.contains.ensures ∙ c.if-contains.true in
     let low : d.level < s.base_level = below_turn s p d c.requires.state m c.requires.above in
-    let pushed = chosen _ _ _ _ c.push-then-is_kept.ensures.items (ap is_ok c.in_ok-push-3.was) ∙ ap (λ (l : Signed). c.loop-at.kept.items ++ l ∷ []) (c.negate.ensures ∙ ap negation c.literal_made_true-then-is_kept.ensures) in
-    walk_keeps s (literal_of c.args.entry ∷ []) p d c.loop-at.seen c.loop-at.kept.items c.push-then-is_kept.new.self.items c.loop-at.causes.items m marked
+    let pushed = chosen _ _ _ _ c.push-then-is_decision.ensures.items (ap is_ok c.in_ok-push-3.was) ∙ ap (λ (l : Signed). c.loop-at.kept.items ++ l ∷ []) (c.negate.ensures ∙ ap negation c.literal_made_true-then-is_decision.ensures) in
+    walk_keeps s (literal_of c.args.entry ∷ []) p d c.loop-at.seen c.loop-at.kept.items c.push-then-is_decision.new.self.items c.loop-at.causes.items m marked
     (kept_low s p d 0 (omega arith) (λ above under. absurd (omega arith))
-    (subst (IsKeptOrForced s d (before s.tracker.trail p)) c.if-is_kept.true c.is_kept.ensures))
+    (subst (IsDecisionOrForced s d (before s.tracker.trail p)) c.if-is_decision.true c.is_decision.ensures))
     pushed (walk_at s (literal_of c.args.entry ∷ []) c.loop-at.at c.loop-at.seen c.loop-at.kept.items c.loop-at.causes.items c.loop-at-test.true c.loop-at.invariant)
 
-pub literals-requires-else-is_kept : goal.literals-requires-else-is_kept
-literals-requires-else-is_kept c =
+pub literals-requires-else-is_decision : goal.literals-requires-else-is_decision
+literals-requires-else-is_decision c =
     let s : SatState = c.args.self.now in
     let p : ℕ = c.loop-at.at - 1 in
     let d : Entry = c.entry-earlier.result in
-    let forced : IsPropagated (clauses_of s) d (before s.tracker.trail p) = subst (IsKeptOrForced s d (before s.tracker.trail p)) c.if-is_kept.false c.is_kept.ensures in
-    omega (arith, length-lists s.clauses, in_range_from (clauses_of s) (reason_of d) _ forced.forced.stands)
+    let forced : IsPropagated (clauses_of s) d (before s.tracker.trail p) = subst (IsDecisionOrForced s d (before s.tracker.trail p)) c.if-is_decision.false c.is_decision.ensures in
+    omega (arith, length-lists s.clauses, in_range_from (clauses_of s) (reason_of d) _ forced.forced.present)
 
 pub loop-at-preserved-in_ok-mark_seen-2 : goal.loop-at-preserved-in_ok-mark_seen-2
 loop-at-preserved-in_ok-mark_seen-2 c =
@@ -76,9 +76,9 @@ loop-at-preserved-in_ok-mark_seen-2 c =
     let within : p < length s.tracker.trail = omega arith in
     let m : Meets s p d = meets s p d c.requires.state within c.entry-earlier.ensures.next in
     let is_marked_d : is_seen c.loop-at.seen d ≡ true = sym c.contains.ensures ∙ c.if-contains.true in
-    let forced : IsPropagated (clauses_of s) d (before s.tracker.trail p) = subst (IsKeptOrForced s d (before s.tracker.trail p)) c.if-is_kept.false c.is_kept.ensures in
-    let marked : Seen (clause_at (clauses_of s) (reason_of d)) c.loop-at.seen c.mark_seen-else-is_kept.new.seen = subst (λ (l : List Signed). Seen l c.loop-at.seen c.mark_seen-else-is_kept.new.seen) c.literals-else-is_kept.ensures c.in_ok-mark_seen-2.ensures.marked in
-    let pushed = chosen _ _ _ _ c.push-else-is_kept.ensures.items (ap is_ok c.in_ok-push-4.was) in
-    walk_resolves s (literal_of c.args.entry ∷ []) p d c.loop-at.seen c.mark_seen-else-is_kept.new.seen c.loop-at.kept.items c.loop-at.causes.items c.push-else-is_kept.new.self.items m
+    let forced : IsPropagated (clauses_of s) d (before s.tracker.trail p) = subst (IsDecisionOrForced s d (before s.tracker.trail p)) c.if-is_decision.false c.is_decision.ensures in
+    let marked : Seen (clause_at (clauses_of s) (reason_of d)) c.loop-at.seen c.mark_seen-else-is_decision.new.seen = subst (λ (l : List Signed). Seen l c.loop-at.seen c.mark_seen-else-is_decision.new.seen) c.literals-else-is_decision.ensures c.in_ok-mark_seen-2.ensures.marked in
+    let pushed = chosen _ _ _ _ c.push-else-is_decision.ensures.items (ap is_ok c.in_ok-push-4.was) in
+    walk_resolves s (literal_of c.args.entry ∷ []) p d c.loop-at.seen c.mark_seen-else-is_decision.new.seen c.loop-at.kept.items c.loop-at.causes.items c.push-else-is_decision.new.self.items m
     (rooted_before s p d c.loop-at.seen c.requires.state m c.loop-at.invariant.rootless is_marked_d) forced marked pushed
     (walk_at s (literal_of c.args.entry ∷ []) c.loop-at.at c.loop-at.seen c.loop-at.kept.items c.loop-at.causes.items c.loop-at-test.true c.loop-at.invariant)

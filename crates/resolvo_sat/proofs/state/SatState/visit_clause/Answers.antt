@@ -5,7 +5,7 @@ use Rattle.resolvo_sat.specs.Known.{Forces, clause_at}
 use Rattle.resolvo_sat.specs.State.{history, clauses_of}
 use Rattle.resolvo_sat.specs.Entries.{made_true}
 use Rattle.resolvo_sat.proofs.ExtendLemmas.{extends_nothing}
-use Rattle.resolvo_sat.proofs.VisitLemmas.{pair_watches, forces_other, falls_whole, keeps_noted}
+use Rattle.resolvo_sat.proofs.VisitLemmas.{pair_watches, forces_other, falls_whole, keeps_recorded}
 use Rattle.resolvo_sat.proofs.state.SatState.visit_clause.Goals as goal
 
 pub assign-requires-clause-forces : goal.assign-requires-clause-forces
@@ -15,7 +15,7 @@ assign-requires-clause-forces c =
     let is : c.other-other.result ≡ other_of c.args.watched c.args.cursor.literal = c.other-other.ensures in
     subst (λ (l : Signed). Forces known (clause_at (clauses_of s) c.args.clause.0) l) (sym is)
     (forces_other known (clause_at (clauses_of s) c.args.clause.0) c.args.watched c.args.cursor.literal (c.requires.fits.own c.args.clause.0 c.args.watched c.requires.pair)
-    (pair_watches s c.args.watching.now c.args.cursor.literal c.args.cursor.place c.args.clause c.args.watched c.requires.fits c.requires.stands c.requires.pair)
+    (pair_watches s c.args.watching.now c.args.cursor.literal c.args.cursor.place c.args.clause c.args.watched c.requires.fits c.requires.present c.requires.pair)
     c.requires.known c.in-None.ensures
     (subst (λ (l : Signed). has known l ≡ false) is (sym c.is_true.ensures ∙ c.if-is_true.false))
     (subst (λ (l : Signed). has known (negation l) ≡ false) is (sym c.is_false.ensures ∙ c.if-is_false.false)))
@@ -29,11 +29,11 @@ returns-then-is_false-clause-met c =
       same_state = refl;
       same_watching = refl;
       falls = falls_whole known (clause_at (clauses_of s) c.args.clause.0) c.args.watched c.args.cursor.literal
-          (pair_watches s c.args.watching.now c.args.cursor.literal c.args.cursor.place c.args.clause c.args.watched c.requires.fits c.requires.stands c.requires.pair)
+          (pair_watches s c.args.watching.now c.args.cursor.literal c.args.cursor.place c.args.clause c.args.watched c.requires.fits c.requires.present c.requires.pair)
           c.requires.known c.in-None.ensures
           (subst (λ (l : Signed). has known (negation l) ≡ true) is (sym c.is_false.ensures ∙ c.if-is_false.true));
     }
 
 pub returns-then-is_true-clause-met : goal.returns-then-is_true-clause-met
 returns-then-is_true-clause-met c =
-    keeps_noted c.args.cursor.literal c.other-other.result c.args.watched c.args.self.now c.args.self.now c.note_guard.new.self c.args.watching.now c.other-other.ensures (extends_nothing c.args.self.now c.requires.state) refl c.note_guard.ensures
+    keeps_recorded c.args.cursor.literal c.other-other.result c.args.watched c.args.self.now c.args.self.now c.record_guard.new.self c.args.watching.now c.other-other.ensures (extends_nothing c.args.self.now c.requires.state) refl c.record_guard.ensures

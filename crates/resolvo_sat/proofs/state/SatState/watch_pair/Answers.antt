@@ -1,4 +1,4 @@
-use Rattle.resolvo_sat.proofs.ComeLemmas.{two_below}
+use Rattle.resolvo_sat.proofs.PendingLemmas.{two_below}
 use Rattle.resolvo_sat.proofs.state.SatState.watch_pair.Goals as goal
 
 pub literals-requires : goal.literals-requires

@@ -10,11 +10,11 @@ track-requires g c =
     let places = c.in_ok-place.ensures.place in
     let gives = c.in_ok-variable.ensures.given in
     let below = place_within c.args.name c.in_ok-place.place c.args.self.now c.place_of.new.self places in
-    let ties = named_tied c.args.name c.in_ok-place.place c.args.self.now c.place_of.new.self c.args.coding.now c.requires.tied places c.variable.new.self gives.grows (digits_same c.args.coding.now c.variable.new.self gives.stated) in
+    let ties = named_tied c.args.name c.in_ok-place.place c.args.self.now c.place_of.new.self c.args.coding.now c.requires.tied places c.variable.new.self gives.grows (digits_same c.args.coding.now c.variable.new.self gives.kinds) in
     record {
       coding = gives.coding;
-      tied = ties.tied c.in_ok-place.place c.args.name c.index_mut.result.now places.stands (slice_get_read c.place_of.new.self.trackers.items _ c.in_ok-place.place c.index_mut.result.now refl below c.index_mut.ensures.value);
-      solvable = (c.args.solvable, gives.stands);
+      tied = ties.tied c.in_ok-place.place c.args.name c.index_mut.result.now places.present (slice_get_read c.place_of.new.self.trackers.items _ c.in_ok-place.place c.index_mut.result.now refl below c.index_mut.ensures.value);
+      solvable = (c.args.solvable, gives.present);
     }
 
 pub returns-clause-registered : goal.returns-clause-registered

@@ -10,5 +10,5 @@ invariant_of-self-in-None c =
     let e : Entry = record { decision = c.args.decision; level = c.args.level } in
     let grown : c.push.new.self.items ≡ c.self.inside.stack.items ++ e ∷ [] =
     c.push.ensures.items ∙ ap (λ r. cond (is_ok r) (c.reserve.new.self.items ++ e ∷ []) c.reserve.new.self.items) c.unwrap.ensures ∙ ap (λ (es : List Entry). es ++ e ∷ []) c.reserve.ensures.items in
-    subst (λ (es : List Entry). IsTrail c.set.new.self es c.self.inside.front c.self.inside.floor) (sym grown)
-    (trail_pushed c.self.inside.map c.set.new.self c.self.inside.stack.items e c.self.inside.front c.self.inside.floor c.self.invariant (undecided_at c.self.inside.map c.args.decision.variable.0 (sym c.in-None.ensures)) c.in_ok-set-in-None.ensures.put)
+    subst (λ (es : List Entry). IsTrail c.set.new.self es c.self.inside.qhead c.self.inside.floor) (sym grown)
+    (trail_pushed c.self.inside.map c.set.new.self c.self.inside.stack.items e c.self.inside.qhead c.self.inside.floor c.self.invariant (undecided_at c.self.inside.map c.args.decision.variable.0 (sym c.in-None.ensures)) c.in_ok-set-in-None.ensures.put)

@@ -6,8 +6,8 @@ use Rattle.resolvo_store_core.proofs.decision_tracker.DecisionTracker.undo_last.
 pub invariant_of-self : goal.invariant_of-self
 invariant_of-self c =
     let len : c.len-len.result ≡ length c.pop.new.self.items = cc in
-    let front : c.min-self-inside.result ≡ min c.self.inside.front (length c.pop.new.self.items) = c.min-self-inside.ensures ∙ ap (min c.self.inside.front) len in
+    let qhead : c.min-self-inside.result ≡ min c.self.inside.qhead (length c.pop.new.self.items) = c.min-self-inside.ensures ∙ ap (min c.self.inside.qhead) len in
     let floor : c.min-self-inside-in-Some.result ≡ min c.self.inside.floor (length c.pop.new.self.items) = c.min-self-inside-in-Some.ensures ∙ ap (min c.self.inside.floor) len in
-    subst (λ (n : ℕ). IsTrail c.reset.new.self c.pop.new.self.items n c.min-self-inside-in-Some.result) (sym front)
-    (subst (λ (n : ℕ). IsTrail c.reset.new.self c.pop.new.self.items (min c.self.inside.front (length c.pop.new.self.items)) n) (sym floor)
-    (trail_popped c.self.inside.map c.reset.new.self c.self.inside.stack.items c.pop.new.self.items c.in-Some.entry c.self.inside.front c.self.inside.floor c.self.invariant c.in-Some.ensures.items c.reset.ensures.put))
+    subst (λ (n : ℕ). IsTrail c.reset.new.self c.pop.new.self.items n c.min-self-inside-in-Some.result) (sym qhead)
+    (subst (λ (n : ℕ). IsTrail c.reset.new.self c.pop.new.self.items (min c.self.inside.qhead (length c.pop.new.self.items)) n) (sym floor)
+    (trail_popped c.self.inside.map c.reset.new.self c.self.inside.stack.items c.pop.new.self.items c.in-Some.entry c.self.inside.qhead c.self.inside.floor c.self.invariant c.in-Some.ensures.items c.reset.ensures.put))

@@ -5,9 +5,9 @@ use Rattle.resolvo_store_core.proofs.decision_tracker.DecisionTracker.undo_until
 
 pub loop-top-init : goal.loop-top-init
 loop-top-init c =
-    let t : Tracked = record { trail = c.self.inside.stack.items; front = c.self.inside.front; floor = c.self.inside.floor } in
+    let t : Tracked = record { trail = c.self.inside.stack.items; qhead = c.self.inside.qhead; floor = c.self.inside.floor } in
     let is : t ≡ c.args.self.now = c.self.view_is in (
-      subst (λ (s : Tracked). TakesAway c.args.level s s) is (takes_nothing c.args.level t c.self.invariant.front_within c.self.invariant.floor_within),
+      subst (λ (s : Tracked). TakesAway c.args.level s s) is (takes_nothing c.args.level t c.self.invariant.qhead_within c.self.invariant.floor_within),
       c.top_level-top.ensures ∙ ap last_level c.as_slice.ensures.value ∙ ap (λ (s : Tracked). last_level s.trail) is,
     )
 

@@ -12,4 +12,4 @@ unwrap-requires c =
     subst IsSome (sym is) refl
 
 pub unreachable-requires : goal.unreachable-requires
-unreachable-requires c = some_within (watchers c.args.map.now c.args.self.now.literal) c.args.self.now.place c.requires.stands (sym c.in-None.ensures.clause)
+unreachable-requires c = some_within (watchers c.args.map.now c.args.self.now.literal) c.args.self.now.place c.requires.in_list (sym c.in-None.ensures.clause)

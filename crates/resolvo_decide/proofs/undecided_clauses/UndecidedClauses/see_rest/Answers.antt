@@ -1,0 +1,16 @@
+use Rattle.std.proofs.Common.{◌-◌, ◌≤◌, ap, arith, length, length-append, take, drop}
+use Rattle.resolvo_decide.proofs.FitLemmas.{keeps_both, seen_more, seen_all}
+use Rattle.resolvo_decide.proofs.undecided_clauses.UndecidedClauses.see_rest.Goals as goal
+
+pub loop-entry-preserved : goal.loop-entry-preserved
+loop-entry-preserved c =
+    let common = c.len-seen.result in
+    record {
+      seen = seen_more (take common c.args.trail.now) (take (length c.args.trail.now - common) (drop common c.args.trail.now)) c.loop-entry.self.seen.items c.see_entry.new.self.seen.items c.loop-entry.entry-index _ c.loop-entry.invariant.seen c.loop-entry-test.true c.in_ok-see_entry.ensures.seen;
+      fits = keeps_both c.args.self.now c.loop-entry.self c.see_entry.new.self c.loop-entry.invariant.fits c.in_ok-see_entry.ensures.fits;
+    }
+
+pub returns-clause-seen : goal.returns-clause-seen
+returns-clause-seen c =
+    let low : c.len-seen.result ≤ length c.args.trail.now = omega (arith, ap length c.requires.1, length-append c.args.self.now.seen.items c.requires.0) in
+    seen_all c.len-seen.result c.loop-entry.entry-index c.args.trail.now c.loop-entry.self.seen.items low c.loop-entry.invariant.seen c.loop-entry-test.false

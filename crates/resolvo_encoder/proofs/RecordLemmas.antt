@@ -1,0 +1,163 @@
+-- A soft requirement is recorded, and removed.
+use Rattle.std.proofs.Common.{◌≡◌, ◌<◌, inl, inr, Bool, true, false, List, [], ◌∷◌, ◌++◌, length, Option, Some, None, Vec, Global, refl, sym, ◌∙◌, ap, subst, arith}
+use Rattle.std.proofs.lemmas.Bool.{both_ways}
+use Rattle.std.proofs.lemmas.List.{length_push, same_from_push}
+use Rattle.std.specs.Prelude.{Contains, option_to_list, IsSome}
+use Rattle.resolvo_pool_core.specs.declared.id.VariableId.{VariableId}
+use Rattle.resolvo_pool_core.specs.OnePass.{Literal}
+use Rattle.resolvo_pool_core.specs.RuleKeeping.{Packages, Rules}
+use Rattle.resolvo_store_core.specs.Signed.{Signed, has}
+use Rattle.resolvo_store_core.specs.Clauses.{yes}
+use Rattle.resolvo_store_core.specs.declared.decision.Entry.{Entry}
+use Rattle.resolvo_store_core.specs.declared.lists.Candidate.{Candidate}
+use Rattle.resolvo_sat.specs.Entries.{literal_of, made_true, IsOnTrail}
+use Rattle.resolvo_sat.specs.State.{history}
+use Rattle.resolvo_sat.proofs.Trails.{known_from_level, level_from_entry}
+use Rattle.resolvo_soundness.specs.Encoding.{IsExact, Atom, plus}
+use Rattle.resolvo_soundness.specs.Numbered.{meaning, known_of, AreCalledFor}
+use Rattle.resolvo_soundness.proofs.Lists.{contains_one, contains_left, contains_parts}
+use Rattle.resolvo_soundness.proofs.Members.{in_contained, contained_in}
+use Rattle.resolvo_packages.specs.declared.package_source.Offered.{Offered}
+use Rattle.resolvo_state.specs.declared.atom.ProofAtom.TheVariants.{Solvable}
+use Rattle.resolvo_state.specs.declared.solver_state.SolverState.{SolverState}
+use Rattle.resolvo_state.specs.declared.registry.Registry.{Registry}
+use Rattle.resolvo_state.specs.Atoms.{origin, Represents}
+use Rattle.resolvo_state.specs.Registered.{IsTracked, Registers}
+use Rattle.resolvo_state.proofs.Origins.{means_solvable}
+use Rattle.resolvo_encoder.specs.declared.encoder.Encoder.{Encoder}
+use Rattle.resolvo_encoder.specs.Encoded.{IsChosenFor, IsEncoding, Registered}
+use Rattle.resolvo_encoder.specs.AtLeastOneClauses.{Admits}
+use Rattle.resolvo_encoder.proofs.CarryLemmas.{registers_none, registers_more}
+use Rattle.resolvo_encoder.proofs.EnrollLemmas.{enrolled, enrols}
+use Rattle.resolvo_encoder.proofs.EncodesLemmas.{built_recorded}
+use Rattle.resolvo_encoder.specs.Steps.{IsBuilt, IsListed}
+use Rattle.resolvo_encoder.specs.SoftRequirement.{RegistersSoft, RecordsSoft, IsUntaken, TakesBack}
+
+-- the encoding with other soft requirements
+abbrev pub with_softs : {N S : Type 0} → Encoder N S → Vec S Global → Encoder N S
+with_softs e ws = record e { recorded = record e.recorded { softs = ws } }
+
+-- the literal of an entry on the trail is known
+on_known : (h : List Entry) (e : Entry) (older : List Entry) → IsOnTrail h e older → has (made_true h) (literal_of e) ≡ true
+on_known h e older present = known_from_level h (literal_of e) e.level (level_from_entry h e older present)
+
+module _ {N S : Type 0} (same : S → S → Bool) (exact : IsExact same) where
+  -- ---- a soft requirement is added
+
+  -- a soft requirement is registered as an offered solvable is
+  pub soft_registers : (one : Offered N S) (v : VariableId) (old middle : Encoder N S) (t : Registry N) (c : SolverState N S) → Admits same (one ∷ []) old middle → Registers one.name one.solvable v middle.registry middle.coding t c
+      → RegistersSoft same one v old (enrolled middle t c)
+  soft_registers one v old middle t c admits soft_registered = record {
+    candidate = given;
+    enrols = enrols same exact (one ∷ []) (given ∷ []) old middle t c admits
+        (registers_more [] [] one given middle.registry middle.registry t middle.coding middle.coding c (registers_none middle.registry middle.coding admits.adds.built.coding admits.adds.built.tied) (record { literal = refl; registers = soft_registered }));
+    present = soft_registered.present;
+    tracked = soft_registered.registered;
+  }
+    where
+      given : Candidate N
+      given = record { literal = yes v; «package» = one.name }
+
+  -- The invariant is kept where the soft requirements are registered, and each decision is
+  -- justified.
+  softs_keep : (p : Packages N S) (root : Rules) (e : Encoder N S) (ws : Vec S Global) → IsEncoding same p root e → ((s : S) → Contains ws.items s → Registered same p root e s)
+      → AreCalledFor (origin e.coding.atoms.keys) (IsChosenFor same p (with_softs e ws)) (history e.coding.search) → IsEncoding same p root (with_softs e ws)
+  softs_keep p root e ws h wished called = record {
+    coding = h.coding;
+    tied = h.tied;
+    spelled = h.spelled;
+    rule = h.rule;
+    positive = h.positive;
+    named = h.named;
+    candidates = h.candidates;
+    listed = λ q c a. (let (s, fits, m) = h.listed q c a in (s, record { positive = fits.positive; present = fits.present; tracked = fits.tracked }, m));
+    offered = λ q s k m. (let (c, a, fits) = h.offered q s k m in (c, a, record { positive = fits.positive; present = fits.present; tracked = fits.tracked }));
+    fixed = h.fixed;
+    queued = h.queued;
+    asked = h.asked;
+    gates = h.gates;
+    forbid = h.forbid;
+    recorded = record { packages = h.recorded.packages; version_sets = h.recorded.version_sets };
+    cases = record { waiting = h.cases.waiting; places = h.cases.places; fired = h.cases.fired; cased = h.cases.cased; at_least_one = h.cases.at_least_one; there = h.cases.there };
+    within = h.within;
+    encoded = λ i parent below at. (let k = h.encoded i parent below at in record { needs = k.needs; limits = k.limits; guarded = k.guarded; unknown = k.unknown });
+    wished = wished;
+    called = called;
+  }
+
+  -- one more registered soft requirement
+  soft_more : (p : Packages N S) (root : Rules) (e : Encoder N S) (ws : Vec S Global) (s : S) → ws.items ≡ e.recorded.softs.items ++ s ∷ [] → Registered same p root e s → IsEncoding same p root e → IsEncoding same p root (with_softs e ws)
+  soft_more p root e ws s more registered h = softs_keep p root e ws h each called
+    where
+      each : (t : S) → Contains ws.items t → Registered same p root e t
+      each t a = elim (contains_parts t e.recorded.softs.items (s ∷ []) (subst (λ (xs : List S). Contains xs t) more a)) [
+        | inl k ↦ h.wished t k
+        | inr k ↦ subst (Registered same p root e) (sym (contains_one t s k)) registered
+      ]
+
+      wider : (known : List (Literal (Atom N S))) (l : Literal (Atom N S)) → IsChosenFor same p e known l → IsChosenFor same p (with_softs e ws) known l
+      wider known l (inr k) = inr k
+      wider known l (inl w) = inl (record {
+        solvable = w.solvable;
+        is = w.is;
+        wished = contained_in same exact p ws.items w.solvable
+            (subst (λ (xs : List S). Contains xs w.solvable) (sym more) (contains_left w.solvable e.recorded.softs.items (s ∷ []) (in_contained same exact p e.recorded.softs.items w.solvable w.wished)));
+      })
+
+      called : AreCalledFor (origin e.coding.atoms.keys) (IsChosenFor same p (with_softs e ws)) (history e.coding.search)
+      called x older present choice other = wider (known_of (origin e.coding.atoms.keys) older) (meaning (origin e.coding.atoms.keys) (literal_of x)) (h.called x older present choice other)
+
+  -- a soft requirement is registered, and recorded behind the others
+  pub soft_recorded : (one : Offered N S) (v : VariableId) (old middle : Encoder N S) (ws : Vec S Global) → RegistersSoft same one v old middle → ws.items ≡ middle.recorded.softs.items ++ one.solvable ∷ [] → RecordsSoft same one v old (with_softs middle ws)
+  soft_recorded one v old middle ws r more = record {
+    built = built_recorded middle (record middle.recorded { softs = ws }) r.enrols.built;
+    present = r.present;
+    softs = more ∙ ap (λ (xs : List S). xs ++ one.solvable ∷ []) r.enrols.extends.softs;
+    grows = r.enrols.extends.grows;
+    trail = record { tracker = r.enrols.extends.trail.tracker };
+    lists = r.enrols.lists;
+    parents = r.enrols.extends.parents;
+    encoded = r.enrols.extends.encoded;
+    deferred = r.enrols.extends.deferred;
+    fired = r.enrols.extends.fired;
+    encoding = λ p root lawful e listed.
+        soft_more p root middle ws one.solvable more (v, r.present, subst (λ (n : N). IsTracked middle.registry n v) listed.0 r.tracked)
+        (r.enrols.encoding p root lawful e (λ o h. subst (IsListed same p) (sym (contains_one o one h)) listed));
+  }
+
+  -- ---- the last soft requirement is removed
+
+  -- the last soft requirement is removed, which isn't chosen
+  soft_less : (p : Packages N S) (root : Rules) (e : Encoder N S) (ws : Vec S Global) (s : S) → e.recorded.softs.items ≡ ws.items ++ s ∷ []
+      → ((v : VariableId) → Represents e.coding.atoms.keys v (Solvable s) → has (made_true (history e.coding.search)) (yes v) ≡ false) → IsEncoding same p root e → IsEncoding same p root (with_softs e ws)
+  soft_less p root e ws s less open_one h = softs_keep p root e ws h (λ t a. h.wished t (subst (λ (xs : List S). Contains xs t) (sym less) (contains_left t ws.items (s ∷ []) a))) called
+    where
+      unchosen : (x : Entry) (older : List Entry) → IsOnTrail (history e.coding.search) x older → 0 < x.decision.variable.0 → meaning (origin e.coding.atoms.keys) (literal_of x) ≡ plus (Atom.solvable s) → ⊥
+      unchosen x older present other is =
+          let (positive, named) = means_solvable e.coding.atoms.keys (literal_of x) s (other, sym is) in
+          let known : has (made_true (history e.coding.search)) (literal_of x) ≡ true = on_known (history e.coding.search) x older present in
+          let chosen : has (made_true (history e.coding.search)) (yes x.decision.variable) ≡ true = subst (λ (b : Bool). has (made_true (history e.coding.search)) (let l : Signed = record { variable = x.decision.variable; positive = b } in l) ≡ true) positive known in
+          both_ways _ (open_one x.decision.variable named) chosen
+
+      called : AreCalledFor (origin e.coding.atoms.keys) (IsChosenFor same p (with_softs e ws)) (history e.coding.search)
+      called x older present choice other = elim (h.called x older present choice other) [
+        | inr k ↦ inr k
+        | inl w ↦ inl (record {
+          solvable = w.solvable;
+          is = w.is;
+          wished = contained_in same exact p ws.items w.solvable
+              (elim (contains_parts w.solvable ws.items (s ∷ []) (subst (λ (xs : List S). Contains xs w.solvable) less (in_contained same exact p e.recorded.softs.items w.solvable w.wished))) [
+                | inl k ↦ k
+                | inr k ↦ absurd (unchosen x older present other (w.is ∙ ap (λ (y : S). plus (Atom.solvable y)) (contains_one w.solvable s k)))
+              ]);
+        })
+      ]
+
+  pub soft_taken : (old : Encoder N S) (ws : Vec S Global) (last : Option S) → IsBuilt old → IsUntaken old → old.recorded.softs.items ≡ ws.items ++ option_to_list last → (0 < length old.recorded.softs.items → IsSome last) → TakesBack same old (with_softs old ws)
+  soft_taken old ws None built (prefix, s, whole, open_one) popped some = absurd (both_ways false refl (some (omega (arith, length_push prefix s, ap (λ (xs : List S). length xs) whole))))
+  soft_taken old ws (Some t) built (prefix, s, whole, open_one) popped some = record {
+    built = built_recorded old (record old.recorded { softs = ws }) built;
+    softs = λ other u is. (same_from_push ws.items other t u (sym popped ∙ is)).0;
+    rest = refl;
+    encoding = λ p root lawful e. soft_less p root old ws s (popped ∙ ap (λ (y : S). ws.items ++ y ∷ []) (same_from_push ws.items prefix t s (sym popped ∙ whole)).1) open_one e;
+  }

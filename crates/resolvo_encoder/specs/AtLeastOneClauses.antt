@@ -1,0 +1,70 @@
+-- At-least-one clauses, and the literals of a case over them: its packages are recorded, and the
+-- candidates outside its version sets are registered.
+use Rattle.std.specs.Prelude.{◌≡◌, Bool, true, List, Contains}
+use Rattle.resolvo_pool_core.specs.declared.id.VariableId.{VariableId}
+use Rattle.resolvo_pool_core.specs.declared.id.VersionSetId.{VersionSetId}
+use Rattle.resolvo_pool_core.specs.RuleKeeping.{Packages, Rules, IsLawful, is_outside}
+use Rattle.resolvo_store_core.specs.Signed.{Signed}
+use Rattle.resolvo_sat.specs.State.{count_of}
+use Rattle.resolvo_sat.specs.Steps.{AreInRange}
+use Rattle.resolvo_packages.specs.declared.package_source.Offered.{Offered}
+use Rattle.resolvo_soundness.specs.Encoding.{Rule, case_literals}
+use Rattle.resolvo_soundness.specs.Numbered.{Spells}
+use Rattle.resolvo_state.specs.Atoms.{origin}
+use Rattle.resolvo_state.specs.Registered.{IsTracked, IsRegistered}
+use Rattle.resolvo_encoder.specs.Cases.{sets_case, AreSets}
+use Rattle.resolvo_encoder.specs.Encoded.{rules_of, IsEncoding}
+use Rattle.resolvo_encoder.specs.Steps.{IsBuilt, Extends, IsListed}
+use Rattle.resolvo_encoder.specs.declared.conditions.ConditionSet.{ConditionSet}
+use Rattle.resolvo_encoder.specs.declared.encoder.Encoder.{Encoder}
+
+module _ {N S : Type 0} where
+  -- the registered solvables of the package, with it
+  pub record AreThose (e : Encoder N S) (name : N) (list : List (Offered N S)) : Type 0 where
+    pub each : (s : S) → IsRegistered e.registry e.coding name s → Contains list (record { solvable = s; name = name })
+    pub all : (o : Offered N S) → Contains list o → (o.name ≡ name) × IsRegistered e.registry e.coding name o.solvable
+
+  module _ (same : S → S → Bool) where
+    -- At-least-one clauses of these solvables were added, if they are candidates of their packages.
+    pub record AddsAtLeastOne (list : List (Offered N S)) (old new : Encoder N S) : Type 0 where
+      pub built : IsBuilt new
+      pub extends : Extends old new
+      pub lists : new.lists ≡ old.lists
+      pub registry : new.registry ≡ old.registry
+      pub at_least_one : new.recorded.at_least_one ≡ old.recorded.at_least_one
+      pub encoding : (p : Packages N S) (root : Rules) → IsLawful p → IsEncoding same p root old → ((o : Offered N S) → Contains list o → IsListed same p o)
+          → IsEncoding same p root new × ((o : Offered N S) → Contains list o → rules_of new (Rule.is_there o.name o.solvable))
+
+    -- At-least-one clauses were added for those whose package is recorded, and for no others.
+    pub record Admits (offered : List (Offered N S)) (old new : Encoder N S) : Type 0 where
+      pub added : List (Offered N S)
+      pub each : (o : Offered N S) → Contains offered o → Contains old.recorded.at_least_one.keys o.name → Contains added o
+      pub only : (o : Offered N S) → Contains added o → Contains offered o
+      pub adds : AddsAtLeastOne added old new
+
+    -- The package is recorded, and its registered solvables have at-least-one clauses.
+    pub record TracksAtLeastOne (name : N) (old new : Encoder N S) : Type 0 where
+      pub built : IsBuilt new
+      pub extends : Extends old new
+      pub lists : new.lists ≡ old.lists
+      pub registry : new.registry ≡ old.registry
+      pub keeps : (n : N) → Contains old.recorded.at_least_one.keys n → Contains new.recorded.at_least_one.keys n
+      pub at_least_one : Contains new.recorded.at_least_one.keys name
+      pub encoding : (p : Packages N S) (root : Rules) → IsLawful p → IsEncoding same p root old → IsEncoding same p root new
+
+    -- The case's packages are recorded, the candidates outside its version sets are registered, and
+    -- these are its literals.
+    pub record AreCaseLiterals (p : Packages N S) (e : Encoder N S) (case : List VersionSetId) (literals : List Signed) : Type 0 where
+      pub recorded : (v : VersionSetId) → Contains case v → Contains e.recorded.at_least_one.keys (p.set_package v)
+      pub registered : (v : VersionSetId) (s : S) → Contains case v → is_outside same p v s ≡ true → IsRegistered e.registry e.coding (p.package_of s) s
+      pub spells : Spells (origin e.coding.atoms.keys) literals (case_literals same p case)
+
+    -- The same for the case of these version sets, with these literals.
+    pub record CaseLiterals (sets : List (ConditionSet N S)) (literals : List Signed) (old new : Encoder N S) : Type 0 where
+      pub built : IsBuilt new
+      pub extends : Extends old new
+      pub lists : new.lists ≡ old.lists
+      pub keeps : (n : N) → Contains old.recorded.at_least_one.keys n → Contains new.recorded.at_least_one.keys n
+      pub tracked : (m : N) (u : VariableId) → IsTracked old.registry m u → IsTracked new.registry m u
+      pub in_range : AreInRange (count_of new.coding.search) literals
+      pub encoding : (p : Packages N S) (root : Rules) → IsLawful p → IsEncoding same p root old → AreSets same p sets → IsEncoding same p root new × AreCaseLiterals p new (sets_case sets) literals

@@ -1,7 +1,0 @@
-use Rattle.std.proofs.Common.{ℕ, ◌≤◌, List}
-use Rattle.resolvo_report.specs.Value.{AnswerLine}
-use Rattle.resolvo_judge.specs.KeptAnswers.{KeepsAnswers, KeepsLines, IsTold}
-use Rattle.resolvo_judge.proofs.entries.Entries.are_wishes_told.Given as goal
-
-abbrev pub invariant-loop-index : goal.invariant-loop-index
-invariant-loop-index l = (before : List AnswerLine) → KeepsAnswers l.fn.self before → KeepsLines l.fn.request.lines l.fn.self before → (n : ℕ) → n ≤ l.index → IsTold l.fn.request.lines before n

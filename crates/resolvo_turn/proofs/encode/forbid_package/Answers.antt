@@ -1,0 +1,24 @@
+use Rattle.std.proofs.Common.{List, subst, sym}
+use Rattle.resolvo_packages.specs.declared.package_source.ForbiddenSolvable.{ForbiddenSolvable}
+use Rattle.resolvo_packages.specs.Forbidden.{AreForbidden}
+use Rattle.resolvo_encoder.proofs.PickLemmas.{ordered_stays}
+use Rattle.resolvo_turn.proofs.AddLemmas.{needs_none, extends_needs}
+use Rattle.resolvo_turn.proofs.encode.forbid_package.Goals as goal
+
+pub returns-then-is_encoded-clause-encoded : goal.returns-then-is_encoded-clause-encoded
+returns-then-is_encoded-clause-encoded g c = λ root e. (e, λ s h. e.encoding.recorded.packages c.args.name s (c.is_encoded.ensures.0 c.if-is_encoded.true) h)
+
+pub returns-then-is_encoded-clause-kept : goal.returns-then-is_encoded-clause-kept
+returns-then-is_encoded-clause-kept g c = needs_none c.args.encoding.now
+
+pub returns-clause-encoded : goal.returns-clause-encoded
+returns-clause-encoded g c = λ root e.
+    let same = g.A.SolvableId.PartialEq.eq in
+    let p = g.A.PackageSource.packages c.args.answers.now in
+    let orders = g.A.PackageSource.orders c.args.answers.now in
+    let forbidden : AreForbidden same p c.args.name c.as_slice.result.now = subst (λ (xs : List (ForbiddenSolvable _)). AreForbidden same p c.args.name xs) (sym c.as_slice.ensures.value) c.in_ok-forbidden.ensures.forbidden in
+    let (last, forbids) = c.in_ok-forbid.ensures.encoded p root (g.met.A.PackageSource.lawful c.args.answers.now) e.encoding forbidden in
+    (record { encoding = last; ordered = ordered_stays orders c.args.encoding.now c.forbid.new.self c.in_ok-forbid.ensures.kept.grows c.in_ok-forbid.ensures.lists e.ordered }, forbids)
+
+pub returns-clause-kept : goal.returns-clause-kept
+returns-clause-kept g c = extends_needs c.args.encoding.now c.forbid.new.self c.in_ok-forbid.ensures.kept
