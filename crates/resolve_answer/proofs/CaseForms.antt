@@ -5,7 +5,7 @@ use Rattle.resolvo_text.specs.Line.{Spec, Cond, Needs}
 use Rattle.resolvo_text.specs.Cases.{cases, condition_cases}
 use Rattle.resolvo_text.specs.Spelling.{Written, Lone, Group, Both, Either, meant, IsSpec, IsWritten, Spells}
 use Rattle.resolvo_catalogue.proofs.Elements.{flat_from}
-use Rattle.resolvo_soundness.proofs.Lists.{contains_none, contains_one, contains_parts, map_contains}
+use Rattle.resolvo_sat.proofs.Lists.{contains_none, contains_one, contains_parts, map_contains}
 
 written_fits : (w : Written) → IsWritten w → (case : List Spec) → Contains (cases (meant w)) case → (s : Spec) → Contains case s → IsSpec s
 written_fits (Lone t) fits case among s has =

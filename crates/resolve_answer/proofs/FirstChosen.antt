@@ -18,7 +18,7 @@ use Rattle.resolvo_pool_core.specs.declared.requirement.Requirement.TheVariants.
 use Rattle.resolvo_pool_core.specs.Provider.{IsTriedFor, tried_first}
 use Rattle.resolvo_pool_core.specs.RuleKeeping.{is_in, IsRuleKeeping}
 use Rattle.resolvo_pool_core.specs.Text.{alternatives_of}
-use Rattle.resolvo_soundness.specs.First.{IsTriedBefore, IsUnbeaten, ArePreferred}
+use Rattle.resolvo_sat.specs.First.{IsTriedBefore, IsUnbeaten, ArePreferred}
 use Rattle.resolvo_catalogue.specs.Ids.{Ids, SolvableId, AreEach, IsSpec, AreAlternatives}
 use Rattle.resolvo_catalogue.specs.Known.{set_at, members_of}
 use Rattle.resolvo_catalogue.specs.Provider.{Provider, candidates_of, packages_of, IsSorted}

@@ -14,7 +14,7 @@ use Rattle.resolvo_pool_core.specs.declared.id.VersionSetId.{VersionSetId}
 use Rattle.resolvo_pool_core.specs.Provider as pool
 use Rattle.resolvo_pool_core.specs.Provider.{favoured_first, tried_first}
 use Rattle.resolvo_pool_core.specs.RuleKeeping.{is_in, is_match}
-use Rattle.resolvo_soundness.specs.First.{IsTriedBefore}
+use Rattle.resolvo_sat.specs.First.{IsTriedBefore}
 use Rattle.resolvo_catalogue.specs.Ids.{NameId, SolvableId, solvable_id, solvables_of, IsSpec}
 use Rattle.resolvo_catalogue.specs.Known.{set_at}
 use Rattle.resolvo_catalogue.specs.Marked.{IsMarked}

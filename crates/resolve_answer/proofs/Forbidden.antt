@@ -19,7 +19,7 @@ use Rattle.resolve_order.specs.Order as order
 use Rattle.resolve_order.specs.View.{turn_of, turns_of, wish_at}
 use Rattle.resolve_order.specs.declared.entry.Turn.{Turn}
 use Rattle.resolve_order.specs.declared.entry.Turn.TheVariants.{Chose, LeftOut}
-use Rattle.resolvo_soundness.proofs.Lists.{contains_cases, contains_first, contains_later, contains_map, contains_none, contains_one, contains_parts, map_contains}
+use Rattle.resolvo_sat.proofs.Lists.{contains_cases, contains_first, contains_later, contains_map, contains_none, contains_one, contains_parts, map_contains}
 use Rattle.resolvo_state.proofs.Positions.{get_below, get_in_prefix}
 use Rattle.resolvo_proof.specs.declared.step.ProofStep.{ProofStep}
 use Rattle.resolvo_proof.specs.declared.step.ProofStep.TheVariants.{Rule, Derived}

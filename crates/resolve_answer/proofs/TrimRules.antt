@@ -7,7 +7,7 @@ use Rattle.std.proofs.lemmas.List.{append-nil, length-append, map-append, revers
 use Rattle.std.proofs.lemmas.Grind.{flat_map-append}
 use Rattle.std.proofs.lemmas.Option.{slice_get_within}
 use Rattle.indexmap.specs.IndexSet.{insert_key, insert_all}
-use Rattle.resolvo_soundness.proofs.Lists.{contains_first, contains_later}
+use Rattle.resolvo_sat.proofs.Lists.{contains_first, contains_later}
 use Rattle.resolvo_proof.proofs.NumberLemmas.{order, falls_back}
 use Rattle.resolvo_proof.specs.declared.step.ProofStep.{ProofStep}
 use Rattle.resolvo_proof.specs.declared.step.ProofStep.TheVariants.{Rule, Derived}

@@ -4,7 +4,7 @@ use Rattle.resolvo_text.specs.Line.{Line}
 use Rattle.resolvo_text.specs.Matches.{Set}
 use Rattle.resolvo_catalogue_core.specs.Questions.{ReadRequest}
 use Rattle.resolvo_catalogue_core.specs.Sets as texts
-use Rattle.resolvo_soundness.proofs.Lists.{contains_none}
+use Rattle.resolvo_sat.proofs.Lists.{contains_none}
 use Rattle.resolvo_catalogue.specs.KeptSets.{DistinguishesIds, root_of}
 use Rattle.resolvo_catalogue.specs.Provider.{Provider, packages_of}
 use Rattle.resolvo_catalogue.proofs.KeptAlike.{kept_alike}

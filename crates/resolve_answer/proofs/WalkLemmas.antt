@@ -20,10 +20,10 @@ use Rattle.resolve_order.specs.View.{turn_of, turns_of}
 use Rattle.resolve_order.specs.declared.entry.Turn.{Turn}
 use Rattle.resolve_order.specs.declared.entry.Turn.TheVariants.{Chose, LeftOut}
 use Rattle.resolvo_pool_core.specs.RuleKeeping.{is_in, is_forbidden, IsExemptKeeping, IsRuleKeeping, IsReached}
-use Rattle.resolvo_soundness.specs.Encoding.{IsExact}
-use Rattle.resolvo_soundness.specs.SearchEnd.{IsAccepted}
-use Rattle.resolvo_soundness.proofs.Lists.{contains_first, contains_later, contains_one, contains_parts}
-use Rattle.resolvo_soundness.proofs.Members.{in_contained}
+use Rattle.resolvo_sat.specs.Encoding.{IsExact}
+use Rattle.resolvo_sat.specs.SearchEnd.{IsAccepted}
+use Rattle.resolvo_sat.proofs.Lists.{contains_first, contains_later, contains_one, contains_parts}
+use Rattle.resolvo_sat.proofs.Members.{in_contained}
 use Rattle.resolvo_catalogue.specs.Ids.{SolvableId, solvable_id}
 use Rattle.resolvo_catalogue.specs.KeptSets.{Represents, DistinguishesIds, root_of}
 use Rattle.resolvo_catalogue.specs.Over.{IsOver, AreAsked}

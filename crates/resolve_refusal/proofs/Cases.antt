@@ -12,8 +12,8 @@ use Rattle.resolvo_pool_core.specs.declared.condition.Condition.TheVariants.{Bin
 use Rattle.resolvo_pool_core.specs.declared.condition.LogicalOperator.TheVariants as joins
 use Rattle.resolvo_pool_core.specs.Intern.{AreBelow}
 use Rattle.resolvo_store_core.specs.Cases.{cases_by, cases_within}
-use Rattle.resolvo_soundness.specs.Encoding.{cases_under}
-use Rattle.resolvo_soundness.proofs.Lists.{contains_one, contains_parts, map_contains}
+use Rattle.resolvo_sat.specs.Encoding.{cases_under}
+use Rattle.resolvo_sat.proofs.Lists.{contains_one, contains_parts, map_contains}
 use Rattle.resolvo_catalogue.specs.Ids.{Ids, AreEach, IsSpec, IsCondition, IsConditionOf}
 use Rattle.resolvo_catalogue.specs.Known.{condition_at}
 use Rattle.resolvo_catalogue.proofs.Elements.{flat_from, each_from_left}

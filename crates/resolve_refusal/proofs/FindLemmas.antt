@@ -11,7 +11,7 @@ use Rattle.resolvo_catalogue_core.specs.Questions.{AreAll}
 use Rattle.resolvo_catalogue_core.proofs.PlaceLemmas.{at_from_contains}
 use Rattle.std.proofs.lemmas.Option.{slice_get_within, get_or_from_slice_get}
 use Rattle.std.proofs.lemmas.List.{take_more, take_all}
-use Rattle.resolvo_soundness.proofs.Lists.{contains_one, contains_parts}
+use Rattle.resolvo_sat.proofs.Lists.{contains_one, contains_parts}
 use Rattle.resolve_refusal.specs.declared.lines.PlaceLines.{PlaceLines}
 use Rattle.resolve_refusal.specs.declared.lines.PlaceLines.TheVariants as of_place
 use Rattle.resolve_refusal.specs.Lines.{count_of, number_at, AreLines, IsAt, NeedsIn, NeedsAs, IsNeedLine}

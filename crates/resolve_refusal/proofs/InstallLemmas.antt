@@ -21,7 +21,7 @@ use Rattle.resolvo_proof.specs.declared.step.ProofStep.TheVariants.{Derived}
 use Rattle.resolvo_catalogue.specs.Ids.{NameId, SolvableId}
 use Rattle.resolvo_catalogue.specs.Provider.{Provider}
 use Rattle.resolvo_catalogue.proofs.MarkLemmas.{one_some}
-use Rattle.resolvo_soundness.proofs.Lists.{contained_all, map_contains}
+use Rattle.resolvo_sat.proofs.Lists.{contained_all, map_contains}
 use Rattle.resolvo_report.specs.Value as in_report
 use Rattle.resolvo_report.specs.Text.{IsStep}
 use Rattle.resolvo_checker.specs.StepClauses as judge

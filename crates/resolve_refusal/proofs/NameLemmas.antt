@@ -6,7 +6,7 @@ use Rattle.std.proofs.lemmas.List.{length-replicate}
 use Rattle.std.proofs.Math.Seq.{take-nil}
 use Rattle.resolvo_catalogue_core.specs.Questions.{AreAll}
 use Rattle.resolvo_catalogue_core.proofs.Pushed.{Grows, all_new}
-use Rattle.resolvo_soundness.proofs.Lists.{contains_none, contains_one, contains_left, contains_right, contains_parts, contains_first}
+use Rattle.resolvo_sat.proofs.Lists.{contains_none, contains_one, contains_left, contains_right, contains_parts, contains_first}
 use Rattle.resolvo_report.specs.Value.{Step}
 use Rattle.resolve_refusal.specs.declared.named.Text.{Text}
 use Rattle.resolve_refusal.specs.Named.{line_in, RestsOn, IsNamedBy, IsFlagged, IsFlaggedLine, AreFlagged}

@@ -13,10 +13,10 @@ use Rattle.resolvo_sat.specs.declared.analyze.FinalConflict.{FinalConflict}
 use Rattle.resolvo_sat.specs.Analysis.{IsRefusal}
 use Rattle.resolvo_sat.specs.Entries.{made_true}
 use Rattle.resolvo_sat.specs.State.{history}
-use Rattle.resolvo_soundness.specs.Encoding.{IsExact}
-use Rattle.resolvo_soundness.specs.SearchEnd.{IsAccepted}
-use Rattle.resolvo_soundness.specs.First.{ArePreferred}
-use Rattle.resolvo_soundness.proofs.Lists.{contains_none}
+use Rattle.resolvo_sat.specs.Encoding.{IsExact}
+use Rattle.resolvo_sat.specs.SearchEnd.{IsAccepted}
+use Rattle.resolvo_sat.specs.First.{ArePreferred}
+use Rattle.resolvo_sat.proofs.Lists.{contains_none}
 use Rattle.resolvo_state.specs.Chosen.{AreChosen}
 use Rattle.resolvo_state.specs.SolverState.{IsCoding}
 use Rattle.resolvo_state.specs.Keys.{AreOnce}

@@ -17,10 +17,10 @@ use Rattle.resolvo_sat.specs.Analysis.{IsRefusal}
 use Rattle.resolvo_sat.specs.Entries.{made_true}
 use Rattle.resolvo_sat.specs.State.{history}
 use Rattle.resolvo_sat.proofs.StepLemmas.{reverse_push}
-use Rattle.resolvo_soundness.specs.Encoding.{IsExact}
-use Rattle.resolvo_soundness.specs.SearchEnd.{IsAccepted}
-use Rattle.resolvo_soundness.proofs.Lists.{contains_one, contains_parts}
-use Rattle.resolvo_soundness.proofs.Members.{in_contained, contained_in}
+use Rattle.resolvo_sat.specs.Encoding.{IsExact}
+use Rattle.resolvo_sat.specs.SearchEnd.{IsAccepted}
+use Rattle.resolvo_sat.proofs.Lists.{contains_one, contains_parts}
+use Rattle.resolvo_sat.proofs.Members.{in_contained, contained_in}
 use Rattle.resolvo_state.specs.declared.atom.ProofAtom.TheVariants.{Solvable}
 use Rattle.resolvo_state.specs.Chosen.{AreChosen}
 use Rattle.resolvo_state.specs.SolverState.{IsCoding}

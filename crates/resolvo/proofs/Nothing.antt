@@ -12,8 +12,8 @@ use Rattle.resolvo_pool_core.specs.RuleKeeping.{Packages, Rules, is_in, is_membe
 use Rattle.resolvo_pool_core.specs.Text.{solvable_of}
 use Rattle.resolvo_sat.specs.Begin.{IsRootClause}
 use Rattle.resolvo_sat.specs.declared.state.SatClause.{SatClause}
-use Rattle.resolvo_soundness.specs.First.{ArePreferred}
-use Rattle.resolvo_soundness.proofs.Lists.{contains_none}
+use Rattle.resolvo_sat.specs.First.{ArePreferred}
+use Rattle.resolvo_sat.proofs.Lists.{contains_none}
 use Rattle.resolvo_state.specs.Chosen.{choices}
 use Rattle.resolvo_state.specs.declared.atom.ProofAtom.{ProofAtom}
 use Rattle.resolvo_state.proofs.Positions.{once_none}

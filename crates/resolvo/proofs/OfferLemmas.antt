@@ -4,9 +4,9 @@ use Rattle.std.specs.Prelude.{Contains}
 use Rattle.std.proofs.lemmas.Bool.{both_ways, cases_Bool}
 use Rattle.std.proofs.lemmas.List.{take_more}
 use Rattle.resolvo_pool_core.specs.declared.requirement.Requirement.{Requirement}
-use Rattle.resolvo_soundness.proofs.Lists.{contains_one, contains_parts}
-use Rattle.resolvo_soundness.specs.Encoding.{same_requirement}
-use Rattle.resolvo_soundness.proofs.Members.{same_requirement_true, same_requirement-self}
+use Rattle.resolvo_sat.proofs.Lists.{contains_one, contains_parts}
+use Rattle.resolvo_sat.specs.Encoding.{same_requirement}
+use Rattle.resolvo_sat.proofs.Members.{same_requirement_true, same_requirement-self}
 use Rattle.resolvo_pool.specs.declared.cache.CacheFault.{CacheFault}
 use Rattle.resolvo_pool.specs.Cached.{IsCancelledBy}
 use Rattle.resolvo_pool.specs.Fault.{fault_of}

@@ -20,8 +20,8 @@ use Rattle.resolvo_sat.specs.Entries.{made_true, top_level, EndsWith}
 use Rattle.resolvo_sat.specs.Known.{clause_at}
 use Rattle.resolvo_sat.specs.State.{history, lists, IsDerived}
 use Rattle.resolvo_sat.specs.Steps.{Undoes}
-use Rattle.resolvo_soundness.specs.Encoding.{IsExact}
-use Rattle.resolvo_soundness.proofs.Lists.{contains_only, contains_right}
+use Rattle.resolvo_sat.specs.Encoding.{IsExact}
+use Rattle.resolvo_sat.proofs.Lists.{contains_only, contains_right}
 use Rattle.resolvo_packages.specs.declared.package_source.Offered.{Offered}
 use Rattle.resolvo_state.specs.declared.atom.ProofAtom.TheVariants.{Solvable}
 use Rattle.resolvo_state.specs.declared.solver_state.SolverState.{SolverState}

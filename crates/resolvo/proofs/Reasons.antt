@@ -5,10 +5,10 @@ use Rattle.std.proofs.lemmas.Option.{same_Some, slice_get_within}
 use Rattle.resolvo_store_core.specs.Signed.{Signed, has}
 use Rattle.resolvo_sat.specs.declared.state.SatClause.{SatClause}
 use Rattle.resolvo_pool_core.specs.OnePass.{Literal}
-use Rattle.resolvo_soundness.specs.Encoding.{Atom}
-use Rattle.resolvo_soundness.specs.Numbered.{meanings, Means}
-use Rattle.resolvo_soundness.proofs.Lists.{contains_map}
-use Rattle.resolvo_soundness.proofs.Meanings.{meaning_from}
+use Rattle.resolvo_sat.specs.Encoding.{Atom}
+use Rattle.resolvo_sat.specs.Numbered.{meanings, Means}
+use Rattle.resolvo_sat.proofs.Lists.{contains_map}
+use Rattle.resolvo_sat.proofs.Meanings.{meaning_from}
 use Rattle.resolvo_state.specs.declared.atom.ProofAtom.TheVariants.{Solvable}
 use Rattle.resolvo_state.specs.declared.solver_state.SolverState.{SolverState}
 use Rattle.resolvo_state.specs.declared.clause_kind.ClauseKind.{ClauseKind}

@@ -4,7 +4,7 @@ use Rattle.std.specs.Global.{Vec}
 use Rattle.resolvo_pool_core.specs.declared.id.ClauseId.{ClauseId}
 use Rattle.resolvo_pool_core.specs.RuleKeeping.{Packages, Rules}
 use Rattle.resolvo_pool_core.specs.declared.requirement.Requirement.{Requirement}
-use Rattle.resolvo_soundness.specs.First.{ArePreferred}
+use Rattle.resolvo_sat.specs.First.{ArePreferred}
 use Rattle.resolvo_proof.specs.Proof.{EndsEmpty}
 use Rattle.resolvo_proof.specs.declared.step.ProofStep.{ProofStep}
 use Rattle.resolvo_sat.specs.declared.analyze.FinalConflict.{FinalConflict}

@@ -5,7 +5,7 @@ use Rattle.resolvo_pool_core.specs.RuleKeeping.{Packages, Rules, is_in, IsRuleKe
 use Rattle.resolvo_store_core.specs.AtMostOne.{IsPrefixOf}
 use Rattle.resolvo_sat.specs.declared.analyze.FinalConflict.{FinalConflict}
 use Rattle.resolvo_sat.specs.Analysis.{IsRefusal}
-use Rattle.resolvo_soundness.specs.SearchEnd.{IsAccepted}
+use Rattle.resolvo_sat.specs.SearchEnd.{IsAccepted}
 use Rattle.resolvo_state.specs.Chosen.{choices}
 use Rattle.resolvo_state.specs.declared.solver_state.SolverState.{SolverState}
 use Rattle.resolvo_encoder.specs.TurnLevels.{AreAmongEncoded}

@@ -10,9 +10,9 @@ use Rattle.std.proofs.lemmas.Option.{same_Some, slice_get-get_or, slice_get_with
 use Rattle.resolvo_pool_core.specs.declared.id.ConditionId.{ConditionId}
 use Rattle.resolvo_pool_core.specs.declared.requirement.Requirement.{Requirement}
 use Rattle.resolvo_pool_core.specs.RuleKeeping.{Packages, Rules}
-use Rattle.resolvo_soundness.specs.Encoding.{Atom, IsExact, IsRule, same_requirement}
-use Rattle.resolvo_soundness.proofs.Lists.{any_contained, contains_none, contains_cases, contains_first, contains_later}
-use Rattle.resolvo_soundness.proofs.Members.{same_requirement_true, same_requirement-self}
+use Rattle.resolvo_sat.specs.Encoding.{Atom, IsExact, IsRule, same_requirement}
+use Rattle.resolvo_sat.proofs.Lists.{any_contained, contains_none, contains_cases, contains_first, contains_later}
+use Rattle.resolvo_sat.proofs.Members.{same_requirement_true, same_requirement-self}
 use Rattle.resolvo_graph.specs.declared.graph.NodeIndex.{NodeIndex}
 use Rattle.resolvo_graph.specs.declared.graph.ConflictNode.{ConflictNode}
 use Rattle.resolvo_graph.specs.declared.graph.ConflictNode.TheVariants.{Root, Solvable, UnresolvedDependency, Excluded}

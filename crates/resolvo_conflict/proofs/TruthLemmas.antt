@@ -12,8 +12,8 @@ use Rattle.resolvo_pool_core.specs.declared.requirement.ConditionalRequirement.{
 use Rattle.resolvo_pool_core.specs.declared.requirement.Requirement.{Requirement}
 use Rattle.resolvo_pool_core.specs.declared.requirement.Requirement.TheVariants.{Single, Union}
 use Rattle.resolvo_pool_core.specs.RuleKeeping.{Packages, Rules, rules_of, is_in, is_outside, meets, rules_for}
-use Rattle.resolvo_soundness.specs.Encoding as Encoder
-use Rattle.resolvo_soundness.specs.Encoding.{IsExact, IsRule, KeepsOut, asks, has_condition, same_requirement}
+use Rattle.resolvo_sat.specs.Encoding as Encoder
+use Rattle.resolvo_sat.specs.Encoding.{IsExact, IsRule, KeepsOut, asks, has_condition, same_requirement}
 use Rattle.resolvo_graph.specs.Tree.{same_set}
 use Rattle.resolvo_proof.specs.declared.step.ProofRule.{ProofRule}
 use Rattle.resolvo_proof.specs.declared.step.ProofRule.TheVariants.{Needs, GateOf, Shared, Limit, Outside, Locked, Excluded, Digit, AtLeastOne}

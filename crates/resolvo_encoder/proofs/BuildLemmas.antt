@@ -38,7 +38,7 @@ use Rattle.resolvo_state.specs.Registered.{AreTied}
 use Rattle.resolvo_state.proofs.Growth.{represents_grow, represents_in_range}
 use Rattle.resolvo_state.proofs.Positions.{prefix_equal, prefix_long, prefix_then}
 use Rattle.resolvo_state.proofs.RegisterLemmas.{KeepsDigits, digits_more, digits_same, ties_grow, nothing_tied}
-use Rattle.resolvo_soundness.proofs.Lists.{contains_none}
+use Rattle.resolvo_sat.proofs.Lists.{contains_none}
 use Rattle.resolvo_encoder.specs.Steps.{EncodesNeed, SameButCoding, IsBuilt, IsBegunEncoding, AddsParent}
 use Rattle.resolvo_encoder.specs.Conditions.{Defers, Fires}
 use Rattle.resolvo_encoder.specs.TurnLevels.{AreValues}

@@ -7,9 +7,9 @@ use Rattle.resolvo_store_core.specs.declared.lists.Candidate.{Candidate}
 use Rattle.resolvo_store_core.specs.AtMostOne.{digit}
 use Rattle.resolvo_store_core.specs.Signed.{Signed}
 use Rattle.resolvo_sat.specs.State.{count_of}
-use Rattle.resolvo_soundness.specs.Numbered.{Spells}
-use Rattle.resolvo_soundness.proofs.Lists.{contains_none, contains_left, contains_right, contains_only, contains_one, contains_parts}
-use Rattle.resolvo_soundness.proofs.GrowLemmas.{spells_agree}
+use Rattle.resolvo_sat.specs.Numbered.{Spells}
+use Rattle.resolvo_sat.proofs.Lists.{contains_none, contains_left, contains_right, contains_only, contains_one, contains_parts}
+use Rattle.resolvo_sat.proofs.GrowLemmas.{spells_agree}
 use Rattle.resolvo_packages.specs.declared.package_source.Offered.{Offered}
 use Rattle.resolvo_packages.specs.PackageSource.{offered_solvables}
 use Rattle.resolvo_state.specs.declared.atom.ProofAtom.TheVariants.{Solvable}

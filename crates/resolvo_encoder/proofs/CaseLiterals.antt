@@ -18,11 +18,11 @@ use Rattle.resolvo_sat.specs.Steps.{AreInRange}
 use Rattle.resolvo_sat.proofs.Literals.{has-cons, has_here, has_later, has-append}
 use Rattle.resolvo_packages.specs.declared.package_source.Offered.{Offered}
 use Rattle.resolvo_packages.specs.PackageSource.{offered_solvables}
-use Rattle.resolvo_soundness.specs.Encoding.{IsExact, Atom, Rule, plus, minus, case_literals, IsRule}
-use Rattle.resolvo_soundness.specs.Numbered.{meaning, Means, Spells}
-use Rattle.resolvo_soundness.proofs.GrowLemmas.{spells_agree}
-use Rattle.resolvo_soundness.proofs.Lists.{contains_none, contains_only, contains_one, contains_left, contains_right, contains_parts, contains_map, map_contains}
-use Rattle.resolvo_soundness.proofs.Members.{in_contained, contained_in, candidate_named, in_case, any_in_case, outside_in_case}
+use Rattle.resolvo_sat.specs.Encoding.{IsExact, Atom, Rule, plus, minus, case_literals, IsRule}
+use Rattle.resolvo_sat.specs.Numbered.{meaning, Means, Spells}
+use Rattle.resolvo_sat.proofs.GrowLemmas.{spells_agree}
+use Rattle.resolvo_sat.proofs.Lists.{contains_none, contains_only, contains_one, contains_left, contains_right, contains_parts, contains_map, map_contains}
+use Rattle.resolvo_sat.proofs.Members.{in_contained, contained_in, candidate_named, in_case, any_in_case, outside_in_case}
 use Rattle.resolvo_state.specs.declared.atom.ProofAtom.TheVariants.{Solvable, AtLeastOne}
 use Rattle.resolvo_state.specs.declared.solver_state.SolverState.{SolverState}
 use Rattle.resolvo_state.specs.declared.registry.Registry.{Registry}

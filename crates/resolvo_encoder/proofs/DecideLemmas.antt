@@ -27,13 +27,13 @@ use Rattle.resolvo_store_core.specs.declared.decision_map.Assignment.{Assignment
 use Rattle.resolvo_sat.specs.Entries.{made_true, IsTrail}
 use Rattle.resolvo_sat.proofs.Values.{true_is}
 use Rattle.resolvo_sat.specs.State.{history, count_of, clauses_of}
-use Rattle.resolvo_soundness.specs.Encoding.{IsExact, Atom, Rule, plus, minus, case_literals}
-use Rattle.resolvo_soundness.specs.SearchEnd.{AreFalse, IsTrueParent, HasClause, IsAsked, IsCalledFor}
-use Rattle.resolvo_soundness.specs.First.{IsFirstPick}
-use Rattle.resolvo_soundness.specs.Numbered.{meaning, Means, known_of, AreCalledFor}
-use Rattle.resolvo_soundness.proofs.FirstLemmas.{first_called_for}
-use Rattle.resolvo_soundness.proofs.Lists.{contains_none, contains_first, contains_later, contains_left, contains_right, contains_cases, any_contained, none_contained}
-use Rattle.resolvo_soundness.proofs.Meanings.{meaning_in}
+use Rattle.resolvo_sat.specs.Encoding.{IsExact, Atom, Rule, plus, minus, case_literals}
+use Rattle.resolvo_sat.specs.SearchEnd.{AreFalse, IsTrueParent, HasClause, IsAsked, IsCalledFor}
+use Rattle.resolvo_sat.specs.First.{IsFirstPick}
+use Rattle.resolvo_sat.specs.Numbered.{meaning, Means, known_of, AreCalledFor}
+use Rattle.resolvo_sat.proofs.FirstLemmas.{first_called_for}
+use Rattle.resolvo_sat.proofs.Lists.{contains_none, contains_first, contains_later, contains_left, contains_right, contains_cases, any_contained, none_contained}
+use Rattle.resolvo_sat.proofs.Meanings.{meaning_in}
 use Rattle.resolvo_state.specs.declared.atom.ProofAtom.{ProofAtom}
 use Rattle.resolvo_state.specs.declared.atom.ProofAtom.TheVariants.{Solvable, Gate}
 use Rattle.resolvo_state.specs.declared.clause_kind.ClauseKind.{ClauseKind}

@@ -8,9 +8,9 @@ use Rattle.resolvo_pool_core.specs.RuleKeeping.{Packages}
 use Rattle.resolvo_store_core.specs.Signed.{Signed, has}
 use Rattle.resolvo_store_core.specs.Clauses.{no, root as root_variable}
 use Rattle.resolvo_sat.proofs.Literals.{has-cons, has_here, has_later}
-use Rattle.resolvo_soundness.specs.Encoding.{Atom, Rule, plus, literals_of}
-use Rattle.resolvo_soundness.specs.Numbered.{meaning, Means, Spells}
-use Rattle.resolvo_soundness.proofs.Lists.{contains_none, contains_first, contains_left, contains_right, contains_one, contains_parts, contained_any}
+use Rattle.resolvo_sat.specs.Encoding.{Atom, Rule, plus, literals_of}
+use Rattle.resolvo_sat.specs.Numbered.{meaning, Means, Spells}
+use Rattle.resolvo_sat.proofs.Lists.{contains_none, contains_first, contains_left, contains_right, contains_one, contains_parts, contained_any}
 use Rattle.resolvo_store_core.specs.AtMostOne.{digit}
 use Rattle.resolvo_state.specs.declared.clause_kind.ClauseKind.{ClauseKind}
 use Rattle.resolvo_state.specs.declared.clause_kind.ClauseKind.TheVariants as Kind

@@ -1,8 +1,8 @@
 -- Rules that forbid solvables are encoded as clauses, one after another.
 use Rattle.std.proofs.Common.{◌≡◌, ◌<◌, ◌⊎◌, inl, inr, Bool, true, List, [], ◌∷◌, ◌++◌, map, length, Option, Some, None, refl, sym, ◌∙◌, ap, subst, arith, ℕ}
 use Rattle.resolvo_sat.specs.State.{history}
-use Rattle.resolvo_soundness.specs.SearchEnd.{IsSoftChoice}
-use Rattle.resolvo_soundness.specs.First.{IsFirstPick}
+use Rattle.resolvo_sat.specs.SearchEnd.{IsSoftChoice}
+use Rattle.resolvo_sat.specs.First.{IsFirstPick}
 use Rattle.std.specs.Prelude.{Contains}
 use Rattle.std.proofs.lemmas.List.{map-append}
 use Rattle.resolvo_pool_core.specs.declared.id.VariableId.{VariableId}
@@ -19,11 +19,11 @@ use Rattle.resolvo_packages.specs.declared.package_source.Why.{Why}
 use Rattle.resolvo_packages.specs.declared.package_source.Why.TheVariants.{Locked, Excluded}
 use Rattle.resolvo_packages.specs.PackageSource.{offered_solvables, AreOutside}
 use Rattle.resolvo_packages.specs.Forbidden.{KeepsOut, forbidden_solvables, AreForbidden}
-use Rattle.resolvo_soundness.specs.Encoding as rules
-use Rattle.resolvo_soundness.specs.Encoding.{IsExact, Atom, Rule, ForbidReason, plus, minus, IsRule, IsForbiddenIn, IsForbidden, literals_of, parent_literals}
-use Rattle.resolvo_soundness.specs.Numbered.{Spells, AreCalledFor}
-use Rattle.resolvo_soundness.proofs.Lists.{contains_none, contains_only, contains_left, contains_right, contains_parts, contains_one, contains_map, map_contains}
-use Rattle.resolvo_soundness.proofs.Members.{in_contained, contained_in}
+use Rattle.resolvo_sat.specs.Encoding as rules
+use Rattle.resolvo_sat.specs.Encoding.{IsExact, Atom, Rule, ForbidReason, plus, minus, IsRule, IsForbiddenIn, IsForbidden, literals_of, parent_literals}
+use Rattle.resolvo_sat.specs.Numbered.{Spells, AreCalledFor}
+use Rattle.resolvo_sat.proofs.Lists.{contains_none, contains_only, contains_left, contains_right, contains_parts, contains_one, contains_map, map_contains}
+use Rattle.resolvo_sat.proofs.Members.{in_contained, contained_in}
 use Rattle.resolvo_state.specs.declared.atom.ProofAtom.{ProofAtom}
 use Rattle.resolvo_state.specs.declared.atom.ProofAtom.TheVariants.{Solvable, AtLeastOne, Outside}
 use Rattle.resolvo_state.specs.declared.solver_state.SolverState.{SolverState}

@@ -28,11 +28,11 @@ use Rattle.resolvo_sat.specs.Entries.{IsOnTrail}
 use Rattle.resolvo_sat.specs.Begin.{IsRootClause, root_entry}
 use Rattle.resolvo_sat.proofs.Literals.{has-cons, has-append, has_here, has_later}
 use Rattle.resolvo_sat.proofs.Clauses.{literals_at}
-use Rattle.resolvo_soundness.specs.Encoding.{IsExact, Atom, Rule, plus, minus, IsRule, literals_of, parent_literals, case_literals, candidate_literals, cases_under, cases_for, asks, has_condition, same_requirement}
-use Rattle.resolvo_soundness.specs.SearchEnd.{HasClause}
-use Rattle.resolvo_soundness.specs.Numbered.{meaning, Means, Spells}
-use Rattle.resolvo_soundness.proofs.Lists.{contains_none, contains_cases, contains_first, contains_later, contains_left, contains_right, contains_one, contains_only, contains_parts, contained_any}
-use Rattle.resolvo_soundness.proofs.Members.{in_case, candidate_in, candidate_from, same_requirement-self}
+use Rattle.resolvo_sat.specs.Encoding.{IsExact, Atom, Rule, plus, minus, IsRule, literals_of, parent_literals, case_literals, candidate_literals, cases_under, cases_for, asks, has_condition, same_requirement}
+use Rattle.resolvo_sat.specs.SearchEnd.{HasClause}
+use Rattle.resolvo_sat.specs.Numbered.{meaning, Means, Spells}
+use Rattle.resolvo_sat.proofs.Lists.{contains_none, contains_cases, contains_first, contains_later, contains_left, contains_right, contains_one, contains_only, contains_parts, contained_any}
+use Rattle.resolvo_sat.proofs.Members.{in_case, candidate_in, candidate_from, same_requirement-self}
 use Rattle.resolvo_state.specs.declared.atom.ProofAtom.{ProofAtom}
 use Rattle.resolvo_state.specs.declared.atom.ProofAtom.TheVariants.{Solvable, Gate}
 use Rattle.resolvo_state.specs.declared.clause_kind.ClauseKind.{ClauseKind}

@@ -7,7 +7,7 @@ use Rattle.resolvo_pool_core.specs.declared.solver_id.SolvableIdOrRoot.{Solvable
 use Rattle.resolvo_pool_core.specs.Text.{solvable_of}
 use Rattle.resolvo_pool_core.specs.RuleKeeping.{Packages, Rules}
 use Rattle.resolvo_store_core.specs.AtMostOne.{IsPrefixOf}
-use Rattle.resolvo_soundness.proofs.Lists.{any_contained, contains_first, contains_left, contains_right, contains_one, contains_parts}
+use Rattle.resolvo_sat.proofs.Lists.{any_contained, contains_first, contains_left, contains_right, contains_one, contains_parts}
 use Rattle.resolvo_state.proofs.Positions.{get_old, prefix_long, prefix_same}
 use Rattle.resolvo_encoder.proofs.CarryLemmas.{split_at}
 use Rattle.resolvo_encoder.specs.Encoded.{IsParentEncoded, IsEncoding}

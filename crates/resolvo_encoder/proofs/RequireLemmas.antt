@@ -23,12 +23,12 @@ use Rattle.resolvo_store_core.specs.declared.lists.Candidate.{Candidate}
 use Rattle.resolvo_store_core.specs.declared.lists.FixedLists.{FixedLists}
 use Rattle.resolvo_sat.specs.Known.{clause_at}
 use Rattle.resolvo_sat.specs.State.{clauses_of}
-use Rattle.resolvo_soundness.specs.Encoding.{IsExact, Atom, Rule, plus, minus, IsRule, literals_of}
-use Rattle.resolvo_soundness.specs.SearchEnd.{IsNeedEncoded, HasClause}
-use Rattle.resolvo_soundness.specs.Numbered.{meaning, Means, Spells}
-use Rattle.resolvo_soundness.proofs.Lists.{contains_none, contains_cases, contains_one, contains_map, map_contains}
-use Rattle.resolvo_soundness.proofs.Members.{candidate_named, in_contained, contained_in}
-use Rattle.resolvo_soundness.proofs.Lists.{any_contained}
+use Rattle.resolvo_sat.specs.Encoding.{IsExact, Atom, Rule, plus, minus, IsRule, literals_of}
+use Rattle.resolvo_sat.specs.SearchEnd.{IsNeedEncoded, HasClause}
+use Rattle.resolvo_sat.specs.Numbered.{meaning, Means, Spells}
+use Rattle.resolvo_sat.proofs.Lists.{contains_none, contains_cases, contains_one, contains_map, map_contains}
+use Rattle.resolvo_sat.proofs.Members.{candidate_named, in_contained, contained_in}
+use Rattle.resolvo_sat.proofs.Lists.{any_contained}
 use Rattle.resolvo_packages.specs.declared.package_source.Offered.{Offered}
 use Rattle.resolvo_packages.specs.PackageSource.{offered_solvables, AreOffered}
 use Rattle.resolvo_state.specs.declared.atom.ProofAtom.TheVariants.{Solvable, Gate}

@@ -12,9 +12,9 @@ use Rattle.resolvo_sat.specs.Analysis.{IsRefuted}
 use Rattle.resolvo_sat.specs.Entries.{made_true}
 use Rattle.resolvo_sat.specs.Known.{IsUndecided}
 use Rattle.resolvo_sat.specs.State.{history}
-use Rattle.resolvo_soundness.specs.Encoding.{IsExact, Atom}
-use Rattle.resolvo_soundness.specs.Numbered.{meaning}
-use Rattle.resolvo_soundness.proofs.Members.{contained_in}
+use Rattle.resolvo_sat.specs.Encoding.{IsExact, Atom}
+use Rattle.resolvo_sat.specs.Numbered.{meaning}
+use Rattle.resolvo_sat.proofs.Members.{contained_in}
 use Rattle.resolvo_state.specs.Atoms.{origin}
 use Rattle.resolvo_state.specs.SolverState.{IsCoding}
 use Rattle.resolvo_state.specs.Registered.{AreTied}

@@ -25,9 +25,9 @@ use Rattle.resolvo_sat.proofs.Clauses.{length-lists}
 use Rattle.resolvo_sat.proofs.ImproveLemmas.{extends_heavier, extends_earlier, choice_heavier, choice_earlier, undo_earlier, weight_falls}
 use Rattle.resolvo_sat.proofs.StepLemmas.{lists-append, clause_at_end}
 use Rattle.resolvo_decide.specs.declared.undecided_clauses.UndecidedClauses.{UndecidedClauses}
-use Rattle.resolvo_soundness.specs.Encoding.{IsExact, Atom, Rule, plus}
-use Rattle.resolvo_soundness.specs.SearchEnd.{HasClause}
-use Rattle.resolvo_soundness.specs.Numbered.{meaning, Means, known_of, AreCalledFor}
+use Rattle.resolvo_sat.specs.Encoding.{IsExact, Atom, Rule, plus}
+use Rattle.resolvo_sat.specs.SearchEnd.{HasClause}
+use Rattle.resolvo_sat.specs.Numbered.{meaning, Means, known_of, AreCalledFor}
 use Rattle.resolvo_state.specs.declared.atom.ProofAtom.{ProofAtom}
 use Rattle.resolvo_state.specs.declared.atom.ProofAtom.TheVariants.{Solvable}
 use Rattle.resolvo_state.specs.declared.solver_state.SolverState.{SolverState}

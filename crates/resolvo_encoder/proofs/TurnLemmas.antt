@@ -28,14 +28,14 @@ use Rattle.resolvo_sat.specs.Propagation.{IsQuiet}
 use Rattle.resolvo_sat.specs.State.{history, count_of, clauses_of}
 use Rattle.resolvo_sat.proofs.Trails.{consistent, known_in_range, level_steps, root_known}
 use Rattle.resolvo_sat.proofs.Literals.{negation-negation}
-use Rattle.resolvo_soundness.specs.Encoding.{IsExact, Atom, Rule, plus, minus, case_holds, parent_literals, case_literals, candidate_literals, literals_of, AgreeWith}
-use Rattle.resolvo_soundness.specs.SearchEnd as Ending
-use Rattle.resolvo_soundness.specs.First.{ArePreferred, IsFirstPick}
-use Rattle.resolvo_soundness.specs.Numbered.{meaning, Means, known_of, IsTurnEnd}
-use Rattle.resolvo_soundness.proofs.Lists.{contains_none, contains_one, contains_only, contains_cases, contains_parts}
-use Rattle.resolvo_soundness.proofs.Meanings.{found}
-use Rattle.resolvo_soundness.proofs.Turns.{turn_accepted, turn_keeps_rules, turn_prefers, turn_refused}
-use Rattle.resolvo_soundness.proofs.Members.{candidate_from, in_contained, contained_in}
+use Rattle.resolvo_sat.specs.Encoding.{IsExact, Atom, Rule, plus, minus, case_holds, parent_literals, case_literals, candidate_literals, literals_of, AgreeWith}
+use Rattle.resolvo_sat.specs.SearchEnd as Ending
+use Rattle.resolvo_sat.specs.First.{ArePreferred, IsFirstPick}
+use Rattle.resolvo_sat.specs.Numbered.{meaning, Means, known_of, IsTurnEnd}
+use Rattle.resolvo_sat.proofs.Lists.{contains_none, contains_one, contains_only, contains_cases, contains_parts}
+use Rattle.resolvo_sat.proofs.Meanings.{found}
+use Rattle.resolvo_sat.proofs.Turns.{turn_accepted, turn_keeps_rules, turn_prefers, turn_refused}
+use Rattle.resolvo_sat.proofs.Members.{candidate_from, in_contained, contained_in}
 use Rattle.resolvo_state.specs.declared.atom.ProofAtom.{ProofAtom}
 use Rattle.resolvo_state.specs.declared.atom.ProofAtom.TheVariants.{Solvable, Gate}
 use Rattle.resolvo_state.specs.declared.clause_kind.ClauseKind.{ClauseKind}

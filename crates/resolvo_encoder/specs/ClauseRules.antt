@@ -8,7 +8,7 @@ use Rattle.resolvo_packages.specs.declared.package_source.Why.{Why}
 use Rattle.resolvo_packages.specs.declared.package_source.Why.TheVariants.{Locked, Excluded}
 use Rattle.resolvo_pool_core.specs.RuleKeeping.{Packages, Rules, IsLawful}
 use Rattle.resolvo_store_core.specs.Signed.{Signed}
-use Rattle.resolvo_soundness.specs.Encoding.{Rule, ForbidReason, IsRule}
+use Rattle.resolvo_sat.specs.Encoding.{Rule, ForbidReason, IsRule}
 use Rattle.resolvo_state.specs.declared.clause_kind.ClauseKind.{ClauseKind}
 use Rattle.resolvo_state.specs.SolverState.{AddsRule}
 use Rattle.resolvo_encoder.specs.declared.encoder.Encoder.{Encoder}

@@ -20,10 +20,10 @@ use Rattle.resolvo_store_core.specs.Lists.{has_candidates, candidates_in, condit
 use Rattle.resolvo_sat.specs.State.{history}
 use Rattle.resolvo_sat.specs.Steps.{AreInRange}
 use Rattle.resolvo_pool_core.specs.OnePass.{Literal}
-use Rattle.resolvo_soundness.specs.Encoding.{Atom, Rule, case_literals, cases_for, IsRule, IsForbiddenIn, IsForbidden}
-use Rattle.resolvo_soundness.specs.SearchEnd.{IsNeedEncoded, HasClause, IsSoftChoice}
-use Rattle.resolvo_soundness.specs.First.{IsFirstPick}
-use Rattle.resolvo_soundness.specs.Numbered.{Spells, AreCalledFor}
+use Rattle.resolvo_sat.specs.Encoding.{Atom, Rule, case_literals, cases_for, IsRule, IsForbiddenIn, IsForbidden}
+use Rattle.resolvo_sat.specs.SearchEnd.{IsNeedEncoded, HasClause, IsSoftChoice}
+use Rattle.resolvo_sat.specs.First.{IsFirstPick}
+use Rattle.resolvo_sat.specs.Numbered.{Spells, AreCalledFor}
 use Rattle.resolvo_state.specs.declared.atom.ProofAtom.{ProofAtom}
 use Rattle.resolvo_state.specs.declared.atom.ProofAtom.TheVariants.{Solvable, Gate}
 use Rattle.resolvo_state.specs.declared.clause_kind.ClauseKind.{ClauseKind}

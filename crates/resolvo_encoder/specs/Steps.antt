@@ -20,7 +20,7 @@ use Rattle.resolvo_pool_core.specs.RuleKeeping.{Packages, Rules, IsLawful, is_in
 use Rattle.resolvo_pool_core.specs.declared.id.VersionSetId.{VersionSetId}
 use Rattle.resolvo_pool_core.specs.declared.requirement.ConditionalRequirement.{ConditionalRequirement}
 use Rattle.resolvo_decide.specs.Needs.{literals_in, Fits, AddsNeed}
-use Rattle.resolvo_soundness.specs.Encoding.{Rule, cases_for, IsRule}
+use Rattle.resolvo_sat.specs.Encoding.{Rule, cases_for, IsRule}
 use Rattle.resolvo_state.specs.declared.atom.ProofAtom.{ProofAtom}
 use Rattle.resolvo_state.specs.declared.atom.ProofAtom.TheVariants.{Solvable, Gate}
 use Rattle.resolvo_state.specs.declared.clause_kind.ClauseKind.TheVariants as Kind

@@ -7,8 +7,8 @@ ghost use Rattle.resolvo_pool_core.specs.RuleKeeping.{Packages, Rules, IsLawful,
 ghost use Rattle.resolvo_store_core.specs.Deferred.{candidates_of};
 ghost use Rattle.resolvo_store_core.specs.declared.conditions.DeferredConjunct.{DeferredConjunct};
 ghost use Rattle.resolvo_packages.specs.PackageSource.{AreOffered, offered_solvables};
-ghost use Rattle.resolvo_soundness.specs.Encoding.{cases_for};
-ghost use Rattle.resolvo_soundness.specs.SearchEnd.{IsNeedEncoded};
+ghost use Rattle.resolvo_sat.specs.Encoding.{cases_for};
+ghost use Rattle.resolvo_sat.specs.SearchEnd.{IsNeedEncoded};
 ghost use Rattle.resolvo_encoder.specs.Encoded.{rules_of, IsGuarded, IsEncoding};
 ghost use Rattle.resolvo_encoder.specs.Steps.{IsBuilt, Extends, AddsCandidates, LacksNumberFor};
 ghost use Rattle.resolvo_encoder.specs.Conditions.{case_of, sets_case, IsDeferred, AreConjuncts, AreSets, Defers, Fires, waiting_count, IsWaiting, IsTrueNow, IsOneChosen, IsMetNow, IsSpent};

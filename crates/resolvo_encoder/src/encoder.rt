@@ -12,8 +12,8 @@ ghost use Rattle.resolvo_store_core.specs.Lists.{has_candidates, candidates_in, 
 ghost use Rattle.resolvo_sat.specs.State.{count_of};
 ghost use Rattle.resolvo_sat.specs.Steps.{AreInRange};
 ghost use Rattle.resolvo_packages.specs.PackageSource.{AreOffered};
-ghost use Rattle.resolvo_soundness.specs.Encoding.{Rule, IsRule};
-ghost use Rattle.resolvo_soundness.specs.SearchEnd.{IsNeedEncoded};
+ghost use Rattle.resolvo_sat.specs.Encoding.{Rule, IsRule};
+ghost use Rattle.resolvo_sat.specs.SearchEnd.{IsNeedEncoded};
 ghost use Rattle.resolvo_state.specs.declared.atom.ProofAtom.TheVariants.{Gate};
 ghost use Rattle.resolvo_state.specs.Atoms.{Represents};
 ghost use Rattle.resolvo_encoder.specs.Encoded.{rules_of, IsGuarded, IsEncoding};

@@ -8,7 +8,7 @@ ghost use Rattle.resolvo_store_core.specs.Clauses.{no};
 ghost use Rattle.resolvo_sat.specs.State.{count_of};
 ghost use Rattle.resolvo_packages.specs.PackageSource.{AreOutside};
 ghost use Rattle.resolvo_packages.specs.Forbidden.{AreForbidden};
-ghost use Rattle.resolvo_soundness.specs.Encoding.{Rule, ForbidReason, IsForbiddenIn, IsForbidden};
+ghost use Rattle.resolvo_sat.specs.Encoding.{Rule, ForbidReason, IsForbiddenIn, IsForbidden};
 ghost use Rattle.resolvo_state.specs.Atoms.{Represents};
 ghost use Rattle.resolvo_state.specs.SolverState.{IsCoding, LacksNumber};
 ghost use Rattle.resolvo_state.specs.ClauseKinds.{rule_of};

@@ -5,7 +5,7 @@ use Rattle.std.proofs.lemmas.Option.{slice_get_within}
 use Rattle.std.proofs.lemmas.List.{length-set, length-replicate}
 use Rattle.std.proofs.lemmas.Bool.{cases_eq}
 use Rattle.std.proofs.Math.Seq.{take-nil}
-use Rattle.resolvo_soundness.proofs.Lists.{contains_none, contains_one, contains_left, contains_right, contains_parts, contains_first}
+use Rattle.resolvo_sat.proofs.Lists.{contains_none, contains_one, contains_left, contains_right, contains_parts, contains_first}
 use Rattle.resolvo_state.proofs.Positions.{get_set_here, get_set_other}
 use Rattle.resolvo_proof.specs.declared.step.ProofStep.{ProofStep}
 use Rattle.resolvo_proof.specs.Trimmed.{Names, IsFlagged, Flags, AreLeadingFrom}

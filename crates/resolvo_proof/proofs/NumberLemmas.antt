@@ -5,7 +5,7 @@ use Rattle.std.specs.List.{AllZip}
 use Rattle.std.proofs.lemmas.Bool.{cases_eq}
 use Rattle.std.proofs.lemmas.List.{length-append}
 use Rattle.std.proofs.lemmas.Option.{slice_get_within}
-use Rattle.resolvo_soundness.proofs.Lists.{contains_none, contains_one, contains_cases, contains_first, contains_later}
+use Rattle.resolvo_sat.proofs.Lists.{contains_none, contains_one, contains_cases, contains_first, contains_later}
 use Rattle.resolvo_state.proofs.Positions.{get_in_prefix, get_last, get_push, get_below}
 use Rattle.resolvo_proof.specs.declared.step.ProofStep.{ProofStep}
 use Rattle.resolvo_proof.specs.declared.step.ProofStep.TheVariants.{Rule, Derived}

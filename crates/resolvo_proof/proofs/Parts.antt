@@ -13,8 +13,8 @@ use Rattle.resolvo_sat.specs.State.{count_of}
 use Rattle.resolvo_sat.specs.Steps.{AreInRange}
 use Rattle.resolvo_sat.proofs.Clauses.{literals_at}
 use Rattle.resolvo_sat.proofs.Literals.{has_here, has_later}
-use Rattle.resolvo_soundness.specs.Encoding.{Atom}
-use Rattle.resolvo_soundness.specs.Numbered.{meaning, meanings}
+use Rattle.resolvo_sat.specs.Encoding.{Atom}
+use Rattle.resolvo_sat.specs.Numbered.{meaning, meanings}
 use Rattle.resolvo_state.specs.declared.atom.ProofAtom.{ProofAtom}
 use Rattle.resolvo_state.specs.declared.solver_state.SolverState.{SolverState}
 use Rattle.resolvo_state.specs.declared.clause_kind.ClauseKind.{ClauseKind}

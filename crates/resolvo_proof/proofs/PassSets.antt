@@ -6,7 +6,7 @@ use Rattle.std.proofs.lemmas.Bool.{both_ways, false≢true}
 use Rattle.resolvo_pool_core.specs.OnePass.Rest.{broken, last, more}
 use Rattle.resolvo_pool_core.specs.OnePass.{Literal, Rest, is_denied, same_literal, assign, rest_of, without_false, reading, is_broken, learn}
 use Rattle.resolvo_pool_core.proofs.PassLearns.{literal_is, literal_own}
-use Rattle.resolvo_soundness.proofs.Lists.{contains_first, contains_later, contains_none, contains_cases, contains_filter, filter_contains, all_contained, all_fails}
+use Rattle.resolvo_sat.proofs.Lists.{contains_first, contains_later, contains_none, contains_cases, contains_filter, filter_contains, all_contained, all_fails}
 
 -- the literal is not false
 abbrev is_left : {A : Type 0} → (A → Option Bool) → Literal A → Bool

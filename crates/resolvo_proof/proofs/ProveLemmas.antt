@@ -21,10 +21,10 @@ use Rattle.resolvo_sat.proofs.Clauses.{literals_at, length-lists}
 use Rattle.resolvo_sat.proofs.Literals.{has_here, has_later}
 use Rattle.resolvo_sat.proofs.Trails.{known_in_range, known_from_level, level_from_entry}
 use Rattle.resolvo_sat.proofs.Apart.{false_apart}
-use Rattle.resolvo_soundness.specs.Encoding as Encoder
-use Rattle.resolvo_soundness.specs.Encoding.{Atom, IsExact, IsRule, literals_of}
-use Rattle.resolvo_soundness.specs.Numbered.{meaning, meanings, Spells}
-use Rattle.resolvo_soundness.proofs.Meanings.{meaning_in, meaning_from, root_or_other}
+use Rattle.resolvo_sat.specs.Encoding as Encoder
+use Rattle.resolvo_sat.specs.Encoding.{Atom, IsExact, IsRule, literals_of}
+use Rattle.resolvo_sat.specs.Numbered.{meaning, meanings, Spells}
+use Rattle.resolvo_sat.proofs.Meanings.{meaning_in, meaning_from, root_or_other}
 use Rattle.resolvo_state.specs.declared.solver_state.SolverState.{SolverState}
 use Rattle.resolvo_state.specs.declared.clause_kind.ClauseKind.{ClauseKind}
 use Rattle.resolvo_state.specs.declared.clause_kind.ClauseKind.TheVariants as Kind

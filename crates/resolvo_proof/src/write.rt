@@ -4,7 +4,7 @@ ghost use Rattle.std.specs.Prelude.{◌≡◌, ◌<◌, length, map, IfOk, IsOkU
 ghost use Rattle.resolvo_pool_core.specs.declared.want.Want.TheVariants.{Memory};
 ghost use Rattle.resolvo_sat.specs.State.{count_of};
 ghost use Rattle.resolvo_sat.specs.Steps.{AreInRange};
-ghost use Rattle.resolvo_soundness.specs.Numbered.{meanings};
+ghost use Rattle.resolvo_sat.specs.Numbered.{meanings};
 ghost use Rattle.resolvo_state.specs.Atoms.{origin};
 ghost use Rattle.resolvo_state.specs.SolverState.{IsCoding};
 ghost use Rattle.resolvo_proof.specs.Steps.{literal_in};

@@ -19,3 +19,15 @@ pub mod JumpLemmas
 pub mod Variables
 pub mod ImproveLemmas
 pub mod ChooseLemmas
+pub mod Lists
+pub mod Members
+pub mod Sound
+pub mod Quiet
+pub mod Reached
+pub mod Ended
+pub mod Meanings
+pub mod Turns
+pub mod LoadingLemmas
+pub mod FirstLemmas
+pub mod Places
+pub mod GrowLemmas

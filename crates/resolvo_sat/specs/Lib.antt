@@ -9,3 +9,8 @@ pub mod Attach
 pub mod AddClause
 pub mod Begin
 pub mod PropagateAndLearn
+pub mod Encoding
+pub mod SearchEnd
+pub mod Numbered
+pub mod Loads
+pub mod First

@@ -22,8 +22,8 @@ use Rattle.resolvo_sat.specs.AddClause.{AddsPending}
 use Rattle.resolvo_sat.specs.PropagateAndLearn.{Improves}
 use Rattle.resolvo_sat.proofs.Clauses.{length-lists}
 use Rattle.resolvo_sat.proofs.StepLemmas.{lists-append}
-use Rattle.resolvo_soundness.proofs.GrowLemmas.{clause_stays}
-use Rattle.resolvo_soundness.proofs.Meanings.{clause_in_range}
+use Rattle.resolvo_sat.proofs.GrowLemmas.{clause_stays}
+use Rattle.resolvo_sat.proofs.Meanings.{clause_in_range}
 use Rattle.resolvo_state.specs.declared.clause_kind.ClauseKind.{ClauseKind}
 use Rattle.resolvo_state.specs.declared.clause_kind.ClauseKind.TheVariants.{Root, Learnt}
 use Rattle.resolvo_state.specs.declared.solver_state.SolverState.{SolverState}

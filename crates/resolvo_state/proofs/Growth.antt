@@ -21,10 +21,10 @@ use Rattle.resolvo_sat.specs.PropagateAndLearn.{IsProgress}
 use Rattle.resolvo_sat.proofs.JumpLemmas.{undone_on}
 use Rattle.resolvo_sat.proofs.Clauses.{length-lists, literals_at}
 use Rattle.resolvo_sat.proofs.StepLemmas.{lists-append, reverse_push}
-use Rattle.resolvo_soundness.specs.Encoding.{Atom, Rule, plus, literals_of, IsForbidden}
-use Rattle.resolvo_soundness.specs.Numbered.{meaning, Means, known_of, Spells, AreCalledFor, IsAccounted, AreCoded}
-use Rattle.resolvo_soundness.proofs.GrowLemmas.{clause_stays, called_kept, called_choice, called_grows, spells_agree}
-use Rattle.resolvo_soundness.proofs.Meanings.{clause_in_range}
+use Rattle.resolvo_sat.specs.Encoding.{Atom, Rule, plus, literals_of, IsForbidden}
+use Rattle.resolvo_sat.specs.Numbered.{meaning, Means, known_of, Spells, AreCalledFor, IsAccounted, AreCoded}
+use Rattle.resolvo_sat.proofs.GrowLemmas.{clause_stays, called_kept, called_choice, called_grows, spells_agree}
+use Rattle.resolvo_sat.proofs.Meanings.{clause_in_range}
 use Rattle.resolvo_state.specs.declared.atom.ProofAtom.{ProofAtom}
 use Rattle.resolvo_state.specs.declared.clause_kind.ClauseKind.{ClauseKind}
 use Rattle.resolvo_state.specs.declared.clause_kind.ClauseKind.TheVariants.{Root, Needs, Gated, Shared, Limits, LimitsOutside, IsOut, Locked, Excluded, Digit, IsThere, Learnt}

@@ -5,7 +5,7 @@ use Rattle.std.proofs.lemmas.List.Sums.{fails_before_first, passes_at_first}
 use Rattle.std.proofs.lemmas.Option.{slice_get_within, slice_get-get_or, get_or_from_slice_get}
 use Rattle.std.proofs.lemmas.Bool.{both_ways, cases_Bool, ltb-true, ltb-false}
 use Rattle.indexmap.specs.IndexSet.{insert_key}
-use Rattle.resolvo_soundness.proofs.Lists.{any_contained}
+use Rattle.resolvo_sat.proofs.Lists.{any_contained}
 use Rattle.resolvo_state.specs.Keys.{IsPlace}
 use Rattle.resolvo_state.proofs.Positions.{contains_get}
 

@@ -3,7 +3,7 @@ use Rattle.std.proofs.Common.{◌≡◌, ℕ, zero, suc, ◌+◌, ◌<◌, ◌�
 use Rattle.std.specs.Prelude.{slice_get, slice_set, Contains}
 use Rattle.std.proofs.lemmas.List.{length-append}
 use Rattle.resolvo_store_core.specs.AtMostOne.{IsPrefixOf}
-use Rattle.resolvo_soundness.proofs.Lists.{contains_first, contains_later, contains_none, contains_cases}
+use Rattle.resolvo_sat.proofs.Lists.{contains_first, contains_later, contains_none, contains_cases}
 use Rattle.resolvo_state.specs.Keys.{AreOnce}
 
 pub get_in_prefix : {X : Type 0} (xs ys : List X) (k : ℕ) (x : X) → slice_get xs k ≡ Some x → slice_get (xs ++ ys) k ≡ Some x

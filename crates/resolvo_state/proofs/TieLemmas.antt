@@ -15,7 +15,7 @@ use Rattle.resolvo_sat.specs.State.{lists, clauses_of}
 use Rattle.resolvo_sat.proofs.Literals.{not_not}
 use Rattle.resolvo_sat.proofs.Clauses.{length-lists}
 use Rattle.resolvo_sat.proofs.StepLemmas.{lists-append, clause_at_end}
-use Rattle.resolvo_soundness.specs.Encoding.{Rule}
+use Rattle.resolvo_sat.specs.Encoding.{Rule}
 use Rattle.resolvo_state.specs.declared.atom.ProofAtom.TheVariants.{Solvable, Bit}
 use Rattle.resolvo_state.specs.declared.clause_kind.ClauseKind.{ClauseKind}
 use Rattle.resolvo_state.specs.declared.clause_kind.ClauseKind.TheVariants.{Digit}

@@ -23,7 +23,7 @@ use Rattle.resolvo_encoder.specs.Base.{base_of, HasTurn, KeepsFirst, KeepsTurn}
 use Rattle.resolvo_encoder.specs.Progress.{IsDone, GoesOn, IsDecision}
 use Rattle.resolvo_encoder.proofs.Bases.{turn_decided}
 use Rattle.resolvo_store_core.specs.AtMostOne.{IsPrefixOf}
-use Rattle.resolvo_soundness.proofs.Lists.{contains_one, contains_left, contains_parts}
+use Rattle.resolvo_sat.proofs.Lists.{contains_one, contains_left, contains_parts}
 use Rattle.resolvo_state.specs.declared.solver_state.SolverState.{SolverState}
 use Rattle.resolvo_turn.specs.Encoder.{AddsNeeds, AddsParents, AddsAll}
 use Rattle.resolvo_turn.specs.Turn.{AddsChosen, FindsMore, FindsNone, FiresMore, MakesProgress, HasSoft, IsBegunBy, IsDecisionOf, IsRooted, IsTurn, AreChosenEncoded, rounds_left}

@@ -6,7 +6,7 @@ ghost use Rattle.resolvo_pool_core.specs.declared.id.VersionSetId.{VersionSetId}
 ghost use Rattle.resolvo_store_core.specs.Cases.{cases_of};
 ghost use Rattle.resolvo_store_core.specs.Deferred.{version_set_of, candidates_of};
 ghost use Rattle.resolvo_packages.specs.PackageSource.{offered_solvables};
-ghost use Rattle.resolvo_soundness.specs.Encoding.{cases_for};
+ghost use Rattle.resolvo_sat.specs.Encoding.{cases_for};
 ghost use Rattle.resolvo_encoder.specs.Conditions.{case_of, AreConjuncts, IsDeferred};
 ghost use Rattle.resolvo_encoder.specs.Steps.{IsBuilt};
 ghost use Rattle.resolvo_turn.specs.Encoder.{IsInOrder, AddsNeeds, AreDeferred};

@@ -3,8 +3,8 @@
 ghost use Rattle.std.specs.Prelude.{◌≡◌, ◌<◌, ℕ, true, false, length, IfOk, IfErr, OnOk, Contains};
 ghost use Rattle.resolvo_pool.specs.Cached.{IsCancelledBy};
 ghost use Rattle.resolvo_pool_core.specs.RuleKeeping.{Rules, rules_for};
-ghost use Rattle.resolvo_soundness.specs.Encoding.{cases_for};
-ghost use Rattle.resolvo_soundness.specs.SearchEnd.{IsNeedEncoded};
+ghost use Rattle.resolvo_sat.specs.Encoding.{cases_for};
+ghost use Rattle.resolvo_sat.specs.SearchEnd.{IsNeedEncoded};
 ghost use Rattle.resolvo_encoder.specs.Conditions.{IsSet, AreSets, sets_case};
 ghost use Rattle.resolvo_encoder.specs.Conditions.{IsSpent, AreSpent};
 ghost use Rattle.resolvo_encoder.specs.Encoded.{rules_of, IsGuarded};

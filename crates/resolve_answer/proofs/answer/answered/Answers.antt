@@ -2,7 +2,7 @@ use Rattle.std.proofs.Common.{◌≡◌, Bool, true, ◌&&◌, List, Ok, Err, re
 use Rattle.std.specs.Prelude.{◌==◌}
 use Rattle.std.proofs.lemmas.Bool.{and_parts, and_from, eqb-true, eq-eqb}
 use Rattle.resolvo_pool_core.specs.RuleKeeping.{Rules}
-use Rattle.resolvo_soundness.specs.Encoding.{IsExact}
+use Rattle.resolvo_sat.specs.Encoding.{IsExact}
 use Rattle.resolvo_catalogue.specs.Ids.{SolvableId, NameId}
 use Rattle.resolvo_catalogue.specs.Provider.{Provider, packages_of}
 use Rattle.resolvo_catalogue.specs.declared.impls.GivenUp.{GivenUp}

@@ -1,7 +1,7 @@
 use Rattle.std.proofs.Common.{◌≡◌, ◌∷◌, ◌++◌, inl, inr, ℕ, [], List, Option, Some, None, take, get_or, sym, ◌∙◌, ap, subst, refl}
 use Rattle.std.specs.Prelude.{Contains}
 use Rattle.std.proofs.lemmas.List.{take_more, take_all}
-use Rattle.resolvo_soundness.proofs.Lists.{contains_left, contains_none, contains_one, contains_only, contains_parts, contains_right}
+use Rattle.resolvo_sat.proofs.Lists.{contains_left, contains_none, contains_one, contains_only, contains_parts, contains_right}
 use Rattle.resolve_answer.specs.ReportTurns.{Solved, AreWanted, Wants}
 use Rattle.resolve_answer.proofs.turns.wanted_steps.Goals as goal
 

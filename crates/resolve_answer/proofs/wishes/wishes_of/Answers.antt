@@ -2,7 +2,7 @@ use Rattle.std.proofs.Common.{◌≡◌, ◌+◌, ◌<◌, ◌++◌, ◌∷◌, 
 use Rattle.std.specs.Prelude.{Contains}
 use Rattle.std.specs.Option.{option_map}
 use Rattle.std.proofs.lemmas.List.{map-append, take_more}
-use Rattle.resolvo_soundness.proofs.Lists.{contains_one, contains_parts}
+use Rattle.resolvo_sat.proofs.Lists.{contains_one, contains_parts}
 use Rattle.resolvo_catalogue_core.specs.Questions.{AreAll, IsWish, LineIs}
 use Rattle.resolvo_catalogue_core.specs.declared.rule.VersionNo.{VersionNo}
 use Rattle.resolvo_report.specs.View.{step_of}

@@ -3,7 +3,7 @@ use Rattle.std.specs.Prelude.{Contains}
 use Rattle.std.proofs.lemmas.Bool.{both_ways}
 use Rattle.std.proofs.lemmas.List.{take_all}
 use Rattle.resolvo_pool_core.specs.declared.requirement.Requirement.{Requirement}
-use Rattle.resolvo_soundness.proofs.Lists.{contains_none}
+use Rattle.resolvo_sat.proofs.Lists.{contains_none}
 use Rattle.resolvo_packages.specs.PackageSource.{offered_solvables}
 use Rattle.resolvo.specs.Conflicts.{IsRightOffer}
 use Rattle.resolvo.proofs.OfferLemmas.{offered_more, right_from, right_more, want_ends}

@@ -3,7 +3,7 @@ use Rattle.std.proofs.lemmas.List.{take_more}
 use Rattle.resolvo_pool_core.specs.declared.id.VariableId.{VariableId}
 use Rattle.resolvo_store_core.specs.Signed.{Signed, has}
 use Rattle.resolvo_sat.specs.State.{count_of}
-use Rattle.resolvo_soundness.specs.Numbered.{meanings}
+use Rattle.resolvo_sat.specs.Numbered.{meanings}
 use Rattle.resolvo_state.specs.Atoms.{origin}
 use Rattle.resolvo_state.proofs.Origins.{count_is}
 use Rattle.resolvo_proof.specs.declared.step.ProofLiteral.{ProofLiteral}

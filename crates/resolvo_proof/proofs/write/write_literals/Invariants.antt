@@ -1,5 +1,5 @@
 use Rattle.std.proofs.Common.{◌≡◌, take, map}
-use Rattle.resolvo_soundness.specs.Numbered.{meanings}
+use Rattle.resolvo_sat.specs.Numbered.{meanings}
 use Rattle.resolvo_state.specs.Atoms.{origin}
 use Rattle.resolvo_proof.specs.Steps.{literal_in}
 use Rattle.resolvo_proof.proofs.write.write_literals.Given as goal

@@ -2,9 +2,9 @@ use Rattle.std.proofs.Common.{inl, inr, Option, List, [], sym, subst}
 use Rattle.std.specs.Prelude.{Contains}
 use Rattle.resolvo_pool_core.specs.declared.id.ConditionId.{ConditionId}
 use Rattle.resolvo_pool_core.specs.declared.id.VersionSetId.{VersionSetId}
-use Rattle.resolvo_soundness.specs.Encoding.{cases_under}
-use Rattle.resolvo_soundness.specs.SearchEnd.{IsNeedEncoded}
-use Rattle.resolvo_soundness.proofs.Lists.{contains_one}
+use Rattle.resolvo_sat.specs.Encoding.{cases_under}
+use Rattle.resolvo_sat.specs.SearchEnd.{IsNeedEncoded}
+use Rattle.resolvo_sat.proofs.Lists.{contains_one}
 use Rattle.resolvo_encoder.specs.Encoded.{rules_of}
 use Rattle.resolvo_turn.proofs.encode.encode_need.Goals as goal
 

@@ -1,7 +1,7 @@
 use Rattle.std.proofs.Common.{◌≡◌, List, map, sym, ◌∙◌, subst}
 use Rattle.std.specs.Prelude.{Contains}
 use Rattle.resolvo_pool_core.specs.Text.{alternatives_of}
-use Rattle.resolvo_soundness.proofs.Lists.{contains_map}
+use Rattle.resolvo_sat.proofs.Lists.{contains_map}
 use Rattle.resolvo_turn.proofs.encode.guard.Goals as goal
 
 pub returns-clause-encoded : goal.returns-clause-encoded

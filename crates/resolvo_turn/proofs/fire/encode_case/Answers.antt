@@ -2,8 +2,8 @@ use Rattle.std.proofs.Common.{◌≡◌, List, ◌∙◌, sym, subst}
 use Rattle.std.specs.Prelude.{Contains}
 use Rattle.resolvo_pool_core.specs.declared.id.VersionSetId.{VersionSetId}
 use Rattle.resolvo_pool_core.specs.RuleKeeping.{Rules, rules_for}
-use Rattle.resolvo_soundness.specs.Encoding.{cases_for}
-use Rattle.resolvo_soundness.specs.SearchEnd.{IsNeedEncoded}
+use Rattle.resolvo_sat.specs.Encoding.{cases_for}
+use Rattle.resolvo_sat.specs.SearchEnd.{IsNeedEncoded}
 use Rattle.resolvo_encoder.specs.declared.conditions.ConditionSet.{ConditionSet}
 use Rattle.resolvo_encoder.specs.Conditions.{AreSets, sets_case}
 use Rattle.resolvo_encoder.specs.Encoded.{IsGuarded, rules_of}

@@ -1,8 +1,8 @@
 use Rattle.std.proofs.Common.{◌<◌, ◌≤◌, List, length, sym, subst, arith}
 use Rattle.std.specs.Prelude.{Contains}
 use Rattle.resolvo_pool_core.specs.declared.id.VersionSetId.{VersionSetId}
-use Rattle.resolvo_soundness.specs.Encoding.{cases_for}
-use Rattle.resolvo_soundness.specs.SearchEnd.{IsNeedEncoded}
+use Rattle.resolvo_sat.specs.Encoding.{cases_for}
+use Rattle.resolvo_sat.specs.SearchEnd.{IsNeedEncoded}
 use Rattle.resolvo_state.proofs.Positions.{prefix_long}
 use Rattle.resolvo_encoder.specs.Encoded.{rules_of}
 use Rattle.resolvo_turn.proofs.AddLemmas.{needs_then, fires_needs, fired_more}

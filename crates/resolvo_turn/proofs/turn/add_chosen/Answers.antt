@@ -1,7 +1,7 @@
 use Rattle.std.proofs.Common.{◌≡◌, ◌+◌, ◌++◌, ◌∷◌, [], List, take, sym, ◌∙◌, ap, subst}
 use Rattle.std.specs.Prelude.{Contains}
 use Rattle.std.proofs.lemmas.List.{take_more, take_all}
-use Rattle.resolvo_soundness.proofs.Lists.{contains_none}
+use Rattle.resolvo_sat.proofs.Lists.{contains_none}
 use Rattle.resolvo_turn.proofs.AddLemmas.{parents_none, parents_then}
 use Rattle.resolvo_turn.proofs.EndLemmas.{among_more, chosen_added}
 use Rattle.resolvo_turn.proofs.turn.add_chosen.Goals as goal

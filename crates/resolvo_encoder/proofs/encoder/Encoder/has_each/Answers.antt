@@ -2,7 +2,7 @@ use Rattle.std.proofs.Common.{◌≡◌, ◌+◌, ◌∷◌, ◌++◌, [], ◌�
 use Rattle.std.specs.Prelude.{Contains}
 use Rattle.std.proofs.lemmas.List.{take_more, take_all}
 use Rattle.std.proofs.lemmas.Option.{slice_get-get_or}
-use Rattle.resolvo_soundness.proofs.Lists.{contains_none}
+use Rattle.resolvo_sat.proofs.Lists.{contains_none}
 use Rattle.resolvo_state.proofs.Positions.{get_contains}
 use Rattle.resolvo_store_core.specs.Deferred.{candidates_of}
 use Rattle.resolvo_store_core.specs.declared.conditions.DeferredConjunct.{DeferredConjunct}

@@ -1,7 +1,7 @@
 use Rattle.std.proofs.Common.{◌≡◌, ◌+◌, ◌∷◌, ◌++◌, [], ◌∙◌, List, take, subst, sym, ap}
 use Rattle.std.specs.Prelude.{Contains}
 use Rattle.std.proofs.lemmas.List.{take_more, take_all}
-use Rattle.resolvo_soundness.proofs.Lists.{contains_none}
+use Rattle.resolvo_sat.proofs.Lists.{contains_none}
 use Rattle.resolvo_encoder.specs.Conditions.{IsTrueNow}
 use Rattle.resolvo_encoder.proofs.FireLemmas.{none_more}
 use Rattle.resolvo_encoder.proofs.encoder.Encoder.has_one.Goals as goal

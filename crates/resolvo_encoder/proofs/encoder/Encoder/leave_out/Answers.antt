@@ -1,6 +1,6 @@
 use Rattle.std.proofs.Common.{◌==◌, refl, sym, ◌∙◌, ap, eqb-true}
 use Rattle.resolvo_pool_core.specs.declared.id.VersionSetId.{VersionSetId}
-use Rattle.resolvo_soundness.specs.Encoding.{IsExact, Rule}
+use Rattle.resolvo_sat.specs.Encoding.{IsExact, Rule}
 use Rattle.resolvo_encoder.specs.Encoded.{rules_of}
 use Rattle.resolvo_encoder.proofs.Parents.{any_is_in}
 use Rattle.resolvo_encoder.proofs.EncodesLemmas.{outs_are_rules, outside_encoded, set_recorded}

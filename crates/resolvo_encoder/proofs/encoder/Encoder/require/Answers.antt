@@ -1,11 +1,11 @@
 use Rattle.std.proofs.Common.{◌≡◌, inl, Option, Some, None, [], sym, ap, subst, rules}
 use Rattle.resolvo_pool_core.specs.declared.id.VariableId.{VariableId}
-use Rattle.resolvo_soundness.specs.Encoding.{IsExact}
+use Rattle.resolvo_sat.specs.Encoding.{IsExact}
 use Rattle.resolvo_state.specs.declared.clause_kind.ClauseKind.TheVariants as Kind
 use Rattle.resolvo_encoder.specs.Encoded.{rules_of}
 use Rattle.resolvo_store_core.specs.Clauses.{root as root_variable}
 use Rattle.resolvo_store_core.specs.declared.lists.FixedLists.{FixedLists}
-use Rattle.resolvo_soundness.specs.SearchEnd.{IsNeedEncoded}
+use Rattle.resolvo_sat.specs.SearchEnd.{IsNeedEncoded}
 use Rattle.resolvo_encoder.specs.Steps.{Needs, LacksNumberFor}
 use Rattle.resolvo_encoder.proofs.EnrollLemmas.{fixes_keep, fixes_add, fixes_extend, built_fixes}
 use Rattle.resolvo_encoder.proofs.RequireLemmas.{extends_then, guard_grows}

@@ -1,7 +1,7 @@
 use Rattle.std.proofs.Common.{◌<◌, ◌≤◌, Bool, subst, arith, refl}
 use Rattle.resolvo_sat.specs.declared.propagate_and_learn.StepResult.{StepResult}
 use Rattle.resolvo_sat.specs.PropagateAndLearn.{weight_left}
-use Rattle.resolvo_soundness.specs.Encoding.{IsExact}
+use Rattle.resolvo_sat.specs.Encoding.{IsExact}
 use Rattle.resolvo_state.specs.SolverState.{Advances}
 use Rattle.resolvo_encoder.specs.declared.encoder.Encoder.{Encoder}
 use Rattle.resolvo_encoder.specs.Progress.{IsChoice}

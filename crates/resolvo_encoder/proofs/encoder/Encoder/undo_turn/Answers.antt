@@ -1,7 +1,7 @@
 use Rattle.std.proofs.Common.{◌≡◌, ℕ, ◌-◌, ◌≤◌, ◌∙◌, ap, subst, arith}
 use Rattle.std.specs.Prelude.{max}
 use Rattle.resolvo_sat.specs.Steps.{Undoes}
-use Rattle.resolvo_soundness.specs.Encoding.{IsExact}
+use Rattle.resolvo_sat.specs.Encoding.{IsExact}
 use Rattle.resolvo_encoder.specs.declared.encoder.Encoder.{Encoder}
 use Rattle.resolvo_encoder.proofs.BuildLemmas.{built_back}
 use Rattle.resolvo_encoder.proofs.StayLemmas.{digits_kept, goes_then, needs_go, needs_keep, undo_goes, undo_keeps}

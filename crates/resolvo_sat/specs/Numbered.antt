@@ -11,8 +11,8 @@ use Rattle.resolvo_sat.specs.Known.{clause_at}
 use Rattle.resolvo_sat.specs.Entries.{literal_of, made_true, IsChoice, IsOnTrail, IsTrail, IsRooted}
 use Rattle.resolvo_sat.specs.Propagation.{IsQuiet}
 use Rattle.resolvo_sat.specs.State.{lists, AreDerived}
-use Rattle.resolvo_soundness.specs.Encoding.{Atom, Rule, plus, minus, literals_of}
-use Rattle.resolvo_soundness.specs.SearchEnd as Ending
+use Rattle.resolvo_sat.specs.Encoding.{Atom, Rule, plus, minus, literals_of}
+use Rattle.resolvo_sat.specs.SearchEnd as Ending
 
 -- `origin` gives the atom that each variable represents; the root's variable, number 0, has none
 module _ {N S : Type 0} (origin : ℕ → Atom N S) where

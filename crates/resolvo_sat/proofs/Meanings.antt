@@ -19,11 +19,11 @@ use Rattle.resolvo_sat.specs.State.{lists, named, AllBelow, IsDerived, AreDerive
 use Rattle.resolvo_sat.proofs.Literals.{has-cons, has_here, has_later}
 use Rattle.resolvo_sat.proofs.Trails.{consistent, known_in_range, root_known}
 use Rattle.resolvo_sat.proofs.Refutations.{refuted_holds}
-use Rattle.resolvo_soundness.specs.Encoding.{Atom, Rule, plus, literals_of, IsImplied}
-use Rattle.resolvo_soundness.specs.SearchEnd as Ending
-use Rattle.resolvo_soundness.specs.Numbered.{meaning, Means, meanings, known_of, IsOnce, values_by, Spells, AreCalledFor, IsAccounted, AreCoded}
-use Rattle.resolvo_soundness.proofs.Lists.{contains_none, contains_cases, contains_first, contains_later, contains_left, contains_right}
-use Rattle.resolvo_soundness.proofs.Members.{makes, made_by}
+use Rattle.resolvo_sat.specs.Encoding.{Atom, Rule, plus, literals_of, IsImplied}
+use Rattle.resolvo_sat.specs.SearchEnd as Ending
+use Rattle.resolvo_sat.specs.Numbered.{meaning, Means, meanings, known_of, IsOnce, values_by, Spells, AreCalledFor, IsAccounted, AreCoded}
+use Rattle.resolvo_sat.proofs.Lists.{contains_none, contains_cases, contains_first, contains_later, contains_left, contains_right}
+use Rattle.resolvo_sat.proofs.Members.{makes, made_by}
 
 pub contains_reverse : {X : Type 0} (x : X) (xs : List X) → Contains xs x → Contains (reverse xs) x
 contains_reverse x [] h = absurd (contains_none x h)

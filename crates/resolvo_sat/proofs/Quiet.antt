@@ -2,8 +2,8 @@
 use Rattle.std.proofs.Common.{◌≡◌, ◌⊎◌, inl, inr, List, [], ◌∷◌, subst, sym}
 use Rattle.std.specs.Prelude.{Contains}
 use Rattle.resolvo_pool_core.specs.OnePass.{Literal, negate}
-use Rattle.resolvo_soundness.specs.SearchEnd.{AreFalse, IsQuiet}
-use Rattle.resolvo_soundness.proofs.Lists.{contains_cases, contains_one, contains_first, contains_second}
+use Rattle.resolvo_sat.specs.SearchEnd.{AreFalse, IsQuiet}
+use Rattle.resolvo_sat.proofs.Lists.{contains_cases, contains_one, contains_first, contains_second}
 
 module _ {A : Type 0} where
   -- the literals of a clause of two

@@ -19,11 +19,11 @@ use Rattle.resolvo_sat.proofs.Literals.{has-cons, has_here, has_later}
 use Rattle.resolvo_sat.proofs.Trails.{known_in_range}
 use Rattle.resolvo_sat.proofs.Clauses.{length-lists}
 use Rattle.resolvo_sat.proofs.StepLemmas.{lists-append}
-use Rattle.resolvo_soundness.specs.Encoding.{Atom, Rule, plus, literals_of}
-use Rattle.resolvo_soundness.specs.SearchEnd.{IsAsked}
-use Rattle.resolvo_soundness.specs.First.{IsFirstPick}
-use Rattle.resolvo_soundness.specs.Numbered.{meaning, Means, meanings, known_of, IsOnce, Spells, AreCalledFor, IsAccounted, AreCoded}
-use Rattle.resolvo_soundness.proofs.Lists.{contains_none, contains_cases, contains_one, contains_parts}
+use Rattle.resolvo_sat.specs.Encoding.{Atom, Rule, plus, literals_of}
+use Rattle.resolvo_sat.specs.SearchEnd.{IsAsked}
+use Rattle.resolvo_sat.specs.First.{IsFirstPick}
+use Rattle.resolvo_sat.specs.Numbered.{meaning, Means, meanings, known_of, IsOnce, Spells, AreCalledFor, IsAccounted, AreCoded}
+use Rattle.resolvo_sat.proofs.Lists.{contains_none, contains_cases, contains_one, contains_parts}
 
 -- an entry of a trail, with those before it, is a trail
 trail_under : (count : ℕ) (cs : List (List Signed)) (h : List Entry) (e : Entry) (older : List Entry) → IsTrail count cs h → IsOnTrail h e older → IsTrail count cs (e ∷ older)

@@ -9,13 +9,13 @@ use Rattle.resolvo_pool_core.specs.OnePass.{Literal, negate, is_true_at, clause_
 use Rattle.resolvo_pool_core.specs.Provider.{listed}
 use Rattle.resolvo_pool_core.specs.Text.{alternatives_of}
 use Rattle.resolvo_pool_core.specs.RuleKeeping.{Packages, Rules, is_in, is_match, is_outside, is_met, meets, binds, is_forbidden, rules_for, is_member, IsSingle, Obeys, IsRuleKeeping, IsNamed, IsExemptKeeping, IsClosed, IsReached}
-use Rattle.resolvo_soundness.specs.Encoding.{IsExact, Atom, Rule, plus, minus, parent_literals, case_holds, case_literals, candidate_literals, literals_of, IsRule, value, Fits, shown, IsImplied, IsForbiddenIn, IsForbidden, AgreeWith}
-use Rattle.resolvo_soundness.specs.SearchEnd.{AreFalse, IsTrueParent, IsCalledFor, IsEnd, is_digit, digits_in, IsAccepted, Denies}
-use Rattle.resolvo_soundness.proofs.Lists.{contains_cases, contains_none, contains_parts, all_contained, any_contained, contained_any, contains_filter, filter_contains}
-use Rattle.resolvo_soundness.proofs.Members.{true_plus, true_minus, twice, made_by, any_in, in_contained, contained_in, candidate_named, in_case, candidate_from, binds_case}
-use Rattle.resolvo_soundness.proofs.Quiet.{quiet_second, quiet_first, quiet_single, false_single}
-use Rattle.resolvo_soundness.proofs.Sound.{clause_holds, rules_sound}
-use Rattle.resolvo_soundness.proofs.Reached.{part_obeys, binds_grows, trail_holds, consistent, true_registered}
+use Rattle.resolvo_sat.specs.Encoding.{IsExact, Atom, Rule, plus, minus, parent_literals, case_holds, case_literals, candidate_literals, literals_of, IsRule, value, Fits, shown, IsImplied, IsForbiddenIn, IsForbidden, AgreeWith}
+use Rattle.resolvo_sat.specs.SearchEnd.{AreFalse, IsTrueParent, IsCalledFor, IsEnd, is_digit, digits_in, IsAccepted, Denies}
+use Rattle.resolvo_sat.proofs.Lists.{contains_cases, contains_none, contains_parts, all_contained, any_contained, contained_any, contains_filter, filter_contains}
+use Rattle.resolvo_sat.proofs.Members.{true_plus, true_minus, twice, made_by, any_in, in_contained, contained_in, candidate_named, in_case, candidate_from, binds_case}
+use Rattle.resolvo_sat.proofs.Quiet.{quiet_second, quiet_first, quiet_single, false_single}
+use Rattle.resolvo_sat.proofs.Sound.{clause_holds, rules_sound}
+use Rattle.resolvo_sat.proofs.Reached.{part_obeys, binds_grows, trail_holds, consistent, true_registered}
 
 -- literals that are false in two lists are false in both together
 pub false_both : {A : Type 0} (known xs ys : List (Literal A)) → AreFalse known xs → AreFalse known ys → AreFalse known (xs ++ ys)

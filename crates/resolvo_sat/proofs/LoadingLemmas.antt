@@ -4,9 +4,9 @@ use Rattle.std.proofs.lemmas.Bool.{both_ways}
 use Rattle.resolvo_pool_core.specs.declared.id.VersionSetId.{VersionSetId}
 use Rattle.resolvo_pool_core.specs.declared.requirement.ConditionalRequirement.{ConditionalRequirement}
 use Rattle.resolvo_pool_core.specs.RuleKeeping.{Packages, Rules, is_member}
-use Rattle.resolvo_soundness.specs.Encoding.{Rule}
-use Rattle.resolvo_soundness.specs.SearchEnd.{IsNeedEncoded, AreEncoded}
-use Rattle.resolvo_soundness.specs.Loads.{Deferred, IsParentEncoded, NoneFires}
+use Rattle.resolvo_sat.specs.Encoding.{Rule}
+use Rattle.resolvo_sat.specs.SearchEnd.{IsNeedEncoded, AreEncoded}
+use Rattle.resolvo_sat.specs.Loads.{Deferred, IsParentEncoded, NoneFires}
 
 module _ {N S : Type 0} (same : S → S → Bool) (p : Packages N S) (root : Rules) where
   -- all is encoded where the root and each member are, and no case that waits holds

@@ -8,9 +8,9 @@ use Rattle.resolvo_pool_core.specs.OnePass.{Literal, is_true_at, clause_true}
 use Rattle.resolvo_pool_core.specs.Provider.{listed}
 use Rattle.resolvo_pool_core.specs.Text.{alternatives_of}
 use Rattle.resolvo_pool_core.specs.RuleKeeping.{Packages, Rules, rules_of, is_unknown, is_forbidden, is_in, is_match, is_outside, is_met, meets, is_member, IsSingle, Obeys, IsRuleKeeping}
-use Rattle.resolvo_soundness.specs.Encoding.{IsExact, Atom, Rule, plus, minus, parent_literals, asks, case_holds, case_literals, candidate_literals, literals_of, is_asked, value, Fits, shown, IsRule, AgreeWith}
-use Rattle.resolvo_soundness.proofs.Lists.{contains_first, contains_later, contains_only, contains_second, all_fails}
-use Rattle.resolvo_soundness.proofs.Members.{plus_true, minus_true, makes, made_left, made_right, any_in, in_any, none_in, candidate_in, any_in_case, outside_in_case, case_binds, asked, kept_out}
+use Rattle.resolvo_sat.specs.Encoding.{IsExact, Atom, Rule, plus, minus, parent_literals, asks, case_holds, case_literals, candidate_literals, literals_of, is_asked, value, Fits, shown, IsRule, AgreeWith}
+use Rattle.resolvo_sat.proofs.Lists.{contains_first, contains_later, contains_only, contains_second, all_fails}
+use Rattle.resolvo_sat.proofs.Members.{plus_true, minus_true, makes, made_left, made_right, any_in, in_any, none_in, candidate_in, any_in_case, outside_in_case, case_binds, asked, kept_out}
 
 module _ {N S : Type 0} (same : S → S → Bool) (exact : IsExact same) (p : Packages N S) where
   -- the solvable's denial is true, or it is in the set

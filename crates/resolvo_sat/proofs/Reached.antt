@@ -9,10 +9,10 @@ use Rattle.resolvo_pool_core.specs.OnePass.{Literal, negate, is_true_at, clause_
 use Rattle.resolvo_pool_core.specs.Provider.{listed}
 use Rattle.resolvo_pool_core.specs.Text.{alternatives_of}
 use Rattle.resolvo_pool_core.specs.RuleKeeping.{Packages, Rules, rules_of, is_in, is_match, is_met, meets, binds, rules_for, is_member, Obeys, IsClosed}
-use Rattle.resolvo_soundness.specs.Encoding.{IsExact, Atom, Rule, plus, minus, case_holds, case_literals, candidate_literals, parent_literals, literals_of, asks, IsRule, value}
-use Rattle.resolvo_soundness.specs.SearchEnd.{IsTrueParent, HasClause, IsAsked, asking, IsCalledFor, IsForced, IsTrail, AreRegistered}
-use Rattle.resolvo_soundness.proofs.Lists.{contains_none, contains_cases, contains_one, contains_parts, contains_first, contains_later, all_contained, contained_all}
-use Rattle.resolvo_soundness.proofs.Members.{plus_true, true_plus, true_minus, made_by, not_both, negate-negate, any_in, in_any, any_in_case, outside_in_case, candidate_from, binds_case, case_binds, asked}
+use Rattle.resolvo_sat.specs.Encoding.{IsExact, Atom, Rule, plus, minus, case_holds, case_literals, candidate_literals, parent_literals, literals_of, asks, IsRule, value}
+use Rattle.resolvo_sat.specs.SearchEnd.{IsTrueParent, HasClause, IsAsked, asking, IsCalledFor, IsForced, IsTrail, AreRegistered}
+use Rattle.resolvo_sat.proofs.Lists.{contains_none, contains_cases, contains_one, contains_parts, contains_first, contains_later, all_contained, contained_all}
+use Rattle.resolvo_sat.proofs.Members.{plus_true, true_plus, true_minus, made_by, not_both, negate-negate, any_in, in_any, any_in_case, outside_in_case, candidate_from, binds_case, case_binds, asked}
 
 module _ {N S : Type 0} (same : S → S → Bool) (exact : IsExact same) (p : Packages N S) (root : Rules) where
   -- a member of the part is a member

@@ -9,14 +9,14 @@ use Rattle.resolvo_pool_core.specs.OnePass.{Literal, is_true_at, clause_true}
 use Rattle.resolvo_pool_core.specs.Provider.{listed}
 use Rattle.resolvo_pool_core.specs.Text.{alternatives_of}
 use Rattle.resolvo_pool_core.specs.RuleKeeping.{Packages, Rules, IsLawful, is_in, is_match, meets, is_member, IsSingle}
-use Rattle.resolvo_soundness.specs.Encoding.{IsExact, Atom, Rule, plus, minus, literals_of, IsRule, value, shown, AgreeWith}
-use Rattle.resolvo_soundness.specs.SearchEnd.{IsCalledFor, IsTrail, IsEnd}
-use Rattle.resolvo_soundness.specs.First.{IsFirst, IsTriedBefore, TriesMatches, order, AreTriedBy, HoldsFirst, IsFirstChoices, IsFirstPick, IsUnbeaten, IsReachedOnce, ArePreferred}
-use Rattle.resolvo_soundness.proofs.Lists.{contains_none, contains_first, contains_right}
-use Rattle.resolvo_soundness.proofs.Members.{plus_true, true_plus, true_minus, candidate_named, contained_in, in_contained}
-use Rattle.resolvo_soundness.proofs.Sound.{rules_sound}
-use Rattle.resolvo_soundness.proofs.Reached.{binds_grows, asked_binds, trail_true}
-use Rattle.resolvo_soundness.proofs.Ended.{does_obey}
+use Rattle.resolvo_sat.specs.Encoding.{IsExact, Atom, Rule, plus, minus, literals_of, IsRule, value, shown, AgreeWith}
+use Rattle.resolvo_sat.specs.SearchEnd.{IsCalledFor, IsTrail, IsEnd}
+use Rattle.resolvo_sat.specs.First.{IsFirst, IsTriedBefore, TriesMatches, order, AreTriedBy, HoldsFirst, IsFirstChoices, IsFirstPick, IsUnbeaten, IsReachedOnce, ArePreferred}
+use Rattle.resolvo_sat.proofs.Lists.{contains_none, contains_first, contains_right}
+use Rattle.resolvo_sat.proofs.Members.{plus_true, true_plus, true_minus, candidate_named, contained_in, in_contained}
+use Rattle.resolvo_sat.proofs.Sound.{rules_sound}
+use Rattle.resolvo_sat.proofs.Reached.{binds_grows, asked_binds, trail_true}
+use Rattle.resolvo_sat.proofs.Ended.{does_obey}
 
 -- a list with an element has a first
 has_first : {S : Type 0} (s : S) (list : List S) → Contains list s → (f : S) × IsFirst list f

@@ -14,14 +14,14 @@ use Rattle.resolvo_sat.specs.Known.{clause_at}
 use Rattle.resolvo_sat.specs.Entries.{made_true, IsTrail, IsRooted}
 use Rattle.resolvo_sat.specs.State.{lists, IsDerived}
 use Rattle.resolvo_sat.proofs.Trails.{consistent, root_known}
-use Rattle.resolvo_soundness.specs.Encoding.{IsExact, Atom, Rule, plus, literals_of, IsRule, AgreeWith}
-use Rattle.resolvo_soundness.specs.SearchEnd as Ending
-use Rattle.resolvo_soundness.specs.First.{IsFirstPick, ArePreferred}
-use Rattle.resolvo_soundness.specs.Numbered.{meaning, meanings, known_of, Spells, AreCalledFor, AreCoded, IsTurnEnd, Denies}
-use Rattle.resolvo_soundness.proofs.FirstLemmas.{end_preferred}
-use Rattle.resolvo_soundness.proofs.Meanings.{meaning_in, meaning_from, quiet_meaning, trail_meaning, derived_implied}
-use Rattle.resolvo_soundness.proofs.Reached.{met_by_literal}
-use Rattle.resolvo_soundness.proofs.Ended.{turn_is_right, keeping_without_softs, refusal_is_right}
+use Rattle.resolvo_sat.specs.Encoding.{IsExact, Atom, Rule, plus, literals_of, IsRule, AgreeWith}
+use Rattle.resolvo_sat.specs.SearchEnd as Ending
+use Rattle.resolvo_sat.specs.First.{IsFirstPick, ArePreferred}
+use Rattle.resolvo_sat.specs.Numbered.{meaning, meanings, known_of, Spells, AreCalledFor, AreCoded, IsTurnEnd, Denies}
+use Rattle.resolvo_sat.proofs.FirstLemmas.{end_preferred}
+use Rattle.resolvo_sat.proofs.Meanings.{meaning_in, meaning_from, quiet_meaning, trail_meaning, derived_implied}
+use Rattle.resolvo_sat.proofs.Reached.{met_by_literal}
+use Rattle.resolvo_sat.proofs.Ended.{turn_is_right, keeping_without_softs, refusal_is_right}
 
 module _ {N S : Type 0} (same : S → S → Bool) (exact : IsExact same) (same_name : N → N → Bool) (names : IsExact same_name) (p : Packages N S) (root : Rules) (origin : ℕ → Atom N S) (rules : Rule N S → Type 0) (registered : S → Type 0) where
   -- What a clause asks for is met where a literal of that clause, which is not the root's denial, is true on the trail.

@@ -19,8 +19,8 @@ use Rattle.resolvo_pool_core.specs.Provider.{Listing, listed, AreOf}
 use Rattle.resolvo_pool_core.specs.RuleKeeping.{Packages, IsLawful, truth_of, is_in, is_match, is_outside, is_met, listing_for, locks_out, is_forbidden, is_unknown, holds_within, binds_under, binds}
 use Rattle.resolvo_store_core.specs.Cases.{truth_within}
 use Rattle.resolvo_store_core.proofs.CaseLaws.{exact_cases}
-use Rattle.resolvo_soundness.specs.Encoding.{IsExact, Atom, plus, minus, solvables, has_condition, same_requirement, asks, cases_under, cases_for, case_holds, case_literals, candidate_literals, ForbidReason, KeepsOut}
-use Rattle.resolvo_soundness.proofs.Lists.{contains_first, contains_later, contains_none, contains_cases, contains_left, contains_right, contains_parts, contains_map, map_contains, contains_filter, filter_contains, any_contained, contained_any, none_contained}
+use Rattle.resolvo_sat.specs.Encoding.{IsExact, Atom, plus, minus, solvables, has_condition, same_requirement, asks, cases_under, cases_for, case_holds, case_literals, candidate_literals, ForbidReason, KeepsOut}
+use Rattle.resolvo_sat.proofs.Lists.{contains_first, contains_later, contains_none, contains_cases, contains_left, contains_right, contains_parts, contains_map, map_contains, contains_filter, filter_contains, any_contained, contained_any, none_contained}
 
 -- a solvable that is kept out is forbidden, or its dependencies are unknown
 pub kept_out : {N S : Type 0} (same : S → S → Bool) → IsExact same → (p : Packages N S) (w : ForbidReason S) (s : S) → KeepsOut same p w s → (is_forbidden same p s || is_unknown (p.dependencies_of s)) ≡ true
