@@ -11,8 +11,8 @@ use Rattle.resolvo_proof.specs.declared.step.ProofStep.{ProofStep}
 use Rattle.resolvo_catalogue.specs.Ids.{NameId, SolvableId}
 use Rattle.resolvo_catalogue.specs.Known.{name_of}
 use Rattle.resolvo_catalogue.specs.Provider.{Provider}
-use Rattle.resolvo_conflict.specs.Draw.{conflict_drawing}
-use Rattle.resolvo_conflict.specs.Order.{conflict_rules}
+use Rattle.resolvo_proof.specs.Draw.{conflict_drawing}
+use Rattle.resolvo_proof.specs.Order.{conflict_rules}
 use Rattle.resolve_answer.specs.Message.{AreLinesOf, IsTextOf, meaning_of}
 use Rattle.resolve_answer.proofs.JoinLemmas.{all_lines, each_ends, ends_line}
 

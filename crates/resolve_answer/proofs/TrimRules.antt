@@ -13,7 +13,7 @@ use Rattle.resolvo_proof.specs.declared.step.ProofStep.{ProofStep}
 use Rattle.resolvo_proof.specs.declared.step.ProofStep.TheVariants.{Rule, Derived}
 use Rattle.resolvo_proof.specs.Proof.{EndsEmpty}
 use Rattle.resolvo_proof.specs.Trimmed.{Names, IsTrimmed, IsTrimmedTo, IsRenumbered}
-use Rattle.resolvo_conflict.specs.Order.{is_earlier, rests_on, rules_within, rules_under, conflict_order, conflict_rules, rule_in, rules_at}
+use Rattle.resolvo_proof.specs.Order.{is_earlier, rests_on, rules_within, rules_under, conflict_order, conflict_rules, rule_in, rules_at}
 
 -- two tests that are true together are one
 same_tests : (a b : Bool) → (a ≡ true → b ≡ true) → (b ≡ true → a ≡ true) → a ≡ b

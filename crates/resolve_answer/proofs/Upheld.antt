@@ -39,10 +39,10 @@ use Rattle.resolvo_report.specs.Grammar.{IsReport}
 use Rattle.resolvo_judge.specs.Refusal.{IsAccepted}
 use Rattle.resolvo_judge.specs.Judgement.{IsUpheld, IsClaimTrue}
 use Rattle.resolvo_judge.proofs.MessageLaws.{upheld_with}
-use Rattle.resolvo_conflict.specs.Offered.{offered_by}
-use Rattle.resolvo_conflict.specs.declared.offers.Offers.{Offers}
-use Rattle.resolvo_conflict.specs.Draw.{conflict_drawing}
-use Rattle.resolvo_conflict.specs.Order.{conflict_rules, requirements_in}
+use Rattle.resolvo_proof.specs.Offered.{offered_by}
+use Rattle.resolvo_proof.specs.declared.offers.Offers.{Offers}
+use Rattle.resolvo_proof.specs.Draw.{conflict_drawing}
+use Rattle.resolvo_proof.specs.Order.{conflict_rules, requirements_in}
 use Rattle.resolve_answer.proofs.TrimRules.{AreEarlier, same_rules}
 use Rattle.resolvo.specs.Conflicts.{Left, AreOffers, IsRightOffer}
 use Rattle.resolvo.specs.Solver.{Kept, IsAnswer}

@@ -16,10 +16,10 @@ use Rattle.resolvo_catalogue.specs.Known.{name_of, set_at, members_of}
 use Rattle.resolvo_catalogue.specs.Provider.{Provider, packages_of}
 use Rattle.resolvo_report.specs.Value.{Report, Step, Install, Refused}
 use Rattle.resolve_refusal.specs.Refusal.{IsProofOver, IsWrittenAs}
-use Rattle.resolvo_conflict.specs.Draw.{conflict_drawing}
-use Rattle.resolvo_conflict.specs.Order.{conflict_rules}
-use Rattle.resolvo_conflict.specs.Offered.{offered_by}
-use Rattle.resolvo_conflict.specs.declared.offers.Offers.{Offers}
+use Rattle.resolvo_proof.specs.Draw.{conflict_drawing}
+use Rattle.resolvo_proof.specs.Order.{conflict_rules}
+use Rattle.resolvo_proof.specs.Offered.{offered_by}
+use Rattle.resolvo_proof.specs.declared.offers.Offers.{Offers}
 use Rattle.resolvo.specs.Conflicts.{AreOffers}
 use Rattle.resolve_answer.specs.First.{orders_of}
 

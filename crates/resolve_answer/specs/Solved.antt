@@ -12,7 +12,7 @@ use Rattle.resolvo_sat.specs.First.{ArePreferred}
 use Rattle.resolve_install.specs.Install.{AreWishes}
 use Rattle.resolvo_proof.specs.Proof.{EndsEmpty}
 use Rattle.resolvo_proof.specs.declared.step.ProofStep.{ProofStep}
-use Rattle.resolvo_conflict.specs.Offered.{offered_by}
+use Rattle.resolvo_proof.specs.Offered.{offered_by}
 use Rattle.resolvo.specs.Conflicts.{Left, AreOffers}
 use Rattle.resolvo.specs.declared.turns.Turn.{Turn}
 use Rattle.resolvo.specs.Solve.{AreRightSteps, HasProof}

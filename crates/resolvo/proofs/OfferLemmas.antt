@@ -18,11 +18,11 @@ use Rattle.resolvo_packages.specs.PackageSource.{AreOffered, offered_solvables}
 use Rattle.resolvo_packages.specs.declared.package_source.Offered.{Offered}
 use Rattle.resolvo_graph.specs.Graph.{Graph}
 use Rattle.resolvo_proof.specs.declared.step.ProofStep.{ProofStep}
-use Rattle.resolvo_conflict.specs.Truth.{IsTrueConflictGraph}
+use Rattle.resolvo_proof.specs.Truth.{IsTrueConflictGraph}
 use Rattle.resolvo.specs.Conflicts.{Left, IsRightOffer}
 use Rattle.resolvo.specs.Solver.{Kept, IsTrueOf}
-use Rattle.resolvo_conflict.specs.Offered.{was_offered, offered_by, IsOffered}
-use Rattle.resolvo_conflict.specs.declared.offers.Offers.{Offers}
+use Rattle.resolvo_proof.specs.Offered.{was_offered, offered_by, IsOffered}
+use Rattle.resolvo_proof.specs.declared.offers.Offers.{Offers}
 
 -- no memory, or no ids, is no cancellation
 pub want_stops : {C : Type 0} (may : C → Type 0) (w : Want) → IsCancelledBy may (fault_of w)

@@ -4,9 +4,9 @@ use Rattle.resolvo_pool_core.specs.declared.id.ClauseId.{ClauseId}
 use Rattle.resolvo_pool_core.specs.declared.requirement.Requirement.{Requirement}
 use Rattle.resolvo_pool_core.specs.RuleKeeping.{Packages, is_in, meets}
 use Rattle.resolvo_proof.specs.declared.step.ProofStep.{ProofStep}
-use Rattle.resolvo_conflict.specs.Order.{conflict_order, conflict_rules, requirements_in}
-use Rattle.resolvo_conflict.specs.Offered.{offered_by}
-use Rattle.resolvo_conflict.specs.declared.offers.Offers.{Offers}
+use Rattle.resolvo_proof.specs.Order.{conflict_order, conflict_rules, requirements_in}
+use Rattle.resolvo_proof.specs.Offered.{offered_by}
+use Rattle.resolvo_proof.specs.declared.offers.Offers.{Offers}
 use Rattle.resolvo.specs.declared.search.SearchResult.{SearchResult}
 use Rattle.resolvo.specs.declared.search.SearchResult.TheVariants.{Chosen, Clash}
 use Rattle.resolvo.specs.declared.conflict.KeptConflict.{KeptConflict}

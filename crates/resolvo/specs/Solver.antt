@@ -13,10 +13,10 @@ use Rattle.resolvo.specs.Solution.{IsUnsolvable}
 use Rattle.resolvo_graph.specs.Graph.{Graph}
 use Rattle.resolvo_graph.specs.Message.{IsMessage}
 use Rattle.resolvo_graph.specs.declared.line.MessageLine.{MessageLine}
-use Rattle.resolvo_conflict.specs.Draw.{conflict_drawing}
-use Rattle.resolvo_conflict.specs.Offered.{offered_by}
-use Rattle.resolvo_conflict.specs.Order.{conflict_rules}
-use Rattle.resolvo_conflict.specs.Truth.{IsTrueConflictGraph}
+use Rattle.resolvo_proof.specs.Draw.{conflict_drawing}
+use Rattle.resolvo_proof.specs.Offered.{offered_by}
+use Rattle.resolvo_proof.specs.Order.{conflict_rules}
+use Rattle.resolvo_proof.specs.Truth.{IsTrueConflictGraph}
 use Rattle.resolvo.specs.Conflicts.{Left, AreOffers, conflict_clauses}
 use Rattle.resolvo.specs.Turns.{AreSolvedByTurn, first_of}
 use Rattle.resolvo.specs.Solve.{AreOnTrail, AreRightSteps, HasProof, IsCounted}

@@ -16,7 +16,7 @@ use crate::problem::Problem;
 use crate::prove::Solved;
 use crate::search::SearchResult;
 use crate::turns::Turn;
-use resolvo_conflict::offers::Offers;
+use resolvo_proof::offers::Offers;
 use resolvo_packages::cached_packages::CachedPackages;
 use resolvo_pool::cache::CacheFault;
 use resolvo_pool_core::id::ClauseId;

@@ -9,3 +9,11 @@ pub mod Shortened
 pub mod PassMembers
 pub mod OnePlace
 pub mod Drawn
+pub mod GraphLemmas
+pub mod LinkLemmas
+pub mod OrderLemmas
+pub mod OrderWalk
+pub mod RuleLemmas
+pub mod TestLemmas
+pub mod TruthEdges
+pub mod TruthLemmas

@@ -5,3 +5,10 @@ pub mod Trimmed
 pub mod Members
 pub mod Drawn
 pub mod Places
+pub mod Tests
+pub mod Offered
+pub mod Order
+pub mod Links
+pub mod LinkRules
+pub mod Draw
+pub mod Truth

@@ -3,7 +3,12 @@
 //! `learnt_why` in `src/solver/mod.rs`.
 #![tactic(auto)]
 
+pub mod graph;
+pub mod link;
+mod link_rules;
+pub mod offers;
 pub mod proof;
+pub mod rules;
 pub mod step;
 pub mod trim;
 mod write;

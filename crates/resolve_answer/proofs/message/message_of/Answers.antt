@@ -1,5 +1,5 @@
 use Rattle.std.proofs.Common.{◌∙◌, ap}
-use Rattle.resolvo_conflict.specs.Offered.{offered_by}
+use Rattle.resolvo_proof.specs.Offered.{offered_by}
 use Rattle.resolvo_graph.specs.Message.{text_of}
 use Rattle.resolvo_report.specs.View.{messages_of}
 use Rattle.resolve_answer.specs.Message.{meaning_of}

@@ -1,7 +1,7 @@
 use Rattle.std.proofs.Common.{◌≡◌, true, take}
 use Rattle.std.specs.Prelude.{Contains}
 use Rattle.resolvo_pool_core.specs.declared.requirement.Requirement.{Requirement}
-use Rattle.resolvo_conflict.specs.Offered.{was_offered, offered_by}
+use Rattle.resolvo_proof.specs.Offered.{was_offered, offered_by}
 use Rattle.resolvo.specs.Conflicts.{IsRightOffer}
 use Rattle.resolvo.proofs.conflict.offers_for.Given as goal
 

@@ -1,7 +1,7 @@
 use Rattle.std.proofs.Common.{subst}
 use Rattle.std.specs.Prelude.{IfOk}
-use Rattle.resolvo_conflict.specs.Offered.{offered_by}
-use Rattle.resolvo_conflict.specs.Truth.{IsTrueConflictGraph}
+use Rattle.resolvo_proof.specs.Offered.{offered_by}
+use Rattle.resolvo_proof.specs.Truth.{IsTrueConflictGraph}
 use Rattle.resolvo.proofs.OfferLemmas.{kept_true}
 use Rattle.resolvo.proofs.conflict.Conflict.graph.Goals as goal
 

@@ -1,8 +1,0 @@
-use Rattle.std.proofs.Common.{◌≡◌, ◌++◌, take, Some}
-use Rattle.std.specs.List.{flat_map}
-use Rattle.resolvo_conflict.specs.Offered.{offered_by}
-use Rattle.resolvo_conflict.specs.LinkRules.{needed, requirers}
-use Rattle.resolvo_conflict.proofs.link_rules.link_gate.Given as goal
-
-abbrev pub invariant-loop-shared : goal.invariant-loop-shared
-invariant-loop-shared g l = l.links.items ≡ l.initial.links.items ++ flat_map (λ s. needed (Some s) l.requirement (offered_by l.offers l.requirement)) (requirers (take l.shared-index l.gates) l.requirement)

@@ -1,6 +1,0 @@
-use Rattle.std.proofs.Common.{◌≡◌, ◌++◌, filter, take}
-use Rattle.resolvo_conflict.specs.Order.{is_earlier}
-use Rattle.resolvo_conflict.proofs.rules.stack_causes.Given as goal
-
-abbrev pub invariant-loop-cause : goal.invariant-loop-cause
-invariant-loop-cause l = l.stack.items ≡ l.initial.stack.items ++ filter (is_earlier l.place) (take l.cause-index l.causes)

@@ -1,7 +1,0 @@
-pub mod Tests
-pub mod Offered
-pub mod Order
-pub mod Links
-pub mod LinkRules
-pub mod Draw
-pub mod Truth
