@@ -140,7 +140,11 @@ pub fn report_turns<'a>(
     matched.push(outcome.first())?;
     let mut next: usize = 0;
     for wish in wishes {
-        let Wish { line, version, forbidden_by } = wish;
+        let Wish {
+            line,
+            version,
+            forbidden_by,
+        } = wish;
         match forbidden_by {
             Some(step) => {
                 let step = push_step(steps, step)?;

@@ -43,7 +43,11 @@ fn wish_of(alloc: Global, catalogue: &Catalogue, wish: (u32, VersionNo)) -> R<Wi
 {
     let (line, version) = wish;
     let forbidden_by = forbid_step(alloc, catalogue, version)?;
-    Ok(Wish { line, version, forbidden_by })
+    Ok(Wish {
+        line,
+        version,
+        forbidden_by,
+    })
 }
 
 /// The wishes of the search: those that no step forbids. `Memory` where there is no room.

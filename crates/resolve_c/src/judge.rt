@@ -4,9 +4,9 @@ ghost use Rattle.std.specs.Prelude.{IfOk, IfErr};
 ghost use Rattle.resolve_check.specs.Check.{IsCheck};
 ghost use Rattle.resolve_c.specs.CallResult.{Judges, StopsJudging};
 
+use crate::call_result::{CallResult, write_text};
 use crate::endings::{check_ending_of, fault_ending_of, growing};
 use crate::lent::Lent;
-use crate::call_result::{CallResult, write_text};
 use resolve_check::check::check;
 use resolve_check::outcome::{Checked, RunFault};
 use resolvo_text::GrowingSink;

@@ -5,8 +5,8 @@
 //! has the C declarations.
 #![tactic(auto)]
 
+mod call_result;
 mod endings;
 mod judge;
 mod lent;
 mod solve;
-mod call_result;

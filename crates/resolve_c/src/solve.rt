@@ -4,9 +4,9 @@ ghost use Rattle.std.specs.Prelude.{None, Some, IfOk, IfErr};
 ghost use Rattle.resolve_run.specs.Answer.{IsAnswer};
 ghost use Rattle.resolve_c.specs.CallResult.{Solves, SolvesWithin, StopsSolvingWithin};
 
+use crate::call_result::{CallResult, write_text};
 use crate::endings::{ending_of, growing_within, stop_ending_of};
 use crate::lent::Lent;
-use crate::call_result::{CallResult, write_text};
 use resolve_check::written::Written;
 use resolve_run::{RunStop, run_within};
 use resolvo_text::GrowingSink;

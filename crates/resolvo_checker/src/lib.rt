@@ -9,7 +9,7 @@ mod clause_atoms;
 mod clause_parts;
 pub mod clauses;
 pub mod literal;
+pub mod of_line;
 pub mod proof;
 mod rup;
-pub mod of_line;
 pub mod steps;

@@ -15,8 +15,8 @@ ghost use Rattle.resolvo_judge.specs.Chosen.{Holds};
 ghost use Rattle.resolvo_judge.specs.Entries.{may_enter as may_enter_lem, is_place_taken as is_place_taken_lem, gives as gives_lem, is_reason as is_reason_lem, is_wish as is_wish_lem, answer_fits, entries_of};
 ghost use Rattle.resolvo_judge.specs.KeptAnswers.{KeepsAnswers, KeepsLines, IsWishAnswered, AreWishesAnswered, is_after};
 
-use crate::forbidden_wishes::ForbiddenWishes;
 use crate::chosen::Chosen;
+use crate::forbidden_wishes::ForbiddenWishes;
 use crate::versions::Versions;
 use resolvo_catalogue_core::{Catalogue, Request, Rule, Spec, Version};
 use resolvo_checker::of_line::rule_at;

@@ -15,8 +15,8 @@ ghost use Rattle.resolvo_judge.specs.Chosen.{Holds};
 ghost use Rattle.resolvo_judge.specs.ForbiddenWishes.{forbidden_of};
 ghost use Rattle.resolvo_judge.specs.Forbids.{literal_forbids as literal_forbids_lem, built_forbid, clause_forbids};
 
-use crate::forbidden_wishes::Forbidden;
 use crate::chosen::Chosen;
+use crate::forbidden_wishes::Forbidden;
 use resolvo_catalogue_core::{Catalogue, Request, Version, VersionNo};
 use resolvo_checker::atom::{Atom as BuiltAtom, Built};
 use resolvo_checker::steps::clause_of;
@@ -54,7 +54,12 @@ fn is_listed_among(
 }
 
 /// Whether the built literal is `not` of the wish, or of an entry above its line.
-fn built_forbids(chosen: &Chosen, versions: &[(String, u32)], built: &Built, forbidden: &Forbidden) -> bool
+fn built_forbids(
+    chosen: &Chosen,
+    versions: &[(String, u32)],
+    built: &Built,
+    forbidden: &Forbidden,
+) -> bool
     ensures { (set : Set)
         → Holds chosen.now set
         → result

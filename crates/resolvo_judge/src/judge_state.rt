@@ -14,9 +14,9 @@ ghost use Rattle.resolvo_judge.specs.Forbids.{FlagsForbidden};
 ghost use Rattle.resolvo_judge.specs.JudgeState.{JudgeInvariant, DecidesEnd};
 
 use crate::alternatives::Alternatives;
-use crate::forbid::step_forbids;
 use crate::end_rules::keeps_all;
 use crate::entries::Entries;
+use crate::forbid::step_forbids;
 use crate::log::{
     ProofState, install_log, refusal_log, take_catalogue_line, take_request_line, take_step,
 };

@@ -2,11 +2,11 @@
 #![tactic(auto)]
 
 mod alternatives;
-mod forbid;
-mod forbidden_wishes;
 mod chosen;
 mod end_rules;
 mod entries;
+mod forbid;
+mod forbidden_wishes;
 mod judge_state;
 mod judgement;
 mod laws;

@@ -13,12 +13,12 @@ ghost use Rattle.resolvo_proof.specs.LinkRules.{gate_in, limit_in, outside_in, i
 use crate::link::Link;
 use crate::offers::Offers;
 use crate::rules::rule_at;
+use crate::step::{ProofRule, ProofStep};
 use indexmap::IndexSet;
 use resolvo_pool_core::id::{Exact, VersionSetId};
 use resolvo_pool_core::provider::Interner;
 use resolvo_pool_core::requirement::Requirement;
 use resolvo_pool_core::want::R;
-use crate::step::{ProofRule, ProofStep};
 use std::alloc::Global;
 use std::collections::HashMap;
 use std::fmt::Debug;

@@ -6,11 +6,11 @@ ghost use Rattle.std.specs.Option.{option_copied};
 ghost use Rattle.resolvo_pool_core.specs.declared.want.Want.TheVariants.{Memory};
 ghost use Rattle.resolvo_proof.specs.Order.{conflict_order, conflict_rules, requirements_in, named_by, rule_in, is_earlier};
 
+use crate::step::{ProofRule, ProofStep};
 use indexmap::IndexSet;
 use resolvo_pool_core::id::Exact;
 use resolvo_pool_core::requirement::Requirement;
 use resolvo_pool_core::want::R;
-use crate::step::{ProofRule, ProofStep};
 use std::alloc::Global;
 use std::fmt::Debug;
 use std::hash::Hash;

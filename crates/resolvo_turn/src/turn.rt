@@ -440,15 +440,7 @@ pub fn run_turn<A: PackageSource, C: ScoreMap<A::NameId>>(
     };
     let mut scan = Scan::begin(alloc, encoding.coding.search.tracker.stack().len());
     loop {
-        match run_round(
-            alloc,
-            answers,
-            encoding,
-            scores,
-            activity,
-            &aim,
-            &mut scan,
-        )? {
+        match run_round(alloc, answers, encoding, scores, activity, &aim, &mut scan)? {
             Round::Continues => {}
             Round::Complete => return Ok(None),
             Round::Refused(refusal) => return Ok(Some(refusal)),

@@ -70,7 +70,11 @@ impl IoFault {
 }
 
 /// How a check over these devices ends.
-fn checked<W: Sink>(alloc: Global, faulty_device: IoFault, writer: &mut W) -> Result<Checked, RunFault> {
+fn checked<W: Sink>(
+    alloc: Global,
+    faulty_device: IoFault,
+    writer: &mut W,
+) -> Result<Checked, RunFault> {
     check(
         alloc,
         &mut faulty_device.source(Device::Catalogue, CATALOGUE),
