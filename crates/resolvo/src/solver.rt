@@ -75,8 +75,14 @@ impl<D: DependencyProvider> Model for Solver<D> {
     ghost Value = { Kept D D.NameId D.SolvableId };
 
     ghost view = { λ s.
-        record
-        { provider = s.answers; clause_count = s.clause_count; deferred_count = s.deferred_count; turns = s.turns.items; proof = s.proof.items; conflict = option_map left_of s.conflict } };
+        record {
+          provider = s.answers;
+          clause_count = s.clause_count;
+          deferred_count = s.deferred_count;
+          turns = s.turns.items;
+          proof = s.proof.items;
+          conflict = option_map left_of s.conflict;
+        } };
 }
 
 impl<D: DependencyProvider> Solver<D> {

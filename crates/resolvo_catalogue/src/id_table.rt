@@ -83,11 +83,19 @@ impl Model for IdTable {
     ghost Value = { Ids };
 
     ghost view = { λ t.
-        record
-        { names = t.names; words = t.words; solvables = t.solvables.items; version_sets = t.version_sets.values.items; unions = map (λ u. u.items) t.unions.values.items; conditions = t.conditions.values.items } };
+        record {
+          names = t.names;
+          words = t.words;
+          solvables = t.solvables.items;
+          version_sets = t.version_sets.values.items;
+          unions = map (λ u. u.items) t.unions.values.items;
+          conditions = t.conditions.values.items;
+        } };
 
     ghost invariant = { λ t.
-        AreKept t.version_sets.values.items t.version_sets.ids.entries (map (λ u. u.items) t.unions.values.items) t.unions.ids.entries t.conditions.values.items t.conditions.ids.entries };
+        AreKept t.version_sets.values.items t.version_sets.ids.entries
+        (map (λ u. u.items) t.unions.values.items) t.unions.ids.entries
+        t.conditions.values.items t.conditions.ids.entries };
 }
 
 impl IdTable {

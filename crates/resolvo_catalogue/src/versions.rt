@@ -34,7 +34,8 @@ pub fn list_versions(
 fn add(alloc: Global, lists: &mut Vec<Vec<SolvableId>>, name: NameId, id: SolvableId) -> R<()>
     requires { name.raw ≤ length lists.old.items }
     ensures place { OnOk result (IsPlaced lists.old.items lists.new.items name.raw) }
-    ensures added { OnOk result ((n : ℕ) → list_at lists.new.items n ≡ (if name.raw == n then list_at lists.old.items n ++ id ∷ [] else list_at lists.old.items n)) }
+    ensures added { OnOk result ((n : ℕ) → list_at lists.new.items n ≡
+        (if name.raw == n then list_at lists.old.items n ++ id ∷ [] else list_at lists.old.items n)) }
     ensures refusal { IsOkUnless result Memory }
 {
     let place = name.to_index();

@@ -66,7 +66,8 @@ impl LinesByVersion {
     pub fn add_line(&mut self, version: VersionNo, line: u32) -> Result<(), AllocError>
         requires { version.0 + 1 ≡ length self.old }
         ensures same { OnOk result (length self.new ≡ length self.old) }
-        ensures added { OnOk result ((k : ℕ) → kept_of self.new k ≡ (if version.0 == k then kept_of self.old k ++ line ∷ [] else kept_of self.old k)) }
+        ensures added { OnOk result ((k : ℕ) → kept_of self.new k ≡
+            (if version.0 == k then kept_of self.old k ++ line ∷ [] else kept_of self.old k)) }
     {
         self.lines.push(line)?;
         self.places[version.0 as usize].end = self.lines.len();

@@ -73,7 +73,8 @@ impl Model for ClauseStates {
 
     ghost view = { λ s. s.states.items };
 
-    ghost invariant = { λ s. AreMarked s.states.items s.marks.items × AreGrouped s.states.items s.groups.items × AreBounded s.states.items s.bounds.items };
+    ghost invariant = { λ s. AreMarked s.states.items s.marks.items
+        × AreGrouped s.states.items s.groups.items × AreBounded s.states.items s.bounds.items };
 }
 
 impl ClauseStates {

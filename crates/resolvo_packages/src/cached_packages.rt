@@ -82,7 +82,8 @@ impl<D: DependencyProvider> PackageSource for CachedPackages<D> {
 
     type Cancel = D::Cancel;
 
-    ghost packages = { λ p. packages_by D.name_of_solvable D.name_of_version_set D.members_of D.condition_of D.candidates_of D.matches D.dependencies_of p };
+    ghost packages = { λ p. packages_by D.name_of_solvable D.name_of_version_set D.members_of
+        D.condition_of D.candidates_of D.matches D.dependencies_of p };
 
     ghost orders = { λ p. orders_by D.name_of_version_set D.members_of D.candidates_of D.matches D.sorts D.SolvableId.eq p };
 

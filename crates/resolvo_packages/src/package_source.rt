@@ -88,7 +88,8 @@ pub trait PackageSource {
 
     /// The packages of a requirement's version sets.
     fn named(&self, requirement: Requirement) -> R<Vec<Self::NameId>>
-        ensures { IfOk result (λ v. v.items ≡ map (packages self.now).set_package (alternatives_of (packages self.now).members_of requirement)) };
+        ensures { IfOk result (λ v. v.items ≡ map (packages self.now).set_package
+            (alternatives_of (packages self.now).members_of requirement)) };
 
     /// The package of a version set.
     fn set_package(&self, version_set: VersionSetId) -> Self::NameId

@@ -100,17 +100,31 @@ impl<D: DependencyProvider> Model for SolverCache<D> {
     ghost Value = { Cached D D.NameId D.SolvableId };
 
     ghost view = { λ c.
-        record
-        { provider = c.provider; names = keys c.lists; matching = keys c.matching; non_matching = keys c.non_matching; sorted = lists_of c.sorted.entries; unions = keys c.unions; solvables = keys c.dependencies } };
+        record {
+          provider = c.provider;
+          names = keys c.lists;
+          matching = keys c.matching;
+          non_matching = keys c.non_matching;
+          sorted = lists_of c.sorted.entries;
+          unions = keys c.unions;
+          solvables = keys c.dependencies;
+        } };
 
     ghost invariant = { λ c.
         IsKept D.NameId.eq (IsListing (D.candidates_of c.provider)) c.lists.entries
-        × IsKept same_set (IsList (matching_in (D.name_of_version_set c.provider) (D.candidates_of c.provider) (D.matches c.provider) false)) c.matching.entries
-        × IsKept same_set (IsList (matching_in (D.name_of_version_set c.provider) (D.candidates_of c.provider) (D.matches c.provider) true)) c.non_matching.entries
-        × IsKept same_set (IsSortedList (D.sorts c.provider) D.SolvableId.eq (tried_first (D.name_of_version_set c.provider) (D.candidates_of c.provider)) (matching_in (D.name_of_version_set c.provider) (D.candidates_of c.provider) (D.matches c.provider) false)) c.sorted.entries
+        × IsKept same_set (IsList (matching_in (D.name_of_version_set c.provider)
+        (D.candidates_of c.provider) (D.matches c.provider) false)) c.matching.entries
+        × IsKept same_set (IsList (matching_in (D.name_of_version_set c.provider)
+        (D.candidates_of c.provider) (D.matches c.provider) true)) c.non_matching.entries
+        × IsKept same_set (IsSortedList (D.sorts c.provider) D.SolvableId.eq (tried_first
+        (D.name_of_version_set c.provider) (D.candidates_of c.provider)) (matching_in
+        (D.name_of_version_set c.provider) (D.candidates_of c.provider)
+        (D.matches c.provider) false)) c.sorted.entries
         × IsKept same_union (IsUnionList (D.members_of c.provider) (lists_of c.sorted.entries)) c.unions.entries
         × IsKept D.SolvableId.eq (IsNeeds (D.dependencies_of c.provider)) c.dependencies.entries
-        × HoldsHinted (λ s. among D.NameId.eq (keys c.lists) (D.name_of_solvable c.provider s)) (is_hinted D.SolvableId.eq (D.name_of_solvable c.provider) (D.candidates_of c.provider)) (D.SolvableId.Set.has c.hinted) };
+        × HoldsHinted (λ s. among D.NameId.eq (keys c.lists) (D.name_of_solvable c.provider s))
+        (is_hinted D.SolvableId.eq (D.name_of_solvable c.provider) (D.candidates_of c.provider))
+        (D.SolvableId.Set.has c.hinted) };
 }
 
 impl<D: DependencyProvider> SolverCache<D> {

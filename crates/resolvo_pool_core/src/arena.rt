@@ -172,7 +172,8 @@ pub struct ArenaIterMut<'a, TId, TValue> {
 impl<'a, TId: DenseIndex, TValue> Iterator for ArenaIterMut<'a, TId, TValue> {
     type Item = (TId, &'a mut TValue);
 
-    ghost next_gives = { λ s r t. iter_mut_steps s.rest (option_map (λ p. p.1) r) t.rest × OnSome r (t.next ≡ s.next + 1) × IfSome r (λ p. TId.index_of p.0 ≡ s.next) };
+    ghost next_gives = { λ s r t. iter_mut_steps s.rest (option_map (λ p. p.1) r) t.rest
+        × OnSome r (t.next ≡ s.next + 1) × IfSome r (λ p. TId.index_of p.0 ≡ s.next) };
 
     ghost remaining = { λ s. at_most (length (iter_mut_rest s.rest)) };
 

@@ -134,7 +134,9 @@ impl<Tag, Repr: DenseIndex + Hash + Debug> DenseIndex for DenseId<Tag, Repr> {
 }
 
 impl<Tag, Repr: DenseIndex + Hash + Debug> Exact for DenseId<Tag, Repr> {
-    ghost exact = { λ x y h. ap (λ r. record { raw = r; tag = x.tag }) (Repr.distinct x.raw y.raw (eqb-true _ _ (sym (Repr.eq_by_index x.raw y.raw) ∙ (and_parts _ _ h).0))) };
+    ghost exact = { λ x y h. ap (λ r. record { raw = r; tag = x.tag })
+        (Repr.distinct x.raw y.raw
+        (eqb-true _ _ (sym (Repr.eq_by_index x.raw y.raw) ∙ (and_parts _ _ h).0))) };
 }
 
 /// An id of the kind `Tag` that is no index, kept as a `Repr`; its maps hash by `H`.

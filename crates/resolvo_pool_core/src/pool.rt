@@ -87,8 +87,14 @@ impl<VS: VersionSet, N: PackageName> Model for Pool<VS, N> {
     ghost Value = { Interned VS.V VS N };
 
     ghost view = { λ p.
-        record
-        { names = p.names.keys; strings = map string_bytes p.strings.keys; solvables = p.solvables; version_sets = p.version_sets.keys; unions = map (λ u. u.items) p.unions; conditions = p.conditions.keys } };
+        record {
+          names = p.names.keys;
+          strings = map string_bytes p.strings.keys;
+          solvables = p.solvables;
+          version_sets = p.version_sets.keys;
+          unions = map (λ u. u.items) p.unions;
+          conditions = p.conditions.keys;
+        } };
 
     ghost invariant = { λ p.
         (length p.names.keys ≤ 4294967295)

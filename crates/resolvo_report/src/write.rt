@@ -226,7 +226,8 @@ fn write_message<S: Sink>(sink: &mut S, message: &[Vec<u8>]) -> Result<(), Repor
 fn write_message_line<S: Sink>(sink: &mut S, bytes: &[u8]) -> Result<(), ReportWriteFault>
     ensures whole { OnOk result (Wrote (S.contents sink.old) (S.contents sink.new) (S.failures sink.old) (S.failures sink.new)
         (S.empty_writes sink.old) (S.empty_writes sink.new) (codes "| " ++ bytes.now ++ codes "\n")) }
-    ensures fault { IfErr result (λ e. StopsWriting e (S.contents sink.old) (S.contents sink.new) (S.failures sink.old) (S.failures sink.new)
+    ensures fault { IfErr result (λ e. StopsWriting e (S.contents sink.old) (S.contents sink.new)
+        (S.failures sink.old) (S.failures sink.new)
         (S.interruptions sink.new) (S.empty_writes sink.old) (S.empty_writes sink.new) (codes "| " ++ bytes.now ++ codes "\n")) }
 {
     write_line(sink, "| ")?;

@@ -291,9 +291,15 @@ impl<P: DependencyProvider> DependencyProvider for TestProvider<P> {
 
     ghost may_lack_ids = { λ p. P.may_lack_ids p.inner };
 
-    ghost sorts_permute = { λ p xs ys h. sorts_permute (λ s. record { raw = s; kind = record {} }) (λ s. s.raw) (λ s. refl) xs ys (P.sorts_permute p.inner (map (λ s. s.raw) xs) (map (λ s. s.raw) ys) h) };
+    ghost sorts_permute = { λ p xs ys h. sorts_permute
+        (λ s. record { raw = s; kind = record {} }) (λ s. s.raw) (λ s. refl) xs ys
+        (P.sorts_permute p.inner (map (λ s. s.raw) xs) (map (λ s. s.raw) ys) h) };
 
-    ghost candidates_named = { λ p n. candidates_named (λ s. record { raw = s; kind = record {} }) (λ n. record { raw = n; kind = record {} }) (P.name_of_solvable p.inner) (λ s. record { raw = P.name_of_solvable p.inner s.raw; kind = record {} }) (λ s. refl) n.raw (P.candidates_of p.inner n.raw) (P.candidates_named p.inner n.raw) };
+    ghost candidates_named = { λ p n. candidates_named
+        (λ s. record { raw = s; kind = record {} }) (λ n. record { raw = n; kind = record {} })
+        (P.name_of_solvable p.inner)
+        (λ s. record { raw = P.name_of_solvable p.inner s.raw; kind = record {} }) (λ s. refl)
+        n.raw (P.candidates_of p.inner n.raw) (P.candidates_named p.inner n.raw) };
 
     #[tactic(auto, using(crate::proofs::BackLemmas::kept_back))]
     fn filter_candidates(
