@@ -9,13 +9,13 @@ use Rattle.std.specs.Str.Parse.{digits_value, AllDigits, IsNumeral, ParsesUnsign
 use Rattle.std.proofs.lemmas.Bool.{and_parts, lt-ltb, ltb-true, false≢true}
 use Rattle.std.proofs.lemmas.Slice.Eq.{bytes_eq-Decides}
 use Rattle.std.proofs.lemmas.Fmt.{digits_value-decimal, decimal-digits_value, decimal_nonempty, first_decimal, decimal_digit, digits_decimal, parse-decimal, IsAscii-decimal}
-use Rattle.std.proofs.lemmas.Str.Parse.{IsNumeralModel, numerals_by_value, digits_of, digit_at, without_leading_plus_none}
+use Rattle.std.proofs.lemmas.Str.Parse.{IsNumeralModel, numerals_by_value, tells_digits, digit_at, without_leading_plus_none}
 use Rattle.std.proofs.lemmas.Option.{cond_some, same_Some, get_or_from_slice_get}
 use Rattle.std.proofs.lemmas.Str.{IsUtf8-from_ascii}
 use Rattle.resolvo_text.specs.Parse.{number_in}
 
 own : IsNumeralModel (AllDigits 10) (digits_value 10)
-own = numerals_by_value _ digits_of
+own = numerals_by_value _ tells_digits
 
 -- a spelling is parsed back
 pub number_in-decimal : (n : ℕ) → n < 2 ^ 32 → number_in (decimal n) ≡ Some n
