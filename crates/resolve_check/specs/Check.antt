@@ -17,7 +17,7 @@ use Rattle.resolve_check.specs.declared.outcome.Checked.{Checked}
 use Rattle.resolve_check.specs.declared.outcome.Checked.TheVariants.{Yes, No, Faulty}
 use Rattle.resolve_check.specs.declared.outcome.RunFault.{RunFault}
 use Rattle.resolve_check.specs.declared.outcome.RunFault.TheVariants.{Reader, TooLong, Memory, Ids, Writer}
-use Rattle.resolve_check.specs.declared.check.Answer.{Answer}
+use Rattle.resolve_check.specs.declared.check.Response.{Response}
 use Rattle.resolve_check.specs.Devices.{Device, StopsReading}
 use Rattle.resolve_check.specs.Texts.{newline, fault_text}
 
@@ -76,7 +76,7 @@ StopsCheck Writer catalogue request report writer = writer.Failed × ((checked :
 StopsCheck e catalogue request report writer = StopsBeforeCheck e catalogue request report × (writer.after ≡ writer.before)
 
 -- A faulty line is reported as such; every other fault is the check's, by its own name.
-abbrev pub AnswersFault : ReadFault → List ℕ → Result Answer RunFault → Type 0
+abbrev pub AnswersFault : ReadFault → List ℕ → Result Response RunFault → Type 0
 AnswersFault (read.Fault n) which answered = IfOk answered (λ answer. (answer.checked ≡ Faulty) × (answer.text.items ≡ fault_text which n)) × IfErr answered (λ e. e ≡ Memory)
 AnswersFault read.Reader which answered = answered ≡ Err Reader
 AnswersFault read.TooLong which answered = answered ≡ Err TooLong

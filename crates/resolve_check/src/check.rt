@@ -14,24 +14,24 @@ use std::alloc::Global;
 
 /// The outcome of the check, and the text to write.
 #[derive(Drop)]
-struct Answer {
+struct Response {
     checked: Checked,
     text: Vec<u8>,
 }
 
 /// The line of a verdict.
-fn verdict_answer(alloc: Global, verdict: Verdict) -> Result<Answer, RunFault>
+fn verdict_answer(alloc: Global, verdict: Verdict) -> Result<Response, RunFault>
     ensures ok { IfOk result (λ answered. IsVerdictText verdict answered.checked answered.text.items) }
     ensures err { IfErr result (λ e. e ≡ RunFault.Memory) }
 {
     match verdict {
-        Verdict::Yes => Ok(Answer {
+        Verdict::Yes => Ok(Response {
             checked: Checked::Yes,
             text: Vec::from_slice(alloc, b"yes\n")?,
         }),
         Verdict::No(line) => {
             let text = format!(in alloc; "no line {line}\n")?;
-            Ok(Answer {
+            Ok(Response {
                 checked: Checked::No,
                 text: Vec::from_slice(alloc, text.as_bytes())?,
             })
@@ -40,11 +40,11 @@ fn verdict_answer(alloc: Global, verdict: Verdict) -> Result<Answer, RunFault>
 }
 
 /// The outcome and the text where a text was not read: its faulty line, or nothing.
-fn fault_answer(alloc: Global, which: &str, fault: ReadFault) -> Result<Answer, RunFault>
+fn fault_answer(alloc: Global, which: &str, fault: ReadFault) -> Result<Response, RunFault>
     ensures { AnswersFault fault which.now result }
 {
     match not_read(alloc, which, fault) {
-        Ok(written) => Ok(Answer {
+        Ok(written) => Ok(Response {
             checked: Checked::Faulty,
             text: written.text,
         }),
@@ -58,7 +58,7 @@ fn answer<C: Source, R: Source, P: Source>(
     catalogue: &mut C,
     request: &mut R,
     report: &mut P,
-) -> Result<Answer, RunFault>
+) -> Result<Response, RunFault>
     ensures ok { IfOk result
         (λ answered.
         ChecksTexts (C.left catalogue.old) (R.left request.old) (P.left report.old)
