@@ -1,17 +1,15 @@
 //! Turns the bytes of a catalogue and a request into those of a report. `main` and the tests call
 //! `run`.
 
-ghost use Rattle.std.specs.Prelude.{◌≡◌, ◌≤◌, None, length, IfOk, IfErr};
-ghost use Rattle.resolvo_text.specs.Device.{DeviceFailed, WriterFailed};
+ghost use Rattle.std.specs.Prelude.{◌≡◌, ◌≤◌, length, IfOk, IfErr};
 ghost use Rattle.resolvo_catalogue_core.specs.Grammar.{AreRequestLines};
 ghost use Rattle.resolvo_report.specs.Grammar.{most_bytes};
 ghost use Rattle.resolvo_report.specs.Text.{report_text};
 ghost use Rattle.resolvo_report.specs.View.{report_of};
 ghost use Rattle.resolve_answer.specs.Wishes.{AreWishesAt};
 ghost use Rattle.resolve_run.specs.Answer.{IsAnswerOfLines, outcome_of};
-ghost use Rattle.resolve_run.specs.Run.{AnswersTexts, IsWriteLack, StopsRun, Writes};
+ghost use Rattle.resolve_run.specs.Run.{AnswersTexts, IsWriteLack, LeavesRequest, StopsRun, Writes, reader_at, writer_at};
 ghost use Rattle.resolve_run.specs.Within.{within, IsLackWithin, StopsBeforeWithin, StopsWithin};
-ghost use Rattle.resolve_check.specs.Devices.{IfCatalogueFaulty, reader_of, writer_of};
 
 use crate::report::report_text;
 use crate::stop::RunStop;
@@ -99,16 +97,10 @@ fn answer<C: Source, R: Source>(
         (λ answer.
         AnswersTexts (C.left catalogue.old) (R.left request.old) answer.outcome
         answer.text.items) }
-    ensures err { IfErr result
-        (λ e.
-        StopsBeforeWithin budget e
-        (reader_of (C.left catalogue.old) (C.left catalogue.new)
-        (DeviceFailed (C.failures catalogue.old) (C.failures catalogue.new)
-        (C.interruptions catalogue.new)))
-        (reader_of (R.left request.old) (R.left request.new)
-        (DeviceFailed (R.failures request.old) (R.failures request.new)
-        (R.interruptions request.new)))) }
-    ensures catalogue_faulty { IfCatalogueFaulty (C.left catalogue.old) (request.new ≡ request.old) }
+    ensures err { IfErr result (λ e. StopsBeforeWithin budget e
+        (reader_at C.Source catalogue.old catalogue.new)
+        (reader_at R.Source request.old request.new)) }
+    ensures catalogue_faulty { LeavesRequest (C.left catalogue.old) request.old request.new }
 {
     let catalogue = match Catalogue::read(alloc, catalogue) {
         Ok(catalogue) => catalogue,
@@ -131,34 +123,14 @@ pub fn run_within<C: Source, R: Source, W: Sink>(
     writer: &mut W,
     budget: Option<u64>,
 ) -> Result<Outcome, RunStop>
-    ensures written { IfOk result
-        (λ outcome.
-        Writes
-        (reader_of (C.left catalogue.old) (C.left catalogue.new)
-        (DeviceFailed (C.failures catalogue.old) (C.failures catalogue.new)
-        (C.interruptions catalogue.new)))
-        (reader_of (R.left request.old) (R.left request.new)
-        (DeviceFailed (R.failures request.old) (R.failures request.new)
-        (R.interruptions request.new)))
-        (writer_of (W.contents writer.old) (W.contents writer.new)
-        (WriterFailed (W.failures writer.old) (W.failures writer.new)
-        (W.interruptions writer.new) (W.empty_writes writer.old)
-        (W.empty_writes writer.new)))
-        outcome) }
-    ensures stopped { IfErr result
-        (λ e.
-        StopsWithin budget e
-        (reader_of (C.left catalogue.old) (C.left catalogue.new)
-        (DeviceFailed (C.failures catalogue.old) (C.failures catalogue.new)
-        (C.interruptions catalogue.new)))
-        (reader_of (R.left request.old) (R.left request.new)
-        (DeviceFailed (R.failures request.old) (R.failures request.new)
-        (R.interruptions request.new)))
-        (writer_of (W.contents writer.old) (W.contents writer.new)
-        (WriterFailed (W.failures writer.old) (W.failures writer.new)
-        (W.interruptions writer.new) (W.empty_writes writer.old)
-        (W.empty_writes writer.new)))) }
-    ensures catalogue_faulty { IfCatalogueFaulty (C.left catalogue.old) (request.new ≡ request.old) }
+    ensures written { IfOk result (Writes (reader_at C.Source catalogue.old catalogue.new)
+        (reader_at R.Source request.old request.new)
+        (writer_at W.Sink writer.old writer.new)) }
+    ensures stopped { IfErr result (λ e. StopsWithin budget e
+        (reader_at C.Source catalogue.old catalogue.new)
+        (reader_at R.Source request.old request.new)
+        (writer_at W.Sink writer.old writer.new)) }
+    ensures catalogue_faulty { LeavesRequest (C.left catalogue.old) request.old request.new }
 {
     match answer(alloc, catalogue, request, budget) {
         Ok(answer) => match write_all(writer, answer.text.as_slice()) {
@@ -177,34 +149,14 @@ pub fn run<C: Source, R: Source, W: Sink>(
     request: &mut R,
     writer: &mut W,
 ) -> Result<Outcome, RunFault>
-    ensures written { IfOk result
-        (λ outcome.
-        Writes
-        (reader_of (C.left catalogue.old) (C.left catalogue.new)
-        (DeviceFailed (C.failures catalogue.old) (C.failures catalogue.new)
-        (C.interruptions catalogue.new)))
-        (reader_of (R.left request.old) (R.left request.new)
-        (DeviceFailed (R.failures request.old) (R.failures request.new)
-        (R.interruptions request.new)))
-        (writer_of (W.contents writer.old) (W.contents writer.new)
-        (WriterFailed (W.failures writer.old) (W.failures writer.new)
-        (W.interruptions writer.new) (W.empty_writes writer.old)
-        (W.empty_writes writer.new)))
-        outcome) }
-    ensures stopped { IfErr result
-        (λ e.
-        StopsRun e
-        (reader_of (C.left catalogue.old) (C.left catalogue.new)
-        (DeviceFailed (C.failures catalogue.old) (C.failures catalogue.new)
-        (C.interruptions catalogue.new)))
-        (reader_of (R.left request.old) (R.left request.new)
-        (DeviceFailed (R.failures request.old) (R.failures request.new)
-        (R.interruptions request.new)))
-        (writer_of (W.contents writer.old) (W.contents writer.new)
-        (WriterFailed (W.failures writer.old) (W.failures writer.new)
-        (W.interruptions writer.new) (W.empty_writes writer.old)
-        (W.empty_writes writer.new)))) }
-    ensures catalogue_faulty { IfCatalogueFaulty (C.left catalogue.old) (request.new ≡ request.old) }
+    ensures written { IfOk result (Writes (reader_at C.Source catalogue.old catalogue.new)
+        (reader_at R.Source request.old request.new)
+        (writer_at W.Sink writer.old writer.new)) }
+    ensures stopped { IfErr result (λ e. StopsRun e
+        (reader_at C.Source catalogue.old catalogue.new)
+        (reader_at R.Source request.old request.new)
+        (writer_at W.Sink writer.old writer.new)) }
+    ensures catalogue_faulty { LeavesRequest (C.left catalogue.old) request.old request.new }
 {
     match run_within(alloc, catalogue, request, writer, None) {
         Ok(outcome) => Ok(outcome),

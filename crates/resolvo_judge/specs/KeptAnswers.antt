@@ -1,12 +1,12 @@
 -- The judge's state of the entries and left-out wishes so far.
-use Rattle.std.specs.Prelude.{◌≡◌, ℕ, ◌+◌, ◌||◌, Bool, true, false, IsTrue, nat_lt, List, [], ◌∷◌, Option, Some, None, is_some, nat_eq}
+use Rattle.std.specs.Prelude.{◌≡◌, ℕ, ◌+◌, ◌||◌, Bool, true, false, IsTrue, nat_lt, List, [], ◌∷◌, ◌++◌, Option, Some, None, is_some, nat_eq}
 use Rattle.std.specs.HashMap.{get}
 use Rattle.std.specs.List.{list_any, list_all}
 use Rattle.resolvo_text.specs.Line.{Version, Line, Wish}
 use Rattle.resolvo_text.specs.Matches.{is_member}
 use Rattle.resolvo_catalogue_core.specs.Grammar.{line_at}
 use Rattle.resolvo_report.specs.Value.{AnswerLine, Entry, Wished, LeftOut}
-use Rattle.resolvo_judge.specs.Entries.{entries_of, left_out, wish_lines, wishes}
+use Rattle.resolvo_judge.specs.Entries.{entries_of, left_out, wish_lines, wishes, answer_fits}
 use Rattle.resolvo_judge.specs.Refusal.{leaves_out}
 use Rattle.resolvo_judge.specs.Chosen.{Holds}
 use Rattle.resolvo_judge.specs.Versions.{HoldsAll}
@@ -35,6 +35,21 @@ pub record KeepsAnswers (e : Entries) (before : List AnswerLine) : Type 0 where
 -- The lines of the request whose wishes are left out are kept.
 abbrev pub KeepsLines : List Line → Entries → List AnswerLine → Type 0
 KeepsLines request e before = (n : ℕ) (v : Version) → wishes (line_at request n) v ≡ true → is_some (get nat_eq e.lines n) ≡ list_any (leaves_out v n) before
+
+-- ---- one more line
+
+-- The answer is whether the line fits after those before it.
+abbrev pub DecidesFit : List Line → List Line → Entries → AnswerLine → Bool → Type 0
+DecidesFit catalogue request e line fits = (before : List AnswerLine) → KeepsAnswers e before → fits ≡ answer_fits catalogue request before line
+
+-- A line that fits is added.
+abbrev pub AddsAnswer : Entries → AnswerLine → Bool → Entries → Type 0
+AddsAnswer e line fits added = (before : List AnswerLine) → KeepsAnswers e before → IsTrue fits → KeepsAnswers added (before ++ line ∷ [])
+
+-- So is its request line, where its wish is left out.
+abbrev pub AddsLine : List Line → Entries → AnswerLine → Bool → Entries → Type 0
+AddsLine request e line fits added =
+    (before : List AnswerLine) → KeepsAnswers e before → KeepsLines request e before → IsTrue fits → KeepsLines request added (before ++ line ∷ [])
 
 -- ---- the wishes
 

@@ -1,7 +1,7 @@
 //! The entries and the left-out wishes of an `install` report, line by line.
 //! The invariant is `KeepsAnswers` of specs/KeptAnswers.antt.
 
-ghost use Rattle.std.specs.Prelude.{◌≡◌, ◌++◌, ◌∷◌, [], ◌<◌, ◌+◌, ◌^◌, List, Option, IfOk, OnOk, IsTrue, true, option_and_then, option_copied};
+ghost use Rattle.std.specs.Prelude.{◌≡◌, [], ◌<◌, ◌+◌, ◌^◌, List, Option, IfOk, OnOk, IsTrue, true, option_and_then, option_copied};
 ghost use Rattle.std.specs.List.{list_any};
 ghost use Rattle.resolvo_text.specs.Line as spelled;
 ghost use Rattle.resolvo_text.specs.Matches.{Set, same_version, matches as matches_lem};
@@ -12,8 +12,8 @@ ghost use Rattle.resolvo_report.specs.Value as model;
 ghost use Rattle.resolvo_report.specs.View.{place_of, answer_line_of};
 ghost use Rattle.resolvo_checker.specs.RuleLines.{line_of_rule, owned_line};
 ghost use Rattle.resolvo_judge.specs.Chosen.{Holds};
-ghost use Rattle.resolvo_judge.specs.Entries.{may_enter as may_enter_lem, is_place_taken as is_place_taken_lem, gives as gives_lem, is_reason as is_reason_lem, is_wish as is_wish_lem, answer_fits, entries_of};
-ghost use Rattle.resolvo_judge.specs.KeptAnswers.{KeepsAnswers, KeepsLines, IsWishAnswered, AreWishesAnswered, is_after};
+ghost use Rattle.resolvo_judge.specs.Entries.{may_enter as may_enter_lem, is_place_taken as is_place_taken_lem, gives as gives_lem, is_reason as is_reason_lem, is_wish as is_wish_lem, entries_of};
+ghost use Rattle.resolvo_judge.specs.KeptAnswers.{KeepsAnswers, KeepsLines, DecidesFit, AddsAnswer, AddsLine, IsWishAnswered, AreWishesAnswered, is_after};
 
 use crate::chosen::Chosen;
 use crate::forbidden_wishes::ForbiddenWishes;
@@ -195,28 +195,12 @@ impl Entries {
         alternative: Option<usize>,
     ) -> Result<bool, AllocError>
         requires { self.old.chosen.count < 2 ^ 32 }
-        ensures fits { IfOk result
-            (λ fits.
-            (before : List model.AnswerLine)
-            → KeepsAnswers self.old before
-            → fits
-            ≡ answer_fits catalogue.now request.now.lines before
+        ensures fits { IfOk result (DecidesFit catalogue.now request.now.lines self.old
             (model.Entry (version_of version.now) (place_of place.now) line)) }
-        ensures kept { IfOk result
-            (λ fits.
-            (before : List model.AnswerLine)
-            → KeepsAnswers self.old before
-            → IsTrue fits
-            → KeepsAnswers self.new
-            (before ++ model.Entry (version_of version.now) (place_of place.now) line ∷ [])) }
-        ensures lines { IfOk result
-            (λ fits.
-            (before : List model.AnswerLine)
-            → KeepsAnswers self.old before
-            → KeepsLines request.now.lines self.old before
-            → IsTrue fits
-            → KeepsLines request.now.lines self.new
-            (before ++ model.Entry (version_of version.now) (place_of place.now) line ∷ [])) }
+        ensures kept { IfOk result (λ fits. AddsAnswer self.old
+            (model.Entry (version_of version.now) (place_of place.now) line) fits self.new) }
+        ensures lines { IfOk result (λ fits. AddsLine request.now.lines self.old
+            (model.Entry (version_of version.now) (place_of place.now) line) fits self.new) }
         ensures few { IfOk result (λ fits. self.new.chosen.count < self.old.chosen.count + 2) }
     {
         if !self.may_enter(catalogue, version)
@@ -237,27 +221,12 @@ impl Entries {
         line: u32,
     ) -> Result<bool, AllocError>
         requires { self.old.chosen.count < 2 ^ 32 }
-        ensures fits { IfOk result
-            (λ fits.
-            (before : List model.AnswerLine)
-            → KeepsAnswers self.old before
-            → fits
-            ≡ answer_fits catalogue.now request.now.lines before
+        ensures fits { IfOk result (DecidesFit catalogue.now request.now.lines self.old
             (model.Wished (version_of version.now) line)) }
-        ensures kept { IfOk result
-            (λ fits.
-            (before : List model.AnswerLine)
-            → KeepsAnswers self.old before
-            → IsTrue fits
-            → KeepsAnswers self.new (before ++ model.Wished (version_of version.now) line ∷ [])) }
-        ensures lines { IfOk result
-            (λ fits.
-            (before : List model.AnswerLine)
-            → KeepsAnswers self.old before
-            → KeepsLines request.now.lines self.old before
-            → IsTrue fits
-            → KeepsLines request.now.lines self.new
-            (before ++ model.Wished (version_of version.now) line ∷ [])) }
+        ensures kept { IfOk result (λ fits. AddsAnswer self.old
+            (model.Wished (version_of version.now) line) fits self.new) }
+        ensures lines { IfOk result (λ fits. AddsLine request.now.lines self.old
+            (model.Wished (version_of version.now) line) fits self.new) }
         ensures few { IfOk result (λ fits. self.new.chosen.count < self.old.chosen.count + 2) }
     {
         if !self.may_enter(catalogue, version) || !self.is_wish(request, line, version) {
@@ -277,28 +246,13 @@ impl Entries {
         line: u32,
         step: u32,
     ) -> Result<bool, AllocError>
-        ensures fits { IfOk result
-            (λ fits.
-            (catalogue : List spelled.Line) (before : List model.AnswerLine)
-            → KeepsAnswers self.old before
-            → fits
-            ≡ answer_fits catalogue request.now.lines before
-            (model.LeftOut (version_of version.now) line step)) }
-        ensures kept { IfOk result
-            (λ fits.
-            (before : List model.AnswerLine)
-            → KeepsAnswers self.old before
-            → IsTrue fits
-            → KeepsAnswers self.new
-            (before ++ model.LeftOut (version_of version.now) line step ∷ [])) }
-        ensures lines { IfOk result
-            (λ fits.
-            (before : List model.AnswerLine)
-            → KeepsAnswers self.old before
-            → KeepsLines request.now.lines self.old before
-            → IsTrue fits
-            → KeepsLines request.now.lines self.new
-            (before ++ model.LeftOut (version_of version.now) line step ∷ [])) }
+        ensures fits { IfOk result (λ fits. (catalogue : List spelled.Line)
+            → DecidesFit catalogue request.now.lines self.old
+            (model.LeftOut (version_of version.now) line step) fits) }
+        ensures kept { IfOk result (λ fits. AddsAnswer self.old
+            (model.LeftOut (version_of version.now) line step) fits self.new) }
+        ensures lines { IfOk result (λ fits. AddsLine request.now.lines self.old
+            (model.LeftOut (version_of version.now) line step) fits self.new) }
         ensures few { IfOk result (λ fits. self.new.chosen.count ≡ self.old.chosen.count) }
     {
         if !self.is_wish(request, line, version) || self.chosen.has(version) {
@@ -350,25 +304,12 @@ impl Entries {
         alternative: Option<usize>,
     ) -> Result<bool, AllocError>
         requires { self.old.chosen.count < 2 ^ 32 }
-        ensures fits { IfOk result
-            (λ fits.
-            (before : List model.AnswerLine)
-            → KeepsAnswers self.old before
-            → fits
-            ≡ answer_fits catalogue.now request.now.lines before (answer_line_of line.now)) }
-        ensures kept { IfOk result
-            (λ fits.
-            (before : List model.AnswerLine)
-            → KeepsAnswers self.old before
-            → IsTrue fits
-            → KeepsAnswers self.new (before ++ answer_line_of line.now ∷ [])) }
-        ensures lines { IfOk result
-            (λ fits.
-            (before : List model.AnswerLine)
-            → KeepsAnswers self.old before
-            → KeepsLines request.now.lines self.old before
-            → IsTrue fits
-            → KeepsLines request.now.lines self.new (before ++ answer_line_of line.now ∷ [])) }
+        ensures fits { IfOk result (DecidesFit catalogue.now request.now.lines self.old
+            (answer_line_of line.now)) }
+        ensures kept { IfOk result (λ fits. AddsAnswer self.old (answer_line_of line.now) fits
+            self.new) }
+        ensures lines { IfOk result (λ fits. AddsLine request.now.lines self.old
+            (answer_line_of line.now) fits self.new) }
         ensures few { IfOk result (λ fits. self.new.chosen.count < self.old.chosen.count + 2) }
     {
         match line {

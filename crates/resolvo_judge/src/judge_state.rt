@@ -1,17 +1,16 @@
 //! The judge's state, line by line.
-//! The invariant is `LogInvariant` for named lines and steps, and `KeepsAnswers` for the entries.
+//! The invariant is `KeepsLog` for named lines and steps, and `KeepsAnswers` for the entries.
 
-ghost use Rattle.std.specs.Prelude.{◌≡◌, ◌+◌, ◌^◌, ◌<◌, ◌≤◌, [], ◌∷◌, ◌++◌, ℕ, List, IfOk, IsTrue, length, true, false};
-ghost use Rattle.resolvo_catalogue_core.specs.Listed.{listed};
+ghost use Rattle.std.specs.Prelude.{◌≡◌, ◌+◌, ◌^◌, ◌<◌, ◌≤◌, [], ◌∷◌, ◌++◌, ℕ, List, IfOk, length, true, false};
 ghost use Rattle.resolvo_report.specs.Value.{Report as ReportValue, ReportLine as LineValue, Numbered};
 ghost use Rattle.resolvo_report.specs.Text.{report_lines};
 ghost use Rattle.resolvo_report.specs.View.{report_line_of, step_of};
 ghost use Rattle.resolvo_checker.specs.CheckStep.{causes_in as causes_in_lem};
 ghost use Rattle.resolvo_judge.specs.Refusal.{passes, answers_in, is_refusal as is_refusal_lem, ArePassed};
-ghost use Rattle.resolvo_judge.specs.Log.{LogInvariant, is_head, causes_of_line as causes_of_line_lem};
+ghost use Rattle.resolvo_judge.specs.Log.{KeepsLog, IfPassed, PassIsWithin, HasAllPlaces, DecidesStep, AddsStep, ReadsMore};
+ghost use Rattle.resolvo_judge.specs.Log.{is_head, causes_of_line as causes_of_line_lem};
 ghost use Rattle.resolvo_judge.specs.KeptAnswers.{KeepsAnswers, KeepsLines};
-ghost use Rattle.resolvo_judge.specs.Forbids.{FlagsForbidden};
-ghost use Rattle.resolvo_judge.specs.JudgeState.{JudgeInvariant, DecidesEnd};
+ghost use Rattle.resolvo_judge.specs.JudgeState.{JudgeInvariant, FlagsNext, DecidesEnd};
 
 use crate::alternatives::Alternatives;
 use crate::end_rules::keeps_all;
@@ -62,7 +61,7 @@ pub fn begin(
     ensures represents { IfOk result
         (λ j. JudgeInvariant catalogue.now request.now.lines j [] (report_line_of first.now ∷ [])) }
     ensures pass { IfOk result (λ j. j.log.checker.truth.pass ≡ 0) }
-    ensures long { IfOk result (λ j. length j.log.checker.places.items ≡ length (listed catalogue.now)) }
+    ensures long { IfOk result (λ j. HasAllPlaces j.log catalogue.now) }
     ensures few { IfOk result (λ j. j.entries.chosen.count ≡ 0) }
 {
     let refused = is_refusal(first);
@@ -100,56 +99,27 @@ fn take_numbered(
     clauses: &mut Clauses,
     step: &Step,
 ) -> Result<bool, AllocError>
-    requires later { judging.old.log.checker.truth.pass ≤ length clauses.old.kept }
-    requires long { length judging.old.log.checker.places.items ≡ length (listed catalogue.now) }
+    requires later { PassIsWithin judging.old.log clauses.old.kept }
+    requires long { HasAllPlaces judging.old.log catalogue.now }
     requires short { length clauses.old.kept + 1 < 2 ^ 32 }
     requires room { clauses.old.readings.read + causes_in_lem (step_of step.now) < 2 ^ 64 }
     // After an answer.
-    ensures answer { IfOk result
-        (λ fine.
-        (above : List LineValue) (n : ℕ)
-        → LogInvariant catalogue.now request.now.lines judging.old.log.checker.numbers
-        clauses.old.kept judging.old.log.checker.places.items judging.old.log.scope
-        judging.old.log.ends_empty above
-        → fine ≡ passes catalogue.now request.now.lines above (Numbered n (step_of step.now))) }
-    ensures log { IfOk result
-        (λ fine.
-        IsTrue fine
-        → (above : List LineValue) (n : ℕ)
-        → LogInvariant catalogue.now request.now.lines judging.old.log.checker.numbers
-        clauses.old.kept judging.old.log.checker.places.items judging.old.log.scope
-        judging.old.log.ends_empty above
-        → LogInvariant catalogue.now request.now.lines judging.new.log.checker.numbers
-        clauses.new.kept judging.new.log.checker.places.items judging.new.log.scope
-        judging.new.log.ends_empty (above ++ Numbered n (step_of step.now) ∷ [])) }
-    ensures forbidden { IfOk result
-        (λ fine.
-        IsTrue fine
-        → (above : List LineValue) (n : ℕ)
-        → LogInvariant catalogue.now request.now.lines judging.old.log.checker.numbers
-        clauses.old.kept judging.old.log.checker.places.items judging.old.log.scope
-        judging.old.log.ends_empty above
-        → KeepsAnswers judging.old.entries (answers_in above)
-        → FlagsForbidden catalogue.now request.now.lines judging.old.forbidden above
-        → FlagsForbidden catalogue.now request.now.lines judging.new.forbidden
-        (above ++ Numbered n (step_of step.now) ∷ [])) }
+    ensures answer { IfOk result (DecidesStep catalogue.now request.now.lines judging.old.log
+        clauses.old.kept (step_of step.now)) }
+    // If the step passes.
+    ensures log { IfPassed result (AddsStep catalogue.now request.now.lines judging.old.log
+        clauses.old.kept (step_of step.now) judging.new.log clauses.new.kept) }
+    ensures forbidden { IfPassed result ((above : List LineValue) (n : ℕ)
+        → FlagsNext catalogue.now request.now.lines judging.old clauses.old.kept above
+        (Numbered n (step_of step.now)) judging.new.forbidden) }
+    ensures later { IfPassed result (PassIsWithin judging.new.log clauses.new.kept) }
+    ensures long { IfPassed result (HasAllPlaces judging.new.log catalogue.now) }
+    ensures count { IfPassed result (length clauses.new.kept ≡ length clauses.old.kept + 1) }
+    ensures read { IfPassed result (ReadsMore clauses.old.readings (causes_in_lem (step_of step.now))
+        clauses.new.readings) }
     // Whatever the answer.
     ensures entries { judging.new.entries ≡ judging.old.entries }
     ensures refused { judging.new.refused ≡ judging.old.refused }
-    // After an answer.
-    ensures later { IfOk result
-        (λ fine. IsTrue fine → judging.new.log.checker.truth.pass ≤ length clauses.new.kept) }
-    ensures long { IfOk result
-        (λ fine.
-        IsTrue fine
-        → length judging.new.log.checker.places.items ≡ length (listed catalogue.now)) }
-    ensures count { IfOk result (λ fine. IsTrue fine → length clauses.new.kept ≡ length clauses.old.kept + 1) }
-    ensures read { IfOk result
-        (λ fine.
-        IsTrue fine
-        → clauses.new.readings
-        ≡ record clauses.old.readings
-        { read = clauses.old.readings.read + causes_in_lem (step_of step.now) }) }
 {
     let number = clauses.len() as u32 + 1;
     if !take_step(alloc, catalogue, request, &mut judging.log, clauses, step)? {
@@ -171,77 +141,43 @@ fn take_line(
     clauses: &mut Clauses,
     line: &ReportLine,
 ) -> Result<bool, AllocError>
-    requires later { judging.old.log.checker.truth.pass ≤ length clauses.old.kept }
-    requires long { length judging.old.log.checker.places.items ≡ length (listed catalogue.now) }
+    requires later { PassIsWithin judging.old.log clauses.old.kept }
+    requires long { HasAllPlaces judging.old.log catalogue.now }
     requires short { length clauses.old.kept + 1 < 2 ^ 32 }
     requires few { judging.old.entries.chosen.count < 2 ^ 32 }
     requires room { clauses.old.readings.read + causes_of_line_lem (report_line_of line.now) < 2 ^ 64 }
     // After an answer.
-    ensures answer { IfOk result
-        (λ fine.
-        (above : List LineValue)
-        → LogInvariant catalogue.now request.now.lines judging.old.log.checker.numbers
-        clauses.old.kept judging.old.log.checker.places.items judging.old.log.scope
-        judging.old.log.ends_empty above
+    ensures answer { IfOk result (λ fine. (above : List LineValue)
+        → KeepsLog catalogue.now request.now.lines judging.old.log clauses.old.kept above
         → KeepsAnswers judging.old.entries (answers_in above)
         → fine ≡ passes catalogue.now request.now.lines above (report_line_of line.now)) }
-    ensures log { IfOk result
-        (λ fine.
-        IsTrue fine
-        → (above : List LineValue)
+    // If the line passes.
+    ensures log { IfPassed result ((above : List LineValue)
         → is_head (report_line_of line.now) ≡ false
-        → LogInvariant catalogue.now request.now.lines judging.old.log.checker.numbers
-        clauses.old.kept judging.old.log.checker.places.items judging.old.log.scope
-        judging.old.log.ends_empty above
-        → LogInvariant catalogue.now request.now.lines judging.new.log.checker.numbers
-        clauses.new.kept judging.new.log.checker.places.items judging.new.log.scope
-        judging.new.log.ends_empty (above ++ report_line_of line.now ∷ [])) }
-    ensures entries { IfOk result
-        (λ fine.
-        IsTrue fine
-        → (above : List LineValue)
+        → KeepsLog catalogue.now request.now.lines judging.old.log clauses.old.kept above
+        → KeepsLog catalogue.now request.now.lines judging.new.log clauses.new.kept
+        (above ++ report_line_of line.now ∷ [])) }
+    ensures entries { IfPassed result ((above : List LineValue)
         → KeepsAnswers judging.old.entries (answers_in above)
-        → KeepsAnswers judging.new.entries
-        (answers_in (above ++ report_line_of line.now ∷ []))) }
-    ensures lines { IfOk result
-        (λ fine.
-        IsTrue fine
-        → (above : List LineValue)
+        → KeepsAnswers judging.new.entries (answers_in (above ++ report_line_of line.now ∷ []))) }
+    ensures lines { IfPassed result ((above : List LineValue)
         → KeepsAnswers judging.old.entries (answers_in above)
         → KeepsLines request.now.lines judging.old.entries (answers_in above)
         → KeepsLines request.now.lines judging.new.entries
         (answers_in (above ++ report_line_of line.now ∷ []))) }
-    ensures forbidden { IfOk result
-        (λ fine.
-        IsTrue fine
-        → (above : List LineValue)
+    ensures forbidden { IfPassed result ((above : List LineValue)
         → is_head (report_line_of line.now) ≡ false
-        → LogInvariant catalogue.now request.now.lines judging.old.log.checker.numbers
-        clauses.old.kept judging.old.log.checker.places.items judging.old.log.scope
-        judging.old.log.ends_empty above
-        → KeepsAnswers judging.old.entries (answers_in above)
-        → FlagsForbidden catalogue.now request.now.lines judging.old.forbidden above
-        → FlagsForbidden catalogue.now request.now.lines judging.new.forbidden
-        (above ++ report_line_of line.now ∷ [])) }
+        → FlagsNext catalogue.now request.now.lines judging.old clauses.old.kept above
+        (report_line_of line.now) judging.new.forbidden) }
+    ensures later { IfPassed result (PassIsWithin judging.new.log clauses.new.kept) }
+    ensures long { IfPassed result (HasAllPlaces judging.new.log catalogue.now) }
+    ensures count { IfPassed result (length clauses.new.kept ≤ length clauses.old.kept + 1) }
+    ensures few { IfPassed result
+        (judging.new.entries.chosen.count < judging.old.entries.chosen.count + 2) }
+    ensures read { IfPassed result (ReadsMore clauses.old.readings
+        (causes_of_line_lem (report_line_of line.now)) clauses.new.readings) }
     // Whatever the answer.
     ensures refused { judging.new.refused ≡ judging.old.refused }
-    // After an answer.
-    ensures later { IfOk result
-        (λ fine. IsTrue fine → judging.new.log.checker.truth.pass ≤ length clauses.new.kept) }
-    ensures long { IfOk result
-        (λ fine.
-        IsTrue fine
-        → length judging.new.log.checker.places.items ≡ length (listed catalogue.now)) }
-    ensures count { IfOk result (λ fine. IsTrue fine → length clauses.new.kept ≤ length clauses.old.kept + 1) }
-    ensures few { IfOk result
-        (λ fine.
-        IsTrue fine → judging.new.entries.chosen.count < judging.old.entries.chosen.count + 2) }
-    ensures read { IfOk result
-        (λ fine.
-        IsTrue fine
-        → clauses.new.readings
-        ≡ record clauses.old.readings
-        { read = clauses.old.readings.read + causes_of_line_lem (report_line_of line.now) }) }
 {
     match line {
         ReportLine::Install | ReportLine::Refused | ReportLine::Message { .. } => Ok(true),
@@ -289,46 +225,31 @@ pub fn take(
     clauses: &mut Clauses,
     line: ReportLine,
 ) -> Result<bool, AllocError>
-    requires later { judging.old.log.checker.truth.pass ≤ length clauses.old.kept }
-    requires long { length judging.old.log.checker.places.items ≡ length (listed catalogue.now) }
+    requires later { PassIsWithin judging.old.log clauses.old.kept }
+    requires long { HasAllPlaces judging.old.log catalogue.now }
     requires short { length clauses.old.kept + 1 < 2 ^ 32 }
     requires few { judging.old.entries.chosen.count < 2 ^ 32 }
     requires room { clauses.old.readings.read + causes_of_line_lem (report_line_of line) < 2 ^ 64 }
     requires named { clauses.old.readings.named + causes_of_line_lem (report_line_of line) < 2 ^ 64 }
     // After an answer.
-    ensures answer { IfOk result
-        (λ fine.
-        (above : List LineValue)
+    ensures answer { IfOk result (λ fine. (above : List LineValue)
         → JudgeInvariant catalogue.now request.now.lines judging.old clauses.old.kept above
         → fine ≡ passes catalogue.now request.now.lines above (report_line_of line)) }
-    ensures represents { IfOk result
-        (λ fine.
-        IsTrue fine
-        → (above : List LineValue)
+    // If the line passes.
+    ensures represents { IfPassed result ((above : List LineValue)
         → is_head (report_line_of line) ≡ false
         → is_refusal_lem (above ++ report_line_of line ∷ []) ≡ is_refusal_lem above
         → JudgeInvariant catalogue.now request.now.lines judging.old clauses.old.kept above
         → JudgeInvariant catalogue.now request.now.lines judging.new clauses.new.kept
         (above ++ report_line_of line ∷ [])) }
-    ensures later { IfOk result
-        (λ fine. IsTrue fine → judging.new.log.checker.truth.pass ≤ length clauses.new.kept) }
-    ensures long { IfOk result
-        (λ fine.
-        IsTrue fine
-        → length judging.new.log.checker.places.items ≡ length (listed catalogue.now)) }
-    ensures count { IfOk result (λ fine. IsTrue fine → length clauses.new.kept ≤ length clauses.old.kept + 1) }
-    ensures few { IfOk result
-        (λ fine.
-        IsTrue fine → judging.new.entries.chosen.count < judging.old.entries.chosen.count + 2) }
-    ensures read { IfOk result
-        (λ fine.
-        IsTrue fine
-        → clauses.new.readings.read
+    ensures later { IfPassed result (PassIsWithin judging.new.log clauses.new.kept) }
+    ensures long { IfPassed result (HasAllPlaces judging.new.log catalogue.now) }
+    ensures count { IfPassed result (length clauses.new.kept ≤ length clauses.old.kept + 1) }
+    ensures few { IfPassed result
+        (judging.new.entries.chosen.count < judging.old.entries.chosen.count + 2) }
+    ensures read { IfPassed result (clauses.new.readings.read
         ≡ clauses.old.readings.read + causes_of_line_lem (report_line_of line)) }
-    ensures named { IfOk result
-        (λ fine.
-        IsTrue fine
-        → clauses.new.readings.named
+    ensures named { IfPassed result (clauses.new.readings.named
         ≡ clauses.old.readings.named + causes_of_line_lem (report_line_of line)) }
 {
     if !take_line(alloc, catalogue, request, judging, clauses, &line)? {

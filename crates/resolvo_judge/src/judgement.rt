@@ -4,8 +4,8 @@
 //! run it on reports from strangers: its yes alone implies that the report's claim is true.
 
 ghost use Rattle.std.specs.Prelude.{◌≡◌, [], IfOk, IfErr};
-ghost use Rattle.resolvo_text.specs.Device.{IfKnown, DeviceFailed};
-ghost use Rattle.resolvo_judge.specs.Judgement.{IsVerdict, ClaimsTruth, CountsReadings, IsJudgeFault, IsStop};
+ghost use Rattle.resolvo_text.specs.Device.{IfKnown};
+ghost use Rattle.resolvo_judge.specs.Judgement.{IsVerdict, ClaimsTruth, CountsReadings, GivesNoAnswer, StopsJudging};
 
 use crate::judge_state::{begin, may_end, take};
 use resolvo_catalogue_core::{Catalogue, Request, Source};
@@ -74,11 +74,8 @@ fn judge_lines<S: Source>(
         (λ verdict.
         IfKnown (S.left source.old) (λ text. CountsReadings text verdict clauses.new.readings)) }
     // After a refusal.
-    ensures fault { IfErr result
-        (λ e.
-        IsStop catalogue.now request.now.lines e (S.left source.old) (S.left source.new)
-        (DeviceFailed (S.failures source.old) (S.failures source.new)
-        (S.interruptions source.new))) }
+    ensures fault { IfErr result (λ e. StopsJudging S.Source catalogue.now request.now.lines e
+        source.old source.new) }
 {
     let mut reader = ReportReader::new(alloc)?;
     let Some(first) = reader.next_without_message(alloc, source)? else {
@@ -120,11 +117,8 @@ pub fn judge_counted<S: Source>(
         (λ text. ClaimsTruth catalogue.now request.now.lines text j.verdict)) }
     ensures counted { IfOk result
         (λ j. IfKnown (S.left source.old) (λ text. CountsReadings text j.verdict j.readings)) }
-    ensures fault { IfErr result
-        (λ e.
-        IsJudgeFault catalogue.now request.now.lines e (S.left source.old) (S.left source.new)
-        (DeviceFailed (S.failures source.old) (S.failures source.new)
-        (S.interruptions source.new))) }
+    ensures fault { IfErr result (λ e. GivesNoAnswer S.Source catalogue.now request.now.lines e
+        source.old source.new) }
 {
     let mut clauses = Clauses::new(alloc);
     match judge_lines(alloc, catalogue, request, source, &mut clauses) {
@@ -161,11 +155,8 @@ pub fn judge<S: Source>(
         (λ verdict.
         IfKnown (S.left source.old)
         (λ text. ClaimsTruth catalogue.now request.now.lines text verdict)) }
-    ensures fault { IfErr result
-        (λ e.
-        IsJudgeFault catalogue.now request.now.lines e (S.left source.old) (S.left source.new)
-        (DeviceFailed (S.failures source.old) (S.failures source.new)
-        (S.interruptions source.new))) }
+    ensures fault { IfErr result (λ e. GivesNoAnswer S.Source catalogue.now request.now.lines e
+        source.old source.new) }
 {
     let judged = judge_counted(alloc, catalogue, request, source)?;
     Ok(judged.verdict)

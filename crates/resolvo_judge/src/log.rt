@@ -1,17 +1,15 @@
 //! The proof of a report, line by line: named lines, and steps.
-//! The invariant is `LogInvariant` of specs/Log.antt.
+//! The invariant is `KeepsLog` of specs/Log.antt.
 
-ghost use Rattle.std.specs.Prelude.{◌≡◌, ◌+◌, ◌^◌, ◌<◌, ◌≤◌, [], ◌∷◌, ◌++◌, List, IfOk, IsTrue, length, ℕ, ◌==◌, ◌||◌};
-ghost use Rattle.resolvo_catalogue_core.specs.Listed.{listed};
-ghost use Rattle.resolvo_report.specs.Value.{ReportLine, InstallHead, RefusedHead, CatalogueLine, RequestLine, Numbered};
+ghost use Rattle.std.specs.Prelude.{◌≡◌, ◌+◌, ◌^◌, ◌<◌, [], ◌∷◌, List, IfOk, length, ℕ, ◌==◌, ◌||◌};
+ghost use Rattle.resolvo_report.specs.Value.{ReportLine, InstallHead, RefusedHead, CatalogueLine, RequestLine};
 ghost use Rattle.resolvo_report.specs.View.{step_of};
-ghost use Rattle.resolvo_checker.specs.declared.literal.Literal.{Literal};
 ghost use Rattle.resolvo_checker.specs.CheckStep.{causes_in, names_catalogue, names_request};
 ghost use Rattle.resolvo_checker.specs.Proof.{derives_empty as derives_empty_lem};
 ghost use Rattle.resolvo_judge.specs.Refusal.{passes, has_rule};
 ghost use Rattle.resolvo_catalogue_core.specs.Grammar.{line_at};
 ghost use Rattle.resolvo_text.specs.Line.{Line};
-ghost use Rattle.resolvo_judge.specs.Log.{LogInvariant};
+ghost use Rattle.resolvo_judge.specs.Log.{KeepsLog, IfPassed, PassIsWithin, HasAllPlaces, DecidesStep, AddsStep, AddsNamed, ReadsMore};
 
 use crate::named::{is_rule, name_in_catalogue, name_in_request};
 use resolvo_catalogue_core::{Catalogue, Request};
@@ -37,11 +35,9 @@ pub fn install_log(
     request: &Request,
 ) -> Result<ProofState, AllocError>
     ensures represents { IfOk result
-        (λ l.
-        LogInvariant catalogue.now request.now.lines l.checker.numbers [] l.checker.places.items
-        l.scope l.ends_empty (InstallHead ∷ [])) }
+        (λ l. KeepsLog catalogue.now request.now.lines l [] (InstallHead ∷ [])) }
     ensures pass { IfOk result (λ l. l.checker.truth.pass ≡ 0) }
-    ensures long { IfOk result (λ l. length l.checker.places.items ≡ length (listed catalogue.now)) }
+    ensures long { IfOk result (λ l. HasAllPlaces l catalogue.now) }
 {
     Ok(ProofState {
         checker: begin(alloc, catalogue, request)?,
@@ -57,11 +53,9 @@ pub fn refusal_log(
     request: &Request,
 ) -> Result<ProofState, AllocError>
     ensures represents { IfOk result
-        (λ l.
-        LogInvariant catalogue.now request.now.lines l.checker.numbers [] l.checker.places.items
-        l.scope l.ends_empty (RefusedHead ∷ [])) }
+        (λ l. KeepsLog catalogue.now request.now.lines l [] (RefusedHead ∷ [])) }
     ensures pass { IfOk result (λ l. l.checker.truth.pass ≡ 0) }
-    ensures long { IfOk result (λ l. length l.checker.places.items ≡ length (listed catalogue.now)) }
+    ensures long { IfOk result (λ l. HasAllPlaces l catalogue.now) }
 {
     Ok(ProofState {
         checker: begin(alloc, catalogue, request)?,
@@ -91,37 +85,21 @@ pub fn take_step(
     clauses: &mut Clauses,
     step: &Step,
 ) -> Result<bool, AllocError>
-    requires later { log.old.checker.truth.pass ≤ length clauses.old.kept }
-    requires long { length log.old.checker.places.items ≡ length (listed catalogue.now) }
+    requires later { PassIsWithin log.old clauses.old.kept }
+    requires long { HasAllPlaces log.old catalogue.now }
     requires short { length clauses.old.kept + 1 < 2 ^ 32 }
     requires room { clauses.old.readings.read + causes_in (step_of step.now) < 2 ^ 64 }
     // After an answer.
-    ensures answer { IfOk result
-        (λ fine.
-        (above : List ReportLine) (n : ℕ)
-        → LogInvariant catalogue.now request.now.lines log.old.checker.numbers clauses.old.kept
-        log.old.checker.places.items log.old.scope log.old.ends_empty above
-        → fine ≡ passes catalogue.now request.now.lines above (Numbered n (step_of step.now))) }
-    ensures represents { IfOk result
-        (λ fine.
-        IsTrue fine
-        → (above : List ReportLine) (n : ℕ)
-        → LogInvariant catalogue.now request.now.lines log.old.checker.numbers clauses.old.kept
-        log.old.checker.places.items log.old.scope log.old.ends_empty above
-        → LogInvariant catalogue.now request.now.lines log.new.checker.numbers clauses.new.kept
-        log.new.checker.places.items log.new.scope log.new.ends_empty
-        (above ++ Numbered n (step_of step.now) ∷ [])) }
-    ensures later { IfOk result (λ fine. IsTrue fine → log.new.checker.truth.pass ≤ length clauses.new.kept) }
-    ensures long { IfOk result
-        (λ fine.
-        IsTrue fine → length log.new.checker.places.items ≡ length (listed catalogue.now)) }
-    ensures count { IfOk result (λ fine. IsTrue fine → length clauses.new.kept ≡ length clauses.old.kept + 1) }
-    ensures read { IfOk result
-        (λ fine.
-        IsTrue fine
-        → clauses.new.readings
-        ≡ record clauses.old.readings
-        { read = clauses.old.readings.read + causes_in (step_of step.now) }) }
+    ensures answer { IfOk result (DecidesStep catalogue.now request.now.lines log.old
+        clauses.old.kept (step_of step.now)) }
+    // If the step passes.
+    ensures represents { IfPassed result (AddsStep catalogue.now request.now.lines log.old
+        clauses.old.kept (step_of step.now) log.new clauses.new.kept) }
+    ensures later { IfPassed result (PassIsWithin log.new clauses.new.kept) }
+    ensures long { IfPassed result (HasAllPlaces log.new catalogue.now) }
+    ensures count { IfPassed result (length clauses.new.kept ≡ length clauses.old.kept + 1) }
+    ensures read { IfPassed result (ReadsMore clauses.old.readings (causes_in (step_of step.now))
+        clauses.new.readings) }
 {
     let fine = advance(
         alloc,
@@ -146,15 +124,8 @@ pub fn take_catalogue_line(
         (λ fine.
         (request : List Line) (above : List ReportLine)
         → fine ≡ passes catalogue.now request above (CatalogueLine line)) }
-    ensures represents { IfOk result
-        (λ fine.
-        IsTrue fine
-        → (request : List Line) (clauses : List (List Literal)) (above : List ReportLine)
-        → LogInvariant catalogue.now request log.old.checker.numbers clauses
-        log.old.checker.places.items log.old.scope log.old.ends_empty above
-        → LogInvariant catalogue.now request log.new.checker.numbers clauses
-        log.new.checker.places.items log.new.scope log.new.ends_empty
-        (above ++ CatalogueLine line ∷ [])) }
+    ensures represents { IfPassed result ((request : List Line)
+        → AddsNamed catalogue.now request log.old (CatalogueLine line) log.new) }
     ensures checker { log.new.checker ≡ log.old.checker }
 {
     let fine = name_catalogue(catalogue, &mut log.scope, line)?;
@@ -171,15 +142,8 @@ pub fn take_request_line(
         (λ fine.
         (catalogue : List Line) (above : List ReportLine)
         → fine ≡ passes catalogue request.now.lines above (RequestLine line)) }
-    ensures represents { IfOk result
-        (λ fine.
-        IsTrue fine
-        → (catalogue : List Line) (clauses : List (List Literal)) (above : List ReportLine)
-        → LogInvariant catalogue request.now.lines log.old.checker.numbers clauses
-        log.old.checker.places.items log.old.scope log.old.ends_empty above
-        → LogInvariant catalogue request.now.lines log.new.checker.numbers clauses
-        log.new.checker.places.items log.new.scope log.new.ends_empty
-        (above ++ RequestLine line ∷ [])) }
+    ensures represents { IfPassed result ((catalogue : List Line)
+        → AddsNamed catalogue request.now.lines log.old (RequestLine line) log.new) }
     ensures checker { log.new.checker ≡ log.old.checker }
 {
     let fine = name_request(request, &mut log.scope, line)?;
@@ -192,13 +156,10 @@ fn name_catalogue(
     line: u32,
 ) -> Result<bool, AllocError>
     ensures fine { IfOk result (λ fine. fine ≡ has_rule (line_at catalogue.now line)) }
-    ensures named { IfOk result
-        (λ fine.
-        IsTrue fine
-        → (n : ℕ)
+    ensures named { IfPassed result ((n : ℕ)
         → names_catalogue scope.new n ≡ ((line == n) || names_catalogue scope.old n)) }
-    ensures others { IfOk result
-        (λ fine. IsTrue fine → (n : ℕ) → names_request scope.new n ≡ names_request scope.old n) }
+    ensures others { IfPassed result ((n : ℕ)
+        → names_request scope.new n ≡ names_request scope.old n) }
 {
     match scope {
         Premises::Named {
@@ -211,14 +172,10 @@ fn name_catalogue(
 
 fn name_request(request: &Request, scope: &mut Premises, line: u32) -> Result<bool, AllocError>
     ensures fine { IfOk result (λ fine. fine ≡ has_rule (line_at request.now.lines line)) }
-    ensures named { IfOk result
-        (λ fine.
-        IsTrue fine
-        → (n : ℕ)
+    ensures named { IfPassed result ((n : ℕ)
         → names_request scope.new n ≡ ((line == n) || names_request scope.old n)) }
-    ensures others { IfOk result
-        (λ fine.
-        IsTrue fine → (n : ℕ) → names_catalogue scope.new n ≡ names_catalogue scope.old n) }
+    ensures others { IfPassed result ((n : ℕ)
+        → names_catalogue scope.new n ≡ names_catalogue scope.old n) }
 {
     match scope {
         Premises::Named { request: marks, .. } => name_in_request(request, marks, line),

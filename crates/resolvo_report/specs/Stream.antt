@@ -1,15 +1,17 @@
 -- A reader of the lines of a report, with the device that it reads from.
-use Rattle.std.specs.Prelude.{◌≡◌, ℕ, ◌+◌, ◌<◌, ⊤, List, ◌++◌, length, take, Option, Some, codes}
-use Rattle.std.specs.Io.KnownBytes.{Consumes}
-use Rattle.resolvo_text.specs.Device.{IfKnown}
+use Rattle.std.specs.Prelude.{◌≡◌, ℕ, ◌+◌, ◌<◌, ⊤, Bool, IsTrue, List, ◌++◌, length, take, Option, Some, codes}
+use Rattle.std.specs.Io.KnownBytes.{Consumes, IsAtEnd}
+use Rattle.resolvo_text.specs.Device.{IfKnown, DeviceFailed}
 use Rattle.resolvo_text.specs.Lines.{newlines}
 use Rattle.resolvo_text.specs.Reader as lines
+use Rattle.resolvo_text.specs.declared.device.Source as source
 use Rattle.resolvo_report.specs.declared.reader.ReportReader.{ReportReader}
 use Rattle.resolvo_report.specs.declared.reader.ReportFault.{ReportFault}
 use Rattle.resolvo_report.specs.declared.reader.ReportFault.TheVariants.{NotAReport, Reader, TooLong, Memory}
 use Rattle.resolvo_report.specs.Value.{ReportLine}
 use Rattle.resolvo_report.specs.Text.{line_text, HasText}
-use Rattle.resolvo_report.specs.Grammar.{next_part, GoesOn}
+use Rattle.resolvo_report.specs.Grammar.{next_part, may_end, GoesOn}
+use Rattle.resolvo_report.specs.Shown.{IsShown}
 
 -- the rest of the text, where the device knows it
 abbrev pub left : ReportReader → Option (List ℕ) → Option (List ℕ)
@@ -31,3 +33,25 @@ IsLineFault (NotAReport n) r before after failed = (n ≡ r.number + 1) × IfKno
 IsLineFault Reader r before after failed = failed × lines.NoLineReceived before after
 IsLineFault TooLong r before after failed = IfKnown before (λ bytes. (r.lines.room < length bytes) × (newlines (take r.lines.room bytes) ≡ 0))
 IsLineFault Memory r before after failed = ⊤
+
+-- ---- of a device with these members, before a call and after it
+
+-- the device failed
+abbrev pub SourceFailed : {S : Type 0} → source.Ghosts S → S → S → Type 0
+SourceFailed d before after = DeviceFailed (d.failures before) (d.failures after) (d.interruptions after)
+
+-- The reader took this line, and then it is the second.
+abbrev pub TakesLine : {S : Type 0} → source.Ghosts S → ReportReader → S → ReportLine → ReportReader → S → Type 0
+TakesLine d r before line s after = GivesLine (left r (d.left before)) r line (left s (d.left after)) s
+
+-- It took a line that is shown so, with the bytes of a message or without them.
+abbrev pub TakesShown : {S : Type 0} → source.Ghosts S → Bool → ReportReader → S → ReportLine → ReportReader → S → Type 0
+TakesShown d keeps r before line s after = (parsed : ReportLine) × IsShown keeps parsed line × TakesLine d r before parsed s after
+
+-- No byte is left, and the report may end there.
+abbrev pub IsAtReportEnd : {S : Type 0} → source.Ghosts S → ReportReader → S → Type 0
+IsAtReportEnd d r before = IsAtEnd (left r (d.left before)) × IsTrue (may_end r.part)
+
+-- No line was taken, for this fault.
+abbrev pub TakesNoLine : {S : Type 0} → source.Ghosts S → ReportFault → ReportReader → S → S → Type 0
+TakesNoLine d e r before after = IsLineFault e r (left r (d.left before)) (d.left after) (SourceFailed d before after)

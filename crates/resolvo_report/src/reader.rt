@@ -4,14 +4,11 @@
 //! allowed. A line of a message has a copy of its bytes, or none.
 //! The judge takes one line after the other; `Report::read` keeps them all.
 
-ghost use Rattle.std.specs.Prelude.{◌≡◌, ℕ, ◌+◌, ◌≤◌, ◌++◌, ◌∷◌, [], Option, Some, None, IfOk, IfSome, IfNone, IfErr, OnOk, IsTrue, false};
-ghost use Rattle.std.specs.Io.KnownBytes.{IsAtEnd};
-ghost use Rattle.resolvo_text.specs.Device.{IfKnown, DeviceFailed};
-ghost use Rattle.resolvo_report.specs.Value.{ReportLine as ParsedLine};
+ghost use Rattle.std.specs.Prelude.{◌≡◌, ℕ, ◌+◌, ◌≤◌, ◌++◌, ◌∷◌, [], Option, Some, None, IfOk, IfSome, IfNone, IfErr, OnOk, false};
+ghost use Rattle.resolvo_text.specs.Device.{IfKnown};
 ghost use Rattle.resolvo_report.specs.View.{report_of, report_line_of};
 ghost use Rattle.resolvo_report.specs.Text.{report_lines, report_text};
-ghost use Rattle.resolvo_report.specs.Shown.{IsShown};
-ghost use Rattle.resolvo_report.specs.Grammar.{next_part, may_end, IsReport, IsReportFault};
+ghost use Rattle.resolvo_report.specs.Grammar.{next_part, IsReport, IsReportFault};
 ghost use Rattle.resolvo_report.specs.Draft.{part_of};
 
 use crate::parse::line_shown;
@@ -82,7 +79,7 @@ impl Drop for ReportReader {
 }
 
 impl ReportReader {
-    ghost use Rattle.resolvo_report.specs.Stream.{left, GivesLine, IsLineFault};
+    ghost use Rattle.resolvo_report.specs.Stream.{TakesLine, TakesShown, TakesNoLine, IsAtReportEnd};
     ghost use Rattle.resolvo_report.specs.declared.place.Part.TheVariants as part;
     ghost use Rattle.resolvo_text.specs.Reader.{unread};
 
@@ -108,18 +105,11 @@ impl ReportReader {
         alloc: Global,
         source: &mut S,
     ) -> Result<Option<ReportLine>, ReportFault>
-        ensures given { IfOk result (λ next. IfSome next (λ line. GivesLine
-            (left self.old (S.left source.old)) self.old (report_line_of line)
-            (left self.new (S.left source.new)) self.new)) }
-        ensures end { IfOk result
-            (λ next.
-            IfNone next
-            (IsAtEnd (left self.old (S.left source.old)) × IsTrue (may_end self.old.part))) }
+        ensures given { IfOk result (λ next. IfSome next (λ line.
+            TakesLine S.Source self.old source.old (report_line_of line) self.new source.new)) }
+        ensures end { IfOk result (λ next. IfNone next (IsAtReportEnd S.Source self.old source.old)) }
         ensures failures { OnOk result (S.failures source.new ≡ S.failures source.old) }
-        ensures fault { IfErr result (λ e. IsLineFault e self.old
-            (left self.old (S.left source.old)) (S.left source.new)
-            (DeviceFailed (S.failures source.old) (S.failures source.new)
-            (S.interruptions source.new))) }
+        ensures fault { IfErr result (λ e. TakesNoLine S.Source e self.old source.old source.new) }
     {
         self.take(alloc, source, true)
     }
@@ -130,19 +120,11 @@ impl ReportReader {
         alloc: Global,
         source: &mut S,
     ) -> Result<Option<ReportLine>, ReportFault>
-        ensures given { IfOk result (λ next. IfSome next (λ line. (parsed : ParsedLine)
-            × IsShown false parsed (report_line_of line)
-            × GivesLine (left self.old (S.left source.old)) self.old parsed
-            (left self.new (S.left source.new)) self.new)) }
-        ensures end { IfOk result
-            (λ next.
-            IfNone next
-            (IsAtEnd (left self.old (S.left source.old)) × IsTrue (may_end self.old.part))) }
+        ensures given { IfOk result (λ next. IfSome next (λ line.
+            TakesShown S.Source false self.old source.old (report_line_of line) self.new source.new)) }
+        ensures end { IfOk result (λ next. IfNone next (IsAtReportEnd S.Source self.old source.old)) }
         ensures failures { OnOk result (S.failures source.new ≡ S.failures source.old) }
-        ensures fault { IfErr result (λ e. IsLineFault e self.old
-            (left self.old (S.left source.old)) (S.left source.new)
-            (DeviceFailed (S.failures source.old) (S.failures source.new)
-            (S.interruptions source.new))) }
+        ensures fault { IfErr result (λ e. TakesNoLine S.Source e self.old source.old source.new) }
     {
         self.take(alloc, source, false)
     }
@@ -154,19 +136,11 @@ impl ReportReader {
         source: &mut S,
         keeps: bool,
     ) -> Result<Option<ReportLine>, ReportFault>
-        ensures given { IfOk result (λ next. IfSome next (λ line. (parsed : ParsedLine)
-            × IsShown keeps parsed (report_line_of line)
-            × GivesLine (left self.old (S.left source.old)) self.old parsed
-            (left self.new (S.left source.new)) self.new)) }
-        ensures end { IfOk result
-            (λ next.
-            IfNone next
-            (IsAtEnd (left self.old (S.left source.old)) × IsTrue (may_end self.old.part))) }
+        ensures given { IfOk result (λ next. IfSome next (λ line.
+            TakesShown S.Source keeps self.old source.old (report_line_of line) self.new source.new)) }
+        ensures end { IfOk result (λ next. IfNone next (IsAtReportEnd S.Source self.old source.old)) }
         ensures failures { OnOk result (S.failures source.new ≡ S.failures source.old) }
-        ensures fault { IfErr result (λ e. IsLineFault e self.old
-            (left self.old (S.left source.old)) (S.left source.new)
-            (DeviceFailed (S.failures source.old) (S.failures source.new)
-            (S.interruptions source.new))) }
+        ensures fault { IfErr result (λ e. TakesNoLine S.Source e self.old source.old source.new) }
     {
         let more = match self.lines.next_line(source) {
             Ok(more) => more,
@@ -203,6 +177,7 @@ impl Report {
     ghost use Rattle.resolvo_report.specs.declared.place.Part.{Part};
     ghost use Rattle.resolvo_report.specs.declared.place.Part.TheVariants as part;
     ghost use Rattle.resolvo_report.specs.Draft.{Grows};
+    ghost use Rattle.resolvo_report.specs.Stream.{SourceFailed};
 
     /// Reads a report.
     pub fn read<S: Source>(alloc: Global, source: &mut S) -> Result<Report, ReportFault>
@@ -211,8 +186,7 @@ impl Report {
             (λ report.
             IfKnown (S.left source.old) (λ text. text ≡ report_text (report_of report))) }
         ensures fault { IfErr result (λ e. IsReportFault e (S.left source.old) (S.left source.new)
-            (DeviceFailed (S.failures source.old) (S.failures source.new)
-            (S.interruptions source.new))) }
+            (SourceFailed S.Source source.old source.new)) }
     {
         let mut reader = ReportReader::new(alloc)?;
         let Some(first) = reader.next(alloc, source)? else {

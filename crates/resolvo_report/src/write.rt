@@ -3,12 +3,11 @@
 //! By the contract the device has a prefix of the report's text. The program writes its answer with
 //! it.
 
-ghost use Rattle.std.specs.Prelude.{◌≡◌, ◌++◌, ◌∷◌, [], ⊤, map, OnOk, OnErr, IfErr, codes};
-ghost use Rattle.resolvo_text.specs.Device.{WriterFailed, TakesPrefix};
+ghost use Rattle.std.specs.Prelude.{◌≡◌, ◌++◌, map, OnOk, IfErr, codes};
 ghost use Rattle.resolvo_report.specs.Value as model;
 ghost use Rattle.resolvo_report.specs.View.{report_of, answer_lines_of, steps_of, messages_of};
 ghost use Rattle.resolvo_report.specs.Text.{lines_text, numbered, report_text};
-ghost use Rattle.resolvo_report.specs.Write.{Wrote, StopsWriting};
+ghost use Rattle.resolvo_report.specs.Write.{WritesText, StopsText};
 
 use crate::report::{AnswerLine, Report};
 use crate::step::Step;
@@ -59,12 +58,9 @@ impl<T: Drop> From<AllocFailed<T>> for ReportWriteFault {
 impl Report {
     /// Writes the report.
     pub fn write<S: Sink>(&self, alloc: Global, sink: &mut S) -> Result<(), ReportWriteFault>
-        ensures whole { OnOk result (Wrote (S.contents sink.old) (S.contents sink.new)
-            (S.failures sink.old) (S.failures sink.new) (S.empty_writes sink.old)
-            (S.empty_writes sink.new) (report_text (report_of self.now))) }
-        ensures fault { IfErr result (λ e. StopsWriting e (S.contents sink.old)
-            (S.contents sink.new) (S.failures sink.old) (S.failures sink.new)
-            (S.interruptions sink.new) (S.empty_writes sink.old) (S.empty_writes sink.new)
+        ensures whole { OnOk result (WritesText S.Sink sink.old sink.new
+            (report_text (report_of self.now))) }
+        ensures fault { IfErr result (λ e. StopsText S.Sink e sink.old sink.new
             (report_text (report_of self.now))) }
     {
         match self {
@@ -85,13 +81,9 @@ fn write_install<S: Sink>(
     lines: &[AnswerLine],
     steps: &[Step],
 ) -> Result<(), ReportWriteFault>
-    ensures whole { OnOk result (Wrote (S.contents sink.old) (S.contents sink.new)
-        (S.failures sink.old) (S.failures sink.new) (S.empty_writes sink.old)
-        (S.empty_writes sink.new) (report_text (model.Install (answer_lines_of lines.now)
-        (steps_of steps.now)))) }
-    ensures fault { IfErr result (λ e. StopsWriting e (S.contents sink.old) (S.contents sink.new)
-        (S.failures sink.old) (S.failures sink.new) (S.interruptions sink.new)
-        (S.empty_writes sink.old) (S.empty_writes sink.new)
+    ensures whole { OnOk result (WritesText S.Sink sink.old sink.new
+        (report_text (model.Install (answer_lines_of lines.now) (steps_of steps.now)))) }
+    ensures fault { IfErr result (λ e. StopsText S.Sink e sink.old sink.new
         (report_text (model.Install (answer_lines_of lines.now) (steps_of steps.now)))) }
 {
     write_line(sink, "install\n")?;
@@ -107,13 +99,10 @@ fn write_refused<S: Sink>(
     steps: &[Step],
     message: &[Vec<u8>],
 ) -> Result<(), ReportWriteFault>
-    ensures whole { OnOk result (Wrote (S.contents sink.old) (S.contents sink.new)
-        (S.failures sink.old) (S.failures sink.new) (S.empty_writes sink.old)
-        (S.empty_writes sink.new) (report_text (model.Refused catalogue.now request.now
-        (steps_of steps.now) (messages_of message.now)))) }
-    ensures fault { IfErr result (λ e. StopsWriting e (S.contents sink.old) (S.contents sink.new)
-        (S.failures sink.old) (S.failures sink.new) (S.interruptions sink.new)
-        (S.empty_writes sink.old) (S.empty_writes sink.new)
+    ensures whole { OnOk result (WritesText S.Sink sink.old sink.new
+        (report_text (model.Refused catalogue.now request.now (steps_of steps.now)
+        (messages_of message.now)))) }
+    ensures fault { IfErr result (λ e. StopsText S.Sink e sink.old sink.new
         (report_text (model.Refused catalogue.now request.now (steps_of steps.now)
         (messages_of message.now)))) }
 {
@@ -125,12 +114,8 @@ fn write_refused<S: Sink>(
 }
 
 fn write_line<S: Sink>(sink: &mut S, line: &str) -> Result<(), ReportWriteFault>
-    ensures whole { OnOk result (Wrote (S.contents sink.old) (S.contents sink.new)
-        (S.failures sink.old) (S.failures sink.new) (S.empty_writes sink.old)
-        (S.empty_writes sink.new) line.now) }
-    ensures fault { IfErr result (λ e. StopsWriting e (S.contents sink.old) (S.contents sink.new)
-        (S.failures sink.old) (S.failures sink.new) (S.interruptions sink.new)
-        (S.empty_writes sink.old) (S.empty_writes sink.new) line.now) }
+    ensures whole { OnOk result (WritesText S.Sink sink.old sink.new line.now) }
+    ensures fault { IfErr result (λ e. StopsText S.Sink e sink.old sink.new line.now) }
 {
     write_all(sink, line.as_bytes())?;
     Ok(())
@@ -141,12 +126,9 @@ fn write_answers<S: Sink>(
     sink: &mut S,
     lines: &[AnswerLine],
 ) -> Result<(), ReportWriteFault>
-    ensures whole { OnOk result (Wrote (S.contents sink.old) (S.contents sink.new)
-        (S.failures sink.old) (S.failures sink.new) (S.empty_writes sink.old)
-        (S.empty_writes sink.new) (lines_text (map model.Answer (answer_lines_of lines.now)))) }
-    ensures fault { IfErr result (λ e. StopsWriting e (S.contents sink.old) (S.contents sink.new)
-        (S.failures sink.old) (S.failures sink.new) (S.interruptions sink.new)
-        (S.empty_writes sink.old) (S.empty_writes sink.new)
+    ensures whole { OnOk result (WritesText S.Sink sink.old sink.new
+        (lines_text (map model.Answer (answer_lines_of lines.now)))) }
+    ensures fault { IfErr result (λ e. StopsText S.Sink e sink.old sink.new
         (lines_text (map model.Answer (answer_lines_of lines.now)))) }
 {
     for line in lines {
@@ -158,12 +140,9 @@ fn write_answers<S: Sink>(
 
 /// Writes which lines of the catalogue are named.
 fn write_named<S: Sink>(alloc: Global, sink: &mut S, lines: &[u32]) -> Result<(), ReportWriteFault>
-    ensures whole { OnOk result (Wrote (S.contents sink.old) (S.contents sink.new)
-        (S.failures sink.old) (S.failures sink.new) (S.empty_writes sink.old)
-        (S.empty_writes sink.new) (lines_text (map model.CatalogueLine lines.now))) }
-    ensures fault { IfErr result (λ e. StopsWriting e (S.contents sink.old) (S.contents sink.new)
-        (S.failures sink.old) (S.failures sink.new) (S.interruptions sink.new)
-        (S.empty_writes sink.old) (S.empty_writes sink.new)
+    ensures whole { OnOk result (WritesText S.Sink sink.old sink.new
+        (lines_text (map model.CatalogueLine lines.now))) }
+    ensures fault { IfErr result (λ e. StopsText S.Sink e sink.old sink.new
         (lines_text (map model.CatalogueLine lines.now))) }
 {
     for number in lines {
@@ -175,12 +154,9 @@ fn write_named<S: Sink>(alloc: Global, sink: &mut S, lines: &[u32]) -> Result<()
 
 /// Writes which lines of the request are named.
 fn write_asked<S: Sink>(alloc: Global, sink: &mut S, lines: &[u32]) -> Result<(), ReportWriteFault>
-    ensures whole { OnOk result (Wrote (S.contents sink.old) (S.contents sink.new)
-        (S.failures sink.old) (S.failures sink.new) (S.empty_writes sink.old)
-        (S.empty_writes sink.new) (lines_text (map model.RequestLine lines.now))) }
-    ensures fault { IfErr result (λ e. StopsWriting e (S.contents sink.old) (S.contents sink.new)
-        (S.failures sink.old) (S.failures sink.new) (S.interruptions sink.new)
-        (S.empty_writes sink.old) (S.empty_writes sink.new)
+    ensures whole { OnOk result (WritesText S.Sink sink.old sink.new
+        (lines_text (map model.RequestLine lines.now))) }
+    ensures fault { IfErr result (λ e. StopsText S.Sink e sink.old sink.new
         (lines_text (map model.RequestLine lines.now))) }
 {
     for number in lines {
@@ -191,12 +167,9 @@ fn write_asked<S: Sink>(alloc: Global, sink: &mut S, lines: &[u32]) -> Result<()
 }
 
 fn write_steps<S: Sink>(alloc: Global, sink: &mut S, steps: &[Step]) -> Result<(), ReportWriteFault>
-    ensures whole { OnOk result (Wrote (S.contents sink.old) (S.contents sink.new)
-        (S.failures sink.old) (S.failures sink.new) (S.empty_writes sink.old)
-        (S.empty_writes sink.new) (lines_text (numbered 1 (steps_of steps.now)))) }
-    ensures fault { IfErr result (λ e. StopsWriting e (S.contents sink.old) (S.contents sink.new)
-        (S.failures sink.old) (S.failures sink.new) (S.interruptions sink.new)
-        (S.empty_writes sink.old) (S.empty_writes sink.new)
+    ensures whole { OnOk result (WritesText S.Sink sink.old sink.new
+        (lines_text (numbered 1 (steps_of steps.now)))) }
+    ensures fault { IfErr result (λ e. StopsText S.Sink e sink.old sink.new
         (lines_text (numbered 1 (steps_of steps.now)))) }
 {
     for i in 0..steps.len() {
@@ -209,12 +182,9 @@ fn write_steps<S: Sink>(alloc: Global, sink: &mut S, steps: &[Step]) -> Result<(
 }
 
 fn write_message<S: Sink>(sink: &mut S, message: &[Vec<u8>]) -> Result<(), ReportWriteFault>
-    ensures whole { OnOk result (Wrote (S.contents sink.old) (S.contents sink.new)
-        (S.failures sink.old) (S.failures sink.new) (S.empty_writes sink.old)
-        (S.empty_writes sink.new) (lines_text (map model.Message (messages_of message.now)))) }
-    ensures fault { IfErr result (λ e. StopsWriting e (S.contents sink.old) (S.contents sink.new)
-        (S.failures sink.old) (S.failures sink.new) (S.interruptions sink.new)
-        (S.empty_writes sink.old) (S.empty_writes sink.new)
+    ensures whole { OnOk result (WritesText S.Sink sink.old sink.new
+        (lines_text (map model.Message (messages_of message.now)))) }
+    ensures fault { IfErr result (λ e. StopsText S.Sink e sink.old sink.new
         (lines_text (map model.Message (messages_of message.now)))) }
 {
     for bytes in message {
@@ -224,11 +194,10 @@ fn write_message<S: Sink>(sink: &mut S, message: &[Vec<u8>]) -> Result<(), Repor
 }
 
 fn write_message_line<S: Sink>(sink: &mut S, bytes: &[u8]) -> Result<(), ReportWriteFault>
-    ensures whole { OnOk result (Wrote (S.contents sink.old) (S.contents sink.new) (S.failures sink.old) (S.failures sink.new)
-        (S.empty_writes sink.old) (S.empty_writes sink.new) (codes "| " ++ bytes.now ++ codes "\n")) }
-    ensures fault { IfErr result (λ e. StopsWriting e (S.contents sink.old) (S.contents sink.new)
-        (S.failures sink.old) (S.failures sink.new)
-        (S.interruptions sink.new) (S.empty_writes sink.old) (S.empty_writes sink.new) (codes "| " ++ bytes.now ++ codes "\n")) }
+    ensures whole { OnOk result (WritesText S.Sink sink.old sink.new
+        (codes "| " ++ bytes.now ++ codes "\n")) }
+    ensures fault { IfErr result (λ e. StopsText S.Sink e sink.old sink.new
+        (codes "| " ++ bytes.now ++ codes "\n")) }
 {
     write_line(sink, "| ")?;
     write_all(sink, bytes)?;

@@ -1,9 +1,8 @@
 use Rattle.std.proofs.Common.{take, map}
 use Rattle.resolvo_report.specs.Value as model
 use Rattle.resolvo_report.specs.Text.{lines_text}
-use Rattle.resolvo_report.specs.Write.{Wrote}
+use Rattle.resolvo_report.specs.Write.{WritesText}
 use Rattle.resolvo_report.proofs.write.write_asked.Given as goal
 
 abbrev pub invariant-loop-number : goal.invariant-loop-number
-invariant-loop-number g l = Wrote (g.S.Sink.contents l.fn.sink) (g.S.Sink.contents l.sink) (g.S.Sink.failures l.fn.sink) (g.S.Sink.failures l.sink) (g.S.Sink.empty_writes l.fn.sink) (g.S.Sink.empty_writes l.sink)
-    (lines_text (take l.number-index (map model.RequestLine l.lines)))
+invariant-loop-number g l = WritesText g.S.Sink l.fn.sink l.sink (lines_text (take l.number-index (map model.RequestLine l.lines)))
