@@ -24,11 +24,13 @@ const PIECE: usize = 4_096;
 /// Reads bytes into the start of the buffer, and returns how many: 0 only at the end.
 fn read_some<S: Source>(source: &mut S, buffer: &mut [u8]) -> Result<usize, RunFault>
     requires { 0 < length buffer.old }
+    // The bytes that were read.
     ensures within { IfOk result (λ n. n ≤ length buffer.new) }
     ensures consumed { IfOk result (λ n. Consumes (S.left source.old) (S.left source.new)
         (take n buffer.new)) }
     ensures end { IfOk result (λ n. n ≡ 0 → IsAtEnd (S.left source.new)) }
     ensures counted { OnOk result (S.failures source.new ≡ S.failures source.old) }
+    // After a refusal.
     ensures fault { MatchResult result (λ _. ⊤)
         (λ e.
         IsInputFault e (S.left source.old) 0

@@ -198,6 +198,7 @@ impl<S: Copy + Exact + Hash> ConflictGraph<S> {
     ) -> R<EdgeIndex>
         requires source { source.0 < length self.old.nodes }
         requires target { target.0 < length self.old.nodes }
+        // The edge is the last one.
         ensures index { IfOk result (λ i. i.0 ≡ length self.old.edges) }
         ensures put { OnOk result
             (self.new
@@ -208,6 +209,7 @@ impl<S: Copy + Exact + Hash> ConflictGraph<S> {
                 weight = weight;
               } ∷ [];
             }) }
+        // After a refusal.
         ensures err { OnErr result (self.new ≡ self.old) }
         ensures refusal { IsOkUnless result Memory }
     {

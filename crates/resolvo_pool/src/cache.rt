@@ -175,10 +175,13 @@ impl<D: DependencyProvider> SolverCache<D> {
 
     /// Makes sure that the candidates of a package are cached.
     pub fn cache_candidates(&mut self, name: D::NameId) -> Result<(), CacheFault<D::Cancel>>
+        // The answer is cached.
         ensures there { OnOk result (among D.NameId.eq self.new.names name ≡ true) }
         ensures cached { among D.NameId.eq self.old.names name ≡ true → IsOk result × (self.new ≡ self.old) }
+        // What else changes.
         ensures extends { Extends D.NameId.eq D.SolvableId.eq self.old self.new }
         ensures only { AddsNames self.old self.new }
+        // After a refusal.
         ensures err { OnErr result (self.new ≡ self.old) }
         ensures cancelled { IfErr result (IsCancelledBy (D.may_cancel self.old.provider)) }
         ensures ids { IsErrOf result Ids → D.may_lack_ids self.old.provider }
@@ -191,9 +194,12 @@ impl<D: DependencyProvider> SolverCache<D> {
 
     /// Asks for the candidates of a package, and caches them.
     fn ask_candidates(&mut self, name: D::NameId) -> Result<(), CacheFault<D::Cancel>>
+        // The answer is cached.
         ensures there { OnOk result (among D.NameId.eq self.new.names name ≡ true) }
+        // What else changes.
         ensures extends { Extends D.NameId.eq D.SolvableId.eq self.old self.new }
         ensures only { AddsNames self.old self.new }
+        // After a refusal.
         ensures err { OnErr result (self.new ≡ self.old) }
         ensures cancelled { IfErr result (IsCancelledBy (D.may_cancel self.old.provider)) }
         ensures ids { IsErrOf result Ids → D.may_lack_ids self.old.provider }
@@ -247,11 +253,14 @@ impl<D: DependencyProvider> SolverCache<D> {
         &mut self,
         version_set: VersionSetId,
     ) -> Result<(), CacheFault<D::Cancel>>
+        // The answer is cached.
         ensures there { OnOk result (among same_set self.new.matching version_set ≡ true) }
         ensures cached { among same_set self.old.matching version_set ≡ true
             → IsOk result × (self.new ≡ self.old) }
+        // What else changes.
         ensures extends { Extends D.NameId.eq D.SolvableId.eq self.old self.new }
         ensures only { AddsMatching self.old self.new }
+        // After a refusal.
         ensures err { OnErr result (AddsNames self.old self.new) }
         ensures cancelled { IfErr result (IsCancelledBy (D.may_cancel self.old.provider)) }
         ensures ids { IsErrOf result Ids → D.may_lack_ids self.old.provider }
@@ -269,9 +278,12 @@ impl<D: DependencyProvider> SolverCache<D> {
     fn keep_matching(&mut self, version_set: VersionSetId) -> R<()>
         requires { among D.NameId.eq self.old.names (D.name_of_version_set self.old.provider version_set)
             ≡ true }
+        // The answer is cached.
         ensures there { OnOk result (among same_set self.new.matching version_set ≡ true) }
+        // What else changes.
         ensures extends { Extends D.NameId.eq D.SolvableId.eq self.old self.new }
         ensures only { AddsMatching self.old self.new }
+        // After a refusal.
         ensures err { OnErr result (self.new ≡ self.old) }
         ensures ids { IsErrOf result WantIds → D.may_lack_ids self.old.provider }
     {
@@ -324,10 +336,13 @@ impl<D: DependencyProvider> SolverCache<D> {
         &mut self,
         version_set: VersionSetId,
     ) -> Result<(), CacheFault<D::Cancel>>
+        // The answer is cached.
         ensures there { OnOk result (among same_set self.new.non_matching version_set ≡ true) }
         ensures cached { among same_set self.old.non_matching version_set ≡ true
             → IsOk result × (self.new ≡ self.old) }
+        // What else changes.
         ensures extends { Extends D.NameId.eq D.SolvableId.eq self.old self.new }
+        // After a refusal.
         ensures err { OnErr result (AddsNames self.old self.new) }
         ensures cancelled { IfErr result (IsCancelledBy (D.may_cancel self.old.provider)) }
         ensures ids { IsErrOf result Ids → D.may_lack_ids self.old.provider }
@@ -467,10 +482,13 @@ impl<D: DependencyProvider> SolverCache<D> {
         &mut self,
         version_set: VersionSetId,
     ) -> Result<(), CacheFault<D::Cancel>>
+        // The answer is cached.
         ensures there { OnOk result (is_sorted self.new.sorted version_set ≡ true) }
         ensures cached { is_sorted self.old.sorted version_set ≡ true → IsOk result × (self.new ≡ self.old) }
+        // What else changes.
         ensures extends { Extends D.NameId.eq D.SolvableId.eq self.old self.new }
         ensures only { AddsSorted self.old self.new }
+        // After a refusal.
         ensures err { OnErr result (AddsMatching self.old self.new) }
         ensures cancelled { IfErr result (IsCancelledBy (D.may_cancel self.old.provider)) }
         ensures ids { IsErrOf result Ids → D.may_lack_ids self.old.provider }
@@ -490,9 +508,12 @@ impl<D: DependencyProvider> SolverCache<D> {
         requires matching { among same_set self.old.matching version_set ≡ true }
         requires listed { among D.NameId.eq self.old.names (D.name_of_version_set self.old.provider version_set)
             ≡ true }
+        // The answer is cached.
         ensures there { OnOk result (is_sorted self.new.sorted version_set ≡ true) }
+        // What else changes.
         ensures extends { Extends D.NameId.eq D.SolvableId.eq self.old self.new }
         ensures only { AddsSorted self.old self.new }
+        // After a refusal.
         ensures err { OnErr result (self.new ≡ self.old) }
         ensures ids { IsErrOf result WantIds → D.may_lack_ids self.old.provider }
     {
@@ -563,9 +584,12 @@ impl<D: DependencyProvider> SolverCache<D> {
         &mut self,
         requirement: Requirement,
     ) -> Result<(), CacheFault<D::Cancel>>
+        // The answer is cached.
         ensures there { OnOk result (has_sorted self.new requirement ≡ true) }
         ensures cached { has_sorted self.old requirement ≡ true → IsOk result × (self.new ≡ self.old) }
+        // What else changes.
         ensures extends { Extends D.NameId.eq D.SolvableId.eq self.old self.new }
+        // After a refusal.
         ensures err { OnErr result (AddsSorted self.old self.new) }
         ensures cancelled { IfErr result (IsCancelledBy (D.may_cancel self.old.provider)) }
         ensures ids { IsErrOf result Ids → D.may_lack_ids self.old.provider }
@@ -689,10 +713,13 @@ impl<D: DependencyProvider> SolverCache<D> {
         &mut self,
         solvable: D::SolvableId,
     ) -> Result<(), CacheFault<D::Cancel>>
+        // The answer is cached.
         ensures there { OnOk result (among D.SolvableId.eq self.new.solvables solvable ≡ true) }
         ensures cached { among D.SolvableId.eq self.old.solvables solvable ≡ true
             → IsOk result × (self.new ≡ self.old) }
+        // What else changes.
         ensures extends { Extends D.NameId.eq D.SolvableId.eq self.old self.new }
+        // After a refusal.
         ensures err { OnErr result (self.new ≡ self.old) }
         ensures cancelled { IfErr result (IsCancelledBy (D.may_cancel self.old.provider)) }
         ensures ids { IsErrOf result Ids → D.may_lack_ids self.old.provider }
