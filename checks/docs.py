@@ -2,7 +2,8 @@
 """Compares the documents with the sources.
 
 docs.py                      lists what is wrong: a module or a public call that the README of its room lacks, a name, file or
-                             crate that is missing, a dead link, a count of AUDIT.md. Status 1 where anything is.
+                             crate that is missing, a dead link, a count of AUDIT.md, the example of README.md. Status 1 where
+                             anything is.
 docs.py --closure CRATE/SPEC ..  lists the files of specs/ that these import, all the way down, with their lines.
 """
 import glob
@@ -12,13 +13,14 @@ import sys
 from typing import Dict, Iterator, List, Set, Tuple
 
 ROOT = os.path.dirname(os.path.dirname(os.path.abspath(__file__)))
+EXAMPLE = "checks/calls/example.rt.txt"
 PAGES = ("README.md", "CONTRIBUTING.md", "docs/*.md", "crates/*/README.md")
 TESTS = "Tests"
 ITEM = re.compile(r"(?P<indent> *)pub (?:const )?(?:fn|struct|enum|trait|type|const|static) (?P<name>\w+)")
 BLOCK = re.compile(r"(?:pub )?(?P<kind>impl|trait)\b(?P<rest>.*)")
 MEMBER = re.compile(r" {4}(?:pub )?fn (?P<name>\w+)")
 SOURCES = r"\b(?:crates/)?resolv[eo][a-z_]*/(?:src|specs|proofs|must-fail|data)/[\w/.-]+\.\w+"
-FILES = r"(?<![\w/.-])(?:docs|crates|tools|checks|bench|examples)/[\w/.*-]+\.(?:md|py|rt|antt|row|edit)\b"
+FILES = r"(?<![\w/.-])(?:docs|crates|tools|checks|bench|examples)/[\w/.*-]+\.(?:md|py|rt|antt|row|edit)\b(?!\.\w)"
 WORD = re.compile(r"[A-Za-z_]\w*")
 
 
@@ -212,13 +214,41 @@ def count_faults() -> Iterator[str]:
             yield f"docs/AUDIT.md: {words} have {count} lines"
 
 
+def exports(crate: str) -> Set[str]:
+    """The names at the root of a library."""
+    text = "\n".join(code(read(f"crates/{crate}/src/lib.rt")))
+    found: Set[str] = set()
+    for path in re.findall(r"^pub (?:use|mod) ([^;]*);", text, re.M):
+        inside = re.search(r"\{([^}]*)\}", path)
+        names = inside[1].split(",") if inside else [path]
+        found |= {words[-1] for words in map(WORD.findall, names) if words}
+    return found
+
+
+def import_faults(page: str) -> Iterator[str]:
+    """Names that a page imports from the root of a library, and that aren't there."""
+    for crate, names in re.findall(r"\buse (resolv[eo]\w*)::\{([^}]*)\}", read(page)):
+        if os.path.exists(os.path.join(ROOT, f"crates/{crate}/src/lib.rt")):
+            for name in sorted(set(WORD.findall(names)) - exports(crate)):
+                yield f"{page}: {crate} exports no {name}"
+
+
+def example_faults() -> Iterator[str]:
+    """README.md has the example of checks/calls, from its first `use` on, as it is compiled there."""
+    example = read(EXAMPLE)
+    if f"```\n{example[example.index('use '):]}```\n" not in read("README.md"):
+        yield f"README.md: the example isn't that of {EXAMPLE}"
+
+
 def faults() -> Iterator[str]:
     """All that is wrong."""
     yield from room_faults()
     yield from count_faults()
+    yield from example_faults()
     words = known_words()
     for page in pages():
         yield from name_faults(page, words)
+        yield from import_faults(page)
         if page.startswith("crates/") or os.path.basename(page) in ("ARCHITECTURE.md", "CHANGING.md", "CLAIMS.md", "GLOSSARY.md", "AUDIT.md", "PROOFS.md"):
             yield from word_faults(page, words)
 
