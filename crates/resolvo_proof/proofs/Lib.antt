@@ -11,6 +11,7 @@ pub mod OnePlace
 pub mod Drawn
 pub mod GraphLemmas
 pub mod LinkLemmas
+pub mod ShareLemmas
 pub mod OrderLemmas
 pub mod OrderWalk
 pub mod RuleLemmas

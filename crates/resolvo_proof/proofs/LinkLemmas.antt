@@ -11,7 +11,7 @@ use Rattle.resolvo_proof.specs.declared.step.ProofRule.{ProofRule}
 use Rattle.resolvo_proof.specs.declared.step.ProofStep.{ProofStep}
 use Rattle.resolvo_proof.specs.declared.link.Link.{Link}
 use Rattle.resolvo_proof.specs.Order.{rules_at}
-use Rattle.resolvo_proof.specs.LinkRules.{gate_in, limit_in, outside_in, instance_in, named, last_instance, before_in, links_at, links_after, limited_in, is_new, once_after}
+use Rattle.resolvo_proof.specs.LinkRules.{gate_in, limit_in, outside_in, instance_in, named, last_instance, before_in, requirers, under_set, links_at, links_after, limited_in, is_new, once_after}
 use Rattle.resolvo_proof.proofs.RuleLemmas.{rule_of, rules_more}
 
 pub turned_test : {X : Type 0} (b : Bool) (x y : X) → cond b x y ≡ cond (not b) y x
@@ -55,14 +55,14 @@ module _ {N S : Type 0} (same_name : N → N → Bool) (package_of : S → N) wh
       ∙ or_assoc (named same_name package_of n (instance_in r)) (last_instance same_name package_of es n) (named same_name package_of n (instance_in e))
 
   -- the links of one more rule
-  pub links_more : (offered : Requirement → List S) (rules earlier rest : List (ProofRule N S)) (r : ProofRule N S) (old new : List (Link S)) (gates : List (Requirement × S)) (limits : List (VersionSetId × Option S)) (outsides : List (VersionSetId × S)) (before : Option S) (last : N → Option S)
-      → gates ≡ filter_map gate_in rules → limits ≡ filter_map limit_in rules → outsides ≡ filter_map outside_in rules → before ≡ before_in same_name package_of last r → ((n : N) → last n ≡ last_instance same_name package_of earlier n)
-      → new ≡ old ++ links_at offered gates limits outsides before r
+  pub links_more : (offered : Requirement → List S) (rules earlier rest : List (ProofRule N S)) (r : ProofRule N S) (old new : List (Link S)) (parents : Requirement → List S) (limiters : VersionSetId → List (Option S)) (outsiders : VersionSetId → List S) (before : Option S) (last : N → Option S)
+      → ((q : Requirement) → parents q ≡ requirers (filter_map gate_in rules) q) → ((v : VersionSetId) → limiters v ≡ under_set (filter_map limit_in rules) v) → ((v : VersionSetId) → outsiders v ≡ under_set (filter_map outside_in rules) v) → before ≡ before_in same_name package_of last r → ((n : N) → last n ≡ last_instance same_name package_of earlier n)
+      → new ≡ old ++ links_at offered parents limiters outsiders before r
       → new ++ links_after same_name package_of offered rules (earlier ++ r ∷ []) rest ≡ old ++ links_after same_name package_of offered rules earlier (r ∷ rest)
-  links_more offered rules earlier rest r old new gates limits outsides before last g l o b recorded put =
+  links_more offered rules earlier rest r old new parents limiters outsiders before last g l o b recorded put =
       let known : last ≡ last_instance same_name package_of earlier = λ i n. recorded n i in
-      let own : links_at offered gates limits outsides before r ≡ links_at offered (filter_map gate_in rules) (filter_map limit_in rules) (filter_map outside_in rules) (before_in same_name package_of (last_instance same_name package_of earlier) r) r =
-      λ i. links_at offered (g i) (l i) (o i) ((b ∙ ap (λ f. before_in same_name package_of f r) known) i) r in
+      let own : links_at offered parents limiters outsiders before r ≡ links_at offered (requirers (filter_map gate_in rules)) (under_set (filter_map limit_in rules)) (under_set (filter_map outside_in rules)) (before_in same_name package_of (last_instance same_name package_of earlier) r) r =
+      λ i. links_at offered (λ q. g q i) (λ v. l v i) (λ v. o v i) ((b ∙ ap (λ f. before_in same_name package_of f r) known) i) r in
       ap (λ xs. xs ++ links_after same_name package_of offered rules (earlier ++ r ∷ []) rest) (put ∙ ap (λ xs. old ++ xs) own) ∙ append_assoc old _ _
 
 module _ {S : Type 0} (same : S → S → Bool) where

@@ -1,20 +1,20 @@
 -- The links of a conflict's rules are true.
-use Rattle.std.proofs.Common.{◌≡◌, ℕ, Bool, true, false, cond, List, [], ◌∷◌, ◌++◌, map, filter, All, Contains, Option, Some, None, refl, sym, ap, subst, ◌∙◌, arith}
+use Rattle.std.proofs.Common.{◌≡◌, Bool, true, false, cond, List, [], ◌∷◌, ◌++◌, map, filter, All, Contains, Option, Some, None, refl, sym, ap, subst, ◌∙◌, arith}
 use Rattle.std.specs.Prelude.{not, ◌&&◌}
 use Rattle.std.specs.List.{flat_map, filter_map, cons_option}
 use Rattle.std.specs.Option.{option_or, option_to_list}
-use Rattle.std.proofs.lemmas.Bool.{eqb-true, and_parts, both_ways}
+use Rattle.std.proofs.lemmas.Bool.{and_parts}
 use Rattle.std.proofs.lemmas.List.Elements.{All-nil, All-cons, All-head, All-tail, All-append, All-map, All-filter, filter_passes, All-weaker, All-contains_itself, Contains-get_or, Contains-append_right}
 use Rattle.std.proofs.lemmas.List.Folds.{list_any_at, Any-from_list_any}
 use Rattle.resolvo_pool_core.specs.declared.id.ConditionId.{ConditionId}
 use Rattle.resolvo_pool_core.specs.declared.id.VersionSetId.{VersionSetId}
 use Rattle.resolvo_pool_core.specs.declared.requirement.ConditionalRequirement.{ConditionalRequirement}
 use Rattle.resolvo_pool_core.specs.declared.requirement.Requirement.{Requirement}
-use Rattle.resolvo_pool_core.specs.declared.requirement.Requirement.TheVariants.{Single, Union}
 use Rattle.resolvo_pool_core.specs.RuleKeeping.{Packages, Rules, rules_of, is_in, is_outside, meets, rules_for}
 use Rattle.resolvo_sat.specs.Encoding as Encoder
 use Rattle.resolvo_sat.specs.Encoding.{IsExact, IsRule, KeepsOut, asks, has_condition, same_requirement}
 use Rattle.resolvo_graph.specs.Tree.{same_set}
+use Rattle.resolvo_proof.proofs.ShareLemmas.{one_requirement, one_set}
 use Rattle.resolvo_proof.specs.declared.step.ProofRule.{ProofRule}
 use Rattle.resolvo_proof.specs.declared.step.ProofRule.TheVariants.{Needs, GateOf, Shared, Limit, Outside, Locked, Excluded, Digit, AtLeastOne}
 use Rattle.resolvo_proof.specs.declared.link.Link.{Link}
@@ -49,15 +49,6 @@ all_picked : {A X : Type 0} (P : A → Type 0) (Q : X → Type 0) (test : A → 
 all_picked P Q test part xs h so =
     let both : All (λ x. P x × (test x ≡ true)) (filter test xs) = λ k d l. (All-filter test P xs h k d l, filter_passes test xs k d l) in
     All-map Q part (filter test xs) (All-weaker (λ x. P x × (test x ≡ true)) (λ x. Q (part x)) (λ x k. so x k.0 k.1) (filter test xs) both)
-
-one_requirement : (q r : Requirement) → same_requirement q r ≡ true → q ≡ r
-one_requirement (Single v) (Single w) h = ap (λ (n : ℕ). Single (record { 0 = n })) (eqb-true v.0 w.0 h)
-one_requirement (Single v) (Union w) h = absurd (both_ways false refl h)
-one_requirement (Union v) (Single w) h = absurd (both_ways false refl h)
-one_requirement (Union v) (Union w) h = ap (λ (n : ℕ). Union (record { 0 = n })) (eqb-true v.0 w.0 h)
-
-one_set : (v w : VersionSetId) → same_set v w ≡ true → v ≡ w
-one_set v w h = ap (λ (n : ℕ). record { 0 = n }) (eqb-true v.0 w.0 h)
 
 asked_need : (list : List ConditionalRequirement) (q : Requirement) → asks list q ≡ true → (need : ConditionalRequirement) × Contains list need × (need.requirement ≡ q)
 asked_need list q h =
@@ -160,7 +151,7 @@ module _ {N S : Type 0} (same_name : N → N → Bool) (names : IsExact same_nam
     alone : (l : Link S) → IsTrueLink l → All IsTrueLink (l ∷ [])
     alone l h = All-cons IsTrueLink l [] h (All-nil IsTrueLink)
 
-    rule_true : (earlier : List (ProofRule N S)) (r : ProofRule N S) → Contains rules r → All IsTrueLink (links_at offered (filter_map gate_in rules) (filter_map limit_in rules) (filter_map outside_in rules) (before_in same_name name_of (last_instance same_name name_of earlier) r) r)
+    rule_true : (earlier : List (ProofRule N S)) (r : ProofRule N S) → Contains rules r → All IsTrueLink (links_at offered (requirers (filter_map gate_in rules)) (under_set (filter_map limit_in rules)) (under_set (filter_map outside_in rules)) (before_in same_name name_of (last_instance same_name name_of earlier) r) r)
     rule_true earlier (Needs parent q case) c =
         let rule = (are_rules (Needs parent q case) c).1 in
         needed_true parent q (offered q) (record { condition = (are_rules (Needs parent q case) c).0; requirement = q }, rule.0, refl) (given (Needs parent q case) c q refl)

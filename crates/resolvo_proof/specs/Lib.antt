@@ -10,5 +10,7 @@ pub mod Offered
 pub mod Order
 pub mod Links
 pub mod LinkRules
+pub mod ByKey
+pub mod Shares
 pub mod Draw
 pub mod Truth

@@ -74,16 +74,22 @@ abbrev pub needed : {S : Type 0} → Option S → Requirement → List S → Lis
 needed parent q [] = Links.Requires parent q None ∷ []
 needed parent q (c ∷ cs) = map (λ s. Links.Requires parent q (Some s)) (c ∷ cs)
 
--- The links of a rule with those that it is drawn together with: parents of gates, version sets of
--- constraints, and versions outside. A digit is linked to the version before it.
-module _ {S : Type 0} (offered : Requirement → List S) (gates : List (Requirement × S)) (limits : List (VersionSetId × Option S)) (outsides : List (VersionSetId × S)) where
+-- a parent is linked to the solvable that its constraint bars, or to each of these, which are
+-- outside its version set
+abbrev pub limited : {S : Type 0} → Option S → VersionSetId → List S → Option S → List (Link S)
+limited parent v outsiders None = map (λ s. Links.Constrains parent v s) outsiders
+limited parent v outsiders (Some s) = Links.Constrains parent v s ∷ []
+
+-- The links of a rule with those that it is drawn together with: the parents that open a
+-- requirement's gate, the parents with a version set, and the versions outside one. A digit is
+-- linked to the version before it.
+module _ {S : Type 0} (offered : Requirement → List S) (parents : Requirement → List S) (limiters : VersionSetId → List (Option S)) (outsiders : VersionSetId → List S) where
   abbrev pub links_at : {N : Type 0} → Option S → ProofRule N S → List (Link S)
   links_at before (Needs parent q case) = needed parent q (offered q)
   links_at before (GateOf s q) = []
-  links_at before (Shared q) = flat_map (λ s. needed (Some s) q (offered q)) (requirers gates q)
-  links_at before (Limit parent v None) = map (λ s. Links.Constrains parent v s) (under_set outsides v)
-  links_at before (Limit parent v (Some s)) = Links.Constrains parent v s ∷ []
-  links_at before (Outside v s) = map (λ parent. Links.Constrains parent v s) (under_set limits v)
+  links_at before (Shared q) = flat_map (λ s. needed (Some s) q (offered q)) (parents q)
+  links_at before (Limit parent v barred) = limited parent v (outsiders v) barred
+  links_at before (Outside v s) = map (λ parent. Links.Constrains parent v s) (limiters v)
   links_at before (Locked locked s) = Links.Locked locked s ∷ []
   links_at before (Excluded s why) = Links.Excluded s why ∷ []
   links_at before (Digit s place bit) = Links.Instance before s ∷ []
@@ -107,7 +113,7 @@ module _ {N S : Type 0} (same_name : N → N → Bool) (package_of : S → N) wh
     -- the links of the remaining rules, after these
     abbrev pub links_after : List (ProofRule N S) → List (ProofRule N S) → List (Link S)
     links_after earlier [] = []
-    links_after earlier (r ∷ rs) = links_at offered (filter_map gate_in rules) (filter_map limit_in rules) (filter_map outside_in rules) (before_in (last_instance earlier) r) r ++ links_after (earlier ++ r ∷ []) rs
+    links_after earlier (r ∷ rs) = links_at offered (requirers (filter_map gate_in rules)) (under_set (filter_map limit_in rules)) (under_set (filter_map outside_in rules)) (before_in (last_instance earlier) r) r ++ links_after (earlier ++ r ∷ []) rs
 
     -- the links of all rules, in their order
     unfoldable pub all_links : List (Link S)

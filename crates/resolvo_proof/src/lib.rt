@@ -3,12 +3,14 @@
 //! `learnt_why` in `src/solver/mod.rs`.
 #![tactic(auto)]
 
+mod by_key;
 pub mod graph;
 pub mod link;
 mod link_rules;
 pub mod offers;
 pub mod proof;
 pub mod rules;
+mod shares;
 pub mod step;
 pub mod trim;
 mod write;

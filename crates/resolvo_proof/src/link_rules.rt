@@ -1,18 +1,20 @@
 //! The links of a conflict's rules, rule by rule in the conflict's order, one function for each
 //! kind.
 ghost use Rattle.std.specs.Prelude.{◌≡◌, ◌++◌, Option, map, cond, Some, IfOk, OnOk, IsOkUnless};
-ghost use Rattle.std.specs.List.{flat_map, filter_map};
+ghost use Rattle.std.specs.List.{flat_map};
 ghost use Rattle.std.specs.Option.{option_to_list, option_or};
 ghost use Rattle.std.specs.HashMap.{get};
 ghost use Rattle.resolvo_pool_core.specs.declared.want.Want.TheVariants.{Memory};
 ghost use Rattle.resolvo_proof.specs.declared.link.Link.TheVariants.{Constrains};
 ghost use Rattle.resolvo_proof.specs.Offered.{offered_by};
 ghost use Rattle.resolvo_proof.specs.Order.{rules_at};
-ghost use Rattle.resolvo_proof.specs.LinkRules.{gate_in, limit_in, outside_in, instance_in, named, before_in, requirers, under_set, needed, links_at, all_links, limited_in, is_new, each_limit_once};
+ghost use Rattle.resolvo_proof.specs.LinkRules.{instance_in, named, before_in, needed, links_at, limited, all_links, limited_in, is_new, each_limit_once};
+ghost use Rattle.resolvo_proof.specs.Shares.{parents_in, limiters_in, outsiders_in};
 
 use crate::link::Link;
 use crate::offers::Offers;
 use crate::rules::rule_at;
+use crate::shares::{Shares, shares_of};
 use crate::step::{ProofRule, ProofStep};
 use indexmap::IndexSet;
 use resolvo_pool_core::id::{Exact, VersionSetId};
@@ -23,81 +25,6 @@ use std::alloc::Global;
 use std::collections::HashMap;
 use std::fmt::Debug;
 use std::hash::Hash;
-
-/// The rules that are drawn together with others, wherever these are in the conflict.
-#[derive(Drop)]
-pub(crate) struct Shares<S> {
-    /// The parents that open the gate of a requirement.
-    gates: Vec<(Requirement, S)>,
-    /// The parents with a version set, which keeps out the versions outside it.
-    limits: Vec<(VersionSetId, Option<S>)>,
-    /// The solvables outside a version set.
-    outsides: Vec<(VersionSetId, S)>,
-}
-
-/// The rules that are drawn together with others, each kind in the conflict's order.
-pub(crate) fn shares_of<N: Copy + Exact + Hash + Debug, S: Copy + Exact + Hash + Debug>(
-    alloc: Global,
-    steps: &[ProofStep<N, S>],
-    order: &[usize],
-) -> R<Shares<S>>
-    ensures gates { IfOk result (λ h. h.gates.items ≡ filter_map gate_in
-        (rules_at steps.now order.now)) }
-    ensures limits { IfOk result (λ h. h.limits.items ≡ filter_map limit_in
-        (rules_at steps.now order.now)) }
-    ensures outsides { IfOk result (λ h. h.outsides.items ≡ filter_map outside_in
-        (rules_at steps.now order.now)) }
-    ensures refusal { IsOkUnless result Memory }
-{
-    let mut shares = Shares {
-        gates: Vec::new(alloc),
-        limits: Vec::new(alloc),
-        outsides: Vec::new(alloc),
-    };
-    for place in order {
-        if let Some(rule) = rule_at(steps, *place) {
-            share(&mut shares, rule)?;
-        }
-    }
-    Ok(shares)
-}
-
-/// Records a rule that is drawn together with others.
-fn share<N: Copy + Exact + Hash + Debug, S: Copy + Exact + Hash + Debug>(
-    shares: &mut Shares<S>,
-    rule: &ProofRule<N, S>,
-) -> R<()>
-    ensures gates { OnOk result
-        (shares.new.gates.items ≡ shares.old.gates.items ++ option_to_list (gate_in rule.now)) }
-    ensures limits { OnOk result
-        (shares.new.limits.items ≡ shares.old.limits.items ++ option_to_list (limit_in rule.now)) }
-    ensures outsides { OnOk result
-        (shares.new.outsides.items
-        ≡ shares.old.outsides.items ++ option_to_list (outside_in rule.now)) }
-    ensures refusal { IsOkUnless result Memory }
-{
-    match rule {
-        ProofRule::GateOf {
-            parent,
-            requirement,
-        } => shares.gates.push((*requirement, *parent))?,
-        ProofRule::Limit {
-            parent,
-            version_set,
-            barred: None,
-        } => {
-            shares.limits.push((*version_set, *parent))?;
-        }
-        ProofRule::Outside {
-            version_set,
-            solvable,
-        } => {
-            shares.outsides.push((*version_set, *solvable))?;
-        }
-        _ => {}
-    }
-    Ok(())
-}
 
 /// The links of the conflict's rules, each with those that it is drawn together with.
 pub(crate) fn links_of<I: Interner>(
@@ -164,8 +91,8 @@ fn link<N: Copy + Exact + Hash + Debug, S: Copy + Exact + Hash + Debug>(
 ) -> R<()>
     ensures links { OnOk result
         (links.new.items
-        ≡ links.old.items ++ links_at (offered_by offers.now) shares.now.gates.items
-        shares.now.limits.items shares.now.outsides.items before rule.now) }
+        ≡ links.old.items ++ links_at (offered_by offers.now) (parents_in shares.now)
+        (limiters_in shares.now) (outsiders_in shares.now) before rule.now) }
     ensures refusal { IsOkUnless result Memory }
 {
     match rule {
@@ -178,31 +105,26 @@ fn link<N: Copy + Exact + Hash + Debug, S: Copy + Exact + Hash + Debug>(
             link_need(offers, *parent, *requirement, links)?;
         }
         ProofRule::Shared { requirement } => {
-            link_gate(offers, shares.gates.as_slice(), *requirement, links)?;
+            link_gate(offers, shares.gates.get(*requirement), *requirement, links)?;
         }
         ProofRule::Limit {
             parent,
             version_set,
-            barred: None,
+            barred,
         } => {
-            link_limit(*parent, *version_set, shares.outsides.as_slice(), links)?;
+            let outsides = shares.outsides.get(*version_set);
+            link_limit(*parent, *version_set, *barred, outsides, links)?;
         }
         ProofRule::Outside {
             version_set,
             solvable,
         } => {
-            link_outside(*version_set, *solvable, shares.limits.as_slice(), links)?;
-        }
-        ProofRule::Limit {
-            parent,
-            version_set,
-            barred: Some(solvable),
-        } => {
-            links.push(Link::Constrains {
-                parent: *parent,
-                version_set: *version_set,
-                solvable: *solvable,
-            })?;
+            link_outside(
+                *version_set,
+                *solvable,
+                shares.limits.get(*version_set),
+                links,
+            )?;
         }
         ProofRule::Locked { locked, barred } => links.push(Link::Locked {
             locked: *locked,
@@ -251,74 +173,76 @@ fn link_need<S: Copy + Exact + Hash + Debug>(
     Ok(())
 }
 
-/// Links each that opens the requirement's gate to its candidates.
+/// Links each of these parents, which open the requirement's gate, to its candidates.
 fn link_gate<S: Copy + Exact + Hash + Debug>(
     offers: &Offers<S>,
-    gates: &[(Requirement, S)],
+    parents: &[S],
     requirement: Requirement,
     links: &mut Vec<Link<S>>,
 ) -> R<()>
     ensures links { OnOk result
         (links.new.items
         ≡ links.old.items ++ flat_map
-        (λ s. needed (Some s) requirement (offered_by offers.now requirement))
-        (requirers gates.now requirement)) }
+        (λ s. needed (Some s) requirement (offered_by offers.now requirement)) parents.now) }
     ensures refusal { IsOkUnless result Memory }
 {
-    for (shared, parent) in gates {
-        if *shared == requirement {
-            link_need(offers, Some(*parent), requirement, links)?;
-        }
+    for parent in parents {
+        link_need(offers, Some(*parent), requirement, links)?;
     }
     Ok(())
 }
 
-/// Links a parent to each that is outside its version set.
+/// Links a parent to the solvable that its constraint bars, or to each of these, which are outside
+/// its version set.
 fn link_limit<S: Copy + Exact + Hash + Debug>(
     parent: Option<S>,
     version_set: VersionSetId,
-    outsides: &[(VersionSetId, S)],
+    barred: Option<S>,
+    outsides: &[S],
     links: &mut Vec<Link<S>>,
 ) -> R<()>
     ensures links { OnOk result
         (links.new.items
-        ≡ links.old.items ++ map (λ s. Constrains parent version_set s)
-        (under_set outsides.now version_set)) }
+        ≡ links.old.items ++ limited parent version_set outsides.now barred) }
     ensures refusal { IsOkUnless result Memory }
 {
-    for (limited, solvable) in outsides {
-        if *limited == version_set {
-            links.push(Link::Constrains {
-                parent,
-                version_set,
-                solvable: *solvable,
-            })?;
-        }
+    if let Some(solvable) = barred {
+        links.push(Link::Constrains {
+            parent,
+            version_set,
+            solvable,
+        })?;
+        return Ok(());
+    }
+    for solvable in outsides {
+        links.push(Link::Constrains {
+            parent,
+            version_set,
+            solvable: *solvable,
+        })?;
     }
     Ok(())
 }
 
-/// Links each parent with this version set to a solvable that is outside it.
+/// Links each of these parents, which have the version set, to a solvable that is outside it.
 fn link_outside<S: Copy + Exact + Hash + Debug>(
     version_set: VersionSetId,
     solvable: S,
-    limits: &[(VersionSetId, Option<S>)],
+    parents: &[Option<S>],
     links: &mut Vec<Link<S>>,
 ) -> R<()>
     ensures links { OnOk result
         (links.new.items
         ≡ links.old.items ++ map (λ parent. Constrains parent version_set solvable)
-        (under_set limits.now version_set)) }
+        parents.now) }
     ensures refusal { IsOkUnless result Memory }
 {
-    for (limited, parent) in limits {
-        if *limited == version_set {
-            links.push(Link::Constrains {
-                parent: *parent,
-                version_set,
-                solvable,
-            })?;
-        }
+    for parent in parents {
+        links.push(Link::Constrains {
+            parent: *parent,
+            version_set,
+            solvable,
+        })?;
     }
     Ok(())
 }

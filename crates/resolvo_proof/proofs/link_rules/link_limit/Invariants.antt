@@ -1,7 +1,6 @@
 use Rattle.std.proofs.Common.{◌≡◌, ◌++◌, map, take}
 use Rattle.resolvo_proof.specs.declared.link.Link.TheVariants.{Constrains}
-use Rattle.resolvo_proof.specs.LinkRules.{under_set}
 use Rattle.resolvo_proof.proofs.link_rules.link_limit.Given as goal
 
-abbrev pub invariant-loop-limited : goal.invariant-loop-limited
-invariant-loop-limited g l = l.links.items ≡ l.initial.links.items ++ map (λ s. Constrains l.parent l.version_set s) (under_set (take l.limited-index l.outsides) l.version_set)
+abbrev pub invariant-loop-solvable : goal.invariant-loop-solvable
+invariant-loop-solvable g l = l.links.items ≡ l.initial.links.items ++ map (λ s. Constrains l.parent l.version_set s) (take l.solvable-index l.outsides)

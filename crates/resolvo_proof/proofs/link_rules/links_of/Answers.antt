@@ -6,6 +6,7 @@ use Rattle.std.proofs.lemmas.List.{append-nil, drop_all}
 use Rattle.resolvo_proof.specs.Offered.{offered_by}
 use Rattle.resolvo_proof.specs.Order.{rules_at}
 use Rattle.resolvo_proof.specs.LinkRules.{all_links, links_after, last_instance, named, instance_in}
+use Rattle.resolvo_proof.specs.Shares.{parents_in, limiters_in, outsiders_in}
 use Rattle.resolvo_proof.proofs.RuleLemmas.{rule_of, rules_more}
 use Rattle.resolvo_proof.proofs.LinkLemmas.{links_more, rules_left_some, rules_left_none, rules_same, last_push}
 use Rattle.resolvo_proof.proofs.link_rules.links_of.Goals as goal
@@ -36,7 +37,7 @@ loop-place-preserved g c =
           record {
             links =
                 ap (λ rs. c.match-rule_at.links.items ++ links_after eq name offered rules rs rest) more
-                ∙ links_more eq name offered rules (rules_at steps (take k places)) rest r c.loop-place.links.items c.match-rule_at.links.items c.in_ok-shares.shares.gates.items c.in_ok-shares.shares.limits.items c.in_ok-shares.shares.outsides.items w.in_ok-before.before (get eq c.loop-place.instances)
+                ∙ links_more eq name offered rules (rules_at steps (take k places)) rest r c.loop-place.links.items c.match-rule_at.links.items (parents_in c.in_ok-shares.shares) (limiters_in c.in_ok-shares.shares) (outsiders_in c.in_ok-shares.shares) w.in_ok-before.before (get eq c.loop-place.instances)
                 c.in_ok-shares.ensures.gates c.in_ok-shares.ensures.limits c.in_ok-shares.ensures.outsides w.in_ok-before.ensures.before c.loop-place.invariant.recorded (ap (λ v. v.items) w.links-is ∙ w.in_ok-link.ensures.links)
                 ∙ ap (λ rs. c.loop-place.links.items ++ links_after eq name offered rules (rules_at steps (take k places)) rs) (sym (rules_left_some steps places k r c.loop-place-test.true at))
                 ∙ c.loop-place.invariant.links;
