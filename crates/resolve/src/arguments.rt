@@ -2,7 +2,7 @@
 ghost use Rattle.std.specs.Prelude.{◌≡◌, IfOk, MatchOption, string_bytes};
 ghost use Rattle.std.specs.Str.{IsUtf8};
 
-use resolve_check::outcome::RunFault;
+use resolve_run::RunFault;
 use std::alloc::Global;
 use std::env::{Env, FillError};
 

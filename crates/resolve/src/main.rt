@@ -6,12 +6,11 @@
 mod arguments;
 
 use crate::arguments::read_arguments;
-use resolve_check::check::check;
-use resolve_check::endings::{check_ending, run_ending};
-use resolve_check::input::{INPUT_LIMIT, read_input, split_input};
-use resolve_check::outcome::{Checked, Outcome, RunFault};
-use resolve_run::run;
-use resolvo_catalogue_core::Counted;
+use resolve_run::{
+    Checked, INPUT_LIMIT, Outcome, RunFault, check, check_ending, read_input, run, run_ending,
+    split_input,
+};
+use resolvo_catalogue::Counted;
 use std::fs::File;
 use std::io;
 use std::process::ExitCode;

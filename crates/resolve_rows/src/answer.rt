@@ -1,10 +1,8 @@
 //! The answers of the program `resolve` to texts from devices that move so many bytes a call.
 
-use resolve_check::check::check;
-use resolve_check::endings::{check_ending, run_ending};
-use resolve_run::run;
-use resolvo_catalogue_core::{MemorySink, MemorySource};
-use resolvo_report::{Report, ReportFault};
+use resolve_run::{check, check_ending, run, run_ending};
+use resolvo_catalogue::{MemorySink, MemorySource};
+use resolvo_judge::{Report, ReportFault};
 use resolvo_text::GrowingSink;
 use std::alloc::{AllocError, Global};
 

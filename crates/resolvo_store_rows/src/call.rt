@@ -1,14 +1,10 @@
 //! Calls as lines spell them: a word and numbers.
 
-use resolvo_pool_core::id::{
-    ClauseId, DisjunctionId, LearntClauseId, NameId, StringId, VariableId, VersionSetId,
-    VersionSetUnionId,
+use resolvo_pool::{
+    ClauseId, DisjunctionId, LearntClauseId, NameId, Requirement, StringId, VariableId,
+    VersionSetId, VersionSetUnionId,
 };
-use resolvo_pool_core::requirement::Requirement;
-use resolvo_store::store_call::StoreCall;
-use resolvo_store_core::clause::Clause;
-use resolvo_store_core::literal::Literal;
-use resolvo_store_core::watched_literals::WatchedLiterals;
+use resolvo_store::{Clause, Literal, StoreCall, WatchedLiterals};
 use std::alloc::{AllocError, Global};
 
 /// The numbers of a text. Other words are passed over.

@@ -4,10 +4,8 @@
 mod call;
 
 use call::call_in;
-use resolvo_pool_core::id::NameId;
-use resolvo_pool_core::want::R;
-use resolvo_store::clause_store::ClauseStore;
-use resolvo_store::store_call::{StoreAnswer, StoreCall};
+use resolvo_pool::{NameId, R};
+use resolvo_store::{ClauseStore, StoreAnswer, StoreCall};
 use std::alloc::{AllocError, Global};
 use std::io;
 use std::io::ErrorKind;

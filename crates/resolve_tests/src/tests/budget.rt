@@ -1,8 +1,7 @@
 //! A run with a budget: it gives up below one number, and from it on answers as without one.
 
-use resolve_check::outcome::Outcome;
-use resolve_run::{RunStop, run_within};
-use resolvo_catalogue_core::{MemorySink, MemorySource};
+use resolve_run::{Outcome, RunStop, run_within};
+use resolvo_catalogue::{MemorySink, MemorySource};
 use std::alloc::{AllocError, Global};
 use std::test::Fail;
 

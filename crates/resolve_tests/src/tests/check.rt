@@ -1,10 +1,8 @@
 //! Checks of a report where a reader or the writer fails, stops or is interrupted.
 
 use super::full::Full;
-use resolve_check::check::check;
-use resolve_check::outcome::{Checked, RunFault};
-use resolvo_catalogue_core::{MemorySink, MemorySource};
-use resolvo_text::{Counted, Sink};
+use resolve_run::{Checked, RunFault, check};
+use resolvo_catalogue::{Counted, MemorySink, MemorySource, Sink};
 use std::alloc::{AllocError, Global};
 use std::test::Fail;
 

@@ -1,8 +1,7 @@
 //! Standard input: how it is parted, and its limit.
 
-use resolve_check::input::{read_input, split_input};
-use resolve_check::outcome::RunFault;
-use resolvo_catalogue_core::MemorySource;
+use resolve_run::{RunFault, read_input, split_input};
+use resolvo_catalogue::MemorySource;
 use std::alloc::Global;
 use std::test::Fail;
 

@@ -1,10 +1,8 @@
 //! Readers and writers that fail, stop or are interrupted.
 
 use crate::tests::full::Full;
-use resolve_check::outcome::{Outcome, RunFault};
-use resolve_run::run;
-use resolvo_catalogue_core::{MemorySink, MemorySource};
-use resolvo_text::{Counted, Sink};
+use resolve_run::{Outcome, RunFault, run};
+use resolvo_catalogue::{Counted, MemorySink, MemorySource, Sink};
 use std::alloc::{AllocError, Global};
 use std::test::Fail;
 

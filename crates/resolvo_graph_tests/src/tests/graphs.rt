@@ -1,11 +1,10 @@
 //! Graphs that are copied, and that lose their unresolved node.
 
 use super::sample::{Link, Place, drawn, message, message_of};
-use resolvo_graph::graph::{
+use resolvo_graph::{
     ConflictCause, ConflictEdge, ConflictGraph, ConflictNode, EdgeIndex, NodeIndex,
 };
-use resolvo_pool_core::id::{SolvableId, StringId, VersionSetId};
-use resolvo_pool_core::want::R;
+use resolvo_pool::{R, SolvableId, StringId, VersionSetId};
 use std::alloc::Global;
 use std::process::Abort;
 use std::test::Fail;

@@ -1,7 +1,7 @@
 //! The signs of a few levels.
 
 use resolvo_graph::indenter::{ChildOrder, Indenter};
-use resolvo_pool_core::want::R;
+use resolvo_pool::R;
 use std::alloc::Global;
 use std::test::Fail;
 

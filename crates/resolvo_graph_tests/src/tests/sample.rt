@@ -6,15 +6,11 @@ ghost use Rattle.std.specs.Prelude.{◌≡◌};
 ghost use Rattle.std.specs.Fmt.{WritesOnOk};
 ghost use Rattle.resolvo_graph_tests.specs.Sample.{letter, span_text, word, merged};
 
-use resolvo_graph::display_unsat::DisplayUnsat;
-use resolvo_graph::graph::{ConflictCause, ConflictEdge, ConflictGraph, ConflictNode};
-use resolvo_pool_core::condition::Condition;
-use resolvo_pool_core::id::{
-    ConditionId, NameId, SolvableId, StringId, VersionSetId, VersionSetUnionId,
+use resolvo_graph::{ConflictCause, ConflictEdge, ConflictGraph, ConflictNode, DisplayUnsat};
+use resolvo_pool::{
+    Condition, ConditionId, Interner, NameId, R, Requirement, SolvableId, StringId, VersionSetId,
+    VersionSetUnionId,
 };
-use resolvo_pool_core::provider::Interner;
-use resolvo_pool_core::requirement::Requirement;
-use resolvo_pool_core::want::R;
 use std::alloc::{AllocError, Global};
 use std::fmt;
 

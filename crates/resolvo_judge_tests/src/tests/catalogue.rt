@@ -2,9 +2,9 @@
 
 ghost use Rattle.std.specs.Prelude.{◌<◌};
 
+use resolvo_catalogue::{Catalogue, MemorySource, ReadFault, Request, Rule, VersionNo};
 use resolvo_catalogue_core::{
-    Catalogue, MemorySource, ReadFault, Request, Rule, VersionNo, catalogue_has_no_fault,
-    request_has_no_fault, text_is_one_catalogue, text_is_one_request,
+    catalogue_has_no_fault, request_has_no_fault, text_is_one_catalogue, text_is_one_request,
 };
 use std::alloc::Global;
 use std::process::Abort;

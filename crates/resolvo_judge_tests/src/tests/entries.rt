@@ -2,11 +2,11 @@
 
 use resolve_install::{install_report, numbers_of};
 use resolve_order::Turn;
-use resolvo_catalogue_core::{Catalogue, MemorySource, ReadFault, Request, Version, VersionNo};
-use resolvo_judge::{Verdict, judge};
-use resolvo_pool_core::id::SolvableId;
-use resolvo_report::{Report, Step};
-use resolvo_text::MemorySink;
+use resolvo_catalogue::{
+    Catalogue, MemorySink, MemorySource, ReadFault, Request, Version, VersionNo,
+};
+use resolvo_judge::{Report, Step, Verdict, judge};
+use resolvo_pool::SolvableId;
 use std::alloc::{AllocError, Global};
 use std::test::Fail;
 

@@ -5,7 +5,7 @@ mod steps;
 
 ghost use Rattle.std.specs.Prelude.{◌<◌};
 
-use resolvo_catalogue_core::{Catalogue, MemorySource, ReadFault, Request};
+use resolvo_catalogue::{Catalogue, MemorySource, ReadFault, Request};
 use resolvo_judge::{Verdict, judge, judge_counted};
 use std::alloc::Global;
 use std::process::Abort;

@@ -1,9 +1,9 @@
 //! Reports whose reader or writer fails, and reports that are read line by line.
 
-use resolvo_report::{
+use resolvo_catalogue::{MemorySink, MemorySource};
+use resolvo_judge::{
     Report, ReportFault, ReportReader, ReportWriteFault, reports_are_read, text_is_one_report,
 };
-use resolvo_text::{MemorySink, MemorySource};
 use std::alloc::{AllocError, Global};
 use std::process::Abort;
 use std::test::Fail;

@@ -2,10 +2,13 @@
 
 ghost use Rattle.std.specs.Prelude.{◌<◌};
 
+use resolvo_catalogue::{
+    Cond, Counted, IoFault, LineReader, MemorySink, MemorySource, ReadFault, Sink, Source, Span,
+    Spec, Version,
+};
 use resolvo_text::{
-    Cond, Counted, IoFault, Line, LineFault, LineReader, MemorySink, MemorySource, ReadFault, Sink,
-    Source, Span, Spec, Version, cases_in, holds, is_in_span, is_member, is_met, is_met_by_one,
-    line_in, matches, write_all,
+    Line, LineFault, cases_in, holds, is_in_span, is_member, is_met, is_met_by_one, line_in,
+    matches, write_all,
 };
 use std::alloc::{AllocError, Global};
 use std::io::{ErrorKind, Read, Write};

@@ -1,11 +1,10 @@
 //! The cache over the provider in memory, of which each helper asks one thing.
 
 use super::provider::{Tens, small_provider};
-use resolvo_pool::cache::{CacheFault, SolverCache};
-use resolvo_pool_core::id::{NameId, SolvableId, StringId, VersionSetId, VersionSetUnionId};
-use resolvo_pool_core::provider::Dependencies;
-use resolvo_pool_core::requirement::Requirement;
-use resolvo_pool_core::want::R;
+use resolvo_pool::{
+    CacheFault, Dependencies, NameId, R, Requirement, SolvableId, SolverCache, StringId,
+    VersionSetId, VersionSetUnionId,
+};
 use std::alloc::Global;
 use std::process::Abort;
 use std::test::Fail;

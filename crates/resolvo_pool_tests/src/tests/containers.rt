@@ -1,17 +1,12 @@
 //! Containers and ids, on small values.
 
-use resolvo_pool::frozen_copy_map::FrozenCopyMap;
-use resolvo_pool_core::arena::Arena;
-use resolvo_pool_core::id::{
-    ClauseId, ConditionId, DenseId, DenseIndex, NameTag, SolvableTag, SparseId, VariableId,
-    VersionSetId, VersionSetUnionId, next_index,
+use resolvo_pool::{
+    Arena, ClauseId, ConditionId, DenseId, DenseIndex, FrozenCopyMap, IdMap, IdSet, IndexedSet,
+    Mapping, NameTag, OptionalNumber, R, Requirement, RequirementMap, ScoreMap, SolvableIdOrRoot,
+    SolvableTag, SolverId, SparseId, VariableId, VersionSetId, VersionSetUnionId, Want,
+    WithRootSet,
 };
-use resolvo_pool_core::id_map::{IdMap, IdSet, OptionalNumber, ScoreMap};
-use resolvo_pool_core::indexed_set::IndexedSet;
-use resolvo_pool_core::mapping::Mapping;
-use resolvo_pool_core::requirement::{Requirement, RequirementMap};
-use resolvo_pool_core::solver_id::{SolvableIdOrRoot, SolverId, WithRootSet};
-use resolvo_pool_core::want::{R, Want};
+use resolvo_pool_core::id::next_index;
 use std::alloc::Global;
 use std::process::Abort;
 use std::test::Fail;

@@ -1,9 +1,8 @@
 //! The pool on a few names, of which each helper interns one kind.
 
-use resolvo_pool_core::condition::{Condition, LogicalOperator};
-use resolvo_pool_core::id::{DenseIndex, NameId, VersionSetId};
-use resolvo_pool_core::pool::{Pool, VersionSet};
-use resolvo_pool_core::want::R;
+use resolvo_pool::{
+    Condition, DenseIndex, LogicalOperator, NameId, Pool, R, VersionSet, VersionSetId,
+};
 use std::alloc::Global;
 
 /// Versions up to a number.

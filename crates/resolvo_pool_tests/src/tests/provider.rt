@@ -1,15 +1,11 @@
 //! A provider in memory for the tests. The solvable 10 n + v is version v of package n, and the
 //! version set 10 n + v holds the versions of package n from v on.
 
-use resolvo_pool_core::condition::Condition;
-use resolvo_pool_core::id::{
-    ConditionId, DenseIndex, NameId, SolvableId, StringId, VersionSetId, VersionSetUnionId,
+use resolvo_pool::{
+    Candidates, Condition, ConditionId, DenseIndex, Dependencies, DependencyProvider,
+    HintDependenciesAvailable, Interner, KnownDependencies, NameId, R, SolvableId, StringId,
+    VersionSetId, VersionSetUnionId,
 };
-use resolvo_pool_core::provider::{
-    Candidates, Dependencies, DependencyProvider, HintDependenciesAvailable, Interner,
-    KnownDependencies,
-};
-use resolvo_pool_core::want::R;
 use std::alloc::Global;
 use std::cell::Cell;
 use std::cmp::Reverse;

@@ -1,11 +1,10 @@
 //! How requirements and solvables are written, and copies of candidates.
 
 use super::provider::{Tens, small_provider};
-use resolvo_pool_core::id::{SolvableId, StringId, VersionSetId, VersionSetUnionId};
-use resolvo_pool_core::provider::{Candidates, HintDependenciesAvailable};
-use resolvo_pool_core::requirement::Requirement;
-use resolvo_pool_core::solver_id::SolvableIdOrRoot;
-use resolvo_pool_core::want::R;
+use resolvo_pool::{
+    Candidates, HintDependenciesAvailable, R, Requirement, SolvableId, SolvableIdOrRoot, StringId,
+    VersionSetId, VersionSetUnionId,
+};
 use std::alloc::Global;
 use std::process::Abort;
 use std::test::Fail;

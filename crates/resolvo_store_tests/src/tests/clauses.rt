@@ -1,12 +1,7 @@
 //! Clauses as literals, and their values.
 
-use resolvo_pool_core::id::{DenseIndex, NameId, VariableId, VersionSetId};
-use resolvo_pool_core::want::R;
-use resolvo_store_core::clause::Clause;
-use resolvo_store_core::decision_map::DecisionMap;
-use resolvo_store_core::lists::FixedLists;
-use resolvo_store_core::literal::Literal;
-use resolvo_store_core::watched_literals::WatchedLiterals;
+use resolvo_pool::{DenseIndex, NameId, R, VariableId, VersionSetId};
+use resolvo_store::{Clause, DecisionMap, FixedLists, Literal, WatchedLiterals};
 use std::alloc::Global;
 use std::process::Abort;
 use std::test::Fail;

@@ -1,17 +1,10 @@
 //! Ids whose texts show their numbers, and clauses as texts.
 
-use resolvo_pool_core::condition::Condition;
-use resolvo_pool_core::id::{
-    ConditionId, DisjunctionId, LearntClauseId, NameId, SolvableId, StringId, VariableId,
-    VersionSetId, VersionSetUnionId,
+use resolvo_pool::{
+    Condition, ConditionId, DisjunctionId, Interner, LearntClauseId, NameId, R, Requirement,
+    SolvableId, StringId, VariableId, VersionSetId, VersionSetUnionId,
 };
-use resolvo_pool_core::provider::Interner;
-use resolvo_pool_core::requirement::Requirement;
-use resolvo_pool_core::want::R;
-use resolvo_store::clause_display::ClauseDisplay;
-use resolvo_store::variable_map::VariableMap;
-use resolvo_store_core::clause::Clause;
-use resolvo_store_core::literal::Literal;
+use resolvo_store::{Clause, ClauseDisplay, Literal, VariableMap};
 use std::alloc::{AllocError, Global};
 use std::fmt;
 use std::process::Abort;

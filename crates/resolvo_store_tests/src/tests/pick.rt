@@ -1,13 +1,7 @@
 //! The next decision over three need clauses.
 
-use resolvo_pool_core::id::{ClauseId, NameId, VariableId, VersionSetId};
-use resolvo_pool_core::id_map::ScoreMap;
-use resolvo_pool_core::requirement::Requirement;
-use resolvo_pool_core::want::R;
-use resolvo_store_core::decide_queue::{DecideQueue, NeedClause};
-use resolvo_store_core::decision_map::DecisionMap;
-use resolvo_store_core::lists::{Candidate, FixedLists};
-use resolvo_store_core::literal::Literal;
+use resolvo_pool::{ClauseId, NameId, R, Requirement, ScoreMap, VariableId, VersionSetId};
+use resolvo_store::{Candidate, DecideQueue, DecisionMap, FixedLists, Literal, NeedClause};
 use std::alloc::Global;
 use std::process::Abort;
 use std::test::Fail;

@@ -4,13 +4,13 @@ ghost use Rattle.resolvo_sat.specs.State.{count_of};
 ghost use Rattle.resolvo_state.specs.SolverState.{IsCoding, Grows};
 ghost use Rattle.resolvo_state.specs.Registered.{AreTied};
 
-use resolvo_pool_core::id::{NameId, SolvableId, StringId, VariableId, VersionSetId};
-use resolvo_pool_core::requirement::ConditionalRequirement;
-use resolvo_pool_core::want::R;
+use resolvo_pool::{
+    ConditionalRequirement, NameId, R, SolvableId, StringId, VariableId, VersionSetId,
+};
 use resolvo_state::clause_kind::ClauseKind;
 use resolvo_state::registry::Registry;
 use resolvo_state::solver_state::SolverState;
-use resolvo_store_core::literal::Literal;
+use resolvo_store::Literal;
 use std::alloc::Global;
 use std::test::Fail;
 

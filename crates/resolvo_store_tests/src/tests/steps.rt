@@ -5,9 +5,10 @@ ghost use Rattle.resolvo_sat.specs.Steps.{AreInRange};
 ghost use Rattle.resolvo_state.specs.SolverState.{IsCoding};
 ghost use Rattle.resolvo_state.specs.ClauseKinds.{rule_of};
 
-use resolvo_pool_core::id::{ClauseId, NameId, SolvableId, StringId, VariableId, VersionSetId};
-use resolvo_pool_core::requirement::{ConditionalRequirement, Requirement};
-use resolvo_pool_core::want::R;
+use resolvo_pool::{
+    ClauseId, ConditionalRequirement, NameId, R, Requirement, SolvableId, StringId, VariableId,
+    VersionSetId,
+};
 use resolvo_proof::proof::proof_of;
 use resolvo_proof::step::{ProofLiteral, ProofRule, ProofStep};
 use resolvo_proof::trim::{Trimmed, trim, trim_to};
@@ -16,7 +17,7 @@ use resolvo_sat::state::SatState;
 use resolvo_state::atom::ProofAtom;
 use resolvo_state::clause_kind::ClauseKind;
 use resolvo_state::solver_state::SolverState;
-use resolvo_store_core::literal::Literal;
+use resolvo_store::Literal;
 use std::alloc::Global;
 use std::process::Abort;
 use std::test::Fail;

@@ -1,11 +1,9 @@
 //! At most one of some variables, and variables of all origins.
 
-use resolvo_pool_core::id::{NameId, SolvableId, VariableId, VersionSetId};
-use resolvo_pool_core::requirement::Requirement;
-use resolvo_pool_core::solver_id::SolvableIdOrRoot;
-use resolvo_pool_core::want::R;
-use resolvo_store::variable_map::{VariableMap, VariableOrigin};
-use resolvo_store_core::binary_encoding::AtMostOnceTracker;
+use resolvo_pool::{
+    NameId, R, Requirement, SolvableId, SolvableIdOrRoot, VariableId, VersionSetId,
+};
+use resolvo_store::{AtMostOnceTracker, VariableMap, VariableOrigin};
 use std::alloc::Global;
 use std::process::Abort;
 use std::test::Fail;

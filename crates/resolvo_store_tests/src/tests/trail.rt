@@ -1,9 +1,7 @@
 //! The trail on a few decisions.
 
-use resolvo_pool_core::id::{ClauseId, VariableId};
-use resolvo_pool_core::want::R;
-use resolvo_store_core::decision::Decision;
-use resolvo_store_core::decision_tracker::{DecisionTracker, Set};
+use resolvo_pool::{ClauseId, R, VariableId};
+use resolvo_store::{Decision, DecisionTracker, Set};
 use std::process::Abort;
 use std::test::Fail;
 

@@ -3,11 +3,8 @@ ghost use Rattle.std.specs.Prelude.{◌≡◌, length, false, OnOk, ⊤};
 ghost use Rattle.resolvo_store_core.specs.Signed.{same_literal};
 ghost use Rattle.resolvo_store_core.specs.Watches.{watchers, IsWatched};
 
-use resolvo_pool_core::id::{ClauseId, VariableId};
-use resolvo_pool_core::want::R;
-use resolvo_store_core::literal::Literal;
-use resolvo_store_core::watch_map::WatchMap;
-use resolvo_store_core::watched_literals::WatchedLiterals;
+use resolvo_pool::{ClauseId, R, VariableId};
+use resolvo_store::{Literal, WatchMap, WatchedLiterals};
 use std::alloc::Global;
 use std::test::Fail;
 

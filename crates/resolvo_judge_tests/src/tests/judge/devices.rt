@@ -1,7 +1,7 @@
 //! Reports whose device fails.
 
 use super::{catalogue_of, request_of};
-use resolvo_catalogue_core::{Catalogue, MemorySource, Request};
+use resolvo_catalogue::{Catalogue, MemorySource, Request};
 use resolvo_judge::{JudgeFault, Verdict, judge};
 use std::alloc::Global;
 use std::process::Abort;

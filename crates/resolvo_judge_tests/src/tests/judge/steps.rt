@@ -1,12 +1,12 @@
 //! Steps that are checked by themselves: over all lines, or over those that a report names.
 
 use super::{catalogue_of, request_of};
-use resolvo_catalogue_core::{Catalogue, MemorySource, Request, Version};
+use resolvo_catalogue::{Catalogue, MemorySource, Request, Version};
 use resolvo_judge::{
-    Premises, accepted_install_is_true, accepted_refusal_is_true, check_steps, count_causes,
-    places_are_one, proof_forbids, proof_refutes, steps_are_true, upheld_texts_are_refused_nowhere,
+    Atom, Literal, Premises, Report, Step, accepted_install_is_true, accepted_refusal_is_true,
+    check_steps, count_causes, places_are_one, proof_forbids, proof_refutes, steps_are_true,
+    upheld_texts_are_refused_nowhere,
 };
-use resolvo_report::{Atom, Literal, Report, Step};
 use std::alloc::{AllocError, Global};
 use std::test::Fail;
 
