@@ -116,6 +116,9 @@ impl ClauseStates {
         ensures open { is_open_state (state_at self.old result) ≡ true }
         ensures same { self.new ≡ self.old }
     {
+        if self.state(from).is_open() {
+            return from;
+        }
         let mut position = from;
         while !self.state(position).is_open() {
             let next = self.pass(position);
