@@ -189,33 +189,6 @@ module _ {N : Type 0} (lists : FixedLists N) (values : ℕ → Option Bool) (sco
   pub nothing_left : find (λ c. is_open (value_under values c.literal)) (candidates_in lists q.requirement) ≡ None → offer lists values score q ≡ None
   nothing_left h = ap (λ o. cond (is_eligible lists values q) (cond (list_any (λ c. is_true (value_under values c.literal)) (candidates_in lists q.requirement)) None (option_map (decision_for (named_by lists) values score q (candidates_in lists q.requirement)) o)) None) h ∙ nothing_either (is_eligible lists values q) (list_any (λ c. is_true (value_under values c.literal)) (candidates_in lists q.requirement))
 
-  -- or a decision for the first undecided candidate, with its score
-  first_offered : (c : Candidate N) (d : NextDecision) → find (λ x. is_open (value_under values x.literal)) (candidates_in lists q.requirement) ≡ Some c → offer lists values score q ≡ Some d → d.package_activity ≤ score c.package
-  first_offered c d first h = eligible (is_eligible lists values q) h
-    where
-      found : (o : Option (Candidate N)) → o ≡ Some c → option_map (decision_for (named_by lists) values score q (candidates_in lists q.requirement)) o ≡ Some d → d.package_activity ≤ score c.package
-      found None is e = absurd cc
-      found (Some x) is e =
-          let same : score x.package ≡ d.package_activity = ap (λ n. n.package_activity) (some_one (decision_for (named_by lists) values score q (candidates_in lists q.requirement) x) d e) in
-          let one : score x.package ≡ score c.package = ap (λ y. score y.package) (some_one x c is) in
-          omega arith
-
-      none_true : (b : Bool) → cond b None (option_map (decision_for (named_by lists) values score q (candidates_in lists q.requirement)) (find (λ x. is_open (value_under values x.literal)) (candidates_in lists q.requirement))) ≡ Some d → d.package_activity ≤ score c.package
-      none_true true e = absurd cc
-      none_true false e = found (find (λ x. is_open (value_under values x.literal)) (candidates_in lists q.requirement)) first e
-
-      eligible : (b : Bool) → cond b (offer_of (named_by lists) values score q (candidates_in lists q.requirement)) None ≡ Some d → d.package_activity ≤ score c.package
-      eligible true e = none_true (list_any (λ x. is_true (value_under values x.literal)) (candidates_in lists q.requirement)) e
-      eligible false e = absurd cc
-
-  -- which doesn't beat one that no decision of that score beats
-  pub offer_beaten : (best : Option NextDecision) (c : Candidate N) → find (λ x. is_open (value_under values x.literal)) (candidates_in lists q.requirement) ≡ Some c → ((next : NextDecision) → next.package_activity ≤ score c.package → later best (Some next) ≡ best) → later best (offer lists values score q) ≡ best
-  offer_beaten best c first final = stays (offer lists values score q) refl
-    where
-      stays : (o : Option NextDecision) → offer lists values score q ≡ o → later best o ≡ best
-      stays None is = later_none best
-      stays (Some next) is = final next (first_offered c next first is)
-
 -- the state of one clause is set
 pub fits_found : (literals : Requirement → List Signed) (needs : UndecidedClauses) (queue : List NeedClause) (position : ℕ) (q : NeedClause) (found : ClauseState) → Fits literals needs queue → slice_get queue position ≡ Some q
     → IsSoundState literals needs.seen.items q found → Fits literals (record needs { states = slice_set needs.states position found }) queue
