@@ -1,7 +1,7 @@
 -- The states stay right after a backjump and as the trail grows. A clause offers no decision where
 -- it is satisfied or idle.
 use Rattle.std.proofs.Common.{◌≡◌, ℕ, zero, suc, ◌+◌, ◌-◌, ◌<◌, ◌≤◌, ◌⊎◌, inl, inr, cond, Bool, true, false, List, [], ◌∷◌, ◌++◌, map, length, take, drop, get_or, Option, Some, None, refl, sym, ◌∙◌, ap, subst, arith}
-use Rattle.std.specs.Prelude.{nat_lt, ◌&&◌, ◌||◌, slice_get, slice_set, Contains}
+use Rattle.std.specs.Prelude.{nat_lt, ◌&&◌, ◌||◌, not, slice_get, slice_set, Contains}
 use Rattle.std.specs.Option.{option_map}
 use Rattle.std.specs.List.{list_any, list_all, find}
 use Rattle.std.proofs.Math.Bool.{beq}
@@ -142,6 +142,53 @@ later_none (Some d) = refl
 pub some_one : {X : Type 0} (x y : X) → Some x ≡ Some y → x ≡ y
 some_one x y h = cc
 
+-- the first candidate that isn't false is true or undecided
+module _ {N : Type 0} (values : ℕ → Option Bool) where
+  -- it is true
+  pub possible_true : (cs : List (Candidate N)) (c : Candidate N) → find (λ d. not (is_false (value_under values d.literal))) cs ≡ Some c → is_true (value_under values c.literal) ≡ true → list_any (λ d. is_true (value_under values d.literal)) cs ≡ true
+  possible_true [] c h t = cc
+  possible_true (x ∷ cs) c h t = go (value_under values x.literal) refl h (λ is. possible_true cs c is t)
+    where
+      go : (o : Option Bool) → value_under values x.literal ≡ o → cond (not (is_false o)) (Some x) (find (λ d. not (is_false (value_under values d.literal))) cs) ≡ Some c → (find (λ d. not (is_false (value_under values d.literal))) cs ≡ Some c → list_any (λ d. is_true (value_under values d.literal)) cs ≡ true) → (is_true o || list_any (λ d. is_true (value_under values d.literal)) cs) ≡ true
+      go None e is more = (let no : false ≡ true = sym (ap is_true e) ∙ ap (λ d. is_true (value_under values d.literal)) (some_one x c is) ∙ t in absurd cc)
+      go (Some true) e is more = refl
+      go (Some false) e is more = more is
+
+  -- it is undecided
+  pub possible_open : (cs : List (Candidate N)) (c : Candidate N) → find (λ d. not (is_false (value_under values d.literal))) cs ≡ Some c → is_true (value_under values c.literal) ≡ false → find (λ d. is_open (value_under values d.literal)) cs ≡ Some c
+  possible_open [] c h t = cc
+  possible_open (x ∷ cs) c h t = go (value_under values x.literal) refl h (λ is. possible_open cs c is t)
+    where
+      go : (o : Option Bool) → value_under values x.literal ≡ o → cond (not (is_false o)) (Some x) (find (λ d. not (is_false (value_under values d.literal))) cs) ≡ Some c → (find (λ d. not (is_false (value_under values d.literal))) cs ≡ Some c → find (λ d. is_open (value_under values d.literal)) cs ≡ Some c) → cond (is_open o) (Some x) (find (λ d. is_open (value_under values d.literal)) cs) ≡ Some c
+      go None e is more = is
+      go (Some true) e is more = (let no : true ≡ false = sym (ap is_true e) ∙ ap (λ d. is_true (value_under values d.literal)) (some_one x c is) ∙ t in absurd cc)
+      go (Some false) e is more = more is
+
+  -- there is none
+  pub possible_none : (cs : List (Candidate N)) → find (λ d. not (is_false (value_under values d.literal))) cs ≡ None → find (λ d. is_open (value_under values d.literal)) cs ≡ None
+  possible_none [] h = refl
+  possible_none (x ∷ cs) h = go (value_under values x.literal) h (possible_none cs)
+    where
+      go : (o : Option Bool) → cond (not (is_false o)) (Some x) (find (λ d. not (is_false (value_under values d.literal))) cs) ≡ None → (find (λ d. not (is_false (value_under values d.literal))) cs ≡ None → find (λ d. is_open (value_under values d.literal)) cs ≡ None) → cond (is_open o) (Some x) (find (λ d. is_open (value_under values d.literal)) cs) ≡ None
+      go None is more = cc
+      go (Some true) is more = cc
+      go (Some false) is more = more is
+
+-- what a clause offers
+module _ {N : Type 0} (lists : FixedLists N) (values : ℕ → Option Bool) (score : N → ℕ) (q : NeedClause) where
+  nothing_either : (b c : Bool) → cond {A = Option NextDecision} b (cond c None None) None ≡ None
+  nothing_either true true = refl
+  nothing_either true false = refl
+  nothing_either false c = refl
+
+  -- nothing, where a candidate is true
+  pub nothing_met : list_any (λ c. is_true (value_under values c.literal)) (candidates_in lists q.requirement) ≡ true → offer lists values score q ≡ None
+  nothing_met h = ap (λ b. cond (is_eligible lists values q) (cond b None (option_map (decision_for (named_by lists) values score q (candidates_in lists q.requirement)) (find (λ c. is_open (value_under values c.literal)) (candidates_in lists q.requirement)))) None) h ∙ nothing_either (is_eligible lists values q) true
+
+  -- nor where none is undecided
+  pub nothing_left : find (λ c. is_open (value_under values c.literal)) (candidates_in lists q.requirement) ≡ None → offer lists values score q ≡ None
+  nothing_left h = ap (λ o. cond (is_eligible lists values q) (cond (list_any (λ c. is_true (value_under values c.literal)) (candidates_in lists q.requirement)) None (option_map (decision_for (named_by lists) values score q (candidates_in lists q.requirement)) o)) None) h ∙ nothing_either (is_eligible lists values q) (list_any (λ c. is_true (value_under values c.literal)) (candidates_in lists q.requirement))
+
 -- the state of one clause is set
 pub fits_found : (literals : Requirement → List Signed) (needs : UndecidedClauses) (queue : List NeedClause) (position : ℕ) (q : NeedClause) (found : ClauseState) → Fits literals needs queue → slice_get queue position ≡ Some q
     → IsSoundState literals needs.seen.items q found → Fits literals (record needs { states = slice_set needs.states position found }) queue
@@ -166,10 +213,14 @@ module _ {N : Type 0} (lists : FixedLists N) (values : ℕ → Option Bool) (sco
   pick_taken best (x ∷ qs) zero d h = refl
   pick_taken best (x ∷ qs) (suc i) d h = let more : suc i + 1 ≡ suc (i + 1) = omega arith in rw more (pick_taken best qs i d (omega arith))
 
-  pub pick_passed : (best : Option NextDecision) (qs : List NeedClause) (i : ℕ) → i < length qs → ((q : NeedClause) → slice_get qs i ≡ Some q → offer lists values score q ≡ None) → pick_after lists values score best (drop i qs) ≡ pick_after lists values score best (drop (i + 1) qs)
-  pick_passed best [] i h none = absurd (omega arith)
-  pick_passed best (x ∷ qs) zero h none = ap (λ b. pick_after lists values score b qs) (ap (later best) (none x refl) ∙ later_none best)
-  pick_passed best (x ∷ qs) (suc i) h none = let more : suc i + 1 ≡ suc (i + 1) = omega arith in rw more (pick_passed best qs i (omega arith) none)
+  -- after one whose offer changes nothing
+  pub pick_beaten : (best : Option NextDecision) (qs : List NeedClause) (i : ℕ) → i < length qs → ((q : NeedClause) → slice_get qs i ≡ Some q → later best (offer lists values score q) ≡ best) → pick_after lists values score best (drop i qs) ≡ pick_after lists values score best (drop (i + 1) qs)
+  pick_beaten best [] i h same = absurd (omega arith)
+  pick_beaten best (x ∷ qs) zero h same = ap (λ b. pick_after lists values score b qs) (same x refl)
+  pick_beaten best (x ∷ qs) (suc i) h same = let more : suc i + 1 ≡ suc (i + 1) = omega arith in rw more (pick_beaten best qs i (omega arith) same)
+
+  pick_passed : (best : Option NextDecision) (qs : List NeedClause) (i : ℕ) → i < length qs → ((q : NeedClause) → slice_get qs i ≡ Some q → offer lists values score q ≡ None) → pick_after lists values score best (drop i qs) ≡ pick_after lists values score best (drop (i + 1) qs)
+  pick_passed best qs i h none = pick_beaten best qs i h (λ q at. ap (later best) (none q at) ∙ later_none best)
 
   -- and after clauses that offer no decision
   pub pick_behind : (best : Option NextDecision) (qs : List NeedClause) (n from to : ℕ) → to ≡ from + n → ((i : ℕ) → from ≤ i → i < to → (q : NeedClause) → slice_get qs i ≡ Some q → offer lists values score q ≡ None)
@@ -227,12 +278,7 @@ read_at [] i d h = absurd (omega arith)
 read_at (x ∷ qs) zero d h = refl
 read_at (x ∷ qs) (suc i) d h = read_at qs i d (omega arith)
 
--- the clause read offers no decision, unless its state is open
-pub read_nothing : {N : Type 0} (lists : FixedLists N) (values : ℕ → Option Bool) (es : List Entry) → ((v : ℕ) → values v ≡ value_in es v) → (qs : List NeedClause) (i : ℕ) (d : NeedClause) → i < length qs → (s : ClauseState) → IsSoundState (literals_in lists) es (get_or qs i d) s
-    → is_open_state s ≡ false → (score : N → ℕ) (q : NeedClause) → slice_get qs i ≡ Some q → offer lists values score q ≡ None
-read_nothing lists values es agree qs i d h s so closed score q at = sound_nothing lists values es agree q s (subst (λ (x : NeedClause). IsSoundState (literals_in lists) es x s) (some_one (get_or qs i d) q (sym (read_at qs i d h) ∙ at)) so) closed score
-
--- and the state is set
+-- the state of the clause read is set
 pub read_fits : (literals : Requirement → List Signed) (old new : UndecidedClauses) (queue : List NeedClause) (i : ℕ) (d : NeedClause) → i < length queue → Fits literals old queue → (found : ClauseState) → IsSoundState literals old.seen.items (get_or queue i d) found
     → new ≡ record old { states = slice_set old.states i found } → Fits literals new queue
 read_fits literals old new queue i d h f found so is = subst (λ (n : UndecidedClauses). Fits literals n queue) (sym is) (fits_found literals old queue i (get_or queue i d) found f (read_at queue i d h) so)

@@ -116,6 +116,9 @@ impl ClauseStates {
         ensures open { is_open_state (state_at self.old result) ≡ true }
         ensures same { self.new ≡ self.old }
     {
+        if self.state(from).is_open() {
+            return from;
+        }
         let mut position = from;
         while !self.state(position).is_open() {
             let next = self.pass(position);
@@ -243,13 +246,21 @@ impl ClauseStates {
             return end;
         }
         for position in start..end {
-            let state = reopened(self.state(position), common);
-            self.put(position, state);
+            self.reopen_at(position, common);
         }
         if start == first {
             self.lower_bound(block, common);
         }
         end
+    }
+
+    /// Opens the clause at a position, unless the trail's prefix of this length satisfies it.
+    fn reopen_at(&mut self, position: usize, common: usize)
+        ensures { self.new ≡ slice_set self.old position (reopened common (state_at self.old position)) }
+    {
+        if common < self.state(position).within() as usize {
+            self.put(position, ClauseState::Open);
+        }
     }
 
     /// Lowers the bound of a block to the prefix of this length.
@@ -351,20 +362,4 @@ fn first_open(states: &[ClauseState], from: usize, end: usize) -> usize
         }
     }
     end
-}
-
-/// The state of a clause once the trail has only this prefix in common.
-fn reopened(state: ClauseState, common: usize) -> ClauseState
-    ensures { result ≡ reopened common state }
-{
-    match state {
-        ClauseState::Met(within) => {
-            if common < within as usize {
-                ClauseState::Open
-            } else {
-                state
-            }
-        }
-        _ => state,
-    }
 }

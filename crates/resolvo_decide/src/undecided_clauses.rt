@@ -1,12 +1,13 @@
 //! The states of the need clauses of a queue: satisfied, idle, or undecided.
 //! They hold for the trail in `seen`. Each pick adds the new entries of the trail; `follow` drops
 //! those that a backjump removed.
-ghost use Rattle.std.specs.Prelude.{◌≡◌, ℕ, ◌<◌, ◌≤◌, ◌++◌, ◌∷◌, ◌⊎◌, [], List, map, take, length, false, true, slice_get, Some, None, Contains, OnOk, IfOk, IsOkUnless};
+ghost use Rattle.std.specs.Prelude.{◌≡◌, ℕ, ◌<◌, ◌≤◌, ◌++◌, ◌∷◌, ◌⊎◌, [], List, map, take, length, not, false, true, slice_get, Some, None, Contains, OnOk, IfOk, IfErr, IsOkUnless};
 ghost use Rattle.resolvo_pool_core.specs.declared.want.Want.TheVariants.{Memory};
-ghost use Rattle.std.specs.List.{find, list_any};
+ghost use Rattle.std.specs.List.{find};
 ghost use Rattle.std.specs.Option.{option_copied};
 ghost use Rattle.resolvo_store_core.specs.AtMostOne.{IsPrefixOf};
-ghost use Rattle.resolvo_store_core.specs.Signed.{value_under, is_true, is_open};
+ghost use Rattle.resolvo_store_core.specs.Lists.{candidates_in};
+ghost use Rattle.resolvo_store_core.specs.Signed.{value_under, is_false, is_open};
 ghost use Rattle.resolvo_store_core.specs.Values.{value_at};
 ghost use Rattle.resolvo_store_core.specs.Trail.{value_in};
 ghost use Rattle.resolvo_store_core.specs.Pick.{pick, offer, later};
@@ -203,8 +204,8 @@ impl UndecidedClauses {
         let mut best = None;
         let mut position = self.states.next_open(0);
         while position < queue.len() {
-            if self.may_decide(position, queue, lists, values) {
-                best = or_offered(best, &queue[position], lists, values, scores);
+            if self.may_beat(best, position, queue, lists, values, scores) {
+                best = or_later(best, offered(&queue[position], lists, values, scores));
                 if is_final(best, most) {
                     return best;
                 }
@@ -214,13 +215,16 @@ impl UndecidedClauses {
         best
     }
 
-    /// Whether the clause at this position may offer a decision. Stores its state, if not.
-    fn may_decide<N: Copy>(
+    /// Whether the clause at this position may offer a decision that beats the one so far. Stores
+    /// its state, if it offers none.
+    fn may_beat<N: Copy + Eq, C: ScoreMap<N>>(
         &mut self,
+        best: Option<NextDecision>,
         position: usize,
         queue: &[NeedClause],
         lists: &FixedLists<N>,
         values: &DecisionMap,
+        scores: &C,
     ) -> bool
     where
         N: Drop,
@@ -229,39 +233,51 @@ impl UndecidedClauses {
         requires values { (v : ℕ) → value_at values.now v ≡ value_in self.old.seen.items v }
         // After an answer.
         ensures nothing { result ≡ false
-            → (score : N → ℕ) (q : NeedClause)
+            → (q : NeedClause)
             → slice_get queue.now position ≡ Some q
-            → offer lists.now (value_at values.now) score q ≡ None }
+            → later best (offer lists.now (value_at values.now) (C.score_of scores.now) q) ≡ best }
         // Whatever the answer.
         ensures fits { Fits (literals_in lists.now) self.new queue.now }
         ensures seen { self.new.seen ≡ self.old.seen }
     {
-        let state = self.found(&queue[position], lists, values);
-        if state.is_open() {
-            return true;
+        match self.first_undecided(&queue[position], lists, values) {
+            Ok(candidate) => !is_final(best, scores.get(candidate.package)),
+            Err(state) => {
+                self.states.put(position, state);
+                false
+            }
         }
-        self.states.put(position, state);
-        false
     }
 
-    /// The state of a clause under these values.
-    fn found<N: Copy>(
+    /// The first undecided candidate of a clause, or the state of one that offers no decision.
+    fn first_undecided<N: Copy>(
         &self,
         need: &NeedClause,
         lists: &FixedLists<N>,
         values: &DecisionMap,
-    ) -> ClauseState
+    ) -> Result<Candidate<N>, ClauseState>
     where
         N: Drop,
         requires values { (v : ℕ) → value_at values.now v ≡ value_in self.now.seen.items v }
-        ensures { IsSoundState (literals_in lists.now) self.now.seen.items need.now result }
+        ensures first { IfOk result
+            (λ c. find (λ d. is_open (value_under (value_at values.now) d.literal))
+            (candidates_in lists.now need.now.requirement)
+            ≡ Some c) }
+        ensures state { IfErr result
+            (λ s. IsSoundState (literals_in lists.now) self.now.seen.items need.now s) }
+        ensures nothing { IfErr result
+            (λ _. (score : N → ℕ) → offer lists.now (value_at values.now) score need.now ≡ None) }
     {
         if values.value(need.parent) != Some(true) {
-            return ClauseState::Idle;
+            return Err(ClauseState::Idle);
         }
-        match lists.candidates(need.requirement) {
-            Some(candidates) if begins_true(candidates, values) => self.met(),
-            _ => ClauseState::Open,
+        let Some(candidates) = lists.candidates(need.requirement) else {
+            return Err(ClauseState::Open);
+        };
+        match first_possible(candidates, values) {
+            Some(candidate) if candidate.literal.is_true(values) => Err(self.met()),
+            Some(candidate) => Ok(*candidate),
+            None => Err(ClauseState::Open),
         }
     }
 
@@ -276,42 +292,20 @@ impl UndecidedClauses {
     }
 }
 
-/// Whether the first candidate that isn't false is true. The search stops at an undecided one.
-fn begins_true<N: Copy>(candidates: &[Candidate<N>], values: &DecisionMap) -> bool
-    ensures { result ≡ true
-        → list_any (λ c. is_true (value_under (value_at values.now) c.literal)) candidates.now
-        ≡ true }
-{
-    for candidate in candidates {
-        match candidate.literal.eval(values) {
-            Some(false) => {}
-            Some(true) => return true,
-            None => return false,
-        }
-    }
-    false
-}
-
-/// The decision so far, or the one that a clause offers where that beats it.
-fn or_offered<N: Copy + Eq, C: ScoreMap<N>>(
-    best: Option<NextDecision>,
-    need: &NeedClause,
-    lists: &FixedLists<N>,
+/// The first candidate that isn't false.
+fn first_possible<'a, N: Copy>(
+    candidates: &'a [Candidate<N>],
     values: &DecisionMap,
-    scores: &C,
-) -> Option<NextDecision>
-where
-    N: Drop,
-    ensures { result ≡ later best (offer lists.now (value_at values.now) (C.score_of scores.now) need.now) }
+) -> Option<&'a Candidate<N>>
+    ensures { option_copied result
+        ≡ find (λ c. not (is_false (value_under (value_at values.now) c.literal))) candidates.now }
 {
-    if is_beaten(need, best, lists, values, scores) {
-        best
-    } else {
-        or_later(best, offered(need, lists, values, scores))
-    }
+    candidates
+        .iter()
+        .find(|candidate| !candidate.literal.is_false(values))
 }
 
-/// Whether no later decision beats this one, where no score is above `most`.
+/// Whether no later decision with a score of at most `most` beats this one.
 fn is_final(best: Option<NextDecision>, most: u64) -> bool
     ensures { result ≡ true
         → (next : NextDecision)
@@ -322,44 +316,6 @@ fn is_final(best: Option<NextDecision>, most: u64) -> bool
         Some(best) => most <= best.package_activity,
         None => false,
     }
-}
-
-/// Whether a clause can't beat the decision so far, judged by its first undecided candidate.
-fn is_beaten<N: Copy + Eq, C: ScoreMap<N>>(
-    need: &NeedClause,
-    best: Option<NextDecision>,
-    lists: &FixedLists<N>,
-    values: &DecisionMap,
-    scores: &C,
-) -> bool
-where
-    N: Drop,
-    ensures { result ≡ true
-        → later best (offer lists.now (value_at values.now) (C.score_of scores.now) need.now) ≡ best }
-{
-    let Some(best) = best else {
-        return false;
-    };
-    let Some(candidates) = lists.candidates(need.requirement) else {
-        return false;
-    };
-    match first_undecided(candidates, values) {
-        Some(candidate) => scores.get(candidate.package) <= best.package_activity,
-        None => true,
-    }
-}
-
-/// The first undecided candidate.
-fn first_undecided<'a, N: Copy>(
-    candidates: &'a [Candidate<N>],
-    values: &DecisionMap,
-) -> Option<&'a Candidate<N>>
-    ensures { option_copied result
-        ≡ find (λ c. is_open (value_under (value_at values.now) c.literal)) candidates.now }
-{
-    candidates
-        .iter()
-        .find(|candidate| candidate.literal.is_undecided(values))
 }
 
 /// Adds empty lists of positions, up to this number of parents.

@@ -1,10 +1,10 @@
 use Rattle.std.proofs.Common.{◌≡◌, ◌+◌, ap, drop, refl, sym, ◌∙◌}
-use Rattle.resolvo_store_core.specs.Pick.{pick_after}
+use Rattle.resolvo_store_core.specs.Pick.{pick_after, later}
 use Rattle.resolvo_store_core.specs.Trail.{value_in}
 use Rattle.resolvo_store_core.specs.Values.{value_at}
 use Rattle.resolvo_decide.specs.Needs.{literals_in}
-use Rattle.resolvo_decide.proofs.FitLemmas.{fits_same, pick_taken, pick_passed, pick_closed, pick_final}
-use Rattle.resolvo_decide.proofs.undecided_clauses.UndecidedClauses.pick.Goals.{then-may_decide+else-is_final, else-may_decide}
+use Rattle.resolvo_decide.proofs.FitLemmas.{fits_same, pick_taken, pick_beaten, pick_closed, pick_final}
+use Rattle.resolvo_decide.proofs.undecided_clauses.UndecidedClauses.pick.Goals.{then-may_beat+else-is_final, else-may_beat}
 use Rattle.resolvo_decide.proofs.undecided_clauses.UndecidedClauses.pick.Goals as goal
 
 pub loop-position-init : goal.loop-position-init
@@ -20,19 +20,19 @@ loop-position-preserved g c =
     let values = value_at c.args.values.now in
     let score = g.C.ScoreMap.score_of c.args.scores.now in
     let best = c.loop-position.best in
-    let more = c.if-may_decide.best in
+    let more = c.if-may_beat.best in
     let qs = c.args.queue.now in
     let i = c.loop-position.position in
     let next = c.next_open-position-in-loop-position in
-    let same = c.may_decide.ensures.seen ∙ c.loop-position.invariant.seen in
-    let here : pick_after lists values score best (drop i qs) ≡ pick_after lists values score more (drop (i + 1) qs) = elim c.if-may_decide.branch [
-      | then-may_decide+else-is_final w ↦ pick_taken lists values score best qs i _ c.loop-position-test.true ∙ ap (λ b. pick_after lists values score b (drop (i + 1) qs)) (sym (w.best-is ∙ w.or_offered-best.ensures))
-      | else-may_decide w ↦ pick_passed lists values score best qs i c.loop-position-test.true (c.may_decide.ensures.nothing w.if-may_decide.false score) ∙ ap (λ b. pick_after lists values score b (drop (i + 1) qs)) (sym w.best-is)
+    let same = c.may_beat.ensures.seen ∙ c.loop-position.invariant.seen in
+    let here : pick_after lists values score best (drop i qs) ≡ pick_after lists values score more (drop (i + 1) qs) = elim c.if-may_beat.branch [
+      | then-may_beat+else-is_final w ↦ pick_taken lists values score best qs i _ c.loop-position-test.true ∙ ap (λ b. pick_after lists values score b (drop (i + 1) qs)) (sym (w.best-is ∙ w.or_later-best.ensures ∙ ap (later best) w.offered.ensures))
+      | else-may_beat w ↦ pick_beaten lists values score best qs i c.loop-position-test.true (c.may_beat.ensures.nothing w.if-may_beat.false) ∙ ap (λ b. pick_after lists values score b (drop (i + 1) qs)) (sym w.best-is)
     ] in
     let behind : pick_after lists values score more (drop (i + 1) qs) ≡ pick_after lists values score more (drop next.result qs) =
-    pick_closed lists values score c.may_decide.new.self qs c.may_decide.ensures.fits (λ v. c.requires.values v ∙ ap (λ es. value_in es.items v) (sym same)) more (i + 1) next.result next.ensures.behind next.ensures.passed in
+    pick_closed lists values score c.may_beat.new.self qs c.may_beat.ensures.fits (λ v. c.requires.values v ∙ ap (λ es. value_in es.items v) (sym same)) more (i + 1) next.result next.ensures.behind next.ensures.passed in
     record {
-      fits = fits_same (literals_in lists) c.may_decide.new.self qs next.new.self next.ensures.same c.may_decide.ensures.fits;
+      fits = fits_same (literals_in lists) c.may_beat.new.self qs next.new.self next.ensures.same c.may_beat.ensures.fits;
       seen = same;
       picked = c.loop-position.invariant.picked ∙ here ∙ behind;
     }
@@ -44,10 +44,10 @@ returns-then-is_final-clause-picked g c =
     let score = g.C.ScoreMap.score_of c.args.scores.now in
     let qs = c.args.queue.now in
     let i = c.loop-position.position in
-    let best = c.or_offered-best.result in
+    let best = c.or_later-best.result in
     sym (c.loop-position.invariant.picked ∙ pick_taken lists values score c.loop-position.best qs i _ c.loop-position-test.true
-    ∙ ap (λ b. pick_after lists values score b (drop (i + 1) qs)) (sym c.or_offered-best.ensures)
+    ∙ ap (λ b. pick_after lists values score b (drop (i + 1) qs)) (sym (c.or_later-best.ensures ∙ ap (later c.loop-position.best) c.offered.ensures))
     ∙ pick_final lists values score c.args.most c.requires.bounded best (drop (i + 1) qs) (c.is_final.ensures c.if-is_final.true))
 
 pub returns-then-is_final-clause-seen : goal.returns-then-is_final-clause-seen
-returns-then-is_final-clause-seen g c = c.may_decide.ensures.seen ∙ c.loop-position.invariant.seen
+returns-then-is_final-clause-seen g c = c.may_beat.ensures.seen ∙ c.loop-position.invariant.seen
