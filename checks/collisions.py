@@ -3,8 +3,8 @@
 
 Usage: checks/collisions.py [PATH OF THE PROGRAM] [BYTES ..]
 Defaults: crates/resolve/out/resolve (which `rt run` leaves), and 2^18, 2^20, 2^22 and 2^24 bytes. The program is asked for one package,
-or for all. For each kind of text and each size: processor seconds of both, the least of three runs. The check fails where the
-colliding text takes over twice as long as the other, and over a tenth of a second longer.
+or for all, and judges a report of all. For each kind of text and each size: processor seconds of both, the least of three runs. The
+check fails where the colliding text takes over twice as long as the other, and over a tenth of a second longer.
 
 The kit's HashMap hashes by FoldHasher, whose seed is fixed. It multiplies sixteen bytes at a time, each half combined by xor with
 what is known. The first sixteen bytes of FRONT leave its last eight as the state, so the next factor is 0, whatever eight bytes
@@ -97,20 +97,29 @@ def installed(size, collide):
     return [f"version {name} 1\n" for name in names], "".join(f"needs {name}\n" for name in names)
 
 
-KINDS = (packages, specs, words, versions, spans, installed)
+def judged(size, collide):
+    """Each package is an entry of a report, because of a line of the request."""
+    names = list(texts(size // 43, collide))
+    entries = (f"{name}=1 for request line {at}\n" for at, name in enumerate(names, 1))
+    return *installed(size, collide), "install\n" + "".join(entries)
 
 
-def seconds(program, lines, request):
-    """Processor seconds, the least of three runs."""
+KINDS = (packages, specs, words, versions, spans, installed, judged)
+
+
+def seconds(program, lines, request, *reports):
+    """Processor seconds, the least of three runs. A report is judged, other texts are solved."""
     with tempfile.TemporaryDirectory() as folder:
-        paths = [os.path.join(folder, part) for part in ("catalogue", "request")]
-        for path, text in zip(paths, ["".join(lines), request]):
+        given = ["".join(lines), request, *reports]
+        paths = [os.path.join(folder, part) for part in ("catalogue", "request", "report")[:len(given)]]
+        for path, text in zip(paths, given):
             with open(path, "w") as file:
                 file.write(text)
+        verb = "judge" if reports else "solve"
         found = []
         for _ in range(3):
             before = resource.getrusage(resource.RUSAGE_CHILDREN)
-            ended = subprocess.run([program, "solve", *paths], capture_output=True)
+            ended = subprocess.run([program, verb, *paths], capture_output=True)
             after = resource.getrusage(resource.RUSAGE_CHILDREN)
             if ended.returncode not in (0, 1):
                 sys.exit(f"status {ended.returncode}: {ended.stdout[:200]!r}")

@@ -1,30 +1,36 @@
 -- Lemmas on the numbers of keys.
-use Rattle.std.proofs.Common.{◌≡◌, ℕ, ◌+◌, ◌<◌, Bool, true, false, List, Option, Some, None, sym, ap, subst, ◌∙◌, inl, inr, ◌⊎◌, cond, arith}
+use Rattle.std.proofs.Common.{Ordering, ◌≡◌, ℕ, ◌+◌, ◌<◌, Bool, true, false, List, Option, Some, None, sym, ap, subst, ◌∙◌, inl, inr, ◌⊎◌, cond, arith}
 use Rattle.std.specs.Global.{Vec}
 use Rattle.std.specs.Map.{lookup, KeepsOthers, IsKeyTest, AreApart}
 use Rattle.std.specs.Str.{bytes_eq}
-use Rattle.std.specs.HashMap.{HashMap, UpdatesBy}
-use Rattle.std.specs.Cmp.Lexicographic.{bytes_decides, nat_list_eq_equiv}
+use Rattle.std.specs.BTreeMap.{BTreeMap, UpdatesBy}
+use Rattle.std.specs.Ordering.{is_eq, nat_cmp, eq_by_cmp}
+use Rattle.std.specs.Cmp.{eq_by_cmp_equiv}
+use Rattle.std.specs.Cmp.Lexicographic.{slice_cmp, bytes_decides, nat_list_cmp_total, nat_list_eq_equiv}
+use Rattle.std.proofs.lemmas.Map.Text.{is_eq-slice_cmp}
 use Rattle.std.proofs.lemmas.Bool.{cases_Bool, cond-true, cond-false}
 use Rattle.std.proofs.lemmas.Option.{none-some, same_Some}
 use Rattle.resolvo_checker.specs.Numbers.{number_in, AreNumbers, Keeps}
 
-abbrev key_eq : Vec ℕ → Vec ℕ → Bool
-key_eq x y = bytes_eq x.items y.items
+abbrev key_cmp : Vec ℕ → Vec ℕ → Ordering
+key_cmp x y = slice_cmp nat_cmp x.items y.items
 
-others : (key : List ℕ) (old new : List (Vec ℕ × ℕ)) → KeepsOthers key_eq (λ k. bytes_eq key k.items) old new → (other : Vec ℕ → Bool) → IsKeyTest key_eq other → AreApart (λ k. bytes_eq key k.items) other → lookup other new ≡ lookup other old
+abbrev is_key : List ℕ → Vec ℕ → Bool
+is_key key k = is_eq (slice_cmp nat_cmp key k.items)
+
+others : (key : List ℕ) (old new : List (Vec ℕ × ℕ)) → KeepsOthers (eq_by_cmp key_cmp) (is_key key) old new → (other : Vec ℕ → Bool) → IsKeyTest (eq_by_cmp key_cmp) other → AreApart (is_key key) other → lookup other new ≡ lookup other old
 unfolding KeepsOthers
 others key old new h = h
 
-apart_keys : (bs cs ks : List ℕ) → bytes_eq bs cs ≡ false → bytes_eq bs ks ≡ true → bytes_eq cs ks ≡ false
-apart_keys bs cs ks n y = nat_list_eq_equiv.symm cs ks ∙ sym (nat_list_eq_equiv.congr bs ks cs y) ∙ n
+apart_keys : (bs cs ks : List ℕ) → bytes_eq bs cs ≡ false → is_eq (slice_cmp nat_cmp bs ks) ≡ true → is_eq (slice_cmp nat_cmp cs ks) ≡ false
+apart_keys bs cs ks n y = is_eq-slice_cmp cs ks ∙ nat_list_eq_equiv.symm cs ks ∙ sym (nat_list_eq_equiv.congr bs ks cs (sym (is_eq-slice_cmp bs ks) ∙ y)) ∙ n
 
 -- a new number at one key keeps those at the other keys
-pub number-updated : {S : Type 0} (m n : HashMap (Vec ℕ) ℕ S) (key : List ℕ) (w : Option ℕ) → UpdatesBy key_eq (λ k. bytes_eq key k.items) m n w
+pub number-updated : (m n : BTreeMap (Vec ℕ) ℕ) (key : List ℕ) (w : Option ℕ) → UpdatesBy key_cmp (λ k. slice_cmp nat_cmp key k.items) m n w
     → (other : List ℕ) → number_in n.entries other ≡ cond (bytes_eq key other) w (number_in m.entries other)
 number-updated m n key w h other = elim (cases_Bool (bytes_eq key other)) [
   | inl y ↦ let same : key ≡ other = (bytes_decides key other).0 y in subst (λ (l : List ℕ). number_in n.entries l ≡ w) same h.1 ∙ sym (cond-true (bytes_eq key other) w (number_in m.entries other) y)
-  | inr y ↦ others key m.entries n.entries h.3 (λ k. bytes_eq other k.items) (λ a b. nat_list_eq_equiv.congr other a.items b.items) (λ k. apart_keys key other k.items y) ∙ sym (cond-false (bytes_eq key other) w (number_in m.entries other) y)
+  | inr y ↦ others key m.entries n.entries h.3 (is_key other) (λ a b. (eq_by_cmp_equiv nat_list_cmp_total).congr other a.items b.items) (λ k. apart_keys key other k.items y) ∙ sym (cond-false (bytes_eq key other) w (number_in m.entries other) y)
 ]
 
 module _ (old new : List (Vec ℕ × ℕ)) (key : List ℕ) (count : ℕ) (is : (other : List ℕ) → number_in new other ≡ cond (bytes_eq key other) (Some count) (number_in old other)) (absent : number_in old key ≡ None) where

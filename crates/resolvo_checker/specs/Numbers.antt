@@ -2,11 +2,12 @@
 use Rattle.std.specs.Prelude.{◌≡◌, ℕ, ◌<◌, List, Option, Some}
 use Rattle.std.specs.Global.{Vec}
 use Rattle.std.specs.Map.{lookup}
-use Rattle.std.specs.Str.{bytes_eq}
+use Rattle.std.specs.Ordering.{is_eq, nat_cmp}
+use Rattle.std.specs.Cmp.Lexicographic.{slice_cmp}
 
--- the number of a key
+-- the number of a key, found by the order of the keys
 abbrev pub number_in : List (Vec ℕ × ℕ) → List ℕ → Option ℕ
-number_in entries key = lookup (λ k. bytes_eq key k.items) entries
+number_in entries key = lookup (λ k. is_eq (slice_cmp nat_cmp key k.items)) entries
 
 -- no two keys have one number, and each is below the count
 pub record AreNumbers (entries : List (Vec ℕ × ℕ)) (count : ℕ) : Type 0 where

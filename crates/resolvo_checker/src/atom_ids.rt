@@ -4,26 +4,26 @@ ghost use Rattle.std.specs.Prelude.{◌≡◌, IfOk, Some, None, []};
 ghost use Rattle.resolvo_checker.specs.Numbers.{number_in, AreNumbers, Keeps};
 
 use std::alloc::{AllocError, Global};
-use std::collections::HashMap;
+use std::collections::BTreeMap;
 use std::marker::Model;
 
 /// The numbers of the keys so far.
 #[derive(Drop)]
 pub struct AtomIds {
-    map: HashMap<Vec<usize>, usize>,
+    map: BTreeMap<Vec<usize>, usize>,
 }
 
 impl Model for AtomIds {
     ghost use Rattle.std.specs.Prelude.{List, ℕ};
     ghost use Rattle.std.specs.Global.{Vec};
-    ghost use Rattle.std.specs.HashMap.{hash_map_len};
+    ghost use Rattle.std.specs.BTreeMap.{btree_map_len};
     ghost use Rattle.resolvo_checker.specs.Numbers.{AreNumbers};
 
     ghost Value = { List (Vec ℕ × ℕ) };
 
     ghost view = { λ n. n.map.entries };
 
-    ghost invariant = { λ n. AreNumbers n.map.entries (hash_map_len n.map) };
+    ghost invariant = { λ n. AreNumbers n.map.entries (btree_map_len n.map) };
 }
 
 impl AtomIds {
@@ -31,7 +31,7 @@ impl AtomIds {
         ensures { result ≡ [] }
     {
         AtomIds {
-            map: HashMap::new(alloc),
+            map: BTreeMap::new(alloc),
         }
     }
 

@@ -12,7 +12,7 @@ use Rattle.resolvo_text.specs.Line.{Version, Spec}
 use Rattle.resolvo_text.specs.Matches.{Set, same_package, same_version, is_member, is_met, is_in_span, matches}
 use Rattle.resolvo_judge.specs.Chosen.{number_for, pick_from, AreOfOwnPackages, Holds}
 use Rattle.resolvo_judge.specs.declared.chosen.Chosen.{Chosen}
-use Rattle.std.specs.HashMap.{get_by_text}
+use Rattle.std.specs.BTreeMap.{get_by_text}
 use Rattle.std.proofs.lemmas.List.{length-append}
 use Rattle.resolvo_judge.specs.declared.chosen.Pick.{Pick}
 

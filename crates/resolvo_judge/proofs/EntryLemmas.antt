@@ -16,7 +16,8 @@ use Rattle.resolvo_judge.specs.Refusal.{leaves_out}
 use Rattle.resolvo_catalogue_core.specs.Grammar.{line_at}
 use Rattle.resolvo_checker.proofs.Sets.{same_is, same_own}
 use Rattle.std.proofs.lemmas.Bool.Decides.{Decides-eqb}
-use Rattle.std.specs.HashMap.{get}
+use Rattle.std.specs.BTreeMap.{get}
+use Rattle.std.specs.Ordering.{nat_cmp}
 use Rattle.std.specs.Map.{update}
 use Rattle.resolvo_judge.specs.Chosen.{Holds}
 use Rattle.resolvo_judge.specs.Versions.{HoldsAll}
@@ -183,11 +184,11 @@ pub lines_stay : (request : List Line) (e f : Entries) (before : List AnswerLine
 lines_stay request e f before l same stays h n w is_wished =
     rw same (h n w is_wished ∙ sym (any_more (leaves_out w n) before l ∙ ap (λ (b : Bool). list_any (leaves_out w n) before || b) (stays w n) ∙ or_false (list_any (leaves_out w n) before)))
 
-pub lines_more : (request : List Line) (e f : Entries) (before : List AnswerLine) (v : Version) (n step : ℕ) → is_wish request before n v ≡ true → ((k : ℕ) → get nat_eq f.lines k ≡ update nat_eq (get nat_eq e.lines) n (Some step) k)
+pub lines_more : (request : List Line) (e f : Entries) (before : List AnswerLine) (v : Version) (n step : ℕ) → is_wish request before n v ≡ true → ((k : ℕ) → get nat_cmp f.lines k ≡ update nat_eq (get nat_cmp e.lines) n (Some step) k)
     → KeepsLines request e before → KeepsLines request f (before ++ LeftOut v n step ∷ [])
 lines_more request e f before v n step wish put h k w is_wished =
     ap (λ (o : Option ℕ). is_some o) (put k)
-    ∙ line_more request before v n step k w (get nat_eq e.lines k) (and_parts _ _ wish).0 is_wished (h k w is_wished)
+    ∙ line_more request before v n step k w (get nat_cmp e.lines k) (and_parts _ _ wish).0 is_wished (h k w is_wished)
     ∙ sym (any_more (leaves_out w k) before (LeftOut v n step))
 
 -- ---- wishes that are answered

@@ -2,7 +2,8 @@
 use Rattle.std.proofs.Common.{◌≡◌, inl, inr, ℕ, zero, suc, ◌+◌, ◌<◌, ◌≤◌, Bool, true, false, List, [], ◌∷◌, ◌++◌, length, map, take, get_or, Option, Some, None, refl, sym, ap, subst, ◌∙◌, append_assoc, length-append, arith}
 use Rattle.std.specs.Prelude.{not, ◌&&◌, ◌||◌, nat_eq, nat_lt, nat_le, is_some, slice_get, if◌then◌else◌}
 use Rattle.std.specs.Global.{Vec}
-use Rattle.std.specs.HashMap.{get}
+use Rattle.std.specs.BTreeMap.{get}
+use Rattle.std.specs.Ordering.{nat_cmp}
 use Rattle.std.specs.Map.{update}
 use Rattle.std.specs.List.{list_all}
 use Rattle.std.specs.Option.{option_map_or, option_and_then}
@@ -91,7 +92,7 @@ puts_wish before after b kept updated items n =
       | inr apart ↦ ap wishes_kept (updated n) ∙ rw apart refl
     ]
 
-pub holds_more : (before after : ForbiddenWishes) (wishes : List ForbiddenWish) (b : ForbiddenWish) → AddsWish (get nat_eq before.by_step) b (get nat_eq after.by_step) → after.steps.items ≡ before.steps.items ++ b.step ∷ [] → HoldsWishes before wishes → HoldsWishes after (wishes ++ b ∷ [])
+pub holds_more : (before after : ForbiddenWishes) (wishes : List ForbiddenWish) (b : ForbiddenWish) → AddsWish (get nat_cmp before.by_step) b (get nat_cmp after.by_step) → after.steps.items ≡ before.steps.items ++ b.step ∷ [] → HoldsWishes before wishes → HoldsWishes after (wishes ++ b ∷ [])
 holds_more before after wishes b adds steps h = record {
   by_step = λ n. adds n ∙ ap (λ (bs : List ForbiddenWish). if nat_eq b.step n then bs ++ b ∷ [] else bs) (h.by_step n) ∙ sym (named_more wishes b n);
   steps = steps ∙ ap (λ (ns : List ℕ). ns ++ b.step ∷ []) h.steps ∙ sym (map_push (λ (x : ForbiddenWish). x.step) wishes b);

@@ -8,7 +8,7 @@ use Rattle.std.proofs.lemmas.Bool.{cases_Bool}
 use Rattle.std.proofs.lemmas.Slice.Eq.{bytes_eq-Decides}
 use Rattle.resolvo_text.specs.Line.{Version}
 use Rattle.resolvo_text.specs.Matches.{Set, same_version, is_member}
-use Rattle.std.specs.HashMap.{get_by_text}
+use Rattle.std.specs.BTreeMap.{get_by_text}
 use Rattle.std.specs.Prelude.{Result, Ok, Err, OnOk}
 use Rattle.resolvo_judge.specs.declared.versions.Versions.{Versions}
 use Rattle.resolvo_judge.specs.Versions.{numbers_for, numbers_kept, AddsNumber, HoldsAll}

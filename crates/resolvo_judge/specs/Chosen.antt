@@ -1,6 +1,6 @@
 -- A set of versions as the judge keeps it: the number of the chosen version of each package.
 use Rattle.std.specs.Prelude.{◌≡◌, ℕ, ◌+◌, length, Bool, false, ⊤, if◌then◌else◌, List, [], ◌∷◌, Option, Some, None}
-use Rattle.std.specs.HashMap.{get_by_text}
+use Rattle.std.specs.BTreeMap.{get_by_text}
 use Rattle.std.specs.List.{list_any}
 use Rattle.std.specs.Str.{bytes_eq}
 use Rattle.resolvo_text.specs.Line.{Version}

@@ -1,7 +1,8 @@
 -- The left-out wishes in the judge's state, by their steps.
 use Rattle.std.specs.Prelude.{◌≡◌, ℕ, nat_eq, List, [], ◌∷◌, ◌++◌, map, Option, Some, None, if◌then◌else◌}
 use Rattle.std.specs.Global.{Vec}
-use Rattle.std.specs.HashMap.{get}
+use Rattle.std.specs.BTreeMap.{get}
+use Rattle.std.specs.Ordering.{nat_cmp}
 use Rattle.resolvo_text.specs.Line.{Version}
 use Rattle.resolvo_text.specs.View.{version_of}
 use Rattle.resolvo_judge.specs.declared.forbidden_wishes.Forbidden as code
@@ -27,7 +28,7 @@ wishes_kept (Some v) = map forbidden_of v.items
 
 -- These are the wishes.
 pub record HoldsWishes (kept : ForbiddenWishes) (wishes : List ForbiddenWish) : Type 0 where
-  pub by_step : (n : ℕ) → wishes_kept (get nat_eq kept.by_step n) ≡ named_by wishes n
+  pub by_step : (n : ℕ) → wishes_kept (get nat_cmp kept.by_step n) ≡ named_by wishes n
   pub steps : kept.steps.items ≡ map (λ b. b.step) wishes
 
 -- The wish is added to those of its step.

@@ -1,6 +1,7 @@
 -- The judge's state of the entries and left-out wishes so far.
-use Rattle.std.specs.Prelude.{◌≡◌, ℕ, ◌+◌, ◌||◌, Bool, true, false, IsTrue, nat_lt, List, [], ◌∷◌, ◌++◌, Option, Some, None, is_some, nat_eq}
-use Rattle.std.specs.HashMap.{get}
+use Rattle.std.specs.Prelude.{◌≡◌, ℕ, ◌+◌, ◌||◌, Bool, true, false, IsTrue, nat_lt, List, [], ◌∷◌, ◌++◌, Option, Some, None, is_some}
+use Rattle.std.specs.BTreeMap.{get}
+use Rattle.std.specs.Ordering.{nat_cmp}
 use Rattle.std.specs.List.{list_any, list_all}
 use Rattle.resolvo_text.specs.Line.{Version, Line, Wish}
 use Rattle.resolvo_text.specs.Matches.{is_member}
@@ -34,7 +35,7 @@ pub record KeepsAnswers (e : Entries) (before : List AnswerLine) : Type 0 where
 
 -- The lines of the request whose wishes are left out are kept.
 abbrev pub KeepsLines : List Line → Entries → List AnswerLine → Type 0
-KeepsLines request e before = (n : ℕ) (v : Version) → wishes (line_at request n) v ≡ true → is_some (get nat_eq e.lines n) ≡ list_any (leaves_out v n) before
+KeepsLines request e before = (n : ℕ) (v : Version) → wishes (line_at request n) v ≡ true → is_some (get nat_cmp e.lines n) ≡ list_any (leaves_out v n) before
 
 -- ---- one more line
 

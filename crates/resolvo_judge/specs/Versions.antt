@@ -1,7 +1,7 @@
 -- A set of versions as the judge keeps it: the numbers of each package.
 use Rattle.std.specs.Prelude.{◌≡◌, ℕ, Bool, false, List, [], ◌∷◌, ◌++◌, Option, Some, None, if◌then◌else◌}
 use Rattle.std.specs.Global.{Vec}
-use Rattle.std.specs.HashMap.{get_by_text}
+use Rattle.std.specs.BTreeMap.{get_by_text}
 use Rattle.std.specs.Str.{bytes_eq}
 use Rattle.resolvo_text.specs.Line.{Version}
 use Rattle.resolvo_text.specs.Matches.{Set}

@@ -3,7 +3,7 @@
 //! Its model is a list of versions: `Holds` of specs/Chosen.antt.
 
 ghost use Rattle.std.specs.Prelude.{◌≡◌, ◌++◌, ◌∷◌, [], ◌<◌, ◌+◌, ◌^◌, OnOk, false, not, ◌||◌, ◌==◌, List, length, take};
-ghost use Rattle.std.specs.HashMap.{get_by_text};
+ghost use Rattle.std.specs.BTreeMap.{get_by_text};
 ghost use Rattle.std.specs.List.{list_any, list_all};
 ghost use Rattle.std.specs.Str.{bytes_eq};
 ghost use Rattle.resolvo_catalogue_core.specs.Listed.{pair_version};
@@ -16,7 +16,7 @@ ghost use Rattle.resolvo_judge.specs.Chosen.{Holds, number_for};
 
 use resolvo_catalogue_core::{Cond, Span, Spec, Version, is_in_span};
 use std::alloc::{AllocError, Global};
-use std::collections::HashMap;
+use std::collections::BTreeMap;
 
 /// The chosen version of a package, and how many versions were chosen before it.
 #[derive(Clone, Copy, Debug)]
@@ -28,7 +28,7 @@ pub struct Pick {
 /// The chosen versions, by their packages.
 #[derive(Drop)]
 pub struct Chosen {
-    picks: HashMap<String, Pick>,
+    picks: BTreeMap<String, Pick>,
     count: usize,
 }
 
@@ -38,7 +38,7 @@ impl Chosen {
         ensures none { result.count ≡ 0 }
     {
         Chosen {
-            picks: HashMap::new(alloc),
+            picks: BTreeMap::new(alloc),
             count: 0,
         }
     }

@@ -24,7 +24,7 @@ use resolvo_checker::steps::number_of;
 use resolvo_report::{AnswerLine, Place};
 use resolvo_text::matches;
 use std::alloc::{AllocError, Global};
-use std::collections::HashMap;
+use std::collections::BTreeMap;
 
 /// The entries and left-out wishes so far.
 #[derive(Drop)]
@@ -33,7 +33,7 @@ pub struct Entries {
     pub out: Versions,
     pub forbidden: ForbiddenWishes,
     /// The steps that forbid the left-out wishes, by their request lines.
-    pub lines: HashMap<u32, u32>,
+    pub lines: BTreeMap<u32, u32>,
     /// The last request line that a `wished` or `left out` line named.
     pub last_wish: Option<u32>,
 }
@@ -110,7 +110,7 @@ impl Entries {
             chosen: Chosen::new(alloc),
             out: Versions::new(alloc),
             forbidden: ForbiddenWishes::new(alloc),
-            lines: HashMap::new(alloc),
+            lines: BTreeMap::new(alloc),
             last_wish: None,
         }
     }

@@ -1,14 +1,15 @@
 //! The wishes that an `install` report leaves out, by the steps that forbid them.
 //! Its model is a list of wishes: `HoldsWishes` of specs/ForbiddenWishes.antt.
 
-ghost use Rattle.std.specs.Prelude.{◌≡◌, ◌++◌, ◌∷◌, [], OnOk, List, map, nat_eq};
-ghost use Rattle.std.specs.HashMap.{get};
+ghost use Rattle.std.specs.Prelude.{◌≡◌, ◌++◌, ◌∷◌, [], OnOk, List, map};
+ghost use Rattle.std.specs.BTreeMap.{get};
+ghost use Rattle.std.specs.Ordering.{nat_cmp};
 ghost use Rattle.resolvo_text.specs.View.{version_of};
 ghost use Rattle.resolvo_judge.specs.ForbiddenWishes.{ForbiddenWish, forbidden_of, wishes_kept, named_by, HoldsWishes, AddsWish};
 
 use resolvo_catalogue_core::Version;
 use std::alloc::{AllocError, Global};
-use std::collections::HashMap;
+use std::collections::BTreeMap;
 
 /// A left-out wish, the step that forbids it, and the number of entries above its line.
 #[derive(Drop)]
@@ -21,17 +22,17 @@ pub struct Forbidden {
 /// The wishes by their steps, and the steps in the order of the wishes.
 #[derive(Drop)]
 pub struct ForbiddenWishes {
-    by_step: HashMap<u32, Vec<Forbidden>>,
+    by_step: BTreeMap<u32, Vec<Forbidden>>,
     steps: Vec<u32>,
 }
 
 /// Adds a wish of its step.
 fn add_wish(
     alloc: Global,
-    by_step: &mut HashMap<u32, Vec<Forbidden>>,
+    by_step: &mut BTreeMap<u32, Vec<Forbidden>>,
     forbidden: Forbidden,
 ) -> Result<(), AllocError>
-    ensures { OnOk result (AddsWish (get nat_eq by_step.old) (forbidden_of forbidden) (get nat_eq by_step.new)) }
+    ensures { OnOk result (AddsWish (get nat_cmp by_step.old) (forbidden_of forbidden) (get nat_cmp by_step.new)) }
 {
     let step = forbidden.step;
     if let Some(kept) = by_step.get_mut(&step) {
@@ -49,7 +50,7 @@ impl ForbiddenWishes {
         ensures { HoldsWishes result [] }
     {
         ForbiddenWishes {
-            by_step: HashMap::new(alloc),
+            by_step: BTreeMap::new(alloc),
             steps: Vec::new(alloc),
         }
     }
@@ -75,7 +76,7 @@ impl ForbiddenWishes {
 
     /// The wishes that this step must forbid.
     pub fn of(&self, step: u32) -> &[Forbidden]
-        ensures { map forbidden_of result.now ≡ wishes_kept (get nat_eq self.now.by_step step) }
+        ensures { map forbidden_of result.now ≡ wishes_kept (get nat_cmp self.now.by_step step) }
     {
         match self.by_step.get(&step) {
             Some(kept) => kept,

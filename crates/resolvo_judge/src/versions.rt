@@ -2,7 +2,7 @@
 //! Its model is a list of versions: `HoldsAll` of specs/Versions.antt.
 
 ghost use Rattle.std.specs.Prelude.{◌≡◌, ◌++◌, ◌∷◌, [], OnOk};
-ghost use Rattle.std.specs.HashMap.{get_by_text};
+ghost use Rattle.std.specs.BTreeMap.{get_by_text};
 ghost use Rattle.std.specs.List.{list_any};
 ghost use Rattle.resolvo_text.specs.Matches.{Set, is_member};
 ghost use Rattle.resolvo_text.specs.View.{version_of};
@@ -10,18 +10,18 @@ ghost use Rattle.resolvo_judge.specs.Versions.{HoldsAll, numbers_kept, AddsNumbe
 
 use resolvo_catalogue_core::Version;
 use std::alloc::{AllocError, Global};
-use std::collections::HashMap;
+use std::collections::BTreeMap;
 
 /// Versions, by their packages.
 #[derive(Drop)]
 pub struct Versions {
-    numbers: HashMap<String, Vec<u32>>,
+    numbers: BTreeMap<String, Vec<u32>>,
 }
 
 /// Adds a number of a package.
 fn add_number(
     alloc: Global,
-    numbers: &mut HashMap<String, Vec<u32>>,
+    numbers: &mut BTreeMap<String, Vec<u32>>,
     version: &Version,
 ) -> Result<(), AllocError>
     ensures { OnOk result
@@ -43,7 +43,7 @@ impl Versions {
         ensures { HoldsAll result [] }
     {
         Versions {
-            numbers: HashMap::new(alloc),
+            numbers: BTreeMap::new(alloc),
         }
     }
 
