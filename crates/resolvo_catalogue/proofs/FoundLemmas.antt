@@ -30,7 +30,7 @@ use Rattle.resolvo_catalogue_core.proofs.Pushed.{get_new, get_kept, get_push}
 use Rattle.resolvo_catalogue.specs.declared.id_table.Numbers.{Numbers}
 use Rattle.resolvo_catalogue.specs.Ids.{NameId, Extends, AreOnce, IsPlaced}
 use Rattle.resolvo_catalogue.specs.Known.{sound}
-use Rattle.resolvo_catalogue.specs.Found.{AreFound, AreKept, number_in, span_key, set_key, union_key, condition_key}
+use Rattle.resolvo_catalogue.specs.Found.{AreFound, AreKept, number_in, list_number_in, span_key, set_key, union_key, condition_key}
 
 -- ---- any values
 
@@ -123,34 +123,43 @@ module _ (texts news : List (String Global)) (kept : String Global) (text : List
 
 -- ---- by keys
 
-abbrev key_cmp : Vec ℕ → Vec ℕ → Ordering
-key_cmp x y = slice_cmp nat_cmp x.items y.items
+module _ {K : Type 0} (items : K → List ℕ) where
+  abbrev key_cmp : K → K → Ordering
+  key_cmp x y = slice_cmp nat_cmp (items x) (items y)
 
-abbrev finds : List ℕ → Vec ℕ → Bool
-finds key = is_at (λ k. slice_cmp nat_cmp key k.items)
+  abbrev finds : List ℕ → K → Bool
+  finds key = is_at (λ k. slice_cmp nat_cmp key (items k))
 
-others : (key : List ℕ) (old new : List (Vec ℕ × ℕ)) → KeepsOthers (eq_by_cmp key_cmp) (finds key) old new → (other : Vec ℕ → Bool) → IsKeyTest (eq_by_cmp key_cmp) other → AreApart (finds key) other → lookup other new ≡ lookup other old
-unfolding KeepsOthers
-others key old new h = h
+  others : (key : List ℕ) (old new : List (K × ℕ)) → KeepsOthers (eq_by_cmp key_cmp) (finds key) old new → (other : K → Bool) → IsKeyTest (eq_by_cmp key_cmp) other → AreApart (finds key) other → lookup other new ≡ lookup other old
+  unfolding KeepsOthers
+  others key old new h = h
 
-apart : (bs cs : List ℕ) (k : Vec ℕ) → bytes_eq bs cs ≡ false → finds bs k ≡ true → finds cs k ≡ false
-apart bs cs k n y =
-    let same : bytes_eq bs k.items ≡ true = sym (is_eq-slice_cmp bs k.items) ∙ y in
-    is_eq-slice_cmp cs k.items ∙ (nat_list_eq_equiv.symm cs k.items ∙ sym (nat_list_eq_equiv.congr bs k.items cs same) ∙ n)
+  apart : (bs cs : List ℕ) (k : K) → bytes_eq bs cs ≡ false → finds bs k ≡ true → finds cs k ≡ false
+  apart bs cs k n y =
+      let same : bytes_eq bs (items k) ≡ true = sym (is_eq-slice_cmp bs (items k)) ∙ y in
+      is_eq-slice_cmp cs (items k) ∙ (nat_list_eq_equiv.symm cs (items k) ∙ sym (nat_list_eq_equiv.congr bs (items k) cs same) ∙ n)
 
--- the number of any key, after a number is put at a key
-pub number_put : (m n : BTreeMap (Vec ℕ) ℕ) (key : List ℕ) (w : Option ℕ) → UpdatesBy key_cmp (λ k. slice_cmp nat_cmp key k.items) m n w
+  -- the number of any key, after a number is put at a key
+  put_at : (m n : BTreeMap K ℕ) (key : List ℕ) (w : Option ℕ) → UpdatesBy key_cmp (λ k. slice_cmp nat_cmp key (items k)) m n w
+      → (other : List ℕ) → lookup (finds other) n.entries ≡ cond (bytes_eq key other) w (lookup (finds other) m.entries)
+  put_at m n key w h other = elim (cases_Bool (bytes_eq key other)) [
+    | inl y ↦ subst (λ (l : List ℕ). lookup (finds l) n.entries ≡ w) ((bytes_decides key other).0 y) h.1 ∙ sym (cond-true (bytes_eq key other) w (lookup (finds other) m.entries) y)
+    | inr y ↦ others key m.entries n.entries h.3 (finds other) (λ a b. (eq_by_cmp_equiv nat_list_cmp_total).congr other (items a) (items b)) (λ k. apart key other k y) ∙ sym (cond-false (bytes_eq key other) w (lookup (finds other) m.entries) y)
+  ]
+
+pub number_put : (m n : BTreeMap (List ℕ) ℕ) (key : List ℕ) (w : Option ℕ) → UpdatesBy (λ x y. slice_cmp nat_cmp x y) (λ k. slice_cmp nat_cmp key k) m n w
     → (other : List ℕ) → number_in n.entries other ≡ cond (bytes_eq key other) w (number_in m.entries other)
-number_put m n key w h other = elim (cases_Bool (bytes_eq key other)) [
-  | inl y ↦ subst (λ (l : List ℕ). number_in n.entries l ≡ w) ((bytes_decides key other).0 y) h.1 ∙ sym (cond-true (bytes_eq key other) w (number_in m.entries other) y)
-  | inr y ↦ others key m.entries n.entries h.3 (finds other) (λ a b. (eq_by_cmp_equiv nat_list_cmp_total).congr other a.items b.items) (λ k. apart key other k y) ∙ sym (cond-false (bytes_eq key other) w (number_in m.entries other) y)
-]
+number_put m n key w h other = put_at (λ k. k) m n key w h other
+
+pub list_number_put : (m n : BTreeMap (Vec ℕ) ℕ) (key : List ℕ) (w : Option ℕ) → UpdatesBy (λ x y. slice_cmp nat_cmp x.items y.items) (λ k. slice_cmp nat_cmp key k.items) m n w
+    → (other : List ℕ) → list_number_in n.entries other ≡ cond (bytes_eq key other) w (list_number_in m.entries other)
+list_number_put m n key w h other = put_at (λ k. k.items) m n key w h other
 
 -- the values after one more, whose key had no number
-keyed_more : {V : Type 0} (key : V → List ℕ) → ((x y : V) → key x ≡ key y → x ≡ y) → (vs : List V) (v : V) (old new : List (Vec ℕ × ℕ)) → AreFound (λ x. number_in old (key x)) vs → number_in old (key v) ≡ None
-    → ((other : List ℕ) → number_in new other ≡ cond (bytes_eq (key v) other) (Some (length vs)) (number_in old other)) → AreFound (λ x. number_in new (key x)) (vs ++ v ∷ [])
-keyed_more key exact vs v old new h none put =
-    found_more (λ x y. bytes_eq (key x) (key y)) (λ x y e. exact x y ((bytes_decides (key x) (key y)).0 e)) (λ x. (bytes_decides (key x) (key x)).1 refl) (λ x. number_in old (key x)) (λ x. number_in new (key x)) vs v h none (λ x. put (key x))
+keyed_more : {V : Type 0} (key : V → List ℕ) → ((x y : V) → key x ≡ key y → x ≡ y) → (old new : List ℕ → Option ℕ) (vs : List V) (v : V) → AreFound (λ x. old (key x)) vs → old (key v) ≡ None
+    → ((other : List ℕ) → new other ≡ cond (bytes_eq (key v) other) (Some (length vs)) (old other)) → AreFound (λ x. new (key x)) (vs ++ v ∷ [])
+keyed_more key exact old new vs v h none put =
+    found_more (λ x y. bytes_eq (key x) (key y)) (λ x y e. exact x y ((bytes_decides (key x) (key y)).0 e)) (λ x. (bytes_decides (key x) (key x)).1 refl) (λ x. old (key x)) (λ x. new (key x)) vs v h none (λ x. put (key x))
 
 abbrev first : List ℕ → ℕ
 first xs = get_or xs 0 0
@@ -159,13 +168,13 @@ first xs = get_or xs 0 0
 
 spans_exact : (a b : Span) → span_key a ≡ span_key b → a ≡ b
 spans_exact Any Any e = refl
-spans_exact Any (One n) e = absurd cc
-spans_exact Any (Range low high) e = absurd cc
-spans_exact (One m) Any e = absurd cc
+spans_exact Any (One n) e = let head : 0 ≡ 1 = ap first e in absurd (omega (arith, head))
+spans_exact Any (Range low high) e = let head : 0 ≡ 2 = ap first e in absurd (omega (arith, head))
+spans_exact (One m) Any e = let head : 1 ≡ 0 = ap first e in absurd (omega (arith, head))
 spans_exact (One m) (One n) e = let same : m ≡ n = cc in ap (λ (k : ℕ). One k) same
-spans_exact (One m) (Range low high) e = absurd cc
-spans_exact (Range bottom top) Any e = absurd cc
-spans_exact (Range bottom top) (One n) e = absurd cc
+spans_exact (One m) (Range low high) e = let head : 1 ≡ 2 = ap first e in absurd (omega (arith, head))
+spans_exact (Range bottom top) Any e = let head : 2 ≡ 0 = ap first e in absurd (omega (arith, head))
+spans_exact (Range bottom top) (One n) e = let head : 2 ≡ 1 = ap first e in absurd (omega (arith, head))
 spans_exact (Range bottom top) (Range low high) e =
     let lows : bottom ≡ low = cc in
     let highs : top ≡ high = cc in
@@ -192,10 +201,10 @@ joined op a b c d left right = ap (λ (n : ℕ). Binary op (record { 0 = n }) b)
 
 conditions_exact : (x y : Condition) → condition_key x ≡ condition_key y → x ≡ y
 conditions_exact (Requirement v) (Requirement w) e = let same : v.0 ≡ w.0 = cc in ap (λ (n : ℕ). let q : Condition = Requirement (record { 0 = n }) in q) same
-conditions_exact (Requirement v) (Binary And c d) e = absurd cc
-conditions_exact (Requirement v) (Binary Or c d) e = absurd cc
-conditions_exact (Binary And a b) (Requirement w) e = absurd cc
-conditions_exact (Binary Or a b) (Requirement w) e = absurd cc
+conditions_exact (Requirement v) (Binary And c d) e = let head : 0 ≡ 1 = ap first e in absurd (omega (arith, head))
+conditions_exact (Requirement v) (Binary Or c d) e = let head : 0 ≡ 2 = ap first e in absurd (omega (arith, head))
+conditions_exact (Binary And a b) (Requirement w) e = let head : 1 ≡ 0 = ap first e in absurd (omega (arith, head))
+conditions_exact (Binary Or a b) (Requirement w) e = let head : 2 ≡ 0 = ap first e in absurd (omega (arith, head))
 conditions_exact (Binary And a b) (Binary And c d) e =
     let left : a.0 ≡ c.0 = cc in
     let right : b.0 ≡ d.0 = cc in
@@ -204,29 +213,29 @@ conditions_exact (Binary Or a b) (Binary Or c d) e =
     let left : a.0 ≡ c.0 = cc in
     let right : b.0 ≡ d.0 = cc in
     joined Or a b c d left right
-conditions_exact (Binary And a b) (Binary Or c d) e = let head : 0 ≡ 1 = ap first e in absurd (omega (arith, head))
-conditions_exact (Binary Or a b) (Binary And c d) e = let head : 1 ≡ 0 = ap first e in absurd (omega (arith, head))
+conditions_exact (Binary And a b) (Binary Or c d) e = let head : 1 ≡ 2 = ap first e in absurd (omega (arith, head))
+conditions_exact (Binary Or a b) (Binary And c d) e = let head : 2 ≡ 1 = ap first e in absurd (omega (arith, head))
 
 -- ---- one more of each kind
 
-module _ (ss : List (NameId × Numbers)) (si : List (Vec ℕ × ℕ)) (us : List (List VersionSetId)) (ui : List (Vec ℕ × ℕ)) (cs : List Condition) (ci : List (Vec ℕ × ℕ)) (h : AreKept ss si us ui cs ci) where
-  pub sets_more : (s : NameId × Numbers) (new : List (Vec ℕ × ℕ)) → number_in si (set_key s) ≡ None → ((other : List ℕ) → number_in new other ≡ cond (bytes_eq (set_key s) other) (Some (length ss)) (number_in si other)) → AreKept (ss ++ s ∷ []) new us ui cs ci
-  sets_more s new none put = record { sets = keyed_more set_key sets_exact ss s si new h.sets none put; unions = h.unions; conditions = h.conditions; below = h.below; several = h.several }
+module _ (ss : List (NameId × Numbers)) (si : List (List ℕ × ℕ)) (us : List (List VersionSetId)) (ui : List (Vec ℕ × ℕ)) (cs : List Condition) (ci : List (List ℕ × ℕ)) (h : AreKept ss si us ui cs ci) where
+  pub sets_more : (s : NameId × Numbers) (new : List (List ℕ × ℕ)) → number_in si (set_key s) ≡ None → ((other : List ℕ) → number_in new other ≡ cond (bytes_eq (set_key s) other) (Some (length ss)) (number_in si other)) → AreKept (ss ++ s ∷ []) new us ui cs ci
+  sets_more s new none put = record { sets = keyed_more set_key sets_exact (number_in si) (number_in new) ss s h.sets none put; unions = h.unions; conditions = h.conditions; below = h.below; several = h.several }
 
-  pub unions_more : (u : List VersionSetId) (new : List (Vec ℕ × ℕ)) → ((v : VersionSetId) → u ≡ v ∷ [] → ⊥) → number_in ui (union_key u) ≡ None → ((other : List ℕ) → number_in new other ≡ cond (bytes_eq (union_key u) other) (Some (length us)) (number_in ui other)) → AreKept ss si (us ++ u ∷ []) new cs ci
+  pub unions_more : (u : List VersionSetId) (new : List (Vec ℕ × ℕ)) → ((v : VersionSetId) → u ≡ v ∷ [] → ⊥) → list_number_in ui (union_key u) ≡ None → ((other : List ℕ) → list_number_in new other ≡ cond (bytes_eq (union_key u) other) (Some (length us)) (list_number_in ui other)) → AreKept ss si (us ++ u ∷ []) new cs ci
   unions_more u new several none put = record {
     sets = h.sets;
-    unions = keyed_more union_key unions_exact us u ui new h.unions none put;
+    unions = keyed_more union_key unions_exact (list_number_in ui) (list_number_in new) us u h.unions none put;
     conditions = h.conditions;
     below = h.below;
     several = λ k v e. elim (get_push us u (v ∷ []) k e) [ inl old ↦ h.several k v old | inr last ↦ several v last.1 ];
   }
 
-  pub conditions_more : (c : Condition) (new : List (Vec ℕ × ℕ)) → OperandsBelow c (record { 0 = length cs }) → number_in ci (condition_key c) ≡ None → ((other : List ℕ) → number_in new other ≡ cond (bytes_eq (condition_key c) other) (Some (length cs)) (number_in ci other)) → AreKept ss si us ui (cs ++ c ∷ []) new
+  pub conditions_more : (c : Condition) (new : List (List ℕ × ℕ)) → OperandsBelow c (record { 0 = length cs }) → number_in ci (condition_key c) ≡ None → ((other : List ℕ) → number_in new other ≡ cond (bytes_eq (condition_key c) other) (Some (length cs)) (number_in ci other)) → AreKept ss si us ui (cs ++ c ∷ []) new
   conditions_more c new under none put = record {
     sets = h.sets;
     unions = h.unions;
-    conditions = keyed_more condition_key conditions_exact cs c ci new h.conditions none put;
+    conditions = keyed_more condition_key conditions_exact (number_in ci) (number_in new) cs c h.conditions none put;
     below = λ i x e. elim (get_push cs c x i e) [
       | inl old ↦ h.below i x old
       | inr last ↦ subst (λ (y : Condition). OperandsBelow y (record { 0 = i })) last.1 (subst (λ (n : ℕ). OperandsBelow c (record { 0 = n })) (sym last.0) under)

@@ -20,15 +20,19 @@ pub record AreFound {V : Type 0} (find : V → Option ℕ) (values : List V) : T
   pub all : (v : V) (i : ℕ) → slice_get values i ≡ Some v → find v ≡ Some i
 
 -- the number of a key among the entries of a sorted map
-abbrev pub number_in : List (Vec ℕ × ℕ) → List ℕ → Option ℕ
-number_in entries key = lookup (λ k. is_eq (slice_cmp nat_cmp key k.items)) entries
+abbrev pub number_in : List (List ℕ × ℕ) → List ℕ → Option ℕ
+number_in entries key = lookup (λ k. is_eq (slice_cmp nat_cmp key k)) entries
+
+-- the same where the keys are vectors
+abbrev pub list_number_in : List (Vec ℕ × ℕ) → List ℕ → Option ℕ
+list_number_in entries key = lookup (λ k. is_eq (slice_cmp nat_cmp key k.items)) entries
 
 -- ---- keys
 
 abbrev pub span_key : Span → List ℕ
-span_key Any = []
-span_key (One n) = n ∷ []
-span_key (Range low high) = low ∷ high ∷ []
+span_key Any = 0 ∷ 0 ∷ 0 ∷ []
+span_key (One n) = 1 ∷ n ∷ 0 ∷ []
+span_key (Range low high) = 2 ∷ low ∷ high ∷ []
 
 abbrev pub set_key : NameId × Numbers → List ℕ
 set_key s = s.0.raw ∷ span_key s.1.0
@@ -37,14 +41,14 @@ abbrev pub union_key : List VersionSetId → List ℕ
 union_key members = map (λ v. v.0) members
 
 abbrev pub condition_key : Condition → List ℕ
-condition_key (Requirement v) = v.0 ∷ []
-condition_key (Binary joins.And a b) = 0 ∷ a.0 ∷ b.0 ∷ []
-condition_key (Binary joins.Or a b) = 1 ∷ a.0 ∷ b.0 ∷ []
+condition_key (Requirement v) = 0 ∷ v.0 ∷ 0 ∷ 0 ∷ []
+condition_key (Binary joins.And a b) = 1 ∷ a.0 ∷ b.0 ∷ 0 ∷ []
+condition_key (Binary joins.Or a b) = 2 ∷ a.0 ∷ b.0 ∷ 0 ∷ []
 
 -- Version sets, unions and conditions are found by their keys; no union is of one version set, and operands come first.
-pub record AreKept (ss : List (NameId × Numbers)) (si : List (Vec ℕ × ℕ)) (us : List (List VersionSetId)) (ui : List (Vec ℕ × ℕ)) (cs : List Condition) (ci : List (Vec ℕ × ℕ)) : Type 0 where
+pub record AreKept (ss : List (NameId × Numbers)) (si : List (List ℕ × ℕ)) (us : List (List VersionSetId)) (ui : List (Vec ℕ × ℕ)) (cs : List Condition) (ci : List (List ℕ × ℕ)) : Type 0 where
   pub sets : AreFound (λ s. number_in si (set_key s)) ss
-  pub unions : AreFound (λ u. number_in ui (union_key u)) us
+  pub unions : AreFound (λ u. list_number_in ui (union_key u)) us
   pub conditions : AreFound (λ c. number_in ci (condition_key c)) cs
   pub below : AreBelow cs
   pub several : AreSeveral us

@@ -8,7 +8,11 @@ use resolvo_catalogue_core::{Catalogue, Request, Rule};
 use resolvo_pool_core::id::{StringId, VersionSetId};
 use resolvo_pool_core::requirement::ConditionalRequirement;
 use resolvo_pool_core::want::R;
-use std::alloc::Global;
+use std::alloc::{AllocError, Global};
+
+/// Room is reserved for at most so many requirements before the lines are read, so a version of
+/// nothing but limits allocates little.
+const FEW: usize = 16;
 
 /// The requirements and constraints of lines, in their order.
 #[derive(Drop)]
@@ -33,6 +37,19 @@ impl VersionDependencies {
             constrains: Vec::new(alloc),
             unknown: None,
         }
+    }
+
+    /// No dependencies, with room for so many requirements.
+    fn with_room(alloc: Global, count: usize) -> Result<VersionDependencies, AllocError>
+        ensures { IfOk result
+            (λ deps.
+            deps_of deps ≡ record { requirements = []; constrains = []; unknown = None }) }
+    {
+        Ok(VersionDependencies {
+            requirements: Vec::with_capacity(alloc, count)?,
+            constrains: Vec::new(alloc),
+            unknown: None,
+        })
     }
 
     /// Adds the requirement or constraint of a rule. A lock and an exclusion add nothing.
@@ -78,7 +95,7 @@ impl VersionDependencies {
         ensures interns { Interns ids.old ids.new }
         ensures ids { IsErrOf result Ids → LacksNumber ids.new }
     {
-        let mut deps = VersionDependencies::new(alloc);
+        let mut deps = VersionDependencies::with_room(alloc, lines.len().min(FEW))?;
         for line in lines {
             if let Some(rule) = catalogue.rule(*line) {
                 deps.add(ids, rule)?;

@@ -11,7 +11,7 @@ ghost use Rattle.resolvo_pool_core.specs.declared.condition.Condition.TheVariant
 ghost use Rattle.resolvo_pool_core.specs.Provider.{OperandsBelow};
 ghost use Rattle.resolvo_pool_core.specs.declared.want.Want.TheVariants.{Ids};
 ghost use Rattle.resolvo_catalogue.specs.Ids.{Interns, Grows, IsPlaced, AreSound, LacksNumber, IsPackage, IsWord, IsSpec, AreEach, AreAlternatives, IsCondition, IsConditionOf, IsNeed};
-ghost use Rattle.resolvo_catalogue.specs.Found.{number_in, set_key, union_key, condition_key};
+ghost use Rattle.resolvo_catalogue.specs.Found.{number_in, list_number_in, set_key, union_key, condition_key};
 
 use crate::text_ids::TextIds;
 use resolvo_catalogue_core::{Cond, Span, Spec};
@@ -35,10 +35,13 @@ impl VersionSet for Numbers {
     type V = u32;
 }
 
+/// The key of a version set or a condition. It owns no memory, so that a look-up allocates nothing.
+type Key = [u32; 4];
+
 /// Values in the order in which they were added, and the number of each by its key.
 struct Numbered<T: Drop> {
     values: Vec<T>,
-    ids: BTreeMap<Vec<u32>, u32>,
+    ids: BTreeMap<Key, u32>,
 }
 
 // split for the prover: an owner of several calls this drop for each
@@ -48,14 +51,26 @@ impl<T: Drop> Drop for Numbered<T> {
     }
 }
 
+/// Lists of alternatives, each once, in the order in which they were added, and the number of each.
+struct Unions {
+    values: Vec<Vec<VersionSetId>>,
+    ids: BTreeMap<Vec<u32>, u32>,
+}
+
+// split for the prover: an owner of several calls this drop for each
+impl Drop for Unions {
+    fn drop(self) {
+        let Unions { values: _, ids: _ } = self;
+    }
+}
+
 /// The interned values.
 pub struct IdTable {
     names: TextIds,
     words: TextIds,
     solvables: Vec<Solvable<u32>>,
     version_sets: Numbered<(NameId, Numbers)>,
-    /// The lists of alternatives, each once.
-    unions: Numbered<Vec<VersionSetId>>,
+    unions: Unions,
     conditions: Numbered<Condition>,
     alloc: Global,
 }
@@ -110,7 +125,7 @@ impl IdTable {
             words: TextIds::new(alloc),
             solvables: Vec::new(alloc),
             version_sets: Numbered::new(alloc),
-            unions: Numbered::new(alloc),
+            unions: Unions::new(alloc),
             conditions: Numbered::new(alloc),
             alloc,
         }
@@ -174,8 +189,8 @@ impl IdTable {
         ensures interns { Interns self.old self.new }
         ensures ids { IsErrOf result Ids → LacksNumber self.new }
     {
-        let key = key_of_set(self.alloc, name, span)?;
-        if let Some(id) = self.version_sets.number(key.as_slice()) {
+        let key = key_of_set(name, span);
+        if let Some(id) = self.version_sets.number(&key) {
             return Ok(VersionSetId(id));
         }
         let id = self.version_sets.add((name, Numbers(span)), key)?;
@@ -241,8 +256,8 @@ impl IdTable {
         ensures interns { Interns self.old self.new }
         ensures ids { IsErrOf result Ids → LacksNumber self.new }
     {
-        let key = key_of_condition(self.alloc, condition)?;
-        if let Some(id) = self.conditions.number(key.as_slice()) {
+        let key = key_of_condition(condition);
+        if let Some(id) = self.conditions.number(&key) {
             return Ok(ConditionId(id));
         }
         let id = self.conditions.add(condition, key)?;
@@ -418,20 +433,59 @@ impl<T: Drop> Numbered<T> {
     }
 
     /// The number of a key, if it has one.
-    fn number(&self, key: &[u32]) -> Option<u32>
+    fn number(&self, key: &Key) -> Option<u32>
         ensures { result ≡ number_in self.now.ids.entries key.now }
     {
         self.ids.get(key).copied()
     }
 
     /// Appends a value that has no number, and maps its key to its number.
-    fn add(&mut self, value: T, key: Vec<u32>) -> R<u32>
+    fn add(&mut self, value: T, key: Key) -> R<u32>
         ensures id { IfOk result (λ i. i ≡ length self.old.values.items) }
         ensures value { OnOk result (self.new.values.items ≡ self.old.values.items ++ value ∷ []) }
         ensures key { OnOk result
             ((other : List ℕ)
             → number_in self.new.ids.entries other
-            ≡ (if bytes_eq key.items other then Some (length self.old.values.items) else number_in self.old.ids.entries other)) }
+            ≡ (if bytes_eq key other then Some (length self.old.values.items) else number_in self.old.ids.entries other)) }
+        ensures kept { OnErr result (self.new.values.items ≡ self.old.values.items) }
+        ensures keys { OnErr result (self.new.ids.entries ≡ self.old.ids.entries) }
+        ensures ids { IsErrOf result Ids → 4294967295 ≤ length self.new.values.items }
+    {
+        let index = next_index(self.values.len())?;
+        self.values.reserve(1)?;
+        self.ids.insert(key, index as u32)?;
+        self.values.push_reserved(value);
+        Ok(index as u32)
+    }
+}
+
+impl Unions {
+    /// No lists.
+    fn new(alloc: Global) -> Unions
+        ensures values { result.values.items ≡ [] }
+        ensures ids { result.ids.entries ≡ [] }
+    {
+        Unions {
+            values: Vec::new(alloc),
+            ids: BTreeMap::new(alloc),
+        }
+    }
+
+    /// The number of a key, if it has one.
+    fn number(&self, key: &[u32]) -> Option<u32>
+        ensures { result ≡ list_number_in self.now.ids.entries key.now }
+    {
+        self.ids.get(key).copied()
+    }
+
+    /// Appends a list that has no number, and maps its key to its number.
+    fn add(&mut self, value: Vec<VersionSetId>, key: Vec<u32>) -> R<u32>
+        ensures id { IfOk result (λ i. i ≡ length self.old.values.items) }
+        ensures value { OnOk result (self.new.values.items ≡ self.old.values.items ++ value ∷ []) }
+        ensures key { OnOk result
+            ((other : List ℕ)
+            → list_number_in self.new.ids.entries other
+            ≡ (if bytes_eq key.items other then Some (length self.old.values.items) else list_number_in self.old.ids.entries other)) }
         ensures kept { OnErr result (self.new.values.items ≡ self.old.values.items) }
         ensures keys { OnErr result (self.new.ids.entries ≡ self.old.ids.entries) }
         ensures ids { IsErrOf result Ids → 4294967295 ≤ length self.new.values.items }
@@ -450,15 +504,14 @@ fn condition_at(conditions: &[Condition], place: usize) -> Option<Condition>
     conditions.get(place).copied()
 }
 
-fn key_of_set(alloc: Global, name: NameId, span: Span) -> Result<Vec<u32>, AllocError>
-    ensures { IfOk result (λ key. key.items ≡ set_key (name, record { 0 = span })) }
+fn key_of_set(name: NameId, span: Span) -> Key
+    ensures { result ≡ set_key (name, record { 0 = span }) }
 {
-    let key = match span {
-        Span::Any => Vec::from_array(alloc, [name.into_raw()])?,
-        Span::One(number) => Vec::from_array(alloc, [name.into_raw(), number])?,
-        Span::Range(low, high) => Vec::from_array(alloc, [name.into_raw(), low, high])?,
-    };
-    Ok(key)
+    match span {
+        Span::Any => [name.into_raw(), 0, 0, 0],
+        Span::One(number) => [name.into_raw(), 1, number, 0],
+        Span::Range(low, high) => [name.into_raw(), 2, low, high],
+    }
 }
 
 fn key_of_union(alloc: Global, members: &[VersionSetId]) -> Result<Vec<u32>, AllocError>
@@ -471,17 +524,12 @@ fn key_of_union(alloc: Global, members: &[VersionSetId]) -> Result<Vec<u32>, All
     Ok(key)
 }
 
-fn key_of_condition(alloc: Global, condition: Condition) -> Result<Vec<u32>, AllocError>
-    ensures { IfOk result (λ key. key.items ≡ condition_key condition) }
+fn key_of_condition(condition: Condition) -> Key
+    ensures { result ≡ condition_key condition }
 {
-    let key = match condition {
-        Condition::Requirement(version_set) => Vec::from_array(alloc, [version_set.0])?,
-        Condition::Binary(LogicalOperator::And, left, right) => {
-            Vec::from_array(alloc, [0, left.0, right.0])?
-        }
-        Condition::Binary(LogicalOperator::Or, left, right) => {
-            Vec::from_array(alloc, [1, left.0, right.0])?
-        }
-    };
-    Ok(key)
+    match condition {
+        Condition::Requirement(version_set) => [0, version_set.0, 0, 0],
+        Condition::Binary(LogicalOperator::And, left, right) => [1, left.0, right.0, 0],
+        Condition::Binary(LogicalOperator::Or, left, right) => [2, left.0, right.0, 0],
+    }
 }

@@ -5,7 +5,7 @@ use Rattle.std.specs.Str.{bytes_eq}
 use Rattle.std.proofs.lemmas.List.{length-map, map_push}
 use Rattle.resolvo_pool_core.specs.declared.id.VersionSetId.{VersionSetId}
 use Rattle.resolvo_catalogue.specs.Ids.{Ids}
-use Rattle.resolvo_catalogue.specs.Found.{AreKept, number_in, union_key}
+use Rattle.resolvo_catalogue.specs.Found.{AreKept, list_number_in, union_key}
 use Rattle.resolvo_catalogue.proofs.FoundLemmas.{unions_more, last_there, extends_to}
 use Rattle.resolvo_catalogue.proofs.id_table.IdTable.union.Goals as goal
 
@@ -15,7 +15,7 @@ items u = u.items
 pub returns-in-Some-clause-union : goal.returns-in-Some-clause-union
 returns-in-Some-clause-union c =
     let key : c.as_slice.result.now ≡ union_key c.args.members.items = c.as_slice.ensures.value ∙ (c.in_ok-key.ensures ∙ ap union_key c.deref.ensures.value) in
-    let at = ap (λ (k : List ℕ). number_in c.self.inside.unions.ids.entries k) (sym key) ∙ sym c.in-Some.ensures in
+    let at = ap (λ (k : List ℕ). list_number_in c.self.inside.unions.ids.entries k) (sym key) ∙ sym c.in-Some.ensures in
     subst (λ (ids : Ids). slice_get ids.unions c.in-Some.id ≡ Some c.args.members.items) c.self.view_is (c.self.invariant.unions.found c.args.members.items c.in-Some.id at)
 
 pub invariant_of-self-2 : goal.invariant_of-self-2
@@ -23,10 +23,10 @@ invariant_of-self-2 c =
     let us : List (Vec VersionSetId) = c.self.inside.unions.values.items in
     let is_key : c.in_ok-key.key.items ≡ union_key c.args.members.items = c.in_ok-key.ensures ∙ ap union_key c.deref.ensures.value in
     let key : c.as_slice.result.now ≡ union_key c.args.members.items = c.as_slice.ensures.value ∙ is_key in
-    let none = ap (λ (k : List ℕ). number_in c.self.inside.unions.ids.entries k) (sym key) ∙ sym c.in_default.ensures in
+    let none = ap (λ (k : List ℕ). list_number_in c.self.inside.unions.ids.entries k) (sym key) ∙ sym c.in_default.ensures in
     let all : map items c.add.new.self.values.items ≡ map items us ++ c.args.members.items ∷ [] = ap (λ (xs : List (Vec VersionSetId)). map items xs) c.in_ok-id.ensures.value ∙ map_push items us c.args.members in
-    let keyed = subst (λ (k : List ℕ). (other : List ℕ) → number_in c.add.new.self.ids.entries other ≡ cond (bytes_eq k other) (Some (length us)) (number_in c.self.inside.unions.ids.entries other)) is_key c.in_ok-id.ensures.key in
-    let put = subst (λ (n : ℕ). (other : List ℕ) → number_in c.add.new.self.ids.entries other ≡ cond (bytes_eq (union_key c.args.members.items) other) (Some n) (number_in c.self.inside.unions.ids.entries other)) (sym (length-map us items)) keyed in
+    let keyed = subst (λ (k : List ℕ). (other : List ℕ) → list_number_in c.add.new.self.ids.entries other ≡ cond (bytes_eq k other) (Some (length us)) (list_number_in c.self.inside.unions.ids.entries other)) is_key c.in_ok-id.ensures.key in
+    let put = subst (λ (n : ℕ). (other : List ℕ) → list_number_in c.add.new.self.ids.entries other ≡ cond (bytes_eq (union_key c.args.members.items) other) (Some n) (list_number_in c.self.inside.unions.ids.entries other)) (sym (length-map us items)) keyed in
     subst (λ (xs : List (List VersionSetId)). AreKept c.self.inside.version_sets.values.items c.self.inside.version_sets.ids.entries xs c.add.new.self.ids.entries c.self.inside.conditions.values.items c.self.inside.conditions.ids.entries) (sym all)
     (unions_more c.self.inside.version_sets.values.items c.self.inside.version_sets.ids.entries (map items us) c.self.inside.unions.ids.entries c.self.inside.conditions.values.items c.self.inside.conditions.ids.entries c.self.invariant c.args.members.items c.add.new.self.ids.entries c.requires.several none put)
 

@@ -10,16 +10,16 @@ use Rattle.resolvo_catalogue.proofs.id_table.IdTable.version_set.Goals as goal
 pub returns-in-Some-clause-version_set : goal.returns-in-Some-clause-version_set
 returns-in-Some-clause-version_set c =
     let s : NameId × Numbers = (c.args.name, record { 0 = c.args.span }) in
-    let key : c.as_slice.result.now ≡ set_key (c.args.name, record { 0 = c.args.span }) = c.as_slice.ensures.value ∙ c.in_ok-key.ensures in
+    let key : c.key_of_set-key.result ≡ set_key (c.args.name, record { 0 = c.args.span }) = c.key_of_set-key.ensures in
     let at = ap (λ (k : List ℕ). number_in c.self.inside.version_sets.ids.entries k) (sym key) ∙ sym c.in-Some.ensures in
     subst (λ (ids : Ids). slice_get ids.version_sets c.in-Some.id ≡ Some s) c.self.view_is (c.self.invariant.sets.found s c.in-Some.id at)
 
 pub invariant_of-self-2 : goal.invariant_of-self-2
 invariant_of-self-2 c =
     let s : NameId × Numbers = (c.args.name, record { 0 = c.args.span }) in
-    let key : c.as_slice.result.now ≡ set_key (c.args.name, record { 0 = c.args.span }) = c.as_slice.ensures.value ∙ c.in_ok-key.ensures in
+    let key : c.key_of_set-key.result ≡ set_key (c.args.name, record { 0 = c.args.span }) = c.key_of_set-key.ensures in
     let none = ap (λ (k : List ℕ). number_in c.self.inside.version_sets.ids.entries k) (sym key) ∙ sym c.in_default.ensures in
-    let put = subst (λ (k : List ℕ). (other : List ℕ) → number_in c.add.new.self.ids.entries other ≡ cond (bytes_eq k other) (Some (length c.self.inside.version_sets.values.items)) (number_in c.self.inside.version_sets.ids.entries other)) c.in_ok-key.ensures c.in_ok-id.ensures.key in
+    let put = subst (λ (k : List ℕ). (other : List ℕ) → number_in c.add.new.self.ids.entries other ≡ cond (bytes_eq k other) (Some (length c.self.inside.version_sets.values.items)) (number_in c.self.inside.version_sets.ids.entries other)) c.key_of_set-key.ensures c.in_ok-id.ensures.key in
     subst (λ (ss : List (NameId × Numbers)). AreKept ss c.add.new.self.ids.entries (map (λ u. u.items) c.self.inside.unions.values.items) c.self.inside.unions.ids.entries c.self.inside.conditions.values.items c.self.inside.conditions.ids.entries) (sym c.in_ok-id.ensures.value)
     (sets_more c.self.inside.version_sets.values.items c.self.inside.version_sets.ids.entries (map (λ u. u.items) c.self.inside.unions.values.items) c.self.inside.unions.ids.entries c.self.inside.conditions.values.items c.self.inside.conditions.ids.entries c.self.invariant s c.add.new.self.ids.entries none put)
 
