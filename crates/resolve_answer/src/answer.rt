@@ -33,24 +33,31 @@ use std::alloc::Global;
 use std::marker::PhantomData;
 use std::vec::IntoIter;
 
+/// What a search chose, turn by turn.
+#[derive(Clone, Copy)]
+struct Found<'a> {
+    solvables: &'a [SolvableId],
+    turns: &'a [Turn<SolvableId>],
+}
+
 /// The install report of the solver's choices over the provider of a catalogue.
-fn installed(
+fn installed_over(
     alloc: Global,
     catalogue: &Catalogue,
     request: &Request,
     provider: &CatalogueProvider,
     wishes: Vec<Wish>,
-    solvables: &[SolvableId],
-    turns: &[Turn<SolvableId>],
+    found: Found<'_>,
     proof: Vec<ProofStep<NameId, SolvableId>>,
 ) -> R<Report>
     ensures { IfOk result
         (λ r.
         AreRequestLines catalogue.now request.now.lines
-        → IsInstalledOver catalogue.now request.now provider.now wishes.items solvables.now
-        turns.now proof.items
+        → IsInstalledOver catalogue.now request.now provider.now wishes.items
+        found.entry.solvables.now found.entry.turns.now proof.items
         → IsReportOf catalogue.now request.now.lines (report_of r)) }
 {
+    let Found { solvables, turns } = found;
     let wanted = wanted_steps(alloc, turns)?;
     let Trimmed { steps, numbers } = trim_to(alloc, proof, wanted.as_slice())?;
     let mut written = install_steps(alloc, catalogue, request, provider, steps.as_slice())?;
@@ -85,7 +92,7 @@ fn with_message(report: Report, lines: Vec<Vec<u8>>) -> Report
 }
 
 /// The install report of the solver's choices. It takes the proof from the solver.
-fn matched(
+fn installed(
     alloc: Global,
     catalogue: &Catalogue,
     request: &Request,
@@ -101,14 +108,17 @@ fn matched(
         → IsReportOf catalogue.now request.now.lines (report_of r)) }
 {
     let proof = solver.take_proof();
-    installed(
+    let found = Found {
+        solvables: chosen,
+        turns: solver.turns(),
+    };
+    installed_over(
         alloc,
         catalogue,
         request,
         solver.provider(),
         wishes,
-        chosen,
-        solver.turns(),
+        found,
         proof,
     )
 }
@@ -193,7 +203,7 @@ fn answered(
     let wishes = wishes_of(alloc, catalogue, request)?;
     let free = free_wishes(alloc, wishes.as_slice())?;
     match solver.solve(problem_of(asked, free)) {
-        Ok(chosen) => Ok(matched(alloc, catalogue, request, solver, wishes, chosen.as_slice())?),
+        Ok(chosen) => Ok(installed(alloc, catalogue, request, solver, wishes, chosen.as_slice())?),
         Err(UnsolvableOrCancelled::Unsolvable(conflict)) => {
             refused(alloc, catalogue, request, solver, &conflict)
         }

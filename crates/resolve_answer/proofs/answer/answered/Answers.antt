@@ -51,7 +51,7 @@ returns-in-Ok-clause-report c =
     let wishes = c.in_ok-wishes.wishes.items in
     let (free, whole, answers, alone) = c.in-Ok.ensures.answer in
     let free_is : free ≡ free_of wishes = c.problem_of.ensures.wishes free whole ∙ (c.in_ok-free.ensures ∙ ap free_of c.as_slice.ensures.value) in
-    λ asks versions over asked. c.in_ok-matched-in-Ok.ensures asks
+    λ asks versions over asked. c.in_ok-installed-in-Ok.ensures asks
     (subst (λ (xs : List SolvableId). IsInstalledOver catalogue source solver.provider wishes xs solver.turns solver.proof) (sym c.as_slice-in-Ok.ensures.value)
     (answer_installed catalogue source wishes c.args.asked same exact old solver asks c.in_ok-wishes.ensures.lines versions c.in_ok-wishes.ensures.wishes c.solve.ensures.provider over asked free free_is c.in-Ok.chosen
     (subst (λ (root : Rules). IsAnswerUnder root free (Ok c.in-Ok.chosen) solver old) c.problem_of.ensures.root answers)))

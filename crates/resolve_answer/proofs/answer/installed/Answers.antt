@@ -1,29 +1,22 @@
-use Rattle.std.proofs.Common.{◌≡◌, ◌∷◌, ℕ, List, sym, ◌∙◌, subst}
-use Rattle.std.specs.Prelude.{Contains}
-use Rattle.resolve_order.specs.declared.entry.Turn.{Turn}
-use Rattle.resolvo_proof.specs.Trimmed.{IsTrimmedWith, StaysProof}
-use Rattle.resolvo_proof.specs.Drawn.{HaveOneSigns}
-use Rattle.resolvo_proof.specs.Places.{HaveOnePlace}
+use Rattle.std.proofs.Common.{List, sym, ◌∙◌, ap, subst}
 use Rattle.resolvo_proof.specs.declared.step.ProofStep.{ProofStep}
 use Rattle.resolvo_catalogue.specs.Ids.{NameId, SolvableId}
-use Rattle.resolvo_report.specs.View.{report_of, steps_of}
-use Rattle.resolve_install.specs.Install.{Serve, IsInstallOf}
-use Rattle.resolve_answer.specs.ReportTurns.{AreWanted}
-use Rattle.resolve_answer.proofs.Upheld.{installed_reported}
+use Rattle.resolvo_catalogue.specs.Provider.{Provider}
+use Rattle.resolvo.specs.Solver.{Kept}
+use Rattle.resolvo.specs.declared.turns.Turn.{Turn}
+use Rattle.resolve_answer.specs.Solved.{IsInstalledOver}
+use Rattle.resolve_answer.proofs.Upheld.{if_ok}
 use Rattle.resolve_answer.proofs.answer.installed.Goals as goal
 
 pub returns : goal.returns
-returns c = λ asks is.
-    let (t, rest, are, first_turn, matched) = c.in_ok-matched.ensures in
-    let proof = c.args.proof.items in
-    let wanted = c.as_slice.result.now in
-    let kept_is = sym c.as_slice-2.ensures.value in
-    let turns_are : c.as_slice-5.result.now ≡ t ∷ rest = c.as_slice-5.ensures.value ∙ are in
-    let trimmed : IsTrimmedWith (Contains wanted) proof c.as_slice-2.result.now c.as_slice-4.result.now =
-    subst (λ (ns : List ℕ). IsTrimmedWith (Contains wanted) proof c.as_slice-2.result.now ns) (sym c.as_slice-4.ensures.value) (subst (λ (ks : List (ProofStep NameId SolvableId)). IsTrimmedWith (Contains wanted) proof ks c.in_ok-steps.field-0.numbers.items) kept_is c.in_ok-steps.ensures.kept) in
-    let stays : StaysProof proof c.as_slice-2.result.now = subst (λ (ks : List (ProofStep NameId SolvableId)). StaysProof proof ks) kept_is c.in_ok-steps.ensures.proof in
-    let one_place : HaveOnePlace proof → HaveOnePlace c.as_slice-2.result.now = subst (λ (ks : List (ProofStep NameId SolvableId)). HaveOnePlace proof → HaveOnePlace ks) kept_is c.in_ok-steps.ensures.places in
-    let one_sign : HaveOneSigns proof → HaveOneSigns c.as_slice-2.result.now = subst (λ (ks : List (ProofStep NameId SolvableId)). HaveOneSigns proof → HaveOneSigns ks) kept_is c.in_ok-steps.ensures.signs in
-    installed_reported c.args.catalogue.now c.args.request.now c.args.provider.now c.args.wishes.items asks c.args.solvables.now c.args.turns.now proof is wanted (subst (λ (ws : List ℕ). AreWanted c.args.turns.now ws) (sym c.as_slice.ensures.value) c.in_ok-wanted.ensures)
-    c.as_slice-2.result.now c.as_slice-4.result.now trimmed stays one_place one_sign (steps_of c.in_ok-written.written.items) c.in_ok-written.ensures c.as_slice-3.result.now (c.as_slice-3.ensures.value ∙ c.in_ok-chosen.ensures) t rest (steps_of c.report_turns.new.steps.items) first_turn matched (report_of c.in_ok-install_report.field-0)
-    (subst (λ (ts : List Turn). Serve c.args.catalogue.now c.args.request.now.lines ts (steps_of c.report_turns.new.steps.items) → IsInstallOf c.args.catalogue.now c.args.request.now.lines ts (steps_of c.report_turns.new.steps.items) (report_of c.in_ok-install_report.field-0)) turns_are c.in_ok-install_report.ensures)
+returns c =
+    let catalogue = c.args.catalogue.now in
+    let source = c.args.request.now in
+    let wishes = c.args.wishes.items in
+    let chosen = c.args.chosen.now in
+    let left = c.take_proof-proof.ensures.left in
+    if_ok c.installed_over.result (λ r reports asks is. reports asks
+    (subst (λ (q : Provider). IsInstalledOver catalogue source q wishes chosen c.turns.result.now c.take_proof-proof.result.items) (sym (c.provider.ensures ∙ ap (λ (k : Kept Provider NameId SolvableId). k.provider) left))
+    (subst (λ (ts : List (Turn SolvableId)). IsInstalledOver catalogue source c.args.solver.now.provider wishes chosen ts c.take_proof-proof.result.items) (sym (c.turns.ensures ∙ ap (λ (k : Kept Provider NameId SolvableId). k.turns) left))
+    (subst (λ (steps : List (ProofStep NameId SolvableId)). IsInstalledOver catalogue source c.args.solver.now.provider wishes chosen c.args.solver.now.turns steps) (sym c.take_proof-proof.ensures.steps) is))))
+    c.installed_over.ensures
