@@ -1,10 +1,9 @@
 -- Lines and their text.
-use Rattle.std.proofs.Common.{◌≡◌, ℕ, Bool, true, false, not, List, [], ◌∷◌, ◌++◌, refl, sym, ◌∙◌, ap, append_assoc}
+use Rattle.std.proofs.Common.{◌≡◌, ℕ, Bool, true, false, not, List, [], ◌∷◌, ◌++◌, refl, sym, ◌∙◌, ap}
 use Rattle.std.specs.Prelude.{codes}
-use Rattle.std.specs.List.{AllByRecursion, list_all, flat_map}
-use Rattle.std.proofs.lemmas.Bool.{both_ways, and_parts, and_from}
+use Rattle.std.specs.List.{list_all, flat_map}
+use Rattle.std.proofs.lemmas.Bool.{both_ways, and_parts}
 use Rattle.std.proofs.lemmas.List.{append-nil}
-use Rattle.std.proofs.lemmas.List.Concat.{flat_map-append}
 use Rattle.resolvo_text.specs.Lines.{is_newline}
 use Rattle.resolve_answer.specs.Message.{IsPlain, joined, AreLinesOf}
 
@@ -46,25 +45,3 @@ each_ends line each (x ∷ y ∷ xs) = go (flat_map line (y ∷ xs)) (each_ends 
     go : (more : List ℕ) → ends_line more ≡ true → ends_line (line x ++ more) ≡ true
     go [] e = (let (text, is) = each x in ap ends_line (append-nil (line x) ∙ is) ∙ ends_behind text 10 [])
     go (b ∷ bs) e = ends_behind (line x) b bs ∙ e
-
--- ---- one byte more
-
-all_push : {X : Type 0} (P : X → Type 0) (xs : List X) (x : X) → AllByRecursion P xs → P x → AllByRecursion P (xs ++ x ∷ [])
-all_push P [] x a h = (h, tt)
-all_push P (y ∷ xs) x a h = (a.0, all_push P xs x a.1 h)
-
--- a newline ends the line
-pub line_ends : (text line : List ℕ) (lines : List (List ℕ)) (b : ℕ) → b ≡ 10 → text ≡ joined lines ++ line → AllByRecursion IsPlain lines → IsPlain line → AreLinesOf (text ++ b ∷ []) (lines ++ line ∷ [])
-line_ends text line lines b is parts plain left = record {
-  rest = [];
-  parts = ap (λ xs. xs ++ b ∷ []) parts ∙ (append_assoc (joined lines) line (b ∷ []) ∙ (ap (λ x. joined lines ++ (line ++ x ∷ [])) is ∙ (ap (λ xs. joined lines ++ xs) (sym (append-nil (line ++ 10 ∷ []))) ∙ (sym (flat_map-append (λ (l : List ℕ). l ++ codes "\n") lines (line ∷ [])) ∙ sym (append-nil (joined (lines ++ line ∷ [])))))));
-  plain = all_push IsPlain lines line plain left;
-  left = refl;
-}
-
--- another byte goes on with it
-pub line_goes_on : (line : List ℕ) (b : ℕ) → is_newline b ≡ false → IsPlain line → IsPlain (line ++ b ∷ [])
-line_goes_on [] b other plain = and_from (not (is_newline b)) true (ap not other) refl
-line_goes_on (x ∷ line) b other plain =
-    let parts = and_parts (not (is_newline x)) (list_all (λ y. not (is_newline y)) line) plain in
-    and_from (not (is_newline x)) (list_all (λ y. not (is_newline y)) (line ++ b ∷ [])) parts.0 (line_goes_on line b other parts.1)

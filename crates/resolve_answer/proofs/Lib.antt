@@ -14,6 +14,9 @@ pub mod Forbidden
 pub mod ServeLemmas
 pub mod Upheld
 pub mod JoinLemmas
+pub mod SplitLemmas
+pub mod WriterLemmas
+pub mod LengthLemmas
 pub mod MessageLemmas
 pub mod Verdicts
 pub mod TrimRules

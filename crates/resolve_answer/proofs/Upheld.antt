@@ -1,5 +1,5 @@
 -- The solver's answer, as a report that the judge accepts.
-use Rattle.std.proofs.Common.{◌≡◌, Bor, ℕ, ◌<◌, Bool, List, [], ◌∷◌, map, length, None, Some, Result, Ok, Err, Vec, Global, refl, sym, subst, ◌∙◌, arith}
+use Rattle.std.proofs.Common.{◌≡◌, Bor, ℕ, ◌<◌, ◌≤◌, Bool, List, [], ◌∷◌, map, length, None, Some, Result, Ok, Err, Vec, Global, refl, sym, subst, ◌∙◌, arith}
 use Rattle.std.specs.Prelude.{Contains, IfOk}
 use Rattle.std.specs.List.{AllByRecursion, AllZip}
 use Rattle.resolvo_text.specs.Line.{Line}
@@ -60,13 +60,14 @@ use Rattle.resolve_answer.specs.Wishes.{AreWishesAt, AreWishesOf, free_of}
 use Rattle.resolve_answer.specs.ReportTurns.{AreTurnsFor, AreWanted, IsFirstTurn}
 use Rattle.resolve_answer.specs.declared.wishes.Wish.{Wish}
 use Rattle.resolve_answer.specs.First.{orders_of, AreFirstChosen}
-use Rattle.resolve_answer.specs.Message.{IsMessageOf, IsPlain, IsTextOf, with_message}
+use Rattle.resolve_answer.specs.Message.{IsMessageOf, IsPlain, IsTextOf, joined, with_message}
 use Rattle.resolve_answer.specs.Solved.{IsInstalledOver, IsRefutedOver}
 use Rattle.resolve_answer.specs.Verdict.{Verdict}
 use Rattle.resolve_answer.specs.Reported as reported
 use Rattle.resolve_answer.specs.Reported.{AreKept, AreNamed, AreUsed, AreWishTurns, IsReportOf, NameRules}
 use Rattle.resolve_answer.proofs.Atoms.{same_atom, exact_atom}
 use Rattle.resolve_answer.proofs.KnowLemmas.{known_kept}
+use Rattle.resolve_answer.proofs.LengthLemmas.{report_longer}
 use Rattle.resolve_answer.proofs.ServeLemmas.{AreSteps, first_entries, free_candidates, kept_is, known_wish, one_step_more, refused_forbidden, serve_is, steps_hold, written_steps}
 use Rattle.resolve_answer.proofs.UseLemmas.{named_later, wish_turns, steps_used, zip_length}
 use Rattle.resolve_answer.proofs.WishTurns.{steps_prefix}
@@ -113,6 +114,13 @@ refusal_reported catalogue request ids steps r message i named plain is_message 
       claim = subst (λ (x : Report). IsClaimTrue catalogue request x) i.refuses i.claim;
       answer = (i.used, written_named catalogue request ids steps i.written i.each named, all_first catalogue request ids steps i.written i.each, is_message i.written i.each);
     })
+
+-- The report with the message is right, and no shorter than the message.
+abbrev pub IsTold : List Line → List Line → List (List ℕ) → Report → Type 0
+IsTold catalogue request message r = IsReportOf catalogue request (with_message message r) × (length (joined message) ≤ length (report_text (with_message message r)))
+
+refusal_longer : (catalogue request : List Line) (ids : Ids) (steps : List (ProofStep NameId SolvableId)) (r : Report) (message : List (List ℕ)) → IsRefusalOf catalogue request ids steps r → length (joined message) ≤ length (report_text (with_message message r))
+refusal_longer catalogue request ids steps r message i = subst (λ (x : Report). length (joined message) ≤ length (report_text (with_message message x))) (sym i.refuses) (report_longer i.in_catalogue i.in_request i.written message)
 
 -- ---- an installed set
 
@@ -211,32 +219,35 @@ module _ (catalogue : List Line) (source : ReadRequest) (same : SolvableId → S
   pub clash_reported : (kept : List (ProofStep NameId SolvableId)) → IsTrimmed solver.proof kept → trimming.AreNamed kept → StaysProof solver.proof kept → (EndsEmpty solver.proof → EndsEmpty kept)
       → (HaveOnePlace solver.proof → HaveOnePlace kept) → (HaveOneSigns solver.proof → HaveOneSigns kept) → (r : Report) → (Refutes catalogue source solver.provider kept → IsRefusalOf catalogue source.lines solver.provider.ids kept r)
       → (same_name : NameId → NameId → Bool) → IsExact same_name → (l : Left SolvableId) → solver.conflict ≡ Some l
-      → (message : List (List ℕ)) → IsTextOf same_name same solver.provider (offered_by l.offers) solver.proof message → IsReportOf catalogue source.lines (with_message message r)
+      → (message : List (List ℕ)) → IsTextOf same_name same solver.provider (offered_by l.offers) solver.proof message → IsTold catalogue source.lines message r
   clash_reported kept trimmed named stays ends places signs r reports same_name one_name l at message text =
       let refutes = kept_refutes kept trimmed stays ends places signs in
-      refusal_reported catalogue source.lines solver.provider.ids kept r message (reports refutes) named text.plain (λ written matched. record {
-        source = source;
-        asks = refl;
-        provider = solver.provider;
-        proof = kept;
-        proves = refutes.proves;
-        matched = matched;
-        same_name = same_name;
-        one_name = one_name;
-        same = same;
-        exact = is.exact;
-        offers = l.offers;
-        offered = offers_kept kept trimmed l.offers (is.offers l at);
-        text = text_kept kept trimmed same_name (offered_by l.offers) message text;
-      })
+      let refusal : IsRefusalOf catalogue source.lines solver.provider.ids kept r = reports refutes in (
+        refusal_reported catalogue source.lines solver.provider.ids kept r message refusal named text.plain (λ written matched. record {
+          source = source;
+          asks = refl;
+          provider = solver.provider;
+          proof = kept;
+          proves = refutes.proves;
+          matched = matched;
+          same_name = same_name;
+          one_name = one_name;
+          same = same;
+          exact = is.exact;
+          offers = l.offers;
+          offered = offers_kept kept trimmed l.offers (is.offers l at);
+          text = text_kept kept trimmed same_name (offered_by l.offers) message text;
+        }),
+        refusal_longer catalogue source.lines solver.provider.ids kept r message refusal,
+      )
 
   -- the same by a proof that was taken from the solver
   pub taken_reported : (proof : List (ProofStep NameId SolvableId)) → proof ≡ solver.proof → (kept : List (ProofStep NameId SolvableId)) → IsTrimmed proof kept → trimming.AreNamed kept → StaysProof proof kept → (EndsEmpty proof → EndsEmpty kept)
       → (HaveOnePlace proof → HaveOnePlace kept) → (HaveOneSigns proof → HaveOneSigns kept) → (r : Report) → (Refutes catalogue source solver.provider kept → IsRefusalOf catalogue source.lines solver.provider.ids kept r)
       → (same_name : NameId → NameId → Bool) → IsExact same_name → (l : Left SolvableId) → solver.conflict ≡ Some l
-      → (message : List (List ℕ)) → IsTextOf same_name same solver.provider (offered_by l.offers) solver.proof message → IsReportOf catalogue source.lines (with_message message r)
+      → (message : List (List ℕ)) → IsTextOf same_name same solver.provider (offered_by l.offers) solver.proof message → IsTold catalogue source.lines message r
   taken_reported proof taken kept trimmed named stays ends places signs r reports same_name one_name l at message text =
-      subst (λ (xs : List (ProofStep NameId SolvableId)). IsTrimmed xs kept → StaysProof xs kept → (EndsEmpty xs → EndsEmpty kept) → (HaveOnePlace xs → HaveOnePlace kept) → (HaveOneSigns xs → HaveOneSigns kept) → IsReportOf catalogue source.lines (with_message message r)) (sym taken)
+      subst (λ (xs : List (ProofStep NameId SolvableId)). IsTrimmed xs kept → StaysProof xs kept → (EndsEmpty xs → EndsEmpty kept) → (HaveOnePlace xs → HaveOnePlace kept) → (HaveOneSigns xs → HaveOneSigns kept) → IsTold catalogue source.lines message r) (sym taken)
       (λ t s e p o. clash_reported kept t named s e p o r reports same_name one_name l at message text) trimmed stays ends places signs
 
 -- ---- the solver's answer

@@ -9,6 +9,7 @@ use Rattle.resolvo_catalogue_core.specs.Sets.{IsRuleKeeping}
 use Rattle.resolve_order.specs.Order.{Turn, Chose, LeavesOut, AreTurns, AreReached, chosen_in, wishes_in}
 use Rattle.resolvo_report.specs.Value.{Literal, Step, Derive, Report, Install, Refused}
 use Rattle.resolvo_report.specs.Text.{report_text}
+use Rattle.resolvo_report.specs.Grammar.{most_bytes}
 use Rattle.resolvo_judge.specs.Judgement.{IsUpheld, IsClaimTrue}
 use Rattle.resolvo_judge.specs.Refusal.{answer_of}
 use Rattle.resolve_refusal.specs.Named.{AreUsedLines}
@@ -95,3 +96,7 @@ pub record IsReportOf (catalogue request : List Line) (r : Report) : Type 0 wher
   pub upheld : IsUpheld catalogue request (report_text r) r
   pub claim : IsClaimTrue catalogue request r
   pub answer : IsAnswer catalogue request r
+
+-- The report of these lines has more bytes than a report may have.
+abbrev pub HaveLongReport : List Line → List Line → Type 0
+HaveLongReport catalogue request = (report : Report) × IsReportOf catalogue request report × (most_bytes < length (report_text report))

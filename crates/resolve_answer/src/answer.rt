@@ -9,7 +9,7 @@ ghost use Rattle.resolvo.specs.Solver.{HoldsConflict, root_of};
 ghost use Rattle.resolve_answer.specs.Message.{with_message};
 ghost use Rattle.resolve_answer.specs.Wishes.{AreWishesAt, GivesAll};
 ghost use Rattle.resolve_answer.specs.Solved.{IsInstalledOver, IsRefutedOver};
-ghost use Rattle.resolve_answer.specs.Reported.{IsReportOf};
+ghost use Rattle.resolve_answer.specs.Reported.{HaveLongReport, IsReportOf};
 ghost use Rattle.resolve_answer.specs.Stops.{IsStopOf};
 
 use crate::message::message_of;
@@ -113,20 +113,25 @@ fn matched(
     )
 }
 
-/// The conflict that the solver keeps, as a report with its message. It takes the proof from the solver.
+/// The conflict that the solver keeps, as a report with its message. It takes the proof from the
+/// solver. `TooLong` where the message alone has more bytes than a report may have.
 fn refused(
     alloc: Global,
     catalogue: &Catalogue,
     request: &Request,
     solver: &mut Solver<CatalogueProvider>,
     conflict: &Conflict,
-) -> R<Report>
+) -> Result<Report, Stop>
     requires { HoldsConflict solver.old conflict.now.clauses.items }
-    ensures { IfOk result
+    ensures report { IfOk result
         (λ r.
         AreRequestLines catalogue.now request.now.lines
         → IsRefutedOver ⟦<SolvableId as PartialEq>⟧.eq catalogue.now request.now solver.old
         → IsReportOf catalogue.now request.now.lines (report_of r)) }
+    ensures stop { IfErr result (IsStopOf ⊥
+        (AreRequestLines catalogue.now request.now.lines
+        → IsRefutedOver ⟦<SolvableId as PartialEq>⟧.eq catalogue.now request.now solver.old
+        → HaveLongReport catalogue.now request.now.lines)) }
 {
     let lines = message_of(alloc, solver, conflict)?;
     let steps = trim(alloc, solver.take_proof())?;
@@ -137,7 +142,10 @@ fn refused(
         solver.provider(),
         steps.as_slice(),
     )?;
-    Ok(with_message(report, lines))
+    match lines {
+        Some(lines) => Ok(with_message(report, lines)),
+        None => Err(Stop::TooLong),
+    }
 }
 
 /// The problem of a request with these wishes.
@@ -175,14 +183,19 @@ fn answered(
         → IsOver catalogue.now solver.old.provider
         → AreAsked solver.old.provider.ids request.now asked
         → IsReportOf catalogue.now request.now.lines (report_of r)) }
-    ensures stop { IfErr result (IsStopOf (solver.old.provider.has_budget ≡ true)) }
+    ensures stop { IfErr result (IsStopOf (solver.old.provider.has_budget ≡ true)
+        (AreRequestLines catalogue.now request.now.lines
+        → AreWishesAt catalogue.now request.now
+        → IsOver catalogue.now solver.old.provider
+        → AreAsked solver.old.provider.ids request.now asked
+        → HaveLongReport catalogue.now request.now.lines)) }
 {
     let wishes = wishes_of(alloc, catalogue, request)?;
     let free = free_wishes(alloc, wishes.as_slice())?;
     match solver.solve(problem_of(asked, free)) {
         Ok(chosen) => Ok(matched(alloc, catalogue, request, solver, wishes, chosen.as_slice())?),
         Err(UnsolvableOrCancelled::Unsolvable(conflict)) => {
-            Ok(refused(alloc, catalogue, request, solver, &conflict)?)
+            refused(alloc, catalogue, request, solver, &conflict)
         }
         Err(UnsolvableOrCancelled::Memory) => Err(Stop::Lacks(Want::Memory)),
         Err(UnsolvableOrCancelled::Ids) => Err(Stop::Lacks(Want::Ids)),
@@ -205,7 +218,12 @@ fn answered_by(
         → IsOver catalogue.now provider
         → AreAsked provider.ids request.now asked
         → IsReportOf catalogue.now request.now.lines (report_of r)) }
-    ensures stop { IfErr result (IsStopOf (provider.has_budget ≡ true)) }
+    ensures stop { IfErr result (IsStopOf (provider.has_budget ≡ true)
+        (AreRequestLines catalogue.now request.now.lines
+        → AreWishesAt catalogue.now request.now
+        → IsOver catalogue.now provider
+        → AreAsked provider.ids request.now asked
+        → HaveLongReport catalogue.now request.now.lines)) }
 {
     let mut solver = Solver::new(alloc, provider);
     answered(alloc, catalogue, request, &mut solver, asked)
@@ -224,8 +242,9 @@ fn provider_of(alloc: Global, catalogue: &Catalogue, budget: Option<u64>) -> R<C
 }
 
 /// The report of a catalogue and a request over it: the solver's answer. `Memory` where there is no
-/// room; `Ids` where a number is too great. With a budget the search gives up after so many
-/// questions of the solver whether to stop, and one more.
+/// room; `Ids` where a number is too great; `TooLong` where a message has more bytes than a report may
+/// have. With a budget the search gives up after so many questions of the solver whether to stop,
+/// and one more.
 pub fn report_for(
     alloc: Global,
     catalogue: &Catalogue,
@@ -237,7 +256,10 @@ pub fn report_for(
         AreRequestLines catalogue.now request.now.lines
         → AreWishesAt catalogue.now request.now
         → IsReportOf catalogue.now request.now.lines (report_of r)) }
-    ensures stop { IfErr result (IsStopOf (IsSome budget)) }
+    ensures stop { IfErr result (IsStopOf (IsSome budget)
+        (AreRequestLines catalogue.now request.now.lines
+        → AreWishesAt catalogue.now request.now
+        → HaveLongReport catalogue.now request.now.lines)) }
 {
     let mut provider = provider_of(alloc, catalogue, budget)?;
     let asked = provider.intern_request(request)?;

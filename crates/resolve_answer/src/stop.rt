@@ -2,6 +2,9 @@
 
 use resolvo_pool_core::want::Want;
 
+/// The most bytes that a report may have, as for the judge.
+pub const MOST_BYTES: u64 = 1 << 30;
+
 /// Why there is no report.
 #[derive(Clone, Copy, Debug, PartialEq, Eq)]
 pub enum Stop {
@@ -9,6 +12,8 @@ pub enum Stop {
     Lacks(Want),
     /// The budget of the search was used up.
     GivenUp,
+    /// The report has more bytes than it may have, by its message alone.
+    TooLong,
 }
 
 impl From<Want> for Stop {

@@ -1,10 +1,10 @@
 -- A report is an answer of the lines, and so of the texts.
 use Rattle.std.proofs.Common.{◌≡◌, ℕ, List, Option, Result, Ok, Err, refl, sym, subst, inl, inr}
-use Rattle.std.specs.Prelude.{IfOk, IfErr, codes}
+use Rattle.std.specs.Prelude.{IfOk, IfErr, IsSome, codes}
 use Rattle.resolvo_text.specs.Line.{Line}
 use Rattle.resolvo_text.specs.Device.{IfKnown}
 use Rattle.resolvo_text.specs.Texts.{IsGrammatical}
-use Rattle.resolvo_catalogue_core.specs.Grammar.{IsCatalogueLine, IsRequestLine}
+use Rattle.resolvo_catalogue_core.specs.Grammar.{AreRequestLines, IsCatalogueLine, IsRequestLine}
 use Rattle.resolve_check.specs.declared.outcome.Outcome.{Outcome}
 use Rattle.resolve_check.specs.declared.outcome.Outcome.TheVariants.{Faulty}
 use Rattle.resolve_check.specs.Texts.{fault_text}
@@ -20,8 +20,14 @@ use Rattle.resolve_check.specs.Faults.{WritesFault}
 use Rattle.resolve_check.proofs.Results.{if_ok, if_err, never_ids}
 use Rattle.resolve_run.specs.Run.{AnswersTexts, AreRead, IsLack, IsWriteLack, StopsBefore, StopsRun}
 use Rattle.resolvo_report.specs.Value.{Report}
-use Rattle.resolve_answer.specs.Reported.{IsReportOf}
-use Rattle.resolve_run.specs.Within.{within, IsLackWithin, StopsBeforeWithin, StopsWithin}
+use Rattle.resolve_answer.specs.Reported.{HaveLongReport, IsReportOf}
+use Rattle.resolve_answer.specs.Stops.{IsStopOf}
+use Rattle.resolve_answer.specs.Wishes.{AreWishesAt}
+use Rattle.resolve_answer.specs.declared.stop.Stop.{Stop}
+use Rattle.resolve_answer.specs.declared.stop.Stop.TheVariants as stop
+use Rattle.resolvo_pool_core.specs.declared.want.Want.TheVariants as want
+use Rattle.resolvo_catalogue_core.specs.Questions.{ReadRequest}
+use Rattle.resolve_run.specs.Within.{within, stop_of, IsLackWithin, StopsBeforeWithin, StopsWithin}
 use Rattle.resolve_run.specs.declared.stop.RunStop.{RunStop}
 use Rattle.resolve_run.specs.declared.stop.RunStop.TheVariants.{Fault, GivenUp}
 
@@ -84,6 +90,13 @@ lacked Ids catalogue request are lack = are
 lacked Writer catalogue request are lack = absurd lack
 
 -- ---- where there may be a budget
+
+pub stopped_within : (budget : Option ℕ) (s : Stop) (catalogue : List Line) (source : ReadRequest) → IsStopOf (IsSome budget) (AreRequestLines catalogue source.lines → AreWishesAt catalogue source → HaveLongReport catalogue source.lines) s
+    → AreRequestLines catalogue source.lines → AreWishesAt catalogue source → IsLackWithin budget (stop_of s) catalogue source.lines
+stopped_within budget (stop.Lacks want.Memory) catalogue source h asks wishes = tt
+stopped_within budget (stop.Lacks want.Ids) catalogue source h asks wishes = tt
+stopped_within budget stop.GivenUp catalogue source h asks wishes = h
+stopped_within budget stop.TooLong catalogue source h asks wishes = h asks wishes
 
 pub lacked_within : (budget : Option ℕ) (s : RunStop) (catalogue request : Device) (are : AreRead catalogue request) → IsLackWithin budget s are.catalogue_lines are.request_lines → StopsBeforeWithin budget s catalogue request
 lacked_within budget (Fault e) catalogue request are lack = lacked e catalogue request are lack

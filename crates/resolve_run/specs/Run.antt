@@ -11,7 +11,7 @@ use Rattle.resolvo_catalogue_core.specs.Grammar.{IsCatalogueLine, IsRequestLine}
 use Rattle.resolvo_report.specs.Value.{Report}
 use Rattle.resolvo_report.specs.Text.{report_text}
 use Rattle.resolvo_report.specs.Grammar.{most_bytes}
-use Rattle.resolve_answer.specs.Reported.{IsReportOf}
+use Rattle.resolve_answer.specs.Reported.{HaveLongReport}
 use Rattle.resolve_check.specs.declared.outcome.Outcome.{Outcome}
 use Rattle.resolve_check.specs.declared.outcome.RunFault.{RunFault}
 use Rattle.resolve_check.specs.declared.outcome.RunFault.TheVariants.{Reader, TooLong, Memory, Ids, Writer}
@@ -44,10 +44,6 @@ pub record AreRead (catalogue request : Device) : Type 0 where
   pub request_lines : List Line
   pub catalogue_read : IfKnown catalogue.before (λ text. IsGrammatical IsCatalogueLine text catalogue_lines)
   pub request_read : IfKnown request.before (λ text. IsGrammatical (IsRequestLine catalogue_lines) text request_lines)
-
--- The report of these lines has more bytes than a report may have.
-abbrev pub HaveLongReport : List Line → List Line → Type 0
-HaveLongReport catalogue request = (report : Report) × IsReportOf catalogue request report × (most_bytes < length (report_text report))
 
 -- Why a report isn't written: it lacks memory, or has more bytes than a report may have.
 abbrev pub IsWriteLack : RunFault → Report → Type 0

@@ -8,6 +8,7 @@ use Rattle.resolve_answer.specs.declared.stop.Stop.TheVariants as stop
 use Rattle.resolve_check.specs.Devices.{Device}
 use Rattle.resolve_check.specs.Faults.{fault_of}
 use Rattle.resolve_check.specs.declared.outcome.RunFault.{RunFault}
+use Rattle.resolve_check.specs.declared.outcome.RunFault.TheVariants.{TooLong}
 use Rattle.resolve_check.specs.declared.written.Written.{Written}
 use Rattle.resolve_run.specs.Run.{AreRead, IsLack, StopsBefore, StopsRun}
 use Rattle.resolve_run.specs.declared.stop.RunStop.{RunStop}
@@ -22,6 +23,7 @@ within (Err e) = Err (Fault e)
 abbrev pub stop_of : Stop → RunStop
 stop_of (stop.Lacks w) = Fault (fault_of w)
 stop_of stop.GivenUp = GivenUp
+stop_of stop.TooLong = Fault TooLong
 
 -- Why texts that were read have no answer. The search gives up only where there is a budget.
 abbrev pub IsLackWithin : Option ℕ → RunStop → List Line → List Line → Type 0

@@ -14,15 +14,13 @@ ghost use Rattle.resolve_run.specs.Within.{within, IsLackWithin, StopsBeforeWith
 use crate::report::report_text;
 use crate::stop::RunStop;
 use resolve_answer::answer::report_for;
+use resolve_answer::stop::MOST_BYTES;
 use resolve_check::length::report_length;
 use resolve_check::outcome::{Outcome, RunFault};
 use resolve_check::written::{Written, not_read};
 use resolvo_catalogue_core::{Catalogue, Request, Sink, Source, write_all};
 use resolvo_report::Report;
 use std::alloc::Global;
-
-/// The most bytes that a report may have, as for the judge.
-const MOST_BYTES: u64 = 1 << 30;
 
 /// The outcome of a run that writes this report.
 fn outcome_of(report: &Report) -> Outcome

@@ -33,6 +33,7 @@ impl From<Stop> for RunStop {
         match stop {
             Stop::Lacks(lacked) => RunStop::Fault(RunFault::from(lacked)),
             Stop::GivenUp => RunStop::GivenUp,
+            Stop::TooLong => RunStop::Fault(RunFault::TooLong),
         }
     }
 }

@@ -3,7 +3,9 @@ use Rattle.std.specs.Prelude.{◌==◌}
 use Rattle.std.proofs.lemmas.Bool.{and_parts, and_from, eqb-true, eq-eqb}
 use Rattle.resolvo_pool_core.specs.RuleKeeping.{Rules}
 use Rattle.resolvo_sat.specs.Encoding.{IsExact}
+use Rattle.resolvo_catalogue_core.specs.Grammar.{AreRequestLines}
 use Rattle.resolvo_catalogue.specs.Ids.{SolvableId, NameId}
+use Rattle.resolvo_catalogue.specs.Over.{IsOver, AreAsked}
 use Rattle.resolvo_catalogue.specs.Provider.{Provider, packages_of}
 use Rattle.resolvo_catalogue.specs.declared.impls.GivenUp.{GivenUp}
 use Rattle.resolvo.specs.Solver.{IsAnswer, IfEnded, Leaves, Kept, root_of as asked_of}
@@ -12,10 +14,11 @@ use Rattle.resolvo.specs.declared.solver.UnsolvableOrCancelled.{UnsolvableOrCanc
 use Rattle.resolvo.specs.SoftTurns.{AreCandidates}
 use Rattle.resolvo.specs.declared.solver.UnsolvableOrCancelled.TheVariants.{Unsolvable}
 use Rattle.resolve_answer.specs.First.{orders_of}
-use Rattle.resolve_answer.specs.Solved.{IsInstalledOver}
+use Rattle.resolve_answer.specs.Solved.{IsInstalledOver, IsRefutedOver}
 use Rattle.resolve_answer.specs.Verdict.{Verdict}
-use Rattle.resolve_answer.specs.Wishes.{free_of}
-use Rattle.resolve_answer.proofs.Upheld.{answer_installed, answer_refuted}
+use Rattle.resolve_answer.specs.Wishes.{AreWishesAt, free_of}
+use Rattle.resolve_answer.proofs.StopLemmas.{if_stopped}
+use Rattle.resolve_answer.proofs.Upheld.{answer_installed, answer_refuted, if_ok}
 use Rattle.resolve_answer.proofs.answer.answered.Goals as goal
 
 -- the test of solvables that the solver runs, and that it is exact
@@ -53,8 +56,8 @@ returns-in-Ok-clause-report c =
     (answer_installed catalogue source wishes c.args.asked same exact old solver asks c.in_ok-wishes.ensures.lines versions c.in_ok-wishes.ensures.wishes c.solve.ensures.provider over asked free free_is c.in-Ok.chosen
     (subst (λ (root : Rules). IsAnswerUnder root free (Ok c.in-Ok.chosen) solver old) c.problem_of.ensures.root answers)))
 
-pub returns-in-Err-Unsolvable-clause-report : goal.returns-in-Err-Unsolvable-clause-report
-returns-in-Err-Unsolvable-clause-report c =
+pub returns-in-Err-Unsolvable : goal.returns-in-Err-Unsolvable
+returns-in-Err-Unsolvable c =
     let catalogue = c.args.catalogue.now in
     let source = c.args.request.now in
     let solver = c.solve.new.self in
@@ -65,6 +68,10 @@ returns-in-Err-Unsolvable-clause-report c =
     let (free, whole, answers, alone) = ended is c.in-Err-Unsolvable.ensures.answer in
     let (count, ends, turnless, holds, listed) = subst (λ (e : UnsolvableOrCancelled GivenUp). IsLeftBy (Err e) solver) is c.in-Err-Unsolvable.ensures.leaves in
     let free_is : free ≡ free_of wishes = c.problem_of.ensures.wishes free whole ∙ (c.in_ok-free.ensures ∙ ap free_of c.as_slice.ensures.value) in
-    λ asks versions over asked. c.in_ok-refused-in-Err-Unsolvable.ensures asks
-    (answer_refuted catalogue source wishes c.args.asked same exact old solver asks c.in_ok-wishes.ensures.lines versions c.in_ok-wishes.ensures.wishes c.solve.ensures.provider over asked free free_is conflict
-    (subst (λ (root : Rules). IsAnswerUnder root free (Err (Unsolvable conflict)) solver old) c.problem_of.ensures.root (subst (λ (e : UnsolvableOrCancelled GivenUp). IsAnswerUnder (asked_of c.problem_of.result) free (Err e) solver old) is answers)) ends)
+    let refuted : AreRequestLines catalogue source.lines → AreWishesAt catalogue source → IsOver catalogue old → AreAsked old.ids source c.args.asked → IsRefutedOver same catalogue source solver =
+    λ asks versions over asked. answer_refuted catalogue source wishes c.args.asked same exact old solver asks c.in_ok-wishes.ensures.lines versions c.in_ok-wishes.ensures.wishes c.solve.ensures.provider over asked free free_is conflict
+    (subst (λ (root : Rules). IsAnswerUnder root free (Err (Unsolvable conflict)) solver old) c.problem_of.ensures.root (subst (λ (e : UnsolvableOrCancelled GivenUp). IsAnswerUnder (asked_of c.problem_of.result) free (Err e) solver old) is answers)) ends in
+    record {
+      report = if_ok c.refused.result (λ r reports asks versions over asked. reports asks (refuted asks versions over asked)) c.refused.ensures.report;
+      stop = if_stopped c.refused.result (λ (no : ⊥). absurd no) (λ long asks versions over asked. long asks (refuted asks versions over asked)) c.refused.ensures.stop;
+    }

@@ -18,4 +18,8 @@ returns-clause-report c =
 pub returns-clause-stop : goal.returns-clause-stop
 returns-clause-stop c =
     let same = ap (λ (k : Kept Provider NameId SolvableId). k.provider) c.new-solver.ensures in
-    if_stopped c.answered.result (subst (λ (p : Provider). p.has_budget ≡ true) same) c.answered.ensures.stop
+    if_stopped c.answered.result (subst (λ (p : Provider). p.has_budget ≡ true) same)
+    (λ long asks versions over asked. long asks versions
+    (subst (λ (p : Provider). IsOver c.args.catalogue.now p) (sym same) over)
+    (subst (λ (p : Provider). AreAsked p.ids c.args.request.now c.args.asked) (sym same) asked))
+    c.answered.ensures.stop

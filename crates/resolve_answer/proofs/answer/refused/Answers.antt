@@ -1,7 +1,8 @@
-use Rattle.std.proofs.Common.{Bool, true, ◌&&◌, List, refl, sym, ◌∙◌, ap, subst}
+use Rattle.std.proofs.Common.{Bool, true, ◌&&◌, List, refl, sym, ◌∙◌, ap, subst, arith}
 use Rattle.std.specs.Prelude.{◌==◌}
 use Rattle.std.proofs.lemmas.Bool.{and_parts, and_from, eqb-true, eq-eqb}
 use Rattle.resolvo_sat.specs.Encoding.{IsExact}
+use Rattle.resolvo_proof.specs.Offered.{offered_by}
 use Rattle.resolvo_proof.specs.declared.step.ProofStep.{ProofStep}
 use Rattle.resolvo_catalogue.specs.Ids.{NameId, SolvableId}
 use Rattle.resolvo_catalogue.specs.Provider.{Provider}
@@ -10,7 +11,8 @@ use Rattle.resolvo_report.specs.View.{report_of, messages_of}
 use Rattle.resolve_refusal.specs.Refusal.{Refutes, IsRefusalOf}
 use Rattle.resolvo.specs.Solver.{Kept}
 use Rattle.resolve_answer.specs.Reported.{IsReportOf}
-use Rattle.resolve_answer.proofs.Upheld.{taken_reported}
+use Rattle.resolve_answer.specs.Message.{IsTextOf, with_message}
+use Rattle.resolve_answer.proofs.Upheld.{IsTold, taken_reported}
 use Rattle.resolve_answer.proofs.answer.refused.Goals as goal
 
 abbrev Steps : Type 0
@@ -26,17 +28,35 @@ same_name x y = (x.raw == y.raw) && true
 one_name : IsExact same_name
 one_name = record { one = λ x y h. ap (λ k. record { raw = k; tag = record {} }) (eqb-true x.raw y.raw (and_parts (x.raw == y.raw) true h).0); own = λ x. and_from (x.raw == x.raw) true (eq-eqb x.raw x.raw refl) refl }
 
-pub returns : goal.returns
-returns c = λ asks is.
+pub returns-in-Some-clause-report : goal.returns-in-Some-clause-report
+returns-in-Some-clause-report c = λ asks is.
     let steps = c.in_ok-steps in
     let kept = steps.steps.items in
     let solver = c.args.solver.now in
     let report = report_of c.in_ok-report.report in
-    let message = messages_of c.in_ok-lines.lines.items in
     let (l, there, listed) = c.requires in
+    let message = messages_of c.in-Some.lines.items in
+    let text : IsTextOf same_name same solver.provider (offered_by l.offers) solver.proof message = rw c.in-Some.is at c.in_ok-lines.ensures.fits l there in
     let reports : Refutes c.args.catalogue.now c.args.request.now solver.provider kept → IsRefusalOf c.args.catalogue.now c.args.request.now.lines solver.provider.ids kept report =
     subst (λ (p : Provider). Refutes c.args.catalogue.now c.args.request.now p kept → IsRefusalOf c.args.catalogue.now c.args.request.now.lines p.ids kept report) (c.provider.ensures ∙ ap (λ (k : Kept Provider NameId SolvableId). k.provider) c.take_proof.ensures.left)
     (subst (λ (xs : Steps). Refutes c.args.catalogue.now c.args.request.now c.provider.result.now xs → IsRefusalOf c.args.catalogue.now c.args.request.now.lines c.provider.result.now.ids xs report) c.as_slice.ensures.value c.in_ok-report.ensures.refusal) in
-    subst (λ (r : Report). IsReportOf c.args.catalogue.now c.args.request.now.lines r) (sym c.with_message.ensures)
-    (taken_reported c.args.catalogue.now c.args.request.now same solver asks is c.take_proof.result.items c.take_proof.ensures.steps kept steps.ensures.kept steps.ensures.named steps.ensures.proof steps.ensures.empty steps.ensures.places steps.ensures.signs report reports
-    same_name one_name l there message (c.in_ok-lines.ensures l there))
+    let told : IsTold c.args.catalogue.now c.args.request.now.lines message report =
+    taken_reported c.args.catalogue.now c.args.request.now same solver asks is c.take_proof.result.items c.take_proof.ensures.steps kept steps.ensures.kept steps.ensures.named steps.ensures.proof steps.ensures.empty steps.ensures.places steps.ensures.signs report reports
+    same_name one_name l there message text in
+    subst (λ (r : Report). IsReportOf c.args.catalogue.now c.args.request.now.lines r) (sym c.with_message.ensures) told.0
+
+pub returns-clause-stop : goal.returns-clause-stop
+returns-clause-stop c = λ asks is.
+    let steps = c.in_ok-steps in
+    let kept = steps.steps.items in
+    let solver = c.args.solver.now in
+    let report = report_of c.in_ok-report.report in
+    let (l, there, listed) = c.requires in
+    let (message, text, long) = c.in_ok-lines.ensures.long c.in-None.is l there in
+    let reports : Refutes c.args.catalogue.now c.args.request.now solver.provider kept → IsRefusalOf c.args.catalogue.now c.args.request.now.lines solver.provider.ids kept report =
+    subst (λ (p : Provider). Refutes c.args.catalogue.now c.args.request.now p kept → IsRefusalOf c.args.catalogue.now c.args.request.now.lines p.ids kept report) (c.provider.ensures ∙ ap (λ (k : Kept Provider NameId SolvableId). k.provider) c.take_proof.ensures.left)
+    (subst (λ (xs : Steps). Refutes c.args.catalogue.now c.args.request.now c.provider.result.now xs → IsRefusalOf c.args.catalogue.now c.args.request.now.lines c.provider.result.now.ids xs report) c.as_slice.ensures.value c.in_ok-report.ensures.refusal) in
+    let told : IsTold c.args.catalogue.now c.args.request.now.lines message report =
+    taken_reported c.args.catalogue.now c.args.request.now same solver asks is c.take_proof.result.items c.take_proof.ensures.steps kept steps.ensures.kept steps.ensures.named steps.ensures.proof steps.ensures.empty steps.ensures.places steps.ensures.signs report reports
+    same_name one_name l there message text in
+    (with_message message report, told.0, omega (arith, long, told.1))

@@ -8,4 +8,5 @@ returns-clause-report c = if_ok c.answered_by.result (λ r reports asks versions
     c.answered_by.ensures.report
 
 pub returns-clause-stop : goal.returns-clause-stop
-returns-clause-stop c = if_stopped c.answered_by.result (λ has. c.in_ok-provider.ensures.budget (sym c.in_ok-asked.ensures.interns.budget ∙ has)) c.answered_by.ensures.stop
+returns-clause-stop c = if_stopped c.answered_by.result (λ has. c.in_ok-provider.ensures.budget (sym c.in_ok-asked.ensures.interns.budget ∙ has))
+    (λ long asks versions. long asks versions (c.in_ok-asked.ensures.over c.args.catalogue.now c.in_ok-provider.ensures.over) c.in_ok-asked.ensures.asked) c.answered_by.ensures.stop

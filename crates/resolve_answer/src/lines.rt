@@ -1,0 +1,69 @@
+//! The lines of a text, kept while it is written: no copy of the whole text is made.
+
+ghost use Rattle.std.specs.Prelude.{ℕ, List, ◌++◌, ◌∷◌, [], IfOk, OnOk, IfSome};
+ghost use Rattle.resolvo_report.specs.View.{messages_of};
+ghost use Rattle.resolve_answer.specs.Message.{AreLinesOf, AreBegun};
+
+use resolvo_pool_core::want::{R, Want};
+use std::alloc::Global;
+use std::fmt;
+use std::fmt::Write;
+
+/// The lines that were written to their ends, and the bytes of the one that is begun.
+#[derive(Drop)]
+struct Lines {
+    alloc: Global,
+    whole: Vec<Vec<u8>>,
+    begun: Vec<u8>,
+}
+
+impl Lines {
+    /// Takes one byte more. A whole line has room for exactly its bytes.
+    fn push(&mut self, byte: u8) -> R<()>
+        ensures { OnOk result
+            ((text : List ℕ)
+            → AreBegun text (messages_of self.old.whole.items) self.old.begun.items
+            → AreBegun (text ++ byte ∷ []) (messages_of self.new.whole.items) self.new.begun.items) }
+    {
+        if byte != b'\n' {
+            self.begun.push(byte)?;
+            return Ok(());
+        }
+        let line = Vec::from_slice(self.alloc, self.begun.as_slice())?;
+        self.whole.push(line)?;
+        self.begun.clear();
+        Ok(())
+    }
+}
+
+impl fmt::Write for Lines {
+    ghost write_str_gives = { λ s bs t.
+        (text : List ℕ)
+        → AreBegun text (messages_of s.whole.items) s.begun.items
+        → AreBegun (text ++ bs) (messages_of t.whole.items) t.begun.items };
+
+    fn write_str(&mut self, s: &str) -> fmt::Result {
+        for byte in s.as_bytes() {
+            let Ok(()) = self.push(*byte) else {
+                return Err(fmt::Error);
+            };
+        }
+        Ok(())
+    }
+}
+
+/// The lines of the text of a value, without their newlines. Bytes after the last newline are dropped.
+pub(crate) fn lines_of<D: fmt::Display>(alloc: Global, value: &D) -> R<Vec<Vec<u8>>>
+    ensures { IfOk result
+        (λ v. IfSome (D.output value.now) (λ text. AreLinesOf text (messages_of v.items))) }
+{
+    let mut lines = Lines {
+        alloc,
+        whole: Vec::new(alloc),
+        begun: Vec::new(alloc),
+    };
+    match lines.write(value) {
+        Ok(()) => Ok(lines.whole),
+        Err(_) => Err(Want::Memory),
+    }
+}
