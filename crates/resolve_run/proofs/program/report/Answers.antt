@@ -7,7 +7,7 @@ use Rattle.resolve_run.proofs.program.report.Goals as goal
 pub returns-in_err-report-clause-err : goal.returns-in_err-report-clause-err
 returns-in_err-report-clause-err c =
     let p = err_from_is_err_and c.from_residual.result c.from_residual.ensures.1 in
-    rw (p.1, p.2) (stopped_within c.args.budget c.in_err-report.field-0 c.args.catalogue.now c.args.request.now c.in_err-report.ensures.stop)
+    rw (p.1, p.2) (stopped_within c.args.budget c.in_err-report.field-0.0 c.args.catalogue.now c.args.request.now c.in_err-report.ensures.stop)
 
 pub returns-clause-ok : goal.returns-clause-ok
 returns-clause-ok c = within_ok _ c.written.result c.within.result c.within.ensures
