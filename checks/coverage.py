@@ -1,5 +1,5 @@
 #!/usr/bin/env python3
-"""Checks that docs/COVERAGE.md and docs/EDITS.md name what exists, and lists the rows, store calls, tests and edits in docs/COVERAGE.md.
+"""Checks that docs/COVERAGE.md and docs/EDITS.md name what exists, and lists the rows, requests, store calls, tests and edits in docs/COVERAGE.md.
 
 Usage: checks/coverage.py [--write]
 Without `--write` it fails where a named file is missing, or a row, a test or an edit of the gate isn't listed. It fails too where
@@ -11,6 +11,7 @@ import os
 import re
 import sys
 
+import requests_kept
 import rows
 import store_calls
 
@@ -34,6 +35,12 @@ def rows_listed():
         about = found[0].about.replace("|", "\\|")
         lines.append(f"| `{found[0].name}` | {len(found)} | {about} |")
     return lines
+
+
+def requests_listed():
+    """A line for each case of the solver: its title, and what it shows."""
+    lines = ["| Case in `crates/resolvo_rows/stdin` | Shows |", "|---|---|"]
+    return lines + [f"| {case.title} | {', '.join(it for it in case.sections if it not in ('catalogue', 'request'))} |" for case in requests_kept.cases()]
 
 
 def store_rows_listed():
@@ -79,7 +86,7 @@ def edits_listed():
 
 
 def generated():
-    parts = [FROM, *rows_listed(), "", "## Lists of store calls", "", *store_rows_listed(), "", "## Tests", "", *tests_listed(), "", "## Edits of the gate", "", *edits_listed()]
+    parts = [FROM, *rows_listed(), "", "## Requests to the solver", "", *requests_listed(), "", "## Lists of store calls", "", *store_rows_listed(), "", "## Tests", "", *tests_listed(), "", "## Edits of the gate", "", *edits_listed()]
     return "\n".join(parts) + "\n"
 
 
