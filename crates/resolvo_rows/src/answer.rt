@@ -3,10 +3,7 @@
 use crate::solve::{Asked, Source, Version, solved};
 use resolvo::conflict::Conflict;
 use resolvo::solver::{Solver, UnsolvableOrCancelled};
-use resolvo_pool_core::id::{NameId, NameTag, SolvableId, SparseId};
-use resolvo_pool_core::provider::Interner;
-use resolvo_pool_core::solver_id::SolvableIdOrRoot;
-use resolvo_pool_core::want::{R, Want};
+use resolvo_pool::{Interner, NameId, NameTag, R, SolvableId, SolvableIdOrRoot, SparseId, Want};
 use resolvo_test_providers::test_provider::Question;
 use std::alloc::Global;
 use std::fmt;

@@ -1,10 +1,8 @@
 //! The order in which candidates are tried, and those that a limit leaves out.
 
 use crate::solve::Texts;
-use resolvo_catalogue::provider::{CatalogueProvider, Hint, RequestIds};
-use resolvo_pool::cache::{CacheFault, SolverCache};
-use resolvo_pool_core::id::SolvableId;
-use resolvo_pool_core::want::{R, Want};
+use resolvo_catalogue::{CatalogueProvider, Hint, RequestIds};
+use resolvo_pool::{CacheFault, R, SolvableId, SolverCache, Want};
 use std::alloc::Global;
 
 /// Writes the numbers of the versions, as the catalogue counts them.

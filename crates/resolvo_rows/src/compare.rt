@@ -5,9 +5,8 @@ use crate::candidates::write_candidates;
 use crate::case::{section, title};
 use crate::solve::{Texts, answer_to, catalogue_in, request_in};
 use crate::tally::Tally;
-use resolvo_catalogue::provider::Hint;
-use resolvo_catalogue_core::Catalogue;
-use resolvo_pool_core::want::{R, Want};
+use resolvo_catalogue::{Catalogue, Hint};
+use resolvo_pool::{R, Want};
 use std::alloc::Global;
 
 /// Tells an answer that isn't the one that is wanted.

@@ -2,10 +2,8 @@
 
 use crate::solve::{catalogue_in, request_in};
 use crate::tally::Tally;
-use resolvo_catalogue::provider::{CatalogueProvider, Hint, RequestIds};
-use resolvo_catalogue_core::{Catalogue, Request, Span, Spec};
-use resolvo_pool_core::requirement::Requirement;
-use resolvo_pool_core::want::R;
+use resolvo_catalogue::{Catalogue, CatalogueProvider, Hint, Request, RequestIds, Span, Spec};
+use resolvo_pool::{R, Requirement};
 use std::alloc::Global;
 
 const LISTED: &str =

@@ -15,7 +15,7 @@ use case::{number_in, section};
 use compare::compare_case;
 use ids::compare_ids;
 use pairs::compare_pairs;
-use resolvo_pool_core::want::R;
+use resolvo_pool::R;
 use std::alloc::Global;
 use std::io;
 use std::process::ExitCode;

@@ -4,10 +4,8 @@
 use crate::solve::{Asked, catalogue_in, request_in, solved};
 use crate::tally::Tally;
 use resolvo::solver::{Solver, UnsolvableOrCancelled};
-use resolvo_catalogue::provider::{CatalogueProvider, Hint, RequestIds};
-use resolvo_catalogue_core::{Catalogue, Request, VersionNo};
-use resolvo_pool_core::id::SolvableId;
-use resolvo_pool_core::want::{R, Want};
+use resolvo_catalogue::{Catalogue, CatalogueProvider, Hint, Request, RequestIds, VersionNo};
+use resolvo_pool::{R, SolvableId, Want};
 use std::alloc::Global;
 
 /// Whether the set keeps the rules, by the lines.

@@ -3,12 +3,13 @@
 use crate::answer::{Answer, write_twice};
 use resolvo::problem::Problem;
 use resolvo::solver::{Solver, UnsolvableOrCancelled};
-use resolvo_catalogue::provider::{CatalogueProvider, Hint, RequestIds};
-use resolvo_catalogue_core::{Catalogue, MemorySource, ReadFault, Request};
-use resolvo_pool_core::id::{SolvableId, SolvableTag, SparseId, VersionSetId};
-use resolvo_pool_core::provider::DependencyProvider;
-use resolvo_pool_core::requirement::ConditionalRequirement;
-use resolvo_pool_core::want::{R, Want};
+use resolvo_catalogue::{
+    Catalogue, CatalogueProvider, Hint, MemorySource, ReadFault, Request, RequestIds,
+};
+use resolvo_pool::{
+    ConditionalRequirement, DependencyProvider, R, SolvableId, SolvableTag, SparseId, VersionSetId,
+    Want,
+};
 use resolvo_test_providers::test_provider::{TestProvider, sparse_ids};
 use std::alloc::Global;
 
