@@ -5,9 +5,10 @@
     checks/rt_store.py tests CRATE ..      proves and runs the crates' tests, as the gate does
     checks/rt_store.py edits CRATE ..      tries the crates' must-fail edits, as the gate does
     checks/rt_store.py front CRATE ..      the quick pass over the sources: what needs no proof to find
+    checks/rt_store.py take                takes into the store the libraries that rt ci proved of this very text on this machine
     checks/rt_store.py WORD ..             anything else is done by rt, in a crate's folder, over the store
 
-The first four run at the top of the repository. A library is kept as its statements, under a sum of its text and of what it
+The first five run at the top of the repository. A library is kept as its statements, under a sum of its text and of what it
 sees of the libraries below. So a library that didn't change is proved once for all clones. A change of proofs, or of a body, often
 proves nothing above it again: only a change of what is seen does. A check of a crate keeps its work in out/, as under rt.
 
@@ -19,6 +20,7 @@ import fcntl
 import hashlib
 import importlib.machinery
 import importlib.util
+import json
 import os
 import shutil
 import subprocess
@@ -209,7 +211,8 @@ def libs(names):
             for at, crate in enumerate(ready):
                 if idle <= 0:
                     break
-                jobs = max(1, idle // (len(ready) - at))
+                # the longest chain goes first: what stands on it waits for it
+                jobs = max(1, min(3, idle) if at == 0 else idle // (len(ready) - at))
                 left.remove(crate)
                 running[pool.submit(one, crate, jobs)] = crate, jobs
                 idle -= jobs
@@ -242,6 +245,37 @@ def tests(names):
     return status
 
 
+def take():
+    """Copies the libraries that the gate keeps of this text into the store, lowest first."""
+    rtlib.guarded()
+    rt.Crate.allowed = rt.handles_of(os.getcwd())
+    sums = {}
+    for crate in rt.crates_of(os.getcwd()):
+        if not crate.makes_rlib() or any(it.name not in sums for it in crate.below()):
+            continue
+        key = hashlib.sha256(repr((rt.own_sum(crate), [(it.name, sums[it.name]) for it in crate.below()])).encode()).hexdigest()
+        kept = f"{rt.STORE}/proof-{crate.name}-{key}"
+        if not os.path.isfile(f"{kept}/made.json"):
+            continue
+        with open(f"{kept}/made.json") as it:
+            files = [tuple(pair) for pair in json.load(it)["files"]]
+        sums[crate.name] = hashlib.sha256(repr(files).encode()).hexdigest()
+        place(crate)
+        if crate.is_built():
+            continue
+        folder = os.path.dirname(crate.rlib)
+        part = f"{folder}.part{os.getpid()}"
+        for number, (path, _) in enumerate(files):
+            to = f"{part}/{path.removeprefix('rlib/')}"
+            os.makedirs(os.path.dirname(to), exist_ok=True)
+            rt.link_or_copy(f"{kept}/{number}", to)
+        os.rename(part, folder)
+        content(crate.rlib)
+        crate.rlib = canonical(crate.rlib)
+        print(f"rt_store: {crate.name} taken from the gate", flush=True)
+    return 0
+
+
 def edits(names):
     rtlib.guarded()
     failed = 0
@@ -271,4 +305,6 @@ if __name__ == "__main__":
         sys.exit(0)
     if sys.argv[1:2] == ["edits"]:
         sys.exit(edits(sys.argv[2:]))
+    if sys.argv[1:2] == ["take"]:
+        sys.exit(take())
     sys.exit(rt.main(sys.argv[1:]))
