@@ -11,7 +11,7 @@ use Rattle.resolvo_pool_core.specs.Provider.{listing_or_empty}
 use Rattle.resolvo_pool_core.specs.Text.{solvable_of}
 use Rattle.resolvo_pool_core.specs.RuleKeeping.{Packages, Rules, rules_for, is_outside, listing_for}
 use Rattle.resolvo_store_core.specs.Signed.{Signed}
-use Rattle.resolvo_store_core.specs.Clauses.{yes, no}
+use Rattle.resolvo_store_core.specs.Clauses.{yes, no, root as root_variable}
 use Rattle.resolvo_sat.specs.Steps.{AreInRange}
 use Rattle.resolvo_packages.specs.declared.package_source.ForbiddenSolvable.{ForbiddenSolvable}
 use Rattle.resolvo_packages.specs.declared.package_source.Offered.{Offered}
@@ -155,10 +155,16 @@ module _ {N S : Type 0} (same : S → S → Bool) (exact : IsExact same) where
       (λ p literals pair. pair_spells (origin old.coding.atoms.keys) (no first) (yes second) literals (minus (Atom.solvable s) ∷ []) (plus (Atom.any_of n) ∷ []) pair
       (inr (minus (Atom.solvable s), refl, means_atom old.coding.atoms.keys (no first) (Solvable s) is)) (inr (plus (Atom.any_of n), refl, means_atom old.coding.atoms.keys (yes second) (AtLeastOne n) present)))
 
-  -- a solvable is forbidden
-  pub forbid_encodes : (x : ClauseKind N S) (w : ForbidReason S) (s : S) (v : VariableId) (old new : Encoder N S) → IsBuilt old → rule_of x ≡ Some (Rule.forbids w s) → Represents old.coding.atoms.keys v (Solvable s) → EncodesPair x (no v) (no v) old new → EncodesRules same (Rule.forbids w s ∷ []) old new
-  forbid_encodes x w s v old new built is present = pair_encodes x (Rule.forbids w s) (no v) (no v) old new built is tt
-      (λ p literals pair. one_spells (origin old.coding.atoms.keys) (no v) literals (minus (Atom.solvable s)) pair (means_atom old.coding.atoms.keys (no v) (Solvable s) present))
+  -- a solvable is forbidden, beside the root or alone
+  pub forbid_encodes : (x : ClauseKind N S) (w : ForbidReason S) (s : S) (first v : VariableId) (old new : Encoder N S) → IsBuilt old → rule_of x ≡ Some (Rule.forbids w s) → (first ≡ v) ⊎ (first ≡ root_variable) → Represents old.coding.atoms.keys v (Solvable s)
+      → EncodesPair x (no first) (no v) old new → EncodesRules same (Rule.forbids w s ∷ []) old new
+  forbid_encodes x w s first v old new built is (inl one) present pair = pair_encodes x (Rule.forbids w s) (no v) (no v) old new built is tt
+      (λ p literals both. one_spells (origin old.coding.atoms.keys) (no v) literals (minus (Atom.solvable s)) both (means_atom old.coding.atoms.keys (no v) (Solvable s) present))
+      (subst (λ (u : VariableId). EncodesPair x (no u) (no v) old new) one pair)
+  forbid_encodes x w s first v old new built is (inr top) present pair = pair_encodes x (Rule.forbids w s) (no first) (no v) old new built is tt
+      (λ p literals both. pair_spells (origin old.coding.atoms.keys) (no first) (no v) literals [] (minus (Atom.solvable s) ∷ []) both (parent_reads old.coding.atoms.keys None first top)
+      (inr (minus (Atom.solvable s), refl, means_atom old.coding.atoms.keys (no v) (Solvable s) present)))
+      pair
 
   -- ---- records
 

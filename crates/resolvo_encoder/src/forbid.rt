@@ -1,10 +1,10 @@
 //! Clauses that forbid solvables: constraints, locks, exclusions, and unknown dependencies. The
 //! encoder adds them for each parent, and for the packages of its requirements and constraints.
-ghost use Rattle.std.specs.Prelude.{◌≡◌, ◌<◌, ◌∷◌, [], true, Option, Some, OnOk, IfOk, IsSome, Contains, IsErrOf, IsOkUnless};
+ghost use Rattle.std.specs.Prelude.{◌≡◌, ◌⊎◌, ◌<◌, ◌∷◌, [], true, Option, Some, OnOk, IfOk, IsSome, Contains, IsErrOf, IsOkUnless};
 ghost use Rattle.resolvo_pool_core.specs.declared.want.Want.TheVariants.{Memory, Ids};
 ghost use Rattle.std.specs.Bool.{Decides};
 ghost use Rattle.resolvo_pool_core.specs.RuleKeeping.{Packages, Rules, IsLawful, rules_for, is_outside};
-ghost use Rattle.resolvo_store_core.specs.Clauses.{no};
+ghost use Rattle.resolvo_store_core.specs.Clauses.{no, root as root_variable};
 ghost use Rattle.resolvo_sat.specs.State.{count_of};
 ghost use Rattle.resolvo_packages.specs.PackageSource.{AreOutside};
 ghost use Rattle.resolvo_packages.specs.Forbidden.{AreForbidden};
@@ -181,7 +181,7 @@ impl<N: Copy + Exact + Hash + Debug + Drop, S: Copy + Exact + Hash + Debug> Enco
         Ok(())
     }
 
-    /// Forbids a solvable by a unit clause.
+    /// Forbids a solvable: by a unit clause, or beside the root where another one is locked.
     fn deny(&mut self, alloc: Global, solvable: S, kind: ClauseKind<N, S>) -> R<()>
         requires built { IsBuilt self.old }
         requires rule { IsSome (rule_of kind) }
@@ -192,7 +192,8 @@ impl<N: Copy + Exact + Hash + Debug + Drop, S: Copy + Exact + Hash + Debug> Enco
         ensures ids { IsErrOf result Ids → LacksNumber self.new.coding }
     {
         let variable = self.give(ProofAtom::Solvable(solvable))?;
-        self.encode_pair(alloc, kind, variable, Literal::new(variable, true))?;
+        let first = beside(&kind, variable);
+        self.encode_pair(alloc, kind, first, Literal::new(variable, true))?;
         Ok(())
     }
 
@@ -323,7 +324,18 @@ fn pair_of(alloc: Global, first: VariableId, second: Literal) -> R<Vec<Literal>>
     Ok(literals)
 }
 
-/// The kind of the unit clause that forbids a solvable for this reason.
+/// The variable that is denied beside that of a forbidden solvable: the root's for a lock, else the
+/// same one.
+fn beside<N, S>(kind: &ClauseKind<N, S>, variable: VariableId) -> VariableId
+    ensures { (result ≡ variable) ⊎ (result ≡ root_variable) }
+{
+    match kind {
+        ClauseKind::Locked { .. } => VariableId::root(),
+        _ => variable,
+    }
+}
+
+/// The kind of the clause that forbids a solvable for this reason.
 fn forbid_kind<N, S: Copy>(barred: ForbiddenSolvable<S>) -> ClauseKind<N, S>
     ensures { rule_of result ≡ Some (Rule.forbids (reason_of barred.why) barred.solvable) }
 {

@@ -19,7 +19,7 @@ use Rattle.resolvo_sat.specs.Known.{clause_at}
 use Rattle.resolvo_sat.specs.Entries.{made_true, before}
 use Rattle.resolvo_sat.specs.State.{history, clauses_of}
 use Rattle.resolvo_sat.specs.Propagation.{IsReady, IsFit, IsOwnPair, GuardsTo, RecordsGuard, IsPending, SameWatching, Extends}
-use Rattle.resolvo_sat.specs.Attach.{AreFalseBut, IsBestBeside, IsBestSoFar, IsBestPair, IsFirstSet, IsLast, Starts, Attaches, IsAttachment, IsPendingEnd}
+use Rattle.resolvo_sat.specs.Attach.{AreFalseBut, IsBestBeside, IsBestSoFar, IsBestPair, IsFirstSet, IsLast, Starts, IsStart, Attaches, IsAttachment, IsPendingEnd}
 use Rattle.resolvo_sat.proofs.Trails.{known_from_level}
 use Rattle.resolvo_sat.proofs.ExtendLemmas.{extends_nothing, level_by_now}
 use Rattle.resolvo_sat.proofs.Guards.{guards_first, guards_recorded}
@@ -182,14 +182,15 @@ started_watching v w c p within starts = record {
     some_none : (q : WatchedLiterals) → Some q ≡ None → ⊥
     some_none q e = cc
 
--- the last pending clause is attached, and its forced literal assigned
-pub attaches_one : (s t : SatState) (v w : WatchLists) (c : ClauseId) (p : WatchedLiterals) → IsReady s v → IsLast c v.pending.items → IsBestPair (made_true (history s)) (clause_at (clauses_of s) c.0) p → IsFirstSet c.0 p s t true → Starts c p v w → IsAttachment c.0 s t v w true
-attaches_one s t v w c p ready last best (e, qhead, guards) starts = (
+-- the last pending clause is attached: it watches two literals of its own, guarded as far as the trail was propagated
+attaches_pair : (s t : SatState) (v w : WatchLists) (c : ClauseId) (p : WatchedLiterals) → IsReady s v → IsLast c v.pending.items → IsOwnPair (clause_at (clauses_of s) c.0) p → same_literal p.first p.second ≡ false
+    → Extends s t → t.qhead ≡ s.qhead → GuardsTo t.guard_level (before t.tracker.trail t.qhead) (history t) p → Starts c p v w → IsAttachment c.0 s t v w true
+attaches_pair s t v w c p ready last own differ e qhead guards starts = (
   record {
     watching = started_watching v w c p within starts;
     ready = record {
       state = e.state;
-      fits = fits_same s t w (started_fits s v w c p ready.fits last best.own best.differ starts) e.same.clauses;
+      fits = fits_same s t w (started_fits s v w c p ready.fits last own differ starts) e.same.clauses;
       qhead = still.qhead;
       walked = λ n q is. walks n q is (started_pair v w c p starts within n);
     };
@@ -209,9 +210,18 @@ attaches_one s t v w c p ready last best (e, qhead, guards) starts = (
     walks n q is (inl here) =
         let both : Some p ≡ Some q = sym here.1 ∙ is in
         let same : p ≡ q = cc in
-        subst (GuardsTo t.guard_level (before t.tracker.trail t.qhead) (history t)) same
-        (guards_first t.guard_level (history t) (before t.tracker.trail t.qhead) (history t) p (λ l j h. level_by_now t.tracker.trail t.qhead l j h) guards)
+        subst (GuardsTo t.guard_level (before t.tracker.trail t.qhead) (history t)) same guards
     walks n q is (inr other) = still.walked n q (sym other.2 ∙ is)
+
+-- its forced literal was assigned
+pub attaches_one : (s t : SatState) (v w : WatchLists) (c : ClauseId) (p : WatchedLiterals) → IsReady s v → IsLast c v.pending.items → IsBestPair (made_true (history s)) (clause_at (clauses_of s) c.0) p → IsFirstSet c.0 p s t true → Starts c p v w → IsAttachment c.0 s t v w true
+attaches_one s t v w c p ready last best (e, qhead, guards) starts =
+    attaches_pair s t v w c p ready last best.own best.differ e qhead
+    (guards_first t.guard_level (history t) (before t.tracker.trail t.qhead) (history t) p (λ l j h. level_by_now t.tracker.trail t.qhead l j h) guards) starts
+
+-- it watches the literals that it is to watch
+pub attaches_start : (s t : SatState) (v w : WatchLists) (c : ClauseId) (p : WatchedLiterals) → IsReady s v → IsLast c v.pending.items → IsStart c.0 s t (Some p) → Starts c p v w → IsAttachment c.0 s t v w true
+attaches_start s t v w c p ready last (own, e, qhead, guards) starts = attaches_pair s t v w c p ready last (record { first = own.first; second = own.second }) own.differ e qhead guards starts
 
 -- the last pending clause is falsified
 pub attaches_none : (s t : SatState) (v : WatchLists) (c : ClauseId) (p : WatchedLiterals) → IsReady s v → IsLast c v.pending.items → IsFirstSet c.0 p s t false → IsAttachment c.0 s t v v false
@@ -226,7 +236,7 @@ count_reverse n (x ∷ xs) =
     omega arith
 
 -- the clauses that wait are in another order
-pub turned : (s : SatState) (v w : WatchLists) → IsReady s v → w ≡ record v { pending = w.pending } → w.pending.items ≡ reverse v.pending.items → Attaches s s v w
+pub turned : (s : SatState) (v w : WatchLists) → IsReady s v → w ≡ record v { pending = w.pending; starts = w.starts } → w.pending.items ≡ reverse v.pending.items → Attaches s s v w
 turned s v w ready rest back =
     subst (λ (x : WatchLists). Attaches s s v x) (sym rest) (record {
       watching = record {

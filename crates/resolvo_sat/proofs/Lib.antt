@@ -13,6 +13,7 @@ pub mod Guards
 pub mod Readiness
 pub mod VisitLemmas
 pub mod AttachLemmas
+pub mod StartLemmas
 pub mod CompleteLemmas
 pub mod PendingLemmas
 pub mod JumpLemmas

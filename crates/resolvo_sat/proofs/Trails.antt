@@ -107,7 +107,7 @@ undone_older j [] new u = ([], sym u)
 undone_older j (d ∷ older) new (inl u) = ([], sym u)
 undone_older j (d ∷ older) new (inr u) = let (p, is) = undone_older j older new u.1 in (d ∷ p, ap (λ (h : List Entry). d ∷ h) is)
 
-false_unless : (b : Bool) → (b ≡ true → ⊥) → b ≡ false
+pub false_unless : (b : Bool) → (b ≡ true → ⊥) → b ≡ false
 false_unless true h = absurd (h refl)
 false_unless false h = refl
 

@@ -2,7 +2,7 @@
 ghost use Rattle.std.specs.Prelude.{◌≡◌, ◌<◌, length, true, not, IfOk, IsErrOf, IsOkUnless};
 ghost use Rattle.resolvo_pool_core.specs.declared.want.Want.TheVariants.{Memory, Ids};
 ghost use Rattle.resolvo_store_core.specs.Signed.{has};
-ghost use Rattle.resolvo_sat.specs.State.{IsDerived, clauses_of, count_of};
+ghost use Rattle.resolvo_sat.specs.State.{IsState, IsDerived, clauses_of, count_of};
 ghost use Rattle.resolvo_sat.specs.Steps.{AreInRange};
 ghost use Rattle.resolvo_sat.specs.Propagation.{IsReady, AreCovered};
 ghost use Rattle.resolvo_sat.specs.AddClause.{HasAnother, with_last, Begins, AddsPending};
@@ -12,6 +12,7 @@ use crate::watch_lists::{UnitClause, WatchLists};
 use resolvo_pool_core::id::ClauseId;
 use resolvo_pool_core::want::R;
 use resolvo_store_core::literal::Literal;
+use resolvo_store_core::watched_literals::WatchedLiterals;
 
 impl SatState {
     /// Adds a clause: a rule, or one that follows from its antecedents. It is pending until
@@ -33,9 +34,32 @@ impl SatState {
         let literal = clause.literals[0];
         let is_long = has_another(clause.literals.as_slice(), literal);
         let is_rule = clause.causes.is_empty();
+        let start = self.first_watches(clause.literals.as_slice(), is_rule);
         let clause = self.push_clause(clause)?;
-        watching.begin(UnitClause { clause, literal }, is_long, is_rule)?;
+        watching.begin(UnitClause { clause, literal }, start, is_long, is_rule)?;
         Ok(clause)
+    }
+
+    /// The literals that a new clause is to watch: its first one, and beside it the first that is
+    /// not false, or else the last. A learnt clause is to watch its first and its last literal.
+    fn first_watches(&self, literals: &[Literal], is_rule: bool) -> WatchedLiterals
+        requires state { IsState self.now }
+        requires some { 0 < length literals.now }
+    {
+        let first = literals[0];
+        let mut second = first;
+        for literal in literals {
+            if *literal != first {
+                if is_rule && !self.is_false(*literal) {
+                    return WatchedLiterals {
+                        first,
+                        second: *literal,
+                    };
+                }
+                second = *literal;
+            }
+        }
+        WatchedLiterals { first, second }
     }
 }
 
@@ -54,12 +78,19 @@ fn has_another(literals: &[Literal], first: Literal) -> bool
 
 impl WatchLists {
     /// Lists a new clause: as pending, or as the unit clause of this literal.
-    fn begin(&mut self, unit: UnitClause, is_long: bool, is_rule: bool) -> R<()>
+    fn begin(
+        &mut self,
+        unit: UnitClause,
+        start: WatchedLiterals,
+        is_long: bool,
+        is_rule: bool,
+    ) -> R<()>
         ensures begun { IfOk result (λ _. Begins unit is_long is_rule self.old self.new) }
         ensures refusal { IsOkUnless result Memory }
     {
         if is_long {
             self.pending.push(unit.clause)?;
+            self.starts.push(start)?;
         } else {
             self.add_unit(unit, is_rule)?;
         }

@@ -1,17 +1,17 @@
-//! Pending clauses begin to watch: each the two of its literals that became false last, or that
-//! aren't false.
-ghost use Rattle.std.specs.Prelude.{◌≡◌, ◌-◌, ◌<◌, length, reverse, slice_get, false, IfOk, IsOkUnless};
+//! Pending clauses begin to watch, in the order of addition. They were visited before
+//! (`visit_pending`), so each may watch the literals that it is to watch.
+ghost use Rattle.std.specs.Prelude.{◌≡◌, ◌-◌, ◌<◌, length, reverse, slice_get, true, false, IfOk, IsOkUnless};
 ghost use Rattle.resolvo_pool_core.specs.declared.want.Want.TheVariants.{Memory};
-ghost use Rattle.resolvo_store_core.specs.Signed.{same_literal};
+ghost use Rattle.resolvo_store_core.specs.Signed.{same_literal, has};
 ghost use Rattle.resolvo_sat.specs.Known.{clause_at};
 ghost use Rattle.resolvo_sat.specs.Entries.{made_true};
 ghost use Rattle.resolvo_sat.specs.State.{IsState, history, clauses_of};
 ghost use Rattle.resolvo_sat.specs.Propagation.{HasTwo, IsReady};
-ghost use Rattle.resolvo_sat.specs.Attach.{IsBestBeside, IsEither, IsBestPair, IsFirstSet, IsLast, Starts, IsAttachment, IsPendingEnd};
+ghost use Rattle.resolvo_sat.specs.Attach.{IsBestBeside, IsEither, IsBestPair, IsFirstSet, IsLast, Starts, AreOwn, IsAhead, MayWatch, GuardsBy, IsStart, IsAttachment, IsPendingEnd};
 
 use crate::state::SatState;
 use crate::watch_lists::WatchLists;
-use resolvo_pool_core::id::{ClauseId, DenseIndex};
+use resolvo_pool_core::id::{ClauseId, DenseIndex, VariableId};
 use resolvo_pool_core::want::R;
 use resolvo_store_core::literal::Literal;
 use resolvo_store_core::watched_literals::WatchedLiterals;
@@ -20,6 +20,20 @@ impl SatState {
     /// Attaches the pending clauses, in the order of addition, and assigns what they force. Or it
     /// returns one of them that is falsified, which remains pending.
     pub(crate) fn attach_pending(&mut self, watching: &mut WatchLists) -> R<Option<ClauseId>>
+        requires ready { IsReady self.old watching.old }
+        ensures attached { IfOk result (IsPendingEnd self.old self.new watching.old watching.new) }
+        ensures refusal { IsOkUnless result Memory }
+    {
+        if let Some(clause) = self.visit_pending(watching)? {
+            return Ok(Some(clause));
+        }
+        let falsified = self.attach_each(watching)?;
+        Ok(falsified)
+    }
+
+    /// Attaches the pending clauses, in the order of addition, and assigns what they force. Or it
+    /// returns one of them that is falsified, which remains pending.
+    fn attach_each(&mut self, watching: &mut WatchLists) -> R<Option<ClauseId>>
         requires ready { IsReady self.old watching.old }
         ensures attached { IfOk result (IsPendingEnd self.old self.new watching.old watching.new) }
         ensures refusal { IsOkUnless result Memory }
@@ -53,6 +67,10 @@ impl SatState {
         ensures attached { IfOk result (IsAttachment clause.0 self.old self.new watching.old watching.new) }
         ensures refusal { IsOkUnless result Memory }
     {
+        if let Some(start) = self.start_of(watching, clause) {
+            watching.start(clause, start)?;
+            return Ok(true);
+        }
         let watched = self.watch_pair(clause);
         match self.assign_first(clause, &watched)? {
             true => {
@@ -61,6 +79,87 @@ impl SatState {
             }
             false => Ok(false),
         }
+    }
+
+    /// The literals that the last pending clause is to watch, if it may: they are two of its own,
+    /// and one that is false has a true one beside it, or wasn't propagated yet.
+    fn start_of(&mut self, watching: &WatchLists, clause: ClauseId) -> Option<WatchedLiterals>
+        requires state { IsState self.old }
+        requires in_range { clause.0 < length self.old.clauses }
+        ensures { IsStart clause.0 self.old self.new result }
+    {
+        let start = watching.last_start()?;
+        let WatchedLiterals { first, second } = start;
+        if !self.are_own(clause, first, second) {
+            return None;
+        }
+        if !self.may_watch(watching, first, second) {
+            return None;
+        }
+        if !self.may_watch(watching, second, first) {
+            return None;
+        }
+        self.guard_by(first, second);
+        self.guard_by(second, first);
+        Some(start)
+    }
+
+    /// Whether these are two literals of the clause.
+    fn are_own(&self, clause: ClauseId, first: Literal, second: Literal) -> bool
+        requires in_range { clause.0 < length self.now.clauses }
+        ensures { result ≡ true → AreOwn (clause_at (clauses_of self.now) clause.0) first second }
+    {
+        let literals = self.literals(clause);
+        first != second && is_among(literals, first) && is_among(literals, second)
+    }
+
+    /// Whether a clause may watch a literal beside another one: it isn't false, or the other one is
+    /// true, or it became false behind the propagation head.
+    fn may_watch(&self, watching: &WatchLists, literal: Literal, other: Literal) -> bool
+        requires state { IsState self.now }
+        ensures { result ≡ true → MayWatch self.now literal other }
+    {
+        if !self.is_false(literal) {
+            return true;
+        }
+        if self.is_true(other) {
+            return true;
+        }
+        self.is_ahead(watching, literal)
+    }
+
+    /// Whether the entry of a literal's variable is behind the propagation head.
+    fn is_ahead(&self, watching: &WatchLists, literal: Literal) -> bool
+        requires state { IsState self.now }
+        ensures { result ≡ true → IsAhead self.now literal }
+    {
+        let variable = literal.variable();
+        let place = watching.place_of(variable);
+        if place < self.qhead {
+            return false;
+        }
+        if place >= self.tracker.stack().len() {
+            return false;
+        }
+        let entry = self.entry(place);
+        if entry.decision.variable.0 != variable.0 {
+            return false;
+        }
+        true
+    }
+
+    /// Records the level of a true literal beside a false one.
+    fn guard_by(&mut self, literal: Literal, other: Literal)
+        requires state { IsState self.old }
+        ensures { GuardsBy literal other self.old self.new }
+    {
+        if !self.is_false(literal) {
+            return;
+        }
+        if !self.is_true(other) {
+            return;
+        }
+        self.record_guard(literal, other);
     }
 
     /// Assigns the first of the two where the clause forces it; returns false where the clause is
@@ -150,9 +249,28 @@ impl WatchLists {
     /// Reverses the order of the pending clauses, so that the first one is the last.
     fn reverse_pending(&mut self)
         ensures turned { self.new.pending.items ≡ reverse self.old.pending.items }
-        ensures rest { self.new ≡ record self.old { pending = self.new.pending } }
+        ensures rest { self.new ≡ record self.old {
+          pending = self.new.pending;
+          starts = self.new.starts;
+        } }
     {
         self.pending.as_mut_slice().reverse();
+        self.starts.as_mut_slice().reverse();
+    }
+
+    /// The literals that the last pending clause is to watch.
+    fn last_start(&self) -> Option<WatchedLiterals> {
+        self.starts.as_slice().last().copied()
+    }
+
+    /// The place on the trail at which a variable was last seen.
+    pub(crate) fn place_of(&self, variable: VariableId) -> usize {
+        let index = variable.to_index();
+        if index < self.places.len() {
+            self.places[index]
+        } else {
+            0
+        }
     }
 
     /// The last pending clause.
@@ -175,6 +293,14 @@ impl WatchLists {
             .start_watching(WatchedLiterals { first, second }, clause)?;
         self.watched[clause.to_index()] = Some(WatchedLiterals { first, second });
         self.pending.pop();
+        self.starts.pop();
         Ok(())
     }
+}
+
+/// Whether a literal is among these.
+pub(crate) fn is_among(literals: &[Literal], literal: Literal) -> bool
+    ensures { result ≡ has literals.now literal }
+{
+    literals.iter().any(|other| *other == literal)
 }

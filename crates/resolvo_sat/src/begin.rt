@@ -49,6 +49,8 @@ pub fn begin(alloc: Global) -> R<(SatState, WatchLists)>
         assertions: Vec::new(alloc),
         learnt: Vec::new(alloc),
         pending: Vec::new(alloc),
+        starts: Vec::new(alloc),
+        places: Vec::new(alloc),
     };
     Ok((state, watching))
 }

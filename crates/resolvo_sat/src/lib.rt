@@ -14,4 +14,5 @@ pub mod guard;
 pub mod propagate;
 pub mod propagate_and_learn;
 pub mod state;
+pub mod visit_pending;
 pub mod watch_lists;

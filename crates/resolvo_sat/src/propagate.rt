@@ -31,7 +31,11 @@ pub enum WatchVisit {
 
 impl SatState {
     /// A literal of the clause to watch in place of a false one.
-    fn free_literal(&self, clause: ClauseId, watched: &WatchedLiterals) -> Option<Literal>
+    pub(crate) fn free_literal(
+        &self,
+        clause: ClauseId,
+        watched: &WatchedLiterals,
+    ) -> Option<Literal>
         requires state { IsState self.now }
         requires in_range { clause.0 < length self.now.clauses }
         ensures { IsFree (made_true (history self.now)) (clause_at (clauses_of self.now) clause.0)

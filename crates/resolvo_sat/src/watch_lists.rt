@@ -21,4 +21,8 @@ pub struct WatchLists {
     pub assertions: Vec<UnitClause>,
     pub learnt: Vec<UnitClause>,
     pub pending: Vec<ClauseId>,
+    /// The literals that each pending clause is to watch. No proof rests on them: they are tested.
+    pub starts: Vec<WatchedLiterals>,
+    /// The place on the trail at which each variable was last seen. No proof rests on it either.
+    pub places: Vec<usize>,
 }

@@ -11,4 +11,5 @@ returns-clause-encodes g c = λ w is.
     let exact : IsExact g.S.PartialEq.eq = record { one = g.met.S.Exact.exact; own = g.met.S.Eq.laws.refl } in
     let encodes = c.in_ok-variable.ensures.encodes in
     encodes_then g.S.PartialEq.eq exact [] (Rule.forbids w c.args.solvable ∷ []) c.args.self.now c.give.new.self c.encode_pair.new.self encodes
-    (forbid_encodes g.S.PartialEq.eq exact c.args.kind w c.args.solvable c.in_ok-variable.variable c.give.new.self c.encode_pair.new.self encodes.built is c.in_ok-variable.ensures.present (subst (λ (x : Signed). EncodesPair (c.args.kind) (no c.in_ok-variable.variable) x c.give.new.self c.encode_pair.new.self) c.new.ensures c.in_ok-encode_pair.ensures.kind))
+    (forbid_encodes g.S.PartialEq.eq exact c.args.kind w c.args.solvable c.beside-first.result c.in_ok-variable.variable c.give.new.self c.encode_pair.new.self encodes.built is c.beside-first.ensures c.in_ok-variable.ensures.present
+    (subst (λ (x : Signed). EncodesPair (c.args.kind) (no c.beside-first.result) x c.give.new.self c.encode_pair.new.self) c.new.ensures c.in_ok-encode_pair.ensures.kind))

@@ -1,5 +1,5 @@
 use Rattle.resolvo_sat.proofs.AttachLemmas.{turned, turned_first}
-use Rattle.resolvo_sat.proofs.state.SatState.attach_pending.Goals as goal
+use Rattle.resolvo_sat.proofs.state.SatState.attach_each.Goals as goal
 
 pub attach_from_last-requires : goal.attach_from_last-requires
 attach_from_last-requires c = record { ready = (turned c.args.self.now c.args.watching.now c.reverse_pending.new.self c.requires.ready c.reverse_pending.ensures.rest c.reverse_pending.ensures.turned).ready }

@@ -1,0 +1,5 @@
+use Rattle.resolvo_sat.specs.Attach.{KeepsLists}
+use Rattle.resolvo_sat.proofs.state.SatState.index_trail.Given as goal
+
+abbrev pub invariant-loop-place : goal.invariant-loop-place
+invariant-loop-place l = KeepsLists l.fn.watching l.watching
