@@ -4,9 +4,9 @@
 pub mod display_unsat;
 pub mod graph;
 pub mod indenter;
-pub mod line;
+mod line;
 mod links;
-pub mod merge;
+mod merge;
 mod outlook;
 mod runs;
 mod tree;
