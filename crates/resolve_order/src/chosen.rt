@@ -183,6 +183,7 @@ impl Chosen {
     }
 
     /// Whether the condition holds among the entries.
+    // one of four such bodies, each over its own form of a set (docs/DECISIONS.md)
     fn holds(&self, catalogue: &Catalogue, condition: &Cond) -> bool
         ensures { (chosen entries : Set)
             → Holds (listed catalogue.now) self.now chosen entries
