@@ -16,4 +16,5 @@ pub use display_unsat::DisplayUnsat;
 pub use graph::{
     ConflictCause, ConflictEdge, ConflictGraph, ConflictNode, Edge, EdgeIndex, NodeIndex,
 };
+pub use line::MessageLine;
 pub use merge::MergedConflictNode;
