@@ -1,4 +1,5 @@
-//! From a catalogue and a request to the report of the solver's answer: the turns of a search as those of a report.
+//! From a catalogue and a request to the report of the solver's answer: the turns of a search as
+//! those of a report.
 #![tactic(auto)]
 
 pub mod answer;

@@ -23,7 +23,8 @@ impl Lines {
         ensures { OnOk result
             ((text : List ℕ)
             → AreBegun text (messages_of self.old.whole.items) self.old.begun.items
-            → AreBegun (text ++ byte ∷ []) (messages_of self.new.whole.items) self.new.begun.items) }
+            → AreBegun (text ++ byte ∷ [])
+            (messages_of self.new.whole.items) self.new.begun.items) }
     {
         if byte != b'\n' {
             self.begun.push(byte)?;
@@ -52,7 +53,8 @@ impl fmt::Write for Lines {
     }
 }
 
-/// The lines of the text of a value, without their newlines. Bytes after the last newline are dropped.
+/// The lines of the text of a value, without their newlines. Bytes after the last newline are
+/// dropped.
 pub(crate) fn lines_of<D: fmt::Display>(alloc: Global, value: &D) -> R<Vec<Vec<u8>>>
     ensures { IfOk result
         (λ v. IfSome (D.output value.now) (λ text. AreLinesOf text (messages_of v.items))) }

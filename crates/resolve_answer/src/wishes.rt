@@ -39,7 +39,8 @@ pub fn wishes_of(alloc: Global, catalogue: &Catalogue, request: &Request) -> R<V
 /// A wish, by its line and its version, with the step that forbids it.
 fn wish_of(alloc: Global, catalogue: &Catalogue, wish: (u32, VersionNo)) -> R<Wish>
     ensures asked { IfOk result (λ w. asked_by w ≡ wish) }
-    ensures forbidden { IfOk result (λ w. IsForbidStepOf catalogue.now w.version.0 (option_map step_of w.forbidden_by)) }
+    ensures forbidden { IfOk result
+        (λ w. IsForbidStepOf catalogue.now w.version.0 (option_map step_of w.forbidden_by)) }
 {
     let (line, version) = wish;
     let forbidden_by = forbid_step(alloc, catalogue, version)?;

@@ -7,9 +7,9 @@ pub mod conflict;
 pub mod problem;
 pub mod prove;
 pub mod search;
-pub mod soft_requirements;
+mod soft_requirements;
 pub mod solver;
-pub mod turn_input;
+mod turn_input;
 pub mod turns;
 
 pub use conflict::Conflict;

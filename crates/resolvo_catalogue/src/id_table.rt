@@ -143,6 +143,7 @@ impl IdTable {
 
     /// One version more: the id of its package, and its own.
     pub fn version(&mut self, name: &str, number: u32) -> R<(NameId, SolvableId)>
+        // After an answer.
         ensures package { IfOk result (λ x. IsPackage self.new x.0 name.now) }
         ensures place { IfOk result (λ x. IsPlaced self.old.names self.new.names x.0.raw) }
         ensures id { IfOk result (λ x. x.1.raw ≡ length self.old.solvables) }
@@ -150,7 +151,9 @@ impl IdTable {
             (λ x.
             self.new.solvables ≡ self.old.solvables ++ record { version = number; name = x.0 }
             ∷ []) }
+        // Whatever the answer.
         ensures grows { Grows self.old self.new }
+        // After a refusal.
         ensures ids { IsErrOf result Ids → LacksNumber self.new }
     {
         let package = self.package(name)?;
@@ -441,12 +444,14 @@ impl<T: Drop> Numbered<T> {
 
     /// Appends a value that has no number, and maps its key to its number.
     fn add(&mut self, value: T, key: Key) -> R<u32>
+        // After an answer.
         ensures id { IfOk result (λ i. i ≡ length self.old.values.items) }
         ensures value { OnOk result (self.new.values.items ≡ self.old.values.items ++ value ∷ []) }
         ensures key { OnOk result
             ((other : List ℕ)
             → number_in self.new.ids.entries other
             ≡ (if bytes_eq key other then Some (length self.old.values.items) else number_in self.old.ids.entries other)) }
+        // After a refusal.
         ensures kept { OnErr result (self.new.values.items ≡ self.old.values.items) }
         ensures keys { OnErr result (self.new.ids.entries ≡ self.old.ids.entries) }
         ensures ids { IsErrOf result Ids → 4294967295 ≤ length self.new.values.items }
@@ -480,12 +485,14 @@ impl Unions {
 
     /// Appends a list that has no number, and maps its key to its number.
     fn add(&mut self, value: Vec<VersionSetId>, key: Vec<u32>) -> R<u32>
+        // After an answer.
         ensures id { IfOk result (λ i. i ≡ length self.old.values.items) }
         ensures value { OnOk result (self.new.values.items ≡ self.old.values.items ++ value ∷ []) }
         ensures key { OnOk result
             ((other : List ℕ)
             → list_number_in self.new.ids.entries other
             ≡ (if bytes_eq key.items other then Some (length self.old.values.items) else list_number_in self.old.ids.entries other)) }
+        // After a refusal.
         ensures kept { OnErr result (self.new.values.items ≡ self.old.values.items) }
         ensures keys { OnErr result (self.new.ids.entries ≡ self.old.ids.entries) }
         ensures ids { IsErrOf result Ids → 4294967295 ≤ length self.new.values.items }

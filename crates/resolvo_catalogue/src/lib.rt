@@ -9,6 +9,7 @@ pub mod provider;
 mod text_ids;
 pub mod versions;
 
+pub use impls::GivenUp;
 pub use provider::{CatalogueProvider, Hint, RequestIds};
 pub use resolvo_catalogue_core::{
     Catalogue, Cond, Counted, IoFault, LineReader, MemorySink, MemorySource, ReadFault, Request,

@@ -148,10 +148,12 @@ impl CatalogueProvider {
     /// A request over the catalogue, as ids. Where it fails, more may be interned. A set keeps the
     /// rules of the provider and of these ids exactly if it keeps those of the two texts.
     pub fn intern_request(&mut self, request: &Request) -> R<RequestIds>
+        // What the ids are, and what else is interned.
         ensures asked { IfOk result (λ asked. AreAsked self.new.ids request.now asked) }
         ensures interns { ChangesIds self.old self.new }
         ensures over { (catalogue : List parsed.Line) → IsOver catalogue self.old → IsOver catalogue self.new }
         ensures ids { IsErrOf result Ids → LacksNumber self.new.ids }
+        // Which sets keep the rules of the ids.
         ensures rules { IfOk result
             (λ asked.
             (catalogue : List parsed.Line)

@@ -4,9 +4,9 @@
 pub mod display_unsat;
 pub mod graph;
 pub mod indenter;
-pub mod line;
+mod line;
 mod links;
-pub mod merge;
+mod merge;
 mod outlook;
 mod runs;
 mod tree;
@@ -16,4 +16,5 @@ pub use display_unsat::DisplayUnsat;
 pub use graph::{
     ConflictCause, ConflictEdge, ConflictGraph, ConflictNode, Edge, EdgeIndex, NodeIndex,
 };
+pub use line::MessageLine;
 pub use merge::MergedConflictNode;

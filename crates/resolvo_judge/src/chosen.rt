@@ -196,6 +196,7 @@ impl Chosen {
     }
 
     /// Whether the condition holds.
+    // one of four such bodies, each over its own form of a set (docs/DECISIONS.md)
     fn holds(&self, condition: &Cond) -> bool
         ensures { (set : Set) → Holds self.now set → result ≡ holds (cond_of condition.now) set }
     {

@@ -34,6 +34,21 @@ abbrev pub places : List ClauseId → List ℕ
 places [] = []
 places (c ∷ cs) = with_place c.0 (places cs)
 
+-- the rule by which a clause of this kind forbids a solvable, or whatever is outside a version set
+abbrev pub forbid_rule : {N S : Type 0} → ClauseKind N S → Option (ProofRule N S)
+forbid_rule Kind.Root = None
+forbid_rule (Kind.Needs parent need case) = None
+forbid_rule (Kind.Gated s r) = None
+forbid_rule (Kind.Shared r) = None
+forbid_rule (Kind.Limits parent v s) = Some (Limit parent v (Some s))
+forbid_rule (Kind.LimitsOutside parent v) = Some (Limit parent v None)
+forbid_rule (Kind.IsOut v s) = Some (Outside v s)
+forbid_rule (Kind.Locked locked s) = Some (Locked locked s)
+forbid_rule (Kind.Excluded s reason) = Some (Excluded s reason)
+forbid_rule (Kind.Digit n s place bit) = None
+forbid_rule (Kind.IsThere n s) = None
+forbid_rule Kind.Learnt = None
+
 -- the rule that is written for a kind; the root's clause and a learnt one have none
 abbrev pub IsRuleOf : {N S : Type 0} → ClauseKind N S → Option (ProofRule N S) → Type 0
 IsRuleOf Kind.Root encoded = encoded ≡ None

@@ -30,7 +30,8 @@ pub fn proof_of<N: Copy + Exact + Hash + Debug, S: Copy + Exact + Hash + Debug>(
     last: Option<&FinalConflict>,
 ) -> R<Vec<ProofStep<N, S>>>
     requires coding { IsCoding coding.now }
-    requires refusal { IfSome last (λ r. IsRefusal coding.now.search r.now.literals.items r.now.causes.items) }
+    requires refusal { IfSome last
+        (λ r. IsRefusal coding.now.search r.now.literals.items r.now.causes.items) }
     // After an answer.
     ensures steps { IfOk result
         (λ v.

@@ -8,7 +8,7 @@ ghost use Rattle.resolvo_sat.specs.Numbered.{meanings};
 ghost use Rattle.resolvo_state.specs.Atoms.{origin};
 ghost use Rattle.resolvo_state.specs.SolverState.{IsCoding};
 ghost use Rattle.resolvo_proof.specs.Steps.{literal_in};
-ghost use Rattle.resolvo_proof.specs.Written.{places, atoms_of, IsRuleOf, IsDerivation, IsStepAt};
+ghost use Rattle.resolvo_proof.specs.Written.{places, atoms_of, forbid_rule, IsRuleOf, IsDerivation, IsStepAt};
 
 use crate::step::{ProofLiteral, ProofRule, ProofStep};
 use resolvo_pool_core::id::{ClauseId, Exact, VariableId};
@@ -135,38 +135,6 @@ fn write_rule<N: Copy + Exact + Hash + Debug, S: Copy + Exact + Hash + Debug>(
         ClauseKind::Shared { requirement } => ProofRule::Shared {
             requirement: *requirement,
         },
-        ClauseKind::Limits {
-            parent,
-            version_set,
-            barred,
-        } => ProofRule::Limit {
-            parent: *parent,
-            version_set: *version_set,
-            barred: Some(*barred),
-        },
-        ClauseKind::LimitsOutside {
-            parent,
-            version_set,
-        } => ProofRule::Limit {
-            parent: *parent,
-            version_set: *version_set,
-            barred: None,
-        },
-        ClauseKind::IsOut {
-            version_set,
-            solvable,
-        } => ProofRule::Outside {
-            version_set: *version_set,
-            solvable: *solvable,
-        },
-        ClauseKind::Locked { locked, barred } => ProofRule::Locked {
-            locked: *locked,
-            barred: *barred,
-        },
-        ClauseKind::Excluded { solvable, reason } => ProofRule::Excluded {
-            solvable: *solvable,
-            reason: *reason,
-        },
         ClauseKind::Digit {
             solvable,
             place,
@@ -181,6 +149,51 @@ fn write_rule<N: Copy + Exact + Hash + Debug, S: Copy + Exact + Hash + Debug>(
             name: *name,
             solvable: *solvable,
         },
+        kind => return Ok(forbid_rule(kind)),
     };
     Ok(Some(rule))
+}
+
+/// The rule by which a clause forbids a solvable, or whatever is outside a version set. Other
+/// clauses have none.
+fn forbid_rule<N: Copy + Exact + Hash + Debug, S: Copy + Exact + Hash + Debug>(
+    kind: &ClauseKind<N, S>,
+) -> Option<ProofRule<N, S>>
+    ensures { result ≡ forbid_rule kind.now }
+{
+    match kind {
+        ClauseKind::Limits {
+            parent,
+            version_set,
+            barred,
+        } => Some(ProofRule::Limit {
+            parent: *parent,
+            version_set: *version_set,
+            barred: Some(*barred),
+        }),
+        ClauseKind::LimitsOutside {
+            parent,
+            version_set,
+        } => Some(ProofRule::Limit {
+            parent: *parent,
+            version_set: *version_set,
+            barred: None,
+        }),
+        ClauseKind::IsOut {
+            version_set,
+            solvable,
+        } => Some(ProofRule::Outside {
+            version_set: *version_set,
+            solvable: *solvable,
+        }),
+        ClauseKind::Locked { locked, barred } => Some(ProofRule::Locked {
+            locked: *locked,
+            barred: *barred,
+        }),
+        ClauseKind::Excluded { solvable, reason } => Some(ProofRule::Excluded {
+            solvable: *solvable,
+            reason: *reason,
+        }),
+        _ => None,
+    }
 }

@@ -3,7 +3,7 @@ use Rattle.resolvo_state.specs.declared.clause_kind.ClauseKind.{ClauseKind}
 use Rattle.resolvo_proof.specs.Written.{IsRuleOf}
 use Rattle.resolvo_proof.proofs.Parts.{zip_same}
 use Rattle.resolvo_proof.proofs.write.write_rule.Goals as goal
-use Rattle.resolvo_proof.proofs.write.write_rule.Goals.{in-Needs+in_ok-clone-in-Needs, in-Gated, in-Shared, in-Limits, in-LimitsOutside, in-IsOut, in-Locked, in-Excluded, in-Digit, in-IsThere}
+use Rattle.resolvo_proof.proofs.write.write_rule.Goals.{in-Needs+in_ok-clone-in-Needs, in-Gated, in-Shared, in-Digit, in-IsThere}
 
 pub returns-clause-encoded : goal.returns-clause-encoded
 returns-clause-encoded g c =
@@ -12,11 +12,6 @@ returns-clause-encoded g c =
       | in-Needs+in_ok-clone-in-Needs w ↦ subst encoded (sym w.in-Needs.is) (w.in_ok-clone-in-Needs.field-0, ap Some w.rule-is, zip_same w.in-Needs.case.items w.in_ok-clone-in-Needs.field-0.items w.in_ok-clone-in-Needs.ensures.cases.0)
       | in-Gated w ↦ subst encoded (sym w.in-Gated.is) (ap Some w.rule-is)
       | in-Shared w ↦ subst encoded (sym w.in-Shared.is) (ap Some w.rule-is)
-      | in-Limits w ↦ subst encoded (sym w.in-Limits.is) (ap Some w.rule-is)
-      | in-LimitsOutside w ↦ subst encoded (sym w.in-LimitsOutside.is) (ap Some w.rule-is)
-      | in-IsOut w ↦ subst encoded (sym w.in-IsOut.is) (ap Some w.rule-is)
-      | in-Locked w ↦ subst encoded (sym w.in-Locked.is) (ap Some w.rule-is)
-      | in-Excluded w ↦ subst encoded (sym w.in-Excluded.is) (ap Some w.rule-is)
       | in-Digit w ↦ subst encoded (sym w.in-Digit.is) (ap Some w.rule-is)
       | in-IsThere w ↦ subst encoded (sym w.in-IsThere.is) (ap Some w.rule-is)
     ]
