@@ -44,10 +44,10 @@ use Rattle.resolvo_encoder.proofs.Bases.{below_all, below_ends}
 use Rattle.resolvo_encoder.proofs.PickLemmas.{ordered_stays}
 use Rattle.resolvo_turn.specs.Encoder.{IsInOrder, AddsParents}
 use Rattle.resolvo_turn.specs.Turn.{IsRooted, IsTurn}
-use Rattle.resolvo.specs.SoftTurns.{IsClosed, IsLearntAs, IsOutcome, IsReasonOf, IsRefusable, IsJustified, IsTrue, IsRejected, KeepsRest, KeepsTrail}
+use Rattle.resolvo.specs.SoftTurns.{AreTrueParents, IsClosed, IsLearntAs, IsOutcome, IsReasonOf, IsRefusable, IsJustified, IsTrue, IsRejected, KeepsRest, KeepsTrail}
 use Rattle.resolvo.specs.declared.soft_requirements.SoftOutcome.{SoftOutcome}
-use Rattle.resolvo_turn.proofs.EndLemmas.{still_rooted}
-use Rattle.resolvo.proofs.Soft.{refused_all, refused_addable, refused_blamed, refused_denied, refused_empty, taken_true}
+use Rattle.resolvo_turn.proofs.EndLemmas.{contains_longer, still_rooted}
+use Rattle.resolvo.proofs.Soft.{refused_all, refused_addable, refused_blamed, refused_denied, refused_empty, taken_true, true_before}
 
 -- ---- a turn is undone
 
@@ -143,6 +143,12 @@ module _ {N S : Type 0} (same : S → S → Bool) (a b : Encoder N S) (one : Off
   registered_parents : IsPrefixOf a.parents.keys b.parents.keys
   registered_parents = prefix_equal a.parents.keys b.parents.keys (ap (λ ks. ks.keys) registered.parents)
 
+  -- what is true is still among the parents
+  pub registered_taken : IsCoding a.coding → AreTrueParents a → AreTrueParents b
+  registered_taken coding parents s (u, represents, truth) =
+      let before : IsTrue a s = true_before a b coding registered.grows.atoms s u represents (subst (λ (h : List Entry). has (made_true h) (yes u) ≡ true) registered_same truth) in
+      contains_longer a.parents.keys b.parents.keys (Place.Solvable s) registered_parents (parents s before)
+
   pub registered_keeps : KeepsTrail a b
   registered_keeps =
       let encoded : b.encoded ≡ a.encoded = registered.encoded in
@@ -186,7 +192,7 @@ module _ {N S : Type 0} (same : S → S → Bool) (a b : Encoder N S) (one : Off
     turn_keeps = record { atoms = turn_atoms; clauses = turn_clauses; kinds = turn_kinds; ends = turn_ends; parents = turn_parents; encoded = turn_encoded; rooted = turn_rooted }
 
     turn_chosen : IsTurn same (Some v) c None → IsOutcome same one.solvable a c SoftOutcome.Chosen
-    turn_chosen ended = (adds.softs ∙ registered.softs, (v, turn_represents, ended))
+    turn_chosen ended = (adds.softs ∙ registered.softs, base ∙ registered_same, (v, turn_represents, ended))
 
     turn_refusable : (r : FinalConflict) → IsTurn same (Some v) c (Some r) → IsRefusable c r
     turn_refusable r ended = (v, o, (a.recorded.softs.items, one.solvable, adds.softs ∙ registered.softs, turn_represents), ended)

@@ -2,6 +2,7 @@
 use Rattle.std.specs.Prelude.{◌≡◌, ◌≤◌, ◌⊎◌, ◌<◌, ℕ, Bool, true, ⊤, List, [], ◌∷◌, ◌++◌, Option, Some, None, Contains, slice_get}
 use Rattle.resolvo_pool_core.specs.declared.id.ClauseId.{ClauseId}
 use Rattle.resolvo_pool_core.specs.declared.id.VariableId.{VariableId}
+use Rattle.resolvo_pool_core.specs.declared.solver_id.SolvableIdOrRoot.TheVariants as Place
 use Rattle.resolvo_pool_core.specs.Provider.{listed}
 use Rattle.resolvo_pool_core.specs.RuleKeeping.{Packages, Rules, is_in, IsRuleKeeping}
 use Rattle.resolvo_store_core.specs.AtMostOne.{IsPrefixOf}
@@ -37,6 +38,10 @@ AreCandidates {N} {S} same p list = (s : S) → Contains list s → IsCandidate 
 abbrev pub IsTrue : {N S : Type 0} → Encoder N S → S → Type 0
 IsTrue e s = (u : VariableId) × Represents e.coding.atoms.keys u (Solvable s) × (has (made_true (history e.coding.search)) (yes u) ≡ true)
 
+-- what is true on the trail is among the parents
+abbrev pub AreTrueParents : {N S : Type 0} → Encoder N S → Type 0
+AreTrueParents {N} {S} e = (s : S) → IsTrue e s → Contains e.parents.keys (Place.Solvable s)
+
 -- the literal denies the root, or one of these solvables
 abbrev pub DeniesOne : {N S : Type 0} → SolverState N S → (S → Type 0) → Signed → Type 0
 DeniesOne {N} {S} c among l = (l ≡ no root_variable) ⊎ ((t : S) × (u : VariableId) × (l ≡ no u) × Represents c.atoms.keys u (Solvable t) × among t)
@@ -60,11 +65,11 @@ pub record KeepsTrail {N S : Type 0} (old new : Encoder N S) : Type 0 where
   pub encoded : old.encoded ≤ new.encoded
   pub rooted : IsRooted old → IsRooted new
 
--- A true or chosen soft requirement is recorded after the accepted ones. The trail and the accepted
--- ones are unchanged after a refusal.
+-- A true or chosen soft requirement is recorded after the accepted ones. The turn of a chosen one
+-- begins after the earlier trail. The trail and the accepted ones are unchanged after a refusal.
 abbrev pub IsOutcome : {N S : Type 0} → (S → S → Bool) → S → Encoder N S → Encoder N S → SoftOutcome → Type 0
 IsOutcome same s old new AlreadyChosen = (new.recorded.softs.items ≡ old.recorded.softs.items ++ s ∷ []) × (history new.coding.search ≡ history old.coding.search) × IsTrue new s
-IsOutcome same s old new Chosen = (new.recorded.softs.items ≡ old.recorded.softs.items ++ s ∷ []) × ((v : VariableId) × Represents new.coding.atoms.keys v (Solvable s) × IsTurn same (Some v) new None)
+IsOutcome same s old new Chosen = (new.recorded.softs.items ≡ old.recorded.softs.items ++ s ∷ []) × (base_of new ≡ history old.coding.search) × ((v : VariableId) × Represents new.coding.atoms.keys v (Solvable s) × IsTurn same (Some v) new None)
 IsOutcome same s old new (Refused clause) = (new.recorded.softs.items ≡ old.recorded.softs.items) × (history new.coding.search ≡ history old.coding.search) × (IsTrue new s → ⊥)
 IsOutcome same s old new (Clash r) = IsRefusal new.coding.search r.literals.items r.causes.items × (r.literals.items ≡ [])
 

@@ -75,6 +75,7 @@ fn run_others<A: PackageSource, C: ScoreMap<A::NameId>>(
     requires rooted { IsRooted encoding.old }
     requires ended { IsTurn A.SolvableId.eq None encoding.old None }
     requires first { encoding.old.recorded.softs.items ≡ [] }
+    requires turn { encoding.old.coding.search.base_level ≡ 1 }
     // Whatever the answer.
     ensures same { answers.new ≡ answers.old }
     // After an answer.

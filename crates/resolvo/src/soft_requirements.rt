@@ -16,7 +16,7 @@ ghost use Rattle.resolvo_encoder.specs.SoftRequirement.{turn_of, IsSoft};
 ghost use Rattle.resolvo_turn.specs.Encoder.{IsInOrder, AddsParents, StaysInOrderOf};
 ghost use Rattle.resolvo_turn.specs.Turn.{IsRooted, IsTurn};
 ghost use Rattle.resolvo.specs.Turns.{AreAt, AreRight, HaveReasons, IsNextRight, IsRootOf, RecordsOutcome, AreAtOrRefused};
-ghost use Rattle.resolvo.specs.SoftTurns.{AreCandidates, IsCandidate, IsClosed, IsOutcome, IsRefusable, IsJustified, IsRejected, KeepsRest, KeepsTrail};
+ghost use Rattle.resolvo.specs.SoftTurns.{AreCandidates, AreTrueParents, IsCandidate, IsClosed, IsOutcome, IsRefusable, IsJustified, IsRejected, KeepsRest, KeepsTrail};
 ghost use Rattle.resolvo.specs.declared.soft_requirements.SoftOutcome.TheVariants.{Refused};
 
 use crate::turn_input::TurnInput;
@@ -62,6 +62,7 @@ fn run_open<A: PackageSource, C: ScoreMap<A::NameId>>(
     requires rooted { IsRooted encoding.old }
     requires soft { IsSoft encoding.old variable }
     requires open { has (made_true (history encoding.old.coding.search)) (yes variable) ≡ false }
+    requires taken { AreTrueParents encoding.old }
     // Whatever the answer.
     ensures same { answers.new ≡ answers.old }
     // After an answer.
@@ -150,6 +151,7 @@ pub fn run_soft_requirement<A: PackageSource, C: ScoreMap<A::NameId>>(
 ) -> Result<SoftOutcome, CacheFault<A::Cancel>>
     requires built { IsBuilt encoding.old }
     requires rooted { IsRooted encoding.old }
+    requires taken { AreTrueParents encoding.old }
     // Whatever the answer.
     ensures same { answers.new ≡ answers.old }
     // After an answer.
@@ -197,6 +199,7 @@ fn record_outcome<N: Copy + Exact + Hash + Debug, S: Copy + Exact + Hash + Debug
     soft: S,
     status: SoftOutcome,
 ) -> R<Option<FinalConflict>>
+    requires { IsBuilt encoding.now }
     ensures { IfOk result (RecordsOutcome S.eq soft encoding.now turns.old turns.new status) }
 {
     let begin = turns.chosen.len();

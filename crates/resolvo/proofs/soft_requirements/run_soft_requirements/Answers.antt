@@ -8,7 +8,7 @@ use Rattle.resolvo_turn.specs.Encoder.{IsInOrder}
 use Rattle.resolvo.specs.Turns.{AreRight, HaveReasons, IsNextRight, IsRootOf, AreAtOrRefused}
 use Rattle.resolvo.specs.SoftTurns.{IsCandidate, IsJustified}
 use Rattle.resolvo.proofs.ListLemmas.{item_contained}
-use Rattle.resolvo.proofs.Next.{outcome_prefix, outcome_right, outcome_at}
+use Rattle.resolvo.proofs.Next.{at_parents, outcome_prefix, outcome_right, outcome_at}
 use Rattle.resolvo.proofs.soft_requirements.run_soft_requirements.Goals as goal
 
 pub loop-soft-init : goal.loop-soft-init
@@ -19,6 +19,12 @@ run_soft_requirement-requires-clause-built g c = c.loop-soft.invariant.built
 
 pub run_soft_requirement-requires-clause-rooted : goal.run_soft_requirement-requires-clause-rooted
 run_soft_requirement-requires-clause-rooted g c = c.loop-soft.invariant.rooted
+
+pub run_soft_requirement-requires-clause-taken : goal.run_soft_requirement-requires-clause-taken
+run_soft_requirement-requires-clause-taken g c = at_parents c.loop-soft.encoding c.loop-soft.turns c.loop-soft.invariant.at
+
+pub record_outcome-requires : goal.record_outcome-requires
+record_outcome-requires g c = c.in_ok-status.ensures.built
 
 pub loop-soft-preserved : goal.loop-soft-preserved
 loop-soft-preserved g c =
