@@ -265,8 +265,8 @@ module _ {N S : Type 0} where
         refused_reasons clause reason reasons (length t.chosen.keys) refl pushed,
       )
       outcome_right same_name names lawful orders order after reasons (Soft.Refused clause) (Some q) is why none = absurd none
-      outcome_right same_name names lawful orders order after reasons (Soft.Clash r) None is why none = absurd none
-      outcome_right same_name names lawful orders order after reasons (Soft.Clash r) (Some q) is why pushed = why
+      outcome_right same_name names lawful orders order after reasons (Soft.Unsat r) None is why none = absurd none
+      outcome_right same_name names lawful orders order after reasons (Soft.Unsat r) (Some q) is why pushed = why
 
     pub outcome_at : IsExact same → IsCoding b.coding → (w : SoftOutcome) (o : Option FinalConflict) → IsOutcome same s a b w → RecordsOutcome same s b t u w o → AreAtOrRefused b u o
     outcome_at exact after Soft.AlreadyChosen None is pushed = already_at is (length t.chosen.keys) pushed
@@ -275,8 +275,8 @@ module _ {N S : Type 0} where
     outcome_at exact after Soft.Chosen (Some q) is none = absurd none
     outcome_at exact after (Soft.Refused clause) None is pushed = refused_at clause is (length t.chosen.keys) pushed
     outcome_at exact after (Soft.Refused clause) (Some q) is none = absurd none
-    outcome_at exact after (Soft.Clash r) None is none = absurd none
-    outcome_at exact after (Soft.Clash r) (Some q) is (one, unchanged) = subst (λ (x : FinalConflict). IsRefusal b.coding.search x.literals.items x.causes.items × (x.literals.items ≡ [])) (sym one) is
+    outcome_at exact after (Soft.Unsat r) None is none = absurd none
+    outcome_at exact after (Soft.Unsat r) (Some q) is (one, unchanged) = subst (λ (x : FinalConflict). IsRefusal b.coding.search x.literals.items x.causes.items × (x.literals.items ≡ [])) (sym one) is
 
     pub outcome_prefix : (w : SoftOutcome) (o : Option FinalConflict) → RecordsOutcome same s b t u w o → IsPrefixOf t.chosen.keys u.chosen.keys
     outcome_prefix Soft.AlreadyChosen None pushed = prefix_equal t.chosen.keys u.chosen.keys (ap (λ (c : HashSet S (BuildHasherDefault FoldHasher)). c.keys) pushed.chosen)
@@ -285,5 +285,5 @@ module _ {N S : Type 0} where
     outcome_prefix Soft.Chosen (Some q) none = absurd none
     outcome_prefix (Soft.Refused clause) None pushed = prefix_equal t.chosen.keys u.chosen.keys (ap (λ (c : HashSet S (BuildHasherDefault FoldHasher)). c.keys) pushed.chosen)
     outcome_prefix (Soft.Refused clause) (Some q) none = absurd none
-    outcome_prefix (Soft.Clash r) None none = absurd none
-    outcome_prefix (Soft.Clash r) (Some q) (one, unchanged) = prefix_equal t.chosen.keys u.chosen.keys (ap (λ (x : Turns S). x.chosen.keys) unchanged)
+    outcome_prefix (Soft.Unsat r) None none = absurd none
+    outcome_prefix (Soft.Unsat r) (Some q) (one, unchanged) = prefix_equal t.chosen.keys u.chosen.keys (ap (λ (x : Turns S). x.chosen.keys) unchanged)

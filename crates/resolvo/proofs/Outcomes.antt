@@ -219,7 +219,7 @@ module _ {N S : Type 0} (same : S → S → Bool) (a b : Encoder N S) (one : Off
       rejected_keeps SoftOutcome.AlreadyChosen h = absurd h
       rejected_keeps SoftOutcome.Chosen h = absurd h
       rejected_keeps (SoftOutcome.Refused clause) (trail, softs, learnt) = record { atoms = prefix_then a.coding.atoms.keys c.coding.atoms.keys d.coding.atoms.keys turn_atoms rest.grows.atoms; clauses = rejected_clauses; kinds = rejected_kinds; ends = ([], trail ∙ base ∙ registered_same); parents = rejected_parents; encoded = rejected_encoded; rooted = rejected_rooted }
-      rejected_keeps (SoftOutcome.Clash q) (is, none, unchanged) = record {
+      rejected_keeps (SoftOutcome.Unsat q) (is, none, unchanged) = record {
         atoms = prefix_then a.coding.atoms.keys c.coding.atoms.keys d.coding.atoms.keys turn_atoms rest.grows.atoms;
         clauses = rejected_clauses;
         kinds = rejected_kinds;
@@ -243,7 +243,7 @@ module _ {N S : Type 0} (same : S → S → Bool) (a b : Encoder N S) (one : Off
               let stays : Represents d.coding.atoms.keys v (Solvable one.solvable) = represents_grow c.coding d.coding v (Solvable one.solvable) rest.grows turn_represents in
               let is : u ≡ v = represents_once d.coding u v (Solvable one.solvable) built.coding present stays in
               both_ways _ unchosen (subst (λ (h : List Entry). has (made_true h) (yes v) ≡ true) (trail ∙ base) (subst (λ (w : VariableId). has (made_true (history d.coding.search)) (yes w) ≡ true) is known))
-      rejected_outcome built unchosen (SoftOutcome.Clash q) (is, none, unchanged) = (
+      rejected_outcome built unchosen (SoftOutcome.Unsat q) (is, none, unchanged) = (
         subst (λ (x : Encoder N S). IsRefusal x.coding.search q.literals.items q.causes.items) (sym unchanged)
             (subst (λ (x : FinalConflict). IsRefusal c.coding.search x.literals.items x.causes.items) (sym is) (refused_empty c v r ended (ap (λ (x : FinalConflict). x.literals.items) (sym is) ∙ none))),
         none,
@@ -271,7 +271,7 @@ module _ {N S : Type 0} (same : S → S → Bool) (a b : Encoder N S) (one : Off
         refused_denied c v same exact p root holds same_name names o a coding turn_atoms (base ∙ registered_same) one.solvable turn_represents r ended,
         rejected_reason coding exact same_name names p root holds clause learnt,
       )
-      rejected_right coding exact same_name names p root holds (SoftOutcome.Clash q) (is, none, unchanged) = refused_all c v same exact p root holds same_name names o r ended (ap (λ (x : FinalConflict). x.literals.items) (sym is) ∙ none)
+      rejected_right coding exact same_name names p root holds (SoftOutcome.Unsat q) (is, none, unchanged) = refused_all c v same exact p root holds same_name names o r ended (ap (λ (x : FinalConflict). x.literals.items) (sym is) ∙ none)
 
     -- ---- it has ended, and is closed
 

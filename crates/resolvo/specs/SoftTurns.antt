@@ -22,7 +22,7 @@ use Rattle.resolvo_sat.specs.declared.analyze.FinalConflict.{FinalConflict}
 use Rattle.resolvo_encoder.specs.Base.{base_of, IsOpen}
 use Rattle.resolvo_encoder.specs.declared.encoder.Encoder.{Encoder}
 use Rattle.resolvo.specs.declared.soft_requirements.SoftOutcome.{SoftOutcome}
-use Rattle.resolvo.specs.declared.soft_requirements.SoftOutcome.TheVariants.{AlreadyChosen, Chosen, Refused, Clash}
+use Rattle.resolvo.specs.declared.soft_requirements.SoftOutcome.TheVariants.{AlreadyChosen, Chosen, Refused, Unsat}
 use Rattle.resolvo.specs.Solution.{IsUnsolvable}
 use Rattle.resolvo_turn.specs.Turn.{IsRefusedBy, IsRooted, IsTurn}
 
@@ -71,7 +71,7 @@ abbrev pub IsOutcome : {N S : Type 0} → (S → S → Bool) → S → Encoder N
 IsOutcome same s old new AlreadyChosen = (new.recorded.softs.items ≡ old.recorded.softs.items ++ s ∷ []) × (history new.coding.search ≡ history old.coding.search) × IsTrue new s
 IsOutcome same s old new Chosen = (new.recorded.softs.items ≡ old.recorded.softs.items ++ s ∷ []) × (base_of new ≡ history old.coding.search) × ((v : VariableId) × Represents new.coding.atoms.keys v (Solvable s) × IsTurn same (Some v) new None)
 IsOutcome same s old new (Refused clause) = (new.recorded.softs.items ≡ old.recorded.softs.items) × (history new.coding.search ≡ history old.coding.search) × (IsTrue new s → ⊥)
-IsOutcome same s old new (Clash r) = IsRefusal new.coding.search r.literals.items r.causes.items × (r.literals.items ≡ [])
+IsOutcome same s old new (Unsat r) = IsRefusal new.coding.search r.literals.items r.causes.items × (r.literals.items ≡ [])
 
 -- the variable is that of the last soft requirement
 abbrev pub IsLast : {N S : Type 0} → Encoder N S → VariableId → Type 0
@@ -95,7 +95,7 @@ abbrev pub IsRejected : {N S : Type 0} → FinalConflict → Encoder N S → Enc
 IsRejected refusal old new AlreadyChosen = ⊥
 IsRejected refusal old new Chosen = ⊥
 IsRejected {N} {S} refusal old new (Refused clause) = (history new.coding.search ≡ base_of old) × ((prefix : List S) (s : S) → old.recorded.softs.items ≡ prefix ++ s ∷ [] → new.recorded.softs.items ≡ prefix) × IsLearntAs new.coding refusal.literals.items clause
-IsRejected refusal old new (Clash r) = (r ≡ refusal) × (r.literals.items ≡ []) × (new ≡ old)
+IsRejected refusal old new (Unsat r) = (r ≡ refusal) × (r.literals.items ≡ []) × (new ≡ old)
 
 -- a turn without a conflict chose the soft requirement, and nothing changed since; another one is
 -- rejected
@@ -122,4 +122,4 @@ module _ {N S : Type 0} (same : S → S → Bool) (p : Packages N S) (root : Rul
   IsJustified old new s AlreadyChosen = ⊤
   IsJustified old new s Chosen = ⊤
   IsJustified old new s (Refused clause) = IsDenied old s × IsReasonOf new.coding (λ t. (t ≡ s) ⊎ IsTrue old t) clause.0
-  IsJustified old new s (Clash r) = IsUnsolvable same p root
+  IsJustified old new s (Unsat r) = IsUnsolvable same p root

@@ -15,7 +15,7 @@ use Rattle.resolvo_turn.specs.Turn.{in_turn}
 use Rattle.resolvo.specs.Solution.{IsSolution, IsUnsolvable}
 use Rattle.resolvo.specs.SoftTurns.{IsReasonOf}
 use Rattle.resolvo.specs.declared.soft_requirements.SoftOutcome.{SoftOutcome}
-use Rattle.resolvo.specs.declared.soft_requirements.SoftOutcome.TheVariants.{AlreadyChosen, Chosen, Refused, Clash}
+use Rattle.resolvo.specs.declared.soft_requirements.SoftOutcome.TheVariants.{AlreadyChosen, Chosen, Refused, Unsat}
 use Rattle.resolvo.specs.declared.turn_input.TurnInput.{TurnInput}
 use Rattle.resolvo.specs.declared.turns.Turn.{Turn}
 use Rattle.resolvo.specs.declared.turns.Turns.{Turns}
@@ -114,14 +114,14 @@ abbrev pub was_accepted : SoftOutcome → Bool
 was_accepted AlreadyChosen = true
 was_accepted Chosen = true
 was_accepted (Refused clause) = false
-was_accepted (Clash r) = false
+was_accepted (Unsat r) = false
 
 -- the proof's step of the clause that is the reason of a refusal
 abbrev pub step_of : SoftOutcome → Option ℕ
 step_of AlreadyChosen = None
 step_of Chosen = None
 step_of (Refused clause) = Some (clause.0 - 1)
-step_of (Clash r) = None
+step_of (Unsat r) = None
 
 -- the fields of the turn, by its outcome
 pub record IsTurnRecord {S : Type 0} (soft : S) (begin end_ : ℕ) (wished : SoftOutcome) (t : Turn S) : Type 0 where
@@ -162,5 +162,5 @@ RecordsOutcome {N} {S} same s e old new Chosen None = (m : Turns S) × IsPrefixO
 RecordsOutcome same s e old new Chosen (Some q) = ⊥
 RecordsOutcome same s e old new (Refused clause) None = Records s (length old.chosen.keys) (Refused clause) old new
 RecordsOutcome same s e old new (Refused clause) (Some q) = ⊥
-RecordsOutcome same s e old new (Clash r) None = ⊥
-RecordsOutcome same s e old new (Clash r) (Some q) = (q ≡ r) × (new ≡ old)
+RecordsOutcome same s e old new (Unsat r) None = ⊥
+RecordsOutcome same s e old new (Unsat r) (Some q) = (q ≡ r) × (new ≡ old)

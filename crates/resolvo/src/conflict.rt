@@ -155,7 +155,7 @@ fn conflict_clauses<N: Copy + Exact + Hash + Debug, S: Copy + Exact + Hash + Deb
     clauses_at(alloc, places.as_slice())
 }
 
-/// A clash's clauses, to return and to keep, and the offers, for the conflict's graph.
+/// A conflict's clauses, to return and to keep, and the offers, for the conflict's graph.
 fn conflict_left<A: PackageSource>(
     alloc: Global,
     answers: &mut A,
@@ -170,7 +170,7 @@ fn conflict_left<A: PackageSource>(
 {
     match &solved.found {
         SearchResult::Chosen { .. } => Ok((Vec::new(alloc), None)),
-        SearchResult::Clash(_) => {
+        SearchResult::Unsat(_) => {
             let offers = offers_for(alloc, answers, solved.proof.as_slice())?;
             let ids = conflict_clauses(alloc, solved.proof.as_slice())?;
             let clauses = Vec::from_slice(alloc, ids.as_slice())?;
@@ -179,7 +179,7 @@ fn conflict_left<A: PackageSource>(
     }
 }
 
-/// Searches as `solve` does. Of a clash it gives its clauses and the record of the conflict, too.
+/// Searches as `solve` does. Of a conflict it gives its clauses and the record of the conflict, too.
 pub(crate) fn solve_to_conflict<A: PackageSource, C: ScoreMap<A::NameId> + Drop>(
     alloc: Global,
     answers: &mut A,

@@ -45,7 +45,7 @@ pub enum SoftOutcome {
     /// It conflicts with the earlier choices: this learnt clause is the reason.
     Refused(ClauseId),
     /// No solvables keep all rules.
-    Clash(FinalConflict),
+    Unsat(FinalConflict),
 }
 
 /// The turn of a recorded soft requirement that isn't true. Keeps the earlier trail.
@@ -132,7 +132,7 @@ fn close_turn<N: Copy + Exact + Hash + Debug, S: Copy + Exact + Hash + Debug>(
         None => Ok(SoftOutcome::Chosen),
         Some(refusal) => {
             if refusal.literals.is_empty() {
-                return Ok(SoftOutcome::Clash(refusal));
+                return Ok(SoftOutcome::Unsat(refusal));
             }
             let clause = refuse(encoding, refusal)?;
             Ok(SoftOutcome::Refused(clause))
@@ -204,7 +204,7 @@ fn record_outcome<N: Copy + Exact + Hash + Debug, S: Copy + Exact + Hash + Debug
 {
     let begin = turns.chosen.len();
     match status {
-        SoftOutcome::Clash(refusal) => Ok(Some(refusal)),
+        SoftOutcome::Unsat(refusal) => Ok(Some(refusal)),
         SoftOutcome::AlreadyChosen => {
             turns.record(soft, begin, SoftOutcome::AlreadyChosen)?;
             Ok(None)
@@ -259,8 +259,8 @@ pub fn run_soft_requirements<A: PackageSource, C: ScoreMap<A::NameId>>(
 {
     for soft in softs {
         let status = run_soft_requirement(alloc, answers, encoding, scores, input, *soft)?;
-        let clash = record_outcome(alloc, encoding, turns, *soft, status)?;
-        if let Some(refusal) = clash {
+        let conflict = record_outcome(alloc, encoding, turns, *soft, status)?;
+        if let Some(refusal) = conflict {
             return Ok(Some(refusal));
         }
     }

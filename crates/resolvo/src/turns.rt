@@ -86,7 +86,7 @@ fn turn_of<S>(soft: S, begin: usize, end: usize, status: SoftOutcome) -> Turn<S>
         SoftOutcome::AlreadyChosen => (true, None),
         SoftOutcome::Chosen => (true, None),
         SoftOutcome::Refused(clause) => (false, Some((clause.0 as usize).saturating_sub(1))),
-        SoftOutcome::Clash(_) => (false, None),
+        SoftOutcome::Unsat(_) => (false, None),
     };
     Turn {
         solvable: soft,

@@ -31,12 +31,12 @@ returns-clause-found g c = λ root is candidates e.
     let none = ap (λ v. v.items) c.in_ok-list.ensures.turns ∙ c.new-turns.ensures.turns in
     let chosen = listed_are_chosen c.args.encoding.now c.list.new.self.chosen.keys (first_on_trail same exact c.args.encoding.now c.new-turns.result.chosen.keys c.list.new.self.chosen.keys c.requires.built.coding c.requires.turn c.new-turns.ensures.chosen c.in_ok-list.ensures.in_order) in
     let (right, preferred) = root_right g.A.NameId.PartialEq.eq names same exact p orders root (g.met.A.PackageSource.lawful c.args.answers.now) c.args.encoding.now e c.requires.first c.requires.ended c.list.new.self none chosen in
-    let (order, next) = c.in_ok-clash.ensures.right root (length c.list.new.self.chosen.keys) is candidates e right (no_reasons c.args.encoding.now.coding c.list.new.self none) in
-    let (found, at_first) = turns_found same p orders root c.args.softs.now c.run_soft_requirements.new.encoding c.list.new.self c.run_soft_requirements.new.turns c.in_ok-clash.ensures.prefix preferred c.in_ok-clash.clash next c.in_ok-clash.ensures.at_or_refused c.in_ok-found.found c.in_ok-found.ensures in
+    let (order, next) = c.in_ok-conflict.ensures.right root (length c.list.new.self.chosen.keys) is candidates e right (no_reasons c.args.encoding.now.coding c.list.new.self none) in
+    let (found, at_first) = turns_found same p orders root c.args.softs.now c.run_soft_requirements.new.encoding c.list.new.self c.run_soft_requirements.new.turns c.in_ok-conflict.ensures.prefix preferred c.in_ok-conflict.conflict next c.in_ok-conflict.ensures.at_or_refused c.in_ok-found.found c.in_ok-found.ensures in
     (order, found, at_first)
 
 pub returns-clause-denial : goal.returns-clause-denial
-returns-clause-denial g c = later_denial c.run_soft_requirements.new.encoding c.run_soft_requirements.new.turns c.in_ok-clash.clash c.in_ok-clash.ensures.at_or_refused c.in_ok-found.found c.in_ok-found.ensures
+returns-clause-denial g c = later_denial c.run_soft_requirements.new.encoding c.run_soft_requirements.new.turns c.in_ok-conflict.conflict c.in_ok-conflict.ensures.at_or_refused c.in_ok-found.found c.in_ok-found.ensures
 
 pub returns-clause-listed : goal.returns-clause-listed
-returns-clause-listed g c = later_listed c.run_soft_requirements.new.encoding c.run_soft_requirements.new.turns c.in_ok-clash.clash c.in_ok-clash.ensures.built.coding c.in_ok-clash.ensures.at_or_refused c.in_ok-found.found c.in_ok-found.ensures
+returns-clause-listed g c = later_listed c.run_soft_requirements.new.encoding c.run_soft_requirements.new.turns c.in_ok-conflict.conflict c.in_ok-conflict.ensures.built.coding c.in_ok-conflict.ensures.at_or_refused c.in_ok-found.found c.in_ok-found.ensures
