@@ -10,7 +10,7 @@ use Rattle.resolvo_pool.specs.declared.cache.CacheFault.TheVariants as fault
 use Rattle.resolvo_pool.specs.Cached.{IsCancelledBy}
 use Rattle.resolvo_pool_core.specs.RuleKeeping.{Packages, Rules}
 use Rattle.resolvo.specs.declared.search.SearchResult.{SearchResult}
-use Rattle.resolvo.specs.declared.search.SearchResult.TheVariants.{Chosen, Clash}
+use Rattle.resolvo.specs.declared.search.SearchResult.TheVariants.{Chosen, Unsat}
 use Rattle.resolvo.specs.declared.prove.Solved.{Solved}
 use Rattle.resolvo.specs.declared.solver.UnsolvableOrCancelled.{UnsolvableOrCancelled}
 use Rattle.resolvo.specs.declared.solver.UnsolvableOrCancelled.TheVariants.{Unsolvable, Cancelled, Memory, Ids}
@@ -36,7 +36,7 @@ module _ {P N S C : Type 0} (old : Kept P N S) where
   kept_answers same p root orders softs s ids left (Err (Unsolvable conflict)) new (r, found, ids_are, kept) solved is =
       let (c, there, causes, ordered, offers) = subst (λ (f : SearchResult S). IsLeft same p orders f s.proof.items ids.items left) found is in
       let (e, counted, listed) = solved.counted in
-      let holds : Holds same p root softs (Clash r) = subst (λ (f : SearchResult S). Holds same p root softs f) found solved.found in
+      let holds : Holds same p root softs (Unsat r) = subst (λ (f : SearchResult S). Holds same p root softs f) found solved.found in
       subst (λ (k : Kept P N S). IsAnswer same p root orders softs {C = C} (Err (Unsolvable conflict)) k) (sym kept) (holds, solved_steps same p root orders softs s solved, (e, counted), (left_of c, ap (option_map left_of) there, offers))
   kept_answers same p root orders softs s ids left (Err (Cancelled value)) new h solved is = absurd h
   kept_answers same p root orders softs s ids left (Err Memory) new h solved is = absurd h

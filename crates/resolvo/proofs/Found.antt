@@ -28,7 +28,7 @@ use Rattle.resolvo_encoder.specs.Steps.{IsBegunEncoding}
 use Rattle.resolvo_encoder.specs.TurnLevels.{AreAmongEncoded}
 use Rattle.resolvo_encoder.proofs.TurnLemmas.{turn_keeps, turn_preferred, refused, root_denied}
 use Rattle.resolvo.specs.declared.search.SearchResult.{SearchResult}
-use Rattle.resolvo.specs.declared.search.SearchResult.TheVariants.{Chosen, Clash}
+use Rattle.resolvo.specs.declared.search.SearchResult.TheVariants.{Chosen, Unsat}
 use Rattle.resolvo.specs.declared.turns.Turn.{Turn}
 use Rattle.resolvo.specs.declared.turns.Turns.{Turns}
 use Rattle.resolvo_turn.specs.Turn.{IsRooted, IsTurn}
@@ -105,9 +105,9 @@ module _ {N S : Type 0} (same : S → S → Bool) (p : Packages N S) (orders : R
         ),
         subst (λ (xs : List S). ArePreferred same p orders root xs) (sym whole) preferred,
       )
-  turns_found preferred None right at (Clash q) h = absurd h
+  turns_found preferred None right at (Unsat q) h = absurd h
   turns_found preferred (Some r) right at_or_refused (Chosen v turns) h = absurd h
-  turns_found preferred (Some r) right (refusal, none) (Clash q) is = (
+  turns_found preferred (Some r) right (refusal, none) (Unsat q) is = (
     (right, subst (λ (x : FinalConflict). IsRefusal e.coding.search x.literals.items x.causes.items) (sym is) refusal),
     tt,
   )
@@ -115,19 +115,19 @@ module _ {N S : Type 0} (same : S → S → Bool) (p : Packages N S) (orders : R
 -- all turns list the choices of the trail
 pub later_listed : {N S : Type 0} (e : Encoder N S) (t : Turns S) (o : Option FinalConflict) → IsCoding e.coding → AreAtOrRefused e t o → (f : SearchResult S) → IsFoundIn t o f → IsListedIn e f
 later_listed e t None coding at (Chosen v turns) (solvables, same_turns) = let is = solvables ∙ at.chosen in record { in_order = is; once = subst AreOnce (sym is) (trail_once e coding); encoded = subst (AreAmongEncoded e) (sym solvables) at.encoded }
-later_listed e t None coding at (Clash q) h = absurd h
+later_listed e t None coding at (Unsat q) h = absurd h
 later_listed e t (Some r) coding at_or_refused (Chosen v turns) h = absurd h
-later_listed e t (Some r) coding at_or_refused (Clash q) h = tt
+later_listed e t (Some r) coding at_or_refused (Unsat q) h = tt
 
--- a clash in a soft requirement's turn denies only the root
+-- a conflict in a soft requirement's turn denies only the root
 pub later_denial : {N S : Type 0} (e : Encoder N S) (t : Turns S) (o : Option FinalConflict) → AreAtOrRefused e t o → (f : SearchResult S) → IsFoundIn t o f → IsDenial e.coding f
 later_denial e t None at (Chosen v turns) h = tt
-later_denial e t None at (Clash q) h = absurd h
+later_denial e t None at (Unsat q) h = absurd h
 later_denial e t (Some r) at_or_refused (Chosen v turns) h = absurd h
-later_denial e t (Some r) (refusal, none) (Clash q) is =
+later_denial e t (Some r) (refusal, none) (Unsat q) is =
     subst (λ (x : FinalConflict). IsRefusal e.coding.search x.literals.items x.causes.items × DenyRoot x.literals.items) (sym is)
     (refusal, λ l h. absurd (both_ways false refl (subst (λ (ls : List Signed). has ls l ≡ true) none h)))
 
 -- so does one of the root's turn
-pub root_denial : {N S : Type 0} (e : Encoder N S) → IsCoding e.coding → e.coding.search.base_level ≡ 1 → (r : FinalConflict) → IsRefusal e.coding.search r.literals.items r.causes.items → IsDenial e.coding (Clash r)
+pub root_denial : {N S : Type 0} (e : Encoder N S) → IsCoding e.coding → e.coding.search.base_level ≡ 1 → (r : FinalConflict) → IsRefusal e.coding.search r.literals.items r.causes.items → IsDenial e.coding (Unsat r)
 root_denial e coding first r refusal = (refusal, root_denied e coding first r.literals.items r.causes.items refusal)

@@ -28,17 +28,18 @@ use Rattle.resolvo_state.specs.declared.solver_state.SolverState.{SolverState}
 use Rattle.resolvo_state.specs.declared.clause_kind.ClauseKind.TheVariants.{Learnt}
 use Rattle.resolvo_state.proofs.Origins.{means_solvable, solvable_means, represents_more}
 use Rattle.resolvo_encoder.specs.declared.encoder.Encoder.{Encoder}
+use Rattle.resolvo_encoder.specs.Base.{base_of}
 use Rattle.resolvo_encoder.proofs.TurnLemmas.{turn_accepts}
 use Rattle.resolvo_encoder.specs.TurnLevels.{AreAmongEncoded}
 use Rattle.resolvo_turn.specs.Encoder.{IsInOrder}
-use Rattle.resolvo_turn.specs.Turn.{IsTurn}
+use Rattle.resolvo_turn.specs.Turn.{IsTurn, in_turn}
 use Rattle.resolvo.specs.Turns.{AreAt, AreRight, HasReason, HaveReasons, IsDeniable, IsNextRight, RecordsOutcome, Records, AreAtOrRefused, accepted_of, on_trail, step_of, was_accepted}
 use Rattle.resolvo.specs.declared.soft_requirements.SoftOutcome.{SoftOutcome}
-use Rattle.resolvo.specs.SoftTurns.{IsDenied, IsOutcome, IsReasonOf, IsJustified, IsTrue, KeepsTrail}
+use Rattle.resolvo.specs.SoftTurns.{AreTrueParents, IsDenied, IsOutcome, IsReasonOf, IsJustified, IsTrue, KeepsTrail}
 use Rattle.resolvo.specs.declared.soft_requirements.SoftOutcome.TheVariants as Soft
 use Rattle.resolvo.specs.declared.turns.Turn.{Turn}
 use Rattle.resolvo.specs.declared.turns.Turns.{Turns}
-use Rattle.resolvo_state.proofs.Positions.{prefix_equal, prefix_get, prefix_same}
+use Rattle.resolvo_state.proofs.Positions.{get_contains, prefix_equal, prefix_get, prefix_same}
 use Rattle.resolvo.proofs.ListLemmas.{accepted_more, accepted_next, next_right, refused_next}
 use Rattle.resolvo_turn.proofs.EndLemmas.{contains_longer}
 use Rattle.resolvo.proofs.TrailLemmas.{listed_are_chosen, listed_on_trail, trail_stays}
@@ -99,6 +100,12 @@ module _ {N S : Type 0} where
 
   pub true_chosen : (e : Encoder N S) (members : List S) → AreChosen e.coding.atoms.keys (made_true (history e.coding.search)) members → (s : S) → IsTrue e s → Contains members s
   true_chosen e members are s (u, present, known) = are.all (yes u) s known (solvable_means e.coding.atoms.keys (yes u) s refl present)
+
+  -- so they are among the parents
+  pub at_parents : (e : Encoder N S) (t : Turns S) → AreAt e t → AreTrueParents e
+  at_parents e t at s truth =
+      let (i, low, here) = at.encoded.each s (true_chosen e t.chosen.keys (listed_are_chosen e t.chosen.keys at.chosen) s truth) in
+      get_contains e.parents.keys i (Place.Solvable s) here
 
   -- an encoded parent stays encoded
   among_stays : (a b : Encoder N S) (members : List S) → KeepsTrail a b → AreAmongEncoded a members → AreAmongEncoded b members
@@ -204,12 +211,12 @@ module _ {N S : Type 0} where
     refused_at : (clause : ClauseId) → IsOutcome same s a b (Soft.Refused clause) → (begin : ℕ) → Records s begin (Soft.Refused clause) t u → AreAt b u
     refused_at clause (softs, trail, untrue) begin pushed = next_at a b t t u s begin (Soft.Refused clause) at (stays_chosen trail) refl pushed softs stay_encoded
 
-    goes_on : IsExact same → IsCoding b.coding → (m : Turns S) → m.chosen.keys ≡ insert_all same t.chosen.keys (on_trail b) → m.chosen.keys ≡ on_trail b
-    goes_on exact after m in_order = listed_on_trail same exact a b t.chosen.keys m.chosen.keys coding after keeps at.chosen in_order
+    goes_on : IsExact same → IsCoding b.coding → (m : Turns S) → base_of b ≡ history a.coding.search → m.chosen.keys ≡ insert_all same t.chosen.keys (in_turn b) → m.chosen.keys ≡ on_trail b
+    goes_on exact after m base in_order = listed_on_trail same exact a b t.chosen.keys m.chosen.keys coding after keeps.atoms base at.chosen in_order
 
-    chosen_at : IsExact same → IsCoding b.coding → (m : Turns S) → IsOutcome same s a b Soft.Chosen → m.chosen.keys ≡ insert_all same t.chosen.keys (on_trail b) → m.turns ≡ t.turns → (begin : ℕ) → Records s begin Soft.Chosen m u → AreAt b u
-    chosen_at exact after m (softs, (v, present, (is_done, whole, spent, has_it))) in_order turns begin pushed =
-        let are : m.chosen.keys ≡ on_trail b = goes_on exact after m in_order in
+    chosen_at : IsExact same → IsCoding b.coding → (m : Turns S) → IsOutcome same s a b Soft.Chosen → m.chosen.keys ≡ insert_all same t.chosen.keys (in_turn b) → m.turns ≡ t.turns → (begin : ℕ) → Records s begin Soft.Chosen m u → AreAt b u
+    chosen_at exact after m (softs, base, (v, present, (is_done, whole, spent, has_it))) in_order turns begin pushed =
+        let are : m.chosen.keys ≡ on_trail b = goes_on exact after m base in_order in
         next_at a b t m u s begin Soft.Chosen at are turns pushed softs (whole m.chosen.keys (listed_are_chosen b m.chosen.keys are))
 
     module _ (exact : IsExact same) (p : Packages N S) (root : Rules) (first : ℕ) (done : List S) (right : AreRight same p root first done t) where
@@ -236,10 +243,10 @@ module _ {N S : Type 0} where
           recorded_next same exact p root a b t t u first done s (Soft.Refused clause) at right (prefix_same t.chosen.keys) refl (subst (λ n. Records s n (Soft.Refused clause) t u) is pushed) softs
           (subst (λ (ws : List S). IsAccepted same p root ws t.chosen.keys) (sym softs) still_accepted) (untrue_outside same exact p root b t.chosen.keys s (listed_are_chosen b t.chosen.keys (stays_chosen trail)) untrue) (λ so. refl) (λ so. denied)
 
-      chosen_right : (same_name : N → N → Bool) → IsExact same_name → IsLawful p → (orders : Requirement → List S → Type 0) → IsInOrder same p orders root b → IsCoding b.coding → (m : Turns S) → IsOutcome same s a b Soft.Chosen → IsPrefixOf t.chosen.keys m.chosen.keys → m.chosen.keys ≡ insert_all same t.chosen.keys (on_trail b) → m.turns ≡ t.turns
+      chosen_right : (same_name : N → N → Bool) → IsExact same_name → IsLawful p → (orders : Requirement → List S → Type 0) → IsInOrder same p orders root b → IsCoding b.coding → (m : Turns S) → IsOutcome same s a b Soft.Chosen → IsPrefixOf t.chosen.keys m.chosen.keys → m.chosen.keys ≡ insert_all same t.chosen.keys (in_turn b) → m.turns ≡ t.turns
           → (begin : ℕ) → begin ≡ length t.chosen.keys → Records s begin Soft.Chosen m u → AreRight same p root first (done ++ s ∷ []) u
-      chosen_right same_name names lawful orders order after m (softs, (v, present, ended)) lists in_order turns begin is pushed =
-          let are : AreChosen b.coding.atoms.keys (made_true (history b.coding.search)) m.chosen.keys = listed_are_chosen b m.chosen.keys (goes_on exact after m in_order) in
+      chosen_right same_name names lawful orders order after m (softs, base, (v, present, ended)) lists in_order turns begin is pushed =
+          let are : AreChosen b.coding.atoms.keys (made_true (history b.coding.search)) m.chosen.keys = listed_are_chosen b m.chosen.keys (goes_on exact after m base in_order) in
           let (is_done, whole, spent, has_it) = ended in
           recorded_next same exact p root a b t m u first done s Soft.Chosen at right lists turns (subst (λ n. Records s n Soft.Chosen m u) is pushed) softs
           (chosen_accepted same exact p root same_name names lawful orders b (Some v) m.chosen.keys order ended are) (true_inside same exact p root b m.chosen.keys s are (v, present, has_it)) (λ so. absurd (both_ways true so refl)) (λ so. absurd (both_ways true so refl))
@@ -258,8 +265,8 @@ module _ {N S : Type 0} where
         refused_reasons clause reason reasons (length t.chosen.keys) refl pushed,
       )
       outcome_right same_name names lawful orders order after reasons (Soft.Refused clause) (Some q) is why none = absurd none
-      outcome_right same_name names lawful orders order after reasons (Soft.Clash r) None is why none = absurd none
-      outcome_right same_name names lawful orders order after reasons (Soft.Clash r) (Some q) is why pushed = why
+      outcome_right same_name names lawful orders order after reasons (Soft.Unsat r) None is why none = absurd none
+      outcome_right same_name names lawful orders order after reasons (Soft.Unsat r) (Some q) is why pushed = why
 
     pub outcome_at : IsExact same → IsCoding b.coding → (w : SoftOutcome) (o : Option FinalConflict) → IsOutcome same s a b w → RecordsOutcome same s b t u w o → AreAtOrRefused b u o
     outcome_at exact after Soft.AlreadyChosen None is pushed = already_at is (length t.chosen.keys) pushed
@@ -268,8 +275,8 @@ module _ {N S : Type 0} where
     outcome_at exact after Soft.Chosen (Some q) is none = absurd none
     outcome_at exact after (Soft.Refused clause) None is pushed = refused_at clause is (length t.chosen.keys) pushed
     outcome_at exact after (Soft.Refused clause) (Some q) is none = absurd none
-    outcome_at exact after (Soft.Clash r) None is none = absurd none
-    outcome_at exact after (Soft.Clash r) (Some q) is (one, unchanged) = subst (λ (x : FinalConflict). IsRefusal b.coding.search x.literals.items x.causes.items × (x.literals.items ≡ [])) (sym one) is
+    outcome_at exact after (Soft.Unsat r) None is none = absurd none
+    outcome_at exact after (Soft.Unsat r) (Some q) is (one, unchanged) = subst (λ (x : FinalConflict). IsRefusal b.coding.search x.literals.items x.causes.items × (x.literals.items ≡ [])) (sym one) is
 
     pub outcome_prefix : (w : SoftOutcome) (o : Option FinalConflict) → RecordsOutcome same s b t u w o → IsPrefixOf t.chosen.keys u.chosen.keys
     outcome_prefix Soft.AlreadyChosen None pushed = prefix_equal t.chosen.keys u.chosen.keys (ap (λ (c : HashSet S (BuildHasherDefault FoldHasher)). c.keys) pushed.chosen)
@@ -278,5 +285,5 @@ module _ {N S : Type 0} where
     outcome_prefix Soft.Chosen (Some q) none = absurd none
     outcome_prefix (Soft.Refused clause) None pushed = prefix_equal t.chosen.keys u.chosen.keys (ap (λ (c : HashSet S (BuildHasherDefault FoldHasher)). c.keys) pushed.chosen)
     outcome_prefix (Soft.Refused clause) (Some q) none = absurd none
-    outcome_prefix (Soft.Clash r) None none = absurd none
-    outcome_prefix (Soft.Clash r) (Some q) (one, unchanged) = prefix_equal t.chosen.keys u.chosen.keys (ap (λ (x : Turns S). x.chosen.keys) unchanged)
+    outcome_prefix (Soft.Unsat r) None none = absurd none
+    outcome_prefix (Soft.Unsat r) (Some q) (one, unchanged) = prefix_equal t.chosen.keys u.chosen.keys (ap (λ (x : Turns S). x.chosen.keys) unchanged)

@@ -44,10 +44,10 @@ use Rattle.resolvo_encoder.proofs.Bases.{below_all, below_ends}
 use Rattle.resolvo_encoder.proofs.PickLemmas.{ordered_stays}
 use Rattle.resolvo_turn.specs.Encoder.{IsInOrder, AddsParents}
 use Rattle.resolvo_turn.specs.Turn.{IsRooted, IsTurn}
-use Rattle.resolvo.specs.SoftTurns.{IsClosed, IsLearntAs, IsOutcome, IsReasonOf, IsRefusable, IsJustified, IsTrue, IsRejected, KeepsRest, KeepsTrail}
+use Rattle.resolvo.specs.SoftTurns.{AreTrueParents, IsClosed, IsLearntAs, IsOutcome, IsReasonOf, IsRefusable, IsJustified, IsTrue, IsRejected, KeepsRest, KeepsTrail}
 use Rattle.resolvo.specs.declared.soft_requirements.SoftOutcome.{SoftOutcome}
-use Rattle.resolvo_turn.proofs.EndLemmas.{still_rooted}
-use Rattle.resolvo.proofs.Soft.{refused_all, refused_addable, refused_blamed, refused_denied, refused_empty, taken_true}
+use Rattle.resolvo_turn.proofs.EndLemmas.{contains_longer, still_rooted}
+use Rattle.resolvo.proofs.Soft.{refused_all, refused_addable, refused_blamed, refused_denied, refused_empty, taken_true, true_before}
 
 -- ---- a turn is undone
 
@@ -143,6 +143,12 @@ module _ {N S : Type 0} (same : S → S → Bool) (a b : Encoder N S) (one : Off
   registered_parents : IsPrefixOf a.parents.keys b.parents.keys
   registered_parents = prefix_equal a.parents.keys b.parents.keys (ap (λ ks. ks.keys) registered.parents)
 
+  -- what is true is still among the parents
+  pub registered_taken : IsCoding a.coding → AreTrueParents a → AreTrueParents b
+  registered_taken coding parents s (u, represents, truth) =
+      let before : IsTrue a s = true_before a b coding registered.grows.atoms s u represents (subst (λ (h : List Entry). has (made_true h) (yes u) ≡ true) registered_same truth) in
+      contains_longer a.parents.keys b.parents.keys (Place.Solvable s) registered_parents (parents s before)
+
   pub registered_keeps : KeepsTrail a b
   registered_keeps =
       let encoded : b.encoded ≡ a.encoded = registered.encoded in
@@ -186,7 +192,7 @@ module _ {N S : Type 0} (same : S → S → Bool) (a b : Encoder N S) (one : Off
     turn_keeps = record { atoms = turn_atoms; clauses = turn_clauses; kinds = turn_kinds; ends = turn_ends; parents = turn_parents; encoded = turn_encoded; rooted = turn_rooted }
 
     turn_chosen : IsTurn same (Some v) c None → IsOutcome same one.solvable a c SoftOutcome.Chosen
-    turn_chosen ended = (adds.softs ∙ registered.softs, (v, turn_represents, ended))
+    turn_chosen ended = (adds.softs ∙ registered.softs, base ∙ registered_same, (v, turn_represents, ended))
 
     turn_refusable : (r : FinalConflict) → IsTurn same (Some v) c (Some r) → IsRefusable c r
     turn_refusable r ended = (v, o, (a.recorded.softs.items, one.solvable, adds.softs ∙ registered.softs, turn_represents), ended)
@@ -213,7 +219,7 @@ module _ {N S : Type 0} (same : S → S → Bool) (a b : Encoder N S) (one : Off
       rejected_keeps SoftOutcome.AlreadyChosen h = absurd h
       rejected_keeps SoftOutcome.Chosen h = absurd h
       rejected_keeps (SoftOutcome.Refused clause) (trail, softs, learnt) = record { atoms = prefix_then a.coding.atoms.keys c.coding.atoms.keys d.coding.atoms.keys turn_atoms rest.grows.atoms; clauses = rejected_clauses; kinds = rejected_kinds; ends = ([], trail ∙ base ∙ registered_same); parents = rejected_parents; encoded = rejected_encoded; rooted = rejected_rooted }
-      rejected_keeps (SoftOutcome.Clash q) (is, none, unchanged) = record {
+      rejected_keeps (SoftOutcome.Unsat q) (is, none, unchanged) = record {
         atoms = prefix_then a.coding.atoms.keys c.coding.atoms.keys d.coding.atoms.keys turn_atoms rest.grows.atoms;
         clauses = rejected_clauses;
         kinds = rejected_kinds;
@@ -237,7 +243,7 @@ module _ {N S : Type 0} (same : S → S → Bool) (a b : Encoder N S) (one : Off
               let stays : Represents d.coding.atoms.keys v (Solvable one.solvable) = represents_grow c.coding d.coding v (Solvable one.solvable) rest.grows turn_represents in
               let is : u ≡ v = represents_once d.coding u v (Solvable one.solvable) built.coding present stays in
               both_ways _ unchosen (subst (λ (h : List Entry). has (made_true h) (yes v) ≡ true) (trail ∙ base) (subst (λ (w : VariableId). has (made_true (history d.coding.search)) (yes w) ≡ true) is known))
-      rejected_outcome built unchosen (SoftOutcome.Clash q) (is, none, unchanged) = (
+      rejected_outcome built unchosen (SoftOutcome.Unsat q) (is, none, unchanged) = (
         subst (λ (x : Encoder N S). IsRefusal x.coding.search q.literals.items q.causes.items) (sym unchanged)
             (subst (λ (x : FinalConflict). IsRefusal c.coding.search x.literals.items x.causes.items) (sym is) (refused_empty c v r ended (ap (λ (x : FinalConflict). x.literals.items) (sym is) ∙ none))),
         none,
@@ -265,7 +271,7 @@ module _ {N S : Type 0} (same : S → S → Bool) (a b : Encoder N S) (one : Off
         refused_denied c v same exact p root holds same_name names o a coding turn_atoms (base ∙ registered_same) one.solvable turn_represents r ended,
         rejected_reason coding exact same_name names p root holds clause learnt,
       )
-      rejected_right coding exact same_name names p root holds (SoftOutcome.Clash q) (is, none, unchanged) = refused_all c v same exact p root holds same_name names o r ended (ap (λ (x : FinalConflict). x.literals.items) (sym is) ∙ none)
+      rejected_right coding exact same_name names p root holds (SoftOutcome.Unsat q) (is, none, unchanged) = refused_all c v same exact p root holds same_name names o r ended (ap (λ (x : FinalConflict). x.literals.items) (sym is) ∙ none)
 
     -- ---- it has ended, and is closed
 

@@ -1,8 +1,9 @@
 -- The turns of soft requirements.
 use Rattle.std.proofs.Common.{◌≡◌, suc, ◌<◌, ◌≤◌, inl, inr, Bool, true, false, List, [], length, Some, refl, sym, ◌∙◌, ap, subst, arith}
-use Rattle.std.specs.Prelude.{not}
+use Rattle.std.specs.Prelude.{not, Contains}
 use Rattle.resolvo_pool_core.specs.declared.id.VariableId.{VariableId}
 use Rattle.resolvo_pool_core.specs.declared.requirement.Requirement.{Requirement}
+use Rattle.resolvo_pool_core.specs.declared.solver_id.SolvableIdOrRoot.TheVariants as Place
 use Rattle.std.proofs.lemmas.Bool.{both_ways}
 use Rattle.resolvo_pool_core.specs.RuleKeeping.{Packages, Rules, IsRuleKeeping}
 use Rattle.resolvo_store_core.specs.AtMostOne.{IsPrefixOf}
@@ -17,7 +18,9 @@ use Rattle.resolvo_sat.specs.Entries.{made_true, top_level}
 use Rattle.resolvo_sat.specs.State.{count_of, history, clauses_of}
 use Rattle.resolvo_sat.proofs.Trails.{known_in_range, level_le_last, root_level}
 use Rattle.resolvo_sat.specs.Encoding.{IsExact}
+use Rattle.resolvo_state.specs.declared.atom.ProofAtom.{ProofAtom}
 use Rattle.resolvo_state.specs.declared.atom.ProofAtom.TheVariants.{Solvable}
+use Rattle.resolvo_state.specs.declared.solver_state.SolverState.{SolverState}
 use Rattle.resolvo_state.specs.Atoms.{Represents}
 use Rattle.resolvo_state.specs.SolverState.{IsCoding}
 use Rattle.resolvo_state.proofs.Origins.{count_is, represents_more, represents_other, represents_same, represents_some}
@@ -29,9 +32,10 @@ use Rattle.resolvo_encoder.specs.SoftRequirement.{turn_of, IsSoft}
 use Rattle.resolvo_encoder.proofs.Bases.{turn_begun}
 use Rattle.resolvo_encoder.proofs.BlameLemmas.{blame_refuses, empty_refuses, reason_blames, refusal_blames}
 use Rattle.resolvo_turn.specs.Encoder.{IsInOrder, AddsParents}
-use Rattle.resolvo_turn.specs.Turn.{IsRefusedBy}
-use Rattle.resolvo.specs.SoftTurns.{IsDenied, IsTrue}
-use Rattle.resolvo_turn.proofs.AddLemmas.{all_then, needs_parents, parents_in_order, parents_needs}
+use Rattle.resolvo_turn.specs.Turn.{AreTakenParents, IsRefusedBy}
+use Rattle.resolvo.specs.SoftTurns.{AreTrueParents, IsDenied, IsTrue}
+use Rattle.resolvo_turn.proofs.AddLemmas.{all_then, needs_parents, parents_coding, parents_in_order, parents_needs}
+use Rattle.resolvo_turn.proofs.EndLemmas.{contains_longer}
 
 -- the root is true at the first level
 pub above_root : {N S : Type 0} (e : Encoder N S) → IsBuilt e → 1 ≤ top_level (history e.coding.search)
@@ -45,6 +49,13 @@ module _ {N S : Type 0} (e begun first : Encoder N S) (is : begun ≡ turn_of e)
       let (o', base') = (parents_needs begun first added).turn (Some v) (subst (λ (x : Encoder N S). IsOpen x v) (sym is) o) in
       (o', base' ∙ ap (λ (x : Encoder N S). base_of x) is ∙ base)
 
+  -- what was true before it is among the parents
+  pub begun_taken : AreTrueParents e → base_of first ≡ history e.coding.search → AreTakenParents first
+  begun_taken parents base s (u, represents, truth) =
+      let atoms : first.coding.atoms.keys ≡ e.coding.atoms.keys = ap (λ (x : SolverState N S). x.atoms.keys) (parents_coding begun first added) ∙ ap (λ (x : Encoder N S). x.coding.atoms.keys) is in
+      let before : Contains e.parents.keys (Place.Solvable s) = parents s (u, subst (λ (xs : List (ProofAtom N S)). Represents xs u (Solvable s)) atoms represents, subst (λ (h : List Entry). has (made_true h) (yes u) ≡ true) base truth) in
+      contains_longer begun.parents.keys first.parents.keys (Place.Solvable s) added.prefix (subst (λ (x : Encoder N S). Contains x.parents.keys (Place.Solvable s)) (sym is) before)
+
   pub begun_adds : (last : Encoder N S) → AddsParents first last → AddsParents (turn_of e) last
   begun_adds last adds = subst (λ (x : Encoder N S). AddsParents x last) is (all_then begun first last (needs_parents begun first (parents_needs begun first added)) adds)
 
@@ -53,7 +64,7 @@ module _ {N S : Type 0} (e begun first : Encoder N S) (is : begun ≡ turn_of e)
       (subst (λ (x : Encoder N S). IsInOrder same p orders root x) (sym is) (record { encoding = subst (λ (x : Encoder N S). IsEncoding same p root x) is holds; ordered = order.ordered })) added
 
 -- the origin of a variable that was true then is the same now
-true_before : {N S : Type 0} (a b : Encoder N S) → IsCoding a.coding → IsPrefixOf a.coding.atoms.keys b.coding.atoms.keys → (s : S) (u : VariableId) → Represents b.coding.atoms.keys u (Solvable s) → has (made_true (history a.coding.search)) (yes u) ≡ true → IsTrue a s
+pub true_before : {N S : Type 0} (a b : Encoder N S) → IsCoding a.coding → IsPrefixOf a.coding.atoms.keys b.coding.atoms.keys → (s : S) (u : VariableId) → Represents b.coding.atoms.keys u (Solvable s) → has (made_true (history a.coding.search)) (yes u) ≡ true → IsTrue a s
 true_before a b coding prefix s u represents known =
     let range : u.0 < count_of a.coding.search = known_in_range (count_of a.coding.search) (clauses_of a.coding.search) (history a.coding.search) (yes u) coding.ready.state.trail known in
     let count : count_of a.coding.search ≡ suc (length a.coding.atoms.keys) = count_is a.coding coding in

@@ -15,7 +15,7 @@ use Rattle.resolvo_proof.specs.Proof.{Proves}
 use Rattle.resolvo_proof.specs.Written.{IsStepAt}
 use Rattle.resolvo_proof.specs.declared.step.ProofStep.{ProofStep}
 use Rattle.resolvo.specs.declared.search.SearchResult.{SearchResult}
-use Rattle.resolvo.specs.declared.search.SearchResult.TheVariants.{Chosen, Clash}
+use Rattle.resolvo.specs.declared.search.SearchResult.TheVariants.{Chosen, Unsat}
 use Rattle.resolvo.specs.declared.prove.Solved.{Solved}
 use Rattle.resolvo.specs.Solve.{AreChosenOnce, HasSteps, HaveProofs, IsFound, IsListedIn, IsPreferred, IsSearch, Holds, IsSolved}
 use Rattle.resolvo.proofs.Reasons.{reason_proof}
@@ -33,24 +33,24 @@ with_given (Err e) G P h given = tt
 -- nothing is listed twice
 pub listed_once : {N S : Type 0} (e : Encoder N S) (f : SearchResult S) → IsListedIn e f → AreChosenOnce f
 listed_once e (Chosen v turns) listed = listed.once
-listed_once e (Clash r) listed = tt
+listed_once e (Unsat r) listed = tt
 
 -- the steps of an encoding's clauses
 steps_counted : {N S : Type 0} (e : Encoder N S) (f : SearchResult S) (steps : List (ProofStep N S)) (clauses : ℕ) → clauses ≡ length e.coding.search.clauses → HasSteps e.coding f steps → (place : ℕ) (step : ProofStep N S) → suc place < clauses → slice_get steps place ≡ Some step → IsStepAt e.coding (suc place) step
 steps_counted e (Chosen v turns) steps clauses is are place step low at = are.each place step at
-steps_counted e (Clash r) steps clauses is are place step low at =
+steps_counted e (Unsat r) steps clauses is are place step low at =
     let count : length are.earlier + 1 ≡ length e.coding.search.clauses = are.clauses.count in
     are.clauses.each place step (get_old are.earlier (are.final ∷ []) place step (omega arith) (subst (λ (xs : List (ProofStep _ _)). slice_get xs place ≡ Some step) are.ends at))
 
 module _ {N S : Type 0} (same : S → S → Bool) (p : Packages N S) (orders : Requirement → List S → Type 0) (root : Rules) (softs : List S) where
   found_holds : (e : Encoder N S) (f : SearchResult S) → IsFound same p root softs e f → Holds same p root softs f
   found_holds e (Chosen v turns) h = h.0
-  found_holds e (Clash r) h = h.0
+  found_holds e (Unsat r) h = h.0
 
   -- each turn has its step
   found_proofs : (e : Encoder N S) (f : SearchResult S) (steps : List (ProofStep N S)) → HasSteps e.coding f steps → IsFound same p root softs e f → HaveProofs steps f
   found_proofs e (Chosen v turns) steps are h = λ t there. reason_proof e.coding steps are v.items t (h.1 t there)
-  found_proofs e (Clash r) steps are h = tt
+  found_proofs e (Unsat r) steps are h = tt
 
   -- the result, with the steps of its clauses
   pub search_solved : (e : Encoder N S) (f : SearchResult S) (x : Solved N S) → IsSearch same p orders root softs e f → x.found ≡ f → Proves e.coding x.proof.items

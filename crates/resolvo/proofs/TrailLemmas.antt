@@ -1,7 +1,8 @@
 -- The listed solvables are the choices of the trail, in its order.
-use Rattle.std.proofs.Common.{◌≡◌, ◌<◌, Bool, cond, reverse, List, [], ◌∷◌, ◌++◌, length, Some, None, refl, sym, ◌∙◌, ap, subst, append_assoc, append-nil, arith}
-use Rattle.std.specs.Prelude.{slice_get, Contains}
+use Rattle.std.proofs.Common.{◌≡◌, ◌<◌, Bool, drop, reverse, List, [], ◌∷◌, ◌++◌, length, Some, None, refl, sym, ◌∙◌, ap, subst, append_assoc, append-nil, arith}
+use Rattle.std.specs.Prelude.{slice_get}
 use Rattle.std.proofs.lemmas.List.{reverse-reverse}
+use Rattle.std.proofs.lemmas.List.Elements.{filter_map-append}
 use Rattle.std.proofs.lemmas.List.Sums.{fold-append}
 use Rattle.std.proofs.lemmas.Option.{slice_get_within}
 use Rattle.indexmap.specs.IndexSet.{insert_key, insert_all}
@@ -10,16 +11,18 @@ use Rattle.resolvo_store_core.specs.declared.decision.Entry.{Entry}
 use Rattle.resolvo_sat.specs.Entries.{made_true}
 use Rattle.resolvo_sat.specs.State.{count_of, history, clauses_of}
 use Rattle.resolvo_sat.specs.Encoding.{IsExact}
-use Rattle.resolvo_sat.proofs.Lists.{contains_first, contains_later, contained_any}
-use Rattle.resolvo_state.specs.Chosen.{AreChosen, choices}
+use Rattle.resolvo_state.specs.Chosen.{AreChosen, choice_of, choices}
 use Rattle.resolvo_state.specs.SolverState.{IsCoding}
 use Rattle.resolvo_state.specs.Keys.{AreOnce, IsPlace}
 use Rattle.resolvo_state.proofs.ChosenLemmas.{choices_chosen}
-use Rattle.resolvo_state.proofs.Choices.{choices_once, choices_kept, choices_go_on}
+use Rattle.resolvo_state.proofs.Choices.{choices_once, choices_kept}
 use Rattle.resolvo_state.proofs.KeyLemmas.{pushed_is}
 use Rattle.resolvo_state.proofs.Origins.{count_is}
 use Rattle.resolvo_state.proofs.Positions.{get_in_prefix, get_last}
 use Rattle.resolvo_encoder.specs.declared.encoder.Encoder.{Encoder}
+use Rattle.resolvo_encoder.specs.Base.{base_of}
+use Rattle.resolvo_turn.specs.Turn.{in_turn}
+use Rattle.resolvo_turn.proofs.TakenLemmas.{none_before, turn_part}
 use Rattle.resolvo.specs.Turns.{on_trail}
 use Rattle.resolvo.specs.SoftTurns.{KeepsTrail}
 
@@ -38,24 +41,16 @@ pub inserted_more : {X : Type 0} (same : X → X → Bool) (keys members more be
 inserted_more same keys members more before after x is so put = put ∙ ap (λ (ks : List _). insert_key same ks x) so ∙ sym (ap (insert_all same keys) is ∙ fold-append (insert_key same) keys members (x ∷ []))
 
 module _ {X : Type 0} (same : X → X → Bool) (exact : IsExact same) where
-  -- a value that is there is not inserted again
-  inserted_there : (keys xs : List X) → ((x : X) → Contains xs x → Contains keys x) → insert_all same keys xs ≡ keys
-  inserted_there keys [] there = refl
-  inserted_there keys (x ∷ xs) there =
-      let one : insert_key same keys x ≡ keys = ap (λ b. cond b keys (keys ++ x ∷ [])) (contained_any (same x) x keys (there x (contains_first x x xs refl)) (exact.own x)) in
-      ap (λ (ks : List X). insert_all same ks xs) one ∙ inserted_there keys xs (λ y h. there y (contains_later y x xs h))
-
-  -- another one is inserted at the end
+  -- others are inserted at the end
   inserted_fresh : (keys xs : List X) → AreOnce (keys ++ xs) → insert_all same keys xs ≡ keys ++ xs
   inserted_fresh keys [] once = sym (append-nil keys)
   inserted_fresh keys (x ∷ xs) once =
       let one : insert_key same keys x ≡ keys ++ x ∷ [] = pushed_is same x keys (exact.one x) (fresh keys x xs once) in
       ap (λ (ks : List X). insert_all same ks xs) one ∙ inserted_fresh (keys ++ x ∷ []) xs (subst AreOnce (sym (append_assoc keys (x ∷ []) xs)) once) ∙ append_assoc keys (x ∷ []) xs
 
-  -- a list without repeats that extends the listed ones replaces them
-  pub all_inserted : (keys xs : List X) → AreOnce xs → IsPrefixOf keys xs → insert_all same keys xs ≡ xs
-  all_inserted keys xs once (more, is) =
-      ap (insert_all same keys) is ∙ fold-append (insert_key same) keys keys more ∙ ap (λ (ks : List X). insert_all same ks more) (inserted_there keys keys (λ x h. h)) ∙ inserted_fresh keys more (subst AreOnce is once) ∙ sym is
+  -- a list without repeats, of the listed ones and then of these
+  all_inserted : (keys xs all : List X) → AreOnce all → all ≡ keys ++ xs → insert_all same keys xs ≡ all
+  all_inserted keys xs all once is = inserted_fresh keys xs (subst AreOnce is once) ∙ sym is
 
 -- ---- the choices of the trail
 
@@ -82,12 +77,22 @@ module _ {N S : Type 0} where
       let one : b.coding.search.tracker.trail ≡ a.coding.search.tracker.trail = sym (reverse-reverse b.coding.search.tracker.trail) ∙ ap reverse same ∙ reverse-reverse a.coding.search.tracker.trail in
       ap (choices b.coding.atoms.keys) one ∙ trail_kept a b coding keeps.atoms
 
-  -- where the trail was extended, the listed solvables are its choices
-  pub listed_on_trail : (same : S → S → Bool) → IsExact same → (a b : Encoder N S) (old new : List S) → IsCoding a.coding → IsCoding b.coding → KeepsTrail a b → old ≡ on_trail a → new ≡ insert_all same old (on_trail b) → new ≡ on_trail b
-  listed_on_trail same exact a b old new coding after keeps at listed =
-      let goes_on : IsPrefixOf (choices b.coding.atoms.keys a.coding.search.tracker.trail) (on_trail b) = choices_go_on b.coding.atoms.keys a.coding.search.tracker.trail b.coding.search.tracker.trail keeps.ends in
-      listed ∙ all_inserted same exact old (on_trail b) (trail_once b after) (subst (λ (xs : List S). IsPrefixOf xs (on_trail b)) (trail_kept a b coding keeps.atoms ∙ sym at) goes_on)
+  -- after the choices before the turn come those of the turn
+  turn_goes_on : (a b : Encoder N S) → IsCoding a.coding → IsPrefixOf a.coding.atoms.keys b.coding.atoms.keys → base_of b ≡ history a.coding.search → on_trail b ≡ on_trail a ++ in_turn b
+  turn_goes_on a b coding prefix base =
+      let atoms = b.coding.atoms.keys in
+      let (p, is, whole, part) = turn_part b in
+      let earlier : reverse (base_of b) ≡ a.coding.search.tracker.trail = ap reverse base ∙ reverse-reverse a.coding.search.tracker.trail in
+      let trail : b.coding.search.tracker.trail ≡ a.coding.search.tracker.trail ++ reverse p = whole ∙ ap (λ (es : List Entry). es ++ reverse p) earlier in
+      ap (choices atoms) trail ∙ filter_map-append (choice_of atoms) a.coding.search.tracker.trail (reverse p) ∙ ap (λ (xs : List S). xs ++ choices atoms (reverse p)) (trail_kept a b coding prefix) ∙ ap (λ (xs : List S). on_trail a ++ xs) (sym part)
 
-  -- so are those that are listed first
-  pub first_on_trail : (same : S → S → Bool) → IsExact same → (e : Encoder N S) (old new : List S) → IsCoding e.coding → old ≡ [] → new ≡ insert_all same old (on_trail e) → new ≡ on_trail e
-  first_on_trail same exact e old new coding none listed = listed ∙ all_inserted same exact old (on_trail e) (trail_once e coding) (on_trail e, ap (λ (xs : List S). xs ++ on_trail e) (sym none))
+  -- where the turn's choices are listed after those before it, the listed ones are the trail's
+  pub listed_on_trail : (same : S → S → Bool) → IsExact same → (a b : Encoder N S) (old new : List S) → IsCoding a.coding → IsCoding b.coding → IsPrefixOf a.coding.atoms.keys b.coding.atoms.keys → base_of b ≡ history a.coding.search → old ≡ on_trail a → new ≡ insert_all same old (in_turn b) → new ≡ on_trail b
+  listed_on_trail same exact a b old new coding after prefix base at listed =
+      listed ∙ all_inserted same exact old (in_turn b) (on_trail b) (trail_once b after) (turn_goes_on a b coding prefix base ∙ ap (λ (xs : List S). xs ++ in_turn b) (sym at))
+
+  -- so are those that are listed first, in the root's turn
+  pub first_on_trail : (same : S → S → Bool) → IsExact same → (e : Encoder N S) (old new : List S) → IsCoding e.coding → e.coding.search.base_level ≡ 1 → old ≡ [] → new ≡ insert_all same old (in_turn e) → new ≡ on_trail e
+  first_on_trail same exact e old new coding first none listed =
+      let whole : in_turn e ≡ on_trail e = ap (λ (base : List Entry). choices e.coding.atoms.keys (drop (length base) e.coding.search.tracker.trail)) (none_before e coding first) in
+      listed ∙ all_inserted same exact old (in_turn e) (on_trail e) (trail_once e coding) (sym whole ∙ ap (λ (xs : List S). xs ++ in_turn e) (sym none))

@@ -8,7 +8,7 @@ use Rattle.resolvo_proof.specs.Order.{conflict_order, conflict_rules, requiremen
 use Rattle.resolvo_proof.specs.Offered.{offered_by}
 use Rattle.resolvo_proof.specs.declared.offers.Offers.{Offers}
 use Rattle.resolvo.specs.declared.search.SearchResult.{SearchResult}
-use Rattle.resolvo.specs.declared.search.SearchResult.TheVariants.{Chosen, Clash}
+use Rattle.resolvo.specs.declared.search.SearchResult.TheVariants.{Chosen, Unsat}
 use Rattle.resolvo.specs.declared.conflict.KeptConflict.{KeptConflict}
 
 -- its clauses, and the offered candidates for the requirements of its rules
@@ -38,7 +38,7 @@ pub record IsRightOffer {N S : Type 0} (same : S → S → Bool) (p : Packages N
 abbrev pub AreOffers : {N S : Type 0} → (S → S → Bool) → Packages N S → (Requirement → List S → Type 0) → List (ProofStep N S) → Offers S → Type 0
 AreOffers same p orders steps offers = (r : Requirement) → Contains (requirements_in (conflict_rules steps)) r → IsRightOffer same p orders r (offered_by offers r)
 
--- the record of a clash: its clauses, which are returned too, and the offers; otherwise none
+-- the record of a conflict: its clauses, which are returned too, and the offers; otherwise none
 abbrev pub IsLeft : {N S : Type 0} → (S → S → Bool) → Packages N S → (Requirement → List S → Type 0) → SearchResult S → List (ProofStep N S) → List ClauseId → Option (KeptConflict S) → Type 0
 IsLeft same p orders (Chosen v turns) steps ids left = left ≡ None
-IsLeft {N} {S} same p orders (Clash r) steps ids left = (k : KeptConflict S) × (left ≡ Some k) × (k.clauses.items ≡ ids) × (ids ≡ conflict_clauses steps) × AreOffers same p orders steps k.offers
+IsLeft {N} {S} same p orders (Unsat r) steps ids left = (k : KeptConflict S) × (left ≡ Some k) × (k.clauses.items ≡ ids) × (ids ≡ conflict_clauses steps) × AreOffers same p orders steps k.offers

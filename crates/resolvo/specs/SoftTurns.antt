@@ -2,6 +2,7 @@
 use Rattle.std.specs.Prelude.{◌≡◌, ◌≤◌, ◌⊎◌, ◌<◌, ℕ, Bool, true, ⊤, List, [], ◌∷◌, ◌++◌, Option, Some, None, Contains, slice_get}
 use Rattle.resolvo_pool_core.specs.declared.id.ClauseId.{ClauseId}
 use Rattle.resolvo_pool_core.specs.declared.id.VariableId.{VariableId}
+use Rattle.resolvo_pool_core.specs.declared.solver_id.SolvableIdOrRoot.TheVariants as Place
 use Rattle.resolvo_pool_core.specs.Provider.{listed}
 use Rattle.resolvo_pool_core.specs.RuleKeeping.{Packages, Rules, is_in, IsRuleKeeping}
 use Rattle.resolvo_store_core.specs.AtMostOne.{IsPrefixOf}
@@ -21,7 +22,7 @@ use Rattle.resolvo_sat.specs.declared.analyze.FinalConflict.{FinalConflict}
 use Rattle.resolvo_encoder.specs.Base.{base_of, IsOpen}
 use Rattle.resolvo_encoder.specs.declared.encoder.Encoder.{Encoder}
 use Rattle.resolvo.specs.declared.soft_requirements.SoftOutcome.{SoftOutcome}
-use Rattle.resolvo.specs.declared.soft_requirements.SoftOutcome.TheVariants.{AlreadyChosen, Chosen, Refused, Clash}
+use Rattle.resolvo.specs.declared.soft_requirements.SoftOutcome.TheVariants.{AlreadyChosen, Chosen, Refused, Unsat}
 use Rattle.resolvo.specs.Solution.{IsUnsolvable}
 use Rattle.resolvo_turn.specs.Turn.{IsRefusedBy, IsRooted, IsTurn}
 
@@ -36,6 +37,10 @@ AreCandidates {N} {S} same p list = (s : S) → Contains list s → IsCandidate 
 -- the solvable is true on the trail
 abbrev pub IsTrue : {N S : Type 0} → Encoder N S → S → Type 0
 IsTrue e s = (u : VariableId) × Represents e.coding.atoms.keys u (Solvable s) × (has (made_true (history e.coding.search)) (yes u) ≡ true)
+
+-- what is true on the trail is among the parents
+abbrev pub AreTrueParents : {N S : Type 0} → Encoder N S → Type 0
+AreTrueParents {N} {S} e = (s : S) → IsTrue e s → Contains e.parents.keys (Place.Solvable s)
 
 -- the literal denies the root, or one of these solvables
 abbrev pub DeniesOne : {N S : Type 0} → SolverState N S → (S → Type 0) → Signed → Type 0
@@ -60,13 +65,13 @@ pub record KeepsTrail {N S : Type 0} (old new : Encoder N S) : Type 0 where
   pub encoded : old.encoded ≤ new.encoded
   pub rooted : IsRooted old → IsRooted new
 
--- A true or chosen soft requirement is recorded after the accepted ones. The trail and the accepted
--- ones are unchanged after a refusal.
+-- A true or chosen soft requirement is recorded after the accepted ones. The turn of a chosen one
+-- begins after the earlier trail. The trail and the accepted ones are unchanged after a refusal.
 abbrev pub IsOutcome : {N S : Type 0} → (S → S → Bool) → S → Encoder N S → Encoder N S → SoftOutcome → Type 0
 IsOutcome same s old new AlreadyChosen = (new.recorded.softs.items ≡ old.recorded.softs.items ++ s ∷ []) × (history new.coding.search ≡ history old.coding.search) × IsTrue new s
-IsOutcome same s old new Chosen = (new.recorded.softs.items ≡ old.recorded.softs.items ++ s ∷ []) × ((v : VariableId) × Represents new.coding.atoms.keys v (Solvable s) × IsTurn same (Some v) new None)
+IsOutcome same s old new Chosen = (new.recorded.softs.items ≡ old.recorded.softs.items ++ s ∷ []) × (base_of new ≡ history old.coding.search) × ((v : VariableId) × Represents new.coding.atoms.keys v (Solvable s) × IsTurn same (Some v) new None)
 IsOutcome same s old new (Refused clause) = (new.recorded.softs.items ≡ old.recorded.softs.items) × (history new.coding.search ≡ history old.coding.search) × (IsTrue new s → ⊥)
-IsOutcome same s old new (Clash r) = IsRefusal new.coding.search r.literals.items r.causes.items × (r.literals.items ≡ [])
+IsOutcome same s old new (Unsat r) = IsRefusal new.coding.search r.literals.items r.causes.items × (r.literals.items ≡ [])
 
 -- the variable is that of the last soft requirement
 abbrev pub IsLast : {N S : Type 0} → Encoder N S → VariableId → Type 0
@@ -90,7 +95,7 @@ abbrev pub IsRejected : {N S : Type 0} → FinalConflict → Encoder N S → Enc
 IsRejected refusal old new AlreadyChosen = ⊥
 IsRejected refusal old new Chosen = ⊥
 IsRejected {N} {S} refusal old new (Refused clause) = (history new.coding.search ≡ base_of old) × ((prefix : List S) (s : S) → old.recorded.softs.items ≡ prefix ++ s ∷ [] → new.recorded.softs.items ≡ prefix) × IsLearntAs new.coding refusal.literals.items clause
-IsRejected refusal old new (Clash r) = (r ≡ refusal) × (r.literals.items ≡ []) × (new ≡ old)
+IsRejected refusal old new (Unsat r) = (r ≡ refusal) × (r.literals.items ≡ []) × (new ≡ old)
 
 -- a turn without a conflict chose the soft requirement, and nothing changed since; another one is
 -- rejected
@@ -117,4 +122,4 @@ module _ {N S : Type 0} (same : S → S → Bool) (p : Packages N S) (root : Rul
   IsJustified old new s AlreadyChosen = ⊤
   IsJustified old new s Chosen = ⊤
   IsJustified old new s (Refused clause) = IsDenied old s × IsReasonOf new.coding (λ t. (t ≡ s) ⊎ IsTrue old t) clause.0
-  IsJustified old new s (Clash r) = IsUnsolvable same p root
+  IsJustified old new s (Unsat r) = IsUnsolvable same p root

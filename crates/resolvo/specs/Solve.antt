@@ -29,7 +29,7 @@ use Rattle.resolvo.specs.Turns.{AreSolvedByTurn, HasReason, IsDeniable, first_of
 use Rattle.resolvo.specs.declared.turns.Turn.{Turn}
 use Rattle.resolvo.specs.declared.turns.Turns.{Turns}
 use Rattle.resolvo.specs.declared.search.SearchResult.{SearchResult}
-use Rattle.resolvo.specs.declared.search.SearchResult.TheVariants.{Chosen, Clash}
+use Rattle.resolvo.specs.declared.search.SearchResult.TheVariants.{Chosen, Unsat}
 use Rattle.resolvo.specs.declared.prove.Solved.{Solved}
 
 -- the root has no requirements and no constraints, and there are no soft requirements
@@ -39,9 +39,9 @@ AskNothing requirements constraints softs = (requirements ≡ []) × (constraint
 -- the result of turns: their choices, or the conflict
 abbrev pub IsFoundIn : {S : Type 0} → Turns S → Option FinalConflict → SearchResult S → Type 0
 IsFoundIn t None (Chosen v turns) = (v.items ≡ t.chosen.keys) × (turns ≡ t.turns)
-IsFoundIn t None (Clash q) = ⊥
+IsFoundIn t None (Unsat q) = ⊥
 IsFoundIn t (Some r) (Chosen v turns) = ⊥
-IsFoundIn t (Some r) (Clash q) = q ≡ r
+IsFoundIn t (Some r) (Unsat q) = q ≡ r
 
 -- The choices of the trail, in its order, each once. Their rules and the root's are encoded.
 pub record AreOnTrail {N S : Type 0} (e : Encoder N S) (solvables : List S) : Type 0 where
@@ -49,22 +49,22 @@ pub record AreOnTrail {N S : Type 0} (e : Encoder N S) (solvables : List S) : Ty
   pub once : AreOnce solvables
   pub encoded : AreAmongEncoded e solvables
 
--- the chosen solvables are those of the trail; nothing is claimed of a clash
+-- the chosen solvables are those of the trail; nothing is claimed of a conflict
 abbrev pub IsListedIn : {N S : Type 0} → Encoder N S → SearchResult S → Type 0
 IsListedIn e (Chosen v turns) = AreOnTrail e v.items
-IsListedIn e (Clash r) = ⊤
+IsListedIn e (Unsat r) = ⊤
 
 -- nothing was chosen twice
 abbrev pub AreChosenOnce : {S : Type 0} → SearchResult S → Type 0
 AreChosenOnce (Chosen v turns) = AreOnce v.items
-AreChosenOnce (Clash r) = ⊤
+AreChosenOnce (Unsat r) = ⊤
 
--- the clash was derived from the clauses, and denies the root alone
+-- the conflict was derived from the clauses, and denies the root alone
 abbrev pub IsDenial : {N S : Type 0} → SolverState N S → SearchResult S → Type 0
 IsDenial c (Chosen v turns) = ⊤
-IsDenial c (Clash r) = IsRefusal c.search r.literals.items r.causes.items × DenyRoot r.literals.items
+IsDenial c (Unsat r) = IsRefusal c.search r.literals.items r.causes.items × DenyRoot r.literals.items
 
--- The encoding is built, whatever the packages are, and a clash follows from its clauses: its proof
+-- The encoding is built, whatever the packages are, and a conflict follows from its clauses: its proof
 -- can be written.
 pub record IsProvable {N S : Type 0} (e : Encoder N S) (f : SearchResult S) : Type 0 where
   pub built : IsBuilt e
@@ -86,24 +86,24 @@ pub record HasProof {N S : Type 0} (steps : List (ProofStep N S)) (chosen : List
 -- each turn has its proof
 abbrev pub HaveProofs : {N S : Type 0} → List (ProofStep N S) → SearchResult S → Type 0
 HaveProofs {N} {S} steps (Chosen v turns) = (t : Turn S) → Contains turns.items t → HasProof steps v.items t
-HaveProofs {N} {S} steps (Clash r) = ⊤
+HaveProofs {N} {S} steps (Unsat r) = ⊤
 
 -- each turn has a learnt clause for its step
 abbrev pub HaveClauses : {N S : Type 0} → SolverState N S → SearchResult S → Type 0
 HaveClauses {N} {S} c (Chosen v turns) = (t : Turn S) → Contains turns.items t → HasReason c v.items t
-HaveClauses {N} {S} c (Clash r) = ⊤
+HaveClauses {N} {S} c (Unsat r) = ⊤
 
 module _ {N S : Type 0} (same : S → S → Bool) (p : Packages N S) (root : Rules) (softs : List S) where
   -- The result: the turns of the soft requirements, each with its reason. Or a clause that denies
   -- the root alone, and no solvables keep all rules.
   abbrev pub IsFound : Encoder N S → SearchResult S → Type 0
   IsFound e (Chosen v turns) = AreSolvedByTurn same p root v.items (first_of v.items turns.items) softs turns.items × HaveClauses e.coding (Chosen v turns)
-  IsFound e (Clash r) = IsUnsolvable same p root × IsRefusal e.coding.search r.literals.items r.causes.items
+  IsFound e (Unsat r) = IsUnsolvable same p root × IsRefusal e.coding.search r.literals.items r.causes.items
 
   -- the result holds: the choices of the turns, or that no solvables keep all rules
   abbrev pub Holds : SearchResult S → Type 0
   Holds (Chosen v turns) = AreSolvedByTurn same p root v.items (first_of v.items turns.items) softs turns.items
-  Holds (Clash r) = IsUnsolvable same p root
+  Holds (Unsat r) = IsUnsolvable same p root
 
 module _ {N S : Type 0} (same : S → S → Bool) (p : Packages N S) (root : Rules) where
   -- each of these steps is valid at its place
@@ -130,7 +130,7 @@ module _ {N S : Type 0} (same : S → S → Bool) (p : Packages N S) (orders : R
   -- in the root's turn candidates were chosen in the order in which they are tried
   abbrev pub IsPreferred : SearchResult S → Type 0
   IsPreferred (Chosen v turns) = ArePreferred same p orders root (take (first_of v.items turns.items) v.items)
-  IsPreferred (Clash r) = Unit {0}
+  IsPreferred (Unsat r) = Unit {0}
 
   -- The encoding and the result are those of the problem, by an order in which each requirement's
   -- candidates may be tried.
@@ -152,17 +152,17 @@ module _ {N S : Type 0} (same : S → S → Bool) (p : Packages N S) (orders : R
     pub proofs : HaveProofs s.proof.items s.found
     pub counted : (e : Encoder N S) × IsCounted same p root e s.clause_count s.deferred_count s.proof.items × IsListedIn e s.found
 
--- after a clash the last step has no literals
+-- after a conflict the last step has no literals
 abbrev pub EndsSo : {N S : Type 0} → SearchResult S → List (ProofStep N S) → Type 0
 EndsSo (Chosen v turns) steps = ⊤
-EndsSo (Clash r) steps = EndsEmpty steps
+EndsSo (Unsat r) steps = EndsEmpty steps
 
--- Each clause but the root's has a step; after a clash there is one step more.
+-- Each clause but the root's has a step; after a conflict there is one step more.
 abbrev pub Counts : {S : Type 0} → SearchResult S → ℕ → ℕ → Type 0
 Counts (Chosen v turns) clauses steps = clauses ≡ steps + 1
-Counts (Clash r) clauses steps = clauses ≡ steps
+Counts (Unsat r) clauses steps = clauses ≡ steps
 
--- a search gives a step for each clause after the root's, and a clash one more for itself
+-- a search gives a step for each clause after the root's, and a conflict one more for itself
 abbrev pub HasSteps : {N S : Type 0} → SolverState N S → SearchResult S → List (ProofStep N S) → Type 0
 HasSteps c (Chosen v turns) steps = AreSteps c steps
-HasSteps c (Clash r) steps = AreStepsThen c r.literals.items r.causes.items steps
+HasSteps c (Unsat r) steps = AreStepsThen c r.literals.items r.causes.items steps

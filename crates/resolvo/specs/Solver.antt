@@ -24,7 +24,7 @@ use Rattle.resolvo.specs.declared.prove.Solved.{Solved}
 use Rattle.resolvo.specs.declared.turns.Turn.{Turn}
 use Rattle.resolvo_pool.specs.declared.cache.CacheFault.{CacheFault}
 use Rattle.resolvo_pool.specs.declared.cache.CacheFault.TheVariants as fault
-use Rattle.resolvo.specs.declared.search.SearchResult.TheVariants.{Chosen, Clash}
+use Rattle.resolvo.specs.declared.search.SearchResult.TheVariants.{Chosen, Unsat}
 use Rattle.resolvo.specs.declared.problem.Problem.{Problem}
 use Rattle.resolvo.specs.declared.solver.UnsolvableOrCancelled.{UnsolvableOrCancelled}
 use Rattle.resolvo.specs.declared.solver.UnsolvableOrCancelled.TheVariants.{Unsolvable, Cancelled, Memory, Ids}
@@ -113,7 +113,7 @@ Leaves (Err Ids) k = HasNothing k
 -- the results of a search are kept, and returned
 abbrev pub Keeps : {P N S C : Type 0} → Solved N S → Vec ClauseId → Option (Left S) → Kept P N S → Result (Vec S) (UnsolvableOrCancelled C) → Kept P N S → Type 0
 Keeps {P} {N} {S} {C} s ids left old (Ok v) new = (turns : Vec (Turn S)) × (s.found ≡ Chosen v turns) × (new ≡ record old { clause_count = s.clause_count; deferred_count = s.deferred_count; turns = turns.items; proof = s.proof.items; conflict = left })
-Keeps {P} {N} {S} {C} s ids left old (Err (Unsolvable conflict)) new = (r : FinalConflict) × (s.found ≡ Clash r) × (conflict.clauses ≡ ids) × (new ≡ record old { clause_count = s.clause_count; deferred_count = s.deferred_count; proof = s.proof.items; conflict = left })
+Keeps {P} {N} {S} {C} s ids left old (Err (Unsolvable conflict)) new = (r : FinalConflict) × (s.found ≡ Unsat r) × (conflict.clauses ≡ ids) × (new ≡ record old { clause_count = s.clause_count; deferred_count = s.deferred_count; proof = s.proof.items; conflict = left })
 Keeps {P} {N} {S} {C} s ids left old (Err (Cancelled value)) new = ⊥
 Keeps {P} {N} {S} {C} s ids left old (Err Memory) new = ⊥
 Keeps {P} {N} {S} {C} s ids left old (Err Ids) new = ⊥

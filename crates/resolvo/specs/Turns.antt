@@ -11,10 +11,11 @@ use Rattle.resolvo_state.specs.declared.solver_state.SolverState.{SolverState}
 use Rattle.resolvo_encoder.specs.TurnLevels.{AreAmongEncoded}
 use Rattle.resolvo_encoder.specs.declared.encoder.Encoder.{Encoder}
 use Rattle.resolvo_turn.specs.Encoder.{IsRoot}
+use Rattle.resolvo_turn.specs.Turn.{in_turn}
 use Rattle.resolvo.specs.Solution.{IsSolution, IsUnsolvable}
 use Rattle.resolvo.specs.SoftTurns.{IsReasonOf}
 use Rattle.resolvo.specs.declared.soft_requirements.SoftOutcome.{SoftOutcome}
-use Rattle.resolvo.specs.declared.soft_requirements.SoftOutcome.TheVariants.{AlreadyChosen, Chosen, Refused, Clash}
+use Rattle.resolvo.specs.declared.soft_requirements.SoftOutcome.TheVariants.{AlreadyChosen, Chosen, Refused, Unsat}
 use Rattle.resolvo.specs.declared.turn_input.TurnInput.{TurnInput}
 use Rattle.resolvo.specs.declared.turns.Turn.{Turn}
 use Rattle.resolvo.specs.declared.turns.Turns.{Turns}
@@ -113,14 +114,14 @@ abbrev pub was_accepted : SoftOutcome → Bool
 was_accepted AlreadyChosen = true
 was_accepted Chosen = true
 was_accepted (Refused clause) = false
-was_accepted (Clash r) = false
+was_accepted (Unsat r) = false
 
 -- the proof's step of the clause that is the reason of a refusal
 abbrev pub step_of : SoftOutcome → Option ℕ
 step_of AlreadyChosen = None
 step_of Chosen = None
 step_of (Refused clause) = Some (clause.0 - 1)
-step_of (Clash r) = None
+step_of (Unsat r) = None
 
 -- the fields of the turn, by its outcome
 pub record IsTurnRecord {S : Type 0} (soft : S) (begin end_ : ℕ) (wished : SoftOutcome) (t : Turn S) : Type 0 where
@@ -152,14 +153,14 @@ AreAtOrRefused e t (Some r) = IsRefusal e.coding.search r.literals.items r.cause
 abbrev pub IsRootOf : TurnInput → Rules → Type 0
 IsRootOf input root = IsRoot input.requirements.now input.constraints.now root
 
--- The turn is added after the others, and the choices of the trail are listed if it was chosen in
--- it. Or nothing changed, and this is the conflict of the problem.
+-- The turn is added after the others, and if its soft requirement was chosen in it, its choices are
+-- listed. Or nothing changed, and this is the conflict of the problem.
 abbrev pub RecordsOutcome : {N S : Type 0} → (S → S → Bool) → S → Encoder N S → Turns S → Turns S → SoftOutcome → Option FinalConflict → Type 0
 RecordsOutcome same s e old new AlreadyChosen None = Records s (length old.chosen.keys) AlreadyChosen old new
 RecordsOutcome same s e old new AlreadyChosen (Some q) = ⊥
-RecordsOutcome {N} {S} same s e old new Chosen None = (m : Turns S) × IsPrefixOf old.chosen.keys m.chosen.keys × (m.chosen.keys ≡ insert_all same old.chosen.keys (on_trail e)) × (m.turns ≡ old.turns) × Records s (length old.chosen.keys) Chosen m new
+RecordsOutcome {N} {S} same s e old new Chosen None = (m : Turns S) × IsPrefixOf old.chosen.keys m.chosen.keys × (m.chosen.keys ≡ insert_all same old.chosen.keys (in_turn e)) × (m.turns ≡ old.turns) × Records s (length old.chosen.keys) Chosen m new
 RecordsOutcome same s e old new Chosen (Some q) = ⊥
 RecordsOutcome same s e old new (Refused clause) None = Records s (length old.chosen.keys) (Refused clause) old new
 RecordsOutcome same s e old new (Refused clause) (Some q) = ⊥
-RecordsOutcome same s e old new (Clash r) None = ⊥
-RecordsOutcome same s e old new (Clash r) (Some q) = (q ≡ r) × (new ≡ old)
+RecordsOutcome same s e old new (Unsat r) None = ⊥
+RecordsOutcome same s e old new (Unsat r) (Some q) = (q ≡ r) × (new ≡ old)

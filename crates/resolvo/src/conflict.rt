@@ -1,7 +1,6 @@
 //! The conflict of a search without a solution: its clauses, and its graph and message for people.
 ghost use Rattle.std.specs.Prelude.{◌≡◌, length, map, IfOk, IfErr};
 ghost use Rattle.resolvo_pool_core.specs.RuleKeeping.{Rules};
-ghost use Rattle.resolvo_packages.specs.PackageSource.{offered_solvables};
 ghost use Rattle.resolvo_pool.specs.Cached.{IsCancelledBy};
 ghost use Rattle.resolvo.specs.Conflicts.{AreOffers, IsLeft, clause_of_step, conflict_clauses};
 ghost use Rattle.resolvo.specs.Solver.{HoldsConflict, IsGraphOf, IsTrueOf, IsConflictMessage};
@@ -14,7 +13,7 @@ use crate::search::SearchResult;
 use crate::solver::Solver;
 use resolvo_graph::display_unsat::DisplayUnsat;
 use resolvo_graph::graph::ConflictGraph;
-use resolvo_packages::package_source::{Offered, PackageSource};
+use resolvo_packages::package_source::PackageSource;
 use resolvo_pool::cache::CacheFault;
 use resolvo_pool_core::id::{ClauseId, Exact, VersionSetId, next_index};
 use resolvo_pool_core::id_map::ScoreMap;
@@ -26,6 +25,7 @@ use resolvo_proof::offers::Offers;
 use resolvo_proof::rules::{conflict_rules, requirements_of};
 use resolvo_proof::step::ProofStep;
 use resolvo_turn::cdcl::Activity;
+use resolvo_turn::defer::solvables_of;
 use std::alloc::Global;
 use std::fmt::Debug;
 use std::hash::Hash;
@@ -100,17 +100,6 @@ pub(crate) struct KeptConflict<S> {
     pub offers: Offers<S>,
 }
 
-/// The offered solvables.
-fn solvables_of<N, S: Copy>(alloc: Global, offered: &[Offered<N, S>]) -> R<Vec<S>>
-    ensures { IfOk result (λ v. v.items ≡ offered_solvables offered.now) }
-{
-    let mut solvables = Vec::new(alloc);
-    for one in offered {
-        solvables.push(one.solvable)?;
-    }
-    Ok(solvables)
-}
-
 /// The candidates of the requirements that the rules of a conflict name, in the order in which they are tried.
 pub fn offers_for<A: PackageSource>(
     alloc: Global,
@@ -155,7 +144,7 @@ fn conflict_clauses<N: Copy + Exact + Hash + Debug, S: Copy + Exact + Hash + Deb
     clauses_at(alloc, places.as_slice())
 }
 
-/// A clash's clauses, to return and to keep, and the offers, for the conflict's graph.
+/// A conflict's clauses, to return and to keep, and the offers, for the conflict's graph.
 fn conflict_left<A: PackageSource>(
     alloc: Global,
     answers: &mut A,
@@ -170,7 +159,7 @@ fn conflict_left<A: PackageSource>(
 {
     match &solved.found {
         SearchResult::Chosen { .. } => Ok((Vec::new(alloc), None)),
-        SearchResult::Clash(_) => {
+        SearchResult::Unsat(_) => {
             let offers = offers_for(alloc, answers, solved.proof.as_slice())?;
             let ids = conflict_clauses(alloc, solved.proof.as_slice())?;
             let clauses = Vec::from_slice(alloc, ids.as_slice())?;
@@ -179,7 +168,7 @@ fn conflict_left<A: PackageSource>(
     }
 }
 
-/// Searches as `solve` does. Of a clash it gives its clauses and the record of the conflict, too.
+/// Searches as `solve` does. Of a conflict it gives its clauses and the record of the conflict, too.
 pub(crate) fn solve_to_conflict<A: PackageSource, C: ScoreMap<A::NameId> + Drop>(
     alloc: Global,
     answers: &mut A,

@@ -43,7 +43,7 @@ pub struct Solved<N, S> {
     pub proof: Vec<ProofStep<N, S>>,
 }
 
-/// The steps of the clauses, and of a clash.
+/// The steps of the clauses, and of a conflict.
 fn steps_of<N: Copy + Exact + Hash + Debug, S: Copy + Exact + Hash + Debug>(
     alloc: Global,
     coding: &SolverState<N, S>,
@@ -71,7 +71,7 @@ fn steps_of<N: Copy + Exact + Hash + Debug, S: Copy + Exact + Hash + Debug>(
 {
     match found {
         SearchResult::Chosen { .. } => proof_of(alloc, coding, None),
-        SearchResult::Clash(refusal) => proof_of(alloc, coding, Some(refusal)),
+        SearchResult::Unsat(refusal) => proof_of(alloc, coding, Some(refusal)),
     }
 }
 

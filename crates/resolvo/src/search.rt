@@ -39,19 +39,19 @@ pub enum SearchResult<S> {
         turns: Vec<Turn<S>>,
     },
     /// The clauses are unsatisfiable: no solvables keep all rules.
-    Clash(FinalConflict),
+    Unsat(FinalConflict),
 }
 
 /// The choices of the turns, or the conflict.
 fn found_in<S: Copy + Exact + Hash + Debug>(
     alloc: Global,
     turns: Turns<S>,
-    clash: Option<FinalConflict>,
+    conflict: Option<FinalConflict>,
 ) -> R<SearchResult<S>>
-    ensures { IfOk result (IsFoundIn turns clash) }
+    ensures { IfOk result (IsFoundIn turns conflict) }
 {
-    match clash {
-        Some(refusal) => Ok(SearchResult::Clash(refusal)),
+    match conflict {
+        Some(refusal) => Ok(SearchResult::Unsat(refusal)),
         None => {
             let solvables = Vec::from_slice(alloc, turns.chosen.as_slice())?;
             Ok(SearchResult::Chosen {
@@ -75,6 +75,7 @@ fn run_others<A: PackageSource, C: ScoreMap<A::NameId>>(
     requires rooted { IsRooted encoding.old }
     requires ended { IsTurn A.SolvableId.eq None encoding.old None }
     requires first { encoding.old.recorded.softs.items ≡ [] }
+    requires turn { encoding.old.coding.search.base_level ≡ 1 }
     // Whatever the answer.
     ensures same { answers.new ≡ answers.old }
     // After an answer.
@@ -97,8 +98,8 @@ fn run_others<A: PackageSource, C: ScoreMap<A::NameId>>(
 {
     let mut turns = Turns::new(alloc);
     turns.list(alloc, encoding)?;
-    let clash = run_soft_requirements(alloc, answers, encoding, scores, input, softs, &mut turns)?;
-    let found = found_in(alloc, turns, clash)?;
+    let conflict = run_soft_requirements(alloc, answers, encoding, scores, input, softs, &mut turns)?;
+    let found = found_in(alloc, turns, conflict)?;
     Ok(found)
 }
 
@@ -143,7 +144,7 @@ fn run_turns<A: PackageSource, C: ScoreMap<A::NameId>>(
         None,
     )?;
     if let Some(refusal) = turn {
-        return Ok(SearchResult::Clash(refusal));
+        return Ok(SearchResult::Unsat(refusal));
     }
     let found = run_others(alloc, answers, encoding, scores, input, softs)?;
     Ok(found)

@@ -16,7 +16,7 @@ ghost use Rattle.resolvo_encoder.specs.SoftRequirement.{turn_of, IsSoft};
 ghost use Rattle.resolvo_turn.specs.Encoder.{IsInOrder, AddsParents, StaysInOrderOf};
 ghost use Rattle.resolvo_turn.specs.Turn.{IsRooted, IsTurn};
 ghost use Rattle.resolvo.specs.Turns.{AreAt, AreRight, HaveReasons, IsNextRight, IsRootOf, RecordsOutcome, AreAtOrRefused};
-ghost use Rattle.resolvo.specs.SoftTurns.{AreCandidates, IsCandidate, IsClosed, IsOutcome, IsRefusable, IsJustified, IsRejected, KeepsRest, KeepsTrail};
+ghost use Rattle.resolvo.specs.SoftTurns.{AreCandidates, AreTrueParents, IsCandidate, IsClosed, IsOutcome, IsRefusable, IsJustified, IsRejected, KeepsRest, KeepsTrail};
 ghost use Rattle.resolvo.specs.declared.soft_requirements.SoftOutcome.TheVariants.{Refused};
 
 use crate::turn_input::TurnInput;
@@ -45,7 +45,7 @@ pub enum SoftOutcome {
     /// It conflicts with the earlier choices: this learnt clause is the reason.
     Refused(ClauseId),
     /// No solvables keep all rules.
-    Clash(FinalConflict),
+    Unsat(FinalConflict),
 }
 
 /// The turn of a recorded soft requirement that isn't true. Keeps the earlier trail.
@@ -62,6 +62,7 @@ fn run_open<A: PackageSource, C: ScoreMap<A::NameId>>(
     requires rooted { IsRooted encoding.old }
     requires soft { IsSoft encoding.old variable }
     requires open { has (made_true (history encoding.old.coding.search)) (yes variable) ≡ false }
+    requires taken { AreTrueParents encoding.old }
     // Whatever the answer.
     ensures same { answers.new ≡ answers.old }
     // After an answer.
@@ -131,7 +132,7 @@ fn close_turn<N: Copy + Exact + Hash + Debug, S: Copy + Exact + Hash + Debug>(
         None => Ok(SoftOutcome::Chosen),
         Some(refusal) => {
             if refusal.literals.is_empty() {
-                return Ok(SoftOutcome::Clash(refusal));
+                return Ok(SoftOutcome::Unsat(refusal));
             }
             let clause = refuse(encoding, refusal)?;
             Ok(SoftOutcome::Refused(clause))
@@ -150,6 +151,7 @@ pub fn run_soft_requirement<A: PackageSource, C: ScoreMap<A::NameId>>(
 ) -> Result<SoftOutcome, CacheFault<A::Cancel>>
     requires built { IsBuilt encoding.old }
     requires rooted { IsRooted encoding.old }
+    requires taken { AreTrueParents encoding.old }
     // Whatever the answer.
     ensures same { answers.new ≡ answers.old }
     // After an answer.
@@ -197,11 +199,12 @@ fn record_outcome<N: Copy + Exact + Hash + Debug, S: Copy + Exact + Hash + Debug
     soft: S,
     status: SoftOutcome,
 ) -> R<Option<FinalConflict>>
+    requires { IsBuilt encoding.now }
     ensures { IfOk result (RecordsOutcome S.eq soft encoding.now turns.old turns.new status) }
 {
     let begin = turns.chosen.len();
     match status {
-        SoftOutcome::Clash(refusal) => Ok(Some(refusal)),
+        SoftOutcome::Unsat(refusal) => Ok(Some(refusal)),
         SoftOutcome::AlreadyChosen => {
             turns.record(soft, begin, SoftOutcome::AlreadyChosen)?;
             Ok(None)
@@ -256,8 +259,8 @@ pub fn run_soft_requirements<A: PackageSource, C: ScoreMap<A::NameId>>(
 {
     for soft in softs {
         let status = run_soft_requirement(alloc, answers, encoding, scores, input, *soft)?;
-        let clash = record_outcome(alloc, encoding, turns, *soft, status)?;
-        if let Some(refusal) = clash {
+        let conflict = record_outcome(alloc, encoding, turns, *soft, status)?;
+        if let Some(refusal) = conflict {
             return Ok(Some(refusal));
         }
     }

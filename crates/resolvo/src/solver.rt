@@ -123,7 +123,7 @@ impl<D: DependencyProvider> Solver<D> {
                 self.turns = turns;
                 Ok(solvables)
             }
-            SearchResult::Clash(_refusal) => {
+            SearchResult::Unsat(_refusal) => {
                 Err(UnsolvableOrCancelled::Unsolvable(Conflict { clauses }))
             }
         }

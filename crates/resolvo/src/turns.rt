@@ -3,13 +3,16 @@
 ghost use Rattle.std.specs.Prelude.{◌≡◌, [], OnOk, IfOk};
 ghost use Rattle.indexmap.specs.IndexSet.{insert_all};
 ghost use Rattle.resolvo_store_core.specs.AtMostOne.{IsPrefixOf};
-ghost use Rattle.resolvo.specs.Turns.{Records, IsTurnRecord, on_trail};
+ghost use Rattle.resolvo_encoder.specs.Steps.{IsBuilt};
+ghost use Rattle.resolvo_turn.specs.Turn.{in_turn};
+ghost use Rattle.resolvo.specs.Turns.{Records, IsTurnRecord};
 
 use crate::soft_requirements::SoftOutcome;
 use indexmap::IndexSet;
 use resolvo_encoder::encoder::{Encoder, add_key};
 use resolvo_pool_core::id::Exact;
 use resolvo_pool_core::want::R;
+use resolvo_turn::chosen::chosen_in_turn;
 use std::alloc::Global;
 use std::fmt::Debug;
 use std::hash::Hash;
@@ -48,18 +51,19 @@ impl<S: Copy + Exact + Hash + Debug> Turns<S> {
         }
     }
 
-    /// Lists what the trail chooses, in its order, after the listed ones.
+    /// Lists what the turn chose, in the order of the trail, after the listed ones.
     pub fn list<N: Copy + Exact + Hash + Debug>(
         &mut self,
         alloc: Global,
         encoding: &Encoder<N, S>,
     ) -> R<()>
+        requires { IsBuilt encoding.now }
         ensures listed { OnOk result (IsPrefixOf self.old.chosen.keys self.new.chosen.keys) }
         ensures in_order { OnOk result
-            (self.new.chosen.keys ≡ insert_all S.eq self.old.chosen.keys (on_trail encoding.now)) }
+            (self.new.chosen.keys ≡ insert_all S.eq self.old.chosen.keys (in_turn encoding.now)) }
         ensures turns { OnOk result (self.new.turns ≡ self.old.turns) }
     {
-        let chosen = encoding.coding.chosen(alloc)?;
+        let chosen = chosen_in_turn(alloc, encoding)?;
         list_each(&mut self.chosen, chosen.as_slice())?;
         Ok(())
     }
@@ -82,7 +86,7 @@ fn turn_of<S>(soft: S, begin: usize, end: usize, status: SoftOutcome) -> Turn<S>
         SoftOutcome::AlreadyChosen => (true, None),
         SoftOutcome::Chosen => (true, None),
         SoftOutcome::Refused(clause) => (false, Some((clause.0 as usize).saturating_sub(1))),
-        SoftOutcome::Clash(_) => (false, None),
+        SoftOutcome::Unsat(_) => (false, None),
     };
     Turn {
         solvable: soft,

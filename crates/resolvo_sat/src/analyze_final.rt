@@ -2,7 +2,9 @@
 //! reason.
 ghost use Rattle.std.specs.Prelude.{◌≡◌, ◌<◌, ◌+◌, ◌∷◌, length, false, IfOk, IsOkUnless};
 ghost use Rattle.resolvo_pool_core.specs.declared.want.Want.TheVariants.{Memory};
-ghost use Rattle.resolvo_sat.specs.Entries.{before, literal_of, top_level};
+ghost use Rattle.resolvo_store_core.specs.Signed.{has};
+ghost use Rattle.resolvo_store_core.specs.Clauses.{no};
+ghost use Rattle.resolvo_sat.specs.Entries.{before, literal_of, made_true, top_level};
 ghost use Rattle.resolvo_sat.specs.State.{IsState, history};
 ghost use Rattle.resolvo_sat.specs.Analysis.{IsReason, IsRefuted};
 
@@ -24,6 +26,9 @@ impl SatState {
         ensures refuted { IfOk result (IsRefuted self.now variable) }
         ensures refusal { IsOkUnless result Memory }
     {
+        if !self.is_denied(variable) {
+            return Ok(None);
+        }
         let mut place = self.tracker.stack().len();
         while place > 0 {
             place -= 1;
@@ -34,6 +39,17 @@ impl SatState {
             }
         }
         Ok(None)
+    }
+
+    /// Whether a variable is false.
+    fn is_denied(&self, variable: VariableId) -> bool
+        requires { IsState self.now }
+        ensures { result ≡ has (made_true (history self.now)) (no variable) }
+    {
+        match self.tracker.map().value(variable) {
+            Some(value) => !value,
+            None => false,
+        }
     }
 
     /// Walks back along the trail from the reason of an entry. Each marked entry is resolved with

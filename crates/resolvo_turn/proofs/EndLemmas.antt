@@ -13,7 +13,6 @@ use Rattle.resolvo_sat.specs.Entries.{literal_of, made_true, top_level}
 use Rattle.resolvo_sat.specs.Steps.{choice_entry}
 use Rattle.resolvo_sat.proofs.Literals.{has_here, has_later}
 use Rattle.resolvo_sat.specs.State.{history}
-use Rattle.resolvo_state.specs.Chosen.{AreChosen}
 use Rattle.resolvo_state.proofs.Growth.{below_or_not}
 use Rattle.resolvo_state.proofs.Positions.{contains_get, prefix_get, prefix_long, get_below}
 use Rattle.resolvo_encoder.specs.declared.encoder.Encoder.{Encoder}
@@ -62,15 +61,6 @@ among_more a b done last added before now s h = elim (contains_parts s done (las
   | inl c ↦ contains_longer a.parents.keys b.parents.keys (Place.Solvable s) added.prefix (before s c)
   | inr c ↦ subst (λ x. Contains b.parents.keys (Place.Solvable x)) (sym (contains_one s last c)) now
 ]
-
--- the chosen solvables are among the parents, if those of a list that includes them are
-pub chosen_added : {N S : Type 0} (a b : Encoder N S) (list : List S) → AddsParent a b → AreChosen a.coding.atoms.keys (made_true (history a.coding.search)) list → ((s : S) → Contains list s → Contains b.parents.keys (Place.Solvable s)) → AddsChosen a b
-chosen_added {N} {S} a b list added are among = record {
-  added = added;
-  chosen = λ members others s h. (
-      let (l, known, means) = (subst (λ (x : SolverState N S). AreChosen x.atoms.keys (made_true (history x.search)) members) (parents_coding a b added) others).each s h in
-      among s (are.all l s known means));
-}
 
 -- all parents stay encoded in the search
 pub all_goes : {N S : Type 0} (a b c : Encoder N S) → AddsAll a b → GoesOn b c → AddsAll a c

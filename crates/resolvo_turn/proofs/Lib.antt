@@ -2,3 +2,4 @@ pub mod AddLemmas
 pub mod EndLemmas
 pub mod CaseEncoded
 pub mod PassLemmas
+pub mod TakenLemmas

@@ -1,9 +1,9 @@
 -- The result of a turn.
-use Rattle.std.specs.Prelude.{◌≡◌, ℕ, ◌<◌, ◌≤◌, ◌+◌, ◌-◌, ◌*◌, nat_lt, cond, ◌⊎◌, Bool, true, List, length, Option, Some, None, Contains, slice_get}
+use Rattle.std.specs.Prelude.{◌≡◌, ℕ, ◌<◌, ◌≤◌, ◌+◌, ◌-◌, ◌*◌, nat_lt, cond, drop, ◌⊎◌, Bool, true, List, length, Option, Some, None, Contains, slice_get}
 use Rattle.resolvo_pool_core.specs.declared.id.VariableId.{VariableId}
 use Rattle.resolvo_store_core.specs.Clauses.{yes}
 use Rattle.resolvo_store_core.specs.Signed.{has}
-use Rattle.resolvo_encoder.specs.Base.{IsTried}
+use Rattle.resolvo_encoder.specs.Base.{base_of, IsTaken, IsTried}
 use Rattle.resolvo_pool_core.specs.declared.solver_id.SolvableIdOrRoot.TheVariants.{Root, Solvable}
 use Rattle.resolvo_turn.specs.declared.turn.Round.{Round}
 use Rattle.resolvo_turn.specs.declared.turn.Round.TheVariants.{Continues, Complete, Refused}
@@ -11,12 +11,20 @@ use Rattle.resolvo_sat.specs.declared.analyze.FinalConflict.{FinalConflict}
 use Rattle.resolvo_sat.specs.Analysis.{IsRefusal}
 use Rattle.resolvo_sat.specs.Entries.{made_true}
 use Rattle.resolvo_sat.specs.State.{history}
-use Rattle.resolvo_state.specs.Chosen.{AreChosen}
+use Rattle.resolvo_state.specs.Chosen.{AreChosen, choices}
 use Rattle.resolvo_encoder.specs.Conditions.{AreSpent}
 use Rattle.resolvo_encoder.specs.TurnLevels.{AreAmongEncoded}
 use Rattle.resolvo_encoder.specs.Progress.{IsDone}
 use Rattle.resolvo_encoder.specs.Steps.{AddsParent}
 use Rattle.resolvo_encoder.specs.declared.encoder.Encoder.{Encoder}
+
+-- the solvables that the turn's entries choose, in the order of the trail
+abbrev pub in_turn : {N S : Type 0} → Encoder N S → List S
+in_turn e = choices e.coding.atoms.keys (drop (length (base_of e)) e.coding.search.tracker.trail)
+
+-- the solvables that were true before the turn are among the parents
+abbrev pub AreTakenParents : {N S : Type 0} → Encoder N S → Type 0
+AreTakenParents {N} {S} e = (s : S) → IsTaken e s → Contains e.parents.keys (Solvable s)
 
 -- the rules of the root and of each chosen solvable are clauses
 abbrev pub AreChosenEncoded : {N S : Type 0} → Encoder N S → Type 0

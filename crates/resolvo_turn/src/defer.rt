@@ -21,7 +21,7 @@ use resolvo_store_core::conditions::DeferredConjunct;
 use std::alloc::Global;
 
 /// The offered solvables.
-fn solvables_of<N, S: Copy>(alloc: Global, offered: &[Offered<N, S>]) -> R<Vec<S>>
+pub fn solvables_of<N, S: Copy>(alloc: Global, offered: &[Offered<N, S>]) -> R<Vec<S>>
     ensures { IfOk result (λ v. v.items ≡ offered_solvables offered.now) }
 {
     let mut solvables = Vec::new(alloc);

@@ -4,6 +4,7 @@
 #![tactic(auto)]
 
 pub mod cdcl;
+pub mod chosen;
 pub mod defer;
 pub mod encode;
 pub mod fire;

@@ -1,5 +1,6 @@
 //! How far a turn has scanned the trail: a round scans what is new. No contract depends on it,
 //! since before a turn ends all is scanned.
+use crate::chosen::choices_of;
 use indexmap::IndexSet;
 use resolvo_encoder::encoder::Encoder;
 use resolvo_packages::package_source::PackageSource;
@@ -80,17 +81,9 @@ impl<N: Copy + Exact + Hash + Debug> Scan<N> {
         encoding: &Encoder<N, S>,
     ) -> R<Vec<S>> {
         let trail = encoding.coding.search.tracker.stack();
-        let mut chosen = Vec::new(alloc);
         let from = self.entries.min(trail.len());
-        for entry in &trail[from..] {
-            if entry.decision.value {
-                if let Some(solvable) = encoding.coding.solvable(entry.decision.variable) {
-                    chosen.push(solvable)?;
-                }
-            }
-        }
         self.entries = trail.len();
-        Ok(chosen)
+        choices_of(alloc, &encoding.coding, &trail[from..])
     }
 
     /// Marks the cases that name this package: they may hold.

@@ -9,9 +9,10 @@ ghost use Rattle.resolvo_encoder.specs.Steps.{IsBuilt, AddsParent};
 ghost use Rattle.resolvo_encoder.specs.Encoded.{StaysEncoding};
 ghost use Rattle.resolvo_encoder.specs.Progress.{GoesOn};
 ghost use Rattle.resolvo_turn.specs.Encoder.{AddsNeeds, AddsParents, AddsAll, StaysInOrder, StaysInOrderOf};
-ghost use Rattle.resolvo_turn.specs.Turn.{AddsChosen, FiresMore, IsBegunBy, IsDecisionOf, IsRooted, IsRound, IsTurn, FindsMore, FindsNone};
+ghost use Rattle.resolvo_turn.specs.Turn.{AddsChosen, AreTakenParents, FiresMore, IsBegunBy, IsDecisionOf, IsRooted, IsRound, IsTurn, FindsMore, FindsNone};
 
 use crate::cdcl::{Activity, decide};
+use crate::chosen::chosen_in_turn;
 use crate::encode::encode_parents;
 use crate::fire::{fire_cases, fire_each};
 use crate::scan::{Scan, find_touched, mark_all};
@@ -37,15 +38,17 @@ struct Aim<'a> {
     soft: Option<VariableId>,
 }
 
-/// Adds each chosen solvable as a parent, in the order of the trail.
+/// Adds each solvable that was chosen in the turn as a parent, in the order of the trail. Those of
+/// earlier turns are parents.
 fn add_chosen<N: Copy + Exact + Hash + Debug, S: Copy + Exact + Hash + Debug>(
     alloc: Global,
     encoding: &mut Encoder<N, S>,
 ) -> R<()>
-    requires { IsBuilt encoding.old }
+    requires built { IsBuilt encoding.old }
+    requires taken { AreTakenParents encoding.old }
     ensures { OnOk result (AddsChosen encoding.old encoding.new) }
 {
-    let chosen = encoding.coding.chosen(alloc)?;
+    let chosen = chosen_in_turn(alloc, encoding)?;
     for solvable in &chosen {
         encoding.add_parent(*solvable)?;
     }
@@ -319,15 +322,16 @@ fn scan_new<A: PackageSource>(
     Ok(has_fired)
 }
 
-/// Scans all that is chosen, and all deferred cases. Whether there is a parent to encode then, or a
-/// case became a clause.
+/// Scans all that was chosen in the turn, and all deferred cases. Whether there is a parent to
+/// encode then, or a case became a clause.
 fn scan_all<A: PackageSource>(
     alloc: Global,
     answers: &mut A,
     encoding: &mut Encoder<A::NameId, A::SolvableId>,
     scan: &mut Scan<A::NameId>,
 ) -> Result<bool, CacheFault<A::Cancel>>
-    requires { IsBuilt encoding.old }
+    requires built { IsBuilt encoding.old }
+    requires taken { AreTakenParents encoding.old }
     // Whatever the answer.
     ensures same { answers.new ≡ answers.old }
     // After an answer.
@@ -375,6 +379,7 @@ fn run_round<A: PackageSource, C: ScoreMap<A::NameId>>(
     requires built { IsBuilt encoding.old }
     requires rooted { IsRooted encoding.old }
     requires turn { HasTurn aim.now.soft encoding.old }
+    requires taken { AreTakenParents encoding.old }
     // Whatever the answer.
     ensures same { answers.new ≡ answers.old }
     // After an answer.
@@ -419,6 +424,7 @@ pub fn run_turn<A: PackageSource, C: ScoreMap<A::NameId>>(
     requires built { IsBuilt encoding.old }
     requires rooted { IsRooted encoding.old }
     requires turn { HasTurn soft encoding.old }
+    requires taken { AreTakenParents encoding.old }
     // Whatever the answer.
     ensures same { answers.new ≡ answers.old }
     // After an answer.

@@ -7,7 +7,7 @@ use Rattle.resolvo.proofs.prove.steps_of.Goals as goal
 pub returns-in-Chosen-clause-drawn : goal.returns-in-Chosen-clause-drawn
 returns-in-Chosen-clause-drawn g c = with_given c.proof_of.result _ _ c.proof_of.ensures.drawn tt
 
-pub returns-in-Clash-clause-drawn : goal.returns-in-Clash-clause-drawn
-returns-in-Clash-clause-drawn g c =
-    let denial = subst (λ (f : SearchResult g.row.S.Denot). IsDenial c.args.coding.now f) c.in-Clash.is c.requires.denial in
-    with_given c.proof_of-in-Clash.result _ _ c.proof_of-in-Clash.ensures.drawn denial.1
+pub returns-in-Unsat-clause-drawn : goal.returns-in-Unsat-clause-drawn
+returns-in-Unsat-clause-drawn g c =
+    let denial = subst (λ (f : SearchResult g.row.S.Denot). IsDenial c.args.coding.now f) c.in-Unsat.is c.requires.denial in
+    with_given c.proof_of-in-Unsat.result _ _ c.proof_of-in-Unsat.ensures.drawn denial.1

@@ -9,6 +9,7 @@ use Rattle.resolvo.specs.Turns.{IsRootOf}
 use Rattle.resolvo.specs.SoftTurns.{AreCandidates}
 use Rattle.resolvo.specs.Solve.{IsFound, IsPreferred}
 use Rattle.resolvo.proofs.Found.{begun_rooted, root_denial, root_refused}
+use Rattle.resolvo_turn.proofs.TakenLemmas.{first_taken}
 use Rattle.resolvo.proofs.search.run_turns.Goals as goal
 
 pub run_turn-requires-clause-built : goal.run_turn-requires-clause-built
@@ -16,6 +17,12 @@ run_turn-requires-clause-built g c = built_begun c.args.encoding.now c.requires
 
 pub run_turn-requires-clause-rooted : goal.run_turn-requires-clause-rooted
 run_turn-requires-clause-rooted g c = begun_rooted c.args.encoding.now c.requires
+
+pub run_turn-requires-clause-taken : goal.run_turn-requires-clause-taken
+run_turn-requires-clause-taken g c = first_taken c.args.encoding.now c.requires.coding.coding c.requires.coding.base_level
+
+pub run_others-requires-clause-turn : goal.run_others-requires-clause-turn
+run_others-requires-clause-turn g c = c.in_ok-turn.ensures.adds.grows.base_level ∙ c.requires.coding.base_level
 
 pub returns-in-Some-clause-found : goal.returns-in-Some-clause-found
 returns-in-Some-clause-found g c = λ root is candidates e.

@@ -4,8 +4,8 @@ use Rattle.resolvo.specs.declared.soft_requirements.SoftOutcome.TheVariants as S
 use Rattle.resolvo.specs.Turns.{RecordsOutcome, Records}
 use Rattle.resolvo.proofs.soft_requirements.record_outcome.Goals as goal
 
-pub returns-in-Clash : goal.returns-in-Clash
-returns-in-Clash g c = subst (λ (w : SoftOutcome). RecordsOutcome g.S.PartialEq.eq c.args.soft c.args.encoding.now c.args.turns.now c.args.turns.now w (Some c.in-Clash.refusal)) (sym c.in-Clash.is) (refl, refl)
+pub returns-in-Unsat : goal.returns-in-Unsat
+returns-in-Unsat g c = subst (λ (w : SoftOutcome). RecordsOutcome g.S.PartialEq.eq c.args.soft c.args.encoding.now c.args.turns.now c.args.turns.now w (Some c.in-Unsat.refusal)) (sym c.in-Unsat.is) (refl, refl)
 
 pub returns-in_ok-record-in-AlreadyChosen : goal.returns-in_ok-record-in-AlreadyChosen
 returns-in_ok-record-in-AlreadyChosen g c = subst (λ (w : SoftOutcome). RecordsOutcome g.S.PartialEq.eq c.args.soft c.args.encoding.now c.args.turns.now c.record.new.self w None) (sym c.in-AlreadyChosen.is) (subst (λ (n : ℕ). Records c.args.soft n Soft.AlreadyChosen c.args.turns.now c.record.new.self) c.len-begin.ensures.len c.in_ok-record-in-AlreadyChosen.ensures)

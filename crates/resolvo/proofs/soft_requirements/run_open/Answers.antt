@@ -3,7 +3,7 @@ use Rattle.resolvo_encoder.proofs.BuildLemmas.{built_parents}
 use Rattle.resolvo_turn.specs.Turn.{IsRooted}
 use Rattle.resolvo_turn.proofs.AddLemmas.{needs_parents, parents_needs}
 use Rattle.resolvo_turn.proofs.EndLemmas.{still_rooted}
-use Rattle.resolvo.proofs.Soft.{begun_turn, begun_adds, begun_in_turn}
+use Rattle.resolvo.proofs.Soft.{begun_turn, begun_adds, begun_in_turn, begun_taken}
 use Rattle.resolvo.proofs.soft_requirements.run_open.Goals as goal
 
 pub run_turn-requires-clause-built : goal.run_turn-requires-clause-built
@@ -15,6 +15,11 @@ run_turn-requires-clause-rooted g c =
 
 pub run_turn-requires-clause-turn : goal.run_turn-requires-clause-turn
 run_turn-requires-clause-turn g c = (begun_turn c.args.encoding.now c.begin_turn.new.self c.add_parent.new.self c.begin_turn.ensures.begun c.in_ok-add_parent.ensures.added c.args.variable c.requires.built c.requires.soft c.requires.open).0
+
+pub run_turn-requires-clause-taken : goal.run_turn-requires-clause-taken
+run_turn-requires-clause-taken g c =
+    let (o, base) = begun_turn c.args.encoding.now c.begin_turn.new.self c.add_parent.new.self c.begin_turn.ensures.begun c.in_ok-add_parent.ensures.added c.args.variable c.requires.built c.requires.soft c.requires.open in
+    begun_taken c.args.encoding.now c.begin_turn.new.self c.add_parent.new.self c.begin_turn.ensures.begun c.in_ok-add_parent.ensures.added c.requires.taken base
 
 pub returns-clause-stays : goal.returns-clause-stays
 returns-clause-stays g c = λ root is e.

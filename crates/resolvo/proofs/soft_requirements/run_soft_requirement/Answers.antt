@@ -8,7 +8,7 @@ use Rattle.resolvo_packages.specs.declared.package_source.Offered.{Offered}
 use Rattle.resolvo_sat.specs.Encoding.{IsExact}
 use Rattle.resolvo_encoder.specs.Steps.{IsListed}
 use Rattle.resolvo.specs.SoftTurns.{IsCandidate}
-use Rattle.resolvo.proofs.Outcomes.{registered_in_order, registered_keeps, registered_true, registered_soft, closed_in_order, closed_keeps, closed_outcome, closed_right, turn_closable}
+use Rattle.resolvo.proofs.Outcomes.{registered_in_order, registered_keeps, registered_true, registered_soft, registered_taken, closed_in_order, closed_keeps, closed_outcome, closed_right, turn_closable}
 use Rattle.resolvo.proofs.soft_requirements.run_soft_requirement.Goals as goal
 
 -- the offered solvable is a candidate of its package
@@ -38,6 +38,10 @@ run_open-requires-clause-soft g c = registered_soft g.A.SolvableId.PartialEq.eq 
 
 pub run_open-requires-clause-open : goal.run_open-requires-clause-open
 run_open-requires-clause-open g c = subst (λ (l : Signed). has (made_true (history c.record_soft.new.self.coding.search)) l ≡ false) c.new.ensures (sym c.is_true.ensures ∙ c.if-is_true.false)
+
+pub run_open-requires-clause-taken : goal.run_open-requires-clause-taken
+run_open-requires-clause-taken g c =
+    registered_taken g.A.SolvableId.PartialEq.eq c.args.encoding.now c.record_soft.new.self (record { solvable = c.args.soft; name = c.package-name.result }) c.in_ok-variable.variable c.in_ok-variable.ensures c.requires.built.coding c.requires.taken
 
 pub close_turn-requires-clause-refused : goal.close_turn-requires-clause-refused
 close_turn-requires-clause-refused g c =

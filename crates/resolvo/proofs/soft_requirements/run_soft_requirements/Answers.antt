@@ -8,7 +8,7 @@ use Rattle.resolvo_turn.specs.Encoder.{IsInOrder}
 use Rattle.resolvo.specs.Turns.{AreRight, HaveReasons, IsNextRight, IsRootOf, AreAtOrRefused}
 use Rattle.resolvo.specs.SoftTurns.{IsCandidate, IsJustified}
 use Rattle.resolvo.proofs.ListLemmas.{item_contained}
-use Rattle.resolvo.proofs.Next.{outcome_prefix, outcome_right, outcome_at}
+use Rattle.resolvo.proofs.Next.{at_parents, outcome_prefix, outcome_right, outcome_at}
 use Rattle.resolvo.proofs.soft_requirements.run_soft_requirements.Goals as goal
 
 pub loop-soft-init : goal.loop-soft-init
@@ -19,6 +19,12 @@ run_soft_requirement-requires-clause-built g c = c.loop-soft.invariant.built
 
 pub run_soft_requirement-requires-clause-rooted : goal.run_soft_requirement-requires-clause-rooted
 run_soft_requirement-requires-clause-rooted g c = c.loop-soft.invariant.rooted
+
+pub run_soft_requirement-requires-clause-taken : goal.run_soft_requirement-requires-clause-taken
+run_soft_requirement-requires-clause-taken g c = at_parents c.loop-soft.encoding c.loop-soft.turns c.loop-soft.invariant.at
+
+pub record_outcome-requires : goal.record_outcome-requires
+record_outcome-requires g c = c.in_ok-status.ensures.built
 
 pub loop-soft-preserved : goal.loop-soft-preserved
 loop-soft-preserved g c =
@@ -42,11 +48,11 @@ loop-soft-preserved g c =
       right = λ root first is candidates e started reasons. (
           let (order, are_right, why) = before.right root first is candidates e started reasons in
           let (order', outcome) = stays root is (candidates item (item_contained xs i item c.loop-soft-test.true c.soft-item.is)) order in
-          let next = outcome_right same old new c.loop-soft.turns c.record_outcome.new.turns item before.built.coding before.at status.keeps exact p root first (take i xs) are_right g.A.NameId.PartialEq.eq names (g.met.A.PackageSource.lawful c.args.answers.now) orders order' status.built.coding why c.in_ok-status.status c.in_ok-clash.clash status.outcome outcome c.in_ok-clash.ensures in
+          let next = outcome_right same old new c.loop-soft.turns c.record_outcome.new.turns item before.built.coding before.at status.keeps exact p root first (take i xs) are_right g.A.NameId.PartialEq.eq names (g.met.A.PackageSource.lawful c.args.answers.now) orders order' status.built.coding why c.in_ok-status.status c.in_ok-conflict.conflict status.outcome outcome c.in_ok-conflict.ensures in
           let (are_right', why') = subst (λ (o : Option FinalConflict). IsNextRight same p root first (take i xs ++ item ∷ []) new c.record_outcome.new.turns o) c.in_default.is next in
           (order', subst (λ (ys : List g.row.A-SolvableId.Denot). AreRight same p root first ys c.record_outcome.new.turns) (sym more) are_right', why'));
-      prefix = prefix_then c.args.turns.now.chosen.keys c.loop-soft.turns.chosen.keys c.record_outcome.new.turns.chosen.keys before.prefix (outcome_prefix same old new c.loop-soft.turns c.record_outcome.new.turns item before.built.coding before.at status.keeps c.in_ok-status.status c.in_ok-clash.clash c.in_ok-clash.ensures);
-      at = subst (λ (o : Option FinalConflict). AreAtOrRefused new c.record_outcome.new.turns o) c.in_default.is (outcome_at same old new c.loop-soft.turns c.record_outcome.new.turns item before.built.coding before.at status.keeps exact status.built.coding c.in_ok-status.status c.in_ok-clash.clash status.outcome c.in_ok-clash.ensures);
+      prefix = prefix_then c.args.turns.now.chosen.keys c.loop-soft.turns.chosen.keys c.record_outcome.new.turns.chosen.keys before.prefix (outcome_prefix same old new c.loop-soft.turns c.record_outcome.new.turns item before.built.coding before.at status.keeps c.in_ok-status.status c.in_ok-conflict.conflict c.in_ok-conflict.ensures);
+      at = subst (λ (o : Option FinalConflict). AreAtOrRefused new c.record_outcome.new.turns o) c.in_default.is (outcome_at same old new c.loop-soft.turns c.record_outcome.new.turns item before.built.coding before.at status.keeps exact status.built.coding c.in_ok-status.status c.in_ok-conflict.conflict status.outcome c.in_ok-conflict.ensures);
       rooted = status.keeps.rooted before.rooted;
       built = status.built;
     }
@@ -69,7 +75,7 @@ returns-in-Some-clause-right g c = λ root first is candidates e started reasons
     → IsInOrder same (g.A.PackageSource.packages a) (g.A.PackageSource.orders a) root new × IsJustified same (g.A.PackageSource.packages a) root old new item c.in_ok-status.status) before.same status.stays in
     let (order, are_right, why) = before.right root first is candidates e started reasons in
     let (order', outcome) = stays root is (candidates item (item_contained xs i item c.loop-soft-test.true c.soft-item.is)) order in
-    let next = outcome_right same old new c.loop-soft.turns c.record_outcome.new.turns item before.built.coding before.at status.keeps exact p root first (take i xs) are_right g.A.NameId.PartialEq.eq names (g.met.A.PackageSource.lawful c.args.answers.now) orders order' status.built.coding why c.in_ok-status.status c.in_ok-clash.clash status.outcome outcome c.in_ok-clash.ensures in
+    let next = outcome_right same old new c.loop-soft.turns c.record_outcome.new.turns item before.built.coding before.at status.keeps exact p root first (take i xs) are_right g.A.NameId.PartialEq.eq names (g.met.A.PackageSource.lawful c.args.answers.now) orders order' status.built.coding why c.in_ok-status.status c.in_ok-conflict.conflict status.outcome outcome c.in_ok-conflict.ensures in
     (order', subst (λ (o : Option FinalConflict). IsNextRight same p root first (take i xs ++ item ∷ []) new c.record_outcome.new.turns o) c.in-Some.is next)
 
 pub returns-in-Some-clause-at_or_refused : goal.returns-in-Some-clause-at_or_refused
@@ -83,7 +89,7 @@ returns-in-Some-clause-at_or_refused g c =
     let old = c.loop-soft.encoding in
     let new = c.run_soft_requirement.new.encoding in
     let status = c.in_ok-status.ensures in
-    subst (λ (o : Option FinalConflict). AreAtOrRefused new c.record_outcome.new.turns o) c.in-Some.is (outcome_at same old new c.loop-soft.turns c.record_outcome.new.turns item before.built.coding before.at status.keeps exact status.built.coding c.in_ok-status.status c.in_ok-clash.clash status.outcome c.in_ok-clash.ensures)
+    subst (λ (o : Option FinalConflict). AreAtOrRefused new c.record_outcome.new.turns o) c.in-Some.is (outcome_at same old new c.loop-soft.turns c.record_outcome.new.turns item before.built.coding before.at status.keeps exact status.built.coding c.in_ok-status.status c.in_ok-conflict.conflict status.outcome c.in_ok-conflict.ensures)
 
 pub returns-clause-right : goal.returns-clause-right
 returns-clause-right g c = λ root first is candidates e right reasons.
@@ -98,4 +104,4 @@ returns-in-Some-clause-prefix g c =
     let old = c.loop-soft.encoding in
     let new = c.run_soft_requirement.new.encoding in
     let status = c.in_ok-status.ensures in
-    prefix_then c.args.turns.now.chosen.keys c.loop-soft.turns.chosen.keys c.record_outcome.new.turns.chosen.keys before.prefix (outcome_prefix same old new c.loop-soft.turns c.record_outcome.new.turns item before.built.coding before.at status.keeps c.in_ok-status.status c.in_ok-clash.clash c.in_ok-clash.ensures)
+    prefix_then c.args.turns.now.chosen.keys c.loop-soft.turns.chosen.keys c.record_outcome.new.turns.chosen.keys before.prefix (outcome_prefix same old new c.loop-soft.turns c.record_outcome.new.turns item before.built.coding before.at status.keeps c.in_ok-status.status c.in_ok-conflict.conflict c.in_ok-conflict.ensures)

@@ -3,7 +3,8 @@ use Rattle.std.specs.Prelude.{Contains}
 use Rattle.std.proofs.lemmas.List.{take_more, take_all}
 use Rattle.resolvo_sat.proofs.Lists.{contains_none}
 use Rattle.resolvo_turn.proofs.AddLemmas.{parents_none, parents_then}
-use Rattle.resolvo_turn.proofs.EndLemmas.{among_more, chosen_added}
+use Rattle.resolvo_turn.proofs.EndLemmas.{among_more}
+use Rattle.resolvo_turn.proofs.TakenLemmas.{turn_added}
 use Rattle.resolvo_turn.proofs.turn.add_chosen.Goals as goal
 
 pub loop-solvable-init : goal.loop-solvable-init
@@ -24,5 +25,5 @@ pub returns : goal.returns
 returns g c =
     let xs = c.deref-solvable-items.result.now in
     let i = c.loop-solvable.solvable-index in
-    chosen_added c.args.encoding.now c.loop-solvable.encoding c.in_ok-chosen.chosen.items c.loop-solvable.invariant.added c.in_ok-chosen.ensures.chosen
-    (λ s h. c.loop-solvable.invariant.among s (subst (λ (ys : List _). Contains ys s) (sym (take_all i xs c.loop-solvable-test.false)) (subst (λ (ys : List _). Contains ys s) (sym c.deref-solvable-items.ensures.value) h)))
+    turn_added c.args.encoding.now c.loop-solvable.encoding c.loop-solvable.invariant.added c.requires.taken
+    (λ s h. c.loop-solvable.invariant.among s (subst (λ (ys : List _). Contains ys s) (sym (take_all i xs c.loop-solvable-test.false)) (subst (λ (ys : List _). Contains ys s) (sym c.deref-solvable-items.ensures.value) (subst (λ (ys : List _). Contains ys s) (sym c.in_ok-chosen.ensures) h))))

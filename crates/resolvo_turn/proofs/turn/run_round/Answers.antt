@@ -6,6 +6,7 @@ use Rattle.resolvo_turn.specs.Encoder.{IsInOrder}
 use Rattle.resolvo_turn.specs.Turn.{IsDecisionOf}
 use Rattle.resolvo_turn.proofs.AddLemmas.{all_then, needs_parents, needs_then}
 use Rattle.resolvo_turn.proofs.EndLemmas.{chosen_then, finds_goes, finds_then, round_complete}
+use Rattle.resolvo_turn.proofs.TakenLemmas.{taken_kept}
 use Rattle.resolvo_turn.proofs.turn.run_round.Goals as goal
 
 -- ---- where the turn is refused
@@ -56,8 +57,16 @@ returns-then-has_new-clause-round g c =
 pub returns-then-has_new-clause-built : goal.returns-then-has_new-clause-built
 returns-then-has_new-clause-built g c = c.in_ok-has_new.ensures.built
 
-pub scan_all-requires : goal.scan_all-requires
-scan_all-requires g c = c.in_ok-has_new.ensures.built
+pub scan_all-requires-clause-built : goal.scan_all-requires-clause-built
+scan_all-requires-clause-built g c = c.in_ok-has_new.ensures.built
+
+pub scan_all-requires-clause-taken : goal.scan_all-requires-clause-taken
+scan_all-requires-clause-taken g c =
+    let b = c.encode_and_decide.new.encoding in
+    let d = c.scan_new.new.encoding in
+    let adds = c.in_ok-has_new.ensures.adds in
+    taken_kept c.args.aim.now.soft c.args.encoding.now d c.requires.built c.in_ok-has_new.ensures.built c.requires.turn (turn_then c.args.aim.now.soft c.args.encoding.now b d c.in_ok-decided.ensures.turn (adds.turn c.args.aim.now.soft))
+    (all_then c.args.encoding.now b d c.in_ok-decided.ensures.all.adds (needs_parents b d adds)) c.requires.taken
 
 -- ---- where something more was found
 

@@ -6,16 +6,20 @@ use Rattle.resolvo_turn.specs.declared.turn.Round.{Round}
 use Rattle.resolvo_turn.specs.Turn.{IsRound}
 use Rattle.resolvo_turn.proofs.AddLemmas.{all_none, all_then}
 use Rattle.resolvo_turn.proofs.EndLemmas.{fewer_left, still_rooted}
+use Rattle.resolvo_turn.proofs.TakenLemmas.{taken_kept}
 use Rattle.resolvo_turn.proofs.turn.run_turn.Goals as goal
 
 pub loop-scan-init : goal.loop-scan-init
-loop-scan-init g c = record { same = refl; stays = λ root is e. e; adds = all_none c.args.encoding.now; built = c.requires.built; rooted = c.requires.rooted; turn = turn_same c.args.soft c.args.encoding.now }
+loop-scan-init g c = record { same = refl; stays = λ root is e. e; adds = all_none c.args.encoding.now; built = c.requires.built; rooted = c.requires.rooted; taken = c.requires.taken; turn = turn_same c.args.soft c.args.encoding.now }
 
 pub run_round-requires-clause-built : goal.run_round-requires-clause-built
 run_round-requires-clause-built g c = c.loop-scan.invariant.built
 
 pub run_round-requires-clause-rooted : goal.run_round-requires-clause-rooted
 run_round-requires-clause-rooted g c = c.loop-scan.invariant.rooted
+
+pub run_round-requires-clause-taken : goal.run_round-requires-clause-taken
+run_round-requires-clause-taken g c = c.loop-scan.invariant.taken
 
 pub loop-scan-smaller : goal.loop-scan-smaller
 loop-scan-smaller g c =
@@ -34,6 +38,7 @@ loop-scan-preserved g c =
       built = c.in_ok-run_round.ensures.built;
       turn = turn_then c.args.soft c.args.encoding.now c.loop-scan.encoding c.run_round.new.encoding before.turn c.in_ok-run_round.ensures.turn;
       rooted = still_rooted c.loop-scan.encoding c.run_round.new.encoding before.rooted c.in_ok-run_round.ensures.adds;
+      taken = taken_kept c.args.soft c.loop-scan.encoding c.run_round.new.encoding before.built c.in_ok-run_round.ensures.built (turn_has c.args.soft c.args.encoding.now c.loop-scan.encoding c.requires.turn before.turn) c.in_ok-run_round.ensures.turn c.in_ok-run_round.ensures.adds before.taken;
     }
 
 pub returns-in-Complete-clause-stays : goal.returns-in-Complete-clause-stays

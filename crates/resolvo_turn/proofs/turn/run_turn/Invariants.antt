@@ -3,7 +3,7 @@ use Rattle.resolvo_pool_core.specs.RuleKeeping.{Rules}
 use Rattle.resolvo_encoder.specs.Base.{KeepsTurn}
 use Rattle.resolvo_encoder.specs.Steps.{IsBuilt}
 use Rattle.resolvo_turn.specs.Encoder.{IsInOrder, IsRoot, AddsParents}
-use Rattle.resolvo_turn.specs.Turn.{IsRooted, rounds_left}
+use Rattle.resolvo_turn.specs.Turn.{AreTakenParents, IsRooted, rounds_left}
 use Rattle.resolvo_turn.proofs.turn.run_turn.Given as goal
 
 -- the encoding is one of the packages, and the root is the first parent
@@ -16,6 +16,7 @@ invariant-loop-scan g l = record {
   built : IsBuilt l.encoding;
   turn : KeepsTurn l.fn.soft l.initial.encoding l.encoding;
   rooted : IsRooted l.encoding;
+  taken : AreTakenParents l.encoding;
 }
 
 abbrev pub decreases-loop-scan : goal.decreases-loop-scan

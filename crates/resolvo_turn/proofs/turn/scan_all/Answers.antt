@@ -17,10 +17,10 @@ returns-then-is_some-clause-more g c = λ yes.
     next_waits c.args.encoding.now c.add_chosen.new.encoding (sym (ap is_some c.next_parent.ensures.parent) ∙ sym c.if-is_some.ensures) c.next_parent.ensures.bounded
 
 pub returns-then-is_some-clause-built : goal.returns-then-is_some-clause-built
-returns-then-is_some-clause-built g c = built_parents c.args.encoding.now c.add_chosen.new.encoding c.requires c.in_ok-add_chosen.ensures.added
+returns-then-is_some-clause-built g c = built_parents c.args.encoding.now c.add_chosen.new.encoding c.requires.built c.in_ok-add_chosen.ensures.added
 
 pub fire-requires : goal.fire-requires
-fire-requires g c = built_parents c.args.encoding.now c.add_chosen.new.encoding c.requires c.in_ok-add_chosen.ensures.added
+fire-requires g c = built_parents c.args.encoding.now c.add_chosen.new.encoding c.requires.built c.in_ok-add_chosen.ensures.added
 
 pub returns-clause-stays : goal.returns-clause-stays
 returns-clause-stays g c = λ root e.

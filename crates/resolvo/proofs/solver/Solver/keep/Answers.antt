@@ -11,10 +11,10 @@ returns-in-Chosen g c = (
   ap (λ (k : Kept g.row.D.Denot g.row.D-NameId.Denot g.row.D-SolvableId.Denot). record k { clause_count = c.args.solved.clause_count; deferred_count = c.args.solved.deferred_count; turns = c.in-Chosen.turns.items; proof = c.args.solved.proof.items; conflict = option_map left_of c.args.conflict }) c.self.view_is,
 )
 
-pub returns-in-Clash : goal.returns-in-Clash
-returns-in-Clash g c = (
+pub returns-in-Unsat : goal.returns-in-Unsat
+returns-in-Unsat g c = (
   _,
-  c.in-Clash.is,
+  c.in-Unsat.is,
   refl,
   ap (λ (k : Kept g.row.D.Denot g.row.D-NameId.Denot g.row.D-SolvableId.Denot). record k { clause_count = c.args.solved.clause_count; deferred_count = c.args.solved.deferred_count; proof = c.args.solved.proof.items; conflict = option_map left_of c.args.conflict }) c.self.view_is,
 )

@@ -11,6 +11,9 @@ use Rattle.resolvo_sat.proofs.WalkLemmas.{meets, denial_of, no_denial, true_befo
 use Rattle.resolvo_sat.proofs.state.SatState.analyze_final.Goals.{else-eq-via-then-eq+else-not-entry, else-eq-via-else-eq}
 use Rattle.resolvo_sat.proofs.state.SatState.analyze_final.Goals as goal
 
+pub returns-then-not-is_denied-clause-refuted : goal.returns-then-not-is_denied-clause-refuted
+returns-then-not-is_denied-clause-refuted c = λ h. both_ways _ (sym c.is_denied.ensures ∙ c.if-not-is_denied.true) h
+
 pub returns-then-not-entry-clause-refuted : goal.returns-then-not-entry-clause-refuted
 returns-then-not-entry-clause-refuted c =
     let s : SatState = c.args.self.now in
