@@ -10,7 +10,7 @@ from typing import Iterable, Optional, Union
 
 from plain_search import Alternatives, Clause, Digit, Excluded, Facts, Gate, Limit, Locked, Need, Outside, Parent, Rule
 from plain_search import Shared, Solver
-from tools.texts import SharedAtom, Spec, Version
+from tools.texts import OutsideAtom, SharedAtom, Spec, Version
 
 UNRESOLVED = "no candidate"
 # A node: the root (None), the unresolved node, a version, or a reason in a list of one.
@@ -127,7 +127,7 @@ def graph_of(facts: Facts, conflict: list[Clause], solver: Solver) -> Graph:
                 graph.add(before, rule.version, Cause("instances"))
             instances[rule.version.package] = rule.version
         elif isinstance(rule, (Limit, Outside)):
-            add_limit(graph, rules, rule)
+            add_limit(graph, rules, rule, solver)
     graph.remove_unused()
     return graph
 
@@ -149,17 +149,23 @@ def requirers(rules: list[Rule], shared: Shared, solver: Solver) -> list[Version
     return [entry.clause.rule.parent] if is_set else []
 
 
-def add_limit(graph: Graph, rules: list[Rule], rule: Union[Limit, Outside]) -> None:
+def add_limit(graph: Graph, rules: list[Rule], rule: Union[Limit, Outside], solver: Solver) -> None:
     """From the parent to the barred version; a half of the shared form is joined with each other half of its helper."""
-    if isinstance(rule, Outside):
-        pairs = [(each.parent, rule.version) for each in rules
-                 if isinstance(each, Limit) and each.barred is None and each.spec == rule.spec]
-    elif rule.barred is None:
-        pairs = [(rule.parent, each.version) for each in rules if isinstance(each, Outside) and each.spec == rule.spec]
-    else:
-        pairs = [(rule.parent, rule.barred)]
-    for parent, version in pairs:
-        graph.add(parent, version, Cause("limit", rule.spec))
+    if isinstance(rule, Limit) and rule.barred is not None:
+        graph.add(rule.parent, rule.barred, Cause("limit", rule.spec))
+        return
+    for half in other_halves(rules, rule, solver):
+        limit, outside = (half, rule) if isinstance(rule, Outside) else (rule, half)
+        graph.add(limit.parent, outside.version, Cause("limit", rule.spec))
+
+
+def other_halves(rules: list[Rule], rule: Union[Limit, Outside], solver: Solver) -> list[Union[Limit, Outside]]:
+    """Those in the conflict, else the one that set the helper."""
+    kind = Limit if isinstance(rule, Outside) else Outside
+    entry = solver.entry_of.get(OutsideAtom(rule.spec))
+    reasons = [entry.clause.rule] if entry is not None and entry.clause is not None else []
+    is_half = lambda each: isinstance(each, kind) and each.spec == rule.spec and getattr(each, "barred", None) is None
+    return [each for each in rules if is_half(each)] or [each for each in reasons if is_half(each)]
 
 
 # ---- what can be installed, what is missing, what is told as one
