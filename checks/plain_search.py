@@ -203,7 +203,8 @@ class NeedOf:
 class Facts:
     """The lines of both texts by what they belong to, each list in line order."""
 
-    def __init__(self, catalogue: Catalogue, request: Request) -> None:
+    def __init__(self, catalogue: Catalogue, request: Request, bars_wishes: bool = True) -> None:
+        self.bars_wishes = bars_wishes
         self.candidates = catalogue.by_package
         self.needs: dict[Parent, list[NeedOf]] = {}
         self.limits: dict[Parent, list[Spec]] = {}
@@ -244,9 +245,9 @@ class Facts:
         return [version for spec in alternatives for version in sorted(self.matching(spec), key=order)]
 
     def is_barred(self, wish: Version) -> bool:
-        """Whether a lock or an exclusion bars the version."""
+        """Whether a lock or an exclusion bars the version, so that it is left out without a search."""
         excluded = [version for version, _ in self.exclusions.get(wish.package, ())]
-        return self.lock.get(wish.package, wish) != wish or wish in excluded
+        return self.bars_wishes and (self.lock.get(wish.package, wish) != wish or wish in excluded)
 
 
 # ---- trail, watches, propagation
@@ -882,7 +883,8 @@ class Turns:
                 refusal = self.run_wish(wish)
                 if refusal is not None and not refusal[0]:
                     return Outcome((), refusal[1], self.solver, tuple(self.encoder.questions))
-                turns.append(Turn(wish, self.chosen(), refusal and self.refuse(wish, refusal)))
+                clause = refusal and self.refuse(wish, refusal)
+                turns.append(Turn(wish, self.chosen(), clause))
         return Outcome(tuple(turns), None, self.solver, tuple(self.encoder.questions))
 
     def chosen(self) -> tuple[Version, ...]:

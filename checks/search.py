@@ -3,11 +3,13 @@
 
 Usage: checks/search.py [PAIRS] [--seed N] [--like-the-program] [--program PATH]
        checks/search.py --kept [--program PATH]
+       checks/search.py --rows
 Defaults: 1000 pairs, seed 1, crates/resolve/out/resolve (which `rt run` leaves).
 It counts the pairs whose entries, left-out wishes, named lines, message or steps differ from those of the search by the rules, and
 prints the smallest one. Then it counts for each option of the plain search how many answers that one alone changes. With
 `--like-the-program` the plain search goes all the program's other ways: each byte must then be equal, else the status is 1.
-With `--kept` it runs the examples of checks/search, which search/README.md describes.
+With `--kept` it runs the examples of checks/search, which search/README.md describes. With `--rows` the plain search answers the
+rows of the gate, without a program: in the program's ways it must answer each as the row expects.
 """
 from __future__ import annotations
 
@@ -21,8 +23,9 @@ import tempfile
 from typing import Iterator, Optional
 
 import rows
+from plain_message import message
 from plain_report import report
-from plain_search import PROGRAM, Facts, Options, Turns
+from plain_search import PROGRAM, Facts, Options, Outcome, Turns
 from solving import generated_texts
 from tools import texts
 from tools.texts import Catalogue, Install, LeftOut, Refused, Report, Request
@@ -131,9 +134,14 @@ def pairs_of(seed: int, count: int) -> Iterator[tuple[str, Pair]]:
 
 
 def values_of(pair: Pair) -> tuple[Catalogue, Request]:
-    """The values of two texts."""
-    catalogue = texts.read_catalogue(pair[0].encode())
-    return catalogue, texts.read_request(pair[1].encode(), catalogue)
+    """The values of two texts; stray bytes are kept as surrogates."""
+    catalogue = texts.read_catalogue(texts.encoded(pair[0]))
+    return catalogue, texts.read_request(texts.encoded(pair[1]), catalogue)
+
+
+def pair_of(row: rows.Row) -> Pair:
+    """The two texts of a row."""
+    return texts.decoded(row.text("catalogue")), texts.decoded(row.text("request"))
 
 
 def answered(program: str, pair: Pair, folder: str) -> Report:
@@ -281,7 +289,7 @@ def shown(row: rows.Row, value: Report, questions: tuple[str, ...]) -> bool:
 
 def plain(row: rows.Row, options: Options) -> bool:
     """Whether the plain search with these options answers as the example says."""
-    values = values_of((row.text("catalogue").decode(), row.text("request").decode()))
+    values = values_of(pair_of(row))
     options = changed(options, row.text("setting").decode())
     return shown(row, report(*values, options), Turns(Facts(*values), options).run().questions)
 
@@ -296,8 +304,7 @@ def faults_of(row: rows.Row, program: str, folder: str) -> list[str]:
     today = row.text("program").decode().strip()
     is_same = plain(row, PROGRAM)
     if "asks" not in row.sections and "setting" not in row.sections:
-        pair = row.text("catalogue").decode(), row.text("request").decode()
-        is_same = shown(row, answered(program, pair, folder), ())
+        is_same = shown(row, answered(program, pair_of(row), folder), ())
     if is_same != (today == "same"):
         faults.append(f"the program answers {'as the rules say' if is_same else 'otherwise'}, and the example has `{today}`")
     return faults
@@ -317,6 +324,73 @@ def run_kept(program: str) -> int:
     return 1 if faulty else 0
 
 
+# ---- rows of the gate
+
+
+def solved_rows() -> Iterator[rows.Row]:
+    """The rows of crates/resolve_rows whose texts are solved, but for long texts."""
+    for row in rows.read_all():
+        is_short = len(row.text("catalogue")) + len(row.text("request")) < 50_000
+        if is_short and not {"report", "reads"} & set(row.sections) and rows.first_fault(row) == "none\n":
+            yield row
+
+
+def unmet(row: rows.Row, options: Options) -> list[str]:
+    """The sections of a row that the plain search doesn't meet."""
+    value = report(*values_of(pair_of(row)), options)
+    output, status = texts.report_text(value), 0 if isinstance(value, Install) else 1
+    return [f"{row}: {name}" for name, wanted in row.sections.items()
+            if name not in rows.INPUTS and name != "fault" and rows.came(name, output, status, wanted) != wanted]
+
+
+def solver_cases() -> Iterator[tuple[str, dict[str, list[str]]]]:
+    """The titles and sections of the cases of crates/resolvo_rows."""
+    with open(os.path.join(HERE, "../crates/resolvo_rows/stdin")) as file:
+        blocks = file.read().removeprefix("# ").split("\n# ")
+    for block in blocks:
+        title, *parts = block.split("\n== ")
+        sections = {part.split("\n")[0]: [line for line in part.split("\n")[1:] if line] for part in parts}
+        if "answer" in sections:
+            yield title, sections
+
+
+def case_answer(turns: Turns, outcome: Outcome, counts_waiting: bool) -> list[str]:
+    """What a case's `answer` has: the chosen versions in the order of the trail, left-out wishes, and deferred cases."""
+    if outcome.conflict is not None:
+        return ["refused"]
+    chosen = dict.fromkeys(version for turn in outcome.turns for version in turn.chosen)
+    left = [f"left out {turn.wish.package} {turn.wish.number}" for turn in outcome.turns if turn.refused_by]
+    count = sum(len(waiting) for _, waiting in turns.encoder.deferred)
+    waiting = [f"{count} wait{'s' if count == 1 else ''}"] if counts_waiting else []
+    return [f"{version.package} {version.number}" for version in chosen] + left + waiting
+
+
+def unmet_case(title: str, sections: dict[str, list[str]], options: Options) -> list[str]:
+    """The sections of a case that the plain search doesn't meet. A wish is barred by its clauses alone."""
+    values = values_of(tuple("".join(line + "\n" for line in sections[part]) for part in ("catalogue", "request")))
+    found: dict[str, list[str]] = {}
+    for name, given in (("asked without hint", changed(options, "hinted")), ("asked", options)):
+        turns = Turns(Facts(*values, bars_wishes=False), given)
+        outcome = turns.run()
+        words = [question.split(" of ")[1].replace("=", " ") for question in outcome.questions]
+        found |= {name: words, "answer": case_answer(turns, outcome, any("wait" in line for line in sections["answer"]))}
+        if outcome.conflict is not None:
+            found["message"] = message(turns.facts, outcome.conflict, outcome.solver)
+    return [f"{title}: {name}" for name, wanted in sections.items() if name in found and found[name] != wanted]
+
+
+def run_rows() -> int:
+    """Runs the plain search over the rows of the gate; the status."""
+    faults: dict[str, list[str]] = {}
+    for name, options in (("by the rules", Options()), ("in the program's ways", PROGRAM)):
+        told = [unmet(row, options) for row in solved_rows()]
+        told += [unmet_case(title, sections, options) for title, sections in solver_cases()]
+        faults[name] = [line for lines in told for line in lines]
+        print(f"{name}: {len(told)} rows, {len(faults[name])} sections otherwise")
+        print("".join(f"    {line}\n" for line in faults[name]), end="")
+    return 1 if faults["in the program's ways"] else 0
+
+
 def main() -> int:
     """Reads the arguments."""
     parser = argparse.ArgumentParser(description=__doc__, formatter_class=argparse.RawDescriptionHelpFormatter)
@@ -324,8 +398,11 @@ def main() -> int:
     parser.add_argument("--seed", type=int, default=1)
     parser.add_argument("--like-the-program", action="store_true")
     parser.add_argument("--kept", action="store_true")
+    parser.add_argument("--rows", action="store_true")
     parser.add_argument("--program", default=os.path.join(HERE, "../crates/resolve/out/resolve"))
     arguments = parser.parse_args()
+    if arguments.rows:
+        return run_rows()
     return run_kept(arguments.program) if arguments.kept else run_pairs(arguments)
 
 
