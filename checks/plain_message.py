@@ -1,4 +1,4 @@
-"""The conflict graph of some clauses of plain_search.py and its message, as docs/MESSAGES.md describes them; plain and slow.
+"""The conflict graph of some clauses of the plain search and its message, as docs/MESSAGES.md describes them; plain and slow.
 
 `message(facts, conflict, solver)` returns the lines of the message.
 """
@@ -8,8 +8,9 @@ from dataclasses import dataclass, field
 from itertools import groupby
 from typing import Iterable, Optional, Union
 
-from plain_search import Alternatives, Clause, Digit, Excluded, Facts, Gate, Limit, Locked, Need, Outside, Parent, Rule
-from plain_search import Shared, Solver
+from plain_rules import Alternatives, Clause, Digit, Excluded, Facts, Gate, Limit, Locked, Need, Outside, Parent, Rule
+from plain_rules import Shared
+from plain_solver import Solver
 from tools.texts import OutsideAtom, SharedAtom, Spec, Version
 
 UNRESOLVED = "no candidate"

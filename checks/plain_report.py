@@ -8,8 +8,9 @@ from typing import Iterable, Iterator, Optional, Union
 
 from plain_judge import holds
 from plain_message import message
-from plain_search import ROOT, Clause, Digit, Excluded, Facts, Gate, Limit, Locked, Need, Options, Outcome, Outside, Rule
-from plain_search import Shared, There, Turns
+from plain_rules import ROOT, Clause, Digit, Excluded, Facts, Gate, Limit, Locked, Need, Options, Outside, Rule, Shared
+from plain_rules import There
+from plain_search import Outcome, Turns
 from tools import texts
 from tools.texts import Catalogue, DeriveStep, Install, Placed, Refused, Report, Request, Step, Version, cases
 
