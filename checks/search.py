@@ -1,0 +1,412 @@
+#!/usr/bin/env python3
+"""Compares what `resolve solve` answers with the plain search of plain_search.py, over generated pairs and kept ones.
+
+Usage: checks/search.py [PAIRS] [--seed N] [--like-the-program] [--program PATH]
+       checks/search.py --kept [--program PATH]
+       checks/search.py --rows
+Defaults: 1000 pairs, seed 1, crates/resolve/out/resolve (which `rt run` leaves).
+It counts the pairs whose entries, left-out wishes, named lines, message or steps differ from those of the search by the rules, and
+prints the smallest one. Then it counts for each option of the plain search how many answers that one alone changes. With
+`--like-the-program` the plain search goes all the program's other ways: each byte must then be equal, else the status is 1.
+With `--kept` it runs the examples of checks/search, which search/README.md describes. With `--rows` the plain search answers the
+rows of the gate, without a program: in the program's ways it must answer each as the row expects.
+"""
+from __future__ import annotations
+
+import argparse
+import dataclasses
+import os
+import random
+import subprocess
+import sys
+import tempfile
+from typing import Iterator, Optional
+
+import rows
+from plain_message import message
+from plain_report import report
+from plain_search import PROGRAM, Facts, Options, Outcome, Turns
+from solving import generated_texts
+from tools import texts
+from tools.texts import Catalogue, Install, LeftOut, Refused, Report, Request
+
+HERE = os.path.dirname(os.path.abspath(__file__))
+KEPT = os.path.join(HERE, "search")
+Pair = tuple[str, str]
+PARTS = ("verdict", "entries", "left out", "named", "message", "steps")
+
+
+# ---- generated pairs
+
+
+class Dense:
+    """Texts with more packages and versions, and more lines for each; some have only needs that exclude each other."""
+
+    def __init__(self, rng: random.Random) -> None:
+        self.rng = rng
+        self.most = rng.randint(2, 7)
+        self.packages = list("abcdefgh"[: rng.randint(2, 8)])
+        self.listed: list[tuple[str, int]] = []
+
+    def spec(self) -> str:
+        """A SPEC, now and then of a package that isn't listed."""
+        package = self.rng.choice(self.packages) if self.rng.random() > 0.03 else "z"
+        kind, low = self.rng.random(), self.rng.randint(0, self.most)
+        if kind < 0.35:
+            return package
+        if kind < 0.6:
+            return f"{package} {self.rng.randint(1, self.most)}"
+        return f"{package} {low}..{self.rng.randint(low + 1, self.most + 2)}"
+
+    def condition(self) -> str:
+        """Up to four SPECs joined."""
+        parts = [self.spec() for _ in range(self.rng.choice([1, 1, 2, 3, 4]))]
+        text = parts[0]
+        for part in parts[1:]:
+            text = self.rng.choice([f"{text} and {part}", f"{text} or {part}", f"( {text} ) and {part}"])
+        return text
+
+    def need(self) -> str:
+        """A needs line."""
+        text = "needs " + " | ".join(self.spec() for _ in range(self.rng.choice([1, 1, 1, 2, 3])))
+        return text + (f" if {self.condition()}" if self.rng.random() < 0.25 else "")
+
+    def version(self, package: str, number: int) -> list[str]:
+        """A version's lines."""
+        self.listed.append((package, number))
+        lines = [f"version {package} {number}"] + [self.need() for _ in range(self.rng.choice([0, 1, 1, 2, 3]))]
+        lines += ["limits " + self.spec() for _ in range(self.rng.choice([0, 0, 0, 1, 2]))]
+        return lines + ["unknown offline"] * (self.rng.random() < 0.04)
+
+    def marks(self, package: str) -> list[str]:
+        """Locks, favours and exclusions of a package."""
+        numbers, lines = [number for name, number in self.listed if name == package], []
+        for word, chance in (("lock", 0.1), ("favour", 0.2)):
+            if self.rng.random() < chance:
+                lines.append(f"{word} {package} {self.rng.choice(numbers)}")
+        barred = [number for number in numbers if self.rng.random() < 0.08]
+        return lines + [f"exclude {package} {number} {self.rng.choice(['old', 'offline'])}" for number in barred]
+
+    def texts(self) -> Pair:
+        """Both texts."""
+        blocks = [self.version(package, number) for package in self.packages for number in range(1, self.most + 1)
+                  if self.rng.random() < 0.8 or number == 1]
+        self.rng.shuffle(blocks)
+        lines = [line for block in blocks for line in block]
+        lines += [line for package in self.packages for line in self.marks(package)]
+        request = [self.need() for _ in range(self.rng.randint(1, 5))]
+        request += ["limits " + self.spec() for _ in range(self.rng.choice([0, 0, 1, 2]))]
+        wishes = self.rng.sample(self.listed, min(len(self.listed), self.rng.choice([0, 0, 1, 2, 4])))
+        request += [f"wish {package} {number}" for package, number in wishes]
+        self.rng.shuffle(request)
+        return "\n".join(lines) + "\n", "\n".join(request) + "\n"
+
+
+def coloured_texts(rng: random.Random) -> Pair:
+    """Packages whose versions are colours: some two may not have the same one. The search has to learn."""
+    count, colours = rng.randint(4, 7), rng.randint(2, 4)
+    lines = []
+    for package in range(count):
+        others = [other for other in range(count) if other != package and rng.random() < 0.45]
+        for colour in range(1, colours + 1):
+            lines.append(f"version v{package} {colour}")
+            for other in others:
+                spans = [span for span in ((1, colour), (colour + 1, colours + 1)) if span[0] < span[1]]
+                lines.append("needs " + " | ".join(f"v{other} {low}..{high}" for low, high in spans))
+    request = [f"needs v{package}" for package in rng.sample(range(count), rng.randint(1, count))]
+    request += [f"wish v{package} {rng.randint(1, colours)}" for package in range(count) if rng.random() < 0.2]
+    return "\n".join(lines) + "\n", "\n".join(request) + "\n"
+
+
+def pairs_of(seed: int, count: int) -> Iterator[tuple[str, Pair]]:
+    """Pairs in turn: small, dense, and of colours."""
+    rng = random.Random(seed)
+    for number in range(count):
+        if number % 5 in (0, 1):
+            yield "small", generated_texts(rng)
+        elif number % 5 in (2, 3):
+            yield "dense", Dense(rng).texts()
+        else:
+            yield "coloured", coloured_texts(rng)
+
+
+# ---- comparing
+
+
+def values_of(pair: Pair) -> tuple[Catalogue, Request]:
+    """The values of two texts; stray bytes are kept as surrogates."""
+    catalogue = texts.read_catalogue(texts.encoded(pair[0]))
+    return catalogue, texts.read_request(texts.encoded(pair[1]), catalogue)
+
+
+def pair_of(row: rows.Row) -> Pair:
+    """The two texts of a row."""
+    return texts.decoded(row.text("catalogue")), texts.decoded(row.text("request"))
+
+
+def answered(program: str, pair: Pair, folder: str) -> Report:
+    """What the program answers."""
+    paths = [os.path.join(folder, part) for part in ("catalogue", "request")]
+    for path, text in zip(paths, pair):
+        with open(path, "w") as file:
+            file.write(text)
+    ended = subprocess.run([program, "solve", *paths], capture_output=True, timeout=600)
+    return texts.read_report(ended.stdout)
+
+
+def parts_of(value: Report) -> dict[str, object]:
+    """The parts of a report that are compared; the step of a left-out wish is one of the steps."""
+    if isinstance(value, Refused):
+        named = value.catalogue_lines, value.request_lines
+        return {"verdict": "refused", "named": named, "message": value.message, "steps": value.steps}
+    left = [(answer.version, answer.line) for answer in value.answers if isinstance(answer, LeftOut)]
+    by = [answer.step for answer in value.answers if isinstance(answer, LeftOut)]
+    return {"verdict": "install", "entries": value.entries, "left out": left, "steps": (by, value.steps)}
+
+
+def differing(first: Report, second: Report) -> list[str]:
+    """The parts in which two reports differ."""
+    one, other = parts_of(first), parts_of(second)
+    if one["verdict"] != other["verdict"]:
+        return ["verdict"]
+    return [part for part in PARTS if one.get(part) != other.get(part)]
+
+
+class Counts:
+    """How many pairs differ in each part, and in any but the steps."""
+
+    def __init__(self) -> None:
+        self.parts = dict.fromkeys((*PARTS, "answer"), 0)
+        self.smallest: Optional[tuple[int, Pair, list[str]]] = None
+
+    def add(self, pair: Pair, found: list[str]) -> None:
+        """Counts a pair. The smallest one is the first of those with the fewest characters; steps alone count last."""
+        for part in found:
+            self.parts[part] += 1
+        if found:
+            self.parts["answer"] += found != ["steps"]
+            size = len(pair[0]) + len(pair[1]) + (10**9 if found == ["steps"] else 0)
+            if self.smallest is None or size < self.smallest[0]:
+                self.smallest = size, pair, found
+
+    def row(self, name: str) -> str:
+        """A row of the table."""
+        return f"{name:24}" + "".join(f"{self.parts[part]:>10}" for part in (*PARTS, "answer"))
+
+
+def heading() -> str:
+    """The heading of the table."""
+    return " " * 24 + "".join(f"{part:>10}" for part in (*PARTS, "answer"))
+
+
+def single_options() -> dict[str, Options]:
+    """For each of the program's other ways the rules with that one alone."""
+    rules = Options()
+    return {each.name: dataclasses.replace(rules, **{each.name: getattr(PROGRAM, each.name)})
+            for each in dataclasses.fields(Options) if getattr(PROGRAM, each.name) != getattr(rules, each.name)}
+
+
+def compare(pairs: list[tuple[str, Pair]], program: str, options: Options) -> tuple[dict[str, Counts], dict[str, int]]:
+    """The counts of the program beside the plain search, by the kind of pair, and the verdicts."""
+    found: dict[str, Counts] = {}
+    verdicts = {"install": 0, "refused": 0}
+    with tempfile.TemporaryDirectory() as folder:
+        for kind, pair in pairs:
+            answer = answered(program, pair, folder)
+            verdicts["install" if isinstance(answer, Install) else "refused"] += 1
+            parts = differing(answer, report(*values_of(pair), options))
+            for name in (kind, "all"):
+                found.setdefault(name, Counts()).add(pair, parts)
+    return found, verdicts
+
+
+def each_option(pairs: list[tuple[str, Pair]]) -> dict[str, Counts]:
+    """For each option how many answers by the rules it alone changes; and all of them together."""
+    options = {**single_options(), "all together": PROGRAM}
+    found = {name: Counts() for name in options}
+    for _, pair in pairs:
+        values = values_of(pair)
+        rules = report(*values)
+        for name, counts in found.items():
+            counts.add(pair, differing(rules, report(*values, options[name])))
+    return found
+
+
+def print_smallest(counts: Counts, program: str, options: Options) -> None:
+    """The smallest differing pair with both answers."""
+    if counts.smallest is None:
+        return
+    _, pair, parts = counts.smallest
+    with tempfile.TemporaryDirectory() as folder:
+        answer = texts.report_text(answered(program, pair, folder)).decode()
+    plain = texts.report_text(report(*values_of(pair), options)).decode()
+    print(f"\nthe smallest differing pair ({', '.join(parts)})")
+    print(f"--- catalogue\n{pair[0]}--- request\n{pair[1]}--- the program\n{answer}--- the plain search\n{plain}", end="")
+
+
+def run_pairs(arguments: argparse.Namespace) -> int:
+    """Compares over generated pairs; the status."""
+    pairs = list(pairs_of(arguments.seed, arguments.pairs))
+    options = PROGRAM if arguments.like_the_program else Options()
+    found, verdicts = compare(pairs, arguments.program, options)
+    way = "that goes the program's ways" if arguments.like_the_program else "by the rules"
+    print(f"{len(pairs)} pairs, {verdicts['install']} installed, {verdicts['refused']} refused; differing from the search {way}:")
+    print(heading())
+    for name, counts in found.items():
+        print(counts.row(name))
+    if not arguments.like_the_program:
+        print("\nanswers by the rules that change by one of the program's ways alone:\n" + heading())
+        for name, counts in each_option(pairs).items():
+            print(counts.row(name))
+    print_smallest(found["all"], arguments.program, options)
+    return 1 if arguments.like_the_program and any(found["all"].parts.values()) else 0
+
+
+# ---- kept examples
+
+
+def changed(options: Options, words: str) -> Options:
+    """The options with each of these changed: `name=number`, or a name, which goes the other way."""
+    for word in words.split():
+        name, sign, number = word.partition("=")
+        options = dataclasses.replace(options, **{name: int(number) if sign else not getattr(options, name)})
+    return options
+
+
+def shown(row: rows.Row, value: Report, questions: tuple[str, ...]) -> bool:
+    """Whether a report has all that the example says."""
+    output = texts.report_text(value)
+    status = 0 if isinstance(value, Install) else 1
+    for name, wanted in row.sections.items():
+        if name == "asks":
+            if "".join(f"{question}\n" for question in questions).encode() != wanted:
+                return False
+        elif name not in ("catalogue", "request", "option", "program", "setting"):
+            if rows.came(name, output, status, wanted) != wanted:
+                return False
+    return True
+
+
+def plain(row: rows.Row, options: Options) -> bool:
+    """Whether the plain search with these options answers as the example says."""
+    values = values_of(pair_of(row))
+    options = changed(options, row.text("setting").decode())
+    return shown(row, report(*values, options), Turns(Facts(*values), options).run().questions)
+
+
+def faults_of(row: rows.Row, program: str, folder: str) -> list[str]:
+    """What is wrong with an example: the rules answer otherwise, an option doesn't matter, the program answers otherwise."""
+    option, faults = row.text("option").decode(), []
+    if not plain(row, Options()):
+        faults.append("the search by the rules answers otherwise")
+    if option and plain(row, changed(Options(), option)) and plain(row, changed(PROGRAM, option)) == plain(row, PROGRAM):
+        faults.append(f"{option.strip()} changes nothing")
+    today = row.text("program").decode().strip()
+    is_same = plain(row, PROGRAM)
+    if os.path.exists(program) and not {"asks", "setting"} & set(row.sections):
+        is_same = shown(row, answered(program, pair_of(row), folder), ())
+    if is_same != (today == "same"):
+        faults.append(f"the program answers {'as the rules say' if is_same else 'otherwise'}, and the example has `{today}`")
+    return faults
+
+
+def run_kept(program: str) -> int:
+    """Runs the kept examples; the status."""
+    faulty, same, kept = 0, 0, rows.read_all(KEPT)
+    if not os.path.exists(program):
+        print(f"no program is at {program}; the plain search goes its ways instead")
+    with tempfile.TemporaryDirectory() as folder:
+        for row in kept:
+            faults = faults_of(row, program, folder)
+            today = row.text("program").decode().strip()
+            same += today == "same"
+            faulty += bool(faults)
+            print(f"{today:10} {row.name}: {'; '.join(faults) or row.about}")
+    print(f"{len(kept)} examples, {same} of which the program answers as the rules say; {faulty} faults")
+    return 1 if faulty else 0
+
+
+# ---- rows of the gate
+
+
+def solved_rows() -> Iterator[rows.Row]:
+    """The rows of crates/resolve_rows whose texts are solved, but for long texts."""
+    for row in rows.read_all():
+        is_short = len(row.text("catalogue")) + len(row.text("request")) < 50_000
+        if is_short and not {"report", "reads"} & set(row.sections) and rows.first_fault(row) == "none\n":
+            yield row
+
+
+def unmet(row: rows.Row, options: Options) -> list[str]:
+    """The sections of a row that the plain search doesn't meet."""
+    value = report(*values_of(pair_of(row)), options)
+    output, status = texts.report_text(value), 0 if isinstance(value, Install) else 1
+    return [f"{row}: {name}" for name, wanted in row.sections.items()
+            if name not in rows.INPUTS and name != "fault" and rows.came(name, output, status, wanted) != wanted]
+
+
+def solver_cases() -> Iterator[tuple[str, dict[str, list[str]]]]:
+    """The titles and sections of the cases of crates/resolvo_rows."""
+    with open(os.path.join(HERE, "../crates/resolvo_rows/stdin")) as file:
+        blocks = file.read().removeprefix("# ").split("\n# ")
+    for block in blocks:
+        title, *parts = block.split("\n== ")
+        sections = {part.split("\n")[0]: [line for line in part.split("\n")[1:] if line] for part in parts}
+        if "answer" in sections:
+            yield title, sections
+
+
+def case_answer(turns: Turns, outcome: Outcome, counts_waiting: bool) -> list[str]:
+    """What a case's `answer` has: the chosen versions in the order of the trail, left-out wishes, and deferred cases."""
+    if outcome.conflict is not None:
+        return ["refused"]
+    chosen = dict.fromkeys(version for turn in outcome.turns for version in turn.chosen)
+    left = [f"left out {turn.wish.package} {turn.wish.number}" for turn in outcome.turns if turn.refused_by]
+    count = sum(len(waiting) for _, waiting in turns.encoder.deferred)
+    waiting = [f"{count} wait{'s' if count == 1 else ''}"] if counts_waiting else []
+    return [f"{version.package} {version.number}" for version in chosen] + left + waiting
+
+
+def unmet_case(title: str, sections: dict[str, list[str]], options: Options) -> list[str]:
+    """The sections of a case that the plain search doesn't meet. A wish is barred by its clauses alone."""
+    values = values_of(tuple("".join(line + "\n" for line in sections[part]) for part in ("catalogue", "request")))
+    found: dict[str, list[str]] = {}
+    for name, given in (("asked without hint", changed(options, "hinted")), ("asked", options)):
+        turns = Turns(Facts(*values, bars_wishes=False), given)
+        outcome = turns.run()
+        words = [question.split(" of ")[1].replace("=", " ") for question in outcome.questions]
+        found |= {name: words, "answer": case_answer(turns, outcome, any("wait" in line for line in sections["answer"]))}
+        if outcome.conflict is not None:
+            found["message"] = message(turns.facts, outcome.conflict, outcome.solver)
+    return [f"{title}: {name}" for name, wanted in sections.items() if name in found and found[name] != wanted]
+
+
+def run_rows() -> int:
+    """Runs the plain search over the rows of the gate; the status."""
+    faults: dict[str, list[str]] = {}
+    for name, options in (("by the rules", Options()), ("in the program's ways", PROGRAM)):
+        told = [unmet(row, options) for row in solved_rows()]
+        told += [unmet_case(title, sections, options) for title, sections in solver_cases()]
+        faults[name] = [line for lines in told for line in lines]
+        print(f"{name}: {len(told)} rows, {len(faults[name])} sections otherwise")
+        print("".join(f"    {line}\n" for line in faults[name]), end="")
+    return 1 if faults["in the program's ways"] else 0
+
+
+def main() -> int:
+    """Reads the arguments."""
+    parser = argparse.ArgumentParser(description=__doc__, formatter_class=argparse.RawDescriptionHelpFormatter)
+    parser.add_argument("pairs", nargs="?", type=int, default=1000)
+    parser.add_argument("--seed", type=int, default=1)
+    parser.add_argument("--like-the-program", action="store_true")
+    parser.add_argument("--kept", action="store_true")
+    parser.add_argument("--rows", action="store_true")
+    parser.add_argument("--program", default=os.path.join(HERE, "../crates/resolve/out/resolve"))
+    arguments = parser.parse_args()
+    if arguments.rows:
+        return run_rows()
+    return run_kept(arguments.program) if arguments.kept else run_pairs(arguments)
+
+
+if __name__ == "__main__":
+    sys.exit(main())
