@@ -73,6 +73,7 @@ SHAPES = ((entries, 1000), (versions, 1000), (unnamed, 250), (gates, 500))
 
 
 def write(path, lines):
+    """Line by line."""
     with open(path, "w") as out:
         out.writelines(line + "\n" for line in lines)
 
@@ -122,6 +123,7 @@ def instructions(program, paths):
 
 
 def main():
+    """Prints the tables."""
     here = os.path.dirname(os.path.abspath(__file__))
     program = sys.argv[1] if len(sys.argv) > 1 else os.path.join(here, "../crates/resolve/out/resolve")
     with tempfile.TemporaryDirectory() as folder:

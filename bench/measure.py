@@ -20,6 +20,8 @@ OVER = [sign for kill in (signal.SIGXCPU, signal.SIGKILL) for sign in (-kill, 12
 
 @dataclass(frozen=True)
 class Run:
+    """What a run took, and how it ended."""
+
     seconds: float
     memory: int  # bytes at the peak
     status: int

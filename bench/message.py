@@ -43,6 +43,7 @@ def share(words, folder):
 
 
 def written(paths, texts):
+    """Writes the lines of both texts."""
     for path, lines in zip(paths, texts):
         with open(path, "w", encoding="utf-8") as out:
             out.write("\n".join(lines) + "\n")
@@ -75,6 +76,7 @@ def chain_row(program, count, folder):
 
 
 def main():
+    """Prints the tables."""
     here = os.path.dirname(os.path.abspath(__file__))
     program = sys.argv[1] if len(sys.argv) > 1 else os.path.join(here, "../crates/resolve/out/resolve")
     count = int(sys.argv[2]) if len(sys.argv) > 2 else 5000

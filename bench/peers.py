@@ -15,11 +15,18 @@ class Solver:
     def __init__(self, name, program):
         self.name, self.program = name, shutil.which(program) if program else None
 
+    def command(self, problem, folder):
+        """Writes the problem's files into a folder; the words that solve them."""
+        raise NotImplementedError
+
     def answer(self, run):
+        """What a run answered."""
         return self.answers.get(run.status, STOPPED)
 
 
 class Resolve(Solver):
+    """The program of this repository."""
+
     answers = {0: INSTALL, 1: REFUSED}
 
     def command(self, problem, folder):

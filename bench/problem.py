@@ -7,10 +7,13 @@ TOP = 1 << 32
 
 @dataclass
 class Rules:
+    """What a version needs and limits, or the request."""
+
     needs: list = field(default_factory=list)
     limits: list = field(default_factory=list)
 
     def lines(self):
+        """As our texts write them."""
         for alternatives, condition in self.needs:
             behind = f" if {spelled(condition)}" if condition else ""
             yield "needs " + " | ".join(spelled(spec) for spec in alternatives) + behind
@@ -19,6 +22,8 @@ class Rules:
 
 
 class Problem:
+    """Versions by their package and number, in the order of the text."""
+
     def __init__(self):
         self.rules = {}  # by version, which is a package and a number
         self.numbers = {}  # of each package, as listed
@@ -32,16 +37,20 @@ class Problem:
         self.numbers.setdefault(name, []).append(number)
 
     def ask(self, *alternatives, under=None):
+        """A need of the request."""
         self.asked.needs.append((list(alternatives), under))
 
     def usable(self, name, number):
+        """Whether no mark bars a version."""
         return (name, number) not in self.barred and self.locked.get(name, number) == number
 
     def matches(self, spec):
+        """The listed versions of a SPEC."""
         name, low, high = spec
         return [(name, number) for number in self.numbers.get(name, ()) if low <= number < high]
 
     def catalogue(self):
+        """Our text."""
         lines = []
         for (name, number), rules in self.rules.items():
             lines.append(f"version {name} {number}")
@@ -54,11 +63,13 @@ class Problem:
         return "".join(line + "\n" for line in lines)
 
     def request(self, with_wishes=True):
+        """Our text."""
         wishes = [f"wish {name} {number}" for name, number in self.wished if with_wishes]
         return "".join(line + "\n" for line in [*self.asked.lines(), *wishes])
 
 
 def spelled(spec):
+    """As our texts write a SPEC."""
     name, low, high = spec
     if (low, high) == (0, TOP):
         return name
@@ -66,10 +77,12 @@ def spelled(spec):
 
 
 def any_of(name):
+    """The SPEC of all versions."""
     return name, 0, TOP
 
 
 def one(name, number):
+    """The SPEC of one version."""
     return name, number, number + 1
 
 
@@ -92,9 +105,11 @@ class Clauses:
         self.add_rules(problem.asked, None)
 
     def add(self, *literals):
+        """A clause."""
         self.lines.append(" ".join(map(str, literals)) + " 0\n")
 
     def at_most_one(self, name, numbers):
+        """Each version has digits of its own, so no two are true."""
         digits = (len(numbers) - 1).bit_length()
         for place, number in enumerate(numbers):
             for digit in range(digits):
@@ -103,11 +118,13 @@ class Clauses:
         self.count += digits
 
     def matches(self, spec):
+        """The variables of a SPEC."""
         if spec not in self.met:
             self.met[spec] = [self.variable[version] for version in self.problem.matches(spec)]
         return self.met[spec]
 
     def add_rules(self, rules, owner):
+        """The clauses of a version, or of the request."""
         parent = [-self.variable[owner]] if owner else []
         for alternatives, condition in rules.needs:
             found = [literal for spec in alternatives for literal in self.matches(spec)]
@@ -119,6 +136,7 @@ class Clauses:
                     self.add(*parent, *([] if (name, number) == owner else [-self.variable[name, number]]))
 
     def text(self):
+        """The whole text."""
         return f"p cnf {self.count} {len(self.lines)}\n" + "".join(self.lines)
 
 

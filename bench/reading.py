@@ -106,6 +106,7 @@ def instructions(name, lines, commands):
 
 
 def main():
+    """Prints the tables."""
     here = os.path.dirname(os.path.abspath(__file__))
     program = sys.argv[1] if len(sys.argv) > 1 else os.path.join(here, "../crates/resolve/out/resolve")
     with tempfile.TemporaryDirectory() as folder:

@@ -16,9 +16,11 @@ class Written(Problem):
     texts = None
 
     def catalogue(self):
+        """With its dictionary."""
         return self.texts[0]
 
     def request(self, with_wishes=True):
+        """As the importer orders its lines."""
         lines = self.texts[1].splitlines(keepends=True)
         return "".join(line for line in lines if with_wishes or not line.startswith("wish "))
 
@@ -33,6 +35,7 @@ def universe():
 
 
 def alternatives_of(specs):
+    """SPECs with their bounds."""
     return [(spec.package, *spec.bounds()) for spec in specs]
 
 

@@ -75,6 +75,7 @@ def random_packages(versions):
 
 
 def chain(length, _seed):
+    """Each package needs the next."""
     p = Problem()
     for k in range(length):
         p.version(f"p{k}", 1, *([[any_of(f"p{k + 1}")]] if k + 1 < length else []))

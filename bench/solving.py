@@ -135,6 +135,7 @@ def table(head, rows):
 
 
 def shown(figure, digits=1):
+    """A figure, or nothing."""
     return "" if figure is None else f"{figure:.{digits}f}"
 
 
@@ -150,6 +151,7 @@ def seconds_of(row, name):
 
 
 def seconds_cells(row, before, names):
+    """A line of the first table."""
     name = f"{row.size}" + (f", seed {row.seed}" if len(row.shape.seeds) > 1 else "")
     told = [seconds_of(row, each) for each in names]
     return [row.shape.key, name, row.answers["resolve"], told[0], shown(growth(row, before)), *told[1:]]
@@ -189,6 +191,7 @@ def goals(shape, rows):
 
 
 def goal_rows(rows):
+    """The lines of the table of goals."""
     for shape in dict.fromkeys(row.shape for row in rows):
         for says, figure, met in goals(shape, [row for row in rows if row.shape is shape]):
             yield shape.key, says, figure, "yes" if met else "**no**"
@@ -211,6 +214,7 @@ def problems(options):
 
 
 def read_options():
+    """The command line."""
     read = argparse.ArgumentParser(description=__doc__, formatter_class=argparse.RawDescriptionHelpFormatter)
     read.add_argument("--program", default=os.path.join(HERE, "../crates/resolve/out/resolve"))
     read.add_argument("--pubgrub", help="a program that solves CATALOGUE REQUEST with PubGrub")
@@ -250,6 +254,7 @@ def measured(options, solvers):
 
 
 def main():
+    """Prints the tables; the status."""
     options = read_options()
     if options.list:
         print("\n".join(f"{shape.key}: {', '.join(map(str, shape.sizes))}" for shape in SHAPES))
