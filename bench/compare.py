@@ -2,8 +2,8 @@
 """Puts two outputs of bench/solving.py side by side: before and after a change.
 
 Usage: bench/compare.py BEFORE AFTER
-Either may be several outputs one after the other. Prints tables for docs/BENCHMARKS.md: seconds of `resolve` with their quotient, its ratio to each peer in its own run, and the goals.
-Seconds of two runs differ by what else the machine did, and ratios do less.
+Either may be several outputs one after the other. Prints tables for docs/BENCHMARKS.md: seconds of `resolve` with their quotient, its
+ratio to each peer in its own run, and the goals. Seconds of two runs differ by what else the machine did, and ratios do less.
 """
 import re
 import sys

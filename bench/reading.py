@@ -97,7 +97,7 @@ def row(name, commands):
 def instructions(name, lines, commands):
     """A line of the second table."""
     counts = []
-    for most in (SIZE // 16, SIZE // 8):
+    for most in (SIZE // 8, SIZE // 4):
         length = write(commands.catalogue, lines(), most)
         counts.append([length, *(measure.instructions(command) for command in (commands.awk, commands.read, commands.solve))])
     few, many = counts
