@@ -2,15 +2,15 @@
 """Judges long reports with `resolve judge`, and counts their lines and words with wc and awk in the same run.
 
 Usage: bench/judging.py [PATH OF THE PROGRAM]   (default: crates/resolve/out/resolve, which `rt run` leaves)
-Prints two tables for docs/BENCHMARKS.md: medians of five, processor seconds. This process itself, some 14 MB, is the least peak
-memory that is measured. Files are made anew in a temporary folder. The second table has reports in which single lines cost more
-than their bytes. Each shape has three sizes, each four times the one before.
+Prints tables for docs/BENCHMARKS.md: medians of five, processor seconds, peak memory beside the report's size, and instructions a
+line by valgrind's callgrind, if that is there. Files are made anew in a temporary folder. The second table has reports in which single
+lines cost more than their bytes. Each shape has three sizes, each four times the one before.
 """
 import os
-import statistics
-import subprocess
 import sys
 import tempfile
+
+import measure
 
 VERSIONS = 1000
 AWK = ["awk", "{n += NF} END {print n}"]
@@ -72,43 +72,68 @@ def gates(size):
 SHAPES = ((entries, 1000), (versions, 1000), (unnamed, 250), (gates, 500))
 
 
-def timed(command):
-    process = subprocess.Popen(command, stdout=subprocess.DEVNULL)
-    _, status, usage = os.wait4(process.pid, 0)
-    return usage.ru_utime + usage.ru_stime, usage.ru_maxrss * 1024, os.waitstatus_to_exitcode(status)
+def write(path, lines):
+    """Line by line."""
+    with open(path, "w") as out:
+        out.writelines(line + "\n" for line in lines)
 
 
-def median(command):
-    runs = [timed(command) for _ in range(5)]
-    return statistics.median(r[0] for r in runs), max(r[1] for r in runs), runs[0][2]
+def long_reports(program, paths):
+    """The table of reports of three lengths."""
+    print("| steps | bytes | judge, s | wc -l, s | awk, s | judge / wc | judge / awk | memory, MB | memory / report | status |")
+    print("|---|---|---|---|---|---|---|---|---|---|")
+    for path, text in zip(paths, texts()):
+        with open(path, "w") as out:
+            out.write(text)
+    for steps in (10_000, 100_000, 1_000_000):
+        write(paths[2], report(steps))
+        size = os.path.getsize(paths[2])
+        own = measure.median([program, "judge", *paths])
+        lines, words = (measure.median([*command, paths[2]]).seconds for command in (["wc", "-l"], AWK))
+        ratios = f"{own.seconds / max(lines, 0.001):.0f} | {own.seconds / max(words, 0.001):.2f}"
+        memory = f"{own.memory / 1e6:.1f} | {own.memory / size:.2f}"
+        print(f"| {steps:,} | {size} | {own.seconds:.3f} | {lines:.3f} | {words:.3f} | {ratios} | {memory} | {own.status} |", flush=True)
+
+
+def dear_lines(program, paths):
+    """The table of reports whose lines cost more than their bytes."""
+    print("\n| shape | size | report, bytes | judge, s | memory, MB | status |\n|---|---|---|---|---|---|")
+    for shape, least in SHAPES:
+        for size in (least, 4 * least, 16 * least):
+            for path, lines in zip(paths, shape(size)):
+                write(path, lines)
+            own = measure.median([program, "judge", *paths])
+            bytes_of = os.path.getsize(paths[2])
+            print(f"| {shape.__name__} | {size} | {bytes_of} | {own.seconds:.3f} | {own.memory / 1e6:.0f} | {own.status} |", flush=True)
+
+
+def instructions(program, paths):
+    """The instructions that a derived step costs: the difference of two lengths, over as many lines."""
+    for path, text in zip(paths, texts()):
+        with open(path, "w") as out:
+            out.write(text)
+    counts = {"judge": [], "awk": []}
+    for steps in (20_000, 40_000):
+        write(paths[2], report(steps))
+        counts["judge"].append(measure.instructions([program, "judge", *paths]))
+        counts["awk"].append(measure.instructions([*AWK, paths[2]]))
+    print("\n| | instructions a line |\n|---|---|")
+    for name, (few, many) in counts.items():
+        print(f"| {name} | {(many - few) / 20_000:,.0f} |")
 
 
 def main():
+    """Prints the tables."""
     here = os.path.dirname(os.path.abspath(__file__))
     program = sys.argv[1] if len(sys.argv) > 1 else os.path.join(here, "../crates/resolve/out/resolve")
-    print("| steps | bytes | judge, s | wc -l, s | awk, s | judge / wc | judge / awk | peak memory / report | status |")
-    print("|---|---|---|---|---|---|---|---|---|")
     with tempfile.TemporaryDirectory() as folder:
         paths = [os.path.join(folder, part) for part in ("catalogue", "request", "report")]
-        for path, text in zip(paths, texts()):
-            open(path, "w").write(text)
-        for steps in (10_000, 100_000, 1_000_000):
-            # line by line, since a child's peak memory counts that of this process as it starts
-            with open(paths[2], "w") as out:
-                out.writelines(line + "\n" for line in report(steps))
-            size = os.path.getsize(paths[2])
-            own, memory, status = median([program, "judge", *paths])
-            lines, words = median(["wc", "-l", paths[2]])[0], median(AWK + [paths[2]])[0]
-            print(f"| {steps} | {size} | {own:.2f} | {lines:.3f} | {words:.2f} | {own / max(lines, 0.001):.0f} | {own / words:.1f} | {memory / size:.1f} | {status} |")
-        print()
-        print("| shape | size | report, bytes | judge, s | memory, MB | status |")
-        print("|---|---|---|---|---|---|")
-        for shape, least in SHAPES:
-            for size in (least, 4 * least, 16 * least):
-                for path, lines in zip(paths, shape(size)):
-                    open(path, "w").write("\n".join(lines) + "\n")
-                own, memory, status = median([program, "judge", *paths])
-                print(f"| {shape.__name__} | {size} | {os.path.getsize(paths[2])} | {own:.2f} | {memory / 1e6:.0f} | {status} |")
+        long_reports(program, paths)
+        dear_lines(program, paths)
+        if measure.VALGRIND:
+            instructions(program, paths)
+        else:
+            print("\n(valgrind isn't there: no instructions)")
 
 
 if __name__ == "__main__":

@@ -1,34 +1,32 @@
 #!/usr/bin/env python3
-"""Reads big catalogues with awk, with a program that only reads them, and with `resolve solve`, in one run: median of five, and
-peak memory.
+"""Reads big catalogues with awk and with `resolve solve`, in one run: medians of five, processor seconds, and peak memory.
 
 Usage: bench/reading.py [PATH OF THE PROGRAM]   (default: crates/resolve/out/resolve, which `rt run` leaves)
-The program that only reads is that of bench/reader.py, which is proved and built first. Prints a table for
-docs/BENCHMARKS.md. Files are made anew in a temporary folder from a fixed seed.
+With a request that is faulty the program reads the catalogue, and says so: that is the time of reading. With an empty request it makes
+the provider too. Prints tables for docs/BENCHMARKS.md, the second one with instructions a line by valgrind's callgrind, if that is there:
+the difference of two lengths, over as many lines. Files are made anew in a temporary folder from a fixed seed.
 """
 import os
 import random
-import resource
-import statistics
-import subprocess
 import sys
 import tempfile
-import time
 
-import reader
+import measure
 
 SIZE = 16_000_000
 AWK = ["awk", "{n[$2]++} END {print length(n)}"]
 
 
-def write(path, lines):
-    size = 0
+def write(path, lines, most):
+    """Writes at most so many bytes; how many lines these are."""
+    size = count = 0
     with open(path, "w") as out:
         for line in lines:
             size += len(line) + 1
-            if size > SIZE:
-                break
+            if size > most:
+                return count
             out.write(line + "\n")
+            count += 1
 
 
 def many_packages():
@@ -51,7 +49,7 @@ def one_package():
 def mixed():
     """Versions with needs, limits and conditions; a favour, a lock or an exclusion now and then."""
     rng = random.Random(7)
-    favoured, package = set(), 0
+    package = 0
     while True:
         package += 1
         for number in range(1, 6):
@@ -70,43 +68,61 @@ def mixed():
             yield f"exclude p{package} {rng.randrange(1, 6)} old"
 
 
-def timed(command):
-    """Processor seconds, and the most memory in bytes, of one run of the command in a process of its own."""
-    start = time.monotonic()
-    process = subprocess.Popen(command, stdout=subprocess.DEVNULL)
-    _, status, usage = os.wait4(process.pid, 0)
-    process.returncode = os.waitstatus_to_exitcode(status)
-    return usage.ru_utime + usage.ru_stime, time.monotonic() - start, usage.ru_maxrss * 1024, process.returncode
+CATALOGUES = (("100,000 packages", many_packages), ("one package", one_package), ("mixed", mixed))
 
 
-def median(command):
-    runs = [timed(command) for _ in range(5)]
-    return statistics.median(r[0] for r in runs), statistics.median(r[1] for r in runs), max(r[2] for r in runs), runs[0][3]
+class Commands:
+    """What is measured over a catalogue."""
+
+    def __init__(self, program, folder):
+        self.catalogue = os.path.join(folder, "catalogue")
+        faulty, empty = os.path.join(folder, "faulty"), os.path.join(folder, "empty")
+        with open(faulty, "w") as out, open(empty, "w"):
+            out.write("no such line\n")
+        self.awk = [*AWK, self.catalogue]
+        self.read = [program, "solve", self.catalogue, faulty]
+        self.solve = [program, "solve", self.catalogue, empty]
 
 
-def row(name, path, proved, solver, request):
-    """A line of the table."""
-    size = os.path.getsize(path)
-    awk, alone, solved = median(AWK + [path]), median([proved, path]), median([solver, "solve", path, request])
-    parts = [name, size, f"{awk[0]:.2f}"]
-    for run in (alone, solved):
-        parts += [f"{run[0]:.2f}", f"{run[0] / awk[0]:.2f}", f"{run[2] / size:.1f}", run[3]]
+def row(name, commands):
+    """A line of the first table."""
+    size = os.path.getsize(commands.catalogue)
+    awk, alone, both = (measure.median(command) for command in (commands.awk, commands.read, commands.solve))
+    parts = [name, size, f"{awk.seconds:.2f}"]
+    for run in (alone, both):
+        parts += [f"{run.seconds:.2f}", f"{run.seconds / awk.seconds:.2f}", f"{run.memory / size:.1f}", run.status]
     return "| " + " | ".join(str(part) for part in parts) + " |"
 
 
+def instructions(name, lines, commands):
+    """A line of the second table."""
+    counts = []
+    for most in (SIZE // 8, SIZE // 4):
+        length = write(commands.catalogue, lines(), most)
+        counts.append([length, *(measure.instructions(command) for command in (commands.awk, commands.read, commands.solve))])
+    few, many = counts
+    each = [(b - a) / (many[0] - few[0]) for a, b in zip(few[1:], many[1:])]
+    return f"| {name} | " + " | ".join(f"{count:,.0f}" for count in each) + " |"
+
+
 def main():
+    """Prints the tables."""
     here = os.path.dirname(os.path.abspath(__file__))
-    solver = sys.argv[1] if len(sys.argv) > 1 else os.path.join(here, "../crates/resolve/out/resolve")
+    program = sys.argv[1] if len(sys.argv) > 1 else os.path.join(here, "../crates/resolve/out/resolve")
     with tempfile.TemporaryDirectory() as folder:
-        proved = reader.build(folder)
-        request = os.path.join(folder, "request")
-        open(request, "w").close()
-        print("| catalogue | bytes | awk, s | reading, s | / awk | memory / text | status | `solve`, s | / awk | memory / text | status |")
-        print("|---|---|---|---|---|---|---|---|---|---|---|")
-        for name, lines in [("100,000 packages", many_packages()), ("one package", one_package()), ("mixed", mixed())]:
-            path = os.path.join(folder, "catalogue")
-            write(path, lines)
-            print(row(name, path, proved, solver, request))
+        commands = Commands(program, folder)
+        own = "/ awk | memory / text | status"
+        print(f"| catalogue | bytes | awk, s | reading, s | {own} | and provider, s | {own} |")
+        print("|" + "---|" * 11)
+        for name, lines in CATALOGUES:
+            write(commands.catalogue, lines(), SIZE)
+            print(row(name, commands), flush=True)
+        if not measure.VALGRIND:
+            print("\n(valgrind isn't there: no instructions)")
+            return
+        print("\n| instructions a line | awk | reading | and provider |\n|---|---|---|---|")
+        for name, lines in CATALOGUES:
+            print(instructions(name, lines, commands), flush=True)
 
 
 if __name__ == "__main__":
