@@ -173,8 +173,8 @@ fn owners(rt: HostRuntime) -> Result<(), Fail> {
     Ok(())
 }
 
-/// Lines of this catalogue, sets, and whether they are kept: a need in case of `q`, limits, a lock,
-/// an exclusion, an unknown version.
+/// Lines of this catalogue, sets, and whether they are kept: a need in case of `q`, limits, a lock, an exclusion,
+/// an unknown version.
 const RULES: &str =
     "version p 1\nneeds c if q\nversion q 1\nversion c 1\nlimits p 1..2\nversion p 2\nlock p 2\nexclude q 1 old\nunknown gone";
 

@@ -226,8 +226,7 @@ enum StepRow {
     Derived(usize),
 }
 
-/// Steps, the places that are wanted, the steps that stay, and for each old place how many stay
-/// before it.
+/// Steps, the places that are wanted, the steps that stay, and for each old place how many stay before it.
 struct Trim {
     steps: &'static [StepRow],
     wanted: &'static [usize],
@@ -246,8 +245,8 @@ const SEVERAL: &[StepRow] = &[
     StepRow::Derived(0),
 ];
 
-/// Two steps are wanted, and a place that has none: they stay with their causes. A wanted step
-/// leads to another one, and is kept once. Where none is wanted, none is kept.
+/// Two steps are wanted, and a place that has none: they stay with their causes. A wanted step leads to another one, and
+/// is kept once. Where none is wanted, none is kept.
 static TRIMS: [Trim; 3] = [
     Trim {
         steps: SEVERAL,

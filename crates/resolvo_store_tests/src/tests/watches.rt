@@ -64,8 +64,8 @@ fn begin_three(map: &mut WatchMap, clauses: &mut Vec<Option<WatchedLiterals>>) -
     )
 }
 
-/// The numbers of the clauses that a walk over the literal of variable 1 meets, and of those that
-/// one over another literal meets then.
+/// The numbers of the clauses that a walk over the literal of variable 1 meets, and of those that one
+/// over another literal meets then.
 fn walk_both(
     alloc: Global,
     map: &mut WatchMap,
