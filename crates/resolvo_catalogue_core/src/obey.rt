@@ -46,7 +46,6 @@ fn is_met(spec: &Spec, versions: &[(String, u32)], set: &[VersionNo]) -> bool
     any_matches(spec, versions, set)
 }
 
-// one of four such bodies, each over its own form of a set (docs/DECISIONS.md)
 fn holds(condition: &Cond, versions: &[(String, u32)], set: &[VersionNo]) -> bool
     ensures { result ≡ holds (cond_of condition.now) (members (pair_versions versions.now) set.now) }
 {

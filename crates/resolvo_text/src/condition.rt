@@ -196,7 +196,6 @@ fn lone_at(alloc: Global, room: u32, words: &[u8]) -> Result<(Cond, u32, &[u8]),
 }
 
 /// Whether the condition holds in the set.
-// one of four such bodies, each over its own form of a set (docs/DECISIONS.md)
 pub fn holds(condition: &Cond, set: &[Version]) -> bool
     ensures { result ≡ holds (cond_of condition.now) (set_of set.now) }
 {
