@@ -22,10 +22,10 @@ Alternatives = tuple[Spec, ...]
 class Options:
     """Where the search may go another way; the defaults are the rules."""
 
-    # What the program does against the rules.
+    # What a program might do, and this one did.
     pending: bool = False  # new clauses wait for the next propagation, which doesn't begin at the trail's front
-    pending_turned: bool = False  # those that wait behind a falsified clause are turned round at each propagation
     unit_locks: bool = False  # a lock is `not other`, without the root
+    # What the program does against the rules.
     parent_by_parent: bool = False  # a parent is encoded to its end, a package forbidden just before its own need
     cases_later: bool = False  # cases become clauses once no chosen version is left to encode
     root_stays: bool = False  # the root's turn is begun again without undoing what level 1 has
@@ -48,7 +48,7 @@ class Options:
 
 
 PROGRAM = Options(
-    pending=True, pending_turned=True, unit_locks=True, parent_by_parent=True, cases_later=True, root_stays=True,
+    parent_by_parent=True, cases_later=True, root_stays=True,
     flat_cases=True, defer_all=True, false_wishes=True, void_cases=True, set_at_once=False,
     restart_after_encoding=False, digits_last=False, root_in_learnt=False, as_met=False,
 )

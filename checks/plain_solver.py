@@ -135,20 +135,15 @@ class Solver:
                 self.note_guard(literal, other)
         return None
 
-    # -- clauses that wait (the program's way)
+    # -- clauses that wait (another way)
 
     def attach_pending(self) -> Optional[Clause]:
         """Lets the clauses that wait watch, in the order of their arrival, and sets what they say; the first falsified one
         ends it."""
-        if not self.options.pending_turned:
-            waiting, self.pending = self.pending, []
-        else:
-            # the list is turned round as it is, so those that a falsified clause left over come newest first
-            waiting, self.pending = list(self.pending), []
+        waiting, self.pending = self.pending, []
         for place, clause in enumerate(waiting):
             if not self.attach(clause):
-                left = waiting[place:]
-                self.pending = left[::-1] if self.options.pending_turned else left
+                self.pending = waiting[place:]
                 return clause
         return None
 
