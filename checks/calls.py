@@ -1,5 +1,5 @@
 #!/usr/bin/env python3
-"""Runs calls of the libraries that no row and no test of the gate makes, without proofs: the tests of checks/calls.
+"""Runs calls of the libraries without proofs: the tests of checks/calls. No row and no test of the gate makes them, or a contract promises their answers.
 
 Usage: checks/calls.py [RT]     (default: `rt`)
 It makes a copy of the repository with the folder as one more crate, and runs `rt try --test` in it. Status 1 where a test fails.
@@ -11,8 +11,8 @@ import sys
 import tempfile
 
 TOP = os.path.dirname(os.path.dirname(os.path.abspath(__file__)))
-LIBRARIES = ("resolvo_pool_core resolvo_pool resolvo_store_core resolvo_store resolvo_packages resolvo_turn resolvo "
-             "resolvo_catalogue_core resolvo_catalogue")
+LIBRARIES = ("resolvo_pool_core resolvo_pool resolvo_store_core resolvo_store resolvo_packages resolvo_turn resolvo_proof resolvo "
+             "resolvo_text resolvo_catalogue_core resolvo_catalogue resolvo_judge")
 
 
 def copy_with(folder, name, source, libraries):

@@ -1,12 +1,6 @@
-//! Beyond the clauses: each call succeeds with ample memory, and the worked examples; the clauses
-//! of registered solvables; learnt clauses and trimmed proofs. Lists of store calls are rows of
-//! `resolvo_store_rows`.
+//! Searches over a few clauses, and the steps of their proofs. What a contract promises exactly is in
+//! `checks/calls.py`: the trail, the pick, walks, clauses as literals and texts, and trimmed proofs.
 
-mod clauses;
-mod names;
-mod pick;
 mod registry;
 mod steps;
-mod tracker;
-mod trail;
-mod watches;
+mod variables;

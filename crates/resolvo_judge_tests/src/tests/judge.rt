@@ -1,4 +1,4 @@
-//! The judge: its counts of clauses, its second answer, and readers that fail.
+//! The judge: its counts of clauses, and readers that fail.
 
 mod devices;
 mod steps;
@@ -6,7 +6,7 @@ mod steps;
 ghost use Rattle.std.specs.Prelude.{◌<◌};
 
 use resolvo_catalogue::{Catalogue, MemorySource, ReadFault, Request};
-use resolvo_judge::{Verdict, judge, judge_counted};
+use resolvo_judge::{Verdict, judge_counted};
 use std::alloc::Global;
 use std::process::Abort;
 use std::test::Fail;
@@ -57,22 +57,5 @@ fn clauses_are_counted(rt: HostRuntime) -> Result<(), Fail> {
     let catalogue = catalogue_of(rt.alloc(), CHAIN)?;
     let request = request_of(rt.alloc(), "needs p\n", &catalogue)?;
     counts_clauses(&rt, rt.alloc(), &catalogue, &request);
-    Ok(())
-}
-
-/// The verdict on the proof, of a judge that doesn't count.
-fn plain_verdict(alloc: Global, catalogue: &Catalogue, request: &Request) -> Option<Verdict> {
-    let mut report = MemorySource::new(PROOF.as_bytes(), 4096);
-    judge(alloc, catalogue, request, &mut report).ok()
-}
-
-/// `judge` answers the same as `judge_counted`, and the same again.
-#[test]
-fn twice(rt: HostRuntime) -> Result<(), Fail> {
-    let catalogue = catalogue_of(rt.alloc(), CHAIN)?;
-    let request = request_of(rt.alloc(), "needs p\n", &catalogue)?;
-    let first = plain_verdict(rt.alloc(), &catalogue, &request);
-    let second = plain_verdict(rt.alloc(), &catalogue, &request);
-    assert_eq!(rt; (first, second), (Some(Verdict::Yes), Some(Verdict::Yes)));
     Ok(())
 }

@@ -1,15 +1,11 @@
-//! Lines of texts, devices over memory, conditions and their meaning.
+//! Lines of texts, and devices over memory.
 
 ghost use Rattle.std.specs.Prelude.{◌<◌};
 
 use resolvo_catalogue::{
-    Cond, Counted, IoFault, LineReader, MemorySink, MemorySource, ReadFault, Sink, Source, Span,
-    Spec, Version,
+    Counted, IoFault, LineReader, MemorySink, MemorySource, ReadFault, Sink, Source,
 };
-use resolvo_text::{
-    Line, LineFault, cases_in, holds, is_in_span, is_member, is_met, is_met_by_one, line_in,
-    matches, write_all,
-};
+use resolvo_text::write_all;
 use std::alloc::{AllocError, Global};
 use std::io::{ErrorKind, Read, Write};
 use std::test::Fail;
@@ -171,107 +167,5 @@ fn counted(rt: HostRuntime) -> Result<(), Fail> {
         kind: ErrorKind::Interrupted,
     });
     assert_eq!(rt; interrupted.read(&mut buf), Err(IoFault::Interrupted));
-    Ok(())
-}
-
-/// The condition that the text spells.
-fn condition_of(alloc: Global, text: &str) -> Result<Option<Cond>, LineFault> {
-    let line = format!(in alloc; "needs x if {text}")?;
-    match line_in(alloc, line.as_bytes())? {
-        Line::Needs { condition, .. } => Ok(condition),
-        _ => Ok(None),
-    }
-}
-
-/// The cases of a condition: names parted by spaces, cases by `;`.
-fn shown_cases(alloc: Global, text: &str) -> Result<String, LineFault> {
-    let mut shown = String::new(alloc);
-    let Some(condition) = condition_of(alloc, text)? else {
-        return Ok(shown);
-    };
-    for case in &cases_in(alloc, &condition)? {
-        for spec in case {
-            shown.push_str(&spec.name)?;
-            shown.push(' ')?;
-        }
-        shown.push(';')?;
-    }
-    Ok(shown)
-}
-
-#[test]
-fn cases(rt: HostRuntime) -> Result<(), Fail> {
-    for (text, shown) in &[
-        ("a or b and c", "a ;b c ;"),
-        ("( a or b ) and ( c or d )", "a c ;a d ;b c ;b d ;"),
-        ("a and b or c and d", "a b ;c d ;"),
-        ("a and ( b or c ) and d", "a b d ;a c d ;"),
-    ] {
-        let all = shown_cases(rt.alloc(), text)?;
-        assert_eq!(rt; all.as_str(), *shown, "{text}");
-    }
-    Ok(())
-}
-
-/// Version 1 of each package that a letter names.
-fn versions(alloc: Global, names: &str) -> Result<Vec<Version>, Fail> {
-    let mut all = Vec::new(alloc);
-    for name in names.chars() {
-        let name = format!(in alloc; "{name}")?;
-        all.push(Version { name, number: 1 })?;
-    }
-    Ok(all)
-}
-
-/// Whether the condition that a text spells holds in a set of these packages.
-fn holds_in(alloc: Global, text: &str, names: &str) -> Result<bool, Fail> {
-    let condition = condition_of(alloc, text)?.ok_or("no condition")?;
-    Ok(holds(&condition, &versions(alloc, names)?))
-}
-
-#[test]
-fn meaning(rt: HostRuntime) -> Result<(), Fail> {
-    for (text, names, holding) in &[
-        ("a or b and c", "a", true),
-        ("a or b and c", "b", false),
-        ("a or b and c", "bc", true),
-        ("( a or b ) and c", "a", false),
-        ("( a or b ) and c", "ac", true),
-        ("a 2", "a", false),
-        ("a 0..2", "a", true),
-        ("a 0..1", "a", false),
-    ] {
-        let found = holds_in(rt.alloc(), text, names)?;
-        assert_eq!(rt; found, *holding, "{text} in {names}");
-    }
-    Ok(())
-}
-
-/// The SPEC `a 1..2` and the version `a 1`.
-fn spec_and_version(alloc: Global) -> Result<(Spec, Version), AllocError> {
-    let spec = Spec {
-        name: String::from_str(alloc, "a")?,
-        span: Span::Range(1, 2),
-    };
-    let version = Version {
-        name: spec.name.clone()?,
-        number: 1,
-    };
-    Ok((spec, version))
-}
-
-/// Whether a SPEC matches a version, which is a member of a set, and so does their copy.
-fn are_met((spec, version): &(Spec, Version), set: &[Version]) -> Result<bool, AllocError> {
-    let alternatives = [spec.copy()?];
-    let met = is_met(spec, set) && is_met_by_one(&alternatives, set);
-    let matched = matches(spec, version) && is_member(version, set);
-    Ok(met && matched && !is_met_by_one(&[], set) && !is_member(&version.copy()?, &[]))
-}
-
-#[test]
-fn matches_and_members(rt: HostRuntime) -> Result<(), Fail> {
-    let asked = spec_and_version(rt.alloc())?;
-    assert!(rt; is_in_span(asked.0.span, 1) && !is_in_span(asked.0.span, 2));
-    assert!(rt; are_met(&asked, &versions(rt.alloc(), "ab")?)?);
     Ok(())
 }

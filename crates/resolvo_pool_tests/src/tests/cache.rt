@@ -6,14 +6,6 @@ use resolvo_pool::{
     VersionSetId, VersionSetUnionId,
 };
 use std::alloc::Global;
-use std::process::Abort;
-use std::test::Fail;
-
-/// A cache over a provider that cancels at this test, or never.
-fn cache(alloc: Global, cancels_at: u32) -> R<SolverCache<Tens>> {
-    let provider = small_provider(alloc, Some(SolvableId::from_raw(1)), cancels_at)?;
-    Ok(SolverCache::new(alloc, provider))
-}
 
 /// Whether these are the solvables.
 fn are(list: &[SolvableId], want: &[u32]) -> bool {
@@ -69,77 +61,112 @@ fn cancelled(cache: &mut SolverCache<Tens>, set: u32) -> Option<u32> {
     }
 }
 
-fn gives_lists(rt: &impl Abort, cache: &mut SolverCache<Tens>) {
-    assert!(rt; matching(cache, 1, &[1, 2]));
-    assert!(rt; others(cache, 1, &[0]));
-    assert!(rt; sorted(cache, Requirement::from(VersionSetId(1)), &[1, 2]));
-    assert!(rt; sorted_alone(cache, 11, &[12, 11]));
-    let asked = cache.provider().asked.get();
-    assert!(rt; others(cache, 1, &[0]));
-    assert!(rt; sorted(cache, Requirement::from(VersionSetId(1)), &[1, 2]));
-    assert!(rt; sorted_alone(cache, 1, &[1, 2]));
-    assert!(rt; sorted_alone(cache, 11, &[12, 11]));
-    assert_eq!(rt; cache.provider().asked.get(), asked);
+fn has_dependencies(cache: &SolverCache<Tens>, solvable: u32) -> bool {
+    cache.are_dependencies_available_for(SolvableId::from_raw(solvable))
 }
 
-#[test]
-fn lists_of_a_version_set(rt: HostRuntime) -> Result<(), Fail> {
-    gives_lists(&rt, &mut cache(rt.alloc(), 0)?);
-    Ok(())
+/// How often the provider was asked.
+fn asked(cache: &SolverCache<Tens>) -> u32 {
+    cache.provider().asked.get()
 }
 
-fn gives_union(rt: &impl Abort, cache: &mut SolverCache<Tens>) {
+fn gives_lists(cache: &mut SolverCache<Tens>) -> bool {
+    matching(cache, 1, &[1, 2])
+        && others(cache, 1, &[0])
+        && sorted(cache, Requirement::from(VersionSetId(1)), &[1, 2])
+        && sorted_alone(cache, 11, &[12, 11])
+}
+
+/// Lists that were given are given again, and nothing is asked.
+fn gives_lists_again(cache: &mut SolverCache<Tens>) -> bool {
+    let before = asked(cache);
+    others(cache, 1, &[0])
+        && sorted(cache, Requirement::from(VersionSetId(1)), &[1, 2])
+        && sorted_alone(cache, 1, &[1, 2])
+        && sorted_alone(cache, 11, &[12, 11])
+        && asked(cache) == before
+}
+
+fn gives_union(cache: &mut SolverCache<Tens>) -> bool {
     let union = Requirement::from(VersionSetUnionId(0));
-    assert!(rt; sorted(cache, union, &[22, 21, 1, 2]));
-    assert!(rt; sorted(cache, union, &[22, 21, 1, 2]));
-    assert!(rt; candidates(cache, 7, &[]));
+    sorted(cache, union, &[22, 21, 1, 2])
+        && sorted(cache, union, &[22, 21, 1, 2])
+        && candidates(cache, 7, &[])
+}
+
+fn hints_dependencies(cache: &mut SolverCache<Tens>) -> bool {
+    !has_dependencies(cache, 12)
+        && candidates(cache, 1, &[10, 11, 12])
+        && has_dependencies(cache, 12)
+        && !has_dependencies(cache, 13)
+}
+
+fn asks_once(cache: &mut SolverCache<Tens>) -> bool {
+    reason(cache, 12) == Some(StringId(0))
+        && reason(cache, 12) == Some(StringId(0))
+        && reason(cache, 11) == None
+        && asked(cache) == 2
+        && has_dependencies(cache, 11)
+}
+
+/// Where the third question is cancelled, what was cached before is still there, and nothing is asked.
+fn keeps_answers(cache: &mut SolverCache<Tens>) -> bool {
+    let kept = matching(cache, 1, &[1, 2])
+        && matching(cache, 11, &[11, 12])
+        && cancelled(cache, 21) == Some(3);
+    let before = asked(cache);
+    kept && matching(cache, 1, &[1, 2]) && asked(cache) == before && matching(cache, 21, &[21, 22])
+}
+
+/// What a cache is asked for.
+#[derive(Clone, Copy)]
+enum Wanted {
+    Lists,
+    Union,
+    Hints,
+    Dependencies,
+    KeptAnswers,
+}
+
+fn answers(cache: &mut SolverCache<Tens>, wanted: Wanted) -> bool {
+    match wanted {
+        Wanted::Lists => gives_lists(cache) && gives_lists_again(cache),
+        Wanted::Union => gives_union(cache),
+        Wanted::Hints => hints_dependencies(cache),
+        Wanted::Dependencies => asks_once(cache),
+        Wanted::KeptAnswers => keeps_answers(cache),
+    }
+}
+
+/// The answers of a cache over a provider that cancels at this test, or never.
+fn answers_of(alloc: Global, cancels_at: u32, wanted: Wanted) -> R<bool> {
+    match small_provider(alloc, Some(SolvableId::from_raw(1)), cancels_at) {
+        Ok(provider) => Ok(answers(&mut SolverCache::new(alloc, provider), wanted)),
+        Err(want) => Err(want),
+    }
 }
 
 #[test]
-fn lists_of_a_union(rt: HostRuntime) -> Result<(), Fail> {
-    gives_union(&rt, &mut cache(rt.alloc(), 0)?);
-    Ok(())
-}
-
-fn has_dependencies(rt: &impl Abort, cache: &mut SolverCache<Tens>) {
-    assert!(rt; !cache.are_dependencies_available_for(SolvableId::from_raw(12)));
-    assert!(rt; candidates(cache, 1, &[10, 11, 12]));
-    assert!(rt; cache.are_dependencies_available_for(SolvableId::from_raw(12)));
-    assert!(rt; !cache.are_dependencies_available_for(SolvableId::from_raw(13)));
+fn lists_of_a_version_set(rt: HostRuntime) {
+    assert_eq!(rt; answers_of(rt.alloc(), 0, Wanted::Lists), Ok(true));
 }
 
 #[test]
-fn dependencies_at_hand(rt: HostRuntime) -> Result<(), Fail> {
-    has_dependencies(&rt, &mut cache(rt.alloc(), 0)?);
-    Ok(())
-}
-
-fn asks_once(rt: &impl Abort, cache: &mut SolverCache<Tens>) {
-    assert_eq!(rt; reason(cache, 12), Some(StringId(0)));
-    assert_eq!(rt; reason(cache, 12), Some(StringId(0)));
-    assert_eq!(rt; reason(cache, 11), None);
-    assert_eq!(rt; cache.provider().asked.get(), 2);
-    assert!(rt; cache.are_dependencies_available_for(SolvableId::from_raw(11)));
+fn lists_of_a_union(rt: HostRuntime) {
+    assert_eq!(rt; answers_of(rt.alloc(), 0, Wanted::Union), Ok(true));
 }
 
 #[test]
-fn dependencies_asked_once(rt: HostRuntime) -> Result<(), Fail> {
-    asks_once(&rt, &mut cache(rt.alloc(), 0)?);
-    Ok(())
-}
-
-fn keeps_answers(rt: &impl Abort, cache: &mut SolverCache<Tens>) {
-    assert!(rt; matching(cache, 1, &[1, 2]));
-    assert!(rt; matching(cache, 11, &[11, 12]));
-    assert_eq!(rt; cancelled(cache, 21), Some(3));
-    let asked = cache.provider().asked.get();
-    assert!(rt; matching(cache, 1, &[1, 2]));
-    assert_eq!(rt; cache.provider().asked.get(), asked);
-    assert!(rt; matching(cache, 21, &[21, 22]));
+fn dependencies_at_hand(rt: HostRuntime) {
+    assert_eq!(rt; answers_of(rt.alloc(), 0, Wanted::Hints), Ok(true));
 }
 
 #[test]
-fn third_question_cancelled(rt: HostRuntime) -> Result<(), Fail> {
-    keeps_answers(&rt, &mut cache(rt.alloc(), 3)?);
-    Ok(())
+fn dependencies_asked_once(rt: HostRuntime) {
+    assert_eq!(rt; answers_of(rt.alloc(), 0, Wanted::Dependencies), Ok(true));
+}
+
+#[test]
+fn third_question_cancelled(rt: HostRuntime) {
+    assert_eq!(rt; answers_of(rt.alloc(), 3, Wanted::KeptAnswers), Ok(true));
 }

@@ -1,10 +1,10 @@
-//! Steps that are checked by themselves: over all lines, or over those that a report names.
+//! Steps that are checked by themselves.
 
 use super::{catalogue_of, request_of};
-use resolvo_catalogue::{Catalogue, MemorySource, Request, Version};
+use resolvo_catalogue::{Catalogue, Request, Version};
 use resolvo_judge::{
-    Atom, Literal, Premises, Report, Step, accepted_install_is_true, accepted_refusal_is_true,
-    check_steps, count_causes, places_are_one, proof_forbids, proof_refutes, steps_are_true,
+    Atom, Literal, Premises, Step, accepted_install_is_true, accepted_refusal_is_true, check_steps,
+    count_causes, places_are_one, proof_forbids, proof_refutes, steps_are_true,
     upheld_texts_are_refused_nowhere,
 };
 use std::alloc::{AllocError, Global};
@@ -58,57 +58,6 @@ fn a_clause_with_both_literals(rt: HostRuntime) -> Result<(), Fail> {
     let steps = steps_with_both(rt.alloc())?;
     let found = found_of(rt.alloc(), &texts, &Premises::All, &steps)?;
     assert_eq!(rt; found, Some((None, 1, 1)));
-    Ok(())
-}
-
-/// The lines of the catalogue that are named, and the first line of the request.
-fn named(alloc: Global, catalogue: &[bool]) -> Result<Premises, AllocError> {
-    Ok(Premises::Named {
-        catalogue: Vec::from_slice(alloc, catalogue)?,
-        request: Vec::from_slice(alloc, &[false, true])?,
-    })
-}
-
-/// The check of the proof's steps, where these lines of the catalogue are named.
-fn found_where_named(
-    alloc: Global,
-    texts: &(Catalogue, Request),
-    report: &Report,
-    lines: &[bool],
-) -> Result<Option<Found>, AllocError> {
-    match report {
-        Report::Refused { steps, .. } => found_of(alloc, texts, &named(alloc, lines)?, steps),
-        Report::Install { .. } => Ok(None),
-    }
-}
-
-fn proof(alloc: Global) -> Option<Report> {
-    Report::read(alloc, &mut MemorySource::new(super::PROOF.as_bytes(), 4096)).ok()
-}
-
-/// The first wrong step of the proof, where these lines of the catalogue are named.
-fn wrong_where_named(
-    alloc: Global,
-    texts: &(Catalogue, Request),
-    lines: &[bool],
-) -> Result<Option<Option<usize>>, AllocError> {
-    let Some(report) = proof(alloc) else {
-        return Ok(None);
-    };
-    Ok(found_where_named(alloc, texts, &report, lines)?.map(|found| found.0))
-}
-
-/// The fourth step uses a line that isn't named.
-#[test]
-fn named_lines(rt: HostRuntime) -> Result<(), Fail> {
-    let texts = texts(rt.alloc(), super::CHAIN, "needs p\n")?;
-    for (lines, wrong) in &[
-        ([false, false, true, true].as_slice(), None),
-        ([false, false, true].as_slice(), Some(3usize)),
-    ] {
-        let found = wrong_where_named(rt.alloc(), &texts, lines)?;
-        assert_eq!(rt; found, Some(*wrong));
-    }
     Ok(())
 }
 
