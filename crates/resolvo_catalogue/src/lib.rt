@@ -3,6 +3,7 @@
 
 mod candidate_flags;
 mod dependencies;
+mod guesses;
 mod id_table;
 pub mod impls;
 pub mod provider;
