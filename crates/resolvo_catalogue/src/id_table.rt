@@ -3,7 +3,7 @@
 //! each id. Ids are found through sorted maps, so no choice of names or numbers makes that slow.
 //! Filled by `versions`, `dependencies` and `candidate_flags`, read by `provider`.
 
-ghost use Rattle.std.specs.Prelude.{◌≡◌, ◌<◌, ◌≤◌, ◌+◌, ◌++◌, ◌∷◌, [], if◌then◌else◌, ℕ, List, bytes_eq, IfOk, IsErrOf, OnOk, OnErr, length, slice_get, Some};
+ghost use Rattle.std.specs.Prelude.{◌≡◌, ◌<◌, ◌≤◌, ◌+◌, ◌++◌, ◌∷◌, [], if◌then◌else◌, ℕ, List, bytes_eq, IfOk, IfSome, IsErrOf, OnOk, OnErr, length, slice_get, Some};
 ghost use Rattle.std.specs.Option.{option_copied};
 ghost use Rattle.resolvo_text.specs.View.{spec_of, specs_of, cond_of, condition_of};
 ghost use Rattle.resolvo_text.specs.Line.{Is};
@@ -13,6 +13,7 @@ ghost use Rattle.resolvo_pool_core.specs.declared.want.Want.TheVariants.{Ids};
 ghost use Rattle.resolvo_catalogue.specs.Ids.{Interns, Grows, IsPlaced, AreSound, LacksNumber, IsPackage, IsWord, IsSpec, AreEach, AreAlternatives, IsCondition, IsConditionOf, IsNeed};
 ghost use Rattle.resolvo_catalogue.specs.Found.{number_in, list_number_in, set_key, union_key, condition_key};
 
+use crate::guesses::{Guesses, mixed};
 use crate::text_ids::TextIds;
 use resolvo_catalogue_core::{Cond, Span, Spec};
 use resolvo_pool_core::condition::{Condition, LogicalOperator};
@@ -70,6 +71,8 @@ pub struct IdTable {
     words: TextIds,
     solvables: Vec<Solvable<u32>>,
     version_sets: Numbered<(NameId, Numbers)>,
+    /// Guesses of the ids of version sets.
+    set_guesses: Guesses,
     unions: Unions,
     conditions: Numbered<Condition>,
     alloc: Global,
@@ -83,6 +86,7 @@ impl Drop for IdTable {
             words: _,
             solvables: _,
             version_sets: _,
+            set_guesses: _,
             unions: _,
             conditions: _,
             alloc: _,
@@ -125,6 +129,7 @@ impl IdTable {
             words: TextIds::new(alloc),
             solvables: Vec::new(alloc),
             version_sets: Numbered::new(alloc),
+            set_guesses: Guesses::new(alloc),
             unions: Unions::new(alloc),
             conditions: Numbered::new(alloc),
             alloc,
@@ -182,7 +187,26 @@ impl IdTable {
         ensures ids { IsErrOf result Ids → LacksNumber self.new }
     {
         let package = self.package(spec.name.as_str())?;
-        self.version_set(package, spec.span)
+        let hash = hash_of_set(package, spec.span);
+        if let Some(id) = self.guessed_set(hash, package, spec.span) {
+            return Ok(VersionSetId(id));
+        }
+        let version_set = self.version_set(package, spec.span)?;
+        self.set_guesses.note(self.alloc, hash, version_set.0)?;
+        Ok(version_set)
+    }
+
+    /// The id that is guessed for a span of a package, if it is right.
+    fn guessed_set(&self, hash: usize, name: NameId, span: Span) -> Option<u32>
+        ensures { IfSome result (λ i. slice_get self.now.version_sets i ≡ Some (name, record { 0 = span })) }
+    {
+        let id = self.set_guesses.at(hash)?;
+        let set = self.version_sets.values.get(id as usize)?;
+        if set.0 == name && set.1.0 == span {
+            Some(id)
+        } else {
+            None
+        }
     }
 
     /// The id of a span of a package.
@@ -518,6 +542,16 @@ fn key_of_set(name: NameId, span: Span) -> Key
         Span::Any => [name.into_raw(), 0, 0, 0],
         Span::One(number) => [name.into_raw(), 1, number, 0],
         Span::Range(low, high) => [name.into_raw(), 2, low, high],
+    }
+}
+
+/// A hash of a span of a package.
+fn hash_of_set(name: NameId, span: Span) -> usize {
+    let hash = name.to_index();
+    match span {
+        Span::Any => mixed(hash, 0),
+        Span::One(number) => mixed(mixed(hash, 1), number as usize),
+        Span::Range(low, high) => mixed(mixed(hash, low as usize), high as usize),
     }
 }
 

@@ -1,14 +1,16 @@
 //! A catalogue as a provider: it answers the solver from the lines.
 #![tactic(auto)]
 
-pub mod candidate_flags;
-pub mod dependencies;
-pub mod id_table;
+mod candidate_flags;
+mod dependencies;
+mod guesses;
+mod id_table;
 pub mod impls;
 pub mod provider;
 mod text_ids;
-pub mod versions;
+mod versions;
 
+pub use id_table::Numbers;
 pub use impls::GivenUp;
 pub use provider::{CatalogueProvider, Hint, RequestIds};
 pub use resolvo_catalogue_core::{

@@ -6,6 +6,7 @@ ghost use Rattle.resolvo_pool_core.specs.declared.want.Want.TheVariants.{Ids};
 ghost use Rattle.std.specs.Option.{option_map};
 ghost use Rattle.resolvo_catalogue.specs.Ids.{Extends, IsPlaced, AreOnce};
 
+use crate::guesses::{Guesses, hash_of};
 use resolvo_pool_core::id::next_index;
 use resolvo_pool_core::want::R;
 use std::alloc::Global;
@@ -15,12 +16,17 @@ use std::marker::Model;
 pub struct TextIds {
     texts: Vec<String>,
     ids: BTreeMap<String, u32>,
+    guesses: Guesses,
 }
 
 // split for the prover: an owner of several calls this drop for each
 impl Drop for TextIds {
     fn drop(self) {
-        let TextIds { texts: _, ids: _ } = self;
+        let TextIds {
+            texts: _,
+            ids: _,
+            guesses: _,
+        } = self;
     }
 }
 
@@ -44,6 +50,18 @@ impl TextIds {
         TextIds {
             texts: Vec::new(alloc),
             ids: BTreeMap::new(alloc),
+            guesses: Guesses::new(alloc),
+        }
+    }
+
+    /// The number that is guessed for a text, if it is right.
+    fn guessed(&self, hash: usize, text: &str) -> Option<u32>
+        ensures { IfSome result (λ i. slice_get self.now i ≡ Some text.now) }
+    {
+        let id = self.guesses.at(hash)?;
+        match self.text(id) {
+            Some(found) if found == text => Some(id),
+            _ => None,
         }
     }
 
@@ -79,10 +97,16 @@ impl TextIds {
         ensures extends { Extends self.old self.new }
         ensures ids { IsErrOf result Ids → 4294967295 ≤ length self.new }
     {
-        match self.find(text) {
-            Some(id) => Ok(id),
-            None => self.add(alloc, text),
+        let hash = hash_of(text.as_bytes());
+        if let Some(id) = self.guessed(hash, text) {
+            return Ok(id);
         }
+        let id = match self.find(text) {
+            Some(id) => id,
+            None => self.add(alloc, text)?,
+        };
+        self.guesses.note(alloc, hash, id)?;
+        Ok(id)
     }
 
     /// The text of a number.

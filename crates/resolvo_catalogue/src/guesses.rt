@@ -1,0 +1,61 @@
+//! Guesses of the numbers of values, each found by a hash of its value. Values may share a guess, so
+//! whoever takes one compares. A right guess saves a look-up in a sorted map. A wrong one costs a
+//! comparison, so no choice of values makes it slow. Used by `text_ids` and `id_table`.
+
+use std::alloc::{AllocError, Global};
+
+/// How many guesses there is room for at first.
+const FEW: usize = 16;
+
+/// The number that was noted last for each place that a hash may have.
+#[derive(Drop)]
+pub struct Guesses {
+    numbers: Vec<u32>,
+}
+
+impl Guesses {
+    pub fn new(alloc: Global) -> Guesses {
+        Guesses {
+            numbers: Vec::new(alloc),
+        }
+    }
+
+    /// The number that was noted last at the place of a hash.
+    pub fn at(&self, hash: usize) -> Option<u32> {
+        self.numbers.get(self.place(hash)).copied()
+    }
+
+    /// Notes a number. There is room for as many guesses as numbers, so these are forgotten where
+    /// that is doubled.
+    pub fn note(&mut self, alloc: Global, hash: usize, number: u32) -> Result<(), AllocError> {
+        let count = self.numbers.len();
+        if number as usize >= count {
+            self.numbers = vec![in alloc; number; count.saturating_mul(2).max(FEW)]?;
+        }
+        let place = self.place(hash);
+        if let Some(noted) = self.numbers.get_mut(place) {
+            *noted = number;
+        }
+        Ok(())
+    }
+
+    /// The place of a hash: its lowest bits, since the count of places is a power of two.
+    fn place(&self, hash: usize) -> usize {
+        hash & self.numbers.len().wrapping_sub(1)
+    }
+}
+
+/// A hash of bytes.
+pub fn hash_of(bytes: &[u8]) -> usize {
+    let mut hash = 0;
+    for byte in bytes {
+        hash = mixed(hash, *byte as usize);
+    }
+    hash
+}
+
+/// The hash of what a hash is of, and one number more.
+pub fn mixed(hash: usize, number: usize) -> usize {
+    let product = (hash ^ number).wrapping_mul(0x9E37_79B9_7F4A_7C15);
+    product ^ (product >> 32)
+}
