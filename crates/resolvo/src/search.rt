@@ -98,7 +98,9 @@ fn run_others<A: PackageSource, C: ScoreMap<A::NameId>>(
 {
     let mut turns = Turns::new(alloc);
     turns.list(alloc, encoding)?;
-    let conflict = run_soft_requirements(alloc, answers, encoding, scores, input, softs, &mut turns)?;
+    let conflict = run_soft_requirements(
+        alloc, answers, encoding, scores, input, softs, &mut turns,
+    )?;
     let found = found_in(alloc, turns, conflict)?;
     Ok(found)
 }

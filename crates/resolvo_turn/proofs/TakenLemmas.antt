@@ -1,5 +1,5 @@
 -- What a turn chooses, and what was chosen before it.
-use Rattle.std.proofs.Common.{◌≡◌, ℕ, ◌-◌, ◌+◌, ◌<◌, ◌≤◌, inl, inr, Bool, true, false, nat_lt, cond, le-ltb, List, [], ◌∷◌, ◌++◌, reverse, take, drop, length, Option, None, Some, refl, sym, ◌∙◌, ap, subst, arith}
+use Rattle.std.proofs.Common.{◌≡◌, ℕ, suc, ◌-◌, ◌+◌, ◌<◌, ◌≤◌, inl, inr, Bool, true, false, nat_lt, cond, le-ltb, List, [], ◌∷◌, ◌++◌, reverse, take, drop, length, Option, None, Some, refl, sym, ◌∙◌, ap, subst, arith}
 use Rattle.std.specs.Prelude.{Contains}
 use Rattle.std.proofs.Math.Seq.{drop-append_seam}
 use Rattle.std.proofs.lemmas.Bool.{both_ways}
@@ -84,7 +84,7 @@ module _ {N S : Type 0} where
       let (p, whole, trail, part) = turn_part a in
       let later : has (made_true (history a.coding.search)) (yes u) ≡ true = subst (λ (h : List Entry). has (made_true h) (yes u) ≡ true) (sym whole) (subst (λ (ls : List Signed). has ls (yes u) ≡ true) (sym (made_true-append p (base_of a))) (has_right (made_true p) (made_true (base_of a)) (yes u) known)) in
       let range : u.0 < count_of a.coding.search = known_in_range (count_of a.coding.search) (clauses_of a.coding.search) (history a.coding.search) (yes u) coding.ready.state.trail later in
-      let count : count_of a.coding.search ≡ length a.coding.atoms.keys + 1 = count_is a.coding coding in
+      let count : count_of a.coding.search ≡ suc (length a.coding.atoms.keys) = count_is a.coding coding in
       let (k, x, place, at) = represents_some a.coding.atoms.keys u.0 (represents_other b.coding.atoms.keys u (Solvable s) represents) (omega arith) in
       let is : x ≡ Solvable s = represents_same b.coding.atoms.keys u x (Solvable s) (represents_more a.coding.atoms.keys b.coding.atoms.keys u x prefix (k, place, at)) represents in
       (u, subst (λ y. Represents a.coding.atoms.keys u y) is (k, place, at), known)

@@ -65,5 +65,6 @@ pub fn chosen_in_turn<N: Copy + Exact + Hash + Debug, S: Copy + Exact + Hash + D
 {
     let place = first_place(&encoding.coding.search);
     let entries = encoding.coding.search.tracker.stack();
-    choices_of(alloc, &encoding.coding, &entries[place..])
+    let chosen = choices_of(alloc, &encoding.coding, &entries[place..])?;
+    Ok(chosen)
 }
