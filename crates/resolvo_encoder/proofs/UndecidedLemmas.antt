@@ -3,6 +3,7 @@ use Rattle.std.proofs.Common.{◌≡◌, ℕ, ◌+◌, ◌≤◌, inl, inr, Bool
 use Rattle.std.specs.Prelude.{Contains}
 use Rattle.std.specs.List.{list_any, count_by}
 use Rattle.std.proofs.lemmas.Bool.{both_ways, cases_Bool, and_parts}
+use Rattle.std.proofs.lemmas.List.Sums.{sum_by-cons}
 use Rattle.resolvo_store_core.specs.Signed.{Signed, negation, same_literal, has, value_under, is_true, is_false, is_open}
 use Rattle.resolvo_store_core.specs.SignLaws.{same_literal-self}
 use Rattle.resolvo_store_core.specs.Clauses.{no, candidate_literals}
@@ -30,30 +31,40 @@ use Rattle.resolvo_encoder.proofs.RequireLemmas.{some_one}
 
 -- ---- counting
 
+counted : {X : Type 0} (f : X → Bool) (z : X) (zs : List X) → f z ≡ true → count_by f (z ∷ zs) ≡ 1 + count_by f zs
+counted f z zs h = sum_by-cons (λ y. cond (f y) 1 0) z zs ∙ ap (λ (b : Bool). cond b 1 0 + count_by f zs) h
+
+count_later : {X : Type 0} (f : X → Bool) (z : X) (zs : List X) (n : ℕ) → n ≤ count_by f zs → n ≤ count_by f (z ∷ zs)
+count_later f z zs n le =
+    let parts : count_by f (z ∷ zs) ≡ cond (f z) 1 0 + count_by f zs = sum_by-cons (λ y. cond (f y) 1 0) z zs in
+    subst (λ (m : ℕ). n ≤ m) (sym parts) (go (cond (f z) 1 0))
+  where
+    go : (k : ℕ) → n ≤ k + count_by f zs
+    go k = omega arith
+
 count_one : {X : Type 0} (f : X → Bool) (xs : List X) (x : X) → Contains xs x → f x ≡ true → 1 ≤ count_by f xs
 count_one f [] x a h = absurd (contains_none x a)
-count_one f (z ∷ zs) x a h =
-    let parts : count_by f (z ∷ zs) ≡ cond (f z) 1 0 + count_by f zs = refl in
-    elim (contains_cases x z zs a) [
-      | inl is ↦ (let here : cond (f z) 1 0 ≡ 1 = ap (λ b. cond b 1 0) (ap f (sym is) ∙ h) in omega arith)
-      | inr later ↦ (let rest : 1 ≤ count_by f zs = count_one f zs x later h in omega arith)
-    ]
+count_one f (z ∷ zs) x a h = elim (contains_cases x z zs a) [
+  | inl is ↦ subst (λ (m : ℕ). 1 ≤ m) (sym (counted f z zs (ap f (sym is) ∙ h))) (omega arith)
+  | inr later ↦ count_later f z zs 1 (count_one f zs x later h)
+]
 
 -- two different items are two
 count_two : {X : Type 0} (f : X → Bool) (xs : List X) (x y : X) → Contains xs x → Contains xs y → (x ≡ y → ⊥) → f x ≡ true → f y ≡ true → 2 ≤ count_by f xs
 count_two f [] x y a b other h i = absurd (contains_none x a)
-count_two f (z ∷ zs) x y a b other h i =
-    let parts : count_by f (z ∷ zs) ≡ cond (f z) 1 0 + count_by f zs = refl in
-    elim (contains_cases x z zs a) [
-      | inl first ↦ elim (contains_cases y z zs b) [
-        | inl second ↦ absurd (other (first ∙ sym second))
-        | inr later ↦ (let here : cond (f z) 1 0 ≡ 1 = ap (λ b. cond b 1 0) (ap f (sym first) ∙ h) in let rest : 1 ≤ count_by f zs = count_one f zs y later i in omega arith)
-      ]
-      | inr later ↦ elim (contains_cases y z zs b) [
-        | inl second ↦ (let here : cond (f z) 1 0 ≡ 1 = ap (λ b. cond b 1 0) (ap f (sym second) ∙ i) in let rest : 1 ≤ count_by f zs = count_one f zs x later h in omega arith)
-        | inr last ↦ (let rest : 2 ≤ count_by f zs = count_two f zs x y later last other h i in omega arith)
-      ]
-    ]
+count_two f (z ∷ zs) x y a b other h i = elim (contains_cases x z zs a) [
+  | inl first ↦ elim (contains_cases y z zs b) [
+    | inl second ↦ absurd (other (first ∙ sym second))
+    | inr later ↦ more (ap f (sym first) ∙ h) (count_one f zs y later i)
+  ]
+  | inr later ↦ elim (contains_cases y z zs b) [
+    | inl second ↦ more (ap f (sym second) ∙ i) (count_one f zs x later h)
+    | inr last ↦ count_later f z zs 2 (count_two f zs x y later last other h i)
+  ]
+]
+  where
+    more : f z ≡ true → 1 ≤ count_by f zs → 2 ≤ count_by f (z ∷ zs)
+    more here rest = subst (λ (m : ℕ). 2 ≤ m) (sym (counted f z zs here)) (omega arith)
 
 -- ---- what a clause offers
 
