@@ -8,6 +8,7 @@ use Rattle.std.proofs.Math.Bool.{beq}
 use Rattle.std.proofs.lemmas.Bool.{ltb-false, cases_lt}
 use Rattle.std.proofs.lemmas.List.{append_assoc, length-append, length-drop, length-map, length-set, take_more, take_all, drop_all, take-append-drop}
 use Rattle.std.proofs.Math.Seq.{take-length}
+use Rattle.std.proofs.lemmas.List.Elements.{Contains-append_right}
 use Rattle.resolvo_pool_core.specs.declared.requirement.Requirement.{Requirement}
 use Rattle.resolvo_store_core.specs.Signed.{Signed, value_under, is_true, is_false, is_open}
 use Rattle.resolvo_store_core.specs.Clauses.{candidate_literals}
@@ -23,7 +24,7 @@ use Rattle.resolvo_decide.specs.declared.clause_states.ClauseState.{ClauseState}
 use Rattle.resolvo_decide.specs.declared.clause_states.ClauseState.TheVariants.{Open, Met, Idle}
 use Rattle.resolvo_decide.specs.declared.undecided_clauses.UndecidedClauses.{UndecidedClauses}
 use Rattle.resolvo_decide.specs.States.{state_at, reopened, is_open_state}
-use Rattle.resolvo_decide.specs.Needs.{literals_in, is_met, places_at, IsMetNow, IsSoundState, Fits, KeepsFitting, AddsNeed}
+use Rattle.resolvo_decide.specs.Needs.{literals_in, is_met, places_at, IsMetNow, IsSoundState, Fits, KeepsFitting, OffersAtLeast, AddsNeed}
 use Rattle.resolvo_decide.proofs.Positions.{state_end, state_map, state_out, state_put, state_set_other}
 use Rattle.resolvo_decide.proofs.Seen.{met_take, met_whole, take_less, idle_take, idle_more}
 
@@ -231,7 +232,7 @@ module _ {N : Type 0} (lists : FixedLists N) (values : ℕ → Option Bool) (sco
     | inr high ↦ ap (pick_after lists values score best) (drop_all from qs high ∙ sym (drop_all to qs (omega arith)))
   ]
 
--- no clause beats a decision of the highest score
+-- no clause beats a decision of the highest score, or with the fewest undecided candidates
 module _ {N : Type 0} (lists : FixedLists N) (values : ℕ → Option Bool) (score : N → ℕ) (most : ℕ) (bounded : (name : N) → score name ≤ most) where
   offer_bounded : (q : NeedClause) (d : NextDecision) → offer lists values score q ≡ Some d → d.package_activity ≤ most
   offer_bounded q d h = eligible (is_eligible lists values q) h
@@ -251,13 +252,20 @@ module _ {N : Type 0} (lists : FixedLists N) (values : ℕ → Option Bool) (sco
       eligible true e = none_true (list_any (λ c. is_true (value_under values c.literal)) cs) e
       eligible false e = absurd cc
 
-  pub pick_final : (best : Option NextDecision) (qs : List NeedClause) → ((next : NextDecision) → next.package_activity ≤ most → later best (Some next) ≡ best) → pick_after lists values score best qs ≡ best
-  pick_final best [] final = refl
-  pick_final best (q ∷ qs) final = ap (λ b. pick_after lists values score b qs) (stays (offer lists values score q) refl) ∙ pick_final best qs final
+  pub pick_final : (fewest : ℕ) (best : Option NextDecision) (qs : List NeedClause) → OffersAtLeast lists values qs fewest → ((next : NextDecision) → next.package_activity ≤ most → fewest ≤ next.candidate_count → later best (Some next) ≡ best)
+      → pick_after lists values score best qs ≡ best
+  pick_final fewest best [] many final = refl
+  pick_final fewest best (q ∷ qs) many final =
+      ap (λ b. pick_after lists values score b qs) (stays (offer lists values score q) refl)
+      ∙ pick_final fewest best qs (λ scored r d a offered. many scored r d (Contains-append_right (q ∷ []) qs r a) offered) final
     where
       stays : (o : Option NextDecision) → offer lists values score q ≡ o → later best o ≡ best
       stays None is = later_none best
-      stays (Some next) is = final next (offer_bounded q next is)
+      stays (Some next) is = final next (offer_bounded q next is) (many score q next (0, omega arith, refl) is)
+
+  -- what the clauses offer, those from a position on offer too
+  pub many_left : (fewest i : ℕ) (qs : List NeedClause) → OffersAtLeast lists values qs fewest → OffersAtLeast lists values (drop i qs) fewest
+  many_left fewest i qs many = λ scored r d a offered. many scored r d (subst (λ (rs : List NeedClause). Contains rs r) (take-append-drop i qs) (Contains-append_right (take i qs) (drop i qs) r a)) offered
 
 -- the pick continues after clauses that aren't open
 pub pick_closed : {N : Type 0} (lists : FixedLists N) (values : ℕ → Option Bool) (score : N → ℕ) (needs : UndecidedClauses) (queue : List NeedClause) → Fits (literals_in lists) needs queue → ((v : ℕ) → values v ≡ value_in needs.seen.items v) → (best : Option NextDecision) (from to : ℕ) → from ≤ to

@@ -1,5 +1,5 @@
 -- The states of the need clauses under a trail.
-use Rattle.std.specs.Prelude.{◌≡◌, ℕ, ⊤, Bool, true, false, List, [], ◌∷◌, ◌++◌, take, length, slice_get, Option, Some, Vec, Contains}
+use Rattle.std.specs.Prelude.{◌≡◌, ℕ, ⊤, Bool, true, false, List, [], ◌∷◌, ◌++◌, ◌≤◌, take, length, slice_get, Option, Some, Vec, Contains}
 use Rattle.std.specs.declared.alloc.Global.{Global}
 use Rattle.std.specs.List.{list_any}
 use Rattle.resolvo_pool_core.specs.declared.id.VariableId.{VariableId}
@@ -8,7 +8,7 @@ use Rattle.resolvo_pool_core.specs.Slots.{at}
 use Rattle.resolvo_store_core.specs.Signed.{Signed, value_under, is_true}
 use Rattle.resolvo_store_core.specs.Clauses.{candidate_literals}
 use Rattle.resolvo_store_core.specs.Lists.{candidates_in, items_or_none}
-use Rattle.resolvo_store_core.specs.Pick.{pick}
+use Rattle.resolvo_store_core.specs.Pick.{pick, offer}
 use Rattle.resolvo_store_core.specs.Trail.{assigned, value_in}
 use Rattle.resolvo_store_core.specs.Values.{value_at}
 use Rattle.resolvo_store_core.specs.declared.decision.Entry.{Entry}
@@ -61,6 +61,14 @@ pub record AddsNeed (parent : VariableId) (old new : UndecidedClauses) : Type 0 
   pub seen : new.seen ≡ old.seen
   pub placed : Contains (places_at new.places.items parent.0) (length old.states)
   pub kept : (v i : ℕ) → Contains (places_at old.places.items v) i → Contains (places_at new.places.items v) i
+
+-- each decision that a clause of the queue offers has at least so many undecided candidates
+abbrev pub OffersAtLeast : {N : Type 0} → FixedLists N → (ℕ → Option Bool) → List NeedClause → ℕ → Type 0
+OffersAtLeast {N} lists values queue fewest = (score : N → ℕ) (q : NeedClause) (d : NextDecision) → Contains queue q → offer lists values score q ≡ Some d → fewest ≤ d.candidate_count
+
+-- so it is under the trail's values, as a map has them
+abbrev pub LeavesUndecided : {N : Type 0} → FixedLists N → List Entry → List NeedClause → ℕ → Type 0
+LeavesUndecided lists trail queue fewest = (values : List (Option Assignment)) → ((v : ℕ) → at values v ≡ assigned trail v) → OffersAtLeast lists (value_at values) queue fewest
 
 -- the pick under the trail's values, as a map has them
 pub record IsPick {N : Type 0} (lists : FixedLists N) (trail : List Entry) (score : N → ℕ) (queue : List NeedClause) (next : Option NextDecision) : Type 0 where

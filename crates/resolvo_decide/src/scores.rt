@@ -1,6 +1,6 @@
-//! The scores of packages, with an upper bound. The bound is 0 until a conflict bumps a score, so
-//! the first undecided clause that offers a decision is the pick.
-ghost use Rattle.std.specs.Prelude.{◌≡◌, ◌≤◌};
+//! The scores of packages, with an upper bound that is bumped and decays as they do. It is 0 until a
+//! conflict bumps a score, so the first undecided clause that offers a decision is the pick.
+ghost use Rattle.std.specs.Prelude.{◌≡◌, ◌≤◌, ◌*◌, ◌/◌};
 
 use resolvo_pool_core::id_map::ScoreMap;
 use resolvo_pool_core::want::R;
@@ -52,5 +52,15 @@ impl<N: Copy + Eq, C: ScoreMap<N>> Scores<N, C> {
         requires { per_million ≤ 1000000 }
     {
         self.map.scale(per_million);
+        self.most = scaled(self.most, per_million);
     }
+}
+
+/// So many millionths of a score, rounded down.
+fn scaled(score: u64, per_million: u64) -> u64
+    requires { per_million ≤ 1000000 }
+    ensures { result ≡ (score * per_million) / 1000000 }
+{
+    let product = u128::from(score) * u128::from(per_million);
+    (product / 1_000_000) as u64
 }

@@ -14,7 +14,7 @@ ghost use Rattle.resolvo_store_core.specs.Pick.{pick, offer, later};
 ghost use Rattle.resolvo_store_core.specs.declared.decide_queue.NeedClause.{NeedClause};
 ghost use Rattle.resolvo_decide.specs.declared.clause_states.ClauseState.TheVariants.{Open};
 ghost use Rattle.resolvo_decide.specs.States.{state_at};
-ghost use Rattle.resolvo_decide.specs.Needs.{literals_in, places_at, IsMetNow, IsSoundState, Fits, KeepsFitting, IsPick, AddsNeed};
+ghost use Rattle.resolvo_decide.specs.Needs.{literals_in, places_at, IsMetNow, IsSoundState, Fits, KeepsFitting, OffersAtLeast, LeavesUndecided, IsPick, AddsNeed};
 
 use crate::clause_states::{ClauseState, ClauseStates};
 use crate::offer::offered;
@@ -67,18 +67,21 @@ impl UndecidedClauses {
     }
 
     /// The next decision under the trail: the pick over all clauses of the queue. The trail extends
-    /// the seen one; after a backjump, `follow` must be called first.
+    /// the seen one; after a backjump, `follow` must be called first. No clause offers a decision
+    /// with fewer than `fewest` undecided candidates: 0 always holds, and 2 after propagation.
     pub fn next_decision<N: Copy + Eq, C: ScoreMap<N>>(
         &mut self,
         queue: &DecideQueue,
         lists: &FixedLists<N>,
         trail: &DecisionTracker,
         scores: &Scores<N, C>,
+        fewest: usize,
     ) -> R<Option<NextDecision>>
     where
         N: Drop,
         requires fits { Fits (literals_in lists.now) self.old queue.now }
         requires seen { IsPrefixOf self.old.seen.items trail.now.trail }
+        requires fewest { LeavesUndecided lists.now trail.now.trail queue.now fewest }
         // After an answer.
         ensures picked { IfOk result (IsPick lists.now trail.now.trail (C.score_of scores.now.map) queue.now) }
         ensures fits { OnOk result (Fits (literals_in lists.now) self.new queue.now) }
@@ -93,6 +96,7 @@ impl UndecidedClauses {
             trail.map(),
             &scores.map,
             scores.most(),
+            fewest,
         ))
     }
 
@@ -181,7 +185,8 @@ impl UndecidedClauses {
         }
     }
 
-    /// The pick under the seen trail, where no score is above `most`.
+    /// The pick under the seen trail, where no score is above `most`, and no clause offers a
+    /// decision with fewer than `fewest` undecided candidates.
     fn pick<N: Copy + Eq, C: ScoreMap<N>>(
         &mut self,
         queue: &[NeedClause],
@@ -189,12 +194,14 @@ impl UndecidedClauses {
         values: &DecisionMap,
         scores: &C,
         most: u64,
+        fewest: usize,
     ) -> Option<NextDecision>
     where
         N: Drop,
         requires fits { Fits (literals_in lists.now) self.old queue.now }
         requires values { (v : ℕ) → value_at values.now v ≡ value_in self.old.seen.items v }
         requires bounded { (name : N) → C.score_of scores.now name ≤ most }
+        requires fewest { OffersAtLeast lists.now (value_at values.now) queue.now fewest }
         // After an answer.
         ensures picked { result ≡ pick lists.now (value_at values.now) (C.score_of scores.now) queue.now }
         // Whatever the answer.
@@ -206,7 +213,7 @@ impl UndecidedClauses {
         while position < queue.len() {
             if self.may_beat(best, position, queue, lists, values, scores) {
                 best = or_later(best, offered(&queue[position], lists, values, scores));
-                if is_final(best, most) {
+                if is_final(best, most, fewest) {
                     return best;
                 }
             }
@@ -241,7 +248,7 @@ impl UndecidedClauses {
         ensures seen { self.new.seen ≡ self.old.seen }
     {
         match self.first_undecided(&queue[position], lists, values) {
-            Ok(candidate) => !is_final(best, scores.get(candidate.package)),
+            Ok(candidate) => !is_final(best, scores.get(candidate.package), 0),
             Err(state) => {
                 self.states.put(position, state);
                 false
@@ -305,15 +312,17 @@ fn first_possible<'a, N: Copy>(
         .find(|candidate| !candidate.literal.is_false(values))
 }
 
-/// Whether no later decision with a score of at most `most` beats this one.
-fn is_final(best: Option<NextDecision>, most: u64) -> bool
+/// Whether no later decision with a score of at most `most`, and with at least `fewest` undecided
+/// candidates, beats this one.
+fn is_final(best: Option<NextDecision>, most: u64, fewest: usize) -> bool
     ensures { result ≡ true
         → (next : NextDecision)
         → next.package_activity ≤ most
+        → fewest ≤ next.candidate_count
         → later best (Some next) ≡ best }
 {
     match best {
-        Some(best) => most <= best.package_activity,
+        Some(best) => most <= best.package_activity || best.candidate_count <= fewest,
         None => false,
     }
 }

@@ -1,15 +1,16 @@
 -- Each step keeps the precondition of the calls.
-use Rattle.std.proofs.Common.{◌≡◌, ℕ, ◌+◌, ◌<◌, ◌≤◌, inl, inr, Bool, false, [], ◌∷◌, ◌++◌, length, Option, Some, None, Vec, Global, refl, sym, ◌∙◌, ap, subst, arith, true}
+use Rattle.std.proofs.Common.{◌≡◌, ℕ, ◌+◌, ◌<◌, ◌≤◌, inl, inr, Bool, false, [], ◌∷◌, ◌++◌, List, length, Option, Some, None, Vec, Global, refl, sym, ◌∙◌, ap, subst, arith, true}
 use Rattle.std.specs.Prelude.{Contains}
 use Rattle.resolvo_store_core.specs.Lists.{items_or_none}
 use Rattle.std.proofs.lemmas.Bool.{both_ways}
+use Rattle.std.proofs.lemmas.List.{length-append}
 use Rattle.resolvo_pool_core.specs.declared.id.DenseId.{DenseId}
 use Rattle.resolvo_pool_core.specs.declared.id.DisjunctionTag.{DisjunctionTag}
 use Rattle.resolvo_pool_core.specs.declared.id.VariableId.{VariableId}
 use Rattle.resolvo_pool_core.specs.declared.requirement.Requirement.{Requirement}
 use Rattle.resolvo_pool_core.specs.ByRequirement.{slot_of, PutsAt}
 use Rattle.resolvo_store_core.specs.AtMostOne.{IsPrefixOf}
-use Rattle.resolvo_store_core.specs.Signed.{Signed}
+use Rattle.resolvo_store_core.specs.Signed.{Signed, has}
 use Rattle.resolvo_store_core.specs.Clauses.{yes, no, candidate_literals}
 use Rattle.resolvo_store_core.specs.Lists.{named_by, candidates_in, condition_in, FixesDisjunction}
 use Rattle.resolvo_store_core.specs.declared.lists.Disjunction.{Disjunction}
@@ -22,8 +23,8 @@ use Rattle.resolvo_decide.specs.declared.undecided_clauses.UndecidedClauses.{Und
 use Rattle.resolvo_decide.proofs.FitLemmas.{fits_add, fits_more, fits_none}
 use Rattle.resolvo_store_core.specs.declared.decide_queue.NeedClause.{NeedClause}
 use Rattle.resolvo_sat.specs.Entries.{made_true}
-use Rattle.resolvo_sat.specs.Known.{IsUndecided}
-use Rattle.resolvo_sat.specs.State.{history, count_of}
+use Rattle.resolvo_sat.specs.Known.{IsUndecided, clause_at}
+use Rattle.resolvo_sat.specs.State.{history, count_of, lists}
 use Rattle.resolvo_sat.specs.Steps.{AreInRange}
 use Rattle.resolvo_sat.proofs.Literals.{has-cons, has-append}
 use Rattle.resolvo_state.specs.declared.atom.ProofAtom.{ProofAtom}
@@ -38,12 +39,15 @@ use Rattle.resolvo_state.specs.Registered.{AreTied}
 use Rattle.resolvo_state.proofs.Growth.{represents_grow, represents_in_range}
 use Rattle.resolvo_state.proofs.Positions.{prefix_equal, prefix_long, prefix_then}
 use Rattle.resolvo_state.proofs.RegisterLemmas.{KeepsDigits, digits_more, digits_same, ties_grow, nothing_tied}
-use Rattle.resolvo_sat.proofs.Lists.{contains_none}
-use Rattle.resolvo_encoder.specs.Steps.{EncodesNeed, SameButCoding, IsBuilt, IsBegunEncoding, AddsParent}
+use Rattle.resolvo_sat.proofs.Lists.{contains_none, contains_one, contains_parts}
+use Rattle.resolvo_sat.proofs.Clauses.{length-lists}
+use Rattle.resolvo_sat.proofs.StepLemmas.{lists-append, clause_at_end}
+use Rattle.resolvo_encoder.specs.Steps.{HasNeedLiterals, EncodesNeed, SameButCoding, IsBuilt, IsBegunEncoding, AddsParent}
 use Rattle.resolvo_encoder.specs.Conditions.{Defers, Fires}
 use Rattle.resolvo_encoder.specs.TurnLevels.{AreValues}
 use Rattle.resolvo_encoder.specs.declared.encoder.Encoder.{Encoder}
 use Rattle.resolvo_encoder.proofs.DecideLemmas.{picked, offers, for_listed, open_undecided}
+use Rattle.resolvo_encoder.proofs.NeedClauses.{literals_grow, literals_widen, condition_widens}
 use Rattle.resolvo_encoder.proofs.NeedLemmas.{literal_in}
 use Rattle.resolvo_encoder.proofs.RequireLemmas.{put_at, put_other, some_one}
 
@@ -54,26 +58,53 @@ trail_on old new same = prefix_equal old.search.tracker.trail new.search.tracker
 pub seen_same : {N S : Type 0} (old new : Encoder N S) → IsBuilt old → SameTrail old.coding new.coding → new.needs.seen ≡ old.needs.seen → IsPrefixOf new.needs.seen.items new.coding.search.tracker.trail
 seen_same old new b same seen = subst (λ (es : Vec Entry Global). IsPrefixOf es.items new.coding.search.tracker.trail) (sym seen) (prefix_then old.needs.seen.items old.coding.search.tracker.trail new.coding.search.tracker.trail b.seen (trail_on old.coding new.coding same))
 
+-- the clauses of the queue stay
+pub clauses_grow : {N S : Type 0} (old new : Encoder N S) → IsBuilt old → Grows old.coding new.coding → new.queue ≡ old.queue → (q : NeedClause) → Contains new.queue q → HasNeedLiterals old.lists new.coding.search.clauses q
+clauses_grow old new b grows queue q a = literals_grow old.lists old.coding.search.clauses new.coding.search.clauses q grows.clauses (b.clauses q (subst (λ (qs : List NeedClause). Contains qs q) queue a))
+
 -- where only clauses, variables and the queue change
 pub built_grows : {N S : Type 0} (old new : Encoder N S) → IsBuilt old → IsCoding new.coding → Grows old.coding new.coding → new.registry ≡ old.registry → new.lists ≡ old.lists → new.gates ≡ old.gates
-    → new.parents ≡ old.parents → new.encoded ≡ old.encoded → KeepsDigits old.coding new.coding → Fits (literals_in old.lists) new.needs new.queue → IsPrefixOf new.needs.seen.items new.coding.search.tracker.trail → IsBuilt new
-built_grows {N} {S} old new b coding grows registry lists gates parents encoded digits needs seen = record {
+    → new.parents ≡ old.parents → new.encoded ≡ old.encoded → KeepsDigits old.coding new.coding
+    → ((q : NeedClause) → Contains new.queue q → HasNeedLiterals old.lists new.coding.search.clauses q) → Fits (literals_in old.lists) new.needs new.queue → IsPrefixOf new.needs.seen.items new.coding.search.tracker.trail → IsBuilt new
+built_grows {N} {S} old new b coding grows registry lists gates parents encoded digits clauses needs seen = record {
   coding = coding;
   tied = subst (λ (t : Registry N). AreTied t new.coding) (sym registry) (ties_grow old.registry old.coding new.coding grows digits b.tied);
   candidates = λ r c a. (let (positive, (s, present)) = b.candidates r c (subst (λ ls. Contains (candidates_in ls r) c) lists a) in (positive, (s, represents_grow old.coding new.coding c.literal.variable (Solvable s) grows present)));
   gates = λ r v at. represents_grow old.coding new.coding v (Gate r) grows (b.gates r v (sym (ap (λ gs. slot_of gs r) gates) ∙ at));
   within = subst (λ n. n ≤ length new.parents.keys) (sym encoded) (subst (λ ps. old.encoded ≤ length ps.keys) (sym parents) b.within);
+  clauses = λ q a. subst (λ (ls : FixedLists N). HasNeedLiterals ls new.coding.search.clauses q) (sym lists) (clauses q a);
   needs = subst (λ ls. Fits (literals_in ls) new.needs new.queue) (sym lists) needs;
   seen = seen;
 }
 
 pub built_rest : {N S : Type 0} (old new : Encoder N S) → IsBuilt old → IsCoding new.coding → Grows old.coding new.coding → KeepsDigits old.coding new.coding → SameButCoding old new → new.needs ≡ old.needs → IsPrefixOf old.coding.search.tracker.trail new.coding.search.tracker.trail → IsBuilt new
-built_rest old new b coding grows digits rest needs on = built_grows old new b coding grows rest.registry rest.lists rest.gates rest.parents rest.encoded digits
+built_rest old new b coding grows digits rest needs on = built_grows old new b coding grows rest.registry rest.lists rest.gates rest.parents rest.encoded digits (clauses_grow old new b grows rest.queue)
     (subst (λ (n : UndecidedClauses). Fits (literals_in old.lists) n new.queue) (sym needs) (subst (λ qs. Fits (literals_in old.lists) old.needs qs) (sym rest.queue) b.needs))
     (subst (λ (n : UndecidedClauses). IsPrefixOf n.seen.items new.coding.search.tracker.trail) (sym needs) (prefix_then old.needs.seen.items old.coding.search.tracker.trail new.coding.search.tracker.trail b.seen on))
 
+-- the clause of the new need is the last one
+clauses_end : {N S : Type 0} (x : ClauseKind N S) (v : VariableId) (condition : Option (DenseId DisjunctionTag ℕ)) (r : Requirement) (old new : Encoder N S) → IsBuilt old → EncodesNeed x v condition r old new → (q : NeedClause) → Contains new.queue q → HasNeedLiterals old.lists new.coding.search.clauses q
+clauses_end {N} {S} x v condition r old new b s q a = elim (contains_parts q old.queue (here ∷ []) (subst (λ (qs : List NeedClause). Contains qs q) s.queue a)) [
+  | inl before ↦ literals_grow old.lists old.coding.search.clauses new.coding.search.clauses q s.states.grows.clauses (b.clauses q before)
+  | inr last ↦ subst (λ (y : NeedClause). HasNeedLiterals old.lists new.coding.search.clauses y) (sym (contains_one q here last)) (record { in_range = below; each = λ l h. subst (λ (c : List Signed). has c l ≡ true) is h })
+]
+  where
+    here : NeedClause
+    here = record { parent = v; requirement = r; condition = condition; clause = s.number }
+
+    below : s.number.0 < length new.coding.search.clauses
+    below = (let long : length new.coding.search.clauses ≡ length old.coding.search.clauses + 1 = ap length s.states.added ∙ length-append old.coding.search.clauses (s.states.clause ∷ []) in let number = s.states.number in omega arith)
+
+    is : clause_at (lists new.coding.search.clauses) s.number.0 ≡ no v ∷ (condition_in old.lists condition ++ candidate_literals (candidates_in old.lists r))
+    is =
+        ap (λ cs. clause_at (lists cs) s.number.0) s.states.added
+        ∙ ap (λ (cs : List (List Signed)). clause_at cs s.number.0) (lists-append old.coding.search.clauses (s.states.clause ∷ []))
+        ∙ ap (clause_at (lists old.coding.search.clauses ++ s.states.clause.literals.items ∷ [])) (s.states.number ∙ sym (length-lists old.coding.search.clauses))
+        ∙ clause_at_end (lists old.coding.search.clauses) s.states.clause.literals.items
+        ∙ s.states.literals
+
 pub built_encodes : {N S : Type 0} (x : ClauseKind N S) (v : VariableId) (condition : Option (DenseId DisjunctionTag ℕ)) (r : Requirement) (old new : Encoder N S) → IsBuilt old → ((name : N) (s : S) (place bit : ℕ) → x ≡ Digit name s place bit → ⊥) → EncodesNeed x v condition r old new → IsBuilt new
-built_encodes x v condition r old new b other s = built_grows old new b s.states.coding s.states.grows s.registry s.lists s.gates s.parents s.encoded (digits_more x old.coding new.coding s.states.kinds other)
+built_encodes x v condition r old new b other s = built_grows old new b s.states.coding s.states.grows s.registry s.lists s.gates s.parents s.encoded (digits_more x old.coding new.coding s.states.kinds other) (clauses_end x v condition r old new b s)
     (let q : NeedClause = record { parent = v; requirement = r; condition = condition; clause = s.number } in subst (λ qs. Fits (literals_in old.lists) new.needs qs) (sym s.queue) (fits_add (literals_in old.lists) q old.needs new.needs old.queue b.needs s.needs))
     (seen_same old new b s.states.trail s.needs.seen)
 
@@ -81,11 +112,11 @@ built_encodes x v condition r old new b other s = built_grows old new b s.states
 pub built_gives : {N S : Type 0} (atom : ProofAtom N S) (v : VariableId) (old : Encoder N S) (c : SolverState N S) → IsBuilt old → Gives atom v old.coding c → IsBuilt (record old { coding = c })
 built_gives atom v old c b gives =
     let new : Encoder _ _ = record old { coding = c } in
-    built_grows old new b gives.coding gives.grows refl refl refl refl refl (digits_same old.coding c gives.kinds) b.needs (seen_same old new b gives.trail refl)
+    built_grows old new b gives.coding gives.grows refl refl refl refl refl (digits_same old.coding c gives.kinds) (clauses_grow old new b gives.grows refl) b.needs (seen_same old new b gives.trail refl)
 
 -- where entries were undone, and the states of requires clauses were reset to those left
 pub built_back : {N S : Type 0} (old : Encoder N S) (c : SolverState N S) (n : UndecidedClauses) → IsBuilt old → IsCoding c → Grows old.coding c → KeepsDigits old.coding c → KeepsFitting old.needs n → IsPrefixOf n.seen.items c.search.tracker.trail → IsBuilt (record old { coding = c; needs = n })
-built_back old c n b coding grows digits fits seen = built_grows old (record old { coding = c; needs = n }) b coding grows refl refl refl refl refl digits (fits (literals_in old.lists) old.queue b.needs) seen
+built_back old c n b coding grows digits fits seen = built_grows old (record old { coding = c; needs = n }) b coding grows refl refl refl refl refl digits (clauses_grow old (record old { coding = c; needs = n }) b grows refl) (fits (literals_in old.lists) old.queue b.needs) seen
 
 -- where a disjunction was added
 pub built_disjunction : {N S : Type 0} (number : ℕ) (given : Disjunction) (old : Encoder N S) (ls : FixedLists N) → IsBuilt old → FixesDisjunction number given old.lists ls → IsBuilt (record old { lists = ls })
@@ -95,6 +126,7 @@ built_disjunction number given old ls b f = record {
   candidates = λ r c a. b.candidates r c (subst (λ x. Contains (items_or_none x) c) (ap (λ cs. slot_of cs r) f.candidates) a);
   gates = b.gates;
   within = b.within;
+  clauses = λ q a. literals_widen old.lists ls old.coding.search.clauses q (condition_widens old.lists ls (given ∷ [], f.put) q.condition) (λ l h. subst (λ cs. has (candidate_literals (items_or_none (slot_of cs q.requirement))) l ≡ true) (sym f.candidates) h) (b.clauses q a);
   needs = fits_more (literals_in old.lists) (literals_in ls) old.needs old.queue (λ r es met. subst (λ cs. is_met es (candidate_literals (items_or_none (slot_of cs r))) ≡ true) (sym f.candidates) met) b.needs;
   seen = b.seen;
 }
@@ -111,6 +143,7 @@ built_gate {N} {S} old new r v b present puts is = subst (λ (x : Encoder N S). 
     | inr stays ↦ b.gates q u (sym stays ∙ at)
   ];
   within = b.within;
+  clauses = b.clauses;
   needs = b.needs;
   seen = b.seen;
 })
@@ -123,20 +156,21 @@ built_parents {N} {S} old new b added = subst (λ (x : Encoder N S). IsBuilt x) 
   candidates = b.candidates;
   gates = b.gates;
   within = (let a : length old.parents.keys ≤ length new.parents.keys = prefix_long old.parents.keys new.parents.keys added.prefix in let c : old.encoded ≤ length old.parents.keys = b.within in omega arith);
+  clauses = b.clauses;
   needs = b.needs;
   seen = b.seen;
 })
 
 -- where the requirements of the next parent were encoded
 pub built_next : {N S : Type 0} (e : Encoder N S) → IsBuilt e → e.encoded < length e.parents.keys → IsBuilt (record e { encoded = e.encoded + 1 })
-built_next e b below = record { coding = b.coding; tied = b.tied; candidates = b.candidates; gates = b.gates; within = omega arith; needs = b.needs; seen = b.seen }
+built_next e b below = record { coding = b.coding; tied = b.tied; candidates = b.candidates; gates = b.gates; within = omega arith; clauses = b.clauses; needs = b.needs; seen = b.seen }
 
 -- where cases were deferred, or one fired
 pub built_defers : {N S : Type 0} (old new : Encoder N S) → IsBuilt old → Defers old new → IsBuilt new
-built_defers {N} {S} old new b d = subst (λ (x : Encoder N S). IsBuilt x) (sym d.rest) (record { coding = b.coding; tied = b.tied; candidates = b.candidates; gates = b.gates; within = b.within; needs = b.needs; seen = b.seen })
+built_defers {N} {S} old new b d = subst (λ (x : Encoder N S). IsBuilt x) (sym d.rest) (record { coding = b.coding; tied = b.tied; candidates = b.candidates; gates = b.gates; within = b.within; clauses = b.clauses; needs = b.needs; seen = b.seen })
 
 pub built_fires : {N S : Type 0} (index : ℕ) (old new : Encoder N S) → IsBuilt old → Fires index old new → IsBuilt new
-built_fires {N} {S} index old new b f = subst (λ (x : Encoder N S). IsBuilt x) (sym f.rest) (record { coding = b.coding; tied = b.tied; candidates = b.candidates; gates = b.gates; within = b.within; needs = b.needs; seen = b.seen })
+built_fires {N} {S} index old new b f = subst (λ (x : Encoder N S). IsBuilt x) (sym f.rest) (record { coding = b.coding; tied = b.tied; candidates = b.candidates; gates = b.gates; within = b.within; clauses = b.clauses; needs = b.needs; seen = b.seen })
 
 -- at first
 pub built_begun : {N S : Type 0} (e : Encoder N S) → IsBegunEncoding e → IsBuilt e
@@ -146,13 +180,14 @@ built_begun {N} {S} e begun = record {
   candidates = λ r c a. absurd (contains_none c (subst (λ x. Contains (items_or_none x) c) (begun.lists.candidates r) a));
   gates = λ r v at. (let none : None ≡ Some v = sym (begun.gates r) ∙ at in absurd cc);
   within = (let none : e.encoded ≡ 0 = begun.encoded in omega arith);
+  clauses = λ q a. absurd (contains_none q (subst (λ (qs : List NeedClause). Contains qs q) begun.queue a));
   needs = subst (λ qs. Fits (literals_in e.lists) e.needs qs) (sym begun.queue) (fits_none (literals_in e.lists) e.needs begun.needs);
   seen = subst (λ es. IsPrefixOf es e.coding.search.tracker.trail) (sym begun.seen) (e.coding.search.tracker.trail, refl);
 }
 
 -- where the states of requires clauses changed
 pub built_needs : {N S : Type 0} (e : Encoder N S) (n : UndecidedClauses) → IsBuilt e → Fits (literals_in e.lists) n e.queue → IsPrefixOf n.seen.items e.coding.search.tracker.trail → IsBuilt (record e { needs = n })
-built_needs e n b fits seen = record { coding = b.coding; tied = b.tied; candidates = b.candidates; gates = b.gates; within = b.within; needs = fits; seen = seen }
+built_needs e n b fits seen = record { coding = b.coding; tied = b.tied; candidates = b.candidates; gates = b.gates; within = b.within; clauses = b.clauses; needs = fits; seen = seen }
 
 -- ---- preconditions of calls
 

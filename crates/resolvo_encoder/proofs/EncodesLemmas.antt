@@ -272,4 +272,4 @@ module _ {N S : Type 0} (same : S → S → Bool) (exact : IsExact same) where
         (λ t h. elim (only t h) [ inl b ↦ e.cases.there t b | inr is ↦ subst (λ y. E.rules_of old (Rule.is_there (p.package_of y) y)) (sym is) present ]) refl)
 
 pub built_recorded : {N S : Type 0} (e : Encoder N S) (x : EncodedOnce N S) → IsBuilt e → IsBuilt (record e { recorded = x })
-built_recorded e x b = record { coding = b.coding; tied = b.tied; candidates = b.candidates; gates = b.gates; within = b.within; needs = b.needs; seen = b.seen }
+built_recorded e x b = record { coding = b.coding; tied = b.tied; candidates = b.candidates; gates = b.gates; within = b.within; clauses = b.clauses; needs = b.needs; seen = b.seen }

@@ -13,7 +13,7 @@ use Rattle.resolvo_store_core.specs.declared.lists.Disjunction.{Disjunction}
 use Rattle.resolvo_store_core.specs.declared.lists.FixedLists.{FixedLists}
 use Rattle.resolvo_decide.specs.Needs.{literals_in, is_met}
 use Rattle.resolvo_decide.proofs.FitLemmas.{fits_more}
-use Rattle.resolvo_store_core.specs.declared.decision.Entry.{Entry}
+use Rattle.resolvo_store_core.specs.Signed.{Signed, has}
 use Rattle.resolvo_store_core.specs.Clauses.{candidate_literals}
 use Rattle.resolvo_sat.specs.Encoding.{IsExact, Rule}
 use Rattle.resolvo_packages.specs.declared.package_source.Offered.{Offered}
@@ -33,7 +33,8 @@ use Rattle.resolvo_encoder.specs.Encoded as E
 use Rattle.resolvo_encoder.specs.AtLeastOneClauses.{Admits}
 use Rattle.resolvo_encoder.specs.Steps.{IsBuilt, Extends, IsOfferedAs, RegistersAll, KeepsLists, AddsCandidates, IsListed, Enrols, Fixes}
 use Rattle.resolvo_encoder.specs.declared.encoder.Encoder.{Encoder}
-use Rattle.resolvo_encoder.proofs.BuildLemmas.{seen_same}
+use Rattle.resolvo_encoder.proofs.NeedClauses.{literals_widen, condition_widens}
+use Rattle.resolvo_encoder.proofs.BuildLemmas.{seen_same, clauses_grow}
 use Rattle.resolvo_encoder.proofs.PickLemmas.{candidates_grow}
 use Rattle.resolvo_encoder.proofs.RequireLemmas.{AddedClause, Carries, carried, candidate_grows, recorded_grows, cases_keep, fix_at, fix_other, some_one, offer_named, offer_meets, meets_offer, meets_listed, registered_split, queued_keeps, gates_keep, NoneAsks, fixed_keeps, asked_keeps, within_keeps, encoded_keeps, cased_keeps, guards_keep, digit_added, extends_then, extends_same}
 
@@ -215,6 +216,7 @@ module _ {N S : Type 0} (same : S → S → Bool) where
     candidates = λ r x a. (let (positive, (s, present)) = b.candidates r x a in (positive, (s, represents_grow old.coding c x.literal.variable (Solvable s) all.grows present)));
     gates = λ r v at. represents_grow old.coding c v (Gate r) all.grows (b.gates r v at);
     within = b.within;
+    clauses = clauses_grow old (enrolled old t c) b all.grows refl;
     needs = b.needs;
     seen = seen_same old (enrolled old t c) b all.trail refl;
   }
@@ -271,15 +273,18 @@ module _ {N S : Type 0} (same : S → S → Bool) where
       candidates = candidates_new middle given enrols.built fixes enrols.all;
       gates = enrols.built.gates;
       within = enrols.built.within;
-      needs = fits_more (literals_in middle.lists) (literals_in new.lists) middle.needs middle.queue (still_met middle given fixes (ap (λ ls. has_candidates ls r) enrols.lists ∙ fresh)) enrols.built.needs;
+      clauses = λ q a. literals_widen middle.lists new.lists middle.coding.search.clauses q (condition_widens middle.lists new.lists (prefix_equal middle.lists.disjunctions new.lists.disjunctions fixes.disjunctions) q.condition)
+          (λ l. still_has (λ literals. has literals l) refl middle given fixes (ap (λ ls. has_candidates ls r) enrols.lists ∙ fresh) q.requirement) (enrols.built.clauses q a);
+      needs = fits_more (literals_in middle.lists) (literals_in new.lists) middle.needs middle.queue (λ q es. still_has (is_met es) refl middle given fixes (ap (λ ls. has_candidates ls r) enrols.lists ∙ fresh) q) enrols.built.needs;
       seen = enrols.built.seen;
     })
   ]
     where
-      still_met : (middle : Encoder N S) (given : Vec (Candidate N) Global) → FixesCandidates r given middle.lists new.lists → has_candidates middle.lists r ≡ false → (q : Requirement) (es : List Entry) → is_met es (literals_in middle.lists q) ≡ true → is_met es (literals_in new.lists q) ≡ true
-      still_met middle given fixes fresh q es met = elim (fix_other r q given middle.lists new.lists fixes) [
-        | inl is ↦ absurd (both_ways (is_met es (candidate_literals (items_or_none (slot_of middle.lists.candidates q)))) (ap (λ x. is_met es (candidate_literals (items_or_none x))) (ap (slot_of middle.lists.candidates) is ∙ no_slot (slot_of middle.lists.candidates r) fresh)) met)
-        | inr is ↦ subst (λ x. is_met es (candidate_literals (items_or_none x)) ≡ true) (sym is) met
+      -- what needs some literal is still true of a requirement's literals
+      still_has : (test : List Signed → Bool) → test [] ≡ false → (middle : Encoder N S) (given : Vec (Candidate N) Global) → FixesCandidates r given middle.lists new.lists → has_candidates middle.lists r ≡ false → (q : Requirement) → test (literals_in middle.lists q) ≡ true → test (literals_in new.lists q) ≡ true
+      still_has test empty middle given fixes fresh q h = elim (fix_other r q given middle.lists new.lists fixes) [
+        | inl is ↦ absurd (both_ways (test (candidate_literals (items_or_none (slot_of middle.lists.candidates q)))) (ap (λ x. test (candidate_literals (items_or_none x))) (ap (slot_of middle.lists.candidates) is ∙ no_slot (slot_of middle.lists.candidates r) fresh) ∙ empty) h)
+        | inr is ↦ subst (λ x. test (candidate_literals (items_or_none x)) ≡ true) (sym is) h
       ]
 
       candidates_new : (middle : Encoder N S) (given : Vec (Candidate N) Global) → IsBuilt middle → FixesCandidates r given middle.lists new.lists → ((c : Candidate N) → Contains given.items c → (o : Offered N S) × Contains offered o × IsOfferedAs middle.registry middle.coding o c)

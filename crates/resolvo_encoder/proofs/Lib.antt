@@ -8,7 +8,9 @@ pub mod NeedLemmas
 pub mod EncodesLemmas
 pub mod Parents
 pub mod DecideLemmas
+pub mod NeedClauses
 pub mod BuildLemmas
+pub mod UndecidedLemmas
 pub mod Digits
 pub mod TurnLemmas
 pub mod StayLemmas

@@ -61,7 +61,7 @@ IsStep old new (Step.Refused r) = IsRefusal new.coding.search r.literals.items r
 -- whether a decision was made, or nothing is left to decide
 abbrev pub IsChoice : {N S : Type 0} → Encoder N S → Encoder N S → Bool → Type 0
 IsChoice old new true = IsHeavier old new
-IsChoice old new false = AreQuiet old → IsDone new
+IsChoice old new false = IsDone new
 
 -- the result of the search: nothing is left to propagate or decide, or a final conflict
 abbrev pub IsDecision : {N S : Type 0} → Encoder N S → Option FinalConflict → Type 0

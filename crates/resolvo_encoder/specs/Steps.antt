@@ -7,6 +7,7 @@ use Rattle.resolvo_pool_core.specs.declared.requirement.Requirement.{Requirement
 use Rattle.resolvo_pool_core.specs.declared.id.DenseId.{DenseId}
 use Rattle.resolvo_pool_core.specs.declared.id.DisjunctionTag.{DisjunctionTag}
 use Rattle.resolvo_store_core.specs.Clauses.{yes, no, candidate_literals}
+use Rattle.resolvo_store_core.specs.Signed.{Signed, has}
 use Rattle.resolvo_store_core.specs.declared.decide_queue.NeedClause.{NeedClause}
 use Rattle.resolvo_store_core.specs.declared.lists.Candidate.{Candidate}
 use Rattle.resolvo_store_core.specs.declared.lists.FixedLists.{FixedLists}
@@ -21,6 +22,9 @@ use Rattle.resolvo_pool_core.specs.declared.id.VersionSetId.{VersionSetId}
 use Rattle.resolvo_pool_core.specs.declared.requirement.ConditionalRequirement.{ConditionalRequirement}
 use Rattle.resolvo_decide.specs.Needs.{literals_in, Fits, AddsNeed}
 use Rattle.resolvo_sat.specs.Encoding.{Rule, cases_for, IsRule}
+use Rattle.resolvo_sat.specs.Known.{clause_at}
+use Rattle.resolvo_sat.specs.State.{lists}
+use Rattle.resolvo_sat.specs.declared.state.SatClause.{SatClause}
 use Rattle.resolvo_state.specs.declared.atom.ProofAtom.{ProofAtom}
 use Rattle.resolvo_state.specs.declared.atom.ProofAtom.TheVariants.{Solvable, Gate}
 use Rattle.resolvo_state.specs.declared.clause_kind.ClauseKind.TheVariants as Kind
@@ -36,15 +40,23 @@ use Rattle.resolvo_state.specs.SolverState.{IsCoding, IsBegun, Grows, LacksNumbe
 use Rattle.resolvo_state.specs.Registered.{AreTied, IsTracked, IsDigitClause, IsNothing, Registers}
 use Rattle.resolvo_encoder.specs.declared.encoder.Encoder.{Encoder}
 
+-- the need's clause exists, and has no literals but the denial of the parent, those of the
+-- condition and those of the candidates
+pub record HasNeedLiterals {N : Type 0} (ls : FixedLists N) (clauses : List SatClause) (q : NeedClause) : Type 0 where
+  pub in_range : q.clause.0 < length clauses
+  pub each : (l : Signed) → has (clause_at (lists clauses) q.clause.0) l ≡ true → has (no q.parent ∷ (condition_in ls q.condition ++ candidate_literals (candidates_in ls q.requirement))) l ≡ true
+
 -- The precondition of the calls, for any packages: the search is ready, registered solvables are
 -- tied to their packages, candidates are positive literals of solvables, each gate is its
--- requirement's. The states of requires clauses fit a prefix of the trail.
+-- requirement's. The clauses of the queue have their needs' literals, and the states of these
+-- clauses fit a prefix of the trail.
 pub record IsBuilt {N S : Type 0} (e : Encoder N S) : Type 0 where
   pub coding : IsCoding e.coding
   pub tied : AreTied e.registry e.coding
   pub candidates : (r : Requirement) (c : Candidate N) → Contains (candidates_in e.lists r) c → (c.literal.positive ≡ true) × ((s : S) × Represents e.coding.atoms.keys c.literal.variable (Solvable s))
   pub gates : (r : Requirement) (v : VariableId) → slot_of e.gates r ≡ Some v → Represents e.coding.atoms.keys v (Gate r)
   pub within : e.encoded ≤ length e.parents.keys
+  pub clauses : (q : NeedClause) → Contains e.queue q → HasNeedLiterals e.lists e.coding.search.clauses q
   pub needs : Fits (literals_in e.lists) e.needs e.queue
   pub seen : IsPrefixOf e.needs.seen.items e.coding.search.tracker.trail
 

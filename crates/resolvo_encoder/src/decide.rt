@@ -7,7 +7,7 @@ ghost use Rattle.resolvo_sat.specs.Steps.{Undoes};
 ghost use Rattle.resolvo_state.specs.SolverState.{LacksNumber};
 ghost use Rattle.resolvo_encoder.specs.Encoded.{StaysEncoding};
 ghost use Rattle.resolvo_encoder.specs.Steps.{IsBuilt};
-ghost use Rattle.resolvo_encoder.specs.Progress.{IsNext, GoesOn, IsStep, IsChoice};
+ghost use Rattle.resolvo_encoder.specs.Progress.{IsNext, GoesOn, AreQuiet, IsStep, IsChoice};
 ghost use Rattle.resolvo_encoder.specs.Base.{KeepsFirst, KeepsTurns};
 
 use crate::encoder::Encoder;
@@ -24,6 +24,10 @@ use std::alloc::Global;
 use std::fmt::Debug;
 use std::hash::Hash;
 
+/// How many undecided candidates a clause that offers a decision has at least, once propagation is
+/// complete: with one it would be a unit clause.
+const FEWEST: usize = 2;
+
 /// The result of one step.
 #[derive(Debug, Drop)]
 pub enum Step {
@@ -39,11 +43,9 @@ pub enum Step {
 
 impl<N: Copy + Exact + Hash + Debug + Drop, S: Copy + Exact + Hash + Debug> Encoder<N, S> {
     /// The next candidate to decide, if one is left. Updates the states of requires clauses.
-    pub fn next_decision<C: ScoreMap<N>>(
-        &mut self,
-        scores: &Scores<N, C>,
-    ) -> R<Option<NextDecision>>
-        requires { IsBuilt self.old }
+    fn next_decision<C: ScoreMap<N>>(&mut self, scores: &Scores<N, C>) -> R<Option<NextDecision>>
+        requires built { IsBuilt self.old }
+        requires quiet { AreQuiet self.old }
         ensures next { IfOk result (IsNext (C.score_of scores.now.map) self.new) }
         ensures built { OnOk result (IsBuilt self.new) }
         ensures rest { OnOk result (self.new ≡ record self.old { needs = self.new.needs }) }
@@ -52,13 +54,14 @@ impl<N: Copy + Exact + Hash + Debug + Drop, S: Copy + Exact + Hash + Debug> Enco
         let trail = &self.coding.search.tracker;
         let next = self
             .needs
-            .next_decision(&self.queue, &self.lists, trail, scores)?;
+            .next_decision(&self.queue, &self.lists, trail, scores, FEWEST)?;
         Ok(next)
     }
 
     /// Decides the next candidate. False where none is left.
-    pub fn choose_next<C: ScoreMap<N>>(&mut self, scores: &Scores<N, C>) -> R<bool>
-        requires { IsBuilt self.old }
+    fn choose_next<C: ScoreMap<N>>(&mut self, scores: &Scores<N, C>) -> R<bool>
+        requires built { IsBuilt self.old }
+        requires quiet { AreQuiet self.old }
         // After an answer.
         ensures stays { OnOk result (StaysEncoding S.eq self.old self.new) }
         ensures goes_on { OnOk result (GoesOn self.old self.new) }

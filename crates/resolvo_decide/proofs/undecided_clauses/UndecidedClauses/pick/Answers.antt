@@ -3,7 +3,7 @@ use Rattle.resolvo_store_core.specs.Pick.{pick_after, later}
 use Rattle.resolvo_store_core.specs.Trail.{value_in}
 use Rattle.resolvo_store_core.specs.Values.{value_at}
 use Rattle.resolvo_decide.specs.Needs.{literals_in}
-use Rattle.resolvo_decide.proofs.FitLemmas.{fits_same, pick_taken, pick_beaten, pick_closed, pick_final}
+use Rattle.resolvo_decide.proofs.FitLemmas.{fits_same, pick_taken, pick_beaten, pick_closed, pick_final, many_left}
 use Rattle.resolvo_decide.proofs.undecided_clauses.UndecidedClauses.pick.Goals.{then-may_beat+else-is_final, else-may_beat}
 use Rattle.resolvo_decide.proofs.undecided_clauses.UndecidedClauses.pick.Goals as goal
 
@@ -47,7 +47,7 @@ returns-then-is_final-clause-picked g c =
     let best = c.or_later-best.result in
     sym (c.loop-position.invariant.picked ∙ pick_taken lists values score c.loop-position.best qs i _ c.loop-position-test.true
     ∙ ap (λ b. pick_after lists values score b (drop (i + 1) qs)) (sym (c.or_later-best.ensures ∙ ap (later c.loop-position.best) c.offered.ensures))
-    ∙ pick_final lists values score c.args.most c.requires.bounded best (drop (i + 1) qs) (c.is_final.ensures c.if-is_final.true))
+    ∙ pick_final lists values score c.args.most c.requires.bounded c.args.fewest best (drop (i + 1) qs) (many_left lists values score c.args.most c.requires.bounded c.args.fewest (i + 1) qs c.requires.fewest) (c.is_final.ensures c.if-is_final.true))
 
 pub returns-then-is_final-clause-seen : goal.returns-then-is_final-clause-seen
 returns-then-is_final-clause-seen g c = c.may_beat.ensures.seen ∙ c.loop-position.invariant.seen

@@ -27,7 +27,7 @@ returns-in-None-clause-stays g c = λ p root lawful e.
     recorded_keeps c.args.self.now c.next_decision.new.self c.in_ok-next_decision.ensures.rest g.S.PartialEq.eq exact p root lawful e
 
 pub returns-in-None-clause-goes_on : goal.returns-in-None-clause-goes_on
-returns-in-None-clause-goes_on g c = recorded_goes c.args.self.now c.next_decision.new.self c.in_ok-next_decision.ensures.rest c.requires.coding
+returns-in-None-clause-goes_on g c = recorded_goes c.args.self.now c.next_decision.new.self c.in_ok-next_decision.ensures.rest c.requires.built.coding
 
 pub returns-in-None-clause-built : goal.returns-in-None-clause-built
 returns-in-None-clause-built g c = c.in_ok-next_decision.ensures.built
@@ -36,10 +36,10 @@ pub returns-in-None-clause-first : goal.returns-in-None-clause-first
 returns-in-None-clause-first g c = subst (λ (x : Encoder _ _). KeepsFirst c.args.self.now x) (sym c.in_ok-next_decision.ensures.rest) (first_same c.args.self.now)
 
 pub returns-in-None-clause-chosen : goal.returns-in-None-clause-chosen
-returns-in-None-clause-chosen g c = λ quiet.
+returns-in-None-clause-chosen g c =
     let next = c.in_ok-next_decision.ensures.next in
     record {
-      quiet = subst (λ (x : Encoder _ _). AreQuiet x) (sym c.in_ok-next_decision.ensures.rest) quiet;
+      quiet = subst (λ (x : Encoder _ _). AreQuiet x) (sym c.in_ok-next_decision.ensures.rest) c.requires.quiet;
       values = next.values;
       score = g.C.ScoreMap.score_of c.args.scores.now.map;
       agree = next.agree;
@@ -56,7 +56,7 @@ returns-in_ok-choose-in-Some-clause-stays g c = λ p root lawful e.
 
 pub returns-in_ok-choose-in-Some-clause-goes_on : goal.returns-in_ok-choose-in-Some-clause-goes_on
 returns-in_ok-choose-in-Some-clause-goes_on g c =
-    goes_then c.args.self.now c.next_decision.new.self (record c.next_decision.new.self { coding = c.choose.new.self }) (recorded_goes c.args.self.now c.next_decision.new.self c.in_ok-next_decision.ensures.rest c.requires.coding)
+    goes_then c.args.self.now c.next_decision.new.self (record c.next_decision.new.self { coding = c.choose.new.self }) (recorded_goes c.args.self.now c.next_decision.new.self c.in_ok-next_decision.ensures.rest c.requires.built.coding)
     (choice_goes c.next_decision.new.self c.choose.new.self c.in-Some.next.candidate c.in-Some.next.clause_id c.in_ok-choose-in-Some.ensures.chosen c.in_ok-choose-in-Some.ensures.kept)
 
 pub returns-in_ok-choose-in-Some-clause-chosen : goal.returns-in_ok-choose-in-Some-clause-chosen

@@ -10,8 +10,13 @@ use Rattle.resolvo_encoder.proofs.StayLemmas.{digits_kept, step_goes, step_keeps
 use Rattle.resolvo_encoder.proofs.Bases.{step_first, first_then}
 use Rattle.resolvo_encoder.proofs.encoder.Encoder.step.Goals as goal
 
-pub choose_next-requires : goal.choose_next-requires
-choose_next-requires g c =
+pub choose_next-requires-clause-quiet : goal.choose_next-requires-clause-quiet
+choose_next-requires-clause-quiet g c =
+    let step : Advances c.args.self.now.coding c.propagate_and_learn.new.self StepResult.Complete = subst (λ (q : StepResult). Advances c.args.self.now.coding c.propagate_and_learn.new.self q) c.in-Complete.is c.in_ok-refusal.ensures.advanced in
+    step.progress.quiet
+
+pub choose_next-requires-clause-built : goal.choose_next-requires-clause-built
+choose_next-requires-clause-built g c =
     let step : Advances c.args.self.now.coding c.propagate_and_learn.new.self StepResult.Complete = subst (λ (q : StepResult). Advances c.args.self.now.coding c.propagate_and_learn.new.self q) c.in-Complete.is c.in_ok-refusal.ensures.advanced in
     let goes = step_goes c.args.self.now c.propagate_and_learn.new.self c.in_ok-refusal.field-0 c.requires.coding c.in_ok-refusal.ensures.advanced in
     built_rest c.args.self.now (record c.args.self.now { coding = c.propagate_and_learn.new.self }) c.requires goes.coding goes.grows (digits_kept c.args.self.now (record c.args.self.now { coding = c.propagate_and_learn.new.self }) c.requires.coding goes) goes.rest refl (step.progress.extends.more, step.progress.extends.added)
@@ -69,9 +74,8 @@ returns-else-has_chosen-clause-goes_on g c =
 
 pub returns-else-has_chosen-clause-step : goal.returns-else-has_chosen-clause-step
 returns-else-has_chosen-clause-step g c =
-    let step : Advances c.args.self.now.coding c.propagate_and_learn.new.self StepResult.Complete = subst (λ (q : StepResult). Advances c.args.self.now.coding c.propagate_and_learn.new.self q) c.in-Complete.is c.in_ok-refusal.ensures.advanced in
     let middle : Encoder _ _ = record c.args.self.now { coding = c.propagate_and_learn.new.self } in
-    subst (λ (b : Bool). IsChoice middle c.choose_next.new.self b) c.if-has_chosen.false c.in_ok-has_chosen-in-Complete.ensures.chosen step.progress.quiet
+    subst (λ (b : Bool). IsChoice middle c.choose_next.new.self b) c.if-has_chosen.false c.in_ok-has_chosen-in-Complete.ensures.chosen
 
 pub returns-in-Refused-clause-built : goal.returns-in-Refused-clause-built
 returns-in-Refused-clause-built g c =
