@@ -56,9 +56,16 @@ def versions(size):
 
 
 def unnamed(size):
-    """Steps with long clauses that nothing names."""
+    """One step with a long clause, again and again, that nothing names."""
     catalogue = [f"version a {k}" for k in range(size)]
     report = ["install", "a=1 for request line 1"] + [f"step {k + 1} shared a" for k in range(size)]
+    return catalogue, ["needs a 1"], report
+
+
+def spans(size):
+    """Different steps with long clauses that nothing names."""
+    catalogue = [f"version a {k}" for k in range(size)]
+    report = ["install", "a=1 for request line 1"] + [f"step {k + 1} shared a 0..{k + 1}" for k in range(size)]
     return catalogue, ["needs a 1"], report
 
 
@@ -69,7 +76,7 @@ def gates(size):
     return catalogue, ["needs p"], report + [f"step {k + 1} gate p=1 line 2" for k in range(size)]
 
 
-SHAPES = ((entries, 1000), (versions, 1000), (unnamed, 250), (gates, 500))
+SHAPES = ((entries, 1000), (versions, 1000), (unnamed, 250), (spans, 250), (gates, 500))
 
 
 def write(path, lines):

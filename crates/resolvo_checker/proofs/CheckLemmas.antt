@@ -3,8 +3,9 @@ use Rattle.std.proofs.Common.{◌≡◌, ℕ, zero, suc, ◌+◌, ◌-◌, ◌<�
 use Rattle.std.specs.Prelude.{not, ◌&&◌, ◌||◌, slice_get, slice_index_or, is_some, unwrap_or}
 use Rattle.std.specs.Global.{Vec}
 use Rattle.std.specs.List.{list_all}
+use Rattle.std.specs.Option.{option_and_then}
 use Rattle.std.proofs.lemmas.Bool.{cases_Bool, false≢true, and_parts, and_from, and_left, and_right, eqb-true, leb-true}
-use Rattle.std.proofs.lemmas.Option.{same_Some}
+use Rattle.std.proofs.lemmas.Option.{same_Some, slice_get_within}
 use Rattle.std.proofs.lemmas.List.{take_more, map-append}
 use Rattle.std.proofs.lemmas.List.Folds.{list_all-append}
 use Rattle.resolvo_text.specs.Line.{Version, Line}
@@ -29,6 +30,9 @@ use Rattle.resolvo_checker.specs.StepClauses.{Clause, is_listed, is_atom, litera
 use Rattle.resolvo_checker.specs.AtomValues.{same_atom}
 use Rattle.resolvo_checker.specs.Proof.{allows_place, cause_of, follows}
 use Rattle.resolvo_checker.specs.Keys.{Names, Numbered, Extends}
+use Rattle.resolvo_checker.specs.StepKeys.{IsKnownAt, Recorded}
+use Rattle.resolvo_checker.proofs.StepKeyLemmas.{plain, recorded_kept}
+use Rattle.resolvo_checker.specs.declared.clauses.Readings.{Readings}
 use Rattle.resolvo_checker.specs.CheckStep.{allows, clause_or_none, Given, AtomIds, CheckerInvariant}
 use Rattle.resolvo_checker.proofs.Sets.{same_own, same_is}
 use Rattle.resolvo_checker.proofs.NameLemmas.{names_agree, clauses_kept, clauses_push, extends_then, extends_all}
@@ -170,14 +174,15 @@ digit_given catalogue places earlier w q b k distinct there long all given = λ 
 
 -- ---- one step more
 
-pub invariant_push : (catalogue request : List Line) (old new : List (Vec ℕ × ℕ)) (clauses : List (List Literal)) (places after : List (Option ℕ)) (ids : List Literal) (earlier : List Step) (s : Step)
-    → CheckerInvariant catalogue request old clauses places earlier → Keeps old new → Numbered (listed catalogue) new (clause_or_none catalogue request s) ids → Given catalogue after (earlier ++ s ∷ [])
-    → CheckerInvariant catalogue request new (clauses ++ ids ∷ []) after (earlier ++ s ∷ [])
-invariant_push catalogue request old new clauses places after ids earlier s represents keeps numbered given = record {
+pub invariant_push : (catalogue request : List Line) (old new : List (Vec ℕ × ℕ)) (clauses : List (List Literal)) (places after : List (Option ℕ)) (rules found : List (Vec ℕ × ℕ)) (ids : List Literal) (earlier : List Step) (s : Step)
+    → CheckerInvariant catalogue request old clauses places rules earlier → Keeps old new → Numbered (listed catalogue) new (clause_or_none catalogue request s) ids → Given catalogue after (earlier ++ s ∷ []) → Recorded catalogue request found (earlier ++ s ∷ [])
+    → CheckerInvariant catalogue request new (clauses ++ ids ∷ []) after found (earlier ++ s ∷ [])
+invariant_push catalogue request old new clauses places after rules found ids earlier s represents keeps numbered given recorded = record {
   numbered = subst (λ ds. AreNamedClauses (Names (listed catalogue) new) ds (map literals_of (clauses ++ ids ∷ []))) (sym (map-append (clause_or_none catalogue request) earlier (s ∷ [])))
       (subst (AreNamedClauses (Names (listed catalogue) new) (map (clause_or_none catalogue request) earlier ++ clause_or_none catalogue request s ∷ [])) (sym (map-append literals_of clauses (ids ∷ [])))
       (clauses_push (listed catalogue) new (map (clause_or_none catalogue request) earlier) (map literals_of clauses) (clause_or_none catalogue request s) (literals_of ids) (clauses_kept (listed catalogue) old new keeps (map (clause_or_none catalogue request) earlier) (map literals_of clauses) represents.numbered) numbered));
   placed = given;
+  recorded = recorded;
 }
 
 -- ---- how a step fits the earlier ones
@@ -188,11 +193,11 @@ digit_listed catalogue v place bit h = one (is_listed catalogue v) refl h where
   one true e k = e
   one false e k = absurd (false≢true k)
 
-pub follows_derived : (catalogue request : List Line) (entries : List (Vec ℕ × ℕ)) (clauses : List (List Literal)) (places : List (Option ℕ)) (ids : List Literal) (earlier : List Step) (count : ℕ) → AreNumbers entries count → AreDistinct (listed catalogue)
-    → (literals : List step.Literal) (causes : List ℕ) → is_some (clause_of catalogue request (step.Derive literals causes)) ≡ true → CheckerInvariant catalogue request entries clauses places earlier
+pub follows_derived : (catalogue request : List Line) (entries : List (Vec ℕ × ℕ)) (clauses : List (List Literal)) (places : List (Option ℕ)) (rules : List (Vec ℕ × ℕ)) (ids : List Literal) (earlier : List Step) (count : ℕ) → AreNumbers entries count → AreDistinct (listed catalogue)
+    → (literals : List step.Literal) (causes : List ℕ) → is_some (clause_of catalogue request (step.Derive literals causes)) ≡ true → CheckerInvariant catalogue request entries clauses places rules earlier
     → Numbered (listed catalogue) entries (clause_or_none catalogue request (step.Derive literals causes)) ids
     → (list_all (is_earlier (length clauses)) causes && one_pass nat_eq (literals_of ids) (map (clause_at clauses) causes)) ≡ follows catalogue request earlier (step.Derive literals causes)
-follows_derived catalogue request entries clauses places ids earlier count numbers distinct literals causes there represents numbered =
+follows_derived catalogue request entries clauses places rules ids earlier count numbers distinct literals causes there represents numbered =
     derived_alike catalogue request entries count numbers distinct earlier clauses causes (map literal_of literals) ids represents.numbered
     (subst (λ (x : Clause). Numbered (listed catalogue) entries x ids) (derived_is catalogue request literals causes there) numbered)
 
@@ -224,11 +229,36 @@ pub numbers_are : (o : Option Clause) (there : Bool) (vs : List Version) (old ne
 numbers_are None there vs old new ids n e = absurd (false≢true (sym n ∙ e))
 numbers_are (Some clause) there vs old new ids n e = extends_all vs old new ids clause n.1
 
-pub invariant_kept : (catalogue request : List Line) (old new : List (Vec ℕ × ℕ)) (clauses : List (List Literal)) (places : List (Option ℕ)) (earlier : List Step) → Keeps old new → CheckerInvariant catalogue request old clauses places earlier → CheckerInvariant catalogue request new clauses places earlier
-invariant_kept catalogue request old new clauses places earlier keeps represents = record {
+pub invariant_kept : (catalogue request : List Line) (old new : List (Vec ℕ × ℕ)) (clauses : List (List Literal)) (places : List (Option ℕ)) (rules : List (Vec ℕ × ℕ)) (earlier : List Step) → Keeps old new → CheckerInvariant catalogue request old clauses places rules earlier → CheckerInvariant catalogue request new clauses places rules earlier
+invariant_kept catalogue request old new clauses places rules earlier keeps represents = record {
   numbered = clauses_kept (listed catalogue) old new keeps (map (clause_or_none catalogue request) earlier) (map literals_of clauses) represents.numbered;
   placed = represents.placed;
+  recorded = represents.recorded;
 }
 
 pub all_three : (a b c d : Bool) → a ≡ true → b ≡ true → d ≡ c → d ≡ (a && (b && c))
 all_three a b c d e f g = g ∙ (ap (λ y. y && c) (sym f) ∙ ap (λ x. x && (b && c)) (sym e))
+
+-- ---- a step that is there already
+
+pub only_named : (a b c d : Bool) → a ≡ true → c ≡ true → d ≡ b → d ≡ (a && (b && c))
+only_named a b c d e f g = g ∙ (alone b ∙ (ap (λ y. b && y) (sym f) ∙ ap (λ x. x && (b && c)) (sym e))) where
+  alone : (x : Bool) → x ≡ (x && true)
+  alone true = refl
+  alone false = refl
+
+pub no_more : (r : Readings) (n : ℕ) → n ≡ 0 → r ≡ record r { read = r.read + n }
+no_more r n e = ap (λ (m : ℕ). record r { read = m }) (let same : r.read ≡ r.read + n = omega (arith, e) in same)
+
+pub invariant_again : (catalogue request : List Line) (entries : List (Vec ℕ × ℕ)) (clauses : List (List Literal)) (places : List (Option ℕ)) (rules : List (Vec ℕ × ℕ)) (earlier : List Step) (s : Step) (k : ℕ)
+    → CheckerInvariant catalogue request entries clauses places rules earlier → IsKnownAt rules s k
+    → CheckerInvariant catalogue request entries (clauses ++ slice_index_or clauses k [] ∷ []) places rules (earlier ++ s ∷ [])
+invariant_again catalogue request entries clauses places rules earlier s k represents known =
+    let at : slice_get earlier k ≡ Some s = (represents.recorded s k known).0 in
+    let within : k < length earlier = slice_get_within earlier k s at in
+    let numbered : Numbered (listed catalogue) entries (clause_or_none catalogue request s) (slice_index_or clauses k []) =
+    subst (λ (o : Option Step). AreNamed (Names (listed catalogue) entries) (unwrap_or (option_and_then (clause_of catalogue request) o) []) (literals_of (slice_index_or clauses k []))) at
+    (named_at catalogue request entries earlier clauses k within represents.numbered) in
+    invariant_push catalogue request entries entries clauses places places rules rules (slice_index_or clauses k []) earlier s represents (λ a i h. h) numbered
+    (not_digit catalogue places earlier s (plain s known.0 known.1).allows represents.placed)
+    (recorded_kept catalogue request rules earlier s represents.recorded)

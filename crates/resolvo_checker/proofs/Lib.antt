@@ -12,5 +12,6 @@ pub mod NameLemmas
 pub mod BuiltLemmas
 pub mod RuleLineLemmas
 pub mod StepLines
+pub mod StepKeyLemmas
 pub mod CheckLemmas
 pub mod WholeProofs

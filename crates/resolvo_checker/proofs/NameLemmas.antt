@@ -49,7 +49,7 @@ span_key_is (span.Range a b) (span.One n) xs ys k = absurd cc
 head : (m n : ℕ) (xs ys : List ℕ) → m ∷ xs ≡ n ∷ ys → m ≡ n
 head m n xs ys h = cc
 
-tail : (m n : ℕ) (xs ys : List ℕ) → m ∷ xs ≡ n ∷ ys → xs ≡ ys
+pub tail : (m n : ℕ) (xs ys : List ℕ) → m ∷ xs ≡ n ∷ ys → xs ≡ ys
 tail m n xs ys h = cc
 
 -- two keys of SPECs, each before its rest
@@ -63,7 +63,7 @@ spec_key_is s t xs ys h =
     let d : s.span ≡ t.span = p.0 in
     (λ i. record { name = e i; span = d i }, p.1)
 
-specs_key_is : (ss ts : List Spec) → flat_map spec_key ss ≡ flat_map spec_key ts → ss ≡ ts
+pub specs_key_is : (ss ts : List Spec) → flat_map spec_key ss ≡ flat_map spec_key ts → ss ≡ ts
 specs_key_is [] [] h = refl
 specs_key_is [] (t ∷ ts) h = absurd cc
 specs_key_is (s ∷ ss) [] h = absurd cc

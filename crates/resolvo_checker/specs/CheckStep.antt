@@ -1,8 +1,7 @@
 -- The state of the checker of a proof.
-use Rattle.std.specs.Prelude.{◌≡◌, ℕ, ◌+◌, ◌-◌, Bool, true, false, not, ◌&&◌, ◌||◌, ◌==◌, List, [], ◌∷◌, map, length, Option, Some, None, slice_get, unwrap_or, if◌then◌else◌}
+use Rattle.std.specs.Prelude.{◌≡◌, ℕ, ◌+◌, Bool, true, false, ◌==◌, List, [], ◌∷◌, map, length, Option, Some, None, slice_get, unwrap_or}
 use Rattle.std.specs.Global.{Vec}
-use Rattle.std.specs.List.{list_all, list_any}
-use Rattle.std.specs.Option.{option_map_or}
+use Rattle.std.specs.List.{list_all}
 use Rattle.resolvo_text.specs.Line.{Version, Line}
 use Rattle.resolvo_catalogue_core.specs.Listed.{listed}
 use Rattle.resolvo_pool_core.specs.OnePass.{AreNamedClauses}
@@ -15,8 +14,7 @@ use Rattle.resolvo_checker.specs.Literals.{literals_of}
 use Rattle.resolvo_checker.specs.StepClauses.{Clause, clause_of}
 use Rattle.resolvo_checker.specs.Proof.{allows_place}
 use Rattle.resolvo_checker.specs.Keys.{Names, Extends}
-use Rattle.resolvo_checker.specs.Numbers.{number_in}
-use Rattle.resolvo_catalogue_core.specs.declared.rule.VersionNo.{VersionNo}
+use Rattle.resolvo_checker.specs.StepKeys.{Recorded}
 
 abbrev pub flag_at : List Bool → ℕ → Bool
 flag_at flags line = unwrap_or (slice_get flags line) false
@@ -59,6 +57,7 @@ abbrev pub Given : List Line → List (Option ℕ) → List Step → Type 0
 Given catalogue places earlier = (v : Version) (n place : ℕ) → slice_get (listed catalogue) n ≡ Some v → list_all (allows_place v place) earlier ≡ allows (slice_get places n) place
 
 -- the checker's state is that after the earlier steps
-pub record CheckerInvariant (catalogue request : List Line) (entries : List (Vec ℕ × ℕ)) (clauses : List (List Literal)) (places : List (Option ℕ)) (earlier : List Step) : Type 0 where
+pub record CheckerInvariant (catalogue request : List Line) (entries : List (Vec ℕ × ℕ)) (clauses : List (List Literal)) (places : List (Option ℕ)) (rules : List (Vec ℕ × ℕ)) (earlier : List Step) : Type 0 where
   pub numbered : AreNamedClauses (Names (listed catalogue) entries) (map (clause_or_none catalogue request) earlier) (map literals_of clauses)
   pub placed : Given catalogue places earlier
+  pub recorded : Recorded catalogue request rules earlier

@@ -9,4 +9,5 @@ pub mod Proof
 pub mod Built
 pub mod Keys
 pub mod RuleLines
+pub mod StepKeys
 pub mod CheckStep

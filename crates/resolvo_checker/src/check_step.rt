@@ -1,7 +1,7 @@
 //! The check of a proof, step by step.
 //! Its invariant is `CheckerInvariant` of specs/CheckStep.antt.
 
-ghost use Rattle.std.specs.Prelude.{◌≡◌, ◌+◌, ◌^◌, ◌<◌, ◌≤◌, ◌&&◌, [], ◌∷◌, ◌++◌, ℕ, List, IfOk, IsTrue, length, map, is_some, slice_get, true};
+ghost use Rattle.std.specs.Prelude.{◌≡◌, ◌+◌, ◌^◌, ◌<◌, ◌≤◌, ◌&&◌, [], ◌∷◌, ◌++◌, ℕ, List, IfOk, IsTrue, length, map, is_some, slice_get, slice_index_or, true};
 ghost use Rattle.std.specs.Global.{Vec};
 ghost use Rattle.std.specs.Bool.{nat_eq};
 ghost use Rattle.std.specs.List.{list_all};
@@ -27,6 +27,7 @@ use crate::clause_atoms::{
 };
 use crate::clauses::Clauses;
 use crate::literal::Literal;
+use crate::rule_steps::RuleSteps;
 use crate::rup::is_rup;
 use crate::steps::{clause_of, number_of};
 use resolvo_catalogue_core::{Catalogue, Request, Version, VersionNo};
@@ -229,6 +230,8 @@ pub struct Checker {
     pub truth: Assignment,
     /// The places that digit steps gave to versions, by their numbers.
     pub places: Vec<Option<u32>>,
+    /// The steps whose clauses may be longer than they are.
+    pub rules: RuleSteps,
     pub literals: Vec<Literal>,
 }
 
@@ -301,12 +304,12 @@ fn follows(
     // After an answer.
     ensures answer { IfOk result
         (λ fine.
-        (request : List spelled.Line) (entries : List (Vec ℕ × ℕ)) (earlier : List StepValue)
-        (count : ℕ)
+        (request : List spelled.Line) (entries : List (Vec ℕ × ℕ)) (rules : List (Vec ℕ × ℕ))
+        (earlier : List StepValue) (count : ℕ)
         → AreNumbers entries count
         → AreDistinct (listed catalogue.now)
         → is_some (clause_of_lem catalogue.now request (step_of step.now)) ≡ true
-        → CheckerInvariant catalogue.now request entries clauses.old.kept places.now earlier
+        → CheckerInvariant catalogue.now request entries clauses.old.kept places.now rules earlier
         → Numbered (listed catalogue.now) entries
         (clause_or_none catalogue.now request (step_of step.now)) literals.now
         → fine ≡ follows_lem catalogue.now request earlier (step_of step.now)) }
@@ -355,10 +358,8 @@ fn record_place(catalogue: &Catalogue, places: &mut Vec<Option<u32>>, step: &Ste
     }
 }
 
-/// Checks the next step, and adds its clause if it is valid.
-///
-/// The steps are numbered from 1.
-pub fn advance(
+/// Checks a step that isn't there yet, and adds its clause if it is valid.
+fn add(
     alloc: Global,
     catalogue: &Catalogue,
     request: &Request,
@@ -376,7 +377,7 @@ pub fn advance(
         (λ fine.
         (earlier : List StepValue)
         → CheckerInvariant catalogue.now request.now.lines checker.old.numbers clauses.old.kept
-        checker.old.places.items earlier
+        checker.old.places.items checker.old.rules earlier
         → fine
         ≡ is_valid_step catalogue.now request.now.lines (names_catalogue scope.now)
         (names_request scope.now) earlier (step_of step.now)) }
@@ -385,9 +386,9 @@ pub fn advance(
         IsTrue fine
         → (earlier : List StepValue)
         → CheckerInvariant catalogue.now request.now.lines checker.old.numbers clauses.old.kept
-        checker.old.places.items earlier
+        checker.old.places.items checker.old.rules earlier
         → CheckerInvariant catalogue.now request.now.lines checker.new.numbers clauses.new.kept
-        checker.new.places.items (earlier ++ step_of step.now ∷ [])) }
+        checker.new.places.items checker.new.rules (earlier ++ step_of step.now ∷ [])) }
     ensures later { IfOk result (λ fine. IsTrue fine → checker.new.truth.pass ≤ length clauses.new.kept) }
     ensures long { IfOk result
         (λ fine. IsTrue fine → length checker.new.places.items ≡ length (listed catalogue.now)) }
@@ -426,7 +427,88 @@ pub fn advance(
     if !fine {
         return Ok(false);
     }
+    let place = clauses.len();
     clauses.push(&checker.literals)?;
     record_place(catalogue, &mut checker.places, step);
+    checker.rules.record(alloc, step, place)?;
     Ok(true)
+}
+
+/// Adds the clause of the same earlier step, from 0, if the step may name its line.
+fn repeat(
+    scope: &Premises,
+    clauses: &mut Clauses,
+    step: &Step,
+    earlier: usize,
+) -> Result<bool, AllocError>
+    requires within { earlier < length clauses.old.kept }
+    ensures answer { IfOk result
+        (λ fine.
+        fine
+        ≡ rests_on_named (names_catalogue scope.now) (names_request scope.now) (step_of step.now)) }
+    ensures kept { IfOk result
+        (λ fine.
+        IsTrue fine
+        → clauses.new.kept
+        ≡ clauses.old.kept ++ slice_index_or clauses.old.kept earlier [] ∷ []) }
+    ensures count { IfOk result (λ fine. IsTrue fine → length clauses.new.kept ≡ length clauses.old.kept + 1) }
+    ensures readings { clauses.new.readings ≡ clauses.old.readings }
+{
+    if !is_named(scope, step) {
+        return Ok(false);
+    }
+    clauses.repeat(earlier)?;
+    Ok(true)
+}
+
+/// Checks the next step, and adds its clause if it is valid.
+///
+/// The steps are numbered from 1. A step that is there already, whose clause may be longer than the
+/// step, has the clause of the earlier one.
+pub fn advance(
+    alloc: Global,
+    catalogue: &Catalogue,
+    request: &Request,
+    scope: &Premises,
+    checker: &mut Checker,
+    clauses: &mut Clauses,
+    step: &Step,
+) -> Result<bool, AllocError>
+    requires later { checker.old.truth.pass ≤ length clauses.old.kept }
+    requires long { length checker.old.places.items ≡ length (listed catalogue.now) }
+    requires short { length clauses.old.kept + 1 < 2 ^ 32 }
+    requires room { clauses.old.readings.read + causes_in (step_of step.now) < 2 ^ 64 }
+    // After an answer.
+    ensures answer { IfOk result
+        (λ fine.
+        (earlier : List StepValue)
+        → CheckerInvariant catalogue.now request.now.lines checker.old.numbers clauses.old.kept
+        checker.old.places.items checker.old.rules earlier
+        → fine
+        ≡ is_valid_step catalogue.now request.now.lines (names_catalogue scope.now)
+        (names_request scope.now) earlier (step_of step.now)) }
+    ensures represents { IfOk result
+        (λ fine.
+        IsTrue fine
+        → (earlier : List StepValue)
+        → CheckerInvariant catalogue.now request.now.lines checker.old.numbers clauses.old.kept
+        checker.old.places.items checker.old.rules earlier
+        → CheckerInvariant catalogue.now request.now.lines checker.new.numbers clauses.new.kept
+        checker.new.places.items checker.new.rules (earlier ++ step_of step.now ∷ [])) }
+    ensures later { IfOk result (λ fine. IsTrue fine → checker.new.truth.pass ≤ length clauses.new.kept) }
+    ensures long { IfOk result
+        (λ fine. IsTrue fine → length checker.new.places.items ≡ length (listed catalogue.now)) }
+    ensures count { IfOk result (λ fine. IsTrue fine → length clauses.new.kept ≡ length clauses.old.kept + 1) }
+    ensures read { IfOk result
+        (λ fine.
+        IsTrue fine
+        → clauses.new.readings
+        ≡ record clauses.old.readings
+        { read = clauses.old.readings.read + causes_in (step_of step.now) }) }
+{
+    let earlier = checker.rules.earlier(alloc, step, clauses.len())?;
+    match earlier {
+        Some(place) => repeat(scope, clauses, step, place),
+        None => add(alloc, catalogue, request, scope, checker, clauses, step),
+    }
 }

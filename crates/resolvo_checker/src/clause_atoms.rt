@@ -54,7 +54,7 @@ pub fn push_version(
 }
 
 /// Adds the bytes of a name to a key.
-fn push_name(key: &mut Vec<usize>, name: &str) -> Result<(), AllocError>
+pub fn push_name(key: &mut Vec<usize>, name: &str) -> Result<(), AllocError>
     ensures { OnOk result (key.new.items ≡ key.old.items ++ name.now) }
 {
     for byte in name.as_bytes() {
@@ -139,7 +139,8 @@ pub fn push_outside(
     Ok(())
 }
 
-fn shared_key(alloc: Global, alternatives: &[Spec]) -> Result<Vec<usize>, AllocError>
+/// The key of a helper of these alternatives.
+pub fn shared_key(alloc: Global, alternatives: &[Spec]) -> Result<Vec<usize>, AllocError>
     ensures { IfOk result (λ key. key.items ≡ 2 ∷ flat_map spec_key (specs_of alternatives.now)) }
 {
     let mut key = vec![in alloc; 2]?;

@@ -1,9 +1,9 @@
 //! The clauses of earlier steps, and how often they were named and read.
 //! `Clauses::clause` alone gives a clause out, and counts it as read.
 
-ghost use Rattle.std.specs.Prelude.{◌≡◌, ◌+◌, ◌^◌, ◌<◌, ◌≤◌, [], ◌∷◌, ◌++◌, OnOk, OnErr, length, Some, slice_get};
+ghost use Rattle.std.specs.Prelude.{◌≡◌, ◌+◌, ◌^◌, ◌<◌, ◌≤◌, [], ◌∷◌, ◌++◌, OnOk, OnErr, length, Some, slice_get, slice_index_or};
 ghost use Rattle.std.specs.List.{slice_range};
-ghost use Rattle.resolvo_checker.specs.Pieces.{pieces, AreEnds, start_of};
+ghost use Rattle.resolvo_checker.specs.Pieces.{pieces, AreWithin};
 
 use crate::literal::Literal;
 use std::alloc::{AllocError, Global};
@@ -16,79 +16,92 @@ pub struct Readings {
     read: u64,
 }
 
-/// A clause for each step, in one flat vector of literals with an end for each.
+/// A clause for each step, in one flat vector of literals, with the range of each. Equal steps
+/// have one range.
 #[derive(Drop)]
 pub struct Flat {
     literals: Vec<Literal>,
-    ends: Vec<usize>,
+    ranges: Vec<(usize, usize)>,
 }
 
 impl Model for Flat {
     ghost use Rattle.std.specs.Prelude.{List, ℕ, length};
     ghost use Rattle.resolvo_checker.specs.declared.literal.Literal.{Literal};
-    ghost use Rattle.resolvo_checker.specs.Pieces.{pieces, AreEnds};
+    ghost use Rattle.resolvo_checker.specs.Pieces.{pieces, AreWithin};
 
     ghost Value = { List (List Literal) };
 
-    ghost view = { λ c. pieces c.literals.items 0 c.ends.items };
+    ghost view = { λ c. pieces c.literals.items c.ranges.items };
 
-    ghost invariant = { λ c. AreEnds 0 c.ends.items (length c.literals.items) };
-}
-
-/// Where the n-th piece begins.
-fn start(ends: &[usize], n: usize) -> usize
-    requires { n ≤ length ends.now }
-    ensures { result ≡ start_of 0 ends.now n }
-{
-    if n == 0 { 0 } else { ends[n - 1] }
+    ghost invariant = { λ c. AreWithin (length c.literals.items) c.ranges.items };
 }
 
 /// Where the n-th piece begins and ends, n from 0.
-fn part(flat: &[Literal], ends: &[usize], n: usize) -> (usize, usize)
-    requires ends { AreEnds 0 ends.now (length flat.now) }
-    requires within { n < length ends.now }
+fn part(flat: &[Literal], ranges: &[(usize, usize)], n: usize) -> (usize, usize)
+    requires inside { AreWithin (length flat.now) ranges.now }
+    requires within { n < length ranges.now }
     ensures rising { result.0 ≤ result.1 }
     ensures inside { result.1 ≤ length flat.now }
-    ensures piece { slice_get (pieces flat.now 0 ends.now) n ≡ Some (slice_range flat.now result.0 result.1) }
+    ensures piece { slice_get (pieces flat.now ranges.now) n ≡ Some (slice_range flat.now result.0 result.1) }
 {
-    (start(ends, n), ends[n])
+    ranges[n]
 }
 
 /// The n-th piece, n from 0.
-fn piece<'a>(flat: &'a [Literal], ends: &[usize], n: usize) -> &'a [Literal]
-    requires ends { AreEnds 0 ends.now (length flat.now) }
-    requires within { n < length ends.now }
-    ensures { slice_get (pieces flat.now 0 ends.now) n ≡ Some result.now }
+fn piece<'a>(flat: &'a [Literal], ranges: &[(usize, usize)], n: usize) -> &'a [Literal]
+    requires inside { AreWithin (length flat.now) ranges.now }
+    requires within { n < length ranges.now }
+    ensures { slice_get (pieces flat.now ranges.now) n ≡ Some result.now }
 {
-    let (start, end) = part(flat, ends, n);
+    let (start, end) = part(flat, ranges, n);
     &flat[start..end]
 }
 
 /// Adds a piece at the end.
 fn push_piece(
     literals: &mut Vec<Literal>,
-    ends: &mut Vec<usize>,
+    ranges: &mut Vec<(usize, usize)>,
     piece: &[Literal],
 ) -> Result<(), AllocError>
-    requires { AreEnds 0 ends.old.items (length literals.old.items) }
-    ensures ends { AreEnds 0 ends.new.items (length literals.new.items) }
+    requires { AreWithin (length literals.old.items) ranges.old.items }
+    ensures inside { AreWithin (length literals.new.items) ranges.new.items }
     ensures ok { OnOk result
-        (pieces literals.new.items 0 ends.new.items
-        ≡ pieces literals.old.items 0 ends.old.items ++ piece.now
+        (pieces literals.new.items ranges.new.items
+        ≡ pieces literals.old.items ranges.old.items ++ piece.now
         ∷ []) }
     ensures err { OnErr result
-        (pieces literals.new.items 0 ends.new.items ≡ pieces literals.old.items 0 ends.old.items) }
+        (pieces literals.new.items ranges.new.items ≡ pieces literals.old.items ranges.old.items) }
 {
-    let before = literals.len();
+    let start = literals.len();
     literals.extend_from_slice(piece)?;
     let end = literals.len();
-    match ends.push(end) {
+    match ranges.push((start, end)) {
         Ok(()) => Ok(()),
         Err(_) => {
-            literals.truncate(before);
+            literals.truncate(start);
             Err(AllocError)
         }
     }
+}
+
+/// Adds the n-th piece again, n from 0, without its literals.
+fn repeat_piece(
+    flat: &[Literal],
+    ranges: &mut Vec<(usize, usize)>,
+    n: usize,
+) -> Result<(), AllocError>
+    requires inside { AreWithin (length flat.now) ranges.old.items }
+    requires within { n < length ranges.old.items }
+    ensures inside { AreWithin (length flat.now) ranges.new.items }
+    ensures ok { OnOk result
+        (pieces flat.now ranges.new.items
+        ≡ pieces flat.now ranges.old.items ++ slice_index_or (pieces flat.now ranges.old.items) n []
+        ∷ []) }
+    ensures err { OnErr result (ranges.new.items ≡ ranges.old.items) }
+{
+    let range = part(flat, ranges, n);
+    ranges.push(range)?;
+    Ok(())
 }
 
 impl Flat {
@@ -97,21 +110,30 @@ impl Flat {
     {
         Flat {
             literals: Vec::new(alloc),
-            ends: Vec::new(alloc),
+            ranges: Vec::new(alloc),
         }
     }
 
     fn len(&self) -> usize
         ensures { result ≡ length self.now }
     {
-        self.ends.len()
+        self.ranges.len()
     }
 
     fn push(&mut self, clause: &[Literal]) -> Result<(), AllocError>
         ensures ok { OnOk result (self.new ≡ self.old ++ clause.now ∷ []) }
         ensures err { OnErr result (self.new ≡ self.old) }
     {
-        push_piece(&mut self.literals, &mut self.ends, clause)
+        push_piece(&mut self.literals, &mut self.ranges, clause)
+    }
+
+    /// Adds the n-th clause again, n from 0.
+    fn repeat(&mut self, n: usize) -> Result<(), AllocError>
+        requires within { n < length self.old }
+        ensures ok { OnOk result (self.new ≡ self.old ++ slice_index_or self.old n [] ∷ []) }
+        ensures err { OnErr result (self.new ≡ self.old) }
+    {
+        repeat_piece(&self.literals, &mut self.ranges, n)
     }
 
     /// The n-th clause, n from 0.
@@ -119,7 +141,7 @@ impl Flat {
         requires within { n < length self.now }
         ensures { slice_get self.now n ≡ Some result.now }
     {
-        piece(self.literals.as_slice(), self.ends.as_slice(), n)
+        piece(self.literals.as_slice(), self.ranges.as_slice(), n)
     }
 }
 
@@ -155,6 +177,17 @@ impl Clauses {
         ensures readings { self.new.readings ≡ self.old.readings }
     {
         self.kept.push(clause)
+    }
+
+    /// Adds the clause of an earlier step, from 0, as that of the next one.
+    pub fn repeat(&mut self, step: usize) -> Result<(), AllocError>
+        requires within { step < length self.old.kept }
+        ensures ok { OnOk result
+            (self.new.kept ≡ self.old.kept ++ slice_index_or self.old.kept step [] ∷ []) }
+        ensures err { OnErr result (self.new.kept ≡ self.old.kept) }
+        ensures readings { self.new.readings ≡ self.old.readings }
+    {
+        self.kept.repeat(step)
     }
 
     /// The clause of a step, from 0. It is counted as read.

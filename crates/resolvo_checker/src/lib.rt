@@ -11,5 +11,6 @@ pub mod clauses;
 pub mod literal;
 pub mod of_line;
 pub mod proof;
+pub mod rule_steps;
 mod rup;
 pub mod steps;

@@ -15,6 +15,7 @@ use crate::assignment::Assignment;
 use crate::atom_ids::AtomIds;
 use crate::check_step::{Checker, Premises, advance};
 use crate::clauses::{Clauses, Readings};
+use crate::rule_steps::RuleSteps;
 use resolvo_catalogue_core::{Catalogue, Request};
 use resolvo_report::Step;
 use std::alloc::{AllocError, Global};
@@ -39,7 +40,8 @@ pub fn nothing_each<T: Copy>(alloc: Global, count: usize) -> Result<Vec<Option<T
 
 /// The checker's state before the first step.
 pub fn begin(alloc: Global, catalogue: &Catalogue, request: &Request) -> Result<Checker, AllocError>
-    ensures represents { IfOk result (λ c. CheckerInvariant catalogue.now request.now.lines c.numbers [] c.places.items []) }
+    ensures represents { IfOk result (λ c.
+        CheckerInvariant catalogue.now request.now.lines c.numbers [] c.places.items c.rules []) }
     ensures pass { IfOk result (λ c. c.truth.pass ≡ 0) }
     ensures long { IfOk result (λ c. length c.places.items ≡ length (listed catalogue.now)) }
 {
@@ -48,6 +50,7 @@ pub fn begin(alloc: Global, catalogue: &Catalogue, request: &Request) -> Result<
         numbers: AtomIds::new(alloc),
         truth: Assignment::new(alloc),
         places,
+        rules: RuleSteps::new(alloc),
         literals: Vec::new(alloc),
     })
 }
@@ -85,7 +88,7 @@ fn check_from(
     steps: &[Step],
 ) -> Result<Option<usize>, AllocError>
     requires represents { CheckerInvariant catalogue.now request.now.lines checker.old.numbers clauses.old.kept
-        checker.old.places.items [] }
+        checker.old.places.items checker.old.rules [] }
     requires pass { checker.old.truth.pass ≡ 0 }
     requires count { clauses.old.kept ≡ [] }
     requires unnamed { clauses.old.readings.named ≡ 0 }

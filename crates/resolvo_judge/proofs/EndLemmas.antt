@@ -83,7 +83,7 @@ is_install_head (Numbered n s) head h = absurd cc
 is_install_head (Message b) head h = absurd cc
 
 pub invariant_head : (catalogue request : List Line) (l head : ReportLine) (refused : Bool) (given log : ProofState) (entries : Entries) (alternatives : Alternatives) → l ≡ head → answers_in (head ∷ []) ≡ [] → given ≡ log → refused ≡ is_refusal (l ∷ [])
-    → LogInvariant catalogue request log.checker.numbers [] log.checker.places.items log.scope log.ends_empty (head ∷ []) → KeepsAnswers entries [] → KeepsLines request entries [] → JudgeInvariant catalogue request (record { refused = refused; log = given; entries = entries; alternatives = alternatives; forbidden = true }) [] (l ∷ [])
+    → LogInvariant catalogue request log.checker.numbers [] log.checker.places.items log.checker.rules log.scope log.ends_empty (head ∷ []) → KeepsAnswers entries [] → KeepsLines request entries [] → JudgeInvariant catalogue request (record { refused = refused; log = given; entries = entries; alternatives = alternatives; forbidden = true }) [] (l ∷ [])
 invariant_head catalogue request l head refused given log entries alternatives is none same refusal represents kept lines =
     subst (λ (x : ReportLine). JudgeInvariant catalogue request (record { refused = refused; log = given; entries = entries; alternatives = alternatives; forbidden = true }) [] (x ∷ [])) (sym is)
     (subst (λ (g : ProofState). JudgeInvariant catalogue request (record { refused = refused; log = g; entries = entries; alternatives = alternatives; forbidden = true }) [] (head ∷ [])) (sym same) (record {

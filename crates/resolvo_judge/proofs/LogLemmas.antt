@@ -39,16 +39,16 @@ rest_more above n s f none k =
     ap (λ xs. may_rest (above ++ Numbered n s ∷ []) xs k) (one_more f above (Numbered n s) [] none ∙ append-nil (flat_map f above))
     ∙ ap (λ b. cond b (is_named (flat_map f above) k) true) (refusal_more above (Numbered n s) refl)
 
-module _ (catalogue request : List Line) (entries : List (Vec ℕ × ℕ)) (clauses : List (List Literal)) (places : List (Option ℕ)) (scope : Premises) (empty : Bool) (above : List ReportLine) (represents : LogInvariant catalogue request entries clauses places scope empty above) where
+module _ (catalogue request : List Line) (entries : List (Vec ℕ × ℕ)) (clauses : List (List Literal)) (places : List (Option ℕ)) (rules : List (Vec ℕ × ℕ)) (scope : Premises) (empty : Bool) (above : List ReportLine) (represents : LogInvariant catalogue request entries clauses places rules scope empty above) where
   -- a step passes exactly where it is valid after the steps so far
   pub passes_so : (n : ℕ) (s : Step) → is_valid_step catalogue request (names_catalogue scope) (names_request scope) (steps_in above) s ≡ passes catalogue request above (Numbered n s)
   passes_so n s =
       ap (λ (c : ℕ → Bool). is_valid_step catalogue request c (names_request scope) (steps_in above) s) (λ i k. represents.catalogue_lines k i)
       ∙ ap (λ (r : ℕ → Bool). is_valid_step catalogue request (may_rest above (catalogue_lines_in above)) r (steps_in above) s) (λ i k. represents.request_lines k i)
 
-  pub step_more : (new : List (Vec ℕ × ℕ)) (more : List (List Literal)) (after : List (Option ℕ)) (n : ℕ) (s : Step) → CheckerInvariant catalogue request new more after (steps_in above ++ s ∷ []) → LogInvariant catalogue request new more after scope (derives_empty s) (above ++ Numbered n s ∷ [])
-  step_more new more after n s kept = record {
-    steps = subst (λ (xs : List Step). CheckerInvariant catalogue request new more after xs) (sym (one_more step_in above (Numbered n s) (s ∷ []) refl)) kept;
+  pub step_more : (new : List (Vec ℕ × ℕ)) (more : List (List Literal)) (after : List (Option ℕ)) (found : List (Vec ℕ × ℕ)) (n : ℕ) (s : Step) → CheckerInvariant catalogue request new more after found (steps_in above ++ s ∷ []) → LogInvariant catalogue request new more after found scope (derives_empty s) (above ++ Numbered n s ∷ [])
+  step_more new more after found n s kept = record {
+    steps = subst (λ (xs : List Step). CheckerInvariant catalogue request new more after found xs) (sym (one_more step_in above (Numbered n s) (s ∷ []) refl)) kept;
     catalogue_lines = λ k. represents.catalogue_lines k ∙ sym (rest_more above n s catalogue_line_in refl k);
     request_lines = λ k. represents.request_lines k ∙ sym (rest_more above n s request_line_in refl k);
     ends = sym (ap ends_empty (one_more step_in above (Numbered n s) (s ∷ []) refl) ∙ ends_push (steps_in above) s);
@@ -78,17 +78,17 @@ module _ (catalogue request : List Line) (entries : List (Vec ℕ × ℕ)) (clau
   without_step : (l : ReportLine) → step_in l ≡ [] → steps_in (above ++ l ∷ []) ≡ steps_in above
   without_step l h = one_more step_in above l [] h ∙ append-nil (steps_in above)
 
-  pub catalogue_line_more : (after : Premises) (m : ℕ) → ((n : ℕ) → names_catalogue after n ≡ (eqb m n || names_catalogue scope n)) → ((n : ℕ) → names_request after n ≡ names_request scope n) → LogInvariant catalogue request entries clauses places after empty (above ++ CatalogueLine m ∷ [])
+  pub catalogue_line_more : (after : Premises) (m : ℕ) → ((n : ℕ) → names_catalogue after n ≡ (eqb m n || names_catalogue scope n)) → ((n : ℕ) → names_request after n ≡ names_request scope n) → LogInvariant catalogue request entries clauses places rules after empty (above ++ CatalogueLine m ∷ [])
   catalogue_line_more after m named others = record {
-    steps = subst (λ (xs : List Step). CheckerInvariant catalogue request entries clauses places xs) (sym (without_step (CatalogueLine m) refl)) represents.steps;
+    steps = subst (λ (xs : List Step). CheckerInvariant catalogue request entries clauses places rules xs) (sym (without_step (CatalogueLine m) refl)) represents.steps;
     catalogue_lines = λ n. named n ∙ (rest_named (is_refusal above) (catalogue_lines_in above) m n (names_catalogue scope n) (represents.catalogue_lines n) ∙ sym (lines_more (CatalogueLine m) catalogue_line_in (m ∷ []) refl refl n));
     request_lines = λ n. others n ∙ (represents.request_lines n ∙ sym (lines_more (CatalogueLine m) request_line_in [] refl refl n ∙ ap (λ xs. may_rest above xs n) (append-nil (request_lines_in above))));
     ends = represents.ends ∙ ap ends_empty (sym (without_step (CatalogueLine m) refl));
   }
 
-  pub request_line_more : (after : Premises) (m : ℕ) → ((n : ℕ) → names_request after n ≡ (eqb m n || names_request scope n)) → ((n : ℕ) → names_catalogue after n ≡ names_catalogue scope n) → LogInvariant catalogue request entries clauses places after empty (above ++ RequestLine m ∷ [])
+  pub request_line_more : (after : Premises) (m : ℕ) → ((n : ℕ) → names_request after n ≡ (eqb m n || names_request scope n)) → ((n : ℕ) → names_catalogue after n ≡ names_catalogue scope n) → LogInvariant catalogue request entries clauses places rules after empty (above ++ RequestLine m ∷ [])
   request_line_more after m named others = record {
-    steps = subst (λ (xs : List Step). CheckerInvariant catalogue request entries clauses places xs) (sym (without_step (RequestLine m) refl)) represents.steps;
+    steps = subst (λ (xs : List Step). CheckerInvariant catalogue request entries clauses places rules xs) (sym (without_step (RequestLine m) refl)) represents.steps;
     catalogue_lines = λ n. others n ∙ (represents.catalogue_lines n ∙ sym (lines_more (RequestLine m) catalogue_line_in [] refl refl n ∙ ap (λ xs. may_rest above xs n) (append-nil (catalogue_lines_in above))));
     request_lines = λ n. named n ∙ (rest_named (is_refusal above) (request_lines_in above) m n (names_request scope n) (represents.request_lines n) ∙ sym (lines_more (RequestLine m) request_line_in (m ∷ []) refl refl n));
     ends = represents.ends ∙ ap ends_empty (sym (without_step (RequestLine m) refl));
@@ -96,18 +96,18 @@ module _ (catalogue request : List Line) (entries : List (Vec ℕ × ℕ)) (clau
 
   -- ---- lines that name no line and give no step
 
-  plain_more : (l : ReportLine) → is_refusal (l ∷ []) ≡ false → step_in l ≡ [] → catalogue_line_in l ≡ [] → request_line_in l ≡ [] → LogInvariant catalogue request entries clauses places scope empty (above ++ l ∷ [])
+  plain_more : (l : ReportLine) → is_refusal (l ∷ []) ≡ false → step_in l ≡ [] → catalogue_line_in l ≡ [] → request_line_in l ≡ [] → LogInvariant catalogue request entries clauses places rules scope empty (above ++ l ∷ [])
   plain_more l r s c q = record {
-    steps = subst (λ (xs : List Step). CheckerInvariant catalogue request entries clauses places xs) (sym (without_step l s)) represents.steps;
+    steps = subst (λ (xs : List Step). CheckerInvariant catalogue request entries clauses places rules xs) (sym (without_step l s)) represents.steps;
     catalogue_lines = λ n. represents.catalogue_lines n ∙ sym (lines_more l catalogue_line_in [] c r n ∙ ap (λ xs. may_rest above xs n) (append-nil (catalogue_lines_in above)));
     request_lines = λ n. represents.request_lines n ∙ sym (lines_more l request_line_in [] q r n ∙ ap (λ xs. may_rest above xs n) (append-nil (request_lines_in above)));
     ends = represents.ends ∙ ap ends_empty (sym (without_step l s));
   }
 
-  pub answer_more : (a : AnswerLine) → LogInvariant catalogue request entries clauses places scope empty (above ++ line.Answer a ∷ [])
+  pub answer_more : (a : AnswerLine) → LogInvariant catalogue request entries clauses places rules scope empty (above ++ line.Answer a ∷ [])
   answer_more a = plain_more (line.Answer a) refl refl refl refl
 
-  pub message_more : (b : List ℕ) → LogInvariant catalogue request entries clauses places scope empty (above ++ Message b ∷ [])
+  pub message_more : (b : List ℕ) → LogInvariant catalogue request entries clauses places rules scope empty (above ++ Message b ∷ [])
   message_more b = plain_more (Message b) refl refl refl refl
 
 -- the answers of one line more

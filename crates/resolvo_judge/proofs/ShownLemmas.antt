@@ -82,7 +82,7 @@ module _ (bytes other : List ℕ) (above : List ReportLine) where
   invariant_message catalogue request j clauses s = record {
     refused = s.refused ∙ same_refusal bytes other above [];
     log = record {
-      steps = subst (λ (xs : List Step). CheckerInvariant catalogue request j.log.checker.numbers clauses j.log.checker.places.items xs) same_steps s.log.steps;
+      steps = subst (λ (xs : List Step). CheckerInvariant catalogue request j.log.checker.numbers clauses j.log.checker.places.items j.log.checker.rules xs) same_steps s.log.steps;
       catalogue_lines = λ n. s.log.catalogue_lines n ∙ same_rest bytes other catalogue request catalogue_line_in refl above [] n;
       request_lines = λ n. s.log.request_lines n ∙ same_rest bytes other catalogue request request_line_in refl above [] n;
       ends = s.log.ends ∙ ap ends_empty same_steps;

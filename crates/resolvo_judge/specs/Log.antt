@@ -14,15 +14,15 @@ use Rattle.resolvo_judge.specs.declared.log.ProofState.{ProofState}
 
 -- The state is that after these lines: their steps, the lines that steps may name, and whether the
 -- last step derives the empty clause.
-pub record LogInvariant (catalogue request : List Line) (entries : List (Vec ℕ × ℕ)) (clauses : List (List Literal)) (places : List (Option ℕ)) (scope : Premises) (empty : Bool) (above : List ReportLine) : Type 0 where
-  pub steps : CheckerInvariant catalogue request entries clauses places (steps_in above)
+pub record LogInvariant (catalogue request : List Line) (entries : List (Vec ℕ × ℕ)) (clauses : List (List Literal)) (places : List (Option ℕ)) (rules : List (Vec ℕ × ℕ)) (scope : Premises) (empty : Bool) (above : List ReportLine) : Type 0 where
+  pub steps : CheckerInvariant catalogue request entries clauses places rules (steps_in above)
   pub catalogue_lines : (n : ℕ) → names_catalogue scope n ≡ may_rest above (catalogue_lines_in above) n
   pub request_lines : (n : ℕ) → names_request scope n ≡ may_rest above (request_lines_in above) n
   pub ends : empty ≡ ends_empty (steps_in above)
 
 -- The log is that after these lines, with these clauses of their steps.
 abbrev pub KeepsLog : List Line → List Line → ProofState → List (List Literal) → List ReportLine → Type 0
-KeepsLog catalogue request log clauses above = LogInvariant catalogue request log.checker.numbers clauses log.checker.places.items log.scope log.ends_empty above
+KeepsLog catalogue request log clauses above = LogInvariant catalogue request log.checker.numbers clauses log.checker.places.items log.checker.rules log.scope log.ends_empty above
 
 -- The last pass of the checker has the number of a step, or none was made.
 abbrev pub PassIsWithin : ProofState → List (List Literal) → Type 0

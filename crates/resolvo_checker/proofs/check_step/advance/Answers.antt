@@ -1,55 +1,36 @@
-use Rattle.std.proofs.Common.{ap, sym, subst, ◌∙◌, ◌++◌, ◌∷◌, [], true, false}
-use Rattle.std.specs.Prelude.{is_some}
-use Rattle.resolvo_catalogue_core.specs.Listed.{listed}
+use Rattle.std.proofs.Common.{◌∙◌, ℕ, Option, subst, arith}
+use Rattle.std.specs.Prelude.{is_some, IfSome}
+use Rattle.resolvo_catalogue_core.proofs.CatalogueFacts.{ok_map}
 use Rattle.resolvo_report.specs.View.{step_of}
 use Rattle.resolvo_checker.specs.StepClauses.{clause_of}
 use Rattle.resolvo_checker.specs.Proof.{rests_on_named, follows}
-use Rattle.resolvo_checker.specs.Keys.{Numbered}
-use Rattle.resolvo_checker.specs.CheckStep.{names_catalogue, names_request, clause_or_none, CheckerInvariant}
-use Rattle.resolvo_checker.proofs.CheckLemmas.{numbers_some, numbers_keep, numbers_are, invariant_kept, invariant_push, all_three}
+use Rattle.resolvo_checker.specs.StepKeys.{IsKnownAt}
+use Rattle.resolvo_checker.specs.CheckStep.{names_catalogue, names_request, causes_in}
+use Rattle.resolvo_checker.proofs.StepKeyLemmas.{plain}
+use Rattle.resolvo_checker.proofs.CheckLemmas.{only_named, no_more, invariant_again}
 use Rattle.resolvo_checker.proofs.check_step.advance.Goals as goal
 
-pub returns-then-not-fine-clause-answer : goal.returns-then-not-fine-clause-answer
-returns-then-not-fine-clause-answer c = λ earlier s.
+pub returns-in-Some-clause-answer : goal.returns-in-Some-clause-answer
+returns-in-Some-clause-answer c = ok_map c.repeat.result c.repeat.ensures.answer (λ fine e earlier s.
     let cat = c.args.catalogue.now in
     let req = c.args.request.now.lines in
     let st = step_of c.args.step.now in
-    let vs = listed cat in
-    let there = numbers_some (clause_of cat req st) c.in_ok-there.there vs c.args.checker.now.numbers c.number_step.new.numbers c.number_step.new.out.items c.in_ok-there.ensures c.if-not-there.false in
-    let keeps = numbers_keep (clause_of cat req st) c.in_ok-there.there vs c.args.checker.now.numbers c.number_step.new.numbers c.number_step.new.out.items c.in_ok-there.ensures c.if-not-there.false in
-    let ids = numbers_are (clause_of cat req st) c.in_ok-there.there vs c.args.checker.now.numbers c.number_step.new.numbers c.number_step.new.out.items c.in_ok-there.ensures c.if-not-there.false in
-    let represents = subst (λ ps. CheckerInvariant cat req c.number_step.new.numbers c.args.clauses.now.kept ps earlier) (sym c.deref.ensures.value) (invariant_kept cat req c.args.checker.now.numbers c.number_step.new.numbers c.args.clauses.now.kept c.args.checker.now.places.items earlier keeps s) in
-    let numbered = subst (Numbered vs c.number_step.new.numbers (clause_or_none cat req st)) (sym c.deref-2.ensures.value) ids in
-    all_three (is_some (clause_of cat req st)) (rests_on_named (names_catalogue c.args.scope.now) (names_request c.args.scope.now) st) (follows cat req earlier st) false there (sym c.is_named.ensures ∙ c.if-not-is_named.false)
-    (sym c.if-not-fine.true ∙ c.in_ok-fine.ensures.answer req c.number_step.new.numbers earlier c.count-count.result c.count-count.ensures c.versions-versions.ensures.distinct there represents numbered)
+    let known = subst (λ (o : Option ℕ). IfSome o (IsKnownAt c.args.checker.now.rules (step_of c.args.step.now))) c.in-Some.is c.in_ok-earlier.ensures.known in
+    only_named (is_some (clause_of cat req st)) (rests_on_named (names_catalogue c.args.scope.now) (names_request c.args.scope.now) st) (follows cat req earlier st) fine
+    (s.recorded st c.in-Some.place known).1 ((plain st known.0 known.1).follows cat req earlier) e)
 
-pub returns-clause-answer : goal.returns-clause-answer
-returns-clause-answer c = λ earlier s.
-    let cat = c.args.catalogue.now in
-    let req = c.args.request.now.lines in
-    let st = step_of c.args.step.now in
-    let vs = listed cat in
-    let there = numbers_some (clause_of cat req st) c.in_ok-there.there vs c.args.checker.now.numbers c.number_step.new.numbers c.number_step.new.out.items c.in_ok-there.ensures c.if-not-there.false in
-    let keeps = numbers_keep (clause_of cat req st) c.in_ok-there.there vs c.args.checker.now.numbers c.number_step.new.numbers c.number_step.new.out.items c.in_ok-there.ensures c.if-not-there.false in
-    let ids = numbers_are (clause_of cat req st) c.in_ok-there.there vs c.args.checker.now.numbers c.number_step.new.numbers c.number_step.new.out.items c.in_ok-there.ensures c.if-not-there.false in
-    let represents = subst (λ ps. CheckerInvariant cat req c.number_step.new.numbers c.args.clauses.now.kept ps earlier) (sym c.deref.ensures.value) (invariant_kept cat req c.args.checker.now.numbers c.number_step.new.numbers c.args.clauses.now.kept c.args.checker.now.places.items earlier keeps s) in
-    let numbered = subst (Numbered vs c.number_step.new.numbers (clause_or_none cat req st)) (sym c.deref-2.ensures.value) ids in
-    all_three (is_some (clause_of cat req st)) (rests_on_named (names_catalogue c.args.scope.now) (names_request c.args.scope.now) st) (follows cat req earlier st) true there (sym c.is_named.ensures ∙ c.if-not-is_named.false)
-    (sym c.if-not-fine.false ∙ c.in_ok-fine.ensures.answer req c.number_step.new.numbers earlier c.count-count.result c.count-count.ensures c.versions-versions.ensures.distinct there represents numbered)
+pub returns-in-Some-clause-represents : goal.returns-in-Some-clause-represents
+returns-in-Some-clause-represents c = ok_map c.repeat.result c.repeat.ensures.kept (λ fine e yes earlier s.
+    let known = subst (λ (o : Option ℕ). IfSome o (IsKnownAt c.args.checker.now.rules (step_of c.args.step.now))) c.in-Some.is c.in_ok-earlier.ensures.known in
+    rw (e yes) (invariant_again c.args.catalogue.now c.args.request.now.lines c.args.checker.now.numbers c.args.clauses.now.kept c.args.checker.now.places.items c.args.checker.now.rules earlier (step_of c.args.step.now) c.in-Some.place s known))
 
-pub returns-clause-represents : goal.returns-clause-represents
-returns-clause-represents c = λ _ earlier s.
-    let cat = c.args.catalogue.now in
-    let req = c.args.request.now.lines in
-    let st = step_of c.args.step.now in
-    let vs = listed cat in
-    let there = numbers_some (clause_of cat req st) c.in_ok-there.there vs c.args.checker.now.numbers c.number_step.new.numbers c.number_step.new.out.items c.in_ok-there.ensures c.if-not-there.false in
-    let keeps = numbers_keep (clause_of cat req st) c.in_ok-there.there vs c.args.checker.now.numbers c.number_step.new.numbers c.number_step.new.out.items c.in_ok-there.ensures c.if-not-there.false in
-    let ids = numbers_are (clause_of cat req st) c.in_ok-there.there vs c.args.checker.now.numbers c.number_step.new.numbers c.number_step.new.out.items c.in_ok-there.ensures c.if-not-there.false in
-    let represents = subst (λ ps. CheckerInvariant cat req c.number_step.new.numbers c.args.clauses.now.kept ps earlier) (sym c.deref.ensures.value) (invariant_kept cat req c.args.checker.now.numbers c.number_step.new.numbers c.args.clauses.now.kept c.args.checker.now.places.items earlier keeps s) in
-    let numbered = subst (Numbered vs c.number_step.new.numbers (clause_or_none cat req st)) (sym c.deref-2.ensures.value) ids in
-    let fine = sym c.if-not-fine.false ∙ c.in_ok-fine.ensures.answer req c.number_step.new.numbers earlier c.count-count.result c.count-count.ensures c.versions-versions.ensures.distinct there represents numbered in
-    subst (λ cs. CheckerInvariant cat req c.number_step.new.numbers cs c.record_place.new.places.items (earlier ++ st ∷ []))
-    (sym (c.in_ok-push.ensures.ok ∙ (ap (λ ks. ks ++ c.deref-3.result.now ∷ []) c.follows.ensures.kept ∙ ap (λ is. c.args.clauses.now.kept ++ is ∷ []) c.deref-3.ensures.value)))
-    (invariant_push cat req c.args.checker.now.numbers c.number_step.new.numbers c.args.clauses.now.kept c.args.checker.now.places.items c.record_place.new.places.items c.number_step.new.out.items earlier st s keeps ids
-    (c.record_place.ensures.given req earlier c.versions-versions.ensures.distinct there (sym fine) s.placed))
+pub returns-in-Some-clause-read : goal.returns-in-Some-clause-read
+returns-in-Some-clause-read c = ok_map c.repeat.result c.repeat.ensures.kept (λ fine e yes.
+    let known = subst (λ (o : Option ℕ). IfSome o (IsKnownAt c.args.checker.now.rules (step_of c.args.step.now))) c.in-Some.is c.in_ok-earlier.ensures.known in
+    c.repeat.ensures.readings ∙ no_more c.args.clauses.now.readings (causes_in (step_of c.args.step.now)) (plain (step_of c.args.step.now) known.0 known.1).causes)
+
+pub returns-in-Some-clause-later : goal.returns-in-Some-clause-later
+returns-in-Some-clause-later c = ok_map c.repeat.result c.repeat.ensures.count (λ fine e yes. omega (arith, e yes, c.requires.later))
+
+pub returns-in-Some-clause-long : goal.returns-in-Some-clause-long
+returns-in-Some-clause-long c = ok_map c.repeat.result c.repeat.ensures.count (λ fine e yes. c.requires.long)

@@ -33,8 +33,8 @@ loop-at-preserved c =
     let advanced = c.in_ok-advance.ensures.read c.if-not-branch.false in
     let same : c.name.new.self.kept ≡ c.advance.new.clauses.kept = c.name.ensures.kept in
     record {
-      represents = subst (λ (ks : List (List Literal)). CheckerInvariant cat req c.advance.new.checker.numbers ks c.advance.new.checker.places.items (steps_of (take (c.loop-at.at + 1) c.args.steps.now))) (sym same)
-          (subst (CheckerInvariant cat req c.advance.new.checker.numbers c.advance.new.clauses.kept c.advance.new.checker.places.items) (sym more) (c.in_ok-advance.ensures.represents c.if-not-branch.false before c.loop-at.invariant.represents));
+      represents = subst (λ (ks : List (List Literal)). CheckerInvariant cat req c.advance.new.checker.numbers ks c.advance.new.checker.places.items c.advance.new.checker.rules (steps_of (take (c.loop-at.at + 1) c.args.steps.now))) (sym same)
+          (subst (CheckerInvariant cat req c.advance.new.checker.numbers c.advance.new.clauses.kept c.advance.new.checker.places.items c.advance.new.checker.rules) (sym more) (c.in_ok-advance.ensures.represents c.if-not-branch.false before c.loop-at.invariant.represents));
       proof = subst (IsProof cat req ct rt) (sym more) (proof_push cat req ct rt before s c.loop-at.invariant.proof (sym (c.in_ok-advance.ensures.answer before c.loop-at.invariant.represents) ∙ c.if-not-branch.false));
       later = subst (λ (ks : List (List Literal)). c.advance.new.checker.truth.pass ≤ length ks) (sym same) (c.in_ok-advance.ensures.later c.if-not-branch.false);
       count = omega (arith, ap (λ (ks : List (List Literal)). length ks) same, c.in_ok-advance.ensures.count c.if-not-branch.false, c.loop-at.invariant.count);

@@ -7,7 +7,7 @@ use Rattle.resolvo_checker.proofs.proof.check_from.Given as goal
 
 abbrev pub invariant-loop-at : goal.invariant-loop-at
 invariant-loop-at l = record {
-  represents : CheckerInvariant l.catalogue l.request.lines l.checker.numbers l.clauses.kept l.checker.places.items (steps_of (take l.at l.steps));
+  represents : CheckerInvariant l.catalogue l.request.lines l.checker.numbers l.clauses.kept l.checker.places.items l.checker.rules (steps_of (take l.at l.steps));
   proof : IsProof l.catalogue l.request.lines (names_catalogue l.scope) (names_request l.scope) (steps_of (take l.at l.steps));
   later : l.checker.truth.pass ≤ length l.clauses.kept;
   count : length l.clauses.kept ≡ l.at;

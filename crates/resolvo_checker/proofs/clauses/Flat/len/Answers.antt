@@ -3,4 +3,4 @@ use Rattle.resolvo_checker.proofs.PieceLemmas.{length-pieces}
 use Rattle.resolvo_checker.proofs.clauses.Flat.len.Goals as goal
 
 pub returns : goal.returns
-returns c = omega (arith, length-pieces c.self.inside.literals.items 0 c.self.inside.ends.items, ap length c.self.view_is)
+returns c = omega (arith, length-pieces c.self.inside.literals.items c.self.inside.ranges.items, ap length c.self.view_is)
