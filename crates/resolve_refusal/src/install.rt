@@ -10,6 +10,7 @@ ghost use Rattle.resolve_refusal.specs.InstallSteps.{AreInstallSteps, IsForbidSt
 use crate::lines::{ForbidLine, Texts, forbid_line};
 use crate::literals::version_of;
 use crate::report::write_steps;
+use crate::steps::MOST_STEPS;
 use resolvo_catalogue::provider::CatalogueProvider;
 use resolvo_catalogue_core::{Catalogue, Request, VersionNo};
 use resolvo_pool_core::id::{NameId, SolvableId};
@@ -34,7 +35,7 @@ pub fn install_steps(
         → AreInstallSteps catalogue.now request.now.lines provider.now.ids steps.now
         (steps_of v.items)) }
 {
-    if steps.len() > 4_294_967_295 {
+    if steps.len() > MOST_STEPS {
         return Err(Want::Ids);
     }
     // Lines are counted in 32 bits, so each line that a step cites has a number that can be

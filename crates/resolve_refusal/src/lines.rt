@@ -11,7 +11,8 @@ ghost use Rattle.resolvo_catalogue_core.specs.Questions.{IsRuleLine, is_rule};
 ghost use Rattle.resolve_refusal.specs.Lines.{count_of, number_at, AreLines, IsLeast, text_of, IsLineOf, IsLineAt, IsCaseOf, IsCaseAt, IsNeedLine, locks, ExcludesAt, MarksUnknownAt, IsWordLine, IsLockLine, IsForbidLineOf};
 
 use resolvo_catalogue_core::{Catalogue, Request, Rule, Spec, VersionNo};
-use resolvo_pool_core::want::{R, Want};
+use resolvo_pool_core::id::next_index;
+use resolvo_pool_core::want::R;
 use std::alloc::Global;
 
 /// A catalogue, and a request over it.
@@ -59,14 +60,14 @@ impl PlaceLines<'_> {
         }
     }
 
-    /// The number of the line at this place, from 0.
-    fn number(self, place: usize) -> u32
-        requires { place < count_of self }
-        ensures { result ≡ number_at self.entry place }
+    /// The number of the line at this index.
+    fn number(self, index: usize) -> u32
+        requires { index < count_of self }
+        ensures { result ≡ number_at self.entry index }
     {
         match self {
-            PlaceLines::UpTo(_) => place as u32 + 1,
-            PlaceLines::These(lines) => lines[place],
+            PlaceLines::UpTo(_) => index as u32 + 1,
+            PlaceLines::These(lines) => lines[index],
         }
     }
 }
@@ -242,7 +243,8 @@ impl<'a> Texts<'a> {
 
     /// Whether this line of the catalogue marks a version's needs as unknown with this word.
     fn is_unknown(self, line: u32, word: &str) -> bool
-        ensures { Decides result (IsLineAt self.entry.catalogue.now (content.Unknown word.now) line) }
+        ensures { Decides result
+            (IsLineAt self.entry.catalogue.now (content.Unknown word.now) line) }
     {
         match self.catalogue.rule(line) {
             Some(rule) => marks_unknown(rule, word),
@@ -382,22 +384,19 @@ fn need_case(alloc: Global, rule: &Rule, alternatives: &[Spec], case: &[Spec]) -
         return Ok(None);
     }
     let cases = rule.cases(alloc)?;
-    let Some(place) = place_of(cases.as_slice(), case) else {
+    let Some(index) = index_of(cases.as_slice(), case) else {
         return Ok(None);
     };
-    if place >= 4_294_967_295 {
-        return Err(Want::Ids);
-    }
-    Ok(Some(place as u32 + 1))
+    Ok(Some(next_index(index)? as u32 + 1))
 }
 
 /// The index of the first of these cases that equals this one.
-fn place_of(cases: &[Vec<Spec>], case: &[Spec]) -> Option<usize>
+fn index_of(cases: &[Vec<Spec>], case: &[Spec]) -> Option<usize>
     ensures { IsLeast result (λ k. slice_get (cases_of cases.now) k ≡ Some (specs_of case.now)) }
 {
-    for (place, one) in cases.iter().enumerate() {
+    for (index, one) in cases.iter().enumerate() {
         if same_specs(one.as_slice(), case) {
-            return Some(place);
+            return Some(index);
         }
     }
     None
@@ -405,7 +404,8 @@ fn place_of(cases: &[Vec<Spec>], case: &[Spec]) -> Option<usize>
 
 /// Whether the rule needs these alternatives without a condition.
 fn is_plain_need(rule: &Rule, alternatives: &[Spec]) -> bool
-    ensures { (versions : List content.Version) (owner : Option content.Version) (line : content.Line)
+    ensures { (versions : List content.Version) (owner : Option content.Version)
+        (line : content.Line)
         → IsRuleLine versions rule.now owner line
         → Decides result (line ≡ content.Needs (specs_of alternatives.now) None) }
 {
@@ -421,7 +421,8 @@ fn is_plain_need(rule: &Rule, alternatives: &[Spec]) -> bool
 
 /// Whether the rule limits its set to this SPEC.
 fn is_limit(rule: &Rule, spec: &Spec) -> bool
-    ensures { (versions : List content.Version) (owner : Option content.Version) (line : content.Line)
+    ensures { (versions : List content.Version) (owner : Option content.Version)
+        (line : content.Line)
         → IsRuleLine versions rule.now owner line
         → Decides result (line ≡ content.Limits (spec_of spec.now)) }
 {
@@ -433,7 +434,8 @@ fn is_limit(rule: &Rule, spec: &Spec) -> bool
 
 /// Whether the rule locks a version.
 fn locks(rule: &Rule) -> bool
-    ensures { (versions : List content.Version) (owner : Option content.Version) (line : content.Line)
+    ensures { (versions : List content.Version) (owner : Option content.Version)
+        (line : content.Line)
         → IsRuleLine versions rule.now owner line
         → result ≡ locks line }
 {
@@ -445,7 +447,8 @@ fn locks(rule: &Rule) -> bool
 
 /// Whether the rule marks a version's needs as unknown with this word.
 fn marks_unknown(rule: &Rule, word: &str) -> bool
-    ensures { (versions : List content.Version) (owner : Option content.Version) (line : content.Line)
+    ensures { (versions : List content.Version) (owner : Option content.Version)
+        (line : content.Line)
         → IsRuleLine versions rule.now owner line
         → Decides result (line ≡ content.Unknown word.now) }
 {
@@ -457,7 +460,8 @@ fn marks_unknown(rule: &Rule, word: &str) -> bool
 
 /// Whether the rule excludes the version with this word.
 fn excludes(rule: &Rule, version: VersionNo, word: &str) -> bool
-    ensures { (versions : List content.Version) (owner : Option content.Version) (line : content.Line)
+    ensures { (versions : List content.Version) (owner : Option content.Version)
+        (line : content.Line)
         (v : content.Version)
         → AreDistinct versions
         → IsRuleLine versions rule.now owner line
@@ -475,7 +479,8 @@ fn excludes(rule: &Rule, version: VersionNo, word: &str) -> bool
 
 /// Whether the rule needs these alternatives, under any condition or none.
 fn needs(rule: &Rule, alternatives: &[Spec]) -> bool
-    ensures { (versions : List content.Version) (owner : Option content.Version) (line : content.Line)
+    ensures { (versions : List content.Version) (owner : Option content.Version)
+        (line : content.Line)
         → IsRuleLine versions rule.now owner line
         → Decides result
         ((condition : Option content.Cond)
@@ -504,8 +509,8 @@ pub(crate) fn same_specs(some: &[Spec], others: &[Spec]) -> bool
     if some.len() != others.len() {
         return false;
     }
-    for (place, one) in some.iter().enumerate() {
-        if !same_spec(one, &others[place]) {
+    for (index, one) in some.iter().enumerate() {
+        if !same_spec(one, &others[index]) {
             return false;
         }
     }

@@ -48,9 +48,9 @@ fn flag(flags: &mut Vec<bool>, line: u32)
     ensures only { (k : ℕ) → IsFlagged flags.new.items k
         → IsFlagged flags.old.items k ⊎ (line ≡ suc k) }
 {
-    if let Some(place) = (line as usize).checked_sub(1) {
-        if place < flags.len() {
-            flags[place] = true;
+    if let Some(index) = (line as usize).checked_sub(1) {
+        if index < flags.len() {
+            flags[index] = true;
         }
     }
 }
@@ -61,9 +61,9 @@ fn flagged(alloc: Global, flags: &[bool]) -> R<Vec<u32>>
     ensures { IfOk result (λ v. AreAll v.items (IsFlaggedLine flags.now (length flags.now))) }
 {
     let mut lines = Vec::new(alloc);
-    for (place, flag) in flags.iter().enumerate() {
+    for (index, flag) in flags.iter().enumerate() {
         if *flag {
-            lines.push(place as u32 + 1)?;
+            lines.push(index as u32 + 1)?;
         }
     }
     Ok(lines)

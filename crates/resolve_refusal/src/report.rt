@@ -9,7 +9,7 @@ ghost use Rattle.resolve_refusal.specs.Refusal.{Refutes, IsRefusalOf};
 
 use crate::lines::Texts;
 use crate::named::{Text, named_lines};
-use crate::steps::Writing;
+use crate::steps::{MOST_STEPS, Writing};
 use resolvo_catalogue::provider::CatalogueProvider;
 use resolvo_catalogue_core::{Catalogue, Request};
 use resolvo_pool_core::id::{NameId, SolvableId};
@@ -36,7 +36,7 @@ pub fn refused_report(
         (λ r.
         IsRefusedBy catalogue.now request.now.lines provider.now.ids steps.now (report_of r)) }
 {
-    if steps.len() > 4_294_967_295 {
+    if steps.len() > MOST_STEPS {
         return Err(Want::Ids);
     }
     let texts = Texts { catalogue, request };

@@ -24,6 +24,9 @@ use resolvo_proof::step::{ProofRule, ProofStep};
 use resolvo_report::{Place, Step};
 use std::alloc::Global;
 
+/// The most steps that a report can number.
+pub(crate) const MOST_STEPS: usize = 4_294_967_295;
+
 /// The context for writing steps: the two texts, and the provider of their ids. A rule of no line
 /// is written with line 0, which no text has.
 #[derive(Clone, Copy)]
@@ -126,7 +129,8 @@ impl Writing<'_> {
         ensures written { IfOk result
             (λ w.
             (line k : ℕ)
-            × (step_of w ≡ in_report.Need (place_at self.entry.texts.catalogue.now parent) line k)) }
+            × (step_of w
+            ≡ in_report.Need (place_at self.entry.texts.catalogue.now parent) line k)) }
     {
         let found = if case.is_empty() {
             self.plain_need(parent, requirement)?
@@ -321,24 +325,24 @@ impl Writing<'_> {
     }
 }
 
-/// The numbers of steps, from 1, by their places, from 0.
-fn numbers_of(alloc: Global, places: &[usize]) -> R<Vec<u32>>
-    ensures { IfOk result (λ v. v.items ≡ map number_of places.now) }
+/// The numbers of the steps that are causes, by their indexes.
+fn numbers_of(alloc: Global, causes: &[usize]) -> R<Vec<u32>>
+    ensures { IfOk result (λ v. v.items ≡ map number_of causes.now) }
 {
     let mut numbers = Vec::new(alloc);
-    for place in places {
-        numbers.push(number_of(*place))?;
+    for cause in causes {
+        numbers.push(number_of(*cause))?;
     }
     Ok(numbers)
 }
 
-/// The number of the step at this place. There are fewer than 2^32 steps.
-fn number_of(place: usize) -> u32
-    ensures { result ≡ number_of place }
+/// The number, from 1, of the step at this index. There are fewer than 2^32 steps.
+fn number_of(index: usize) -> u32
+    ensures { result ≡ number_of index }
 {
-    if place < 4_294_967_295 {
-        place as u32 + 1
+    if index < MOST_STEPS {
+        index as u32 + 1
     } else {
-        4_294_967_295
+        MOST_STEPS as u32
     }
 }

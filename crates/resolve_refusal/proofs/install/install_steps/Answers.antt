@@ -4,7 +4,7 @@ use Rattle.resolve_refusal.proofs.install.install_steps.Goals as goal
 
 pub returns : goal.returns
 returns c =
-    let few : length c.args.steps.now < 4294967296 = omega (arith, c.if-steps-gt4294967295.false) in
+    let few : length c.args.steps.now < 4294967296 = omega (arith, c.if-steps-gt-MOST_STEPS.false) in
     let long : length c.args.catalogue.now < 4294967296 = omega (arith, c.line_count-lines.ensures, c.line_count-lines.type_inv) in
     let asked : length c.args.request.now.lines < 4294967296 = omega (arith, c.line_count-asked.ensures, c.line_count-asked.type_inv) in
     both_ok c.write_steps.result (λ v names_rule wrote proves. installed c.args.catalogue.now c.args.request.now c.args.provider.now c.args.steps.now proves few long asked _ names_rule wrote) c.write_steps.ensures.names_rule c.write_steps.ensures.written

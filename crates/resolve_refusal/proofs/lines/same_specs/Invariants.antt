@@ -3,5 +3,5 @@ use Rattle.resolvo_text.specs.View.{specs_of}
 use Rattle.resolve_refusal.proofs.lines.same_specs.Given as goal
 
 -- the SPECs so far are the same
-abbrev pub invariant-loop-place : goal.invariant-loop-place
-invariant-loop-place l = specs_of (take l.place l.some) ≡ specs_of (take l.place l.others)
+abbrev pub invariant-loop-index : goal.invariant-loop-index
+invariant-loop-index l = specs_of (take l.index l.some) ≡ specs_of (take l.index l.others)

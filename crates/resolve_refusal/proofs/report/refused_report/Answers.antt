@@ -12,7 +12,7 @@ returns-clause-refusal c =
     let catalogue = c.in_ok-in_catalogue.in_catalogue.items in
     let request = c.in_ok-in_request.in_request.items in
     let steps : List Step = steps_of c.in_ok-written.written.items in
-    let most : length c.args.steps.now ≤ 4294967295 = c.if-steps-gt4294967295.false in
+    let most : length c.args.steps.now ≤ 4294967295 = c.if-steps-gt-MOST_STEPS.false in
     let long : length c.args.catalogue.now < 4294967296 = (let is : c.line_count.result ≡ length c.args.catalogue.now = c.line_count.ensures in omega (arith, is)) in
     let asked : length c.args.request.now.lines < 4294967296 = (let is : c.line_count-2.result ≡ length c.args.request.now.lines = c.line_count-2.ensures in omega (arith, is)) in
     λ refutes. refusal c.args.catalogue.now c.args.request.now c.args.provider.now c.args.steps.now refutes (omega (arith, most)) long asked catalogue request steps _
