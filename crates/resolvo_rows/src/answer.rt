@@ -3,7 +3,6 @@
 use crate::solve::{Asked, Source, Version, solved};
 use resolvo::conflict::Conflict;
 use resolvo::solver::{Solver, UnsolvableOrCancelled};
-use resolvo::turns::Turn;
 use resolvo_pool::{Interner, NameId, NameTag, R, SolvableId, SolvableIdOrRoot, SparseId, Want};
 use resolvo_test_providers::test_provider::Question;
 use std::alloc::Global;
@@ -68,64 +67,32 @@ impl fmt::Display for Package<'_> {
     }
 }
 
-fn write_shown<D: fmt::Display>(text: &mut String, shown: &D) -> R<()> {
-    Ok(write!(text, "{shown}")?)
-}
-
-fn write_line<D: fmt::Display>(text: &mut String, front: &str, shown: &D) -> R<()> {
+fn write_version(text: &mut String, source: &Source, front: &str, version: Version) -> R<()> {
+    let shown = SolvableIdOrRoot::from(version).display(source);
     Ok(writeln!(text, "{front}{shown}")?)
 }
 
-fn write_version(text: &mut String, source: &Source, front: &str, version: Version) -> R<()> {
-    write_line(
-        text,
-        front,
-        &SolvableIdOrRoot::from(version).display(source),
-    )
-}
-
-/// What a solver keeps of a search that chose: its turns, and how many cases of conditions wait.
-#[derive(Clone, Copy)]
-struct Search<'a> {
-    source: &'a Source,
-    turns: &'a [Turn<Version>],
-    waiting: usize,
-}
-
 /// The wishes that the last search left out.
-fn write_left_out(text: &mut String, search: Search<'_>) -> R<()> {
-    for turn in search.turns {
+fn write_left_out(text: &mut String, solver: &Solver<Source>) -> R<()> {
+    for turn in solver.turns() {
         if !turn.accepted {
-            write_version(text, search.source, "left out ", turn.solvable)?;
+            write_version(text, solver.provider(), "left out ", turn.solvable)?;
         }
     }
     Ok(())
 }
 
-fn write_waiting(text: &mut String, count: usize) -> R<()> {
-    match count {
+/// The chosen versions, the wishes left out, and how many cases of conditions wait.
+fn write_chosen(text: &mut String, solver: &Solver<Source>, chosen: &[Version]) -> R<()> {
+    for version in chosen {
+        write_version(text, solver.provider(), "", *version)?;
+    }
+    write_left_out(text, solver)?;
+    match solver.deferred_requirements_count() {
         0 => Ok(()),
         1 => Ok(text.push_str("1 waits\n")?),
         count => Ok(writeln!(text, "{count} wait")?),
     }
-}
-
-/// The chosen versions, the wishes left out, and how many cases of conditions wait.
-fn write_search(text: &mut String, search: Search<'_>, chosen: &[Version]) -> R<()> {
-    for version in chosen {
-        write_version(text, search.source, "", *version)?;
-    }
-    write_left_out(text, search)?;
-    write_waiting(text, search.waiting)
-}
-
-fn write_chosen(text: &mut String, solver: &Solver<Source>, chosen: &[Version]) -> R<()> {
-    let search = Search {
-        source: solver.provider(),
-        turns: solver.turns(),
-        waiting: solver.deferred_requirements_count(),
-    };
-    write_search(text, search, chosen)
 }
 
 /// The message of a conflict, which the solver must hold.
@@ -138,10 +105,8 @@ fn write_why(
     if !solver.holds(conflict) {
         return Ok(why.push_str("of another search\n")?);
     }
-    match conflict.display_user_friendly(alloc, solver) {
-        Ok(message) => write_shown(why, &message),
-        Err(want) => Err(want),
-    }
+    let message = conflict.display_user_friendly(alloc, solver)?;
+    Ok(write!(why, "{message}")?)
 }
 
 fn write_question(
@@ -152,7 +117,7 @@ fn write_question(
     match question {
         Question::Candidates(name) => {
             let name = SparseId::from_raw(*name);
-            write_line(text, "", &Package { source, name })
+            Ok(writeln!(text, "{}", Package { source, name })?)
         }
         Question::Dependencies(solvable) => {
             write_version(text, source, "", SparseId::from_raw(*solvable))
@@ -160,68 +125,13 @@ fn write_question(
     }
 }
 
-fn write_questions(
-    text: &mut String,
-    source: &Source,
-    asked: &[Question<NameId, SolvableId>],
-) -> R<()> {
-    for question in asked {
-        write_question(text, source, question)?;
+fn write_asked(text: &mut String, source: &Source) -> R<()> {
+    if let Ok(asked) = source.asked.try_borrow() {
+        for question in asked.iter() {
+            write_question(text, source, question)?;
+        }
     }
     Ok(())
-}
-
-fn write_asked(text: &mut String, source: &Source) -> R<()> {
-    match source.asked.try_borrow() {
-        Ok(asked) => write_questions(text, source, asked.as_slice()),
-        Err(_) => Ok(()),
-    }
-}
-
-/// Writes why a solver chose nothing, and why it refuses. Whether it was stopped.
-fn write_stop(
-    alloc: Global,
-    solver: &Solver<Source>,
-    stop: &UnsolvableOrCancelled<u32>,
-    text: &mut String,
-    why: &mut String,
-) -> R<bool> {
-    match stop {
-        UnsolvableOrCancelled::Unsolvable(conflict) => {
-            text.push_str("refused\n")?;
-            write_why(alloc, why, solver, conflict)?;
-            Ok(false)
-        }
-        UnsolvableOrCancelled::Cancelled(value) => {
-            writeln!(text, "cancelled with {value}")?;
-            Ok(true)
-        }
-        UnsolvableOrCancelled::Memory => {
-            text.push_str(NO_MEMORY)?;
-            Ok(true)
-        }
-        UnsolvableOrCancelled::Ids => {
-            text.push_str("no ids\n")?;
-            Ok(false)
-        }
-    }
-}
-
-/// Writes what a solver found, and why it refuses. Whether it was stopped.
-fn write_found(
-    alloc: Global,
-    solver: &Solver<Source>,
-    found: &Result<Vec<Version>, UnsolvableOrCancelled<u32>>,
-    text: &mut String,
-    why: &mut String,
-) -> R<bool> {
-    match found {
-        Ok(chosen) => {
-            write_chosen(text, solver, chosen.as_slice())?;
-            Ok(false)
-        }
-        Err(stop) => write_stop(alloc, solver, stop, text, why),
-    }
 }
 
 /// Writes a solver's answer, and why it refuses. Whether it was stopped.
@@ -232,21 +142,35 @@ fn write_answer(
     text: &mut String,
     why: &mut String,
 ) -> R<bool> {
-    let found = solved(alloc, solver, asked);
-    write_found(alloc, solver, &found, text, why)
+    match solved(alloc, solver, asked) {
+        Ok(chosen) => {
+            write_chosen(text, solver, chosen.as_slice())?;
+            Ok(false)
+        }
+        Err(UnsolvableOrCancelled::Unsolvable(conflict)) => {
+            text.push_str("refused\n")?;
+            write_why(alloc, why, solver, &conflict)?;
+            Ok(false)
+        }
+        Err(UnsolvableOrCancelled::Cancelled(value)) => {
+            writeln!(text, "cancelled with {value}")?;
+            Ok(true)
+        }
+        Err(UnsolvableOrCancelled::Memory) => {
+            text.push_str(NO_MEMORY)?;
+            Ok(true)
+        }
+        Err(UnsolvableOrCancelled::Ids) => {
+            text.push_str("no ids\n")?;
+            Ok(false)
+        }
+    }
 }
 
-/// Whether a solver has clauses, deferred cases, turns or a proof.
-fn has_search(solver: &Solver<Source>) -> bool {
-    solver.clause_count() != 0
-        || solver.deferred_requirements_count() != 0
-        || !solver.turns().is_empty()
-        || !solver.proof().is_empty()
-}
-
-/// Writes a line where something of a search is left before one, or after one that was stopped.
+/// Writes a line where a solver has clauses, deferred cases, turns or a proof before a search, or after one that was stopped.
 fn write_rest(text: &mut String, solver: &Solver<Source>) -> R<()> {
-    if has_search(solver) {
+    let counts = (solver.clause_count(), solver.deferred_requirements_count());
+    if counts != (0, 0) || !solver.turns().is_empty() || !solver.proof().is_empty() {
         text.push_str("something is left of a search\n")?;
     }
     Ok(())

@@ -37,23 +37,16 @@ fn are_three(specs: &[Spec]) -> bool {
     }
 }
 
-/// Whether a need with alternatives is written by them.
-fn is_written(alloc: Global, provider: &CatalogueProvider, requirement: Requirement) -> R<bool> {
-    let shown = requirement.display(provider);
-    let text = format!(in alloc; "{shown}")?;
-    Ok(text.as_str() == "a 1 | b 2..4 | c *")
-}
-
 /// Whether a need with alternatives is written by them, and is these.
 fn are_alternatives(
     alloc: Global,
     provider: &CatalogueProvider,
     requirement: Requirement,
 ) -> R<bool> {
-    if !is_written(alloc, provider, requirement)? {
-        return Ok(false);
-    }
-    Ok(are_three(provider.alternatives_of(requirement)?.as_slice()))
+    let shown = requirement.display(provider);
+    let text = format!(in alloc; "{shown}")?;
+    let specs = provider.alternatives_of(requirement)?;
+    Ok(text.as_str() == "a 1 | b 2..4 | c *" && are_three(specs.as_slice()))
 }
 
 fn have_one_id(alloc: Global, provider: &CatalogueProvider, asked: &RequestIds) -> R<bool> {

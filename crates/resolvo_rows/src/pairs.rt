@@ -165,23 +165,6 @@ fn wishes_of(alloc: Global, catalogue: &Catalogue, root: &RequestIds) -> R<Vec<S
     Ok(wishes)
 }
 
-/// The chosen versions fill the set. Whether there are any.
-fn fill_found<C>(
-    set: &mut Vec<VersionNo>,
-    provider: &CatalogueProvider,
-    found: &Result<Vec<SolvableId>, UnsolvableOrCancelled<C>>,
-) -> R<bool> {
-    match found {
-        Ok(chosen) => {
-            fill_chosen(set, provider, chosen.as_slice())?;
-            Ok(true)
-        }
-        Err(UnsolvableOrCancelled::Unsolvable(_)) => Ok(false),
-        Err(UnsolvableOrCancelled::Memory) => Err(Want::Memory),
-        Err(_) => Err(Want::Ids),
-    }
-}
-
 /// The chosen versions fill the set. Whether there are any that keep the rules, by the solver.
 fn is_chosen(
     alloc: Global,
@@ -189,8 +172,15 @@ fn is_chosen(
     asked: Asked<'_, SolvableId>,
     set: &mut Vec<VersionNo>,
 ) -> R<bool> {
-    let found = solved(alloc, solver, asked);
-    fill_found(set, solver.provider(), &found)
+    match solved(alloc, solver, asked) {
+        Ok(chosen) => {
+            fill_chosen(set, solver.provider(), chosen.as_slice())?;
+            Ok(true)
+        }
+        Err(UnsolvableOrCancelled::Unsolvable(_)) => Ok(false),
+        Err(UnsolvableOrCancelled::Memory) => Err(Want::Memory),
+        Err(_) => Err(Want::Ids),
+    }
 }
 
 fn is_root_chosen(

@@ -12,7 +12,6 @@ use resolvo_pool::{
 };
 use resolvo_test_providers::test_provider::{TestProvider, sparse_ids};
 use std::alloc::Global;
-use std::marker::PhantomData;
 
 pub type Source = TestProvider<CatalogueProvider>;
 
@@ -67,48 +66,23 @@ pub fn request_in(alloc: Global, lines: &str, catalogue: &Catalogue) -> R<Reques
     }
 }
 
-fn solve_with<P: DependencyProvider>(
-    solver: &mut Solver<P>,
-    requirements: Vec<ConditionalRequirement>,
-    constraints: Vec<VersionSetId>,
-    wishes: &[P::SolvableId],
-) -> Result<Vec<P::SolvableId>, UnsolvableOrCancelled<P::Cancel>> {
-    solver.solve(Problem {
-        requirements,
-        constraints,
-        soft_requirements: wishes.iter().copied(),
-        of: PhantomData,
-    })
-}
-
-fn solve_for<P: DependencyProvider>(
-    alloc: Global,
-    solver: &mut Solver<P>,
-    requirements: Vec<ConditionalRequirement>,
-    asked: Asked<'_, P::SolvableId>,
-) -> Result<Vec<P::SolvableId>, UnsolvableOrCancelled<P::Cancel>> {
-    match Vec::from_slice(alloc, asked.limits) {
-        Ok(constraints) => solve_with(solver, requirements, constraints, asked.wishes),
-        Err(_) => Err(UnsolvableOrCancelled::Memory),
-    }
-}
-
 /// The answer of a solver.
 pub fn solved<P: DependencyProvider>(
     alloc: Global,
     solver: &mut Solver<P>,
     asked: Asked<'_, P::SolvableId>,
 ) -> Result<Vec<P::SolvableId>, UnsolvableOrCancelled<P::Cancel>> {
-    match Vec::from_slice(alloc, asked.needs) {
-        Ok(requirements) => solve_for(alloc, solver, requirements, asked),
-        Err(_) => Err(UnsolvableOrCancelled::Memory),
+    let needs = Vec::from_slice(alloc, asked.needs);
+    let limits = Vec::from_slice(alloc, asked.limits);
+    match (needs, limits) {
+        (Ok(needs), Ok(limits)) => solver.solve(
+            Problem::new(alloc)
+                .requirements(needs)
+                .constraints(limits)
+                .soft_requirements(asked.wishes.iter().copied()),
+        ),
+        _ => Err(UnsolvableOrCancelled::Memory),
     }
-}
-
-/// Fills in the answer of a solver over a provider.
-fn answer_over(alloc: Global, source: Source, asked: Asked<'_>, answer: &mut Answer) -> R<()> {
-    let mut solver = Solver::new(alloc, source).with_activity_params(1_000_000, 950_000);
-    write_twice(alloc, &mut solver, asked, answer)
 }
 
 /// Fills in the answer of a solver over a provider that cancels, after so many others, at its next test.
@@ -127,7 +101,8 @@ fn answer_root(
                 wishes: wishes.as_slice(),
             };
             let source = TestProvider::new(alloc, provider, passed, passed);
-            answer_over(alloc, source, asked, answer)
+            let mut solver = Solver::new(alloc, source).with_activity_params(1_000_000, 950_000);
+            write_twice(alloc, &mut solver, asked, answer)
         }
         Err(want) => Err(want),
     }
