@@ -27,7 +27,8 @@ pub fn read_arguments(rt: &HostRuntime) -> Result<Vec<Option<String>>, RunFault>
 
 /// The bytes as a text, if they are UTF-8.
 fn text_of(alloc: Global, bytes: &[u8]) -> Result<Option<String>, RunFault>
-    ensures { IfOk result (λ t. MatchOption t (¬ (IsUtf8 bytes.now)) (λ s. string_bytes s ≡ bytes.now)) }
+    ensures { IfOk result
+        (λ t. MatchOption t (¬ (IsUtf8 bytes.now)) (λ s. string_bytes s ≡ bytes.now)) }
 {
     let Ok(text) = str::from_utf8(bytes) else {
         return Ok(None);

@@ -21,7 +21,8 @@ struct Response {
 
 /// The line of a verdict.
 fn verdict_answer(alloc: Global, verdict: Verdict) -> Result<Response, RunFault>
-    ensures ok { IfOk result (λ answered. IsVerdictText verdict answered.checked answered.text.items) }
+    ensures ok { IfOk result
+        (λ answered. IsVerdictText verdict answered.checked answered.text.items) }
     ensures err { IfErr result (λ e. e ≡ RunFault.Memory) }
 {
     match verdict {

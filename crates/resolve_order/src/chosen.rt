@@ -101,7 +101,8 @@ impl Chosen {
     pub fn mark(&mut self, version: VersionNo)
         requires { is_unlisted self.old.listed.items version.0 ≡ true }
         ensures fewer { unlisted self.new.listed.items + 1 ≡ unlisted self.old.listed.items }
-        ensures marked { (versions : List content.Version) (chosen entries : Set) (v : content.Version)
+        ensures marked { (versions : List content.Version) (chosen entries : Set)
+            (v : content.Version)
             → slice_get versions version.0 ≡ Some v
             → Contains chosen v
             → Holds versions self.old chosen entries

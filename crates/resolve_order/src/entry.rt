@@ -36,7 +36,8 @@ pub enum Answer {
 /// A turn of a search. A wish is named by its line of the request.
 #[derive(Clone, Copy, Debug)]
 pub enum Turn<'a> {
-    /// The needs of the request, or an accepted wish: the versions that were chosen besides those of the turns before.
+    /// The needs of the request, or an accepted wish: the versions that were chosen besides those
+    /// of the turns before.
     Chose {
         wish: Option<(u32, VersionNo)>,
         chosen: &'a [VersionNo],

@@ -1,4 +1,5 @@
-//! Lists the chosen versions in the order of the lines that ask for them, and the wishes that are left out in their turns.
+//! Lists the chosen versions in the order of the lines that ask for them, and the wishes that are
+//! left out in their turns.
 //!
 //! A turn looks at the lines in their order, and lists the version that a line gives before it goes
 //! on. Lines that wait for their condition are looked at again after each entry. Called by the

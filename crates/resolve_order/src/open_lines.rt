@@ -1,5 +1,5 @@
-//! Which lines are left to look at. All lines are in one list; those that wait for their condition are looked at again
-//! after each entry. Used by `install_order`.
+//! Which lines are left to look at. All lines are in one list; those that wait for their condition
+//! are looked at again after each entry. Used by `install_order`.
 
 ghost use Rattle.std.specs.Prelude.{◌≡◌, ◌++◌, ◌∷◌, [], ◌≤◌, length, OnOk, IfSome, None, List};
 ghost use Rattle.resolve_order.specs.Kept.{left_of};

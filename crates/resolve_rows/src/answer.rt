@@ -64,7 +64,8 @@ pub fn judged(
     whole(alloc, writer.bytes(), check_ending(&ended))
 }
 
-/// Whether a report that is read and written again is the `same`, or the first line that is none of a report.
+/// Whether a report that is read and written again is the `same`, or the first line that is none of
+/// a report.
 pub fn read_back(alloc: Global, report: &[u8], per_call: usize) -> Result<Answer, AllocError> {
     let text = match Report::read(alloc, &mut MemorySource::new(report, per_call.max(1))) {
         Ok(read) if is_written_so(alloc, &read, report) => Vec::from_slice(alloc, b"same\n")?,

@@ -1,4 +1,5 @@
-//! Escaped texts: `\n`, `\r`, `\t`, `\\`, `\xNN`, and `\*N;`, which writes the byte before it N times in all.
+//! Escaped texts: `\n`, `\r`, `\t`, `\\`, `\xNN`, and `\*N;`, which writes the byte before it N
+//! times in all.
 
 use std::alloc::{AllocError, Global};
 

@@ -72,7 +72,8 @@ impl<'a> Row<'a> {
     }
 }
 
-/// The sections of a file. The lines above the first are for the reader; without such a line there are no sections.
+/// The sections of a file. The lines above the first are for the reader; without such a line there
+/// are no sections.
 pub fn file_sections(alloc: Global, text: &str) -> Result<Row<'_>, AllocError> {
     let text = text.strip_suffix('\n').unwrap_or(text);
     let mut sections = Vec::new(alloc);
@@ -86,8 +87,8 @@ pub fn file_sections(alloc: Global, text: &str) -> Result<Row<'_>, AllocError> {
     })
 }
 
-/// The row of a line of a table: its cells, and the other sections of the file. There are none of either where the line
-/// hasn't a cell for each column.
+/// The row of a line of a table: its cells, and the other sections of the file. There are none of
+/// either where the line hasn't a cell for each column.
 pub fn row_of_line<'a>(
     alloc: Global,
     shared: &Row<'a>,

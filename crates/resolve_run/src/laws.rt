@@ -27,11 +27,13 @@ pub fn installs_exactly_if_some_set_keeps_the_rules()
 /// line, and doesn't find the report too long. A check writes `yes` for the report of a run without
 /// a fault.
 pub fn the_judge_accepts_each_report()
-    ensures judged { (catalogue request : List Line) (ended : Outcome) (output : List ℕ) (verdict : Verdict)
+    ensures judged { (catalogue request : List Line) (ended : Outcome) (output : List ℕ)
+        (verdict : Verdict)
         → IsAnswerOfLines catalogue request ended output
         → IsVerdict catalogue request output verdict
         → verdict ≡ Yes }
-    ensures refused_nowhere { (catalogue request : List Line) (ended : Outcome) (output : List ℕ) (n : ℕ)
+    ensures refused_nowhere { (catalogue request : List Line) (ended : Outcome) (output : List ℕ)
+        (n : ℕ)
         → IsAnswerOfLines catalogue request ended output
         → IsRefusedAt catalogue request output n
         → ⊥ }
@@ -40,7 +42,8 @@ pub fn the_judge_accepts_each_report()
         → IsAnswerOfLines catalogue request ended output
         → IsJudgeFault catalogue request TooLong (Some output) after (Unit {0})
         → ⊥ }
-    ensures checked { (c r : List ℕ) (ended : Outcome) (output : List ℕ) (checked : Checked) (verdict_text : List ℕ)
+    ensures checked { (c r : List ℕ) (ended : Outcome) (output : List ℕ) (checked : Checked)
+        (verdict_text : List ℕ)
         → IsAnswer c r ended output
         → (ended ≡ Faulty → ⊥)
         → IsCheck c r output checked verdict_text

@@ -1,4 +1,5 @@
-//! Tests of `resolvo_graph` and `resolvo_proof`, apart from them so that a gate proves their functions once.
+//! Tests of `resolvo_graph` and `resolvo_proof`, apart from them so that a gate proves their
+//! functions once.
 #![tactic(auto)]
 
 #[cfg(test)]

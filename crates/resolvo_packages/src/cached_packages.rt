@@ -51,7 +51,8 @@ impl<D: DependencyProvider> CachedPackages<D> {
 
     /// These solvables, each with its package.
     fn offered(&self, solvables: &[D::SolvableId]) -> R<Vec<Offered<D::NameId, D::SolvableId>>>
-        ensures { IfOk result (λ v. v.items ≡ map (offer_by (D.name_of_solvable self.now)) solvables.now) }
+        ensures { IfOk result
+            (λ v. v.items ≡ map (offer_by (D.name_of_solvable self.now)) solvables.now) }
     {
         let mut offered = Vec::new(self.alloc);
         for solvable in solvables {
@@ -65,7 +66,8 @@ impl<D: DependencyProvider> CachedPackages<D> {
 
     /// The packages of these version sets.
     fn names_of(&self, version_sets: &[VersionSetId]) -> R<Vec<D::NameId>>
-        ensures { IfOk result (λ v. v.items ≡ map (D.name_of_version_set self.now) version_sets.now) }
+        ensures { IfOk result
+            (λ v. v.items ≡ map (D.name_of_version_set self.now) version_sets.now) }
     {
         let mut names = Vec::new(self.alloc);
         for version_set in version_sets {
@@ -85,7 +87,8 @@ impl<D: DependencyProvider> PackageSource for CachedPackages<D> {
     ghost packages = { λ p. packages_by D.name_of_solvable D.name_of_version_set D.members_of
         D.condition_of D.candidates_of D.matches D.dependencies_of p };
 
-    ghost orders = { λ p. orders_by D.name_of_version_set D.members_of D.candidates_of D.matches D.sorts D.SolvableId.eq p };
+    ghost orders = { λ p.
+        orders_by D.name_of_version_set D.members_of D.candidates_of D.matches D.sorts D.SolvableId.eq p };
 
     ghost may_cancel = { λ p. D.may_cancel p };
 
@@ -218,7 +221,8 @@ fn add_excluded<S: Copy + Exact + Hash + Debug>(
     forbidden: &mut Vec<ForbiddenSolvable<S>>,
     excluded: &[(S, StringId)],
 ) -> R<()>
-    ensures { OnOk result (forbidden.new.items ≡ forbidden.old.items ++ map excluded_by excluded.now) }
+    ensures { OnOk result
+        (forbidden.new.items ≡ forbidden.old.items ++ map excluded_by excluded.now) }
 {
     for one in excluded {
         forbidden.push(ForbiddenSolvable {

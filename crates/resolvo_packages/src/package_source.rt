@@ -73,7 +73,8 @@ pub trait PackageSource {
         solvable: Self::SolvableId,
     ) -> Result<Dependencies, CacheFault<Self::Cancel>>
         ensures same { self.new ≡ self.old }
-        ensures answer { IfOk result (λ d. needs_of d ≡ (packages self.old).dependencies_of solvable) }
+        ensures answer { IfOk result
+            (λ d. needs_of d ≡ (packages self.old).dependencies_of solvable) }
         ensures cancelled { IfErr result (IsCancelledBy (may_cancel self.old)) };
 
     /// The candidates that match a requirement, in the order in which they are tried.
@@ -82,8 +83,10 @@ pub trait PackageSource {
         requirement: Requirement,
     ) -> Result<Vec<Offered<Self::NameId, Self::SolvableId>>, CacheFault<Self::Cancel>>
         ensures same { self.new ≡ self.old }
-        ensures offered { IfOk result (λ v. AreOffered Self.SolvableId.eq (packages self.old) requirement v.items) }
-        ensures ordered { IfOk result (λ v. orders self.old requirement (offered_solvables v.items)) }
+        ensures offered { IfOk result
+            (λ v. AreOffered Self.SolvableId.eq (packages self.old) requirement v.items) }
+        ensures ordered { IfOk result
+            (λ v. orders self.old requirement (offered_solvables v.items)) }
         ensures cancelled { IfErr result (IsCancelledBy (may_cancel self.old)) };
 
     /// The packages of a requirement's version sets.
@@ -98,7 +101,8 @@ pub trait PackageSource {
     /// The cases of a condition, in order. It holds exactly if all version sets of some case are
     /// met.
     fn cases(&self, condition: ConditionId) -> R<Vec<Vec<VersionSetId>>>
-        ensures { IfOk result (λ v. cases_of v.items ≡ cases (packages self.now).condition_of condition) };
+        ensures { IfOk result
+            (λ v. cases_of v.items ≡ cases (packages self.now).condition_of condition) };
 
     /// The solvables of a package that locks and exclusions forbid.
     fn forbidden(
@@ -106,7 +110,8 @@ pub trait PackageSource {
         name: Self::NameId,
     ) -> Result<Vec<ForbiddenSolvable<Self::SolvableId>>, CacheFault<Self::Cancel>>
         ensures same { self.new ≡ self.old }
-        ensures forbidden { IfOk result (λ v. AreForbidden Self.SolvableId.eq (packages self.old) name v.items) }
+        ensures forbidden { IfOk result
+            (λ v. AreForbidden Self.SolvableId.eq (packages self.old) name v.items) }
         ensures cancelled { IfErr result (IsCancelledBy (may_cancel self.old)) };
 
     /// The candidates of a version set's package that don't match it.
@@ -115,7 +120,8 @@ pub trait PackageSource {
         version_set: VersionSetId,
     ) -> Result<Vec<Offered<Self::NameId, Self::SolvableId>>, CacheFault<Self::Cancel>>
         ensures same { self.new ≡ self.old }
-        ensures outside { IfOk result (λ v. AreOutside Self.SolvableId.eq (packages self.old) version_set v.items) }
+        ensures outside { IfOk result
+            (λ v. AreOutside Self.SolvableId.eq (packages self.old) version_set v.items) }
         ensures cancelled { IfErr result (IsCancelledBy (may_cancel self.old)) };
 
     /// Whether a solvable's dependencies are at hand. It decides when they are asked for, not what

@@ -177,7 +177,8 @@ impl<D: DependencyProvider> SolverCache<D> {
     pub fn cache_candidates(&mut self, name: D::NameId) -> Result<(), CacheFault<D::Cancel>>
         // The answer is cached.
         ensures there { OnOk result (among D.NameId.eq self.new.names name ≡ true) }
-        ensures cached { among D.NameId.eq self.old.names name ≡ true → IsOk result × (self.new ≡ self.old) }
+        ensures cached { among D.NameId.eq self.old.names name ≡ true → IsOk result
+            × (self.new ≡ self.old) }
         // What else changes.
         ensures extends { Extends D.NameId.eq D.SolvableId.eq self.old self.new }
         ensures only { AddsNames self.old self.new }
@@ -276,7 +277,8 @@ impl<D: DependencyProvider> SolverCache<D> {
 
     /// Filters the cached candidates of a version set's package, and caches those that match it.
     fn keep_matching(&mut self, version_set: VersionSetId) -> R<()>
-        requires { among D.NameId.eq self.old.names (D.name_of_version_set self.old.provider version_set)
+        requires { among D.NameId.eq self.old.names
+            (D.name_of_version_set self.old.provider version_set)
             ≡ true }
         // The answer is cached.
         ensures there { OnOk result (among same_set self.new.matching version_set ≡ true) }
@@ -359,7 +361,8 @@ impl<D: DependencyProvider> SolverCache<D> {
     /// Filters the cached candidates of a version set's package, and caches those that don't match
     /// it.
     fn keep_non_matching(&mut self, version_set: VersionSetId) -> R<()>
-        requires { among D.NameId.eq self.old.names (D.name_of_version_set self.old.provider version_set)
+        requires { among D.NameId.eq self.old.names
+            (D.name_of_version_set self.old.provider version_set)
             ≡ true }
         ensures there { OnOk result (among same_set self.new.non_matching version_set ≡ true) }
         ensures extends { Extends D.NameId.eq D.SolvableId.eq self.old self.new }
@@ -393,7 +396,8 @@ impl<D: DependencyProvider> SolverCache<D> {
     /// The cached candidates of a version set's package that match it; with `inverse`, those that
     /// don't.
     fn filtered(&self, version_set: VersionSetId, inverse: bool) -> R<Vec<D::SolvableId>>
-        requires { among D.NameId.eq self.now.names (D.name_of_version_set self.now.provider version_set)
+        requires { among D.NameId.eq self.now.names
+            (D.name_of_version_set self.now.provider version_set)
             ≡ true }
         ensures filtered { IfOk result
             (λ v.
@@ -463,7 +467,8 @@ impl<D: DependencyProvider> SolverCache<D> {
     /// The cached sorted candidates of a union.
     fn sorted_of_union(&self, union: VersionSetUnionId) -> &[D::SolvableId]
         requires { among same_union self.now.unions union ≡ true }
-        ensures in_order { result.now ≡ flat_map (sorted_of self.now.sorted) (D.members_of self.now.provider union) }
+        ensures in_order { result.now
+            ≡ flat_map (sorted_of self.now.sorted) (D.members_of self.now.provider union) }
         ensures tried { IsTriedFor (D.sorts self.now.provider) D.SolvableId.eq
             (tried_first (D.name_of_version_set self.now.provider)
             (D.candidates_of self.now.provider))
@@ -484,7 +489,8 @@ impl<D: DependencyProvider> SolverCache<D> {
     ) -> Result<(), CacheFault<D::Cancel>>
         // The answer is cached.
         ensures there { OnOk result (is_sorted self.new.sorted version_set ≡ true) }
-        ensures cached { is_sorted self.old.sorted version_set ≡ true → IsOk result × (self.new ≡ self.old) }
+        ensures cached { is_sorted self.old.sorted version_set ≡ true → IsOk result
+            × (self.new ≡ self.old) }
         // What else changes.
         ensures extends { Extends D.NameId.eq D.SolvableId.eq self.old self.new }
         ensures only { AddsSorted self.old self.new }
@@ -506,7 +512,8 @@ impl<D: DependencyProvider> SolverCache<D> {
     /// Sorts the cached matching candidates of a version set, and caches the list.
     fn keep_sorted(&mut self, version_set: VersionSetId) -> R<()>
         requires matching { among same_set self.old.matching version_set ≡ true }
-        requires listed { among D.NameId.eq self.old.names (D.name_of_version_set self.old.provider version_set)
+        requires listed { among D.NameId.eq self.old.names
+            (D.name_of_version_set self.old.provider version_set)
             ≡ true }
         // The answer is cached.
         ensures there { OnOk result (is_sorted self.new.sorted version_set ≡ true) }
@@ -528,7 +535,8 @@ impl<D: DependencyProvider> SolverCache<D> {
     /// The cached matching candidates of a version set in the order in which they are tried.
     fn sorted_list(&self, version_set: VersionSetId) -> R<Vec<D::SolvableId>>
         requires matching { among same_set self.now.matching version_set ≡ true }
-        requires listed { among D.NameId.eq self.now.names (D.name_of_version_set self.now.provider version_set)
+        requires listed { among D.NameId.eq self.now.names
+            (D.name_of_version_set self.now.provider version_set)
             ≡ true }
         ensures tried { IfOk result
             (λ v.
@@ -586,7 +594,8 @@ impl<D: DependencyProvider> SolverCache<D> {
     ) -> Result<(), CacheFault<D::Cancel>>
         // The answer is cached.
         ensures there { OnOk result (has_sorted self.new requirement ≡ true) }
-        ensures cached { has_sorted self.old requirement ≡ true → IsOk result × (self.new ≡ self.old) }
+        ensures cached { has_sorted self.old requirement ≡ true → IsOk result
+            × (self.new ≡ self.old) }
         // What else changes.
         ensures extends { Extends D.NameId.eq D.SolvableId.eq self.old self.new }
         // After a refusal.
@@ -638,7 +647,8 @@ impl<D: DependencyProvider> SolverCache<D> {
 
     /// Joins the cached sorted lists of a union's version sets, and caches the whole.
     fn keep_union(&mut self, union: VersionSetUnionId) -> R<()>
-        requires { All (λ v. is_sorted self.old.sorted v ≡ true) (D.members_of self.old.provider union) }
+        requires { All
+            (λ v. is_sorted self.old.sorted v ≡ true) (D.members_of self.old.provider union) }
         ensures there { OnOk result (among same_union self.new.unions union ≡ true) }
         ensures extends { Extends D.NameId.eq D.SolvableId.eq self.old self.new }
         ensures err { OnErr result (self.new ≡ self.old) }
@@ -652,7 +662,8 @@ impl<D: DependencyProvider> SolverCache<D> {
     /// The cached sorted lists of these version sets, one after another.
     fn joined(&self, members: &[VersionSetId]) -> R<Vec<D::SolvableId>>
         requires { All (λ v. is_sorted self.now.sorted v ≡ true) members.now }
-        ensures joined { IfOk result (λ v. v.items ≡ flat_map (sorted_of self.now.sorted) members.now) }
+        ensures joined { IfOk result
+            (λ v. v.items ≡ flat_map (sorted_of self.now.sorted) members.now) }
         ensures refusal { IsOkUnless result WantMemory }
     {
         let mut joined = Vec::new(self.alloc);
@@ -751,7 +762,8 @@ impl<D: DependencyProvider> SolverCache<D> {
         &mut self,
         solvable: D::SolvableId,
     ) -> Result<&Dependencies, CacheFault<D::Cancel>>
-        ensures answer { IfOk result (λ r. needs_of r.now ≡ D.dependencies_of self.old.provider solvable) }
+        ensures answer { IfOk result
+            (λ r. needs_of r.now ≡ D.dependencies_of self.old.provider solvable) }
         ensures cached { among D.SolvableId.eq self.old.solvables solvable ≡ true → IsOk result }
         ensures cancelled { IfErr result (IsCancelledBy (D.may_cancel self.old.provider)) }
         ensures ids { IsErrOf result Ids → D.may_lack_ids self.old.provider }
@@ -786,7 +798,8 @@ fn candidates_from<D: DependencyProvider>(
     alloc: Global,
     name: D::NameId,
 ) -> R<Candidates<D::SolvableId>>
-    ensures listed { IfOk result (λ c. listing c ≡ listing_or_empty (D.candidates_of provider.now name)) }
+    ensures listed { IfOk result
+        (λ c. listing c ≡ listing_or_empty (D.candidates_of provider.now name)) }
     ensures ids { IsErrOf result WantIds → D.may_lack_ids provider.now }
 {
     match provider.get_candidates(alloc, name)? {

@@ -128,7 +128,8 @@ impl<TId: DenseIndex, TValue> IndexMut<TId> for Arena<TId, TValue> {
 
     fn index_mut(&mut self, id: TId) -> &mut TValue
         requires { TId.index_of id < length self.old }
-        ensures* writes_back { sem 𝓛 (lends_item TId.row TValue.row self.entry (TId.index_of id) result) }
+        ensures* writes_back { sem 𝓛
+            (lends_item TId.row TValue.row self.entry (TId.index_of id) result) }
         ensures value { slice_get self.old (TId.index_of id) ≡ Some result.now }
     {
         &mut self.items[id.to_index()]
@@ -147,7 +148,8 @@ pub struct ArenaIter<'a, TId, TValue> {
 impl<'a, TId: DenseIndex, TValue> Iterator for ArenaIter<'a, TId, TValue> {
     type Item = (TId, &'a TValue);
 
-    ghost next_gives = { YieldsFirstBy (λ p. (TId.index_of p.0, p.1.now)) (λ s. enumerate_from s.next s.rest.now) };
+    ghost next_gives = { YieldsFirstBy (λ p. (TId.index_of p.0, p.1.now))
+        (λ s. enumerate_from s.next s.rest.now) };
 
     ghost remaining = { item_count (λ s. enumerate_from s.next s.rest.now) };
 

@@ -120,7 +120,8 @@ impl<Tag, Repr: DenseIndex + Hash + Debug> DenseIndex for DenseId<Tag, Repr> {
 
     ghost round_trip = { λ i h. Repr.round_trip i h };
 
-    ghost distinct = { λ x y h. ap (λ r. record { raw = r; tag = x.tag }) (Repr.distinct x.raw y.raw h) };
+    ghost distinct = { λ x y h. ap
+        (λ r. record { raw = r; tag = x.tag }) (Repr.distinct x.raw y.raw h) };
 
     ghost eq_by_index = { λ x y. Prim.rw (Repr.eq_by_index x.raw y.raw) (Prim.search rules) };
 
@@ -168,7 +169,8 @@ impl<Tag, Repr: Copy, H> SparseId<Tag, Repr, H> {
 }
 
 impl<Tag, Repr: Exact, H> Exact for SparseId<Tag, Repr, H> {
-    ghost exact = { λ x y h. ap (λ r. record { raw = r; kind = x.kind }) (Repr.exact x.raw y.raw (and_parts _ _ h).0) };
+    ghost exact = { λ x y h. ap
+        (λ r. record { raw = r; kind = x.kind }) (Repr.exact x.raw y.raw (and_parts _ _ h).0) };
 }
 
 /// The kind of package names.

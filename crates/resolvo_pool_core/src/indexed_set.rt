@@ -47,7 +47,8 @@ impl<Id: DenseIndex> IndexedSet<Id> {
 
     /// Inserts an id; true where it was new.
     pub fn insert(&mut self, id: Id) -> R<bool>
-        ensures added { IfOk result (λ new. new ≡ not (slice_index_or self.old (Id.index_of id) false)) }
+        ensures added { IfOk result
+            (λ new. new ≡ not (slice_index_or self.old (Id.index_of id) false)) }
         ensures put { OnOk result
             (Puts Id.eq (λ k. slice_index_or self.old (Id.index_of k) false)
             (λ k. slice_index_or self.new (Id.index_of k) false) id true) }

@@ -40,7 +40,8 @@ impl<TId, TValue> Model for Mapping<TId, TValue> {
 
     ghost view = { λ m. m.slots.items };
 
-    ghost invariant = { λ m. (m.count ≡ sum_by filled m.slots.items) × (length m.slots.items ≤ 4294967295) };
+    ghost invariant = { λ m. (m.count ≡ sum_by filled m.slots.items)
+        × (length m.slots.items ≤ 4294967295) };
 }
 
 impl<TId, TValue> Mapping<TId, TValue> {
@@ -122,7 +123,8 @@ impl<TId: DenseIndex, TValue> Mapping<TId, TValue> {
 
     /// A mutable reference to the value of an id.
     pub fn get_mut(&mut self, id: TId) -> Option<&mut TValue>
-        ensures* writes_back { sem 𝓛 (lends_slot TId.row TValue.row self.entry (TId.index_of id) result) }
+        ensures* writes_back { sem 𝓛
+            (lends_slot TId.row TValue.row self.entry (TId.index_of id) result) }
         ensures value { option_copied_mut result ≡ at self.old (TId.index_of id) }
     {
         let index = id.to_index();
@@ -139,7 +141,8 @@ impl<TId: DenseIndex, TValue> Mapping<TId, TValue> {
         ensures old { IfOk result (λ old. old ≡ at self.old (TId.index_of id)) }
         ensures put { OnOk result (PutsSlot self.old self.new (TId.index_of id) (Some value)) }
         ensures err { OnErr result (self.new ≡ self.old) }
-        ensures slots { OnOk result (length self.new ≡ slots_with (length self.old) (TId.index_of id)) }
+        ensures slots { OnOk result
+            (length self.new ≡ slots_with (length self.old) (TId.index_of id)) }
         ensures ids { IsErrOf result Ids → TId.index_of id ≡ 4294967295 }
     {
         let index = id.to_index();
@@ -161,7 +164,8 @@ impl<TId: DenseIndex, TValue> Mapping<TId, TValue> {
         TValue: Drop,
         F: Drop,
         requires { F.IsAlwaysCallable make }
-        ensures* writes_back { sem 𝓛 (lends_kept TId.row TValue.row self.entry (TId.index_of id) result) }
+        ensures* writes_back { sem 𝓛
+            (lends_kept TId.row TValue.row self.entry (TId.index_of id) result) }
         ensures value { IfOk result
             (λ r.
             MatchOption (at self.old (TId.index_of id)) (F.post make r.now) (λ v. r.now ≡ v)) }
@@ -207,7 +211,8 @@ fn fill_up<V>(slots: &mut Vec<Option<V>>, len: usize) -> R<()>
 where
     V: Drop,
     requires { vec_len slots.old ≤ len }
-    ensures ok { OnOk result (slots.new.items ≡ slots.old.items ++ replicate (len - vec_len slots.old) None) }
+    ensures ok { OnOk result
+        (slots.new.items ≡ slots.old.items ++ replicate (len - vec_len slots.old) None) }
     ensures err { OnErr result (slots.new.items ≡ slots.old.items) }
     ensures refusal { IsOkUnless result Memory }
 {
@@ -269,7 +274,8 @@ pub struct MappingIter<'a, TId, TValue> {
 impl<'a, TId: DenseIndex, TValue> Iterator for MappingIter<'a, TId, TValue> {
     type Item = (TId, &'a TValue);
 
-    ghost next_gives = { YieldsFirstBy (λ p. (TId.index_of p.0, p.1.now)) (λ s. pairs_from s.next s.slots.now) };
+    ghost next_gives = { YieldsFirstBy (λ p. (TId.index_of p.0, p.1.now))
+        (λ s. pairs_from s.next s.slots.now) };
 
     ghost remaining = { item_count (λ s. pairs_from s.next s.slots.now) };
 

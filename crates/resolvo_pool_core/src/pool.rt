@@ -170,7 +170,8 @@ impl<VS: VersionSet, N: PackageName> Pool<VS, N> {
 
     /// The id of a text, which is new where an equal one was not interned.
     pub fn intern_string(&mut self, text: &str) -> R<StringId>
-        ensures id { IfOk result (λ id. id.0 ≡ position_or_len (bytes_eq text.now) self.old.strings) }
+        ensures id { IfOk result
+            (λ id. id.0 ≡ position_or_len (bytes_eq text.now) self.old.strings) }
         ensures put { OnOk result
             (self.new
             ≡ record self.old { strings = insert_key bytes_eq self.old.strings text.now }) }

@@ -67,7 +67,8 @@ pub trait Interner {
         solvable: Self::SolvableId,
         f: &mut fmt::Formatter<W>,
     ) -> fmt::Result
-        ensures { WritesOnOk W.write_str_gives f.old result (solvable_text self.now solvable) f.new };
+        ensures { WritesOnOk W.write_str_gives f.old result
+            (solvable_text self.now solvable) f.new };
 
     /// Writes the package of a solvable.
     fn display_solvable_name<W: fmt::Write>(
@@ -75,7 +76,8 @@ pub trait Interner {
         solvable: Self::SolvableId,
         f: &mut fmt::Formatter<W>,
     ) -> fmt::Result
-        ensures { WritesOnOk W.write_str_gives f.old result (solvable_name_text self.now solvable) f.new };
+        ensures { WritesOnOk W.write_str_gives f.old result
+            (solvable_name_text self.now solvable) f.new };
 
     /// Writes solvables of one package together, for a report that merges them.
     fn display_merged_solvables<W: fmt::Write>(
@@ -83,7 +85,8 @@ pub trait Interner {
         solvables: &[Self::SolvableId],
         f: &mut fmt::Formatter<W>,
     ) -> fmt::Result
-        ensures { WritesOnOk W.write_str_gives f.old result (merged_text self.now solvables.now) f.new };
+        ensures { WritesOnOk W.write_str_gives f.old result
+            (merged_text self.now solvables.now) f.new };
 
     /// Writes a package's name.
     fn display_name<W: fmt::Write>(
@@ -99,7 +102,8 @@ pub trait Interner {
         version_set: VersionSetId,
         f: &mut fmt::Formatter<W>,
     ) -> fmt::Result
-        ensures { WritesOnOk W.write_str_gives f.old result (version_set_text self.now version_set) f.new };
+        ensures { WritesOnOk W.write_str_gives f.old result
+            (version_set_text self.now version_set) f.new };
 
     /// Writes the text of an id.
     fn display_string<W: fmt::Write>(
@@ -160,7 +164,8 @@ pub trait DependencyProvider: Interner {
         version_set: VersionSetId,
         inverse: bool,
     ) -> R<Vec<Self::SolvableId>>
-        ensures kept { IfOk result (λ v. v.items ≡ kept (matches self.now version_set) inverse candidates.now) }
+        ensures kept { IfOk result
+            (λ v. v.items ≡ kept (matches self.now version_set) inverse candidates.now) }
         ensures ids { IsErrOf result Ids → may_lack_ids self.now };
 
     /// The candidates of a package.
@@ -191,10 +196,12 @@ pub trait DependencyProvider: Interner {
     }
 
     /// Sorting gives a permutation.
-    ghost sorts_permute: { (p : Self) (xs ys : List Self.SolvableId) → sorts p xs ys → IsPermutation xs ys };
+    ghost sorts_permute: { (p : Self) (xs ys : List Self.SolvableId) → sorts p xs ys
+        → IsPermutation xs ys };
 
     /// Each candidate of a package, also a locked or an excluded one, has its name.
-    ghost candidates_named: { (p : Self) (n : Self.NameId) → AreOf (Self.name_of_solvable p) n (candidates_of p n) };
+    ghost candidates_named: { (p : Self) (n : Self.NameId)
+        → AreOf (Self.name_of_solvable p) n (candidates_of p n) };
 }
 
 /// The candidates of a package, and what is known of them.

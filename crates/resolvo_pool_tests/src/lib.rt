@@ -1,4 +1,5 @@
-//! Tests of `resolvo_pool_core` and `resolvo_pool`, apart from them so that a gate proves their functions once.
+//! Tests of `resolvo_pool_core` and `resolvo_pool`, apart from them so that a gate proves their
+//! functions once.
 #![tactic(auto)]
 
 #[cfg(test)]

@@ -107,7 +107,8 @@ impl ReportReader {
     ) -> Result<Option<ReportLine>, ReportFault>
         ensures given { IfOk result (λ next. IfSome next (λ line.
             TakesLine S.Source self.old source.old (report_line_of line) self.new source.new)) }
-        ensures end { IfOk result (λ next. IfNone next (IsAtReportEnd S.Source self.old source.old)) }
+        ensures end { IfOk result
+            (λ next. IfNone next (IsAtReportEnd S.Source self.old source.old)) }
         ensures failures { OnOk result (S.failures source.new ≡ S.failures source.old) }
         ensures fault { IfErr result (λ e. TakesNoLine S.Source e self.old source.old source.new) }
     {
@@ -122,7 +123,8 @@ impl ReportReader {
     ) -> Result<Option<ReportLine>, ReportFault>
         ensures given { IfOk result (λ next. IfSome next (λ line.
             TakesShown S.Source false self.old source.old (report_line_of line) self.new source.new)) }
-        ensures end { IfOk result (λ next. IfNone next (IsAtReportEnd S.Source self.old source.old)) }
+        ensures end { IfOk result
+            (λ next. IfNone next (IsAtReportEnd S.Source self.old source.old)) }
         ensures failures { OnOk result (S.failures source.new ≡ S.failures source.old) }
         ensures fault { IfErr result (λ e. TakesNoLine S.Source e self.old source.old source.new) }
     {
@@ -138,7 +140,8 @@ impl ReportReader {
     ) -> Result<Option<ReportLine>, ReportFault>
         ensures given { IfOk result (λ next. IfSome next (λ line.
             TakesShown S.Source keeps self.old source.old (report_line_of line) self.new source.new)) }
-        ensures end { IfOk result (λ next. IfNone next (IsAtReportEnd S.Source self.old source.old)) }
+        ensures end { IfOk result
+            (λ next. IfNone next (IsAtReportEnd S.Source self.old source.old)) }
         ensures failures { OnOk result (S.failures source.new ≡ S.failures source.old) }
         ensures fault { IfErr result (λ e. TakesNoLine S.Source e self.old source.old source.new) }
     {

@@ -66,7 +66,8 @@ impl<N: Copy + Exact + Hash + Debug, S: Copy + Exact + Hash + Debug> SolverState
         requires coding { IsCoding self.old }
         requires one { 1 ≤ level }
         ensures set { SetsFloor level self.old.search self.new.search }
-        ensures is { self.new ≡ record self.old { search = record self.old.search { base_level = level } } }
+        ensures is { self.new
+            ≡ record self.old { search = record self.old.search { base_level = level } } }
         ensures kept { KeepsCode self.old self.new }
     {
         self.search.base_level = level;

@@ -17,7 +17,8 @@ impl<N: Copy + Exact + Hash + Debug, S: Copy + Exact + Hash + Debug> SolverState
     pub fn chosen(&self, alloc: Global) -> R<Vec<S>>
         ensures chosen { IfOk result
             (λ v. AreChosen self.now.atoms.keys (made_true (history self.now.search)) v.items) }
-        ensures in_order { IfOk result (λ v. v.items ≡ choices self.now.atoms.keys self.now.search.tracker.trail) }
+        ensures in_order { IfOk result
+            (λ v. v.items ≡ choices self.now.atoms.keys self.now.search.tracker.trail) }
         ensures refusal { IsOkUnless result Memory }
     {
         let mut chosen = Vec::new(alloc);

@@ -67,7 +67,8 @@ impl<N: Copy + Exact + Hash + Debug> Registry<N> {
     ) -> R<VariableId>
         requires coding { IsCoding coding.old }
         requires tied { AreTied self.old coding.old }
-        ensures registered { IfOk result (λ v. Registers name solvable v self.old coding.old self.new coding.new) }
+        ensures registered { IfOk result
+            (λ v. Registers name solvable v self.old coding.old self.new coding.new) }
         ensures ids { IsErrOf result Ids → LacksNumber coding.new }
     {
         let alloc = *self.trackers.allocator();
@@ -118,7 +119,8 @@ fn track<N: Copy + Exact + Hash + Debug, S: Copy + Exact + Hash + Debug>(
     requires coding { IsCoding coding.old }
     requires tied { IsTied name tracker.old coding.old }
     requires solvable { (s : S) × Represents coding.old.atoms.keys variable (Solvable s) }
-    ensures tracked { OnOk result (Tracks name variable tracker.old coding.old tracker.new coding.new) }
+    ensures tracked { OnOk result
+        (Tracks name variable tracker.old coding.old tracker.new coding.new) }
     ensures ids { IsErrOf result Ids → LacksNumber coding.new }
 {
     let digit = next_digit(tracker, coding, name, variable)?;
@@ -151,7 +153,8 @@ fn next_digit<N: Copy + Exact + Hash + Debug, S: Copy + Exact + Hash + Debug>(
     requires { IsCoding coding.old }
     ensures digit { IfOk result
         (λ digit. GivesDigit name (length tracker.now.helpers) digit coding.old coding.new) }
-    ensures needed { IfOk result (λ digit. is_some digit ≡ needs_helper same_variable tracker.now variable) }
+    ensures needed { IfOk result
+        (λ digit. is_some digit ≡ needs_helper same_variable tracker.now variable) }
     ensures ids { IsErrOf result Ids → LacksNumber coding.new }
 {
     if !tracker.needs_helper(variable) {

@@ -32,7 +32,8 @@ impl<N: SolverId + Drop> ClauseStore<N> {
     /// refused call.
     pub fn run(&mut self, alloc: Global, calls: &[StoreCall<N>]) -> R<Vec<StoreAnswer>>
         ensures answers { IfOk result
-            (λ v. map plain_answer v.items ≡ answers_of N.eq (plain N.Scores.score_of self.old) calls.now) }
+            (λ v. map plain_answer v.items
+            ≡ answers_of N.eq (plain N.Scores.score_of self.old) calls.now) }
         ensures store { OnOk result
             (Like (plain N.Scores.score_of self.new)
             (after N.eq (plain N.Scores.score_of self.old) calls.now)) }
@@ -50,7 +51,8 @@ impl<N: SolverId + Drop> ClauseStore<N> {
 
     /// Carries out a call.
     fn do_call(&mut self, alloc: Global, call: &StoreCall<N>) -> R<StoreAnswer>
-        ensures answer { IfOk result (λ a. plain_answer a ≡ answer_of (plain N.Scores.score_of self.old)
+        ensures answer { IfOk result
+            (λ a. plain_answer a ≡ answer_of (plain N.Scores.score_of self.old)
             call.now) }
         ensures store { OnOk result
             (Like (plain N.Scores.score_of self.new)
@@ -190,7 +192,8 @@ impl<N: SolverId + Drop> ClauseStore<N> {
     /// Registers a need clause, if the lists that it names exist.
     fn try_register(&mut self, need: NeedClause) -> R<StoreAnswer>
         ensures answer { IfOk result
-            (λ a. plain_answer a ≡ cond (can_register (plain N.Scores.score_of self.old) need) (Done) Bad) }
+            (λ a. plain_answer a
+            ≡ cond (can_register (plain N.Scores.score_of self.old) need) (Done) Bad) }
         ensures store { OnOk result
             (Like (plain N.Scores.score_of self.new)
             (cond (can_register (plain N.Scores.score_of self.old) need)

@@ -68,7 +68,8 @@ impl<P: Interner> TestProvider<P> {
 
 /// The ids of these solvables.
 pub fn sparse_ids<S: Copy>(alloc: Global, solvables: &[S]) -> R<Vec<SparseId<SolvableTag, S>>>
-    ensures ids { IfOk result (λ v. v.items ≡ map (λ s. record { raw = s; kind = record {} }) solvables.now) }
+    ensures ids { IfOk result
+        (λ v. v.items ≡ map (λ s. record { raw = s; kind = record {} }) solvables.now) }
     ensures refusal { IsOkUnless result Memory }
 {
     Ok(
@@ -92,7 +93,8 @@ fn sparse_pairs<S: Copy>(
     alloc: Global,
     excluded: &[(S, StringId)],
 ) -> R<Vec<(SparseId<SolvableTag, S>, StringId)>>
-    ensures ids { IfOk result (λ v. v.items ≡ map (λ e. (record { raw = e.0; kind = record {} }, e.1)) excluded.now) }
+    ensures ids { IfOk result
+        (λ v. v.items ≡ map (λ e. (record { raw = e.0; kind = record {} }, e.1)) excluded.now) }
     ensures refusal { IsOkUnless result Memory }
 {
     Ok(
@@ -117,7 +119,9 @@ fn sparse_hint<S: Copy>(
     alloc: Global,
     hint: &HintDependenciesAvailable<S>,
 ) -> R<HintDependenciesAvailable<SparseId<SolvableTag, S>>>
-    ensures hint { IfOk result (λ h. hint_of h ≡ renamed_hint (λ s. record { raw = s; kind = record {} }) (hint_of hint.now)) }
+    ensures hint { IfOk result
+        (λ h. hint_of h ≡ renamed_hint
+        (λ s. record { raw = s; kind = record {} }) (hint_of hint.now)) }
     ensures refusal { IsOkUnless result Memory }
 {
     match hint {
@@ -134,7 +138,9 @@ fn sparse_candidates<S: Copy>(
     alloc: Global,
     listed: &Candidates<S>,
 ) -> R<Candidates<SparseId<SolvableTag, S>>>
-    ensures listed { IfOk result (λ c. listing c ≡ renamed (λ s. record { raw = s; kind = record {} }) (listing listed.now)) }
+    ensures listed { IfOk result
+        (λ c. listing c ≡ renamed
+        (λ s. record { raw = s; kind = record {} }) (listing listed.now)) }
     ensures refusal { IsOkUnless result Memory }
 {
     Ok(Candidates {
@@ -151,9 +157,11 @@ impl<P: Interner> Interner for TestProvider<P> {
 
     type SolvableId = SparseId<SolvableTag, P::SolvableId>;
 
-    ghost name_of_solvable = { λ p s. record { raw = P.name_of_solvable p.inner s.raw; kind = record {} } };
+    ghost name_of_solvable = { λ p s.
+        record { raw = P.name_of_solvable p.inner s.raw; kind = record {} } };
 
-    ghost name_of_version_set = { λ p v. record { raw = P.name_of_version_set p.inner v; kind = record {} } };
+    ghost name_of_version_set = { λ p v.
+        record { raw = P.name_of_version_set p.inner v; kind = record {} } };
 
     ghost members_of = { λ p u. P.members_of p.inner u };
 
@@ -251,7 +259,8 @@ impl<P: DependencyProvider> TestProvider<P> {
         alloc: Global,
         ids: &[SparseId<SolvableTag, P::SolvableId>],
     ) -> R<Vec<P::SolvableId>>
-        ensures sorted { IfOk result (λ v. P.sorts self.now.inner (map (λ s. s.raw) ids.now) v.items) }
+        ensures sorted { IfOk result
+            (λ v. P.sorts self.now.inner (map (λ s. s.raw) ids.now) v.items) }
         ensures count { IfOk result (λ v. length v.items ≡ length ids.now) }
         ensures refusal { IsErrOf result Ids → P.may_lack_ids self.now.inner }
     {
@@ -267,7 +276,8 @@ impl<P: DependencyProvider> TestProvider<P> {
         alloc: Global,
         ids: &[SparseId<SolvableTag, P::SolvableId>],
     ) -> R<Vec<SparseId<SolvableTag, P::SolvableId>>>
-        ensures sorted { IfOk result (λ v. P.sorts self.now.inner (map (λ s. s.raw) ids.now) (map (λ s. s.raw) v.items)) }
+        ensures sorted { IfOk result
+            (λ v. P.sorts self.now.inner (map (λ s. s.raw) ids.now) (map (λ s. s.raw) v.items)) }
         ensures count { IfOk result (λ v. length v.items ≡ length ids.now) }
         ensures refusal { IsErrOf result Ids → P.may_lack_ids self.now.inner }
     {
@@ -281,7 +291,8 @@ impl<P: DependencyProvider> DependencyProvider for TestProvider<P> {
 
     ghost matches = { λ p v s. P.matches p.inner v s.raw };
 
-    ghost candidates_of = { λ p n. option_map (renamed (λ s. record { raw = s; kind = record {} })) (P.candidates_of p.inner n.raw) };
+    ghost candidates_of = { λ p n. option_map (renamed (λ s. record { raw = s; kind = record {} }))
+        (P.candidates_of p.inner n.raw) };
 
     ghost dependencies_of = { λ p s. P.dependencies_of p.inner s.raw };
 

@@ -113,7 +113,8 @@ fn each_read_failing(rt: HostRuntime) -> Result<(), Fail> {
     Ok(())
 }
 
-/// How a run ends whose catalogue's device fails after so many calls, and whether this is all that it writes.
+/// How a run ends whose catalogue's device fails after so many calls, and whether this is all that
+/// it writes.
 fn written_where_failing(
     alloc: Global,
     text: &str,

@@ -1,5 +1,5 @@
-//! Messages worked out by hand from the words of docs/MESSAGES.md. An edge is walked before those that
-//! were drawn earlier.
+//! Messages worked out by hand from the words of docs/MESSAGES.md. An edge is walked before those
+//! that were drawn earlier.
 
 use super::sample::{Link, Place, message_of};
 use std::alloc::Global;

@@ -1,7 +1,7 @@
-//! Ids with a meaning that shows in their digits, and graphs drawn with them. The version 100 p + v is
-//! version v of package p; the version set 1,000,000 p + 1,000 low + high holds the versions of package
-//! p from low to below high, or all where both are 0, or low alone where high is 0. Packages 0 to 4 are
-//! a, b, c, s and w. There is one union.
+//! Ids with a meaning that shows in their digits, and graphs drawn with them. The version 100 p + v
+//! is version v of package p; the version set 1,000,000 p + 1,000 low + high holds the versions of
+//! package p from low to below high, or all where both are 0, or low alone where high is 0.
+//! Packages 0 to 4 are a, b, c, s and w. There is one union.
 ghost use Rattle.std.specs.Prelude.{◌≡◌};
 ghost use Rattle.std.specs.Fmt.{WritesOnOk};
 ghost use Rattle.resolvo_graph_tests.specs.Sample.{letter, span_text, word, merged};

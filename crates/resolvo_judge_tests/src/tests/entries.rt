@@ -1,4 +1,5 @@
-//! The report of turns that are chosen here, and not by the solver: the order of the lines, and that of the steps.
+//! The report of turns that are chosen here, and not by the solver: the order of the lines, and
+//! that of the steps.
 
 use resolve_install::{install_report, numbers_of};
 use resolve_order::Turn;

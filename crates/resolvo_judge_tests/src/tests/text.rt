@@ -21,7 +21,8 @@ fn lines_of(alloc: Global, mut source: MemorySource, limit: u32) -> Result<Vec<u
     Ok(all)
 }
 
-/// Whether a text has these lines, from a device that gives so many bytes a call after interruptions.
+/// Whether a text has these lines, from a device that gives so many bytes a call after
+/// interruptions.
 fn has_lines(alloc: Global, text: &str, per_call: usize, lines: &str) -> Result<bool, ReadFault> {
     let source = MemorySource::new(text.as_bytes(), per_call.max(1)).interrupted(1000);
     Ok(lines_of(alloc, source, 100)?.as_slice() == lines.as_bytes())
@@ -44,7 +45,8 @@ fn pieces(rt: HostRuntime) -> Result<(), Fail> {
     Ok(())
 }
 
-/// The fault of a text of two lines whose device fails after so many calls, or is interrupted so often before.
+/// The fault of a text of two lines whose device fails after so many calls, or is interrupted so
+/// often before.
 fn device_fault(alloc: Global, calls: u64, interruptions: u32) -> Option<ReadFault> {
     let source = MemorySource::new(b"ab\ncd", 2)
         .failing_after(calls)
