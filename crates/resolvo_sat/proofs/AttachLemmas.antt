@@ -23,6 +23,7 @@ use Rattle.resolvo_sat.specs.Attach.{AreFalseBut, IsBestBeside, IsBestSoFar, IsB
 use Rattle.resolvo_sat.proofs.Trails.{known_from_level}
 use Rattle.resolvo_sat.proofs.ExtendLemmas.{extends_nothing, level_by_now}
 use Rattle.resolvo_sat.proofs.Guards.{guards_first, guards_recorded}
+use Rattle.resolvo_sat.proofs.DoneLemmas.{done_same}
 use Rattle.resolvo_sat.proofs.Readiness.{fits_same, ready_extends, guard_extends, watching_more}
 use Rattle.resolvo_sat.proofs.PendingLemmas.{count_push, pending_below}
 
@@ -168,6 +169,7 @@ started_watching : (v w : WatchLists) (c : ClauseId) (p : WatchedLiterals) → c
 started_watching v w c p within starts = record {
   assertions = starts.assertions;
   learnt = starts.learnt;
+  units_done = starts.units_done;
   pairs = λ n none. elim (started_pair v w c p starts within n) [ inl here ↦ absurd (some_none p (sym here.1 ∙ none)) | inr other ↦ sym other.2 ∙ none ];
   was_pending = was_pending v w c p starts;
   stays_pending = λ n h none. elim (started_pair v w c p starts within n) [
@@ -193,8 +195,10 @@ attaches_pair s t v w c p ready last own differ e qhead guards starts = (
       fits = fits_same s t w (started_fits s v w c p ready.fits last own differ starts) e.same.clauses;
       qhead = still.qhead;
       walked = λ n q is. walks n q is (started_pair v w c p starts within n);
+      done = done_same t t v w starts.units_done starts.assertions starts.learnt (omega arith) (λ k le. refl) still.done;
     };
     extends = e;
+    qhead = qhead;
   },
   (let long : length v.pending.items ≡ length w.pending.items + 1 = ap length starts.pending ∙ length-append w.pending.items (c ∷ []) in sym long),
 )
@@ -242,6 +246,7 @@ turned s v w ready rest back =
       watching = record {
         assertions = refl;
         learnt = refl;
+        units_done = refl;
         pairs = λ n h. h;
         was_pending = λ n h. (let e = counts n in omega arith);
         stays_pending = λ n h none. (let e = counts n in omega arith);
@@ -258,8 +263,10 @@ turned s v w ready rest back =
         };
         qhead = ready.qhead;
         walked = ready.walked;
+        done = done_same s s v (record v { pending = w.pending; starts = w.starts }) refl refl refl (omega arith) (λ k le. refl) ready.done;
       };
       extends = extends_nothing s ready.state;
+      qhead = refl;
     })
   where
     counts : (n : ℕ) → count n w.pending.items ≡ count n v.pending.items
@@ -267,5 +274,5 @@ turned s v w ready rest back =
 
 -- first their order was turned, then they were gone over
 pub turned_first : (s t : SatState) (v w x : WatchLists) (o : Option ClauseId) → Attaches s s v w → IsPendingEnd s t w x o → IsPendingEnd s t v x o
-turned_first s t v w x None a (b, none) = (record { watching = watching_more v w x a.watching b.watching; ready = b.ready; extends = b.extends }, none)
+turned_first s t v w x None a (b, none) = (record { watching = watching_more v w x a.watching b.watching; ready = b.ready; extends = b.extends; qhead = b.qhead }, none)
 turned_first s t v w x (Some n) a b = record { watching = watching_more v w x a.watching b.watching; ready = b.ready; extends = b.extends; falsified = b.falsified }

@@ -1,7 +1,8 @@
 -- Propagation that went to the trail's end is complete.
-use Rattle.std.proofs.Common.{◌≡◌, ℕ, zero, suc, ◌+◌, ◌-◌, ◌<◌, ◌≤◌, ◌⊎◌, inl, inr, true, false, not, List, [], ◌∷◌, ◌++◌, take, length, get_or, Vec, Global, Option, Some, None, refl, sym, ◌∙◌, ap, subst, arith}
+use Rattle.std.proofs.Common.{◌≡◌, ℕ, zero, suc, ◌+◌, ◌-◌, ◌<◌, ◌≤◌, ◌⊎◌, inl, inr, true, false, not, List, [], ◌∷◌, ◌++◌, take, drop, reverse, length, get_or, Vec, Global, Option, Some, None, refl, sym, ◌∙◌, ap, subst, arith}
 use Rattle.std.proofs.lemmas.Bool.{both_ways, cases_Bool}
-use Rattle.std.proofs.lemmas.List.{take_more, length-append, length-reverse}
+use Rattle.std.proofs.lemmas.List.{take_more, take_all, take_rest, length-append, length-reverse}
+use Rattle.resolvo_pool_core.specs.declared.id.ClauseId.{ClauseId}
 use Rattle.resolvo_store_core.specs.Signed.{Signed, negation, same_literal, has}
 use Rattle.resolvo_store_core.specs.Clauses.{yes, root}
 use Rattle.resolvo_store_core.specs.Watches.{pair_at}
@@ -13,19 +14,22 @@ use Rattle.resolvo_sat.specs.declared.state.SatClause.{SatClause}
 use Rattle.resolvo_sat.specs.declared.state.VariableKind.{VariableKind}
 use Rattle.resolvo_sat.specs.declared.watch_lists.WatchLists.{WatchLists}
 use Rattle.resolvo_sat.specs.declared.watch_lists.UnitClause.{UnitClause}
+use Rattle.resolvo_sat.specs.declared.watch_lists.UnitsDone.{UnitsDone}
 use Rattle.resolvo_sat.specs.Known.{IsFalseUnder, Forces, clause_at}
 use Rattle.resolvo_sat.specs.Entries.{literal_of, made_true, before}
 use Rattle.resolvo_sat.specs.State.{count_of, history, clauses_of, IsState}
-use Rattle.resolvo_sat.specs.Propagation.{IsReady, IsUnit, IsPending, SameWatching, FellAt, AreCovered, AreUnits, IsOnly, HasUnit, AllTrue, Guards, GuardsTo, IsWalkedTo, Extends, Walked, Running, IsFalsified, Conflicts, IsQuiet, IsComplete, IsUnitAssigned, AssignsUnits}
+use Rattle.resolvo_sat.specs.Propagation.{IsReady, IsFit, IsUnit, IsPending, SameWatching, FellAt, AreCovered, AreUnits, IsOnly, HasUnit, AllTrue, IsDone, AreDone, AreWithin, Guards, GuardsTo, IsWalkedTo, Extends, Walked, Running, IsFalsified, Conflicts, IsQuiet, IsComplete, IsUnitAssigned, IsUnitsEnd, AssignsUnits}
 use Rattle.resolvo_sat.specs.Attach.{Attaches}
+use Rattle.resolvo_sat.specs.UnitsDone.{NotesDone}
 use Rattle.resolvo_sat.proofs.Literals.{negation-negation}
 use Rattle.resolvo_sat.proofs.Trails.{consistent, before_all, length_le, root_known}
 use Rattle.resolvo_sat.proofs.Clauses.{length-lists}
-use Rattle.resolvo_sat.proofs.ExtendLemmas.{extends_more, still_true, same_clauses}
+use Rattle.resolvo_sat.proofs.ExtendLemmas.{extends_nothing, extends_more, still_true, same_clauses, before_kept}
 use Rattle.resolvo_sat.proofs.Guards.{guards_known}
+use Rattle.resolvo_sat.proofs.DoneLemmas.{within_same, done_further, done_noted}
 use Rattle.resolvo_sat.proofs.Readiness.{fits_same, ready_extends, qhead_extends, same_watching, watching_more}
 
-all_true_more : (s t : SatState) (xs : List UnitClause) → Extends s t → AllTrue (made_true (history s)) xs → AllTrue (made_true (history t)) xs
+pub all_true_more : (s t : SatState) (xs : List UnitClause) → Extends s t → AllTrue (made_true (history s)) xs → AllTrue (made_true (history t)) xs
 all_true_more s t [] e a = tt
 all_true_more s t (x ∷ xs) e a = (still_true s t x.literal e a.0, all_true_more s t xs e a.1)
 
@@ -74,8 +78,8 @@ entries_bounded s state =
     omega arith
 
 -- before the next entry is taken: the singles were gone over, and no clause waits
-pub running_starts : (o r s t : SatState) (v w : WatchLists) → AssignsUnits v.assertions.items o r → AssignsUnits v.learnt.items r s → Attaches s t v w → ((n : ℕ) → IsPending n w → ⊥) → Running o t v w
-running_starts o r s t v w rules learnt attaches attached = record {
+pub running_starts : (o r s t : SatState) (v w : WatchLists) → AssignsUnits v.assertions.items o r → AssignsUnits v.learnt.items r s → Attaches s t v w → ((n : ℕ) → IsPending n w → ⊥) → AreWithin o.qhead v → Running o t v w
+running_starts o r s t v w rules learnt attaches attached within = record {
   watching = attaches.watching;
   attached = attached;
   fits = attaches.ready.fits;
@@ -84,6 +88,8 @@ running_starts o r s t v w rules learnt attaches attached = record {
   assertions = all_true_more s t v.assertions.items attaches.extends (all_true_more r s v.assertions.items learnt.extends rules.set);
   learnt = all_true_more s t v.learnt.items attaches.extends learnt.set;
   in_range = attaches.ready.qhead;
+  done = attaches.ready.done;
+  within = within_same o.qhead t.qhead v w attaches.watching.units_done (let a : t.qhead ≡ s.qhead = attaches.qhead in let b : s.qhead ≡ r.qhead = learnt.qhead in let d : r.qhead ≡ o.qhead = rules.qhead in omega arith) within;
 }
 
 -- after the singles were gone over the watches are ready still
@@ -108,6 +114,8 @@ running_goes_on o s u t v w x l run fell walked passed =
       assertions = all_true_more s u v.assertions.items walked.extends run.assertions;
       learnt = all_true_more s u v.learnt.items walked.extends run.learnt;
       in_range = omega arith;
+      done = done_further s (record u { qhead = u.qhead + 1 }) w x walked.watching.units_done walked.watching.assertions walked.watching.learnt run.within (λ k le. before_kept s u k walked.extends (omega arith)) run.done;
+      within = within_same s.qhead (u.qhead + 1) w x walked.watching.units_done (omega arith) run.within;
     })
 
 -- a step of the walk leaves fewer entries
@@ -179,17 +187,98 @@ running_quiet o s v w run covers h n below = go (pair_at w.watched.items n) refl
         (guards_known s.guard_level (history s) (history s) p (subst (λ (ds : List Entry). GuardsTo s.guard_level ds (history s) p) (before_all s.tracker.trail) (walked n p is)))
     go None is = covered is (covers.covered n (subst (λ (cs : List SatClause). n < length cs) run.extends.same.clauses below) (run.watching.pairs n is))
 
-pub running_ends : (o s : SatState) (v w : WatchLists) → Running o s v w → AreCovered o v → length s.tracker.trail ≤ s.qhead → IsComplete o s v w
+running_ends : (o s : SatState) (v w : WatchLists) → Running o s v w → AreCovered o v → length s.tracker.trail ≤ s.qhead → IsComplete o s v w
 running_ends o s v w run covers end =
     let low : s.qhead ≤ length s.tracker.trail = run.in_range in
     record {
       watching = run.watching;
-      ready = record { state = run.extends.state; fits = run.fits; qhead = run.in_range; walked = run.walked };
+      ready = record { state = run.extends.state; fits = run.fits; qhead = run.in_range; walked = run.walked; done = run.done };
       extends = run.extends;
       qhead = omega arith;
       attached = run.attached;
       quiet = running_quiet o s v w run covers end;
     }
+
+-- notes alone changed
+fits_noted : (s : SatState) (w : WatchLists) (notes : Vec UnitsDone Global) → IsFit s w → IsFit s (record w { units_done = notes })
+fits_noted s w notes fits = record { fit = fits.fit; each = fits.each; own = fits.own; unwatched = fits.unwatched; two = fits.two; once = fits.once }
+
+pub ready_noted : (s : SatState) (v w : WatchLists) → w ≡ record v { units_done = w.units_done } → AreDone s w → IsReady s v → IsReady s w
+ready_noted s v w rest done ready =
+    subst (λ (x : WatchLists). IsReady s x) (sym rest) (record {
+      state = ready.state;
+      fits = fits_noted s v w.units_done ready.fits;
+      qhead = ready.qhead;
+      walked = ready.walked;
+      done = subst (λ (x : WatchLists). AreDone s x) rest done;
+    })
+
+pub covered_noted : (s : SatState) (v w : WatchLists) → w ≡ record v { units_done = w.units_done } → AreCovered s v → AreCovered s w
+covered_noted s v w rest covers = subst (λ (x : WatchLists). AreCovered s x) (sym rest) (record { assertions = covers.assertions; learnt = covers.learnt; covered = covers.covered; first = covers.first })
+
+-- a conflict, after notes were dropped
+pub conflicts_noted : (n : ℕ) (o s : SatState) (v u w : WatchLists) → u ≡ record v { units_done = u.units_done } → Conflicts n o s u w → Conflicts n o s (record v { units_done = w.units_done }) w
+conflicts_noted n o s v u w rest c =
+    let same : record v { units_done = w.units_done } ≡ u = ap (λ (notes : Vec UnitsDone Global). record v { units_done = notes }) c.watching.units_done ∙ sym rest in
+    subst (λ (x : WatchLists). Conflicts n o s x w) (sym same) c
+
+-- propagation is complete, and that all unit clauses are true was noted
+pub complete_noted : (o s : SatState) (v u w x : WatchLists) → u ≡ record v { units_done = u.units_done } → AreCovered o u → Running o s u w → length s.tracker.trail ≤ s.qhead → NotesDone s.qhead w x → IsComplete o s (record v { units_done = x.units_done }) x
+complete_noted o s v u w x rest covers run end notes =
+    let is : IsComplete o s u w = running_ends o s u w run covers end in
+    let same : record v { units_done = x.units_done } ≡ record u { units_done = x.units_done } = sym (ap (λ (y : WatchLists). record y { units_done = x.units_done }) rest) in
+    subst (λ (y : WatchLists). IsComplete o s y x) (sym same)
+    (subst (λ (y : WatchLists). IsComplete o s (record u { units_done = x.units_done }) y) (sym notes.rest) (record {
+      watching = record { assertions = is.watching.assertions; learnt = is.watching.learnt; units_done = refl; pairs = is.watching.pairs; was_pending = is.watching.was_pending; stays_pending = is.watching.stays_pending };
+      ready = ready_noted s w (record w { units_done = x.units_done }) refl (subst (λ (y : WatchLists). AreDone s y) notes.rest done) is.ready;
+      extends = is.extends;
+      qhead = is.qhead;
+      attached = is.attached;
+      quiet = is.quiet;
+    }))
+  where
+    all_now : (a b : Vec UnitClause Global) → b ≡ a → AllTrue (made_true (history s)) a.items → AllTrue (made_true (before s.tracker.trail s.qhead)) (take (length b.items) b.items)
+    all_now a b same set =
+        subst (λ (es : List Entry). AllTrue (made_true es) (take (length b.items) b.items)) (sym (ap reverse (take_all s.qhead s.tracker.trail end)))
+        (subst (AllTrue (made_true (history s))) (sym (take_all (length b.items) b.items (omega arith)))
+        (subst (λ (y : Vec UnitClause Global). AllTrue (made_true (history s)) y.items) (sym same) set))
+
+    noted : IsDone s.tracker.trail s.qhead w.assertions.items w.learnt.items (record { entries = s.qhead; assertions = length w.assertions.items; learnt = length w.learnt.items })
+    noted = record {
+      assertions_within = omega arith;
+      learnt_within = omega arith;
+      assertions_true = λ low. all_now u.assertions w.assertions run.watching.assertions run.assertions;
+      learnt_true = λ low. all_now u.learnt w.learnt run.watching.learnt run.learnt;
+    }
+
+    done : AreDone s x
+    done = elim notes.noted [
+      | inl e ↦ done_further s s w x e (ap (λ (y : WatchLists). y.assertions) notes.rest) (ap (λ (y : WatchLists). y.learnt) notes.rest) run.within (λ k le. refl) run.done
+      | inr e ↦ done_noted s w x (record { entries = s.qhead; assertions = length w.assertions.items; learnt = length w.learnt.items }) run.done run.within noted (ap (λ (y : WatchLists). y.assertions) notes.rest) (ap (λ (y : WatchLists). y.learnt) notes.rest) e
+    ]
+
+units_drop : (cs : List (List Signed)) (k : ℕ) (xs : List UnitClause) → AreUnits cs xs → AreUnits cs (drop k xs)
+units_drop cs zero xs a = a
+units_drop cs (suc k) [] a = tt
+units_drop cs (suc k) (x ∷ xs) a = units_drop cs k xs a.2
+
+all_true_parts : (known : List Signed) (k : ℕ) (xs : List UnitClause) → AllTrue known (take k xs) → AllTrue known (drop k xs) → AllTrue known xs
+all_true_parts known zero xs first rest = rest
+all_true_parts known (suc k) [] first rest = tt
+all_true_parts known (suc k) (x ∷ xs) first rest = (first.0, all_true_parts known k xs first.1 rest)
+
+-- the unit clauses behind the first ones
+pub units_rest : (cs : List (List Signed)) (k : ℕ) (xs rest : List UnitClause) → rest ≡ take (length xs - k) (drop k xs) → AreUnits cs xs → AreUnits cs rest
+units_rest cs k xs rest is alone = subst (AreUnits cs) (sym (is ∙ take_rest xs k)) (units_drop cs k xs alone)
+
+-- once they are true, so are all, where the first ones were
+pub units_later : (k : ℕ) (xs rest : List UnitClause) (o s : SatState) (r : Option ClauseId) → rest ≡ take (length xs - k) (drop k xs) → AllTrue (made_true (history o)) (take k xs) → IsUnitsEnd rest o s r → IsUnitsEnd xs o s r
+units_later k xs rest o s None is first sets = record {
+  extends = sets.extends;
+  qhead = sets.qhead;
+  set = all_true_parts (made_true (history s)) k xs (all_true_more o s (take k xs) sets.extends first) (subst (AllTrue (made_true (history s))) (is ∙ take_rest xs k) sets.set);
+}
+units_later k xs rest o s (Some n) is first falsified = falsified
 
 -- a quiet clause is not falsified
 pub quiet_not_falsified : (s : SatState) (clause : List Signed) → IsState s → IsQuiet (made_true (history s)) clause → IsFalseUnder (made_true (history s)) clause → ⊥

@@ -10,6 +10,7 @@ pub mod Values
 pub mod StepLemmas
 pub mod ExtendLemmas
 pub mod Guards
+pub mod DoneLemmas
 pub mod Readiness
 pub mod VisitLemmas
 pub mod AttachLemmas

@@ -28,6 +28,7 @@ use Rattle.resolvo_sat.proofs.Trails.{clause_at_kept}
 use Rattle.resolvo_sat.proofs.WalkLemmas.{in_range_from}
 use Rattle.resolvo_sat.proofs.Clauses.{length-lists}
 use Rattle.resolvo_sat.proofs.StepLemmas.{lists-append, clause_at_end}
+use Rattle.resolvo_sat.proofs.DoneLemmas.{FirstSame, first_more, done_kept}
 
 pub has_contained : (xs : List Signed) (l : Signed) → Contains xs l → has xs l ≡ true
 has_contained [] l (k, below, at) = absurd (omega arith)
@@ -168,6 +169,11 @@ clause_pending c id literal is_long is_rule s t v w ready covers another adds be
         subst (λ (x : Tracked). GuardsTo t.guard_level (before x.trail t.qhead) (reverse x.trail) q) (sym adds.tracker)
         (subst (λ (g : ℕ). GuardsTo g (before s.tracker.trail t.qhead) (history s) q) (sym adds.guard)
         (subst (λ (k : ℕ). GuardsTo s.guard_level (before s.tracker.trail k) (history s) q) (sym adds.qhead) (ready.walked n q (sym (pair n) ∙ is))));
+    done = done_kept s t v w begun.units_done
+        (subst (FirstSame v.assertions.items) (sym begun.assertions) (first_more (not is_long && is_rule) x v.assertions.items))
+        (subst (FirstSame v.learnt.items) (sym begun.learnt) (first_more (not is_long && not is_rule) x v.learnt.items))
+        (λ d all below. (let qhead : t.qhead ≡ s.qhead = adds.qhead in (omega arith, ap (λ (y : Tracked). before y.trail d.entries) adds.tracker)))
+        ready.done;
   };
   covered = record {
     assertions = subst (AreUnits (clauses_of t)) (sym begun.assertions) (units_with (clauses_of t) (not is_long && is_rule) x v.assertions.items (kept v.assertions.items covers.assertions) (only is_rule));

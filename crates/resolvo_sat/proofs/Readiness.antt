@@ -16,6 +16,7 @@ use Rattle.resolvo_sat.specs.Propagation.{IsReady, IsFit, HasTwo, IsOwnPair, Are
 use Rattle.resolvo_sat.proofs.Trails.{kept, level_le_last, undone_older}
 use Rattle.resolvo_sat.proofs.ExtendLemmas.{level_in_more, level_by_now}
 use Rattle.resolvo_sat.proofs.Guards.{guards_more}
+use Rattle.resolvo_sat.proofs.DoneLemmas.{done_same}
 
 -- watches that fit some clauses fit the same clauses
 pub fits_same : (s t : SatState) (w : WatchLists) → IsFit s w → t.clauses ≡ s.clauses → IsFit t w
@@ -55,6 +56,7 @@ ready_more s t w more ready state clauses added qhead higher = record {
       let long : length t.tracker.trail ≡ length s.tracker.trail + length more = ap length added ∙ length-append s.tracker.trail more in
       omega arith;
   walked = subst (λ (k : ℕ). IsWalkedTo k t w) (sym qhead) (walked_more s t s.qhead w more added higher ready.qhead ready.walked);
+  done = done_same s t w w refl refl refl (omega arith) (λ k le. let low : s.qhead ≤ length s.tracker.trail = ready.qhead in ap (λ (xs : List Entry). before xs k) added ∙ ap reverse (take-append-le k s.tracker.trail more (omega arith))) ready.done;
 }
 
 pub ready_extends : (s t : SatState) (w : WatchLists) → IsReady s w → Extends s t → t.qhead ≡ s.qhead → IsReady t w
@@ -89,6 +91,13 @@ walked_undone s t w level undoes state low same qhead within walked n p is =
     guard : (k : ℕ) (l : Signed) → IsGuard s.guard_level k (history s) l → k ≤ level → IsGuard t.guard_level k (history t) l
     guard k l (j, le, present) below = (j, omega arith, kept level (history s) (history t) l j undoes.undone present (omega arith))
 
+-- the first entries that are left are the same
+first_undone : (s t : SatState) (level k : ℕ) → Undoes level s t → k ≤ length t.tracker.trail → before t.tracker.trail k ≡ before s.tracker.trail k
+first_undone s t level k undoes within =
+    let (gone, old) = undone_older level (history s) (history t) undoes.undone in
+    let trail : s.tracker.trail ≡ t.tracker.trail ++ reverse gone = sym (reverse-reverse s.tracker.trail) ∙ ap reverse old ∙ reverse-append gone (history t) ∙ ap (λ (xs : List Entry). xs ++ reverse gone) (reverse-reverse t.tracker.trail) in
+    sym (ap (λ (xs : List Entry). before xs k) trail ∙ ap reverse (take-append-le k t.tracker.trail (reverse gone) within))
+
 -- entries were taken away
 pub ready_undone : (s t : SatState) (w : WatchLists) (level : ℕ) → Undoes level s t → IsReady s w → IsReady t w
 ready_undone s t w level undoes ready = elim undoes.qhead [
@@ -97,12 +106,14 @@ ready_undone s t w level undoes ready = elim undoes.qhead [
     fits = fits_same s t w ready.fits undoes.same.clauses;
     qhead = omega arith;
     walked = subst (λ (k : ℕ). IsWalkedTo k t w) (sym anew) (walked_none t w);
+    done = done_same s t w w refl refl refl (omega arith) (λ k le. first_undone s t level k undoes (omega arith)) ready.done;
   }
   | inr (low, same, qhead) ↦ record {
     state = undoes.state;
     fits = fits_same s t w ready.fits undoes.same.clauses;
     qhead = omega arith;
     walked = walked_undone s t w level undoes ready.state low same (omega arith) (omega arith) ready.walked;
+    done = done_same s t w w refl refl refl (omega arith) (λ k le. first_undone s t level k undoes (omega arith)) ready.done;
   }
 ]
 
@@ -131,12 +142,13 @@ guard_extends o s t l m e recorded =
 
 -- the clauses' watches are the same
 pub same_watching : (w : WatchLists) → SameWatching w w
-same_watching w = record { assertions = refl; learnt = refl; pairs = λ n h. h; was_pending = λ n h. h; stays_pending = λ n h none. h }
+same_watching w = record { assertions = refl; learnt = refl; units_done = refl; pairs = λ n h. h; was_pending = λ n h. h; stays_pending = λ n h none. h }
 
 pub watching_more : (u v w : WatchLists) → SameWatching u v → SameWatching v w → SameWatching u w
 watching_more u v w a b = record {
   assertions = b.assertions ∙ a.assertions;
   learnt = b.learnt ∙ a.learnt;
+  units_done = b.units_done ∙ a.units_done;
   pairs = λ n none. a.pairs n (b.pairs n none);
   was_pending = λ n stays_pending. a.was_pending n (b.was_pending n stays_pending);
   stays_pending = λ n stays_pending none. b.stays_pending n (a.stays_pending n stays_pending (b.pairs n none)) none;

@@ -24,6 +24,7 @@ use Rattle.resolvo_sat.proofs.Literals.{negation-negation}
 use Rattle.resolvo_sat.proofs.Trails.{known_from_level, same_or_negated, false_unless}
 use Rattle.resolvo_sat.proofs.ExtendLemmas.{extends_nothing, extends_more, true_by_now, level_by_now}
 use Rattle.resolvo_sat.proofs.Guards.{guard_more}
+use Rattle.resolvo_sat.proofs.DoneLemmas.{done_same}
 use Rattle.resolvo_sat.proofs.Readiness.{ready_extends, same_watching, watching_more}
 use Rattle.resolvo_sat.proofs.CompleteLemmas.{conflicts_later}
 use Rattle.resolvo_sat.proofs.WalkLemmas.{Meets}
@@ -43,6 +44,7 @@ kept_ready s v w ready kept = record {
   };
   qhead = ready.qhead;
   walked = λ n p is. ready.walked n p (watched n p is);
+  done = done_same s s v w kept.units_done kept.assertions kept.learnt (omega arith) (λ k le. refl) ready.done;
 }
   where
     watched : (n : ℕ) (p : WatchedLiterals) → pair_at w.watched.items n ≡ Some p → pair_at v.watched.items n ≡ Some p
@@ -52,7 +54,7 @@ kept_ready s v w ready kept = record {
     was n h = subst (λ (x : Vec ClauseId Global). 0 < count n x.items) kept.pending h
 
 pub kept_nothing : (w : WatchLists) → KeepsLists w w
-kept_nothing w = record { watched = refl; watches = refl; assertions = refl; learnt = refl; pending = refl }
+kept_nothing w = record { watched = refl; watches = refl; assertions = refl; learnt = refl; units_done = refl; pending = refl }
 
 -- entries were added, and the watches are the same but for what no proof rests on
 pub attaches_kept : (s t : SatState) (v w : WatchLists) → IsReady s v → Extends s t → t.qhead ≡ s.qhead → KeepsLists v w → Attaches s t v w
@@ -60,19 +62,21 @@ attaches_kept s t v w ready e qhead kept = record {
   watching = record {
     assertions = kept.assertions;
     learnt = kept.learnt;
+    units_done = kept.units_done;
     pairs = λ n none. subst (λ (x : Vec (Option WatchedLiterals) Global). pair_at x.items n ≡ None) kept.watched none;
     was_pending = λ n h. subst (λ (x : Vec ClauseId Global). 0 < count n x.items) kept.pending h;
     stays_pending = λ n h none. subst (λ (x : Vec ClauseId Global). 0 < count n x.items) (sym kept.pending) h;
   };
   ready = kept_ready t v w (ready_extends s t v ready e qhead) kept;
   extends = e;
+  qhead = qhead;
 }
 
 pub attaches_nothing : (s : SatState) (w : WatchLists) → IsReady s w → Attaches s s w w
 attaches_nothing s w ready = attaches_kept s s w w ready (extends_nothing s ready.state) refl (kept_nothing w)
 
 pub attaches_more : (s t u : SatState) (v w x : WatchLists) → Attaches s t v w → Attaches t u w x → Attaches s u v x
-attaches_more s t u v w x a b = record { watching = watching_more v w x a.watching b.watching; ready = b.ready; extends = extends_more s t u a.extends b.extends }
+attaches_more s t u v w x a b = record { watching = watching_more v w x a.watching b.watching; ready = b.ready; extends = extends_more s t u a.extends b.extends; qhead = b.qhead ∙ a.qhead }
 
 pub conflicts_after : (n : ℕ) (s t u : SatState) (v w x : WatchLists) → Attaches s t v w → Conflicts n t u w x → Conflicts n s u v x
 conflicts_after n s t u v w x a c = conflicts_later n s t u v w x a.watching a.extends c

@@ -18,11 +18,12 @@ use Rattle.resolvo_sat.specs.declared.watch_lists.WatchLists.{WatchLists}
 use Rattle.resolvo_sat.specs.Known.{IsFalseUnder, Forces, clause_at}
 use Rattle.resolvo_sat.specs.Entries.{literal_of, made_true, before, IsTrueAt}
 use Rattle.resolvo_sat.specs.State.{count_of, history, clauses_of, IsState}
-use Rattle.resolvo_sat.specs.Propagation.{IsFit, IsPending, FellAt, IsOwnPair, IsFree, IsGuard, GuardsTo, RecordsGuard, Passed, IsWalkedTo, Extends, IsVisiting, Keeps, Replaces, Falsifies, Walked, Conflicts}
+use Rattle.resolvo_sat.specs.Propagation.{IsFit, IsPending, AreDone, SameWatching, FellAt, IsOwnPair, IsFree, IsGuard, GuardsTo, RecordsGuard, Passed, IsWalkedTo, Extends, IsVisiting, Keeps, Replaces, Falsifies, Walked, Conflicts}
 use Rattle.resolvo_sat.proofs.Literals.{has_here, negation-negation}
 use Rattle.resolvo_sat.proofs.Trails.{consistent, entry_read, known_from_level, level_from_known}
 use Rattle.resolvo_sat.proofs.ExtendLemmas.{extends_more, extends_nothing, true_by_now, level_kept, level_by_now, before_kept}
 use Rattle.resolvo_sat.proofs.Guards.{guard_more, level_is}
+use Rattle.resolvo_sat.proofs.DoneLemmas.{done_same}
 use Rattle.resolvo_sat.proofs.Readiness.{fits_same, walked_more, guard_extends, same_watching}
 
 pub pair_watches : (s : SatState) (w : WatchLists) (l : Signed) (place : ℕ) (n : ClauseId) (p : WatchedLiterals) → IsFit s w → slice_get (watchers w.watches l) place ≡ Some n → pair_at w.watched.items n.0 ≡ Some p → watches (Some p) l ≡ true
@@ -190,7 +191,7 @@ moves_here k l place c o s t v w x propagate_literal at r named = record {
   passed = λ n q h none. passes n q none (after n q h);
   entry = propagate_literal.entry;
   long = propagate_literal.long;
-  watching = record { assertions = r.assertions ∙ propagate_literal.watching.assertions; learnt = r.learnt ∙ propagate_literal.watching.learnt; pairs = λ n h. propagate_literal.watching.pairs n (nones n h (eqb_tells n r.moves.clause.0)); was_pending = λ n h. propagate_literal.watching.was_pending n (was_pending n h); stays_pending = λ n h none. stays_pending n (propagate_literal.watching.stays_pending n h (nones n none (eqb_tells n r.moves.clause.0))) };
+  watching = record { assertions = r.assertions ∙ propagate_literal.watching.assertions; learnt = r.learnt ∙ propagate_literal.watching.learnt; units_done = r.units_done ∙ propagate_literal.watching.units_done; pairs = λ n h. propagate_literal.watching.pairs n (nones n h (eqb_tells n r.moves.clause.0)); was_pending = λ n h. propagate_literal.watching.was_pending n (was_pending n h); stays_pending = λ n h none. stays_pending n (propagate_literal.watching.stays_pending n h (nones n none (eqb_tells n r.moves.clause.0))) };
 }
   where
     was_pending : (n : ℕ) → IsPending n x → IsPending n w
@@ -313,9 +314,14 @@ visiting_ends k l place o s v w propagate_literal end = record {
           | inr e ↦ inr e
         ]
 
+-- what was noted of the unit clauses holds after visits
+pub visited_done : (o s : SatState) (v w : WatchLists) → Extends o s → s.qhead ≡ o.qhead → o.qhead ≤ length o.tracker.trail → SameWatching v w → AreDone o v → AreDone s w
+visited_done o s v w e qhead low watching done =
+    done_same o s v w watching.units_done watching.assertions watching.learnt (omega arith) (λ k le. before_kept o s k e (omega arith)) done
+
 -- a clause is falsified
-pub visiting_breaks : (l : Signed) (place n : ℕ) (p : WatchedLiterals) (o s t : SatState) (v w x : WatchLists) → IsVisiting o.qhead l place o s v w → pair_at w.watched.items n ≡ Some p → Falsifies n s t w x → Conflicts n o t v x
-visiting_breaks l place n p o s t v w x propagate_literal is b =
+pub visiting_breaks : (l : Signed) (place n : ℕ) (p : WatchedLiterals) (o s t : SatState) (v w x : WatchLists) → o.qhead < length o.tracker.trail → AreDone o v → IsVisiting o.qhead l place o s v w → pair_at w.watched.items n ≡ Some p → Falsifies n s t w x → Conflicts n o t v x
+visiting_breaks l place n p o s t v w x below_end done propagate_literal is b =
     subst (λ (m : SatState). Conflicts n o m v x) (sym b.same_state)
     (subst (λ (y : WatchLists). Conflicts n o s v y) (sym b.same_watching) here)
   where
@@ -327,7 +333,7 @@ visiting_breaks l place n p o s t v w x propagate_literal is b =
         let long : o.qhead < length s.tracker.trail = propagate_literal.long in
         record {
           watching = propagate_literal.watching;
-          ready = record { state = propagate_literal.extends.state; fits = propagate_literal.fits; qhead = omega arith; walked = subst (λ (k : ℕ). IsWalkedTo k s w) (sym qhead) propagate_literal.walked };
+          ready = record { state = propagate_literal.extends.state; fits = propagate_literal.fits; qhead = omega arith; walked = subst (λ (k : ℕ). IsWalkedTo k s w) (sym qhead) propagate_literal.walked; done = visited_done o s v w propagate_literal.extends qhead (omega arith) propagate_literal.watching done };
           extends = propagate_literal.extends;
           falsified = record { in_range = omega arith; falls = b.falls };
         }

@@ -31,6 +31,7 @@ pub record Begins (x : UnitClause) (is_long is_rule : Bool) (old new : WatchList
   pub pending : new.pending.items ≡ with_last is_long x.clause old.pending.items
   pub assertions : new.assertions.items ≡ with_last (not is_long && is_rule) x old.assertions.items
   pub learnt : new.learnt.items ≡ with_last (not is_long && not is_rule) x old.learnt.items
+  pub units_done : new.units_done ≡ old.units_done
 
 -- the clause was appended, and the watch lists list it
 pub record AddsPending (c : SatClause) (id : ClauseId) (old : SatState) (v : WatchLists) (new : SatState) (w : WatchLists) : Type 0 where

@@ -54,12 +54,14 @@ pub record Starts (c : ClauseId) (p : WatchedLiterals) (v w : WatchLists) : Type
   pub lists : StartsIn c p (watchers v.watches) (watchers w.watches)
   pub assertions : w.assertions ≡ v.assertions
   pub learnt : w.learnt ≡ v.learnt
+  pub units_done : w.units_done ≡ v.units_done
 
 -- pending clauses were attached, and their forced literals assigned
 pub record Attaches (old new : SatState) (v w : WatchLists) : Type 0 where
   pub watching : SameWatching v w
   pub ready : IsReady new w
   pub extends : Extends old new
+  pub qhead : new.qhead ≡ old.qhead
 
 -- one clause less is pending; or the clause is falsified, and nothing changed
 abbrev pub IsAttachment : ℕ → SatState → SatState → WatchLists → WatchLists → Bool → Type 0
@@ -77,6 +79,7 @@ pub record KeepsLists (v w : WatchLists) : Type 0 where
   pub watches : w.watches ≡ v.watches
   pub assertions : w.assertions ≡ v.assertions
   pub learnt : w.learnt ≡ v.learnt
+  pub units_done : w.units_done ≡ v.units_done
   pub pending : w.pending ≡ v.pending
 
 -- two different literals of the clause

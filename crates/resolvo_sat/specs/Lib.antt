@@ -7,6 +7,7 @@ pub mod Steps
 pub mod Propagation
 pub mod Attach
 pub mod AddClause
+pub mod UnitsDone
 pub mod Begin
 pub mod PropagateAndLearn
 pub mod Encoding

@@ -1,5 +1,5 @@
 -- Unit propagation: walks over the clauses that watch false literals.
-use Rattle.std.specs.Prelude.{◌≡◌, ℕ, ◌+◌, ◌<◌, ◌≤◌, ◌⊎◌, Bool, true, false, List, [], ◌∷◌, ◌++◌, drop, length, max, Option, Some, None}
+use Rattle.std.specs.Prelude.{◌≡◌, ℕ, ◌+◌, ◌<◌, ◌≤◌, ◌⊎◌, Bool, true, false, List, [], ◌∷◌, ◌++◌, take, drop, length, max, slice_get, Option, Some, None}
 use Rattle.resolvo_pool_core.specs.declared.id.ClauseId.{ClauseId}
 use Rattle.resolvo_store_core.specs.Signed.{Signed, negation, same_literal, has}
 use Rattle.resolvo_store_core.specs.Clauses.{yes, root}
@@ -10,6 +10,7 @@ use Rattle.resolvo_store_core.specs.declared.watched_literals.WatchedLiterals.{W
 use Rattle.resolvo_sat.specs.declared.state.SatState.{SatState}
 use Rattle.resolvo_sat.specs.declared.watch_lists.WatchLists.{WatchLists}
 use Rattle.resolvo_sat.specs.declared.watch_lists.UnitClause.{UnitClause}
+use Rattle.resolvo_sat.specs.declared.watch_lists.UnitsDone.{UnitsDone}
 use Rattle.resolvo_sat.specs.declared.propagate.WatchVisit.{WatchVisit}
 use Rattle.resolvo_sat.specs.Known.{IsFalseUnder, clause_at}
 use Rattle.resolvo_sat.specs.Entries.{made_true, before, IsTrueAt}
@@ -78,13 +79,43 @@ pub record RecordsGuard (l m : Signed) (old new : SatState) : Type 0 where
   pub higher : old.guard_level ≤ new.guard_level
   pub guard : (k : ℕ) → IsTrueAt (history old) (negation l) k → IsGuard new.guard_level k (history old) m
 
+-- the literals of these unit clauses are true
+abbrev pub AllTrue : List Signed → List UnitClause → Type 0
+AllTrue known [] = Unit {0}
+AllTrue known (x ∷ xs) = (has known x.literal ≡ true) × AllTrue known xs
+
+-- The note is of unit clauses that there are. They are true by so many first entries of the trail, if these are
+-- propagated.
+pub record IsDone (trail : List Entry) (qhead : ℕ) (assertions learnt : List UnitClause) (d : UnitsDone) : Type 0 where
+  pub assertions_within : d.assertions ≤ length assertions
+  pub learnt_within : d.learnt ≤ length learnt
+  pub assertions_true : d.entries ≤ qhead → AllTrue (made_true (before trail d.entries)) (take d.assertions assertions)
+  pub learnt_true : d.entries ≤ qhead → AllTrue (made_true (before trail d.entries)) (take d.learnt learnt)
+
+-- each note holds, and a later one is of no fewer entries
+pub record AreDone (s : SatState) (w : WatchLists) : Type 0 where
+  pub each : (i : ℕ) (d : UnitsDone) → slice_get w.units_done.items i ≡ Some d → IsDone s.tracker.trail s.qhead w.assertions.items w.learnt.items d
+  pub rising : (i j : ℕ) (c d : UnitsDone) → i ≤ j → slice_get w.units_done.items i ≡ Some c → slice_get w.units_done.items j ≡ Some d → c.entries ≤ d.entries
+
+-- no note is of more entries than these
+abbrev pub AreWithin : ℕ → WatchLists → Type 0
+AreWithin k w = (i : ℕ) (d : UnitsDone) → slice_get w.units_done.items i ≡ Some d → d.entries ≤ k
+
+-- the first unit clauses, so many, are true
+pub record HasDone (s : SatState) (w : WatchLists) (d : UnitsDone) : Type 0 where
+  pub assertions_within : d.assertions ≤ length w.assertions.items
+  pub learnt_within : d.learnt ≤ length w.learnt.items
+  pub assertions : AllTrue (made_true (history s)) (take d.assertions w.assertions.items)
+  pub learnt : AllTrue (made_true (history s)) (take d.learnt w.learnt.items)
+
 -- the invariant of the watches between calls: they fit the clauses, and the trail was walked up to
--- the propagation head
+-- the propagation head; the unit clauses of which it is noted are true
 pub record IsReady (s : SatState) (w : WatchLists) : Type 0 where
   pub state : IsState s
   pub fits : IsFit s w
   pub qhead : s.qhead ≤ length s.tracker.trail
   pub walked : IsWalkedTo s.qhead s w
+  pub done : AreDone s w
 
 -- the clause is listed as a unit clause
 abbrev pub IsUnit : ℕ → WatchLists → Type 0
@@ -99,10 +130,11 @@ pub record AreCovered (s : SatState) (w : WatchLists) : Type 0 where
   pub first : has (clause_at (clauses_of s) 0) (yes root) ≡ true
 
 -- No clause stopped watching, and none was added. What was pending is so still or watches, and the unit clauses
--- are the same.
+-- are the same, with what is noted of them.
 pub record SameWatching (v w : WatchLists) : Type 0 where
   pub assertions : w.assertions ≡ v.assertions
   pub learnt : w.learnt ≡ v.learnt
+  pub units_done : w.units_done ≡ v.units_done
   pub pairs : (n : ℕ) → pair_at w.watched.items n ≡ None → pair_at v.watched.items n ≡ None
   pub was_pending : (n : ℕ) → IsPending n w → IsPending n v
   pub stays_pending : (n : ℕ) → IsPending n v → pair_at w.watched.items n ≡ None → IsPending n w
@@ -151,6 +183,7 @@ pub record Replaces (l : Signed) (place n : ℕ) (s t : SatState) (w x : WatchLi
   pub moves : Moves l place to w.watched.items x.watched.items (watchers w.watches) (watchers x.watches)
   pub assertions : x.assertions ≡ w.assertions
   pub learnt : x.learnt ≡ w.learnt
+  pub units_done : x.units_done ≡ w.units_done
   pub pending : x.pending ≡ w.pending
   pub own : has (clause_at (clauses_of s) n) to ≡ true
   pub unwatched : watches (pair_at w.watched.items n) to ≡ false
@@ -180,10 +213,6 @@ pub record Walked (k : ℕ) (old new : SatState) (v w : WatchLists) : Type 0 whe
   pub extends : Extends old new
   pub qhead : new.qhead ≡ old.qhead
   pub walked : IsWalkedTo k new w
-
-abbrev pub AllTrue : List Signed → List UnitClause → Type 0
-AllTrue known [] = Unit {0}
-AllTrue known (x ∷ xs) = (has known x.literal ≡ true) × AllTrue known xs
 
 -- a literal of the clause is true, or two different ones are not false
 abbrev pub IsQuiet : List Signed → List Signed → Type 0
@@ -251,3 +280,10 @@ pub record Running (old s : SatState) (v w : WatchLists) : Type 0 where
   pub assertions : AllTrue (made_true (history s)) v.assertions.items
   pub learnt : AllTrue (made_true (history s)) v.learnt.items
   pub in_range : s.qhead ≤ length s.tracker.trail
+  pub done : AreDone s w
+  pub within : AreWithin s.qhead w
+
+-- a falsified clause, or all entries are propagated
+abbrev pub IsRun : SatState → SatState → WatchLists → WatchLists → Option ClauseId → Type 0
+IsRun old new v w None = Running old new v w × (length new.tracker.trail ≤ new.qhead)
+IsRun old new v w (Some n) = Conflicts n.0 old new v w

@@ -106,6 +106,7 @@ impl WatchLists {
             (λ _. self.new.learnt.items ≡ with_last (not is_rule) unit self.old.learnt.items) }
         ensures others { (self.new.watched ≡ self.old.watched)
             × (self.new.watches ≡ self.old.watches)
+            × (self.new.units_done ≡ self.old.units_done)
             × (self.new.pending ≡ self.old.pending) }
         ensures refusal { IsOkUnless result Memory }
     {

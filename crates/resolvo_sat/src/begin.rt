@@ -48,6 +48,7 @@ pub fn begin(alloc: Global) -> R<(SatState, WatchLists)>
         watches: WatchMap::new(alloc),
         assertions: Vec::new(alloc),
         learnt: Vec::new(alloc),
+        units_done: Vec::new(alloc),
         pending: Vec::new(alloc),
         starts: Vec::new(alloc),
         places: Vec::new(alloc),

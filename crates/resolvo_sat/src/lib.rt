@@ -14,5 +14,6 @@ pub mod guard;
 pub mod propagate;
 pub mod propagate_and_learn;
 pub mod state;
+mod units_done;
 pub mod visit_pending;
 pub mod watch_lists;

@@ -1,17 +1,17 @@
 //! Unit propagation over the trail. It continues at the propagation head, `qhead`. In each clause
 //! with a watched literal that became false before the head, the other watched literal is true.
 //! Clauses that were added since are pending until it runs.
-ghost use Rattle.std.specs.Prelude.{◌≡◌, ◌<◌, ◌+◌, slice_get, length, Some, true, IfOk, IsOkUnless};
+ghost use Rattle.std.specs.Prelude.{◌≡◌, ◌<◌, ◌≤◌, ◌+◌, slice_get, take, length, Some, true, IfOk, IsOkUnless};
 ghost use Rattle.resolvo_pool_core.specs.declared.want.Want.TheVariants.{Memory};
 ghost use Rattle.resolvo_store_core.specs.Signed.{negation, has};
 ghost use Rattle.resolvo_store_core.specs.Watches.{watchers, pair_at};
 ghost use Rattle.resolvo_sat.specs.Known.{clause_at};
 ghost use Rattle.resolvo_sat.specs.Entries.{made_true};
 ghost use Rattle.resolvo_sat.specs.State.{IsState, history, clauses_of};
-ghost use Rattle.resolvo_sat.specs.Propagation.{IsReady, IsFit, AreCovered, AreUnits, IsFree, FellAt, IsMeeting, IsVisit, IsWalkedTo, IsOnly, IsUnitAssigned, IsUnitsEnd, IsNextFallen, IsPropagation};
+ghost use Rattle.resolvo_sat.specs.Propagation.{IsReady, IsFit, AreCovered, AreUnits, AllTrue, AreDone, AreWithin, HasDone, IsFree, FellAt, IsMeeting, IsVisit, IsWalkedTo, IsOnly, IsUnitAssigned, IsUnitsEnd, IsNextFallen, IsRun, IsPropagation};
 
 use crate::state::SatState;
-use crate::watch_lists::{UnitClause, WatchLists};
+use crate::watch_lists::{UnitClause, UnitsDone, WatchLists};
 use resolvo_pool_core::id::ClauseId;
 use resolvo_pool_core::want::R;
 use resolvo_store_core::literal::Literal;
@@ -103,6 +103,7 @@ impl SatState {
         requires fits { IsFit self.old watching.old }
         requires fell { FellAt literal self.old.qhead self.old }
         requires walked { IsWalkedTo self.old.qhead self.old watching.old }
+        requires done { AreDone self.old watching.old }
         // After an answer.
         ensures propagate_literal { IfOk result (IsVisit self.old self.new watching.old watching.new) }
         // After a refusal.
@@ -152,6 +153,19 @@ impl SatState {
         Ok(None)
     }
 
+    /// The same, where this many of the first ones are true.
+    fn assign_later(&mut self, units: &[UnitClause], done: usize) -> R<Option<ClauseId>>
+        requires state { IsState self.old }
+        requires alone { AreUnits (clauses_of self.old) units.now }
+        requires within { done ≤ length units.now }
+        requires done { AllTrue (made_true (history self.old)) (take done units.now) }
+        ensures set { IfOk result (IsUnitsEnd units.now self.old self.new) }
+        ensures refusal { IsOkUnless result Memory }
+    {
+        let falsified = self.assign_units(&units[done..])?;
+        Ok(falsified)
+    }
+
     /// The literal that the entry at the propagation head makes false; none after the last entry.
     fn next_fallen(&self) -> Option<Literal>
         requires state { IsState self.now }
@@ -173,16 +187,42 @@ impl SatState {
     }
 
     /// Assigns what the clauses force, from the propagation head on, or returns a falsified clause.
+    /// Unit clauses that were true at its last end, and are so still, are not visited again.
     pub fn propagate(&mut self, watching: &mut WatchLists) -> R<Option<ClauseId>>
         requires ready { IsReady self.old watching.old }
         requires covered { AreCovered self.old watching.old }
-        ensures propagation { IfOk result (IsPropagation self.old self.new watching.old watching.new) }
+        ensures propagation { IfOk result
+            (IsPropagation self.old self.new
+            (record watching.old { units_done = watching.new.units_done }) watching.new) }
         ensures refusal { IsOkUnless result Memory }
     {
-        if let Some(clause) = self.assign_units(watching.assertions.as_slice())? {
+        let done = watching.last_done(self.qhead);
+        match self.propagate_behind(watching, done)? {
+            Some(clause) => Ok(Some(clause)),
+            None => {
+                watching.note_done(self.qhead, done)?;
+                Ok(None)
+            }
+        }
+    }
+
+    /// Assigns what the clauses force, where the first unit clauses are true already.
+    fn propagate_behind(
+        &mut self,
+        watching: &mut WatchLists,
+        done: UnitsDone,
+    ) -> R<Option<ClauseId>>
+        requires ready { IsReady self.old watching.old }
+        requires covered { AreCovered self.old watching.old }
+        requires within { AreWithin self.old.qhead watching.old }
+        requires done { HasDone self.old watching.old done }
+        ensures run { IfOk result (IsRun self.old self.new watching.old watching.new) }
+        ensures refusal { IsOkUnless result Memory }
+    {
+        if let Some(clause) = self.assign_later(watching.assertions.as_slice(), done.assertions)? {
             return Ok(Some(clause));
         }
-        if let Some(clause) = self.assign_units(watching.learnt.as_slice())? {
+        if let Some(clause) = self.assign_later(watching.learnt.as_slice(), done.learnt)? {
             return Ok(Some(clause));
         }
         if let Some(clause) = self.attach_pending(watching)? {

@@ -12,6 +12,17 @@ pub struct UnitClause {
     pub literal: Literal,
 }
 
+/// Notes that the trail's first entries make the first unit clauses of both lists true.
+#[derive(Clone, Copy, Debug)]
+pub struct UnitsDone {
+    /// How many entries these are. The note holds as long as so many are propagated.
+    pub entries: usize,
+    /// How many unit clauses that are rules are true.
+    pub assertions: usize,
+    /// How many learnt ones are.
+    pub learnt: usize,
+}
+
 /// The watched literals of each clause, the clauses that watch each literal, the unit clauses
 /// (rules and learnt ones), and the pending clauses.
 #[derive(Drop)]
@@ -20,6 +31,8 @@ pub struct WatchLists {
     pub watches: WatchMap,
     pub assertions: Vec<UnitClause>,
     pub learnt: Vec<UnitClause>,
+    /// The unit clauses that need no visit, newest note last.
+    pub units_done: Vec<UnitsDone>,
     pub pending: Vec<ClauseId>,
     /// The literals that each pending clause is to watch. No proof rests on them: they are tested.
     pub starts: Vec<WatchedLiterals>,

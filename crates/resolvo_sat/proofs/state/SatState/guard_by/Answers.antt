@@ -1,4 +1,4 @@
-use Rattle.std.proofs.Common.{inl, inr, sym, ◌∙◌}
+use Rattle.std.proofs.Common.{inl, sym, ◌∙◌}
 use Rattle.resolvo_sat.proofs.StartLemmas.{guards_by_nothing}
 use Rattle.resolvo_sat.proofs.state.SatState.guard_by.Goals as goal
 

@@ -1,65 +1,24 @@
-use Rattle.std.proofs.Common.{◌≡◌, ◌+◌, ◌^◌, ◌<◌, ◌≤◌, List, length, None, subst, arith}
-use Rattle.resolvo_sat.specs.declared.state.SatState.{SatState}
-use Rattle.resolvo_sat.specs.declared.watch_lists.UnitClause.{UnitClause}
-use Rattle.resolvo_sat.specs.Propagation.{IsUnitsEnd, AssignsUnits, IsVisit, Walked}
-use Rattle.resolvo_sat.specs.State.{count_of}
-use Rattle.resolvo_sat.specs.Attach.{IsPendingEnd}
-use Rattle.resolvo_sat.proofs.Readiness.{ready_extends, same_watching}
-use Rattle.resolvo_sat.proofs.CompleteLemmas.{entries_bounded, running_starts, running_goes_on, running_ends, running_smaller, units_ready, units_falsified, conflicts_later}
+use Rattle.std.proofs.Common.{None, subst}
+use Rattle.resolvo_sat.specs.declared.watch_lists.WatchLists.{WatchLists}
+use Rattle.resolvo_sat.specs.Propagation.{IsRun}
+use Rattle.resolvo_sat.proofs.DoneLemmas.{done_dropped, within_last, last_has_done}
+use Rattle.resolvo_sat.proofs.CompleteLemmas.{ready_noted, covered_noted, complete_noted}
 use Rattle.resolvo_sat.proofs.state.SatState.propagate.Goals as goal
 
-pub loop-literal-init : goal.loop-literal-init
-loop-literal-init c =
-    let s : SatState = c.assign_units-2.new.self in
-    let rules : AssignsUnits c.args.watching.now.assertions.items c.args.self.now c.assign_units.new.self = subst (λ (xs : List UnitClause). AssignsUnits xs c.args.self.now c.assign_units.new.self) c.as_slice.ensures.value (subst (IsUnitsEnd c.as_slice.result.now c.args.self.now c.assign_units.new.self) c.in_default.is c.in_ok-clause.ensures.set) in
-    let learnt : AssignsUnits c.args.watching.now.learnt.items c.assign_units.new.self s = subst (λ (xs : List UnitClause). AssignsUnits xs c.assign_units.new.self s) c.as_slice-2.ensures.value (subst (IsUnitsEnd c.as_slice-2.result.now c.assign_units.new.self s) c.in_default-2.is c.in_ok-clause-2.ensures.set) in
-    let attached : IsPendingEnd s c.attach_pending.new.self c.args.watching.now c.attach_pending.new.watching None = subst (IsPendingEnd s c.attach_pending.new.self c.args.watching.now c.attach_pending.new.watching) c.in_default-3.is c.in_ok-clause-3.ensures.attached in
-    running_starts c.args.self.now c.assign_units.new.self s c.attach_pending.new.self c.args.watching.now c.attach_pending.new.watching rules learnt attached.0 attached.1
+pub propagate_behind-requires : goal.propagate_behind-requires
+propagate_behind-requires c =
+    let kept = done_dropped c.args.self.now c.args.watching.now c.last_done-done.new.self c.last_done-done.ensures.dropped c.requires.ready.done in
+    record {
+      ready = ready_noted c.args.self.now c.args.watching.now c.last_done-done.new.self c.last_done-done.ensures.dropped.rest kept c.requires.ready;
+      covered = covered_noted c.args.self.now c.args.watching.now c.last_done-done.new.self c.last_done-done.ensures.dropped.rest c.requires.covered;
+      within = within_last c.args.self.now c.last_done-done.new.self c.args.self.now.qhead c.last_done-done.result kept c.last_done-done.ensures.last;
+      done = last_has_done c.args.self.now c.last_done-done.new.self c.last_done-done.result kept c.last_done-done.ensures.last;
+    }
 
-pub returns-in-Some-clause-propagation : goal.returns-in-Some-clause-propagation
-returns-in-Some-clause-propagation c =
-    units_falsified c.in-Some.clause.0 c.args.self.now c.assign_units.new.self c.args.watching.now c.requires.ready
-    (subst (IsUnitsEnd c.as_slice.result.now c.args.self.now c.assign_units.new.self) c.in-Some.is c.in_ok-clause.ensures.set)
-
-pub returns-in-Some-2-clause-propagation : goal.returns-in-Some-2-clause-propagation
-returns-in-Some-2-clause-propagation c =
-    let rules : AssignsUnits c.as_slice.result.now c.args.self.now c.assign_units.new.self = subst (IsUnitsEnd c.as_slice.result.now c.args.self.now c.assign_units.new.self) c.in_default.is c.in_ok-clause.ensures.set in
-    conflicts_later c.in-Some-2.clause.0 c.args.self.now c.assign_units.new.self c.assign_units-2.new.self c.args.watching.now c.args.watching.now c.args.watching.now (same_watching c.args.watching.now) rules.extends
-    (units_falsified c.in-Some-2.clause.0 c.assign_units.new.self c.assign_units-2.new.self c.args.watching.now (ready_extends c.args.self.now c.assign_units.new.self c.args.watching.now c.requires.ready rules.extends rules.qhead)
-    (subst (IsUnitsEnd c.as_slice-2.result.now c.assign_units.new.self c.assign_units-2.new.self) c.in-Some-2.is c.in_ok-clause-2.ensures.set))
-
-pub attach_pending-requires : goal.attach_pending-requires
-attach_pending-requires c = record {
-  ready = units_ready c.args.self.now c.assign_units.new.self c.assign_units-2.new.self c.args.watching.now c.as_slice.result.now c.as_slice-2.result.now c.requires.ready
-      (subst (IsUnitsEnd c.as_slice.result.now c.args.self.now c.assign_units.new.self) c.in_default.is c.in_ok-clause.ensures.set)
-      (subst (IsUnitsEnd c.as_slice-2.result.now c.assign_units.new.self c.assign_units-2.new.self) c.in_default-2.is c.in_ok-clause-2.ensures.set);
-}
-
-pub returns-in-Some-4-clause-propagation : goal.returns-in-Some-4-clause-propagation
-returns-in-Some-4-clause-propagation c =
-    conflicts_later c.in-Some-4.clause.0 c.args.self.now c.loop-literal.self c.propagate_literal.new.self c.args.watching.now c.loop-literal.watching c.propagate_literal.new.watching c.loop-literal.invariant.watching
-    c.loop-literal.invariant.extends
-    (subst (IsVisit c.loop-literal.self c.propagate_literal.new.self c.loop-literal.watching c.propagate_literal.new.watching) c.in-Some-4.is c.in_ok-clause-4.ensures.propagate_literal)
-
-pub pass_entry-requires : goal.pass_entry-requires
-pass_entry-requires c =
-    let s : SatState = c.loop-literal.self in
-    let walked : Walked (s.qhead + 1) s c.propagate_literal.new.self c.loop-literal.watching c.propagate_literal.new.watching = subst (IsVisit s c.propagate_literal.new.self c.loop-literal.watching c.propagate_literal.new.watching) c.in_default-4.is c.in_ok-clause-4.ensures.propagate_literal in
-    let kept : c.propagate_literal.new.self.qhead ≡ s.qhead = walked.qhead in
-    let within : s.qhead < length s.tracker.trail = c.in-Some-next_fallen.ensures.in_range in
-    let bound : length s.tracker.trail ≤ count_of s = entries_bounded s c.loop-literal.invariant.extends.state in
-    let small : count_of s < 2 ^ 31 = c.loop-literal.invariant.extends.state.small in
-    omega arith
-
-pub loop-literal-smaller : goal.loop-literal-smaller
-loop-literal-smaller c =
-    running_smaller c.args.self.now c.loop-literal.self c.propagate_literal.new.self c.pass_entry.new.self c.args.watching.now c.loop-literal.watching c.propagate_literal.new.watching c.in-Some-next_fallen.literal c.loop-literal.invariant c.in-Some-next_fallen.ensures
-    (subst (IsVisit c.loop-literal.self c.propagate_literal.new.self c.loop-literal.watching c.propagate_literal.new.watching) c.in_default-4.is c.in_ok-clause-4.ensures.propagate_literal) c.pass_entry.ensures
-
-pub loop-literal-preserved : goal.loop-literal-preserved
-loop-literal-preserved c =
-    running_goes_on c.args.self.now c.loop-literal.self c.propagate_literal.new.self c.pass_entry.new.self c.args.watching.now c.loop-literal.watching c.propagate_literal.new.watching c.in-Some-next_fallen.literal c.loop-literal.invariant c.in-Some-next_fallen.ensures
-    (subst (IsVisit c.loop-literal.self c.propagate_literal.new.self c.loop-literal.watching c.propagate_literal.new.watching) c.in_default-4.is c.in_ok-clause-4.ensures.propagate_literal) c.pass_entry.ensures
-
-pub returns-clause-propagation : goal.returns-clause-propagation
-returns-clause-propagation c = running_ends c.args.self.now c.loop-literal.self c.args.watching.now c.loop-literal.watching c.loop-literal.invariant c.requires.covered c.in_default-next_fallen.ensures
+pub returns-in_ok-note_done-in-None-clause-propagation : goal.returns-in_ok-note_done-in-None-clause-propagation
+returns-in_ok-note_done-in-None-clause-propagation c =
+    let u : WatchLists = c.last_done-done.new.self in
+    let w : WatchLists = c.propagate_behind.new.watching in
+    let run : IsRun c.args.self.now c.propagate_behind.new.self u w None = subst (IsRun c.args.self.now c.propagate_behind.new.self u w) c.in-None.is c.in_ok-clause.ensures.run in
+    complete_noted c.args.self.now c.propagate_behind.new.self c.args.watching.now u w c.note_done.new.self c.last_done-done.ensures.dropped.rest
+    (covered_noted c.args.self.now c.args.watching.now u c.last_done-done.ensures.dropped.rest c.requires.covered) run.0 run.1 c.in_ok-note_done-in-None.ensures.noted

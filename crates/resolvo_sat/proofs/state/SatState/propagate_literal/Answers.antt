@@ -46,7 +46,7 @@ loop-clause-preserved c =
 
 pub returns-in-Falsified-clause-propagate_literal : goal.returns-in-Falsified-clause-propagate_literal
 returns-in-Falsified-clause-propagate_literal c =
-    visiting_breaks c.loop-clause.cursor.literal c.loop-clause.cursor.place c.in-Some.clause.0 c.watched_literals-watched.result c.args.self.now c.loop-clause.self c.visit_clause.new.self c.args.watching.now c.loop-clause.watching c.visit_clause.new.watching c.loop-clause.invariant (subst (λ (xs : List (Option WatchedLiterals)). pair_at xs c.in-Some.clause.0 ≡ Some c.watched_literals-watched.result) c.as_slice.ensures.value (c.watched_literals-watched.ensures c.in-Some.clause (sym c.in-Some.ensures.clause)))
+    visiting_breaks c.loop-clause.cursor.literal c.loop-clause.cursor.place c.in-Some.clause.0 c.watched_literals-watched.result c.args.self.now c.loop-clause.self c.visit_clause.new.self c.args.watching.now c.loop-clause.watching c.visit_clause.new.watching c.requires.fell.in_range c.requires.done c.loop-clause.invariant (subst (λ (xs : List (Option WatchedLiterals)). pair_at xs c.in-Some.clause.0 ≡ Some c.watched_literals-watched.result) c.as_slice.ensures.value (c.watched_literals-watched.ensures c.in-Some.clause (sym c.in-Some.ensures.clause)))
     (subst (IsMeeting c.loop-clause.cursor.literal c.loop-clause.cursor.place c.in-Some.clause.0 c.watched_literals-watched.result c.loop-clause.self c.loop-clause.watching c.visit_clause.new.self c.visit_clause.new.watching) c.in-Falsified.is c.in_ok-visit_clause.ensures.met)
 
 pub returns-clause-propagate_literal : goal.returns-clause-propagate_literal

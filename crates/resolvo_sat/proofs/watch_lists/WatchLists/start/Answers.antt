@@ -12,4 +12,5 @@ returns-clause-started c =
       lists = c.in_ok-start_watching.ensures.started;
       assertions = refl;
       learnt = refl;
+      units_done = refl;
     }

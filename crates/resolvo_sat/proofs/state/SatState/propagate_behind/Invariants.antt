@@ -1,7 +1,7 @@
 use Rattle.std.proofs.Common.{◌-◌}
 use Rattle.resolvo_sat.specs.Propagation.{Running}
 use Rattle.resolvo_sat.specs.State.{count_of}
-use Rattle.resolvo_sat.proofs.state.SatState.propagate.Given as goal
+use Rattle.resolvo_sat.proofs.state.SatState.propagate_behind.Given as goal
 
 abbrev pub invariant-loop-literal : goal.invariant-loop-literal
 invariant-loop-literal l = Running l.fn.self l.self l.fn.watching l.watching
