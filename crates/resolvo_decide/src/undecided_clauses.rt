@@ -1,5 +1,5 @@
 //! The states of the need clauses of a queue: satisfied, idle, or undecided.
-//! They hold for the trail in `seen`. Each pick adds the new entries of the trail; `follow` drops
+//! They hold for the trail in `seen`. Each pick adds the new entries of the trail; `look_back` drops
 //! those that a backjump removed.
 ghost use Rattle.std.specs.Prelude.{◌≡◌, ℕ, ◌<◌, ◌≤◌, ◌++◌, ◌∷◌, ◌⊎◌, [], List, map, take, length, not, false, true, slice_get, Some, None, Contains, OnOk, IfOk, IfErr, IsOkUnless};
 ghost use Rattle.resolvo_pool_core.specs.declared.want.Want.TheVariants.{Memory};
@@ -67,7 +67,7 @@ impl UndecidedClauses {
     }
 
     /// The next decision under the trail: the pick over all clauses of the queue. The trail extends
-    /// the seen one; after a backjump, `follow` must be called first. No clause offers a decision
+    /// the seen one; after a backjump, `look_back` must be called first. No clause offers a decision
     /// with fewer than `fewest` undecided candidates: 0 always holds, and 2 after propagation.
     pub fn next_decision<N: Copy + Eq, C: ScoreMap<N>>(
         &mut self,
@@ -100,13 +100,15 @@ impl UndecidedClauses {
         ))
     }
 
-    /// Drops the seen entries behind the common prefix of the seen trail and this one.
-    pub fn follow(&mut self, trail: &[Entry])
-        ensures seen { IsPrefixOf self.new.seen.items trail.now }
+    /// Drops the seen entries behind this many. The cost is that of the clauses that they satisfied.
+    pub fn look_back(&mut self, kept: usize)
+        ensures seen { self.new.seen.items ≡ take kept self.old.seen.items }
         ensures fits { KeepsFitting self.old self.new }
     {
-        let common = self.common(trail);
-        self.undo_to(common);
+        if kept < self.seen.len() {
+            self.seen.truncate(kept);
+            self.states.reopen(kept);
+        }
     }
 
     /// Adds the new entries of this trail.
@@ -121,38 +123,6 @@ impl UndecidedClauses {
             self.see_entry(*entry)?;
         }
         Ok(())
-    }
-
-    /// The length of the common prefix of the seen trail and this one.
-    fn common(&self, trail: &[Entry]) -> usize
-        ensures same { take result self.now.seen.items ≡ take result trail.now }
-        ensures seen { result ≤ length self.now.seen.items }
-        ensures within { result ≤ length trail.now }
-    {
-        let mut common = 0;
-        for entry in trail {
-            match self.seen.get(common) {
-                Some(seen) => {
-                    if *seen != *entry {
-                        return common;
-                    }
-                    common += 1;
-                }
-                None => return common,
-            }
-        }
-        common
-    }
-
-    /// Drops the seen entries behind a prefix of this length.
-    fn undo_to(&mut self, common: usize)
-        ensures seen { self.new.seen.items ≡ take common self.old.seen.items }
-        ensures fits { KeepsFitting self.old self.new }
-    {
-        if common < self.seen.len() {
-            self.seen.truncate(common);
-            self.states.reopen(common);
-        }
     }
 
     /// Adds one entry, and opens the clauses of a variable that it makes true.

@@ -1,9 +1,9 @@
 -- Each step keeps the precondition of the calls.
-use Rattle.std.proofs.Common.{◌≡◌, ℕ, ◌+◌, ◌<◌, ◌≤◌, inl, inr, Bool, false, [], ◌∷◌, ◌++◌, List, length, Option, Some, None, Vec, Global, refl, sym, ◌∙◌, ap, subst, arith, true}
-use Rattle.std.specs.Prelude.{Contains}
+use Rattle.std.proofs.Common.{◌≡◌, ℕ, ◌+◌, ◌<◌, ◌≤◌, inl, inr, Bool, false, [], ◌∷◌, ◌++◌, List, take, drop, length, Option, Some, None, Vec, Global, refl, sym, ◌∙◌, ap, subst, arith, true}
+use Rattle.std.specs.Prelude.{Contains, min}
 use Rattle.resolvo_store_core.specs.Lists.{items_or_none}
 use Rattle.std.proofs.lemmas.Bool.{both_ways}
-use Rattle.std.proofs.lemmas.List.{length-append}
+use Rattle.std.proofs.lemmas.List.{length-append, take-append-le, take-append-drop, take_min}
 use Rattle.resolvo_pool_core.specs.declared.id.DenseId.{DenseId}
 use Rattle.resolvo_pool_core.specs.declared.id.DisjunctionTag.{DisjunctionTag}
 use Rattle.resolvo_pool_core.specs.declared.id.VariableId.{VariableId}
@@ -113,6 +113,14 @@ pub built_gives : {N S : Type 0} (atom : ProofAtom N S) (v : VariableId) (old : 
 built_gives atom v old c b gives =
     let new : Encoder _ _ = record old { coding = c } in
     built_grows old new b gives.coding gives.grows refl refl refl refl refl (digits_same old.coding c gives.kinds) (clauses_grow old new b gives.grows refl) b.needs (seen_same old new b gives.trail refl)
+
+-- the seen entries that are left are a prefix of the trail
+pub seen_left : (seen old new : List Entry) (kept : ℕ) → IsPrefixOf seen old → ((k : ℕ) → k ≤ kept → k ≤ length old → take k new ≡ take k old) → IsPrefixOf (take kept seen) new
+seen_left seen old new kept (rest, is) same =
+    let k : ℕ = min kept (length seen) in
+    let long : length old ≡ length seen + length rest = ap length is ∙ length-append seen rest in
+    let first : take k new ≡ take kept seen = same k (omega arith) (omega arith) ∙ ap (take k) is ∙ take-append-le k seen rest (omega arith) ∙ take_min kept seen in
+    (drop k new, sym (take-append-drop k new) ∙ ap (λ (es : List Entry). es ++ drop k new) first)
 
 -- where entries were undone, and the states of requires clauses were reset to those left
 pub built_back : {N S : Type 0} (old : Encoder N S) (c : SolverState N S) (n : UndecidedClauses) → IsBuilt old → IsCoding c → Grows old.coding c → KeepsDigits old.coding c → KeepsFitting old.needs n → IsPrefixOf n.seen.items c.search.tracker.trail → IsBuilt (record old { coding = c; needs = n })

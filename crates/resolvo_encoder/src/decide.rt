@@ -1,8 +1,6 @@
 //! The steps of the search over the encoding: propagate, learn, decide.
 ghost use Rattle.std.specs.Prelude.{◌≡◌, ◌-◌, max, IfOk, OnOk, IsErrOf, IsOkUnless};
 ghost use Rattle.resolvo_pool_core.specs.declared.want.Want.TheVariants.{Memory, Ids};
-ghost use Rattle.resolvo_store_core.specs.AtMostOne.{IsPrefixOf};
-ghost use Rattle.resolvo_decide.specs.Needs.{KeepsFitting};
 ghost use Rattle.resolvo_sat.specs.Steps.{Undoes};
 ghost use Rattle.resolvo_state.specs.SolverState.{LacksNumber};
 ghost use Rattle.resolvo_encoder.specs.Encoded.{StaysEncoding};
@@ -12,14 +10,12 @@ ghost use Rattle.resolvo_encoder.specs.Base.{KeepsFirst, KeepsTurns};
 
 use crate::encoder::Encoder;
 use resolvo_decide::scores::Scores;
-use resolvo_decide::undecided_clauses::UndecidedClauses;
 use resolvo_pool_core::id::{ClauseId, Exact};
 use resolvo_pool_core::id_map::ScoreMap;
 use resolvo_pool_core::want::R;
 use resolvo_sat::analyze::FinalConflict;
 use resolvo_sat::propagate_and_learn::StepResult;
 use resolvo_store_core::decide_queue::NextDecision;
-use resolvo_store_core::decision_tracker::DecisionTracker;
 use std::alloc::Global;
 use std::fmt::Debug;
 use std::hash::Hash;
@@ -93,7 +89,8 @@ impl<N: Copy + Exact + Hash + Debug + Drop, S: Copy + Exact + Hash + Debug> Enco
     {
         let level = self.coding.search.base_level.saturating_sub(1);
         self.coding.undo_until(level.max(1));
-        look_back(&mut self.needs, &self.coding.search.tracker);
+        let kept = self.coding.search.tracker.stack().len();
+        self.needs.look_back(kept);
     }
 
     /// Propagates; then learns from a falsified clause, or decides where there is none.
@@ -111,7 +108,9 @@ impl<N: Copy + Exact + Hash + Debug + Drop, S: Copy + Exact + Hash + Debug> Enco
         match self.coding.propagate_and_learn(alloc)? {
             StepResult::Refused(refusal) => Ok(Step::Refused(refusal)),
             StepResult::Learnt(clause) => {
-                look_back(&mut self.needs, &self.coding.search.tracker);
+                // The last entry is the asserted literal's; those before it were there.
+                let entries = self.coding.search.tracker.stack().len();
+                self.needs.look_back(entries.saturating_sub(1));
                 Ok(Step::Learnt(clause))
             }
             StepResult::Complete => {
@@ -124,12 +123,4 @@ impl<N: Copy + Exact + Hash + Debug + Drop, S: Copy + Exact + Hash + Debug> Enco
             }
         }
     }
-}
-
-/// Resets the states of requires clauses to the entries that are left on the trail.
-fn look_back(needs: &mut UndecidedClauses, trail: &DecisionTracker)
-    ensures seen { IsPrefixOf needs.new.seen.items trail.now.trail }
-    ensures fits { KeepsFitting needs.old needs.new }
-{
-    needs.follow(trail.stack());
 }

@@ -92,11 +92,14 @@ walked_undone s t w level undoes state low same qhead within walked n p is =
     guard k l (j, le, present) below = (j, omega arith, kept level (history s) (history t) l j undoes.undone present (omega arith))
 
 -- the first entries that are left are the same
-first_undone : (s t : SatState) (level k : ℕ) → Undoes level s t → k ≤ length t.tracker.trail → before t.tracker.trail k ≡ before s.tracker.trail k
-first_undone s t level k undoes within =
+pub entries_left : (s t : SatState) (level k : ℕ) → Undoes level s t → k ≤ length t.tracker.trail → take k t.tracker.trail ≡ take k s.tracker.trail
+entries_left s t level k undoes within =
     let (gone, old) = undone_older level (history s) (history t) undoes.undone in
     let trail : s.tracker.trail ≡ t.tracker.trail ++ reverse gone = sym (reverse-reverse s.tracker.trail) ∙ ap reverse old ∙ reverse-append gone (history t) ∙ ap (λ (xs : List Entry). xs ++ reverse gone) (reverse-reverse t.tracker.trail) in
-    sym (ap (λ (xs : List Entry). before xs k) trail ∙ ap reverse (take-append-le k t.tracker.trail (reverse gone) within))
+    sym (ap (take k) trail ∙ take-append-le k t.tracker.trail (reverse gone) within)
+
+first_undone : (s t : SatState) (level k : ℕ) → Undoes level s t → k ≤ length t.tracker.trail → before t.tracker.trail k ≡ before s.tracker.trail k
+first_undone s t level k undoes within = ap reverse (entries_left s t level k undoes within)
 
 -- entries were taken away
 pub ready_undone : (s t : SatState) (w : WatchLists) (level : ℕ) → Undoes level s t → IsReady s w → IsReady t w

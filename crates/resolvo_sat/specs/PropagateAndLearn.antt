@@ -1,5 +1,5 @@
 -- One step of the search.
-use Rattle.std.specs.Prelude.{◌≡◌, ℕ, ◌+◌, ◌*◌, ◌-◌, ◌^◌, ◌<◌, ◌≤◌, List, [], ◌∷◌, ◌++◌, length}
+use Rattle.std.specs.Prelude.{◌≡◌, ℕ, ◌+◌, ◌*◌, ◌-◌, ◌^◌, ◌<◌, ◌≤◌, List, [], ◌∷◌, ◌++◌, take, length}
 use Rattle.resolvo_pool_core.specs.declared.id.ClauseId.{ClauseId}
 use Rattle.resolvo_sat.specs.declared.state.SatClause.{SatClause}
 use Rattle.resolvo_sat.specs.declared.state.SatState.{SatState}
@@ -26,7 +26,8 @@ abbrev pub KeepsUpTo : ℕ → SatState → SatState → Type 0
 KeepsUpTo level old new = (base : List Entry) → top_level base ≤ level → EndsWith base (history old) → EndsWith base (history new)
 
 -- A clause was learnt that follows from earlier ones. Its literals are among theirs, none beside its negation. The trail is
--- heavier than before, each of its decisions was there, and what was assigned before the turn is unchanged.
+-- heavier than before, each of its decisions was there, and what was assigned before the turn is unchanged. Only entries at
+-- the end were taken away, before the new last one was added.
 pub record Improves (id : ClauseId) (old new : SatState) (w : WatchLists) : Type 0 where
   pub ready : IsReady new w
   pub covered : AreCovered new w
@@ -42,6 +43,7 @@ pub record Improves (id : ClauseId) (old new : SatState) (w : WatchLists) : Type
   pub heavier : weight (count_of old) (history old) < weight (count_of old) (history new)
   pub choices : KeepsChoices (history old) (history new)
   pub earlier : KeepsUpTo old.base_level old new
+  pub kept : (k : ℕ) → k < length new.tracker.trail → k ≤ length old.tracker.trail → take k new.tracker.trail ≡ take k old.tracker.trail
 
 abbrev pub IsProgress : SatState → WatchLists → SatState → WatchLists → StepResult → Type 0
 IsProgress old v new w StepResult.Complete = Completes old new w
