@@ -3,4 +3,5 @@ pub mod SoftTurns
 pub mod Turns
 pub mod Solve
 pub mod Conflicts
+pub mod Results
 pub mod Solver

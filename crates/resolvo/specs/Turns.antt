@@ -12,11 +12,11 @@ use Rattle.resolvo_encoder.specs.TurnLevels.{AreAmongEncoded}
 use Rattle.resolvo_encoder.specs.declared.encoder.Encoder.{Encoder}
 use Rattle.resolvo_turn.specs.Encoder.{IsRoot}
 use Rattle.resolvo_turn.specs.Turn.{in_turn}
+use Rattle.resolvo_turn.specs.declared.turn_input.TurnInput.{TurnInput}
 use Rattle.resolvo.specs.Solution.{IsSolution, IsUnsolvable}
 use Rattle.resolvo.specs.SoftTurns.{IsReasonOf}
 use Rattle.resolvo.specs.declared.soft_requirements.SoftOutcome.{SoftOutcome}
 use Rattle.resolvo.specs.declared.soft_requirements.SoftOutcome.TheVariants.{AlreadyChosen, Chosen, Refused, Unsat}
-use Rattle.resolvo.specs.declared.turn_input.TurnInput.{TurnInput}
 use Rattle.resolvo.specs.declared.turns.Turn.{Turn}
 use Rattle.resolvo.specs.declared.turns.Turns.{Turns}
 

@@ -1,12 +1,10 @@
 //! The conflict of a search without a solution: its clauses, and its graph and message for people.
 ghost use Rattle.std.specs.Prelude.{◌≡◌, length, map, IfOk, IfErr};
-ghost use Rattle.resolvo_pool_core.specs.RuleKeeping.{Rules};
 ghost use Rattle.resolvo_pool.specs.Cached.{IsCancelledBy};
-ghost use Rattle.resolvo.specs.Conflicts.{AreOffers, IsLeft, clause_of_step, conflict_clauses};
+ghost use Rattle.resolvo.specs.Conflicts.{clause_of_step, conflict_clauses};
 ghost use Rattle.resolvo.specs.Solver.{HoldsConflict, IsGraphOf, IsTrueOf, IsConflictMessage};
-ghost use Rattle.resolvo_turn.specs.Encoder.{IsRoot};
-ghost use Rattle.resolvo.specs.Solve.{AreChosenOnce, AskNothing, IsSolved, EndsSo, Counts};
-ghost use Rattle.resolvo.specs.SoftTurns.{AreCandidates};
+ghost use Rattle.resolvo.specs.Solve.{AreChosenOnce, AskNothing, EndsSo, Counts};
+ghost use Rattle.resolvo.specs.Results.{SolvesProblem, OffersAll, LeavesConflict};
 
 use crate::prove::{Solved, solve};
 use crate::search::SearchResult;
@@ -81,8 +79,8 @@ fn message_of_graph<'a, D: DependencyProvider>(
     graph: &ConflictGraph<D::SolvableId>,
     solver: &'a Solver<D>,
 ) -> R<DisplayUnsat<'a, D>>
-    requires { IsGraphOf D.NameId.eq D.SolvableId.eq (D.name_of_solvable solver.now.provider) solver.now
-        graph.now }
+    requires { IsGraphOf D.NameId.eq D.SolvableId.eq (D.name_of_solvable solver.now.provider)
+        solver.now graph.now }
     ensures lines { IfOk result
         (λ d.
         IsConflictMessage D.NameId.eq D.SolvableId.eq (D.name_of_solvable solver.now.provider)
@@ -100,16 +98,15 @@ pub(crate) struct KeptConflict<S> {
     pub offers: Offers<S>,
 }
 
-/// The candidates of the requirements that the rules of a conflict name, in the order in which they are tried.
+/// The candidates of the requirements that the rules of a conflict name, in the order in which they
+/// are tried.
 pub fn offers_for<A: PackageSource>(
     alloc: Global,
     answers: &mut A,
     steps: &[ProofStep<A::NameId, A::SolvableId>],
 ) -> Result<Offers<A::SolvableId>, CacheFault<A::Cancel>>
     ensures same { answers.new ≡ answers.old }
-    ensures offers { IfOk result
-        (λ o.
-        AreOffers A.SolvableId.eq (A.packages answers.old) (A.orders answers.old) steps.now o) }
+    ensures offers { IfOk result (OffersAll A.SolvableId.eq A.PackageSource answers.old steps.now) }
     ensures cancelled { IfErr result (IsCancelledBy (A.may_cancel answers.old)) }
 {
     let requirements = requirements_of(alloc, steps)?;
@@ -152,9 +149,8 @@ fn conflict_left<A: PackageSource>(
 ) -> Result<(Vec<ClauseId>, Option<KeptConflict<A::SolvableId>>), CacheFault<A::Cancel>>
     ensures same { answers.new ≡ answers.old }
     ensures left { IfOk result
-        (λ c.
-        IsLeft A.SolvableId.eq (A.packages answers.old) (A.orders answers.old) solved.now.found
-        solved.now.proof.items c.0.items c.1) }
+        (λ c. LeavesConflict A.SolvableId.eq A.PackageSource answers.old
+        solved.now.found solved.now.proof.items c.0.items c.1) }
     ensures cancelled { IfErr result (IsCancelledBy (A.may_cancel answers.old)) }
 {
     match &solved.found {
@@ -168,7 +164,8 @@ fn conflict_left<A: PackageSource>(
     }
 }
 
-/// Searches as `solve` does. Of a conflict it gives its clauses and the record of the conflict, too.
+/// Searches as `solve` does. Of a conflict it gives its clauses and the record of the conflict,
+/// too.
 pub(crate) fn solve_to_conflict<A: PackageSource, C: ScoreMap<A::NameId> + Drop>(
     alloc: Global,
     answers: &mut A,
@@ -188,21 +185,16 @@ pub(crate) fn solve_to_conflict<A: PackageSource, C: ScoreMap<A::NameId> + Drop>
     ensures same { answers.new ≡ answers.old }
     // After an answer.
     ensures solved { IfOk result
-        (λ s.
-        (root : Rules)
-        → IsRoot requirements.now constraints.now root
-        → AreCandidates A.SolvableId.eq (A.packages answers.old) softs.now
-        → IsSolved A.SolvableId.eq (A.packages answers.old) (A.orders answers.old) root
-        softs.now s.0) }
+        (λ s. SolvesProblem A.SolvableId.eq A.PackageSource answers.old
+        requirements.now constraints.now softs.now s.0) }
     ensures once { IfOk result (λ s. AreChosenOnce s.0.found) }
     ensures alone { IfOk result
         (λ s. AskNothing requirements.now constraints.now softs.now → s.0.clause_count ≡ 1) }
     ensures ends { IfOk result (λ s. EndsSo s.0.found s.0.proof.items) }
     ensures count { IfOk result (λ s. Counts s.0.found s.0.clause_count (length s.0.proof.items)) }
     ensures left { IfOk result
-        (λ s.
-        IsLeft A.SolvableId.eq (A.packages answers.old) (A.orders answers.old) s.0.found
-        s.0.proof.items s.1.items s.2) }
+        (λ s. LeavesConflict A.SolvableId.eq A.PackageSource answers.old
+        s.0.found s.0.proof.items s.1.items s.2) }
     // After a refusal.
     ensures cancelled { IfErr result (IsCancelledBy (A.may_cancel answers.old)) }
 {

@@ -9,7 +9,6 @@ pub mod prove;
 pub mod search;
 mod soft_requirements;
 pub mod solver;
-mod turn_input;
 pub mod turns;
 
 pub use conflict::Conflict;

@@ -2,20 +2,18 @@
 //! may call it itself.
 ghost use Rattle.std.specs.Prelude.{◌≡◌, Bool, length, IfOk, IfErr};
 ghost use Rattle.resolvo_pool.specs.Cached.{IsCancelledBy};
-ghost use Rattle.resolvo_pool_core.specs.RuleKeeping.{Packages, Rules};
+ghost use Rattle.resolvo_pool_core.specs.RuleKeeping.{Packages};
 ghost use Rattle.resolvo_state.specs.declared.registry.Registry.{Registry};
 ghost use Rattle.resolvo_state.specs.SolverState.{IsCoding};
 ghost use Rattle.resolvo_state.specs.Registered.{AreTied};
 ghost use Rattle.resolvo_state.specs.Spelled.{Spelled};
 ghost use Rattle.resolvo_encoder.specs.Conditions.{waiting_count};
-ghost use Rattle.resolvo_encoder.specs.Encoded.{IsEncoding};
 ghost use Rattle.resolvo_encoder.specs.Steps.{IsBegunEncoding};
 ghost use Rattle.resolvo_proof.specs.Drawn.{AreDrawn, HaveOneSigns};
 ghost use Rattle.resolvo_proof.specs.Places.{HaveOnePlace, AreNamedBy};
 ghost use Rattle.resolvo_proof.specs.Proof.{Proves};
-ghost use Rattle.resolvo_turn.specs.Encoder.{IsRoot};
-ghost use Rattle.resolvo.specs.SoftTurns.{AreCandidates};
-ghost use Rattle.resolvo.specs.Solve.{AreChosenOnce, AskNothing, IsDenial, IsProvable, IsSolved, EndsSo, Counts, HasSteps};
+ghost use Rattle.resolvo.specs.Solve.{AreChosenOnce, AskNothing, IsDenial, IsProvable, EndsSo, Counts, HasSteps};
+ghost use Rattle.resolvo.specs.Results.{SolvesFrom, SolvesProblem};
 
 use crate::search::{SearchResult, search};
 use resolvo_encoder::encoder::Encoder;
@@ -66,7 +64,8 @@ fn steps_of<N: Copy + Exact + Hash + Debug, S: Copy + Exact + Hash + Debug>(
         → AreNamedBy r coding.now package_of
         → HaveOnePlace v.items) }
     ensures ends { IfOk result (λ v. EndsSo found.now v.items) }
-    ensures count { IfOk result (λ v. Counts found.now (length coding.now.search.clauses) (length v.items)) }
+    ensures count { IfOk result
+        (λ v. Counts found.now (length coding.now.search.clauses) (length v.items)) }
     ensures clauses { IfOk result (λ v. HasSteps coding.now found.now v.items) }
 {
     match found {
@@ -85,7 +84,8 @@ fn prove<N: Copy + Exact + Hash + Debug + Drop, S: Copy + Exact + Hash + Debug>(
     // After an answer.
     ensures found { IfOk result (λ s. s.found ≡ found) }
     ensures count { IfOk result (λ s. Counts s.found s.clause_count (length s.proof.items)) }
-    ensures clause_count { IfOk result (λ s. s.clause_count ≡ length encoding.now.coding.search.clauses) }
+    ensures clause_count { IfOk result
+        (λ s. s.clause_count ≡ length encoding.now.coding.search.clauses) }
     ensures deferred { IfOk result (λ s. s.deferred_count ≡ waiting_count encoding.now) }
     ensures proof { IfOk result (λ s. Proves encoding.now.coding s.proof.items) }
     ensures drawn { IfOk result
@@ -127,13 +127,8 @@ fn solve_in<A: PackageSource, C: ScoreMap<A::NameId> + Drop>(
     ensures same { answers.new ≡ answers.old }
     // After an answer.
     ensures solved { IfOk result
-        (λ s.
-        (root : Rules)
-        → IsRoot requirements.now constraints.now root
-        → AreCandidates A.SolvableId.eq (A.packages answers.old) softs.now
-        → IsEncoding A.SolvableId.eq (A.packages answers.old) root encoding.old
-        → IsSolved A.SolvableId.eq (A.packages answers.old) (A.orders answers.old) root
-        softs.now s) }
+        (SolvesFrom A.SolvableId.eq A.PackageSource answers.old
+        requirements.now constraints.now softs.now encoding.old) }
     ensures once { IfOk result (λ s. AreChosenOnce s.found) }
     ensures alone { IfOk result
         (λ s. AskNothing requirements.now constraints.now softs.now → s.clause_count ≡ 1) }
@@ -174,12 +169,8 @@ pub fn solve<A: PackageSource, C: ScoreMap<A::NameId> + Drop>(
     ensures same { answers.new ≡ answers.old }
     // After an answer.
     ensures solved { IfOk result
-        (λ s.
-        (root : Rules)
-        → IsRoot requirements.now constraints.now root
-        → AreCandidates A.SolvableId.eq (A.packages answers.old) softs.now
-        → IsSolved A.SolvableId.eq (A.packages answers.old) (A.orders answers.old) root
-        softs.now s) }
+        (SolvesProblem A.SolvableId.eq A.PackageSource answers.old
+        requirements.now constraints.now softs.now) }
     ensures once { IfOk result (λ s. AreChosenOnce s.found) }
     ensures alone { IfOk result
         (λ s. AskNothing requirements.now constraints.now softs.now → s.clause_count ≡ 1) }

@@ -2,17 +2,12 @@
 ghost use Rattle.std.specs.Prelude.{◌≡◌, [], length, None, IfOk, IfErr, OnOk};
 ghost use Rattle.std.specs.Bool.{Decides};
 ghost use Rattle.resolvo_pool.specs.Cached.{IsCancelledBy};
-ghost use Rattle.resolvo_pool_core.specs.RuleKeeping.{Rules};
-ghost use Rattle.resolvo_encoder.specs.Encoded.{IsEncoding};
 ghost use Rattle.resolvo_encoder.specs.Steps.{IsBegunEncoding, IsBuilt};
-ghost use Rattle.resolvo_turn.specs.Encoder.{IsInOrder, IsRoot};
 ghost use Rattle.resolvo_turn.specs.Turn.{IsRooted, IsTurn};
-ghost use Rattle.resolvo.specs.Turns.{IsRootOf};
-ghost use Rattle.resolvo.specs.SoftTurns.{AreCandidates};
-ghost use Rattle.resolvo.specs.Solve.{AskNothing, IsFound, IsFoundIn, IsListedIn, IsPreferred, IsSearch, IsDenial, IsProvable};
+ghost use Rattle.resolvo.specs.Solve.{AskNothing, IsFoundIn, IsListedIn, IsDenial, IsProvable};
+ghost use Rattle.resolvo.specs.Results.{RunsTurns, FindsNothing, Searches};
 
 use crate::soft_requirements::run_soft_requirements;
-use crate::turn_input::TurnInput;
 use crate::turns::{Turn, Turns};
 use resolvo_decide::scores::Scores;
 use resolvo_encoder::encoder::Encoder;
@@ -25,6 +20,7 @@ use resolvo_pool_core::want::R;
 use resolvo_sat::analyze::FinalConflict;
 use resolvo_turn::cdcl::Activity;
 use resolvo_turn::turn::run_turn;
+use resolvo_turn::turn_input::TurnInput;
 use std::alloc::Global;
 use std::fmt::Debug;
 use std::hash::Hash;
@@ -80,16 +76,8 @@ fn run_others<A: PackageSource, C: ScoreMap<A::NameId>>(
     ensures same { answers.new ≡ answers.old }
     // After an answer.
     ensures found { IfOk result
-        (λ f.
-        (root : Rules)
-        → IsRootOf input.now root
-        → AreCandidates A.SolvableId.eq (A.packages answers.old) softs.now
-        → IsInOrder A.SolvableId.eq (A.packages answers.old) (A.orders answers.old) root
-        encoding.old
-        → IsInOrder A.SolvableId.eq (A.packages answers.old) (A.orders answers.old) root
-        encoding.new
-        × IsFound A.SolvableId.eq (A.packages answers.old) root softs.now encoding.new f
-        × IsPreferred A.SolvableId.eq (A.packages answers.old) (A.orders answers.old) root f) }
+        (RunsTurns A.SolvableId.eq A.PackageSource answers.old
+        input.now softs.now encoding.old encoding.new) }
     ensures listed { IfOk result (IsListedIn encoding.new) }
     ensures denial { IfOk result (IsDenial encoding.new.coding) }
     ensures built { OnOk result (IsBuilt encoding.new) }
@@ -119,32 +107,15 @@ fn run_turns<A: PackageSource, C: ScoreMap<A::NameId>>(
     ensures same { answers.new ≡ answers.old }
     // After an answer.
     ensures found { IfOk result
-        (λ f.
-        (root : Rules)
-        → IsRootOf input.now root
-        → AreCandidates A.SolvableId.eq (A.packages answers.old) softs.now
-        → IsInOrder A.SolvableId.eq (A.packages answers.old) (A.orders answers.old) root
-        encoding.old
-        → IsInOrder A.SolvableId.eq (A.packages answers.old) (A.orders answers.old) root
-        encoding.new
-        × IsFound A.SolvableId.eq (A.packages answers.old) root softs.now encoding.new f
-        × IsPreferred A.SolvableId.eq (A.packages answers.old) (A.orders answers.old) root f) }
+        (RunsTurns A.SolvableId.eq A.PackageSource answers.old
+        input.now softs.now encoding.old encoding.new) }
     ensures listed { IfOk result (IsListedIn encoding.new) }
     ensures denial { IfOk result (IsDenial encoding.new.coding) }
     ensures built { OnOk result (IsBuilt encoding.new) }
     // After a refusal.
     ensures cancelled { IfErr result (IsCancelledBy (A.may_cancel answers.old)) }
 {
-    let turn = run_turn(
-        alloc,
-        answers,
-        encoding,
-        scores,
-        input.activity,
-        input.requirements,
-        input.constraints,
-        None,
-    )?;
+    let turn = run_turn(alloc, answers, encoding, scores, input, None)?;
     if let Some(refusal) = turn {
         return Ok(SearchResult::Unsat(refusal));
     }
@@ -173,13 +144,7 @@ fn find_nothing<A: PackageSource>(
     requires { IsBegunEncoding encoding.old }
     // After an answer.
     ensures found { IfOk result
-        (λ f.
-        (root : Rules)
-        → root.requirements ≡ []
-        → root.constraints ≡ []
-        → IsEncoding A.SolvableId.eq (A.packages answers.now) root encoding.old
-        → IsSearch A.SolvableId.eq (A.packages answers.now) (A.orders answers.now) root []
-        encoding.new f) }
+        (FindsNothing A.SolvableId.eq A.PackageSource answers.now encoding.old encoding.new) }
     ensures listed { IfOk result (IsListedIn encoding.new) }
     ensures provable { IfOk result (IsProvable encoding.new) }
     ensures alone { OnOk result (length encoding.new.coding.search.clauses ≡ 1) }
@@ -212,13 +177,8 @@ pub fn search<A: PackageSource, C: ScoreMap<A::NameId> + Drop>(
     ensures same { answers.new ≡ answers.old }
     // After an answer.
     ensures found { IfOk result
-        (λ f.
-        (root : Rules)
-        → IsRoot requirements.now constraints.now root
-        → AreCandidates A.SolvableId.eq (A.packages answers.old) softs.now
-        → IsEncoding A.SolvableId.eq (A.packages answers.old) root encoding.old
-        → IsSearch A.SolvableId.eq (A.packages answers.old) (A.orders answers.old) root
-        softs.now encoding.new f) }
+        (Searches A.SolvableId.eq A.PackageSource answers.old
+        requirements.now constraints.now softs.now encoding.old encoding.new) }
     ensures listed { IfOk result (IsListedIn encoding.new) }
     ensures provable { IfOk result (IsProvable encoding.new) }
     ensures alone { OnOk result

@@ -1,9 +1,8 @@
 //! The turns of soft requirements. Each is recorded and, unless it is true already, assumed at the
 //! first level of its turn. If it conflicts with the earlier choices, a learnt clause is the
 //! reason, and these choices are kept.
-ghost use Rattle.std.specs.Prelude.{◌≡◌, ◌<◌, ℕ, [], false, length, Some, IfOk, IfErr, IfSome, OnOk};
+ghost use Rattle.std.specs.Prelude.{◌≡◌, ◌<◌, false, length, Some, IfOk, IfErr, IfSome, OnOk};
 ghost use Rattle.resolvo_pool.specs.Cached.{IsCancelledBy};
-ghost use Rattle.resolvo_pool_core.specs.RuleKeeping.{Rules};
 ghost use Rattle.resolvo_store_core.specs.AtMostOne.{IsPrefixOf};
 ghost use Rattle.resolvo_store_core.specs.Clauses.{yes};
 ghost use Rattle.resolvo_store_core.specs.Signed.{has};
@@ -13,13 +12,13 @@ ghost use Rattle.resolvo_encoder.specs.Base.{base_of, IsOpen};
 ghost use Rattle.resolvo_encoder.specs.Encoded.{StaysEncoding};
 ghost use Rattle.resolvo_encoder.specs.Steps.{IsBuilt};
 ghost use Rattle.resolvo_encoder.specs.SoftRequirement.{turn_of, IsSoft};
-ghost use Rattle.resolvo_turn.specs.Encoder.{IsInOrder, AddsParents, StaysInOrderOf};
+ghost use Rattle.resolvo_turn.specs.Encoder.{AddsParents, StaysInOrderOf};
 ghost use Rattle.resolvo_turn.specs.Turn.{IsRooted, IsTurn};
-ghost use Rattle.resolvo.specs.Turns.{AreAt, AreRight, HaveReasons, IsNextRight, IsRootOf, RecordsOutcome, AreAtOrRefused};
-ghost use Rattle.resolvo.specs.SoftTurns.{AreCandidates, AreTrueParents, IsCandidate, IsClosed, IsOutcome, IsRefusable, IsJustified, IsRejected, KeepsRest, KeepsTrail};
+ghost use Rattle.resolvo.specs.Turns.{AreAt, RecordsOutcome, AreAtOrRefused};
+ghost use Rattle.resolvo.specs.SoftTurns.{AreTrueParents, IsClosed, IsOutcome, IsRefusable, IsRejected, KeepsRest, KeepsTrail};
 ghost use Rattle.resolvo.specs.declared.soft_requirements.SoftOutcome.TheVariants.{Refused};
+ghost use Rattle.resolvo.specs.Results.{RunsSoft, RunsSofts};
 
-use crate::turn_input::TurnInput;
 use crate::turns::Turns;
 use resolvo_decide::scores::Scores;
 use resolvo_encoder::encoder::Encoder;
@@ -31,6 +30,7 @@ use resolvo_pool_core::want::R;
 use resolvo_sat::analyze::FinalConflict;
 use resolvo_store_core::literal::Literal;
 use resolvo_turn::turn::run_turn;
+use resolvo_turn::turn_input::TurnInput;
 use std::alloc::Global;
 use std::fmt::Debug;
 use std::hash::Hash;
@@ -67,9 +67,8 @@ fn run_open<A: PackageSource, C: ScoreMap<A::NameId>>(
     ensures same { answers.new ≡ answers.old }
     // After an answer.
     ensures stays { OnOk result
-        (StaysInOrderOf input.now.requirements.now input.now.constraints.now
-        A.SolvableId.eq (A.packages answers.old) (A.orders answers.old)
-        encoding.old encoding.new) }
+        (StaysInOrderOf A.SolvableId.eq A.PackageSource answers.old
+        input.now.requirements.now input.now.constraints.now encoding.old encoding.new) }
     ensures adds { OnOk result (AddsParents (turn_of encoding.old) encoding.new) }
     ensures turn { OnOk result
         (IsOpen encoding.new variable
@@ -81,16 +80,7 @@ fn run_open<A: PackageSource, C: ScoreMap<A::NameId>>(
 {
     encoding.begin_turn();
     encoding.add_parent(soft)?;
-    let refusal = run_turn(
-        alloc,
-        answers,
-        encoding,
-        scores,
-        input.activity,
-        input.requirements,
-        input.constraints,
-        Some(variable),
-    )?;
+    let refusal = run_turn(alloc, answers, encoding, scores, input, Some(variable))?;
     Ok(refusal)
 }
 
@@ -105,7 +95,8 @@ fn refuse<N: Copy + Exact + Hash + Debug, S: Copy + Exact + Hash + Debug>(
     // After an answer.
     ensures stays { OnOk result (StaysEncoding S.eq encoding.old encoding.new) }
     ensures rest { OnOk result (KeepsRest encoding.old encoding.new) }
-    ensures refused { IfOk result (λ clause. IsRejected refusal encoding.old encoding.new (Refused clause)) }
+    ensures refused { IfOk result
+        (λ clause. IsRejected refusal encoding.old encoding.new (Refused clause)) }
     ensures built { OnOk result (IsBuilt encoding.new) }
 {
     encoding.undo_turn();
@@ -156,16 +147,8 @@ pub fn run_soft_requirement<A: PackageSource, C: ScoreMap<A::NameId>>(
     ensures same { answers.new ≡ answers.old }
     // After an answer.
     ensures stays { IfOk result
-        (λ w.
-        (root : Rules)
-        → IsRootOf input.now root
-        → IsCandidate A.SolvableId.eq (A.packages answers.old) soft
-        → IsInOrder A.SolvableId.eq (A.packages answers.old) (A.orders answers.old) root
-        encoding.old
-        → IsInOrder A.SolvableId.eq (A.packages answers.old) (A.orders answers.old) root
-        encoding.new
-        × IsJustified A.SolvableId.eq (A.packages answers.old) root encoding.old encoding.new soft
-        w) }
+        (RunsSoft A.SolvableId.eq A.PackageSource answers.old
+        input.now soft encoding.old encoding.new) }
     ensures outcome { IfOk result (IsOutcome A.SolvableId.eq soft encoding.old encoding.new) }
     ensures keeps { OnOk result (KeepsTrail encoding.old encoding.new) }
     ensures built { OnOk result (IsBuilt encoding.new) }
@@ -239,18 +222,8 @@ pub fn run_soft_requirements<A: PackageSource, C: ScoreMap<A::NameId>>(
     ensures same { answers.new ≡ answers.old }
     // After an answer.
     ensures right { IfOk result
-        (λ o.
-        (root : Rules) (first : ℕ)
-        → IsRootOf input.now root
-        → AreCandidates A.SolvableId.eq (A.packages answers.old) softs.now
-        → IsInOrder A.SolvableId.eq (A.packages answers.old) (A.orders answers.old) root
-        encoding.old
-        → AreRight A.SolvableId.eq (A.packages answers.old) root first [] turns.old
-        → HaveReasons encoding.old.coding turns.old
-        → IsInOrder A.SolvableId.eq (A.packages answers.old) (A.orders answers.old) root
-        encoding.new
-        × IsNextRight A.SolvableId.eq (A.packages answers.old) root first softs.now
-        encoding.new turns.new o) }
+        (RunsSofts A.SolvableId.eq A.PackageSource answers.old
+        input.now softs.now encoding.old turns.old encoding.new turns.new) }
     ensures at_or_refused { IfOk result (AreAtOrRefused encoding.new turns.new) }
     ensures prefix { OnOk result (IsPrefixOf turns.old.chosen.keys turns.new.chosen.keys) }
     ensures built { OnOk result (IsBuilt encoding.new) }

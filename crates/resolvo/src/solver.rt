@@ -132,8 +132,14 @@ impl<D: DependencyProvider> Solver<D> {
     /// A solver before its first search.
     pub fn new(alloc: Global, provider: D) -> Solver<D>
         ensures { result
-            ≡ record
-            { provider = provider; clause_count = 0; deferred_count = 0; turns = []; proof = []; conflict = None } }
+            ≡ record {
+              provider = provider;
+              clause_count = 0;
+              deferred_count = 0;
+              turns = [];
+              proof = [];
+              conflict = None;
+            } }
     {
         Solver {
             alloc,

@@ -5,6 +5,7 @@ use Rattle.resolvo_pool_core.specs.declared.requirement.ConditionalRequirement.{
 use Rattle.resolvo_pool_core.specs.declared.requirement.Requirement.{Requirement}
 use Rattle.resolvo_pool_core.specs.RuleKeeping.{Packages, Rules, rules_for, is_unknown}
 use Rattle.resolvo_store_core.specs.AtMostOne.{IsPrefixOf}
+use Rattle.resolvo_packages.specs.declared.package_source.PackageSource as source
 use Rattle.resolvo_state.specs.SolverState.{Grows}
 use Rattle.resolvo_encoder.specs.declared.encoder.Encoder.{Encoder}
 use Rattle.resolvo_encoder.specs.Base.{KeepsTurns}
@@ -28,13 +29,17 @@ pub record IsInOrder {N S : Type 0} (same : S → S → Bool) (p : Packages N S)
   pub encoding : IsEncoding same p root e
   pub ordered : AreOrdered orders e
 
+-- the encoding is in order, by the packages that a source with these ghost members describes
+abbrev pub IsInOrderBy : {A N S C : Type 0} → (S → S → Bool) → source.Ghosts A N S C → A → Rules → Encoder N S → Type 0
+IsInOrderBy same g a root e = IsInOrder same (g.packages a) (g.orders a) root e
+
 -- an encoding in order stays one, whatever the root
-abbrev pub StaysInOrder : {N S : Type 0} → (S → S → Bool) → Packages N S → (Requirement → List S → Type 0) → Encoder N S → Encoder N S → Type 0
-StaysInOrder same p orders old new = (root : Rules) → IsInOrder same p orders root old → IsInOrder same p orders root new
+abbrev pub StaysInOrder : {A N S C : Type 0} → (S → S → Bool) → source.Ghosts A N S C → A → Encoder N S → Encoder N S → Type 0
+StaysInOrder same g a old new = (root : Rules) → IsInOrderBy same g a root old → IsInOrderBy same g a root new
 
 -- an encoding in order stays one where the root has these requirements and constraints
-abbrev pub StaysInOrderOf : {N S : Type 0} → List ConditionalRequirement → List VersionSetId → (S → S → Bool) → Packages N S → (Requirement → List S → Type 0) → Encoder N S → Encoder N S → Type 0
-StaysInOrderOf requirements constraints same p orders old new = (root : Rules) → IsRoot requirements constraints root → IsInOrder same p orders root old → IsInOrder same p orders root new
+abbrev pub StaysInOrderOf : {A N S C : Type 0} → (S → S → Bool) → source.Ghosts A N S C → A → List ConditionalRequirement → List VersionSetId → Encoder N S → Encoder N S → Type 0
+StaysInOrderOf same g a requirements constraints old new = (root : Rules) → IsRoot requirements constraints root → IsInOrderBy same g a root old → IsInOrderBy same g a root new
 
 -- each of these cases of the parent's requirement is deferred, or was
 abbrev pub AreDeferred : {N S : Type 0} → Encoder N S → Option S → ConditionalRequirement → List (List VersionSetId) → Type 0

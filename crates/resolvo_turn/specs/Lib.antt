@@ -1,2 +1,3 @@
 pub mod Encoder
+pub mod Effects
 pub mod Turn

@@ -81,8 +81,7 @@ pub fn decide<A: PackageSource, C: ScoreMap<A::NameId>>(
     requires built { IsBuilt encoding.old }
     // After an answer.
     ensures stays { OnOk result
-        (StaysInOrder A.SolvableId.eq (A.packages answers.now) (A.orders answers.now)
-        encoding.old encoding.new) }
+        (StaysInOrder A.SolvableId.eq A.PackageSource answers.now encoding.old encoding.new) }
     ensures goes_on { OnOk result (GoesOn encoding.old encoding.new) }
     ensures first { OnOk result (KeepsFirst encoding.old encoding.new) }
     ensures decided { IfOk result (IsDecision encoding.new) }

@@ -1,15 +1,14 @@
 //! Deferred cases of conditions: each waits until every version set of its own has a chosen match.
-ghost use Rattle.std.specs.Prelude.{◌≡◌, List, Some, IfOk, IfErr, OnOk, Contains};
+ghost use Rattle.std.specs.Prelude.{◌≡◌, Some, IfOk, IfErr, OnOk};
 ghost use Rattle.resolvo_pool.specs.Cached.{IsCancelledBy};
-ghost use Rattle.resolvo_pool_core.specs.RuleKeeping.{Rules, rules_for, is_in, is_match};
 ghost use Rattle.resolvo_pool_core.specs.declared.id.VersionSetId.{VersionSetId};
 ghost use Rattle.resolvo_store_core.specs.Cases.{cases_of};
-ghost use Rattle.resolvo_store_core.specs.Deferred.{version_set_of, candidates_of};
+ghost use Rattle.resolvo_store_core.specs.Deferred.{version_set_of};
 ghost use Rattle.resolvo_packages.specs.PackageSource.{offered_solvables};
-ghost use Rattle.resolvo_sat.specs.Encoding.{cases_for};
-ghost use Rattle.resolvo_encoder.specs.Conditions.{case_of, AreConjuncts, IsDeferred};
+ghost use Rattle.resolvo_encoder.specs.Conditions.{case_of, AreConjuncts, IsMatching};
 ghost use Rattle.resolvo_encoder.specs.Steps.{IsBuilt};
-ghost use Rattle.resolvo_turn.specs.Encoder.{IsInOrder, AddsNeeds, AreDeferred};
+ghost use Rattle.resolvo_turn.specs.Encoder.{AddsNeeds};
+ghost use Rattle.resolvo_turn.specs.Effects.{DefersCase, DefersCases, DefersNeed};
 
 use resolvo_encoder::encoder::Encoder;
 use resolvo_packages::package_source::{Offered, PackageSource};
@@ -38,11 +37,7 @@ fn conjunct_of<A: PackageSource>(
     version_set: VersionSetId,
 ) -> Result<DeferredConjunct<A::SolvableId>, CacheFault<A::Cancel>>
     ensures same { answers.new ≡ answers.old }
-    ensures matches { IfOk result
-        (λ c.
-        (s : A.SolvableId)
-        → is_in A.SolvableId.eq (A.packages answers.old) (candidates_of c) s
-        ≡ is_match A.SolvableId.eq (A.packages answers.old) (version_set_of c) s) }
+    ensures matches { IfOk result (IsMatching A.SolvableId.eq (A.packages answers.old)) }
     ensures version_set { IfOk result (λ c. version_set_of c ≡ version_set) }
     ensures cancelled { IfErr result (IsCancelledBy (A.may_cancel answers.old)) }
 {
@@ -58,7 +53,8 @@ fn conjuncts_of<A: PackageSource>(
     case: &[VersionSetId],
 ) -> Result<Vec<DeferredConjunct<A::SolvableId>>, CacheFault<A::Cancel>>
     ensures same { answers.new ≡ answers.old }
-    ensures matches { IfOk result (λ v. AreConjuncts A.SolvableId.eq (A.packages answers.old) v.items) }
+    ensures matches { IfOk result
+        (λ v. AreConjuncts A.SolvableId.eq (A.packages answers.old) v.items) }
     ensures case { IfOk result (λ v. case_of v.items ≡ case.now) }
     ensures cancelled { IfErr result (IsCancelledBy (A.may_cancel answers.old)) }
 {
@@ -84,15 +80,8 @@ fn defer_case<A: PackageSource>(
     ensures same { answers.new ≡ answers.old }
     // After an answer.
     ensures encoded { OnOk result
-        ((root : Rules)
-        → IsInOrder A.SolvableId.eq (A.packages answers.old) (A.orders answers.old) root
-        encoding.old
-        → Contains (rules_for A.SolvableId.eq (A.packages answers.old) root parent).requirements
-        need
-        → Contains (cases_for A.SolvableId.eq (A.packages answers.old) need) case.now
-        → IsInOrder A.SolvableId.eq (A.packages answers.old) (A.orders answers.old) root
-        encoding.new
-        × IsDeferred encoding.new parent need case.now) }
+        (DefersCase A.SolvableId.eq A.PackageSource answers.old
+        parent need case.now encoding.old encoding.new) }
     ensures kept { OnOk result (AddsNeeds encoding.old encoding.new) }
     ensures built { OnOk result (IsBuilt encoding.new) }
     // After a refusal.
@@ -118,15 +107,8 @@ pub fn defer_need<A: PackageSource>(
     ensures same { answers.new ≡ answers.old }
     // After an answer.
     ensures encoded { OnOk result
-        ((root : Rules)
-        → IsInOrder A.SolvableId.eq (A.packages answers.old) (A.orders answers.old) root
-        encoding.old
-        → Contains (rules_for A.SolvableId.eq (A.packages answers.old) root parent).requirements
-        need
-        → IsInOrder A.SolvableId.eq (A.packages answers.old) (A.orders answers.old) root
-        encoding.new
-        × AreDeferred encoding.new parent need
-        (cases_for A.SolvableId.eq (A.packages answers.old) need)) }
+        (DefersNeed A.SolvableId.eq A.PackageSource answers.old
+        parent need encoding.old encoding.new) }
     ensures kept { OnOk result (AddsNeeds encoding.old encoding.new) }
     ensures built { OnOk result (IsBuilt encoding.new) }
     // After a refusal.
@@ -151,17 +133,8 @@ fn defer_cases<A: PackageSource>(
     ensures same { answers.new ≡ answers.old }
     // After an answer.
     ensures encoded { OnOk result
-        ((root : Rules)
-        → IsInOrder A.SolvableId.eq (A.packages answers.old) (A.orders answers.old) root
-        encoding.old
-        → Contains (rules_for A.SolvableId.eq (A.packages answers.old) root parent).requirements
-        need
-        → ((case : List VersionSetId)
-        → Contains (cases_of cases.now) case
-        → Contains (cases_for A.SolvableId.eq (A.packages answers.old) need) case)
-        → IsInOrder A.SolvableId.eq (A.packages answers.old) (A.orders answers.old) root
-        encoding.new
-        × AreDeferred encoding.new parent need (cases_of cases.now)) }
+        (DefersCases A.SolvableId.eq A.PackageSource answers.old
+        parent need (cases_of cases.now) encoding.old encoding.new) }
     ensures kept { OnOk result (AddsNeeds encoding.old encoding.new) }
     ensures built { OnOk result (IsBuilt encoding.new) }
     // After a refusal.

@@ -1,17 +1,14 @@
 //! Requirements and constraints of parents become clauses, in the order of the parents. The
 //! packages are asked for each only when it is encoded.
-ghost use Rattle.std.specs.Prelude.{◌≡◌, ◌≤◌, [], length, IfErr, OnOk, Contains};
+ghost use Rattle.std.specs.Prelude.{◌≡◌, IfErr, OnOk};
 ghost use Rattle.resolvo_pool.specs.Cached.{IsCancelledBy};
-ghost use Rattle.resolvo_pool_core.specs.RuleKeeping.{Rules, rules_for};
 ghost use Rattle.resolvo_pool_core.specs.Text.{solvable_of};
 ghost use Rattle.resolvo_pool_core.specs.declared.requirement.ConditionalRequirement.{ConditionalRequirement};
 ghost use Rattle.resolvo_pool_core.specs.declared.requirement.Requirement.TheVariants.{Single};
-ghost use Rattle.resolvo_sat.specs.Encoding.{IsForbiddenIn, IsForbidden};
-ghost use Rattle.resolvo_sat.specs.SearchEnd.{IsNeedEncoded};
-ghost use Rattle.resolvo_encoder.specs.Encoded.{IsGuarded, IsLimitEncoded, IsParentEncoded, rules_of};
 ghost use Rattle.resolvo_encoder.specs.Base.{KeepsTurns};
-ghost use Rattle.resolvo_encoder.specs.Steps.{IsBuilt, Needs, AddsParent};
-ghost use Rattle.resolvo_turn.specs.Encoder.{IsRoot, AreRulesOf, IsInOrder, AddsNeeds, AddsAll, IsConditionalEncoded, StaysInOrderOf};
+ghost use Rattle.resolvo_encoder.specs.Steps.{IsBuilt, AddsParent};
+ghost use Rattle.resolvo_turn.specs.Encoder.{AddsNeeds, AddsAll, StaysInOrderOf};
+ghost use Rattle.resolvo_turn.specs.Effects.{ForbidsPackage, ForbidsPackages, GuardsRequirement, RequiresGuarded, RequiresPlain, RequiresOne, RequiresAll, LimitsOne, LimitsGuarded, LimitsAll, EncodesKnown, EncodesParent};
 
 use crate::defer::defer_need;
 use resolvo_encoder::encoder::Encoder;
@@ -52,14 +49,8 @@ fn forbid_package<A: PackageSource>(
     ensures same { answers.new ≡ answers.old }
     // After an answer.
     ensures encoded { OnOk result
-        ((root : Rules)
-        → IsInOrder A.SolvableId.eq (A.packages answers.old) (A.orders answers.old) root
-        encoding.old
-        → IsInOrder A.SolvableId.eq (A.packages answers.old) (A.orders answers.old) root
-        encoding.new
-        × ((s : A.SolvableId)
-        → IsForbiddenIn A.SolvableId.eq (A.packages answers.old) name s
-        → IsForbidden (rules_of encoding.new) s)) }
+        (ForbidsPackage A.SolvableId.eq A.PackageSource answers.old
+        name encoding.old encoding.new) }
     ensures kept { OnOk result (AddsNeeds encoding.old encoding.new) }
     ensures fired { OnOk result (encoding.new.fired ≡ encoding.old.fired) }
     ensures built { OnOk result (IsBuilt encoding.new) }
@@ -86,15 +77,8 @@ fn forbid_packages<A: PackageSource>(
     ensures same { answers.new ≡ answers.old }
     // After an answer.
     ensures encoded { OnOk result
-        ((root : Rules)
-        → IsInOrder A.SolvableId.eq (A.packages answers.old) (A.orders answers.old) root
-        encoding.old
-        → IsInOrder A.SolvableId.eq (A.packages answers.old) (A.orders answers.old) root
-        encoding.new
-        × ((name : A.NameId) (s : A.SolvableId)
-        → Contains names.now name
-        → IsForbiddenIn A.SolvableId.eq (A.packages answers.old) name s
-        → IsForbidden (rules_of encoding.new) s)) }
+        (ForbidsPackages A.SolvableId.eq A.PackageSource answers.old
+        names.now encoding.old encoding.new) }
     ensures kept { OnOk result (AddsNeeds encoding.old encoding.new) }
     ensures fired { OnOk result (encoding.new.fired ≡ encoding.old.fired) }
     ensures built { OnOk result (IsBuilt encoding.new) }
@@ -119,13 +103,8 @@ pub fn guard<A: PackageSource>(
     ensures same { answers.new ≡ answers.old }
     // After an answer.
     ensures encoded { OnOk result
-        ((root : Rules)
-        → IsInOrder A.SolvableId.eq (A.packages answers.old) (A.orders answers.old) root
-        encoding.old
-        → IsInOrder A.SolvableId.eq (A.packages answers.old) (A.orders answers.old) root
-        encoding.new
-        × IsGuarded A.SolvableId.eq (A.packages answers.old) (rules_of encoding.new)
-        requirement) }
+        (GuardsRequirement A.SolvableId.eq A.PackageSource answers.old
+        requirement encoding.old encoding.new) }
     ensures kept { OnOk result (AddsNeeds encoding.old encoding.new) }
     ensures fired { OnOk result (encoding.new.fired ≡ encoding.old.fired) }
     ensures built { OnOk result (IsBuilt encoding.new) }
@@ -150,16 +129,8 @@ fn require<A: PackageSource>(
     ensures same { answers.new ≡ answers.old }
     // After an answer.
     ensures encoded { OnOk result
-        ((root : Rules)
-        → IsInOrder A.SolvableId.eq (A.packages answers.old) (A.orders answers.old) root
-        encoding.old
-        → IsGuarded A.SolvableId.eq (A.packages answers.old) (rules_of encoding.old)
-        need.requirement
-        → Needs A.SolvableId.eq (A.packages answers.old) root parent need
-        → IsInOrder A.SolvableId.eq (A.packages answers.old) (A.orders answers.old) root
-        encoding.new
-        × IsNeedEncoded A.SolvableId.eq (A.packages answers.old) (rules_of encoding.new) parent
-        need []) }
+        (RequiresGuarded A.SolvableId.eq A.PackageSource answers.old
+        parent need encoding.old encoding.new) }
     ensures kept { OnOk result (AddsNeeds encoding.old encoding.new) }
     ensures built { OnOk result (IsBuilt encoding.new) }
     // After a refusal.
@@ -185,14 +156,8 @@ fn encode_plain_need<A: PackageSource>(
     ensures same { answers.new ≡ answers.old }
     // After an answer.
     ensures encoded { OnOk result
-        ((root : Rules)
-        → IsInOrder A.SolvableId.eq (A.packages answers.old) (A.orders answers.old) root
-        encoding.old
-        → Needs A.SolvableId.eq (A.packages answers.old) root parent need
-        → IsInOrder A.SolvableId.eq (A.packages answers.old) (A.orders answers.old) root
-        encoding.new
-        × IsNeedEncoded A.SolvableId.eq (A.packages answers.old) (rules_of encoding.new) parent
-        need []) }
+        (RequiresPlain A.SolvableId.eq A.PackageSource answers.old
+        parent need encoding.old encoding.new) }
     ensures kept { OnOk result (AddsNeeds encoding.old encoding.new) }
     ensures built { OnOk result (IsBuilt encoding.new) }
     // After a refusal.
@@ -216,15 +181,8 @@ fn encode_need<A: PackageSource>(
     ensures same { answers.new ≡ answers.old }
     // After an answer.
     ensures encoded { OnOk result
-        ((root : Rules)
-        → IsInOrder A.SolvableId.eq (A.packages answers.old) (A.orders answers.old) root
-        encoding.old
-        → Contains (rules_for A.SolvableId.eq (A.packages answers.old) root parent).requirements
-        need
-        → IsInOrder A.SolvableId.eq (A.packages answers.old) (A.orders answers.old) root
-        encoding.new
-        × IsConditionalEncoded A.SolvableId.eq (A.packages answers.old) encoding.new parent
-        need) }
+        (RequiresOne A.SolvableId.eq A.PackageSource answers.old
+        parent need encoding.old encoding.new) }
     ensures kept { OnOk result (AddsNeeds encoding.old encoding.new) }
     ensures built { OnOk result (IsBuilt encoding.new) }
     // After a refusal.
@@ -255,20 +213,8 @@ fn encode_needs<A: PackageSource>(
     ensures same { answers.new ≡ answers.old }
     // After an answer.
     ensures encoded { OnOk result
-        ((root : Rules)
-        → IsInOrder A.SolvableId.eq (A.packages answers.old) (A.orders answers.old) root
-        encoding.old
-        → ((need : ConditionalRequirement)
-        → Contains needs.now need
-        → Contains
-        (rules_for A.SolvableId.eq (A.packages answers.old) root parent).requirements
-        need)
-        → IsInOrder A.SolvableId.eq (A.packages answers.old) (A.orders answers.old) root
-        encoding.new
-        × ((need : ConditionalRequirement)
-        → Contains needs.now need
-        → IsConditionalEncoded A.SolvableId.eq (A.packages answers.old) encoding.new parent
-        need)) }
+        (RequiresAll A.SolvableId.eq A.PackageSource answers.old
+        parent needs.now encoding.old encoding.new) }
     ensures kept { OnOk result (AddsNeeds encoding.old encoding.new) }
     ensures built { OnOk result (IsBuilt encoding.new) }
     // After a refusal.
@@ -293,15 +239,8 @@ fn limit<A: PackageSource>(
     ensures same { answers.new ≡ answers.old }
     // After an answer.
     ensures encoded { OnOk result
-        ((root : Rules)
-        → IsInOrder A.SolvableId.eq (A.packages answers.old) (A.orders answers.old) root
-        encoding.old
-        → Contains (rules_for A.SolvableId.eq (A.packages answers.old) root parent).constraints
-        version_set
-        → IsInOrder A.SolvableId.eq (A.packages answers.old) (A.orders answers.old) root
-        encoding.new
-        × IsLimitEncoded A.SolvableId.eq (A.packages answers.old) (rules_of encoding.new)
-        parent version_set) }
+        (LimitsOne A.SolvableId.eq A.PackageSource answers.old
+        parent version_set encoding.old encoding.new) }
     ensures kept { OnOk result (AddsNeeds encoding.old encoding.new) }
     ensures built { OnOk result (IsBuilt encoding.new) }
     // After a refusal.
@@ -326,17 +265,8 @@ fn encode_limit<A: PackageSource>(
     ensures same { answers.new ≡ answers.old }
     // After an answer.
     ensures encoded { OnOk result
-        ((root : Rules)
-        → IsInOrder A.SolvableId.eq (A.packages answers.old) (A.orders answers.old) root
-        encoding.old
-        → Contains (rules_for A.SolvableId.eq (A.packages answers.old) root parent).constraints
-        version_set
-        → IsInOrder A.SolvableId.eq (A.packages answers.old) (A.orders answers.old) root
-        encoding.new
-        × IsLimitEncoded A.SolvableId.eq (A.packages answers.old) (rules_of encoding.new)
-        parent version_set
-        × IsGuarded A.SolvableId.eq (A.packages answers.old) (rules_of encoding.new)
-        (Single version_set)) }
+        (LimitsGuarded A.SolvableId.eq A.PackageSource answers.old
+        parent version_set encoding.old encoding.new) }
     ensures kept { OnOk result (AddsNeeds encoding.old encoding.new) }
     ensures built { OnOk result (IsBuilt encoding.new) }
     // After a refusal.
@@ -360,22 +290,8 @@ fn encode_limits<A: PackageSource>(
     ensures same { answers.new ≡ answers.old }
     // After an answer.
     ensures encoded { OnOk result
-        ((root : Rules)
-        → IsInOrder A.SolvableId.eq (A.packages answers.old) (A.orders answers.old) root
-        encoding.old
-        → ((version_set : VersionSetId)
-        → Contains constraints.now version_set
-        → Contains
-        (rules_for A.SolvableId.eq (A.packages answers.old) root parent).constraints
-        version_set)
-        → IsInOrder A.SolvableId.eq (A.packages answers.old) (A.orders answers.old) root
-        encoding.new
-        × ((version_set : VersionSetId)
-        → Contains constraints.now version_set
-        → IsLimitEncoded A.SolvableId.eq (A.packages answers.old) (rules_of encoding.new)
-        parent version_set
-        × IsGuarded A.SolvableId.eq (A.packages answers.old) (rules_of encoding.new)
-        (Single version_set))) }
+        (LimitsAll A.SolvableId.eq A.PackageSource answers.old
+        parent constraints.now encoding.old encoding.new) }
     ensures kept { OnOk result (AddsNeeds encoding.old encoding.new) }
     ensures built { OnOk result (IsBuilt encoding.new) }
     // After a refusal.
@@ -401,14 +317,8 @@ fn encode_rules<A: PackageSource>(
     ensures same { answers.new ≡ answers.old }
     // After an answer.
     ensures encoded { OnOk result
-        ((root : Rules)
-        → AreRulesOf A.SolvableId.eq (A.packages answers.old) root parent requirements.now
-        constraints.now
-        → IsInOrder A.SolvableId.eq (A.packages answers.old) (A.orders answers.old) root
-        encoding.old
-        → IsInOrder A.SolvableId.eq (A.packages answers.old) (A.orders answers.old) root
-        encoding.new
-        × IsParentEncoded A.SolvableId.eq (A.packages answers.old) encoding.new root parent) }
+        (EncodesKnown A.SolvableId.eq A.PackageSource answers.old
+        parent requirements.now constraints.now encoding.old encoding.new) }
     ensures kept { OnOk result (AddsNeeds encoding.old encoding.new) }
     ensures built { OnOk result (IsBuilt encoding.new) }
     // After a refusal.
@@ -433,14 +343,8 @@ fn encode_parent<A: PackageSource>(
     ensures same { answers.new ≡ answers.old }
     // After an answer.
     ensures encoded { OnOk result
-        ((root : Rules)
-        → IsRoot requirements.now constraints.now root
-        → IsInOrder A.SolvableId.eq (A.packages answers.old) (A.orders answers.old) root
-        encoding.old
-        → IsInOrder A.SolvableId.eq (A.packages answers.old) (A.orders answers.old) root
-        encoding.new
-        × IsParentEncoded A.SolvableId.eq (A.packages answers.old) encoding.new root
-        (solvable_of parent)) }
+        (EncodesParent A.SolvableId.eq A.PackageSource answers.old
+        requirements.now constraints.now (solvable_of parent) encoding.old encoding.new) }
     ensures kept { OnOk result (AddsNeeds encoding.old encoding.new) }
     ensures built { OnOk result (IsBuilt encoding.new) }
     // After a refusal.
@@ -484,9 +388,8 @@ pub fn encode_parents<A: PackageSource>(
     ensures same { answers.new ≡ answers.old }
     // After an answer.
     ensures encoded { OnOk result
-        (StaysInOrderOf requirements.now constraints.now
-        A.SolvableId.eq (A.packages answers.old) (A.orders answers.old)
-        encoding.old encoding.new) }
+        (StaysInOrderOf A.SolvableId.eq A.PackageSource answers.old
+        requirements.now constraints.now encoding.old encoding.new) }
     ensures all { OnOk result (AddsAll encoding.old encoding.new) }
     ensures turn { OnOk result (KeepsTurns encoding.old encoding.new) }
     ensures built { OnOk result (IsBuilt encoding.new) }

@@ -1,16 +1,13 @@
 //! Cases of conditions that hold become clauses. Each was deferred until all its version sets had a
 //! chosen match.
-ghost use Rattle.std.specs.Prelude.{◌≡◌, ◌<◌, ℕ, true, false, length, IfOk, IfErr, OnOk, Contains};
+ghost use Rattle.std.specs.Prelude.{◌≡◌, ◌<◌, true, false, length, IfOk, IfErr, OnOk, Contains};
 ghost use Rattle.resolvo_pool.specs.Cached.{IsCancelledBy};
-ghost use Rattle.resolvo_pool_core.specs.RuleKeeping.{Rules, rules_for};
-ghost use Rattle.resolvo_sat.specs.Encoding.{cases_for};
-ghost use Rattle.resolvo_sat.specs.SearchEnd.{IsNeedEncoded};
 ghost use Rattle.resolvo_encoder.specs.Conditions.{IsSet, AreSets, sets_case};
 ghost use Rattle.resolvo_encoder.specs.Conditions.{IsSpent, AreSpent};
-ghost use Rattle.resolvo_encoder.specs.Encoded.{rules_of, IsGuarded};
 ghost use Rattle.resolvo_encoder.specs.Steps.{IsBuilt};
-ghost use Rattle.resolvo_turn.specs.Encoder.{IsInOrder, AddsNeeds, StaysInOrder};
+ghost use Rattle.resolvo_turn.specs.Encoder.{AddsNeeds, StaysInOrder};
 ghost use Rattle.resolvo_turn.specs.Turn.{FiresMore};
+ghost use Rattle.resolvo_turn.specs.Effects.{RequiresGuardedCase, RequiresCase};
 
 use crate::encode::{add_available, guard};
 use resolvo_encoder::conditions::{ConditionSet, DeferredRequirement};
@@ -72,19 +69,8 @@ fn add_case<A: PackageSource>(
     ensures same { answers.new ≡ answers.old }
     // After an answer.
     ensures encoded { OnOk result
-        ((root : Rules)
-        → IsInOrder A.SolvableId.eq (A.packages answers.old) (A.orders answers.old) root
-        encoding.old
-        → IsGuarded A.SolvableId.eq (A.packages answers.old) (rules_of encoding.old)
-        need.requirement
-        → AreSets A.SolvableId.eq (A.packages answers.old) sets.now
-        → Contains (rules_for A.SolvableId.eq (A.packages answers.old) root parent).requirements
-        need
-        → Contains (cases_for A.SolvableId.eq (A.packages answers.old) need) (sets_case sets.now)
-        → IsInOrder A.SolvableId.eq (A.packages answers.old) (A.orders answers.old) root
-        encoding.new
-        × IsNeedEncoded A.SolvableId.eq (A.packages answers.old) (rules_of encoding.new) parent
-        need (sets_case sets.now)) }
+        (RequiresGuardedCase A.SolvableId.eq A.PackageSource answers.old
+        parent need sets.now encoding.old encoding.new) }
     ensures kept { OnOk result (AddsNeeds encoding.old encoding.new) }
     ensures fired { OnOk result (encoding.new.fired ≡ encoding.old.fired) }
     ensures built { OnOk result (IsBuilt encoding.new) }
@@ -111,16 +97,8 @@ fn encode_case<A: PackageSource>(
     ensures same { answers.new ≡ answers.old }
     // After an answer.
     ensures encoded { OnOk result
-        ((root : Rules)
-        → IsInOrder A.SolvableId.eq (A.packages answers.old) (A.orders answers.old) root
-        encoding.old
-        → Contains (rules_for A.SolvableId.eq (A.packages answers.old) root parent).requirements
-        need
-        → Contains (cases_for A.SolvableId.eq (A.packages answers.old) need) case.now
-        → IsInOrder A.SolvableId.eq (A.packages answers.old) (A.orders answers.old) root
-        encoding.new
-        × IsNeedEncoded A.SolvableId.eq (A.packages answers.old) (rules_of encoding.new) parent
-        need case.now) }
+        (RequiresCase A.SolvableId.eq A.PackageSource answers.old
+        parent need case.now encoding.old encoding.new) }
     ensures kept { OnOk result (AddsNeeds encoding.old encoding.new) }
     ensures fired { OnOk result (encoding.new.fired ≡ encoding.old.fired) }
     ensures built { OnOk result (IsBuilt encoding.new) }
@@ -147,8 +125,7 @@ fn fire<A: PackageSource>(
     ensures same { answers.new ≡ answers.old }
     // After an answer.
     ensures stays { OnOk result
-        (StaysInOrder A.SolvableId.eq (A.packages answers.old) (A.orders answers.old)
-        encoding.old encoding.new) }
+        (StaysInOrder A.SolvableId.eq A.PackageSource answers.old encoding.old encoding.new) }
     ensures kept { OnOk result (AddsNeeds encoding.old encoding.new) }
     ensures fires { OnOk result (FiresMore encoding.old encoding.new) }
     ensures built { OnOk result (IsBuilt encoding.new) }
@@ -173,8 +150,7 @@ fn fire_if_due<A: PackageSource>(
     ensures same { answers.new ≡ answers.old }
     // After an answer.
     ensures stays { OnOk result
-        (StaysInOrder A.SolvableId.eq (A.packages answers.old) (A.orders answers.old)
-        encoding.old encoding.new) }
+        (StaysInOrder A.SolvableId.eq A.PackageSource answers.old encoding.old encoding.new) }
     ensures kept { OnOk result (AddsNeeds encoding.old encoding.new) }
     ensures fires { IfOk result (λ b. b ≡ true → FiresMore encoding.old encoding.new) }
     ensures spent { IfOk result
@@ -203,8 +179,7 @@ pub fn fire_cases<A: PackageSource>(
     ensures same { answers.new ≡ answers.old }
     // After an answer.
     ensures stays { OnOk result
-        (StaysInOrder A.SolvableId.eq (A.packages answers.old) (A.orders answers.old)
-        encoding.old encoding.new) }
+        (StaysInOrder A.SolvableId.eq A.PackageSource answers.old encoding.old encoding.new) }
     ensures kept { OnOk result (AddsNeeds encoding.old encoding.new) }
     ensures fires { IfOk result (λ b. b ≡ true → FiresMore encoding.old encoding.new) }
     ensures spent { IfOk result
@@ -235,8 +210,7 @@ pub fn fire_each<A: PackageSource>(
     ensures same { answers.new ≡ answers.old }
     // After an answer.
     ensures stays { OnOk result
-        (StaysInOrder A.SolvableId.eq (A.packages answers.old) (A.orders answers.old)
-        encoding.old encoding.new) }
+        (StaysInOrder A.SolvableId.eq A.PackageSource answers.old encoding.old encoding.new) }
     ensures kept { OnOk result (AddsNeeds encoding.old encoding.new) }
     ensures fires { IfOk result (λ b. b ≡ true → FiresMore encoding.old encoding.new) }
     ensures unchanged { IfOk result (λ b. b ≡ false → encoding.new ≡ encoding.old) }

@@ -10,3 +10,4 @@ pub mod encode;
 pub mod fire;
 pub mod scan;
 pub mod turn;
+pub mod turn_input;

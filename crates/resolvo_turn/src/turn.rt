@@ -16,6 +16,7 @@ use crate::chosen::chosen_in_turn;
 use crate::encode::encode_parents;
 use crate::fire::{fire_cases, fire_each};
 use crate::scan::{Scan, find_touched, mark_all};
+use crate::turn_input::TurnInput;
 use resolvo_decide::scores::Scores;
 use resolvo_encoder::encoder::Encoder;
 use resolvo_packages::package_source::PackageSource;
@@ -29,14 +30,6 @@ use resolvo_sat::state::SatState;
 use std::alloc::Global;
 use std::fmt::Debug;
 use std::hash::Hash;
-
-/// The goal of a turn: the root's rules, and the soft requirement, unless the turn is the root's.
-#[derive(Debug, Drop)]
-struct Aim<'a> {
-    requirements: &'a [ConditionalRequirement],
-    constraints: &'a [VersionSetId],
-    soft: Option<VariableId>,
-}
 
 /// Adds each solvable that was chosen in the turn as a parent, in the order of the trail. Those of
 /// earlier turns are parents.
@@ -99,9 +92,8 @@ fn encode<A: PackageSource>(
     ensures same { answers.new ≡ answers.old }
     // After an answer.
     ensures encoded { OnOk result
-        (StaysInOrderOf requirements.now constraints.now
-        A.SolvableId.eq (A.packages answers.old) (A.orders answers.old)
-        encoding.old encoding.new) }
+        (StaysInOrderOf A.SolvableId.eq A.PackageSource answers.old
+        requirements.now constraints.now encoding.old encoding.new) }
     ensures all { OnOk result (AddsAll encoding.old encoding.new) }
     ensures turn { OnOk result (KeepsTurns encoding.old encoding.new) }
     ensures built { OnOk result (IsBuilt encoding.new) }
@@ -127,8 +119,7 @@ fn fire<A: PackageSource>(
     ensures same { answers.new ≡ answers.old }
     // After an answer.
     ensures stays { OnOk result
-        (StaysInOrder A.SolvableId.eq (A.packages answers.old) (A.orders answers.old)
-        encoding.old encoding.new) }
+        (StaysInOrder A.SolvableId.eq A.PackageSource answers.old encoding.old encoding.new) }
     ensures adds { OnOk result (AddsNeeds encoding.old encoding.new) }
     ensures fires { IfOk result (λ b. b ≡ true → FiresMore encoding.old encoding.new) }
     ensures spent { IfOk result
@@ -182,8 +173,7 @@ fn choose_and_decide<A: PackageSource, C: ScoreMap<A::NameId>>(
     requires turn { HasTurn soft encoding.old }
     // After an answer.
     ensures stays { OnOk result
-        (StaysInOrder A.SolvableId.eq (A.packages answers.now) (A.orders answers.now)
-        encoding.old encoding.new) }
+        (StaysInOrder A.SolvableId.eq A.PackageSource answers.now encoding.old encoding.new) }
     ensures goes_on { OnOk result (GoesOn encoding.old encoding.new) }
     ensures turn { OnOk result (KeepsTurn soft encoding.old encoding.new) }
     ensures decided { IfOk result (IsDecisionOf soft encoding.new) }
@@ -205,22 +195,21 @@ fn encode_and_decide<A: PackageSource, C: ScoreMap<A::NameId>>(
     answers: &mut A,
     encoding: &mut Encoder<A::NameId, A::SolvableId>,
     scores: &mut Scores<A::NameId, C>,
-    activity: Activity,
-    aim: &Aim<'_>,
+    input: &TurnInput<'_>,
+    soft: Option<VariableId>,
     scan: &mut Scan<A::NameId>,
 ) -> Result<Option<FinalConflict>, CacheFault<A::Cancel>>
     requires built { IsBuilt encoding.old }
-    requires turn { HasTurn aim.now.soft encoding.old }
+    requires turn { HasTurn soft encoding.old }
     // Whatever the answer.
     ensures same { answers.new ≡ answers.old }
     // After an answer.
     ensures stays { OnOk result
-        (StaysInOrderOf aim.now.requirements.now aim.now.constraints.now
-        A.SolvableId.eq (A.packages answers.old) (A.orders answers.old)
-        encoding.old encoding.new) }
+        (StaysInOrderOf A.SolvableId.eq A.PackageSource answers.old
+        input.now.requirements.now input.now.constraints.now encoding.old encoding.new) }
     ensures all { OnOk result (AddsAll encoding.old encoding.new) }
-    ensures turn { OnOk result (KeepsTurn aim.now.soft encoding.old encoding.new) }
-    ensures decided { IfOk result (IsDecisionOf aim.now.soft encoding.new) }
+    ensures turn { OnOk result (KeepsTurn soft encoding.old encoding.new) }
+    ensures decided { IfOk result (IsDecisionOf soft encoding.new) }
     ensures built { OnOk result (IsBuilt encoding.new) }
     // After a refusal.
     ensures cancelled { IfErr result (IsCancelledBy (A.may_cancel answers.old)) }
@@ -229,11 +218,12 @@ fn encode_and_decide<A: PackageSource, C: ScoreMap<A::NameId>>(
         alloc,
         answers,
         encoding,
-        aim.requirements,
-        aim.constraints,
+        input.requirements,
+        input.constraints,
         scan,
     )?;
-    let refusal = choose_and_decide(alloc, answers, encoding, scores, activity, aim.soft, scan)?;
+    let activity = input.activity;
+    let refusal = choose_and_decide(alloc, answers, encoding, scores, activity, soft, scan)?;
     Ok(refusal)
 }
 
@@ -269,8 +259,7 @@ fn fire_touched<A: PackageSource>(
     ensures same { answers.new ≡ answers.old }
     // After an answer.
     ensures stays { OnOk result
-        (StaysInOrder A.SolvableId.eq (A.packages answers.old) (A.orders answers.old)
-        encoding.old encoding.new) }
+        (StaysInOrder A.SolvableId.eq A.PackageSource answers.old encoding.old encoding.new) }
     ensures adds { OnOk result (AddsNeeds encoding.old encoding.new) }
     ensures fires { IfOk result (λ b. b ≡ true → FiresMore encoding.old encoding.new) }
     ensures unchanged { IfOk result (λ b. b ≡ false → encoding.new ≡ encoding.old) }
@@ -305,8 +294,7 @@ fn scan_new<A: PackageSource>(
     ensures same { answers.new ≡ answers.old }
     // After an answer.
     ensures stays { OnOk result
-        (StaysInOrder A.SolvableId.eq (A.packages answers.old) (A.orders answers.old)
-        encoding.old encoding.new) }
+        (StaysInOrder A.SolvableId.eq A.PackageSource answers.old encoding.old encoding.new) }
     ensures adds { OnOk result (AddsNeeds encoding.old encoding.new) }
     ensures more { IfOk result (λ b. b ≡ true → FindsMore encoding.old encoding.new) }
     ensures none { IfOk result (λ b. b ≡ false → AddsParent encoding.old encoding.new) }
@@ -336,8 +324,7 @@ fn scan_all<A: PackageSource>(
     ensures same { answers.new ≡ answers.old }
     // After an answer.
     ensures stays { OnOk result
-        (StaysInOrder A.SolvableId.eq (A.packages answers.old) (A.orders answers.old)
-        encoding.old encoding.new) }
+        (StaysInOrder A.SolvableId.eq A.PackageSource answers.old encoding.old encoding.new) }
     ensures adds { OnOk result (AddsNeeds encoding.old encoding.new) }
     ensures more { IfOk result (λ b. b ≡ true → FindsMore encoding.old encoding.new) }
     ensures none { IfOk result
@@ -372,29 +359,28 @@ fn run_round<A: PackageSource, C: ScoreMap<A::NameId>>(
     answers: &mut A,
     encoding: &mut Encoder<A::NameId, A::SolvableId>,
     scores: &mut Scores<A::NameId, C>,
-    activity: Activity,
-    aim: &Aim<'_>,
+    input: &TurnInput<'_>,
+    soft: Option<VariableId>,
     scan: &mut Scan<A::NameId>,
 ) -> Result<Round, CacheFault<A::Cancel>>
     requires built { IsBuilt encoding.old }
     requires rooted { IsRooted encoding.old }
-    requires turn { HasTurn aim.now.soft encoding.old }
+    requires turn { HasTurn soft encoding.old }
     requires taken { AreTakenParents encoding.old }
     // Whatever the answer.
     ensures same { answers.new ≡ answers.old }
     // After an answer.
     ensures stays { OnOk result
-        (StaysInOrderOf aim.now.requirements.now aim.now.constraints.now
-        A.SolvableId.eq (A.packages answers.old) (A.orders answers.old)
-        encoding.old encoding.new) }
+        (StaysInOrderOf A.SolvableId.eq A.PackageSource answers.old
+        input.now.requirements.now input.now.constraints.now encoding.old encoding.new) }
     ensures adds { OnOk result (AddsParents encoding.old encoding.new) }
-    ensures turn { OnOk result (KeepsTurn aim.now.soft encoding.old encoding.new) }
-    ensures round { IfOk result (IsRound A.SolvableId.eq aim.now.soft encoding.old encoding.new) }
+    ensures turn { OnOk result (KeepsTurn soft encoding.old encoding.new) }
+    ensures round { IfOk result (IsRound A.SolvableId.eq soft encoding.old encoding.new) }
     ensures built { OnOk result (IsBuilt encoding.new) }
     // After a refusal.
     ensures cancelled { IfErr result (IsCancelledBy (A.may_cancel answers.old)) }
 {
-    let decided = encode_and_decide(alloc, answers, encoding, scores, activity, aim, scan)?;
+    let decided = encode_and_decide(alloc, answers, encoding, scores, input, soft, scan)?;
     if let Some(refusal) = decided {
         return Ok(Round::Refused(refusal));
     }
@@ -416,9 +402,7 @@ pub fn run_turn<A: PackageSource, C: ScoreMap<A::NameId>>(
     answers: &mut A,
     encoding: &mut Encoder<A::NameId, A::SolvableId>,
     scores: &mut Scores<A::NameId, C>,
-    activity: Activity,
-    requirements: &[ConditionalRequirement],
-    constraints: &[VersionSetId],
+    input: &TurnInput<'_>,
     soft: Option<VariableId>,
 ) -> Result<Option<FinalConflict>, CacheFault<A::Cancel>>
     requires built { IsBuilt encoding.old }
@@ -429,9 +413,8 @@ pub fn run_turn<A: PackageSource, C: ScoreMap<A::NameId>>(
     ensures same { answers.new ≡ answers.old }
     // After an answer.
     ensures stays { OnOk result
-        (StaysInOrderOf requirements.now constraints.now
-        A.SolvableId.eq (A.packages answers.old) (A.orders answers.old)
-        encoding.old encoding.new) }
+        (StaysInOrderOf A.SolvableId.eq A.PackageSource answers.old
+        input.now.requirements.now input.now.constraints.now encoding.old encoding.new) }
     ensures adds { OnOk result (AddsParents encoding.old encoding.new) }
     ensures turn { OnOk result (KeepsTurn soft encoding.old encoding.new) }
     ensures ended { IfOk result (IsTurn A.SolvableId.eq soft encoding.new) }
@@ -439,14 +422,9 @@ pub fn run_turn<A: PackageSource, C: ScoreMap<A::NameId>>(
     // After a refusal.
     ensures cancelled { IfErr result (IsCancelledBy (A.may_cancel answers.old)) }
 {
-    let aim = Aim {
-        requirements,
-        constraints,
-        soft,
-    };
     let mut scan = Scan::begin(alloc, encoding.coding.search.tracker.stack().len());
     loop {
-        match run_round(alloc, answers, encoding, scores, activity, &aim, &mut scan)? {
+        match run_round(alloc, answers, encoding, scores, input, soft, &mut scan)? {
             Round::Continues => {}
             Round::Complete => return Ok(None),
             Round::Refused(refusal) => return Ok(Some(refusal)),

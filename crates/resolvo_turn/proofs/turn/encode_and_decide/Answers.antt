@@ -14,7 +14,7 @@ pub returns-clause-all : goal.returns-clause-all
 returns-clause-all g c = all_goes c.args.encoding.now c.encode.new.encoding c.choose_and_decide.new.encoding c.in_ok-encode.ensures.all c.in_ok-refusal.ensures.goes_on
 
 pub choose_and_decide-requires-clause-turn : goal.choose_and_decide-requires-clause-turn
-choose_and_decide-requires-clause-turn g c = turn_has c.args.aim.now.soft c.args.encoding.now c.encode.new.encoding c.requires.turn (c.in_ok-encode.ensures.turn c.args.aim.now.soft)
+choose_and_decide-requires-clause-turn g c = turn_has c.args.soft c.args.encoding.now c.encode.new.encoding c.requires.turn (c.in_ok-encode.ensures.turn c.args.soft)
 
 pub returns-clause-turn : goal.returns-clause-turn
-returns-clause-turn g c = turn_then c.args.aim.now.soft c.args.encoding.now c.encode.new.encoding c.choose_and_decide.new.encoding (c.in_ok-encode.ensures.turn c.args.aim.now.soft) c.in_ok-refusal.ensures.turn
+returns-clause-turn g c = turn_then c.args.soft c.args.encoding.now c.encode.new.encoding c.choose_and_decide.new.encoding (c.in_ok-encode.ensures.turn c.args.soft) c.in_ok-refusal.ensures.turn

@@ -27,7 +27,7 @@ pub returns-in-Some-clause-built : goal.returns-in-Some-clause-built
 returns-in-Some-clause-built g c = c.in_ok-decided.ensures.built
 
 pub returns-in-Some-clause-round : goal.returns-in-Some-clause-round
-returns-in-Some-clause-round g c = subst (λ (o : Option FinalConflict). IsDecisionOf c.args.aim.now.soft c.encode_and_decide.new.encoding o) c.in-Some.is c.in_ok-decided.ensures.decided
+returns-in-Some-clause-round g c = subst (λ (o : Option FinalConflict). IsDecisionOf c.args.soft c.encode_and_decide.new.encoding o) c.in-Some.is c.in_ok-decided.ensures.decided
 
 -- ---- where something new was found
 
@@ -48,7 +48,7 @@ returns-then-has_new-clause-adds g c =
 
 pub returns-then-has_new-clause-turn : goal.returns-then-has_new-clause-turn
 returns-then-has_new-clause-turn g c =
-    turn_then c.args.aim.now.soft c.args.encoding.now c.encode_and_decide.new.encoding c.scan_new.new.encoding c.in_ok-decided.ensures.turn (c.in_ok-has_new.ensures.adds.turn c.args.aim.now.soft)
+    turn_then c.args.soft c.args.encoding.now c.encode_and_decide.new.encoding c.scan_new.new.encoding c.in_ok-decided.ensures.turn (c.in_ok-has_new.ensures.adds.turn c.args.soft)
 
 pub returns-then-has_new-clause-round : goal.returns-then-has_new-clause-round
 returns-then-has_new-clause-round g c =
@@ -65,7 +65,7 @@ scan_all-requires-clause-taken g c =
     let b = c.encode_and_decide.new.encoding in
     let d = c.scan_new.new.encoding in
     let adds = c.in_ok-has_new.ensures.adds in
-    taken_kept c.args.aim.now.soft c.args.encoding.now d c.requires.built c.in_ok-has_new.ensures.built c.requires.turn (turn_then c.args.aim.now.soft c.args.encoding.now b d c.in_ok-decided.ensures.turn (adds.turn c.args.aim.now.soft))
+    taken_kept c.args.soft c.args.encoding.now d c.requires.built c.in_ok-has_new.ensures.built c.requires.turn (turn_then c.args.soft c.args.encoding.now b d c.in_ok-decided.ensures.turn (adds.turn c.args.soft))
     (all_then c.args.encoding.now b d c.in_ok-decided.ensures.all.adds (needs_parents b d adds)) c.requires.taken
 
 -- ---- where something more was found
@@ -90,8 +90,8 @@ returns-then-has_more-clause-adds g c =
 
 pub returns-then-has_more-clause-turn : goal.returns-then-has_more-clause-turn
 returns-then-has_more-clause-turn g c =
-    turn_then c.args.aim.now.soft c.args.encoding.now c.encode_and_decide.new.encoding c.scan_all.new.encoding c.in_ok-decided.ensures.turn
-    ((needs_then c.encode_and_decide.new.encoding c.scan_new.new.encoding c.scan_all.new.encoding c.in_ok-has_new.ensures.adds c.in_ok-has_more.ensures.adds).turn c.args.aim.now.soft)
+    turn_then c.args.soft c.args.encoding.now c.encode_and_decide.new.encoding c.scan_all.new.encoding c.in_ok-decided.ensures.turn
+    ((needs_then c.encode_and_decide.new.encoding c.scan_new.new.encoding c.scan_all.new.encoding c.in_ok-has_new.ensures.adds c.in_ok-has_more.ensures.adds).turn c.args.soft)
 
 pub returns-then-has_more-clause-round : goal.returns-then-has_more-clause-round
 returns-then-has_more-clause-round g c =
@@ -125,15 +125,15 @@ returns-else-has_more-clause-adds g c =
 
 pub returns-else-has_more-clause-turn : goal.returns-else-has_more-clause-turn
 returns-else-has_more-clause-turn g c =
-    turn_then c.args.aim.now.soft c.args.encoding.now c.encode_and_decide.new.encoding c.scan_all.new.encoding c.in_ok-decided.ensures.turn
-    ((needs_then c.encode_and_decide.new.encoding c.scan_new.new.encoding c.scan_all.new.encoding c.in_ok-has_new.ensures.adds c.in_ok-has_more.ensures.adds).turn c.args.aim.now.soft)
+    turn_then c.args.soft c.args.encoding.now c.encode_and_decide.new.encoding c.scan_all.new.encoding c.in_ok-decided.ensures.turn
+    ((needs_then c.encode_and_decide.new.encoding c.scan_new.new.encoding c.scan_all.new.encoding c.in_ok-has_new.ensures.adds c.in_ok-has_more.ensures.adds).turn c.args.soft)
 
 pub returns-else-has_more-clause-round : goal.returns-else-has_more-clause-round
 returns-else-has_more-clause-round g c =
     let b = c.encode_and_decide.new.encoding in
     let found = c.in_ok-has_more.ensures.none c.if-has_more.false in
-    round_complete g.A.SolvableId.PartialEq.eq c.args.encoding.now b c.scan_all.new.encoding c.requires.rooted c.in_ok-decided.ensures.all (chosen_then b c.scan_new.new.encoding c.scan_all.new.encoding (c.in_ok-has_new.ensures.none c.if-has_new.false) found.chosen) c.args.aim.now.soft
-    (subst (λ (o : Option FinalConflict). IsDecisionOf c.args.aim.now.soft b o) c.in_default.is c.in_ok-decided.ensures.decided) found.none found.spent
+    round_complete g.A.SolvableId.PartialEq.eq c.args.encoding.now b c.scan_all.new.encoding c.requires.rooted c.in_ok-decided.ensures.all (chosen_then b c.scan_new.new.encoding c.scan_all.new.encoding (c.in_ok-has_new.ensures.none c.if-has_new.false) found.chosen) c.args.soft
+    (subst (λ (o : Option FinalConflict). IsDecisionOf c.args.soft b o) c.in_default.is c.in_ok-decided.ensures.decided) found.none found.spent
 
 pub returns-else-has_more-clause-built : goal.returns-else-has_more-clause-built
 returns-else-has_more-clause-built g c = c.in_ok-has_more.ensures.built

@@ -29,7 +29,7 @@ pub loop-scan-preserved : goal.loop-scan-preserved
 loop-scan-preserved g c =
     let same = g.A.SolvableId.PartialEq.eq in
     let before = c.loop-scan.invariant in
-    let stays = subst (λ (a : g.row.A.Denot). (root : Rules) → IsRoot c.args.requirements.now c.args.constraints.now root → IsInOrder same (g.A.PackageSource.packages a) (g.A.PackageSource.orders a) root c.loop-scan.encoding
+    let stays = subst (λ (a : g.row.A.Denot). (root : Rules) → IsRoot c.args.input.now.requirements.now c.args.input.now.constraints.now root → IsInOrder same (g.A.PackageSource.packages a) (g.A.PackageSource.orders a) root c.loop-scan.encoding
     → IsInOrder same (g.A.PackageSource.packages a) (g.A.PackageSource.orders a) root c.run_round.new.encoding) before.same c.in_ok-run_round.ensures.stays in
     record {
       same = c.in_ok-run_round.ensures.same ∙ before.same;
@@ -44,7 +44,7 @@ loop-scan-preserved g c =
 pub returns-in-Complete-clause-stays : goal.returns-in-Complete-clause-stays
 returns-in-Complete-clause-stays g c = λ root is e.
     let same = g.A.SolvableId.PartialEq.eq in
-    (subst (λ (a : g.row.A.Denot). (root : Rules) → IsRoot c.args.requirements.now c.args.constraints.now root → IsInOrder same (g.A.PackageSource.packages a) (g.A.PackageSource.orders a) root c.loop-scan.encoding
+    (subst (λ (a : g.row.A.Denot). (root : Rules) → IsRoot c.args.input.now.requirements.now c.args.input.now.constraints.now root → IsInOrder same (g.A.PackageSource.packages a) (g.A.PackageSource.orders a) root c.loop-scan.encoding
     → IsInOrder same (g.A.PackageSource.packages a) (g.A.PackageSource.orders a) root c.run_round.new.encoding) c.loop-scan.invariant.same c.in_ok-run_round.ensures.stays) root is (c.loop-scan.invariant.stays root is e)
 
 pub returns-in-Complete-clause-same : goal.returns-in-Complete-clause-same
@@ -59,7 +59,7 @@ returns-in-Complete-clause-ended g c = subst (λ (r : Round). IsRound g.A.Solvab
 pub returns-in-Refused-clause-stays : goal.returns-in-Refused-clause-stays
 returns-in-Refused-clause-stays g c = λ root is e.
     let same = g.A.SolvableId.PartialEq.eq in
-    (subst (λ (a : g.row.A.Denot). (root : Rules) → IsRoot c.args.requirements.now c.args.constraints.now root → IsInOrder same (g.A.PackageSource.packages a) (g.A.PackageSource.orders a) root c.loop-scan.encoding
+    (subst (λ (a : g.row.A.Denot). (root : Rules) → IsRoot c.args.input.now.requirements.now c.args.input.now.constraints.now root → IsInOrder same (g.A.PackageSource.packages a) (g.A.PackageSource.orders a) root c.loop-scan.encoding
     → IsInOrder same (g.A.PackageSource.packages a) (g.A.PackageSource.orders a) root c.run_round.new.encoding) c.loop-scan.invariant.same c.in_ok-run_round.ensures.stays) root is (c.loop-scan.invariant.stays root is e)
 
 pub returns-in-Refused-clause-same : goal.returns-in-Refused-clause-same

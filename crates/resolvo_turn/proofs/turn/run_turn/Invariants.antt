@@ -10,7 +10,7 @@ use Rattle.resolvo_turn.proofs.turn.run_turn.Given as goal
 abbrev pub invariant-loop-scan : goal.invariant-loop-scan
 invariant-loop-scan g l = record {
   same : l.answers ≡ l.initial.answers;
-  stays : (root : Rules) → IsRoot l.requirements l.constraints root → IsInOrder g.A.SolvableId.PartialEq.eq (g.A.PackageSource.packages l.initial.answers) (g.A.PackageSource.orders l.initial.answers) root l.initial.encoding
+  stays : (root : Rules) → IsRoot l.input.requirements.now l.input.constraints.now root → IsInOrder g.A.SolvableId.PartialEq.eq (g.A.PackageSource.packages l.initial.answers) (g.A.PackageSource.orders l.initial.answers) root l.initial.encoding
       → IsInOrder g.A.SolvableId.PartialEq.eq (g.A.PackageSource.packages l.initial.answers) (g.A.PackageSource.orders l.initial.answers) root l.encoding;
   adds : AddsParents l.initial.encoding l.encoding;
   built : IsBuilt l.encoding;

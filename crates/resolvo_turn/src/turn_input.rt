@@ -1,7 +1,7 @@
 //! The input of the turns of a search.
+use crate::cdcl::Activity;
 use resolvo_pool_core::id::VersionSetId;
 use resolvo_pool_core::requirement::ConditionalRequirement;
-use resolvo_turn::cdcl::Activity;
 
 /// The input of each turn of a search: the activity, and the root's rules.
 #[derive(Drop)]

@@ -1,0 +1,134 @@
+-- What a call that encodes does, over a source of packages with these ghost members. In each an
+-- encoding in order stays one, and has more.
+use Rattle.std.specs.Prelude.{Bool, List, [], Option, Contains}
+use Rattle.resolvo_pool_core.specs.declared.id.VersionSetId.{VersionSetId}
+use Rattle.resolvo_pool_core.specs.declared.requirement.ConditionalRequirement.{ConditionalRequirement}
+use Rattle.resolvo_pool_core.specs.declared.requirement.Requirement.{Requirement}
+use Rattle.resolvo_pool_core.specs.declared.requirement.Requirement.TheVariants.{Single}
+use Rattle.resolvo_pool_core.specs.RuleKeeping.{Rules, rules_for}
+use Rattle.resolvo_packages.specs.declared.package_source.PackageSource as source
+use Rattle.resolvo_sat.specs.Encoding.{IsForbiddenIn, IsForbidden, cases_for}
+use Rattle.resolvo_sat.specs.SearchEnd.{IsNeedEncoded}
+use Rattle.resolvo_encoder.specs.declared.conditions.ConditionSet.{ConditionSet}
+use Rattle.resolvo_encoder.specs.declared.encoder.Encoder.{Encoder}
+use Rattle.resolvo_encoder.specs.Cases.{IsDeferred, AreSets, sets_case}
+use Rattle.resolvo_encoder.specs.Encoded.{IsGuarded, IsLimitEncoded, IsParentEncoded, rules_of}
+use Rattle.resolvo_encoder.specs.Steps.{Needs}
+use Rattle.resolvo_turn.specs.Encoder.{IsRoot, AreRulesOf, IsInOrderBy, AreDeferred, IsConditionalEncoded}
+
+module _ {A N S C : Type 0} (same : S → S → Bool) (g : source.Ghosts A N S C) (a : A) where
+  -- ---- locks and exclusions
+
+  -- those of the package are clauses
+  abbrev pub ForbidsPackage : N → Encoder N S → Encoder N S → Type 0
+  ForbidsPackage name old new = (root : Rules) → IsInOrderBy same g a root old
+      → IsInOrderBy same g a root new × ((s : S) → IsForbiddenIn same (g.packages a) name s → IsForbidden (rules_of new) s)
+
+  -- those of each of these packages are
+  abbrev pub ForbidsPackages : List N → Encoder N S → Encoder N S → Type 0
+  ForbidsPackages names old new = (root : Rules) → IsInOrderBy same g a root old
+      → IsInOrderBy same g a root new × ((name : N) (s : S) → Contains names name → IsForbiddenIn same (g.packages a) name s → IsForbidden (rules_of new) s)
+
+  -- those of the requirement's packages are: it is guarded
+  abbrev pub GuardsRequirement : Requirement → Encoder N S → Encoder N S → Type 0
+  GuardsRequirement requirement old new = (root : Rules) → IsInOrderBy same g a root old
+      → IsInOrderBy same g a root new × IsGuarded same (g.packages a) (rules_of new) requirement
+
+  -- ---- requirements of a parent
+
+  -- one without a condition, which is guarded, is a clause
+  abbrev pub RequiresGuarded : Option S → ConditionalRequirement → Encoder N S → Encoder N S → Type 0
+  RequiresGuarded parent need old new = (root : Rules) → IsInOrderBy same g a root old
+      → IsGuarded same (g.packages a) (rules_of old) need.requirement → Needs same (g.packages a) root parent need
+      → IsInOrderBy same g a root new × IsNeedEncoded same (g.packages a) (rules_of new) parent need []
+
+  -- one without a condition is a clause
+  abbrev pub RequiresPlain : Option S → ConditionalRequirement → Encoder N S → Encoder N S → Type 0
+  RequiresPlain parent need old new = (root : Rules) → IsInOrderBy same g a root old
+      → Needs same (g.packages a) root parent need
+      → IsInOrderBy same g a root new × IsNeedEncoded same (g.packages a) (rules_of new) parent need []
+
+  -- each case of it is a clause, or deferred
+  abbrev pub RequiresOne : Option S → ConditionalRequirement → Encoder N S → Encoder N S → Type 0
+  RequiresOne parent need old new = (root : Rules) → IsInOrderBy same g a root old
+      → Contains (rules_for same (g.packages a) root parent).requirements need
+      → IsInOrderBy same g a root new × IsConditionalEncoded same (g.packages a) new parent need
+
+  -- each case of each of them is
+  abbrev pub RequiresAll : Option S → List ConditionalRequirement → Encoder N S → Encoder N S → Type 0
+  RequiresAll parent needs old new = (root : Rules) → IsInOrderBy same g a root old
+      → ((need : ConditionalRequirement) → Contains needs need → Contains (rules_for same (g.packages a) root parent).requirements need)
+      → IsInOrderBy same g a root new × ((need : ConditionalRequirement) → Contains needs need → IsConditionalEncoded same (g.packages a) new parent need)
+
+  -- ---- constraints of a parent
+
+  -- clauses forbid the candidates outside it
+  abbrev pub LimitsOne : Option S → VersionSetId → Encoder N S → Encoder N S → Type 0
+  LimitsOne parent version_set old new = (root : Rules) → IsInOrderBy same g a root old
+      → Contains (rules_for same (g.packages a) root parent).constraints version_set
+      → IsInOrderBy same g a root new × IsLimitEncoded same (g.packages a) (rules_of new) parent version_set
+
+  -- the same, and it is guarded
+  abbrev pub LimitsGuarded : Option S → VersionSetId → Encoder N S → Encoder N S → Type 0
+  LimitsGuarded parent version_set old new = (root : Rules) → IsInOrderBy same g a root old
+      → Contains (rules_for same (g.packages a) root parent).constraints version_set
+      → IsInOrderBy same g a root new × IsLimitEncoded same (g.packages a) (rules_of new) parent version_set × IsGuarded same (g.packages a) (rules_of new) (Single version_set)
+
+  -- the same of each of them
+  abbrev pub LimitsAll : Option S → List VersionSetId → Encoder N S → Encoder N S → Type 0
+  LimitsAll parent constraints old new = (root : Rules) → IsInOrderBy same g a root old
+      → ((version_set : VersionSetId) → Contains constraints version_set → Contains (rules_for same (g.packages a) root parent).constraints version_set)
+      → IsInOrderBy same g a root new
+      × ((version_set : VersionSetId) → Contains constraints version_set → IsLimitEncoded same (g.packages a) (rules_of new) parent version_set × IsGuarded same (g.packages a) (rules_of new) (Single version_set))
+
+  -- ---- all rules of a parent
+
+  -- the parent, whose dependencies are known, has these requirements and constraints: they are clauses
+  abbrev pub EncodesKnown : Option S → List ConditionalRequirement → List VersionSetId → Encoder N S → Encoder N S → Type 0
+  EncodesKnown parent requirements constraints old new = (root : Rules) → AreRulesOf same (g.packages a) root parent requirements constraints
+      → IsInOrderBy same g a root old
+      → IsInOrderBy same g a root new × IsParentEncoded same (g.packages a) new root parent
+
+  -- the parent's rules are clauses, where the root has these requirements and constraints
+  abbrev pub EncodesParent : List ConditionalRequirement → List VersionSetId → Option S → Encoder N S → Encoder N S → Type 0
+  EncodesParent requirements constraints parent old new = (root : Rules) → IsRoot requirements constraints root
+      → IsInOrderBy same g a root old
+      → IsInOrderBy same g a root new × IsParentEncoded same (g.packages a) new root parent
+
+  -- ---- cases of a parent's requirement
+
+  -- this one is deferred
+  abbrev pub DefersCase : Option S → ConditionalRequirement → List VersionSetId → Encoder N S → Encoder N S → Type 0
+  DefersCase parent need case old new = (root : Rules) → IsInOrderBy same g a root old
+      → Contains (rules_for same (g.packages a) root parent).requirements need
+      → Contains (cases_for same (g.packages a) need) case
+      → IsInOrderBy same g a root new × IsDeferred new parent need case
+
+  -- these are
+  abbrev pub DefersCases : Option S → ConditionalRequirement → List (List VersionSetId) → Encoder N S → Encoder N S → Type 0
+  DefersCases parent need cases old new = (root : Rules) → IsInOrderBy same g a root old
+      → Contains (rules_for same (g.packages a) root parent).requirements need
+      → ((case : List VersionSetId) → Contains cases case → Contains (cases_for same (g.packages a) need) case)
+      → IsInOrderBy same g a root new × AreDeferred new parent need cases
+
+  -- all are
+  abbrev pub DefersNeed : Option S → ConditionalRequirement → Encoder N S → Encoder N S → Type 0
+  DefersNeed parent need old new = (root : Rules) → IsInOrderBy same g a root old
+      → Contains (rules_for same (g.packages a) root parent).requirements need
+      → IsInOrderBy same g a root new × AreDeferred new parent need (cases_for same (g.packages a) need)
+
+  -- the case of these version sets is a clause, where the requirement is guarded
+  abbrev pub RequiresGuardedCase : Option S → ConditionalRequirement → List (ConditionSet N S) → Encoder N S → Encoder N S → Type 0
+  RequiresGuardedCase parent need sets old new = (root : Rules) → IsInOrderBy same g a root old
+      → IsGuarded same (g.packages a) (rules_of old) need.requirement
+      → AreSets same (g.packages a) sets
+      → Contains (rules_for same (g.packages a) root parent).requirements need
+      → Contains (cases_for same (g.packages a) need) (sets_case sets)
+      → IsInOrderBy same g a root new × IsNeedEncoded same (g.packages a) (rules_of new) parent need (sets_case sets)
+
+  -- this one is a clause
+  abbrev pub RequiresCase : Option S → ConditionalRequirement → List VersionSetId → Encoder N S → Encoder N S → Type 0
+  RequiresCase parent need case old new = (root : Rules) → IsInOrderBy same g a root old
+      → Contains (rules_for same (g.packages a) root parent).requirements need
+      → Contains (cases_for same (g.packages a) need) case
+      → IsInOrderBy same g a root new × IsNeedEncoded same (g.packages a) (rules_of new) parent need case
