@@ -12,7 +12,7 @@ import tempfile
 
 TOP = os.path.dirname(os.path.dirname(os.path.abspath(__file__)))
 LIBRARIES = ("resolvo_pool_core resolvo_pool resolvo_store_core resolvo_store resolvo_packages resolvo_turn resolvo_proof resolvo "
-             "resolvo_text resolvo_catalogue_core resolvo_catalogue resolvo_judge")
+             "resolvo_text resolvo_catalogue_core resolvo_catalogue resolvo_judge resolvo_test_providers")
 
 
 def copy_with(folder, name, source, libraries):

@@ -4,7 +4,7 @@ pub mod RemainLemmas
 pub mod LineLemmas
 pub mod FollowLemmas
 pub mod GiveLemmas
-pub mod LookLemmas
+pub mod StateLemmas
 pub mod TurnLemmas
 pub mod PartLemmas
 pub mod FinishLemmas

@@ -19,8 +19,8 @@ use Rattle.resolvo_text.specs.Matches.{Set, matches, is_member, is_met, is_in_sp
 use Rattle.resolvo_catalogue_core.specs.Listed.{is_match, members}
 use Rattle.resolvo_catalogue_core.specs.Questions.{is_rule}
 use Rattle.resolvo_catalogue_core.specs.declared.rule.VersionNo.{VersionNo}
-use Rattle.resolve_order.specs.Kept.{AreOneEach, IsPick, is_unlisted, weight, unlisted, Holds, IsChosenMatch, IsUnlistedMatch, IsFirstMatch, IsLook, IsWaiting, IsSpent}
-use Rattle.resolve_order.specs.declared.chosen.Look.TheVariants as look
+use Rattle.resolve_order.specs.Kept.{AreOneEach, IsPick, is_unlisted, weight, unlisted, Holds, IsChosenMatch, IsUnlistedMatch, IsFirstMatch, IsLineState, IsWaiting, IsSpent}
+use Rattle.resolve_order.specs.declared.chosen.LineState.TheVariants as state
 use Rattle.resolve_order.specs.declared.chosen.Chosen.{Chosen}
 use Rattle.resolve_order.proofs.Elements.{first_element, any_from, any_element, any_none, member_from, from_member, member_none, none_from_member}
 
@@ -231,7 +231,7 @@ found_first versions chosen entries alternatives i s n lt is before here =
 -- ---- the version of a need
 
 pub gives_need : (versions : List Version) (chosen entries : Set) (alternatives : List Spec) (condition : Option Cond) (n : VersionNo) → IsFirstMatch versions chosen entries alternatives (Some n) → condition_holds condition entries ≡ true
-    → IsLook versions chosen entries (Some (Needs alternatives condition)) (look.Gives n)
+    → IsLineState versions chosen entries (Some (Needs alternatives condition)) (state.Gives n)
 gives_need versions chosen entries alternatives condition n m holds =
     let f = m.4 in
     (m.0, m.1, m.2, m.3, (alternatives, condition, refl, matched, holds), (f.0, f.1, f.2, condition, ap (λ (ss : _). Some (Needs ss condition)) f.3, f.4, f.5))

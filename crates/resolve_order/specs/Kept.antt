@@ -16,8 +16,8 @@ use Rattle.resolvo_catalogue_core.specs.declared.rule.Rule.{Rule}
 use Rattle.resolve_order.specs.Order.{line_named, IsAsked, Precedes, IsOfFirst, IsNext, IsComplete, AreInOrder, Turn, IsOneTurn}
 use Rattle.resolve_order.specs.View.{reason_of, answers_of, AreNumbered}
 use Rattle.resolve_order.specs.declared.chosen.Chosen.{Chosen}
-use Rattle.resolve_order.specs.declared.chosen.Look.{Look}
-use Rattle.resolve_order.specs.declared.chosen.Look.TheVariants as look
+use Rattle.resolve_order.specs.declared.chosen.LineState.{LineState}
+use Rattle.resolve_order.specs.declared.chosen.LineState.TheVariants as state
 use Rattle.resolve_order.specs.declared.entry.Reason.{Reason}
 use Rattle.resolve_order.specs.declared.entry.Reason.TheVariants as reason
 use Rattle.resolve_order.specs.declared.entry.Entry.{Entry}
@@ -89,16 +89,16 @@ IsSpent chosen entries line = (alternatives : List Spec) (condition : Option Con
 abbrev pub IsWaiting : Set → Option Line → Type 0
 IsWaiting entries line = (alternatives : List Spec) (condition : Option Cond) → line ≡ Some (Needs alternatives condition) → condition_holds condition entries ≡ false
 
-abbrev pub IsLook : List Version → Set → Set → Option Line → Look → Type 0
-IsLook versions chosen entries line look.Spent = IsSpent chosen entries line
-IsLook versions chosen entries line look.Waiting = IsWaiting entries line
-IsLook versions chosen entries line (look.Gives n) = (v : Version) × (slice_get versions n.0 ≡ Some v) × Contains chosen v × (Contains entries v → ⊥)
+abbrev pub IsLineState : List Version → Set → Set → Option Line → LineState → Type 0
+IsLineState versions chosen entries line state.Spent = IsSpent chosen entries line
+IsLineState versions chosen entries line state.Waiting = IsWaiting entries line
+IsLineState versions chosen entries line (state.Gives n) = (v : Version) × (slice_get versions n.0 ≡ Some v) × Contains chosen v × (Contains entries v → ⊥)
     × IsNeededBy entries line v × IsOfFirst chosen entries line v
 
-abbrev pub IfGives : Look → (VersionNo → Type 0) → Type 0
-IfGives look.Spent P = ⊤
-IfGives look.Waiting P = ⊤
-IfGives (look.Gives n) P = P n
+abbrev pub IfGives : LineState → (VersionNo → Type 0) → Type 0
+IfGives state.Spent P = ⊤
+IfGives state.Waiting P = ⊤
+IfGives (state.Gives n) P = P n
 
 -- ---- all lines
 

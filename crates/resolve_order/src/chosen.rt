@@ -10,15 +10,15 @@ ghost use Rattle.resolvo_text.specs.Matches.{Set, is_met, holds, condition_holds
 ghost use Rattle.resolvo_text.specs.View.{spec_of, specs_of, cond_of, condition_of};
 ghost use Rattle.resolvo_catalogue_core.specs.Listed.{listed, members, pair_version, version_at};
 ghost use Rattle.resolvo_catalogue_core.specs.Questions.{IsRuleLine};
-ghost use Rattle.resolve_order.specs.Kept.{Holds, AreOneEach, IsChosenMatch, IsUnlistedMatch, IsFirstMatch, IsRuleAt, IsLook, IfGives, is_unlisted, unlisted};
+ghost use Rattle.resolve_order.specs.Kept.{Holds, AreOneEach, IsChosenMatch, IsUnlistedMatch, IsFirstMatch, IsRuleAt, IsLineState, IfGives, is_unlisted, unlisted};
 
 use resolvo_catalogue_core::{Catalogue, Cond, Rule, Spec, VersionNo};
 use std::alloc::{AllocError, Global};
 use std::collections::BTreeMap;
 
-/// The result of a line.
+/// What a line gives, by what is chosen and what is an entry.
 #[derive(Clone, Copy, Debug)]
-pub enum Look {
+pub enum LineState {
     /// Nothing: each chosen version that it matches is an entry.
     Spent,
     /// Nothing yet, since its condition doesn't hold.
@@ -210,62 +210,62 @@ impl Chosen {
         }
     }
 
-    /// The result of a need.
-    fn look_at_need(
+    /// What a need gives.
+    fn need_state(
         &self,
         catalogue: &Catalogue,
         alternatives: &[Spec],
         condition: &Option<Cond>,
-    ) -> Look
+    ) -> LineState
         ensures unlisted { IfGives result (λ n. is_unlisted self.now.listed.items n.0 ≡ true) }
-        ensures looked { (chosen entries : Set)
+        ensures state { (chosen entries : Set)
             → Holds (listed catalogue.now) self.now chosen entries
-            → IsLook (listed catalogue.now) chosen entries
+            → IsLineState (listed catalogue.now) chosen entries
             (Some (content.Needs (specs_of alternatives.now) (condition_of condition.now))) result }
     {
         match self.first_match(catalogue, alternatives) {
             Some(version) => {
                 if self.condition_holds(catalogue, condition) {
-                    Look::Gives(version)
+                    LineState::Gives(version)
                 } else {
-                    Look::Waiting
+                    LineState::Waiting
                 }
             }
-            None => Look::Spent,
+            None => LineState::Spent,
         }
     }
 
-    /// The result of the line of this rule. A rule that is no need gives nothing.
-    fn look_at_rule(&self, catalogue: &Catalogue, rule: &Rule) -> Look
+    /// What the line of this rule gives: nothing where it is no need.
+    fn rule_state(&self, catalogue: &Catalogue, rule: &Rule) -> LineState
         ensures unlisted { IfGives result (λ n. is_unlisted self.now.listed.items n.0 ≡ true) }
-        ensures looked { (chosen entries : Set) (versions : List content.Version)
+        ensures state { (chosen entries : Set) (versions : List content.Version)
             (owner : Option content.Version) (line : content.Line)
             → Holds (listed catalogue.now) self.now chosen entries
             → IsRuleLine versions rule.now owner line
-            → IsLook (listed catalogue.now) chosen entries (Some line) result }
+            → IsLineState (listed catalogue.now) chosen entries (Some line) result }
     {
         match rule {
             Rule::Needs {
                 alternatives,
                 condition,
                 ..
-            } => self.look_at_need(catalogue, alternatives, condition),
+            } => self.need_state(catalogue, alternatives, condition),
             Rule::Limits { .. } | Rule::Lock { .. } | Rule::Exclude { .. } | Rule::Unknown { .. } =>
-                Look::Spent,
+                LineState::Spent,
         }
     }
 
-    /// The result of the line of this rule. A line without a rule gives nothing.
-    pub fn look(&self, catalogue: &Catalogue, rule: Option<&Rule>) -> Look
+    /// What the line of this rule gives: nothing where it has none.
+    pub fn line_state(&self, catalogue: &Catalogue, rule: Option<&Rule>) -> LineState
         ensures unlisted { IfGives result (λ n. is_unlisted self.now.listed.items n.0 ≡ true) }
-        ensures looked { (chosen entries : Set) (line : Option content.Line)
+        ensures state { (chosen entries : Set) (line : Option content.Line)
             → Holds (listed catalogue.now) self.now chosen entries
             → IsRuleAt line (option_copied rule.entry)
-            → IsLook (listed catalogue.now) chosen entries line result }
+            → IsLineState (listed catalogue.now) chosen entries line result }
     {
         match rule {
-            Some(rule) => self.look_at_rule(catalogue, rule),
-            None => Look::Spent,
+            Some(rule) => self.rule_state(catalogue, rule),
+            None => LineState::Spent,
         }
     }
 }

@@ -17,7 +17,7 @@ ghost use Rattle.resolve_order.specs.declared.entry.Answer.TheVariants as answer
 ghost use Rattle.resolve_order.specs.View.{reason_of, answers_of, wish_at, turn_of, turns_of, IsAccepted, IsWishOf, AreNumbered, AreTurnsOf};
 ghost use Rattle.resolve_order.specs.Kept.{IsListing, IsLeft, IsFound, IsRuleAt, Extends, TakesTurn, AreOneEach, is_unlisted, unlisted, lines_to, lines_for, answers_in, entries_in};
 
-use crate::chosen::{Chosen, Look};
+use crate::chosen::{Chosen, LineState};
 use crate::entry::{Answer, Entry, Reason, Turn};
 use crate::open_lines::Places;
 use resolvo_catalogue_core::{Catalogue, Request, Rule, VersionNo};
@@ -139,11 +139,11 @@ impl Listing {
         while let Some(reason) = places.take(&self.lines) {
             match self
                 .chosen
-                .look(catalogue, rule_at(catalogue, request, reason))
+                .line_state(catalogue, rule_at(catalogue, request, reason))
             {
-                Look::Spent => {}
-                Look::Waiting => places.wait(reason)?,
-                Look::Gives(version) => {
+                LineState::Spent => {}
+                LineState::Waiting => places.wait(reason)?,
+                LineState::Gives(version) => {
                     places.rewind(reason)?;
                     return Ok(Some(Entry { version, reason }));
                 }

@@ -10,7 +10,7 @@ use Rattle.resolvo_pool_core.specs.OnePass as pass
 use Rattle.resolvo_pool_core.specs.OnePass.{is_denied, is_broken, same_literal, rest_of, without_false, reading, refutes, learn}
 use Rattle.resolvo_checker.specs.declared.literal.Literal.{Literal}
 use Rattle.resolvo_checker.specs.Literals.{literal_of, literals_of, clause_at}
-use Rattle.resolvo_checker.specs.Rup.{meet}
+use Rattle.resolvo_checker.specs.Rup.{with_literal}
 
 pub filter-append : {X : Type 0} (p : X → Bool) (xs ys : List X) → filter p (xs ++ ys) ≡ filter p xs ++ filter p ys
 filter-append p [] ys = refl
@@ -20,39 +20,39 @@ filter-append p (x ∷ xs) ys = one (p x) (filter-append p xs ys) where
   one false h = h
 
 module _ {A : Type 0} (same : A → A → Bool) where
-  rest_of-push : (ls : List (pass.Literal A)) (l : pass.Literal A) → rest_of same (ls ++ l ∷ []) ≡ meet same (rest_of same ls) l
+  rest_of-push : (ls : List (pass.Literal A)) (l : pass.Literal A) → rest_of same (ls ++ l ∷ []) ≡ with_literal same (rest_of same ls) l
   rest_of-push [] l = refl
   rest_of-push (m ∷ ls) l = ap (λ b. cond b (last m) more) (list_all-append (same_literal same m) ls (l ∷ [])) ∙ one (list_all (same_literal same m) ls) where
     two : (b : Bool) → cond (b && true) (last m) more ≡ cond b (last m) more
     two true = refl
     two false = refl
 
-    one : (a : Bool) → cond (a && (same_literal same m l && true)) (last m) more ≡ meet same (cond a (last m) more) l
+    one : (a : Bool) → cond (a && (same_literal same m l && true)) (last m) more ≡ with_literal same (cond a (last m) more) l
     one false = refl
     one true = two (same_literal same m l)
 
 -- one more literal of a clause
 pub reading-more : (known : ℕ → Option Bool) (ls : List Literal) (i : ℕ) (d : Literal) → i < length ls →
-    reading nat_eq known (literals_of (take (i + 1) ls)) ≡ cond (is_denied (known (get_or ls i d).atom) (get_or ls i d).positive) (reading nat_eq known (literals_of (take i ls))) (meet nat_eq (reading nat_eq known (literals_of (take i ls))) (literal_of (get_or ls i d)))
+    reading nat_eq known (literals_of (take (i + 1) ls)) ≡ cond (is_denied (known (get_or ls i d).atom) (get_or ls i d).positive) (reading nat_eq known (literals_of (take i ls))) (with_literal nat_eq (reading nat_eq known (literals_of (take i ls))) (literal_of (get_or ls i d)))
 reading-more known ls i d h =
     ap (λ x. reading nat_eq known (literals_of x)) (take_more ls i d h)
     ∙ (ap (reading nat_eq known) (map-append literal_of (take i ls) (get_or ls i d ∷ []))
     ∙ (ap (rest_of nat_eq) (filter-append (λ l. not (is_denied (known l.atom) l.positive)) (literals_of (take i ls)) (literal_of (get_or ls i d) ∷ []))
     ∙ one (literal_of (get_or ls i d)) (is_denied (known (get_or ls i d).atom) (get_or ls i d).positive))) where
-      one : (l : pass.Literal ℕ) (b : Bool) → rest_of nat_eq (without_false known (literals_of (take i ls)) ++ cond (not b) (l ∷ []) []) ≡ cond b (reading nat_eq known (literals_of (take i ls))) (meet nat_eq (reading nat_eq known (literals_of (take i ls))) l)
+      one : (l : pass.Literal ℕ) (b : Bool) → rest_of nat_eq (without_false known (literals_of (take i ls)) ++ cond (not b) (l ∷ []) []) ≡ cond b (reading nat_eq known (literals_of (take i ls))) (with_literal nat_eq (reading nat_eq known (literals_of (take i ls))) l)
       one l true = ap (rest_of nat_eq) (append-nil (without_false known (literals_of (take i ls))))
       one l false = rest_of-push nat_eq (without_false known (literals_of (take i ls))) l
 
 pub read_kept : (known : ℕ → Option Bool) (ls : List Literal) (i : ℕ) (d : Literal) (rest : pass.Rest ℕ) → i < length ls → true ≡ is_denied (known (get_or ls i d).atom) (get_or ls i d).positive
     → rest ≡ reading nat_eq known (literals_of (take i ls)) → rest ≡ reading nat_eq known (literals_of (take (i + 1) ls))
 read_kept known ls i d rest h denied e =
-    e ∙ sym (reading-more known ls i d h ∙ ap (λ b. cond b (reading nat_eq known (literals_of (take i ls))) (meet nat_eq (reading nat_eq known (literals_of (take i ls))) (literal_of (get_or ls i d)))) (sym denied))
+    e ∙ sym (reading-more known ls i d h ∙ ap (λ b. cond b (reading nat_eq known (literals_of (take i ls))) (with_literal nat_eq (reading nat_eq known (literals_of (take i ls))) (literal_of (get_or ls i d)))) (sym denied))
 
 pub read_met : (known : ℕ → Option Bool) (ls : List Literal) (i : ℕ) (d : Literal) (rest met : pass.Rest ℕ) → i < length ls → false ≡ is_denied (known (get_or ls i d).atom) (get_or ls i d).positive
-    → rest ≡ reading nat_eq known (literals_of (take i ls)) → met ≡ meet nat_eq rest (literal_of (get_or ls i d)) → met ≡ reading nat_eq known (literals_of (take (i + 1) ls))
+    → rest ≡ reading nat_eq known (literals_of (take i ls)) → met ≡ with_literal nat_eq rest (literal_of (get_or ls i d)) → met ≡ reading nat_eq known (literals_of (take (i + 1) ls))
 read_met known ls i d rest met h denied e m =
-    m ∙ (ap (λ r. meet nat_eq r (literal_of (get_or ls i d))) e
-    ∙ sym (reading-more known ls i d h ∙ ap (λ b. cond b (reading nat_eq known (literals_of (take i ls))) (meet nat_eq (reading nat_eq known (literals_of (take i ls))) (literal_of (get_or ls i d)))) (sym denied)))
+    m ∙ (ap (λ r. with_literal nat_eq r (literal_of (get_or ls i d))) e
+    ∙ sym (reading-more known ls i d h ∙ ap (λ b. cond b (reading nat_eq known (literals_of (take i ls))) (with_literal nat_eq (reading nat_eq known (literals_of (take i ls))) (literal_of (get_or ls i d)))) (sym denied)))
 
 or_swap : (a b c : Bool) → ((a || b) || c) ≡ (a || (b || c))
 or_swap true b c = refl

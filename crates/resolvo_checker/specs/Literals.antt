@@ -3,8 +3,8 @@ use Rattle.std.specs.Prelude.{ℕ, ◌-◌, List, [], map, slice_index_or}
 use Rattle.resolvo_pool_core.specs.OnePass.Rest.{broken, last, more}
 use Rattle.resolvo_pool_core.specs.OnePass as pass
 use Rattle.resolvo_checker.specs.declared.literal.Literal.{Literal}
-use Rattle.resolvo_checker.specs.declared.literal.Rest.{Rest}
-use Rattle.resolvo_checker.specs.declared.literal.Rest.TheVariants.{Broken, Last, Open}
+use Rattle.resolvo_checker.specs.declared.literal.ClauseStatus.{ClauseStatus}
+use Rattle.resolvo_checker.specs.declared.literal.ClauseStatus.TheVariants.{Falsified, Unit, Open}
 
 abbrev pub literal_of : Literal → pass.Literal ℕ
 literal_of l = record { atom = l.atom; positive = l.positive }
@@ -12,10 +12,10 @@ literal_of l = record { atom = l.atom; positive = l.positive }
 abbrev pub literals_of : List Literal → List (pass.Literal ℕ)
 literals_of ls = map literal_of ls
 
-abbrev pub rest_of : Rest → pass.Rest ℕ
-rest_of Broken = broken
-rest_of (Last l) = last (literal_of l)
-rest_of Open = more
+abbrev pub status_of : ClauseStatus → pass.Rest ℕ
+status_of Falsified = broken
+status_of (Unit l) = last (literal_of l)
+status_of Open = more
 
 -- the n-th clause, n from 1
 abbrev pub clause_at : List (List Literal) → ℕ → List (pass.Literal ℕ)

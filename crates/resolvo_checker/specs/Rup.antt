@@ -4,10 +4,10 @@ use Rattle.resolvo_pool_core.specs.OnePass.Rest.{broken, last, more}
 use Rattle.resolvo_pool_core.specs.OnePass.{Literal, Rest, same_literal}
 
 -- one more literal that isn't false
-abbrev pub meet : {A : Type 0} → (A → A → Bool) → Rest A → Literal A → Rest A
-meet same broken l = last l
-meet same (last m) l = if same_literal same m l then last m else more
-meet same more l = more
+abbrev pub with_literal : {A : Type 0} → (A → A → Bool) → Rest A → Literal A → Rest A
+with_literal same broken l = last l
+with_literal same (last m) l = if same_literal same m l then last m else more
+with_literal same more l = more
 
 -- it is the number of one of so many steps, from 1
 abbrev pub is_earlier : ℕ → ℕ → Bool

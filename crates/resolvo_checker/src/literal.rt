@@ -7,13 +7,13 @@ pub struct Literal {
     pub positive: bool,
 }
 
-/// The literals of a clause that aren't false.
+/// What a clause is under an assignment.
 #[derive(Clone, Copy, Debug, PartialEq, Eq, Drop)]
-pub enum Rest {
-    /// None.
-    Broken,
-    /// One, perhaps twice.
-    Last(Literal),
-    /// More than one.
+pub enum ClauseStatus {
+    /// All its literals are false.
+    Falsified,
+    /// All but this one are false. It may be in the clause twice, and it may be true.
+    Unit(Literal),
+    /// More than one isn't false.
     Open,
 }

@@ -5,12 +5,12 @@ ghost use Rattle.std.specs.Bool.{nat_eq};
 ghost use Rattle.std.specs.List.{list_all};
 ghost use Rattle.resolvo_pool_core.specs.OnePass.{is_denied, reading, is_broken, learn, deny, one_pass};
 ghost use Rattle.resolvo_checker.specs.Truth.{known_in};
-ghost use Rattle.resolvo_checker.specs.Literals.{literal_of, literals_of, rest_of as rest_of_lem, clause_at};
-ghost use Rattle.resolvo_checker.specs.Rup.{is_earlier, meet as meet_lem};
+ghost use Rattle.resolvo_checker.specs.Literals.{literal_of, literals_of, status_of as status_of_lem, clause_at};
+ghost use Rattle.resolvo_checker.specs.Rup.{is_earlier, with_literal as with_literal_lem};
 
 use crate::assignment::Assignment;
 use crate::clauses::Clauses;
-use crate::literal::{Literal, Rest};
+use crate::literal::{ClauseStatus, Literal};
 use std::alloc::{AllocError, Global};
 
 fn is_false(truth: &Assignment, literal: Literal) -> bool
@@ -23,35 +23,36 @@ fn is_false(truth: &Assignment, literal: Literal) -> bool
     }
 }
 
-/// The rest with one more literal that isn't false.
-fn met(rest: Rest, literal: Literal) -> Rest
-    ensures { rest_of_lem result ≡ meet_lem nat_eq (rest_of_lem rest) (literal_of literal) }
+/// The status of the clause with one more literal that isn't false.
+fn with_literal(status: ClauseStatus, literal: Literal) -> ClauseStatus
+    ensures { status_of_lem result
+        ≡ with_literal_lem nat_eq (status_of_lem status) (literal_of literal) }
 {
-    match rest {
-        Rest::Broken => Rest::Last(literal),
-        Rest::Last(other) => {
+    match status {
+        ClauseStatus::Falsified => ClauseStatus::Unit(literal),
+        ClauseStatus::Unit(other) => {
             if other.atom == literal.atom && other.positive == literal.positive {
-                Rest::Last(other)
+                ClauseStatus::Unit(other)
             } else {
-                Rest::Open
+                ClauseStatus::Open
             }
         }
-        Rest::Open => Rest::Open,
+        ClauseStatus::Open => ClauseStatus::Open,
     }
 }
 
-/// The literals of the clause that aren't false.
-fn rest_of(truth: &Assignment, clause: &[Literal]) -> Rest
-    ensures { rest_of_lem result
+/// What the clause is under the assignment.
+fn status_of(truth: &Assignment, clause: &[Literal]) -> ClauseStatus
+    ensures { status_of_lem result
         ≡ reading nat_eq (known_in truth.now.marks.items truth.now.pass) (literals_of clause.now) }
 {
-    let mut rest = Rest::Broken;
+    let mut status = ClauseStatus::Falsified;
     for literal in clause {
         if !is_false(truth, *literal) {
-            rest = met(rest, *literal);
+            status = with_literal(status, *literal);
         }
     }
-    rest
+    status
 }
 
 /// Whether the clause is falsified. If it is unit, its unassigned literal becomes true.
@@ -69,15 +70,15 @@ fn read(truth: &mut Assignment, clause: &[Literal]) -> Result<bool, AllocError>
         (literals_of clause.now))) }
     ensures pass { truth.new.pass ≡ truth.old.pass }
 {
-    match rest_of(truth, clause) {
-        Rest::Broken => Ok(true),
-        Rest::Last(literal) => {
+    match status_of(truth, clause) {
+        ClauseStatus::Falsified => Ok(true),
+        ClauseStatus::Unit(literal) => {
             if truth.known(literal.atom).is_none() {
                 truth.set(literal.atom, literal.positive)?;
             }
             Ok(false)
         }
-        Rest::Open => Ok(false),
+        ClauseStatus::Open => Ok(false),
     }
 }
 

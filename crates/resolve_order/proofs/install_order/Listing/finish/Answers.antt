@@ -5,7 +5,7 @@ use Rattle.resolvo_catalogue_core.specs.Table.{nth}
 use Rattle.resolve_order.specs.Kept.{IsLeft, IsFound}
 use Rattle.resolve_order.proofs.FinishLemmas.{extends_none, all_left, number_at, extends_more}
 use Rattle.resolve_order.proofs.GiveLemmas.{entries_more}
-use Rattle.resolve_order.proofs.LookLemmas.{left_more}
+use Rattle.resolve_order.proofs.StateLemmas.{left_more}
 use Rattle.resolve_order.proofs.install_order.Listing.finish.Goals as goal
 
 pub loop-places-init : goal.loop-places-init

@@ -1,4 +1,4 @@
--- The remaining lines, after a look at one.
+-- The remaining lines, by the state of the one that was taken.
 use Rattle.std.proofs.Common.{◌≡◌, inl, inr, ℕ, ◌≤◌, List, [], ◌∷◌, ◌++◌, length, drop, reverse, Some, sym, ap, subst, ◌∙◌, append_assoc, length-append, arith}
 use Rattle.std.specs.Prelude.{Contains}
 use Rattle.std.proofs.lemmas.List.{append-nil, drop-append-le}
@@ -11,8 +11,8 @@ use Rattle.resolvo_catalogue_core.specs.declared.rule.VersionNo.{VersionNo}
 use Rattle.resolvo_catalogue_core.proofs.TableSteps.{numbered}
 use Rattle.resolve_order.specs.Order.{line_named, IsNext, IsComplete}
 use Rattle.resolve_order.specs.View.{reason_of}
-use Rattle.resolve_order.specs.Kept.{IsLook, IsSpentAt, IsWaiting, IsListing, AreLeft, IsLeft, IsFound, Remains, left_of, entries_in}
-use Rattle.resolve_order.specs.declared.chosen.Look.TheVariants as look
+use Rattle.resolve_order.specs.Kept.{IsLineState, IsSpentAt, IsWaiting, IsListing, AreLeft, IsLeft, IsFound, Remains, left_of, entries_in}
+use Rattle.resolve_order.specs.declared.chosen.LineState.TheVariants as state
 use Rattle.resolve_order.specs.declared.entry.Reason.{Reason}
 use Rattle.resolve_order.specs.declared.install_order.Listing.{Listing}
 use Rattle.resolve_order.specs.declared.open_lines.Places.{Places}
@@ -76,7 +76,7 @@ given_left catalogue request x chosen before after put r taken h none left below
 }
 
 pub given_next : (catalogue request : List Line) (x : Listing) (chosen : Set) (before after : Places) (r : Reason) (n : VersionNo) → IsTaken x.lines.items before after r → AreLeft catalogue request x chosen before → IsListing catalogue request x chosen
-    → IsLook (listed catalogue) chosen (entries_in catalogue x) (line_named catalogue request (reason_of (listed catalogue) r)) (look.Gives n) → IsFound catalogue request x chosen (Some (record { version = n; reason = r }))
+    → IsLineState (listed catalogue) chosen (entries_in catalogue x) (line_named catalogue request (reason_of (listed catalogue) r)) (state.Gives n) → IsFound catalogue request x chosen (Some (record { version = n; reason = r }))
 given_next catalogue request x chosen before after r n taken h listing is = (
   slice_get_within (listed catalogue) n.0 is.0 is.1,
   subst (IsNext catalogue request chosen (entries_in catalogue x) (reason_of (listed catalogue) r)) (sym (numbered (listed catalogue) n is.0 is.1))
