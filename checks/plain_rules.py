@@ -25,18 +25,19 @@ class Options:
     # What a program might do, and this one did.
     pending: bool = False  # new clauses wait for the next propagation, which doesn't begin at the trail's front
     unit_locks: bool = False  # a lock is `not other`, without the root
+    digits_at_once: bool = False  # digits and any clauses come as a version is registered, not at the end of an encoding
+    defer_all: bool = False  # a case that holds as its need is encoded is deferred all the same
+    void_cases: bool = False  # a case that holds by itself has its packages and candidates encoded
     # What the program does against the rules.
     parent_by_parent: bool = False  # a parent is encoded to its end, a package forbidden just before its own need
     cases_later: bool = False  # cases become clauses once no chosen version is left to encode
     root_stays: bool = False  # the root's turn is begun again without undoing what level 1 has
     flat_cases: bool = False  # deferred cases are taken in the order of their parents, not by condition
-    defer_all: bool = False  # a case that holds as its need is encoded is deferred all the same
     false_wishes: bool = False  # a wish that is false before its turn is encoded
-    void_cases: bool = False  # a case that holds by itself has its packages and candidates encoded
+    wish_unseen: bool = False  # a wish becomes true behind its encoding: no case holds by it there
     # Where the rules are silent.
     set_at_once: bool = True  # a new gate, helper, digit or any clause sets at once what it says
     restart_after_encoding: bool = True  # a conflict right after an encoding begins the turn again, and isn't learnt from
-    digits_last: bool = True  # digits and any clauses come at the end of an encoding, not as a version is registered
     root_in_learnt: bool = True  # `not root` is a literal of learnt clauses
     as_met: bool = True  # a learnt clause has its literals in the order in which they were met, not back along the trail
     # What a caller may set.
@@ -49,8 +50,8 @@ class Options:
 
 PROGRAM = Options(
     parent_by_parent=True, cases_later=True, root_stays=True,
-    flat_cases=True, defer_all=True, false_wishes=True, void_cases=True, set_at_once=False,
-    restart_after_encoding=False, digits_last=False, root_in_learnt=False, as_met=False,
+    flat_cases=True, false_wishes=True, wish_unseen=True, set_at_once=False,
+    restart_after_encoding=False, root_in_learnt=False, as_met=False,
 )
 
 

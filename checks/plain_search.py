@@ -50,6 +50,7 @@ class Encoder:
         self.new_there: dict[str, None] = {}
         self.helpers: set[Spec] = set()
         self.gates: set[Alternatives] = set()
+        self.unseen: Parent = None  # a wish that counts as undecided where cases are looked at
 
     def encode(self, parents: list[Parent], fired: list[Deferred]) -> bool:
         """Encodes parents and cases by tasks, first in first out; digits and any clauses come last. Whether a clause was
@@ -186,8 +187,8 @@ class Encoder:
 
     def holds(self, case: Case) -> bool:
         """A case holds where each of its SPECs has a chosen match."""
-        value = self.solver.value
-        return all(any(value(yes(match)) is True for match in self.facts.matching(spec)) for spec in case)
+        is_true = lambda match: match != self.unseen and self.solver.value(yes(match)) is True
+        return all(any(is_true(match) for match in self.facts.matching(spec)) for spec in case)
 
     def is_void(self, parent: Parent, case: Case) -> bool:
         """A case that its own parent is outside of can't hold beside it: it has no clause."""
@@ -280,7 +281,7 @@ class Encoder:
         """Candidates of encoded needs, versions outside encoded conditions, and wishes are registered, each once."""
         new = [version for version in dict.fromkeys(versions) if version not in self.registered]
         self.registered.update(new)
-        if self.options.digits_last:
+        if not self.options.digits_at_once:
             for version in new:
                 self.unplaced.setdefault(version.package, []).append(version)
             return
@@ -293,7 +294,7 @@ class Encoder:
         """The package of an encoded case has any clauses."""
         if package in self.there:
             return
-        if self.options.digits_last:
+        if not self.options.digits_at_once:
             self.new_there.setdefault(package)
             return
         self.there[package] = set()
@@ -447,7 +448,10 @@ class Turns:
             solver.assign(yes(of_parent(goal)), None, solver.first_level)
         if goal is not None:
             self.encoder.register([goal])
-        return self.encoder.encode([goal], [])
+        self.encoder.unseen = goal if self.options.wish_unseen else None
+        is_falsified = self.encoder.encode([goal], [])
+        self.encoder.unseen = None
+        return is_falsified
 
     def undo_turn(self, start: int) -> None:
         """Undoes the whole turn."""

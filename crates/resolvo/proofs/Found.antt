@@ -72,8 +72,8 @@ module _ {N S : Type 0} (same_name : N → N → Bool) (names : IsExact same_nam
   -- the end of the root's turn: its choices are right, and preferred
   pub root_right : IsInOrder same p orders root e → e.recorded.softs.items ≡ [] → IsTurn same None e None → (t : Turns S) → t.turns.items ≡ [] → AreChosen e.coding.atoms.keys (made_true (history e.coding.search)) t.chosen.keys
       → AreRight same p root (length t.chosen.keys) [] t × ArePreferred same p orders root t.chosen.keys
-  root_right holds alone (is_done, whole, spent, soft) t none chosen =
-      let (keeping, reached, inside) = turn_keeps same exact p root lawful e same_name names holds.encoding spent is_done.values is_done.score is_done.agree is_done.quiet is_done.decided t.chosen.keys chosen (whole t.chosen.keys chosen) alone in
+  root_right holds alone (is_done, whole, spent, placed, soft) t none chosen =
+      let (keeping, reached, inside) = turn_keeps same exact p root lawful e same_name names holds.encoding spent is_done.values is_done.score is_done.agree is_done.quiet is_done.decided placed t.chosen.keys chosen (whole t.chosen.keys chosen) alone in
       let all : take (length t.chosen.keys) t.chosen.keys ≡ t.chosen.keys = take_all (length t.chosen.keys) t.chosen.keys (omega arith) in (
         record {
           wished = record {
@@ -83,9 +83,9 @@ module _ {N S : Type 0} (same_name : N → N → Bool) (names : IsExact same_nam
             whole = ap (λ (ts : List (Turn S)). end_of (length t.chosen.keys) (reverse ts)) none;
           };
           accepted = subst (λ (ts : List (Turn S)). IsAccepted same p root (accepted_of (reverse ts)) t.chosen.keys) (sym none)
-              (subst (λ (ws : List S). IsAccepted same p root ws t.chosen.keys) alone (chosen_accepted same exact p root same_name names lawful orders e None t.chosen.keys holds (is_done, whole, spent, soft) chosen));
+              (subst (λ (ws : List S). IsAccepted same p root ws t.chosen.keys) alone (chosen_accepted same exact p root same_name names lawful orders e None t.chosen.keys holds (is_done, whole, spent, placed, soft) chosen));
         },
-        turn_preferred same exact p root lawful e same_name names holds.encoding spent orders holds.ordered is_done.values is_done.score is_done.agree is_done.quiet is_done.decided t.chosen.keys chosen (whole t.chosen.keys chosen) alone,
+        turn_preferred same exact p root lawful e same_name names holds.encoding spent orders holds.ordered is_done.values is_done.score is_done.agree is_done.quiet is_done.decided placed t.chosen.keys chosen (whole t.chosen.keys chosen) alone,
       )
 
   -- a refusal of the root's turn leaves no rule-keeping set

@@ -156,8 +156,8 @@ module _ {N S : Type 0} where
     -- the end of the turn of a chosen soft requirement
     pub chosen_accepted : (same_name : N → N → Bool) → IsExact same_name → IsLawful p → (orders : Requirement → List S → Type 0) (b : Encoder N S) (soft : Option VariableId) (members : List S) → IsInOrder same p orders root b → IsTurn same soft b None
         → AreChosen b.coding.atoms.keys (made_true (history b.coding.search)) members → IsAccepted same p root b.recorded.softs.items members
-    chosen_accepted same_name names lawful orders b soft members holds (is_done, whole, spent, has) are =
-        turn_accepts same exact p root lawful b same_name names holds.encoding spent is_done.values is_done.score is_done.agree is_done.quiet is_done.decided members are (whole members are)
+    chosen_accepted same_name names lawful orders b soft members holds (is_done, whole, spent, placed, has) are =
+        turn_accepts same exact p root lawful b same_name names holds.encoding spent is_done.values is_done.score is_done.agree is_done.quiet is_done.decided placed members are (whole members are)
 
   -- ---- each turn has its reason
 
@@ -215,7 +215,7 @@ module _ {N S : Type 0} where
     goes_on exact after m base in_order = listed_on_trail same exact a b t.chosen.keys m.chosen.keys coding after keeps.atoms base at.chosen in_order
 
     chosen_at : IsExact same → IsCoding b.coding → (m : Turns S) → IsOutcome same s a b Soft.Chosen → m.chosen.keys ≡ insert_all same t.chosen.keys (in_turn b) → m.turns ≡ t.turns → (begin : ℕ) → Records s begin Soft.Chosen m u → AreAt b u
-    chosen_at exact after m (softs, base, (v, present, (is_done, whole, spent, has_it))) in_order turns begin pushed =
+    chosen_at exact after m (softs, base, (v, present, (is_done, whole, spent, placed, has_it))) in_order turns begin pushed =
         let are : m.chosen.keys ≡ on_trail b = goes_on exact after m base in_order in
         next_at a b t m u s begin Soft.Chosen at are turns pushed softs (whole m.chosen.keys (listed_are_chosen b m.chosen.keys are))
 
@@ -247,7 +247,7 @@ module _ {N S : Type 0} where
           → (begin : ℕ) → begin ≡ length t.chosen.keys → Records s begin Soft.Chosen m u → AreRight same p root first (done ++ s ∷ []) u
       chosen_right same_name names lawful orders order after m (softs, base, (v, present, ended)) lists in_order turns begin is pushed =
           let are : AreChosen b.coding.atoms.keys (made_true (history b.coding.search)) m.chosen.keys = listed_are_chosen b m.chosen.keys (goes_on exact after m base in_order) in
-          let (is_done, whole, spent, has_it) = ended in
+          let (is_done, whole, spent, placed, has_it) = ended in
           recorded_next same exact p root a b t m u first done s Soft.Chosen at right lists turns (subst (λ n. Records s n Soft.Chosen m u) is pushed) softs
           (chosen_accepted same exact p root same_name names lawful orders b (Some v) m.chosen.keys order ended are) (true_inside same exact p root b m.chosen.keys s are (v, present, has_it)) (λ so. absurd (both_ways true so refl)) (λ so. absurd (both_ways true so refl))
 

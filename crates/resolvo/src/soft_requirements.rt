@@ -160,7 +160,7 @@ pub fn run_soft_requirement<A: PackageSource, C: ScoreMap<A::NameId>>(
         solvable: soft,
         name,
     };
-    let variable = encoding.record_soft(alloc, offered)?;
+    let variable = encoding.record_soft(offered)?;
     if encoding
         .coding
         .search

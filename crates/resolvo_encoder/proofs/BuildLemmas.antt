@@ -1,5 +1,5 @@
 -- Each step keeps the precondition of the calls.
-use Rattle.std.proofs.Common.{◌≡◌, ℕ, ◌+◌, ◌<◌, ◌≤◌, inl, inr, Bool, false, [], ◌∷◌, ◌++◌, List, take, drop, length, Option, Some, None, Vec, Global, refl, sym, ◌∙◌, ap, subst, arith, true}
+use Rattle.std.proofs.Common.{◌≡◌, ℕ, zero, suc, ◌+◌, ◌<◌, ◌≤◌, inl, inr, Bool, false, [], ◌∷◌, ◌++◌, List, take, drop, length, Option, Some, None, Vec, Global, refl, sym, ◌∙◌, ap, subst, arith, true}
 use Rattle.std.specs.Prelude.{Contains, min}
 use Rattle.resolvo_store_core.specs.Lists.{items_or_none}
 use Rattle.std.proofs.lemmas.Bool.{both_ways}
@@ -122,6 +122,11 @@ seen_left seen old new kept (rest, is) same =
     let first : take k new ≡ take kept seen = same k (omega arith) (omega arith) ∙ ap (take k) is ∙ take-append-le k seen rest (omega arith) ∙ take_min kept seen in
     (drop k new, sym (take-append-drop k new) ∙ ap (λ (es : List Entry). es ++ drop k new) first)
 
+-- where each kept prefix of one entry or more is the same, so is that of none
+pub kept_from_one : (old new : List Entry) (kept : ℕ) → ((k : ℕ) → 0 < k → k ≤ kept → k ≤ length old → take k new ≡ take k old) → (k : ℕ) → k ≤ kept → k ≤ length old → take k new ≡ take k old
+kept_from_one old new kept same zero low within = refl
+kept_from_one old new kept same (suc k) low within = same (suc k) (omega arith) low within
+
 -- where entries were undone, and the states of requires clauses were reset to those left
 pub built_back : {N S : Type 0} (old : Encoder N S) (c : SolverState N S) (n : UndecidedClauses) → IsBuilt old → IsCoding c → Grows old.coding c → KeepsDigits old.coding c → KeepsFitting old.needs n → IsPrefixOf n.seen.items c.search.tracker.trail → IsBuilt (record old { coding = c; needs = n })
 built_back old c n b coding grows digits fits seen = built_grows old (record old { coding = c; needs = n }) b coding grows refl refl refl refl refl digits (clauses_grow old (record old { coding = c; needs = n }) b grows refl) (fits (literals_in old.lists) old.queue b.needs) seen
@@ -184,7 +189,7 @@ built_fires {N} {S} index old new b f = subst (λ (x : Encoder N S). IsBuilt x) 
 pub built_begun : {N S : Type 0} (e : Encoder N S) → IsBegunEncoding e → IsBuilt e
 built_begun {N} {S} e begun = record {
   coding = begun.coding.coding;
-  tied = nothing_tied e.registry e.coding begun.registry.names begun.registry.trackers begun.coding.kinds;
+  tied = nothing_tied e.registry e.coding begun.registry begun.coding.kinds;
   candidates = λ r c a. absurd (contains_none c (subst (λ x. Contains (items_or_none x) c) (begun.lists.candidates r) a));
   gates = λ r v at. (let none : None ≡ Some v = sym (begun.gates r) ∙ at in absurd cc);
   within = (let none : e.encoded ≡ 0 = begun.encoded in omega arith);

@@ -1,27 +1,20 @@
 -- Registering several solvables, one after another.
-use Rattle.std.proofs.Common.{◌≡◌, ℕ, ◌<◌, ◌≤◌, ◌⊎◌, inl, inr, ltb, List, [], ◌∷◌, ◌++◌, length, sym, subst, arith}
+use Rattle.std.proofs.Common.{ℕ, ◌<◌, ◌≤◌, ◌⊎◌, inl, inr, ltb, List, [], ◌∷◌, ◌++◌, refl, sym, ◌∙◌, subst, arith}
 use Rattle.std.proofs.lemmas.Bool.{ltb-true, ltb-false, cases_Bool}
-use Rattle.std.proofs.lemmas.Option.{slice_get_within}
 use Rattle.resolvo_pool_core.specs.declared.id.VariableId.{VariableId}
 use Rattle.resolvo_store_core.specs.declared.lists.Candidate.{Candidate}
-use Rattle.resolvo_store_core.specs.AtMostOne.{digit}
-use Rattle.resolvo_store_core.specs.Signed.{Signed}
-use Rattle.resolvo_sat.specs.State.{count_of}
-use Rattle.resolvo_sat.specs.Numbered.{Spells}
 use Rattle.resolvo_sat.proofs.Lists.{contains_none, contains_left, contains_right, contains_only, contains_one, contains_parts}
-use Rattle.resolvo_sat.proofs.GrowLemmas.{spells_agree}
 use Rattle.resolvo_packages.specs.declared.package_source.Offered.{Offered}
 use Rattle.resolvo_packages.specs.PackageSource.{offered_solvables}
 use Rattle.resolvo_state.specs.declared.atom.ProofAtom.TheVariants.{Solvable}
-use Rattle.resolvo_state.specs.declared.clause_kind.ClauseKind.TheVariants.{Digit}
 use Rattle.resolvo_state.specs.declared.solver_state.SolverState.{SolverState}
 use Rattle.resolvo_state.specs.declared.registry.Registry.{Registry}
-use Rattle.resolvo_state.specs.Atoms.{origin, Represents}
+use Rattle.resolvo_state.specs.Atoms.{Represents}
 use Rattle.resolvo_state.specs.SolverState.{IsCoding, Grows}
-use Rattle.resolvo_state.specs.Registered.{AreTied, IsTracked, IsDigitClause, Registers, digit_literals}
+use Rattle.resolvo_state.specs.Registered.{AreTied, IsTracked, Registers}
 use Rattle.resolvo_encoder.specs.Steps.{IsOfferedAs, RegistersOne, RegistersAll}
 use Rattle.resolvo_encoder.proofs.PickLemmas.{candidates_grow, candidates_more}
-use Rattle.resolvo_state.proofs.Growth.{grows_same, grows_then, trail_same, trail_then, represents_grow, kind_grows, clause_grows, origin_grows}
+use Rattle.resolvo_state.proofs.Growth.{grows_same, grows_then, trail_same, trail_then, represents_grow}
 
 -- the number is below the other, or it is not
 pub split_at : (n k : ℕ) → (n < k) ⊎ (k ≤ n)
@@ -35,29 +28,14 @@ registers_none r c coding tied = record {
   trail = trail_same c;
   tied = tied;
   keeps = λ m u h. h;
+  waits = λ m u h. h;
   only = λ m u h. inl h;
-  digits = λ n low high. absurd (omega arith);
+  clauses = refl;
+  kinds = refl;
   each = λ o h. absurd (contains_none o h);
   all = λ x h. absurd (contains_none x h);
   ordered = tt;
 }
-
--- a clause that encodes a digit still does
-digit_stays : {N S : Type 0} (r t : Registry N) (old new : SolverState N S) (name : N) (n : ℕ) → IsCoding old → Grows old new → ((m : N) (u : VariableId) → IsTracked r m u → IsTracked t m u) → IsDigitClause r old name n → IsDigitClause t new name n
-digit_stays {N} {S} r t old new name n coding grows keeps d =
-    let within : n < length old.kinds.items = slice_get_within old.kinds.items n (Digit name d.solvable d.place d.bit) d.kinds in
-    let long : length old.kinds.items ≡ length old.search.clauses = coding.each in
-    let (v, present, tracked) = d.registered in
-    record {
-      solvable = d.solvable;
-      place = d.place;
-      bit = d.bit;
-      few = d.few;
-      registered = (v, represents_grow old new v (Solvable d.solvable) grows present, keeps name v tracked);
-      kinds = kind_grows old new grows n (Digit name d.solvable d.place d.bit) d.kinds;
-      spells = subst (λ (clause : List Signed). Spells (origin new.atoms.keys) clause (digit_literals name d.solvable d.bit (digit d.place d.bit))) (sym (clause_grows old new grows n (omega arith)))
-          (spells_agree (origin old.atoms.keys) (origin new.atoms.keys) (count_of old.search) (origin_grows old new coding grows) _ (digit_literals name d.solvable d.bit (digit d.place d.bit)) (coding.ready.state.in_range n) d.spells);
-    }
 
 offered_stays : {N S : Type 0} (r t : Registry N) (old new : SolverState N S) (o : Offered N S) (c : Candidate N) → Grows old new → ((m : N) (u : VariableId) → IsTracked r m u → IsTracked t m u) → IsOfferedAs r old o c → IsOfferedAs t new o c
 offered_stays r t old new o c grows keeps h = record { positive = h.positive; present = represents_grow old new c.literal.variable (Solvable o.solvable) grows h.present; tracked = keeps o.name c.literal.variable h.tracked }
@@ -71,17 +49,16 @@ registers_more {N} {S} xs given o candidate r s t a b c all one = record {
   trail = trail_then a b c all.trail step.trail;
   tied = step.tied;
   keeps = λ m u h. step.keeps m u (all.keeps m u h);
+  waits = λ m u h. step.waits m u (all.waits m u h);
   only = λ m u h. elim (step.only m u h) [
     | inl k ↦ elim (all.only m u k) [
       | inl j ↦ inl j
-      | inr (x, present, e, f) ↦ inr (x, contains_left x xs (o ∷ []) present, e, represents_grow b c u (Solvable x.solvable) step.grows f)
+      | inr (x, present, e, f, queued) ↦ inr (x, contains_left x xs (o ∷ []) present, e, represents_grow b c u (Solvable x.solvable) step.grows f, step.waits m u queued)
     ]
-    | inr (e, f) ↦ inr (o, contains_right o xs (o ∷ []) (contains_only o), e, subst (λ v. Represents c.atoms.keys v (Solvable o.solvable)) (sym f) step.present)
+    | inr (e, f, queued) ↦ inr (o, contains_right o xs (o ∷ []) (contains_only o), e, subst (λ v. Represents c.atoms.keys v (Solvable o.solvable)) (sym f) step.present, queued)
   ];
-  digits = λ n low high. elim (split_at n (length b.search.clauses)) [
-    | inl below ↦ let (name, d) = all.digits n low below in (name, digit_stays s t b c name n all.coding step.grows step.keeps d)
-    | inr past ↦ (o.name, step.digits n past high)
-  ];
+  clauses = step.clauses ∙ all.clauses;
+  kinds = step.kinds ∙ all.kinds;
   each = λ x h. elim (contains_parts x xs (o ∷ []) h) [
     | inl k ↦ let (d, present, e) = all.each x k in (d, contains_left d given (candidate ∷ []) present, offered_stays s t b c x d step.grows step.keeps e)
     | inr k ↦ (candidate, contains_right candidate given (candidate ∷ []) (contains_only candidate), subst (λ y. IsOfferedAs t c y candidate) (sym (contains_one x o k)) here)

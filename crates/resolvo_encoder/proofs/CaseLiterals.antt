@@ -29,14 +29,15 @@ use Rattle.resolvo_state.specs.declared.registry.Registry.{Registry}
 use Rattle.resolvo_state.specs.declared.atom.ProofAtom.{ProofAtom}
 use Rattle.resolvo_state.specs.Atoms.{origin, solvable_of, Represents}
 use Rattle.resolvo_state.specs.SolverState.{IsCoding, Grows}
-use Rattle.resolvo_state.specs.Registered.{IsTracked, IsRegistered}
+use Rattle.resolvo_state.specs.Registered.{AreTied, IsInTracker, IsTracked, IsRegistered}
+use Rattle.resolvo_store_core.specs.AtMostOne.{IsPrefixOf}
 use Rattle.resolvo_state.proofs.Growth.{origin_grows, rules_grow, represents_grow, represents_in_range}
 use Rattle.resolvo_state.proofs.Origins.{count_is, means_atom, solvable_means, solvable_represents, represents_solvable}
 use Rattle.resolvo_state.proofs.Positions.{prefix_long}
 use Rattle.resolvo_encoder.specs.Cases.{sets_case, IsSet}
-use Rattle.resolvo_encoder.specs.Encoded.{IsEncoding}
+use Rattle.resolvo_encoder.specs.Encoded.{IsNamed, IsEncoding}
 use Rattle.resolvo_encoder.specs.Encoded as E
-use Rattle.resolvo_encoder.specs.AtLeastOneClauses.{AreThose, AddsAtLeastOne, Admits, TracksAtLeastOne, AreCaseLiterals, CaseLiterals}
+use Rattle.resolvo_encoder.specs.AtLeastOneClauses.{AreThose, AddsAtLeastOne, Admits, TracksAtLeastOne, NamesPackage, AreCaseLiterals, CaseLiterals}
 use Rattle.resolvo_encoder.specs.Steps.{IsBuilt, Extends, IsOfferedAs, IsListed, Enrols}
 use Rattle.resolvo_encoder.specs.ClauseRules.{EncodesRules}
 use Rattle.resolvo_encoder.specs.declared.conditions.ConditionSet.{ConditionSet}
@@ -44,8 +45,9 @@ use Rattle.resolvo_encoder.specs.declared.encoder.Encoder.{Encoder}
 use Rattle.resolvo_encoder.specs.declared.encoder.EncodedOnce.{EncodedOnce}
 use Rattle.resolvo_encoder.proofs.ConditionLemmas.{spells_join}
 use Rattle.resolvo_encoder.proofs.NeedLemmas.{literal_in, in_literals}
-use Rattle.resolvo_encoder.proofs.RequireLemmas.{each_of, some_one, extends_then, extends_same, registered_before, registered_stays}
-use Rattle.resolvo_encoder.proofs.EncodesLemmas.{built_recorded, at_least_one_recorded, there_recorded}
+use Rattle.resolvo_encoder.proofs.RequireLemmas.{each_of, some_one, extends_then, extends_same, registered_before, registered_stays, waiting_stays}
+use Rattle.resolvo_encoder.proofs.EncodesLemmas.{built_recorded, at_least_one_recorded, queued_recorded, there_recorded}
+use Rattle.resolvo_encoder.proofs.Parents.{prefix_contains}
 
 -- `Extends` doesn't depend on `recorded`, except for its soft requirements
 pub extends_recorded : {N S : Type 0} (old middle : Encoder N S) (x : EncodedOnce N S) → Extends old middle → x.softs.items ≡ middle.recorded.softs.items → Extends old (record middle { recorded = x })
@@ -99,11 +101,14 @@ of_other {N} {S} atoms vs name list v none h = record {
 }
 
 -- they are the registered ones, where the variables are those of the package
-pub those_of : {N S : Type 0} (e : Encoder N S) (name : N) (variables : List VariableId) (list : List (Offered N S)) → ((v : VariableId) → Contains variables v → IsTracked e.registry name v) → ((v : VariableId) → IsTracked e.registry name v → Contains variables v)
+pub those_of : {N S : Type 0} (e : Encoder N S) (name : N) (variables : List VariableId) (list : List (Offered N S)) → AreTied e.registry e.coding → ((v : VariableId) → Contains variables v → IsInTracker e.registry name v) → ((v : VariableId) → IsInTracker e.registry name v → Contains variables v)
     → AreOf e.coding.atoms.keys variables name list → AreThose e name list
-those_of e name variables list tracked all h = record {
-  each = λ s (v, present, there). h.each v s (all v there) (solvable_represents e.coding.atoms.keys v s present);
-  all = λ o a. (let (named, (v, present, at)) = h.all o a in (named, (v, represents_solvable e.coding.atoms.keys v o.solvable at, tracked v present)));
+those_of e name variables list tied tracked all h = record {
+  each = λ s (v, present, there). elim (tied.rest name v there) [
+    | inl placed ↦ inl (h.each v s (all v placed) (solvable_represents e.coding.atoms.keys v s present))
+    | inr queued ↦ inr (v, present, queued)
+  ];
+  all = λ o a. (let (named, (v, present, at)) = h.all o a in (named, (v, represents_solvable e.coding.atoms.keys v o.solvable at, tied.registered name v (tracked v present))));
 }
 
 module _ {N S : Type 0} (same : S → S → Bool) (exact : IsExact same) where
@@ -116,6 +121,7 @@ module _ {N S : Type 0} (same : S → S → Bool) (exact : IsExact same) where
     lists = refl;
     registry = refl;
     at_least_one = refl;
+    queued = refl;
     encoding = λ p root lawful holds fits. (holds, λ o h. absurd (contains_none o h));
   }
 
@@ -126,6 +132,7 @@ module _ {N S : Type 0} (same : S → S → Bool) (exact : IsExact same) where
     lists = g.lists ∙ f.lists;
     registry = g.registry ∙ f.registry;
     at_least_one = g.at_least_one ∙ f.at_least_one;
+    queued = g.queued ∙ f.queued;
     encoding = λ p root lawful holds fits.
         let (middle, first) = f.encoding p root lawful holds (λ o h. fits o (contains_left o xs ys h)) in
         let (last, second) = g.encoding p root lawful middle (λ o h. fits o (contains_right o xs ys h)) in
@@ -141,6 +148,7 @@ module _ {N S : Type 0} (same : S → S → Bool) (exact : IsExact same) where
     lists = encodes.lists;
     registry = encodes.registry;
     at_least_one = ap (λ (y : EncodedOnce N S). y.at_least_one) others ∙ ap (λ (y : EncodedOnce N S). y.at_least_one) encodes.recorded;
+    queued = ap (λ (y : EncodedOnce N S). y.queued) others ∙ ap (λ (y : EncodedOnce N S). y.queued) encodes.recorded;
     encoding = λ p root lawful e fits.
         let (named, candidate) = fits o (contains_only o) in
         let (holds, rules) = encodes.encoding p root lawful e (λ r h. subst (IsRule same p root) (sym (contains_one r (Rule.is_there o.name o.solvable) h)) candidate) in
@@ -158,6 +166,7 @@ module _ {N S : Type 0} (same : S → S → Bool) (exact : IsExact same) where
     lists = refl;
     registry = refl;
     at_least_one = refl;
+    queued = refl;
     encoding = λ p root lawful holds fits. (
       holds,
       λ q h. subst (λ (y : Offered N S). E.rules_of e (Rule.is_there y.name y.solvable)) (sym (contains_one q o h)) (subst (λ n. E.rules_of e (Rule.is_there n o.solvable)) (sym (fits o (contains_only o)).0) (holds.cases.there o.solvable known)),
@@ -191,7 +200,7 @@ module _ {N S : Type 0} (same : S → S → Bool) (exact : IsExact same) where
   -- ---- a package of a case
 
   pub package_known : (name : N) (e : Encoder N S) → IsBuilt e → Contains e.recorded.at_least_one.keys name → TracksAtLeastOne same name e e
-  package_known name e built known = record { built = built; extends = extends_same e; lists = refl; registry = refl; keeps = λ n h. h; at_least_one = known; encoding = λ p root lawful holds. holds }
+  package_known name e built known = record { built = built; extends = extends_same e; lists = refl; registry = refl; keeps = λ n h. h; at_least_one = known; queued = refl; encoding = λ p root lawful holds. holds }
 
   pub package_tracked : (name : N) (list : List (Offered N S)) (old middle : Encoder N S) (x : EncodedOnce N S) → AreThose old name list → AddsAtLeastOne same list old middle → ((n : N) → Contains x.at_least_one.keys n → Contains middle.recorded.at_least_one.keys n ⊎ (n ≡ name))
       → ((n : N) → Contains middle.recorded.at_least_one.keys n → Contains x.at_least_one.keys n) → Contains x.at_least_one.keys name → x ≡ record middle.recorded { at_least_one = x.at_least_one } → TracksAtLeastOne same name old (record middle { recorded = x })
@@ -202,10 +211,14 @@ module _ {N S : Type 0} (same : S → S → Bool) (exact : IsExact same) where
     registry = adds.registry;
     keeps = λ n h. keeps n (subst (λ ks. Contains ks.keys n) (sym adds.at_least_one) h);
     at_least_one = present;
+    queued = ap (λ (y : EncodedOnce N S). y.queued) others ∙ adds.queued;
     encoding = λ p root lawful e.
         let (holds, rules) = adds.encoding p root lawful e (fits p root e) in
         at_least_one_recorded same exact p root middle x name holds only keeps others
-        (λ s a. rules (record { solvable = s; name = name }) (those.each s (registered_before same exact p root lawful old middle e.tied adds.extends.grows adds.registry name s a)));
+        (λ s a. elim (those.each s (registered_before same exact p root lawful old middle e.tied adds.extends.grows adds.registry name s a)) [
+          | inl there ↦ inl (rules (record { solvable = s; name = name }) there)
+          | inr waits ↦ inr (waiting_stays same exact p root lawful old middle adds.extends.grows adds.registry name s waits)
+        ]);
   }
     where
       fits : (p : Packages N S) (root : Rules) → IsEncoding same p root old → (o : Offered N S) → Contains list o → IsListed same p o
@@ -213,6 +226,26 @@ module _ {N S : Type 0} (same : S → S → Bool) (exact : IsExact same) where
           let (named, registered) = those.all o h in
           let own : name ≡ p.package_of o.solvable = e.named name o.solvable registered in
           (named ∙ own, subst (λ n. is_in same p (listed (p.candidates_of n)) o.solvable ≡ true) (sym (named ∙ own)) (e.candidates o.solvable (subst (λ n. IsRegistered old.registry old.coding n o.solvable) own registered)))
+
+  -- a package of a case is named
+  pub package_named : (name : N) (old : Encoder N S) (x : EncodedOnce N S) → IsBuilt old → IsPrefixOf old.recorded.queued.keys x.queued.keys → Contains x.queued.keys name → x ≡ record old.recorded { queued = x.queued } → NamesPackage same name old (record old { recorded = x })
+  package_named name old x built prefix present others = record {
+    built = built_recorded old x built;
+    extends = extends_recorded old old x (extends_same old) (ap (λ (y : EncodedOnce N S). y.softs.items) others);
+    lists = refl;
+    registry = refl;
+    keeps = named;
+    named = inr present;
+    encoding = λ p root lawful e. queued_recorded same exact p root old x e named others;
+  }
+    where
+      named : (n : N) → IsNamed old.recorded n → IsNamed x n
+      named n (inl h) = inl (subst (λ (y : EncodedOnce N S). Contains y.at_least_one.keys n) (sym others) h)
+      named n (inr h) = inr (prefix_contains old.recorded.queued.keys x.queued.keys n prefix h)
+
+  -- it was recorded before
+  pub named_known : (name : N) (e : Encoder N S) → IsBuilt e → Contains e.recorded.at_least_one.keys name → NamesPackage same name e e
+  named_known name e built known = record { built = built; extends = extends_same e; lists = refl; registry = refl; keeps = λ n h. h; named = inl known; encoding = λ p root lawful holds. holds }
 
   -- ---- a version set of a case
 
@@ -265,7 +298,7 @@ module _ {N S : Type 0} (same : S → S → Bool) (exact : IsExact same) where
 
   -- its package is recorded, the candidates outside it are registered, and its literals are
   -- returned
-  pub set_literals : (set : ConditionSet N S) (any : VariableId) (given : List (Candidate N)) (literals : List Signed) (old a b c : Encoder N S) → TracksAtLeastOne same set.name old a → EncodesRules same [] a b → Represents b.coding.atoms.keys any (AtLeastOne set.name)
+  pub set_literals : (set : ConditionSet N S) (any : VariableId) (given : List (Candidate N)) (literals : List Signed) (old a b c : Encoder N S) → NamesPackage same set.name old a → EncodesRules same [] a b → Represents b.coding.atoms.keys any (AtLeastOne set.name)
       → Enrols same set.outside.items given b c → literals ≡ no any ∷ literals_in given → CaseLiterals same (set ∷ []) literals old c
   set_literals set any given literals old a b c first_step encodes present enrols is = record {
     built = enrols.built;
@@ -281,8 +314,8 @@ module _ {N S : Type 0} (same : S → S → Bool) (exact : IsExact same) where
         (enrols.encoding p root lawful second (outside_listed p lawful set is_set), at_least_one p lawful is_set);
   }
     where
-      at_least_one_kept : (n : N) → Contains a.recorded.at_least_one.keys n → Contains c.recorded.at_least_one.keys n
-      at_least_one_kept n h = subst (λ ks. Contains ks.keys n) (sym (enrols.at_least_one ∙ ap (λ (y : EncodedOnce N S). y.at_least_one) encodes.recorded)) h
+      at_least_one_kept : (n : N) → IsNamed a.recorded n → IsNamed c.recorded n
+      at_least_one_kept n h = subst (λ (y : EncodedOnce N S). IsNamed y n) (sym (enrols.recorded ∙ encodes.recorded)) h
 
       represents_last : Represents c.coding.atoms.keys any (AtLeastOne set.name)
       represents_last = represents_grow b.coding c.coding any (AtLeastOne set.name) enrols.extends.grows present
@@ -298,7 +331,7 @@ module _ {N S : Type 0} (same : S → S → Bool) (exact : IsExact same) where
 
       at_least_one : (p : Packages N S) → IsLawful p → IsSet same p set → AreCaseLiterals same p c (set.version_set ∷ []) literals
       at_least_one p lawful is_set = record {
-        recorded = λ v h. subst (λ w. Contains c.recorded.at_least_one.keys (p.set_package w)) (sym (contains_one v set.version_set h)) (subst (λ n. Contains c.recorded.at_least_one.keys n) is_set.named (at_least_one_kept set.name first_step.at_least_one));
+        recorded = λ v h. subst (λ w. IsNamed c.recorded (p.set_package w)) (sym (contains_one v set.version_set h)) (subst (λ n. IsNamed c.recorded n) is_set.named (at_least_one_kept set.name first_step.named));
         registered = λ v s h out.
             let (o, there, one) = outside_offered p lawful set is_set s (subst (λ w. is_outside same p w s ≡ true) (contains_one v set.version_set h) out) in
             let (x, from, fits) = enrols.each o there in

@@ -41,7 +41,7 @@ has_one_digit {N} {S} same p root e holds s bit b c (n, h) (k, j) =
     let (other, away, there, is_digit) = digit_kind e.coding.kinds.items k s bit c j in
     let first = holds.tied.placed n name s place bit at in
     let second = holds.tied.placed k other s away bit there in
-    let one : other ≡ name = holds.named other s (placed_registered e.registry e.coding other away s second) ∙ sym (holds.named name s (placed_registered e.registry e.coding name place s first)) in
+    let one : other ≡ name = holds.named other s (placed_registered e.registry e.coding other away s holds.tied second) ∙ sym (holds.named name s (placed_registered e.registry e.coding name place s holds.tied first)) in
     let both : place ≡ away = one_place e.registry e.coding name place away s holds.coding holds.tied first (subst (λ (m : N). IsPlaced e.registry e.coding m away s) one second) in
     is ∙ ap (λ q. digit q bit) both ∙ sym is_digit
 

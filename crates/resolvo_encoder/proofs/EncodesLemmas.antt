@@ -210,7 +210,7 @@ module _ {N S : Type 0} (same : S → S → Bool) (exact : IsExact same) where
 
     -- The encoded packages, version sets and solvables are recorded.
     pub recorded_keeps : (old : Encoder N S) (x : EncodedOnce N S) → IsEncoding same p root old → IsRecorded same p (E.rules_of old) x
-        → ((n : N) → Contains old.recorded.at_least_one.keys n → Contains x.at_least_one.keys n) → ((n : N) (s : S) → Contains x.at_least_one.keys n → IsRegistered old.registry old.coding n s → E.rules_of old (Rule.is_there n s))
+        → ((n : N) → E.IsNamed old.recorded n → E.IsNamed x n) → ((n : N) (s : S) → Contains x.at_least_one.keys n → IsRegistered old.registry old.coding n s → E.rules_of old (Rule.is_there n s) ⊎ E.IsWaiting old n s)
         → ((s : S) → Contains x.there.keys s → E.rules_of old (Rule.is_there (p.package_of s) s)) → x.softs.items ≡ old.recorded.softs.items → IsEncoding same p root (record old { recorded = x })
     recorded_keeps old x e recorded keeps at_least_one there softs = record {
       coding = e.coding;
@@ -261,9 +261,14 @@ module _ {N S : Type 0} (same : S → S → Bool) (exact : IsExact same) where
 
     -- a package is recorded whose registered solvables have at-least-one clauses
     pub at_least_one_recorded : (old : Encoder N S) (x : EncodedOnce N S) (n : N) → IsEncoding same p root old → ((m : N) → Contains x.at_least_one.keys m → Contains old.recorded.at_least_one.keys m ⊎ (m ≡ n)) → ((m : N) → Contains old.recorded.at_least_one.keys m → Contains x.at_least_one.keys m) → x ≡ record old.recorded { at_least_one = x.at_least_one }
-        → ((s : S) → IsRegistered old.registry old.coding n s → E.rules_of old (Rule.is_there n s)) → IsEncoding same p root (record old { recorded = x })
-    at_least_one_recorded old x n e only keeps others there = subst (λ (y : EncodedOnce N S). IsEncoding same p root (record old { recorded = y })) (sym others) (recorded_keeps old (record old.recorded { at_least_one = x.at_least_one }) e (record { packages = e.recorded.packages; version_sets = e.recorded.version_sets }) keeps
-        (λ m s h a. elim (only m h) [ inl b ↦ e.cases.at_least_one m s b a | inr is ↦ subst (λ y. E.rules_of old (Rule.is_there y s)) (sym is) (there s (subst (λ y. IsRegistered old.registry old.coding y s) is a)) ]) e.cases.there refl)
+        → ((s : S) → IsRegistered old.registry old.coding n s → E.rules_of old (Rule.is_there n s) ⊎ E.IsWaiting old n s) → IsEncoding same p root (record old { recorded = x })
+    at_least_one_recorded old x n e only keeps others there = subst (λ (y : EncodedOnce N S). IsEncoding same p root (record old { recorded = y })) (sym others) (recorded_keeps old (record old.recorded { at_least_one = x.at_least_one }) e (record { packages = e.recorded.packages; version_sets = e.recorded.version_sets }) (λ m h. elim h [ inl k ↦ inl (keeps m k) | inr k ↦ inr k ])
+        (λ m s h a. elim (only m h) [ inl b ↦ e.cases.at_least_one m s b a | inr is ↦ subst (λ y. E.rules_of old (Rule.is_there y s) ⊎ E.IsWaiting old y s) (sym is) (there s (subst (λ y. IsRegistered old.registry old.coding y s) is a)) ]) e.cases.there refl)
+
+    -- other packages are named: each that was is, or is recorded
+    pub queued_recorded : (old : Encoder N S) (x : EncodedOnce N S) → IsEncoding same p root old → ((n : N) → E.IsNamed old.recorded n → E.IsNamed x n) → x ≡ record old.recorded { queued = x.queued } → IsEncoding same p root (record old { recorded = x })
+    queued_recorded old x e named others = subst (λ (y : EncodedOnce N S). IsEncoding same p root (record old { recorded = y })) (sym others)
+        (recorded_keeps old (record old.recorded { queued = x.queued }) e (record { packages = e.recorded.packages; version_sets = e.recorded.version_sets }) (λ n h. subst (λ (y : EncodedOnce N S). E.IsNamed y n) others (named n h)) e.cases.at_least_one e.cases.there refl)
 
     -- a solvable is recorded that has an at-least-one clause
     pub there_recorded : (old : Encoder N S) (x : EncodedOnce N S) (s : S) → IsEncoding same p root old → ((t : S) → Contains x.there.keys t → Contains old.recorded.there.keys t ⊎ (t ≡ s)) → x ≡ record old.recorded { there = x.there }

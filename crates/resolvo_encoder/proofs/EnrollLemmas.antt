@@ -6,7 +6,7 @@ use Rattle.resolvo_pool_core.specs.declared.requirement.Requirement.{Requirement
 use Rattle.resolvo_pool_core.specs.ByRequirement.{slot_of}
 use Rattle.resolvo_pool_core.specs.Provider.{listed}
 use Rattle.resolvo_pool_core.specs.RuleKeeping.{Packages, Rules, IsLawful, is_in, meets}
-use Rattle.resolvo_store_core.specs.AtMostOne.{IsPrefixOf, digit}
+use Rattle.resolvo_store_core.specs.AtMostOne.{IsPrefixOf}
 use Rattle.resolvo_store_core.specs.Lists.{has_candidates, candidates_in, items_or_none, FixesCandidates, FixesDisjunction}
 use Rattle.resolvo_store_core.specs.declared.lists.Candidate.{Candidate}
 use Rattle.resolvo_store_core.specs.declared.lists.Disjunction.{Disjunction}
@@ -21,22 +21,19 @@ use Rattle.resolvo_packages.specs.PackageSource.{offered_solvables, AreOffered}
 use Rattle.resolvo_state.specs.declared.atom.ProofAtom.TheVariants.{Solvable, Gate}
 use Rattle.resolvo_state.specs.declared.solver_state.SolverState.{SolverState}
 use Rattle.resolvo_state.specs.declared.registry.Registry.{Registry}
-use Rattle.resolvo_state.specs.declared.clause_kind.ClauseKind.TheVariants as Kind
 use Rattle.resolvo_state.specs.Atoms.{Represents}
 use Rattle.resolvo_state.specs.SolverState.{Grows}
 use Rattle.resolvo_state.specs.Registered.{IsTracked, IsRegistered}
 use Rattle.resolvo_state.proofs.Growth.{grows_same, trail_same, represents_grow, rules_grow}
 use Rattle.resolvo_state.proofs.Positions.{prefix_same, prefix_equal}
-use Rattle.resolvo_state.proofs.Rules.{rule_at_kind}
-use Rattle.resolvo_encoder.specs.Encoded.{IsCandidate, AreCandidates, Asks, IsEncoding}
+use Rattle.resolvo_encoder.specs.Encoded.{IsCandidate, AreCandidates, IsEncoding}
 use Rattle.resolvo_encoder.specs.Encoded as E
-use Rattle.resolvo_encoder.specs.AtLeastOneClauses.{Admits}
 use Rattle.resolvo_encoder.specs.Steps.{IsBuilt, Extends, IsOfferedAs, RegistersAll, KeepsLists, AddsCandidates, IsListed, Enrols, Fixes}
 use Rattle.resolvo_encoder.specs.declared.encoder.Encoder.{Encoder}
 use Rattle.resolvo_encoder.proofs.NeedClauses.{literals_widen, condition_widens}
 use Rattle.resolvo_encoder.proofs.BuildLemmas.{seen_same, clauses_grow}
 use Rattle.resolvo_encoder.proofs.PickLemmas.{candidates_grow}
-use Rattle.resolvo_encoder.proofs.RequireLemmas.{AddedClause, Carries, carried, candidate_grows, recorded_grows, cases_keep, fix_at, fix_other, some_one, offer_named, offer_meets, meets_offer, meets_listed, registered_split, queued_keeps, gates_keep, NoneAsks, fixed_keeps, asked_keeps, within_keeps, encoded_keeps, cased_keeps, guards_keep, digit_added, extends_then, extends_same}
+use Rattle.resolvo_encoder.proofs.RequireLemmas.{Carries, carried, candidate_grows, recorded_grows, cases_keep, fix_at, fix_other, offer_named, offer_meets, meets_offer, meets_listed, registered_split, queued_keeps, gates_keep, NoneAsks, fixed_keeps, asked_keeps, within_keeps, encoded_keeps, cased_keeps, guards_keep, extends_then, extends_same}
 
 no_slot : {X : Type 0} (o : Option X) → is_some o ≡ false → o ≡ None
 no_slot None h = refl
@@ -51,37 +48,33 @@ abbrev pub relisted : {N S : Type 0} → Encoder N S → FixedLists N → Encode
 relisted old ls = record old { lists = ls }
 
 module _ {N S : Type 0} (same : S → S → Bool) (exact : IsExact same) (p : Packages N S) (root : Rules) (lawful : IsLawful p) where
-  -- The offered solvables are registered, where those of recorded packages have at-least-one
-  -- clauses.
+  -- The offered solvables are registered.
   pub registers_keep : (offered : List (Offered N S)) (given : List (Candidate N)) (old : Encoder N S) (t : Registry N) (c : SolverState N S) → IsEncoding same p root old → ((o : Offered N S) → Contains offered o → IsListed same p o)
-      → ((o : Offered N S) → Contains offered o → Contains old.recorded.at_least_one.keys o.name → E.rules_of old (Rule.is_there o.name o.solvable)) → RegistersAll offered given old.registry old.coding t c → IsEncoding same p root (enrolled old t c)
-  registers_keep offered given old t c e fits covered all = carried same exact p root old (enrolled old t c) e carries
+      → RegistersAll offered given old.registry old.coding t c → IsEncoding same p root (enrolled old t c)
+  registers_keep offered given old t c e fits all = carried same exact p root old (enrolled old t c) e carries
     where
       -- a registered solvable is a candidate of its package
       registered_new : (n : N) (s : S) → IsRegistered t c n s → (n ≡ p.package_of s) × (is_in same p (listed (p.candidates_of (p.package_of s))) s ≡ true)
       registered_new n s a = elim (registered_split same exact p root lawful offered given old.registry t old.coding c e.tied all n s a) [
         | inl b ↦ (let own = e.named n s b in (own, e.candidates s (subst (λ m. IsRegistered old.registry old.coding m s) own b)))
-        | inr (o, h, is, one) ↦ (let (named, candidate) = fits o h in let own : n ≡ p.package_of s = is ∙ named ∙ ap p.package_of one in
+        | inr (o, h, is, one, waits) ↦ (let (named, candidate) = fits o h in let own : n ≡ p.package_of s = is ∙ named ∙ ap p.package_of one in
             (own, subst (λ m. is_in same p (listed (p.candidates_of m)) s ≡ true) (sym is ∙ own) (subst (λ x. is_in same p (listed (p.candidates_of o.name)) x ≡ true) one candidate)))
       ]
 
-      new_clause : (n : ℕ) → length old.coding.search.clauses ≤ n → n < length c.search.clauses → AddedClause same exact p root (enrolled old t c) n
-      new_clause n low high =
-          let (name, d) = all.digits n low high in
-          let (own, candidate) = registered_new name d.solvable d.registered in
-          digit_added same exact p root lawful old (enrolled old t c) name n d own candidate
+      no_clause : (n : ℕ) → length old.coding.search.clauses ≤ n → n < length c.search.clauses → ⊥
+      no_clause n low high = let same_length : length c.search.clauses ≡ length old.coding.search.clauses = ap length all.clauses in omega arith
 
       none : NoneAsks same exact p root lawful old (enrolled old t c)
-      none n q low high at a =
-          let (name, d) = all.digits n low high in
-          let one : Rule.has_digit d.solvable d.bit (digit d.place d.bit) ≡ q = some_one (Rule.has_digit d.solvable d.bit (digit d.place d.bit)) q (sym (rule_at_kind c.kinds.items n (Kind.Digit name d.solvable d.place d.bit) d.kinds) ∙ at) in
-          subst Asks (sym one) a
+      none n q low high at a = no_clause n low high
 
-      at_least_one : (n : N) (s : S) → Contains old.recorded.at_least_one.keys n → IsRegistered t c n s → E.rules_of (enrolled old t c) (Rule.is_there n s)
-      at_least_one n s h a = rules_grow old.coding c all.grows (Rule.is_there n s) (elim (registered_split same exact p root lawful offered given old.registry t old.coding c e.tied all n s a) [
-        | inl b ↦ e.cases.at_least_one n s h b
-        | inr (o, present, is, one) ↦ subst (λ m. E.rules_of old (Rule.is_there m s)) (sym is) (subst (λ x. E.rules_of old (Rule.is_there o.name x)) one (covered o present (subst (λ m. Contains old.recorded.at_least_one.keys m) is h)))
-      ])
+      at_least_one : (n : N) (s : S) → Contains old.recorded.at_least_one.keys n → IsRegistered t c n s → E.rules_of (enrolled old t c) (Rule.is_there n s) ⊎ E.IsWaiting (enrolled old t c) n s
+      at_least_one n s h a = elim (registered_split same exact p root lawful offered given old.registry t old.coding c e.tied all n s a) [
+        | inl b ↦ elim (e.cases.at_least_one n s h b) [
+          | inl rule ↦ inl (rules_grow old.coding c all.grows (Rule.is_there n s) rule)
+          | inr (v, present, queued) ↦ inr (v, represents_grow old.coding c v (Solvable s) all.grows present, all.waits n v queued)
+        ]
+        | inr (o, present, is, one, waits) ↦ inr waits
+      ]
 
       candidate : (n : N) (s : S) (x : Candidate N) → IsCandidate old n s x → IsCandidate (enrolled old t c) n s x
       candidate n s x h = candidate_grows same exact p root old (enrolled old t c) n s x all.grows all.keeps h
@@ -94,7 +87,7 @@ module _ {N S : Type 0} (same : S → S → Bool) (exact : IsExact same) (p : Pa
         tied = all.tied;
         keeps = all.keeps;
         registered = λ n s a. inr (registered_new n s a);
-        new_clause = new_clause;
+        new_clause = λ n low high. absurd (no_clause n low high);
         lists = λ q k. refl;
         listed = λ q x a. (let (s, b, m) = e.listed q x a in (s, candidate (p.package_of s) s x b, m));
         offered = λ q s k m. (let (x, there, b) = e.offered q s k m in (x, there, candidate (p.package_of s) s x b));
@@ -221,21 +214,18 @@ module _ {N S : Type 0} (same : S → S → Bool) where
     seen = seen_same old (enrolled old t c) b all.trail refl;
   }
 
-  -- the offered solvables are admitted, and then registered
-  pub enrols : IsExact same → (offered : List (Offered N S)) (given : List (Candidate N)) (old middle : Encoder N S) (t : Registry N) (c : SolverState N S) → Admits same offered old middle → RegistersAll offered given middle.registry middle.coding t c
-      → Enrols same offered given old (enrolled middle t c)
-  enrols exact offered given old middle t c admits all = record {
-    built = built_enrolls offered given middle t c admits.adds.built all;
-    extends = extends_then old middle (enrolled middle t c) admits.adds.extends (record { grows = all.grows; trail = all.trail; softs = refl; parents = refl; encoded = refl; deferred = refl; fired = refl });
-    lists = admits.adds.lists;
-    at_least_one = admits.adds.at_least_one;
-    keeps = λ m u h. all.keeps m u (subst (λ (r : Registry N). IsTracked r m u) (sym admits.adds.registry) h);
+  -- the offered solvables are registered
+  pub enrols : IsExact same → (offered : List (Offered N S)) (given : List (Candidate N)) (old : Encoder N S) (t : Registry N) (c : SolverState N S) → IsBuilt old → RegistersAll offered given old.registry old.coding t c → Enrols same offered given old (enrolled old t c)
+  enrols exact offered given old t c built all = record {
+    built = built_enrolls offered given old t c built all;
+    extends = record { grows = all.grows; trail = all.trail; softs = refl; parents = refl; encoded = refl; deferred = refl; fired = refl };
+    lists = refl;
+    recorded = refl;
+    keeps = all.keeps;
     each = all.each;
     all = all.all;
     ordered = all.ordered;
-    encoding = λ p root lawful e fits.
-        let (before, covered) = admits.adds.encoding p root lawful e (λ o h. fits o (admits.only o h)) in
-        registers_keep same exact p root lawful offered given middle t c before fits (λ o h named. covered o (admits.each o h (subst (λ ks. Contains ks.keys o.name) admits.adds.at_least_one named))) all;
+    encoding = λ p root lawful e fits. registers_keep same exact p root lawful offered given old t c e fits all;
   }
 
   pub fixes_extend : (r : Requirement) (offered : List (Offered N S)) (old new : Encoder N S) → Fixes same r offered old new → Extends old new

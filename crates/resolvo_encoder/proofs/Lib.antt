@@ -18,5 +18,6 @@ pub mod SoftLemmas
 pub mod Bases
 pub mod BlameLemmas
 pub mod CaseLiterals
+pub mod PlaceLemmas
 pub mod FireLemmas
 pub mod RecordLemmas

@@ -41,7 +41,8 @@ use Rattle.resolvo_state.specs.declared.solver_state.SolverState.{SolverState}
 use Rattle.resolvo_state.specs.Atoms.{origin, Represents}
 use Rattle.resolvo_state.specs.ClauseKinds.{rule_of, kind_at, rule_at}
 use Rattle.resolvo_state.specs.SolverState.{IsCoding, AddsRule, Gives}
-use Rattle.resolvo_state.specs.Registered.{AreTied, IsTracked}
+use Rattle.resolvo_state.specs.declared.registry.Member.{Member}
+use Rattle.resolvo_state.specs.Registered.{member, AreTied, IsTracked}
 use Rattle.resolvo_encoder.specs.Encoded.{IsParentVariable, IsCandidate, IsQueuedFor, Asks, IsGuarded, Registered, IsEncoding}
 use Rattle.resolvo_encoder.specs.Encoded as E
 use Rattle.resolvo_encoder.specs.ClauseRules.{IsRestraint}
@@ -254,7 +255,7 @@ module _ {N S : Type 0} (same : S → S → Bool) (exact : IsExact same) (p : Pa
   -- version sets are registered
   abbrev pub IsReady : Encoder N S → ClauseKind N S → Type 0
   IsReady e x = (parent : Option S) (need : ConditionalRequirement) (case : List VersionSetId) (w : VersionSetId) → rule_of x ≡ Some (Rule.needs parent need case) → Contains case w
-      → Contains e.recorded.at_least_one.keys (p.set_package w) × ((s : S) → is_outside same p w s ≡ true → Registered same p root e s)
+      → E.IsNamed e.recorded (p.set_package w) × ((s : S) → is_outside same p w s ≡ true → Registered same p root e s)
 
   -- The clause of a requirement, or of a gate, was added.
   pub need_keeps : (x : ClauseKind N S) (v : VariableId) (condition : Option (DenseId DisjunctionTag ℕ)) (r : Requirement) (old new : Encoder N S) → IsEncoding same p root old → has_candidates old.lists r ≡ true → IsGuarded same p (E.rules_of old) r
@@ -358,11 +359,11 @@ module _ {N S : Type 0} (same : S → S → Bool) (exact : IsExact same) (p : Pa
       ]
 
       cased : (parent : Option S) (wanted : ConditionalRequirement) (case : List VersionSetId) (w : VersionSetId) → E.rules_of new (Rule.needs parent wanted case) → Contains case w
-          → Contains new.recorded.at_least_one.keys (p.set_package w) × ((s : S) → is_outside same p w s ≡ true → Registered same p root new s)
+          → E.IsNamed new.recorded (p.set_package w) × ((s : S) → is_outside same p w s ≡ true → Registered same p root new s)
       cased parent wanted case w present h = elim (rules_split old.coding new.coding e.coding new_clause.states.coding new_clause.states.grows (Rule.needs parent wanted case) present) [
         | inl a ↦ cased_stays same exact p root old new e.cases new_clause.states.grows new_clause.recorded tracked parent wanted case w a h
         | inr (n, low, high, at) ↦ (let (named, out) = ready parent wanted case w (same_rule n (Rule.needs parent wanted case) low high at) h in
-            (subst (λ (y : EncodedOnce N S). Contains y.at_least_one.keys (p.set_package w)) (sym new_clause.recorded) named, λ s o. registered_stays same exact p root old new (p.package_of s) s new_clause.states.grows tracked (out s o)))
+            (subst (λ (y : EncodedOnce N S). E.IsNamed y (p.set_package w)) (sym new_clause.recorded) named, λ s o. registered_stays same exact p root old new (p.package_of s) s new_clause.states.grows tracked (out s o)))
       ]
 
       no_digit : (m : N) (t : S) (at bit : ℕ) → x ≡ Kind.Digit m t at bit → ⊥
@@ -390,7 +391,7 @@ module _ {N S : Type 0} (same : S → S → Bool) (exact : IsExact same) (p : Pa
         forbid = forbid;
         recorded = recorded_grows same exact p root old new new_clause.states.grows new_clause.recorded e.recorded;
         softs = ap (λ (x : EncodedOnce N S). x.softs.items) new_clause.recorded;
-        cases = cases_keep same exact p root old new e.cases new_clause.states.grows new_clause.deferred new_clause.fired new_clause.recorded cased (at_least_one_keeps same exact p root lawful old new e.cases new_clause.states.grows new_clause.recorded (registered_before same exact p root lawful old new e.tied new_clause.states.grows new_clause.registry));
+        cases = cases_keep same exact p root old new e.cases new_clause.states.grows new_clause.deferred new_clause.fired new_clause.recorded cased (at_least_one_keeps same exact p root lawful old new e.cases new_clause.states.grows new_clause.recorded new_clause.registry (registered_before same exact p root lawful old new e.tied new_clause.states.grows new_clause.registry));
         within = within_keeps same exact p root lawful old new e new_clause.parents new_clause.encoded;
         encoded = encoded_keeps same exact p root lawful old new e new_clause.states.grows new_clause.parents new_clause.encoded new_clause.deferred;
       }
@@ -532,7 +533,7 @@ module _ {N S : Type 0} (same : S → S → Bool) (exact : IsExact same) (p : Pa
   pub begun_encodes : (e : Encoder N S) → IsBegunEncoding e → IsEncoding same p root e
   begun_encodes e b = record {
     coding = b.coding.coding;
-    tied = nothing_tied e.registry e.coding b.registry.names b.registry.trackers b.coding.kinds;
+    tied = nothing_tied e.registry e.coding b.registry b.coding.kinds;
     spelled = λ n r h. absurd (no_rule n r h);
     rule = λ r (n, h). absurd (no_rule n r h);
     positive = λ n l s h (other, m). absurd (rootless n l h other);
@@ -577,10 +578,7 @@ module _ {N S : Type 0} (same : S → S → Bool) (exact : IsExact same) (p : Pa
           go (suc k) f = absurd cc
 
       no_tracker : {m : N} (v : VariableId) → IsTracked e.registry m v → ⊥
-      no_tracker {m} v t = nothing t.place (subst (λ (xs : List N). slice_get xs t.place ≡ Some m) b.registry.names t.named)
-        where
-          nothing : (k : ℕ) → slice_get [] k ≡ Some m → ⊥
-          nothing k h = absurd cc
+      no_tracker {m} v t = contains_none (member m v) (subst (λ (xs : List (Member N)). Contains xs (member m v)) b.registry.members t)
 
       rootless : (n : ℕ) (l : Signed) → has (clause_at (clauses_of e.coding.search) n) l ≡ true → 0 < l.variable.0 → ⊥
       rootless n l h other = go e.coding.search.clauses b.coding.clause n h

@@ -26,7 +26,6 @@ use Rattle.resolvo_state.specs.Registered.{IsTracked, Registers}
 use Rattle.resolvo_state.proofs.Origins.{means_solvable}
 use Rattle.resolvo_encoder.specs.declared.encoder.Encoder.{Encoder}
 use Rattle.resolvo_encoder.specs.Encoded.{IsChosenFor, IsEncoding, Registered}
-use Rattle.resolvo_encoder.specs.AtLeastOneClauses.{Admits}
 use Rattle.resolvo_encoder.proofs.CarryLemmas.{registers_none, registers_more}
 use Rattle.resolvo_encoder.proofs.EnrollLemmas.{enrolled, enrols}
 use Rattle.resolvo_encoder.proofs.EncodesLemmas.{built_recorded}
@@ -45,12 +44,11 @@ module _ {N S : Type 0} (same : S → S → Bool) (exact : IsExact same) where
   -- ---- a soft requirement is added
 
   -- a soft requirement is registered as an offered solvable is
-  pub soft_registers : (one : Offered N S) (v : VariableId) (old middle : Encoder N S) (t : Registry N) (c : SolverState N S) → Admits same (one ∷ []) old middle → Registers one.name one.solvable v middle.registry middle.coding t c
-      → RegistersSoft same one v old (enrolled middle t c)
-  soft_registers one v old middle t c admits soft_registered = record {
+  pub soft_registers : (one : Offered N S) (v : VariableId) (old : Encoder N S) (t : Registry N) (c : SolverState N S) → IsBuilt old → Registers one.name one.solvable v old.registry old.coding t c → RegistersSoft same one v old (enrolled old t c)
+  soft_registers one v old t c built soft_registered = record {
     candidate = given;
-    enrols = enrols same exact (one ∷ []) (given ∷ []) old middle t c admits
-        (registers_more [] [] one given middle.registry middle.registry t middle.coding middle.coding c (registers_none middle.registry middle.coding admits.adds.built.coding admits.adds.built.tied) (record { literal = refl; registers = soft_registered }));
+    enrols = enrols same exact (one ∷ []) (given ∷ []) old t c built
+        (registers_more [] [] one given old.registry old.registry t old.coding old.coding c (registers_none old.registry old.coding built.coding built.tied) (record { literal = refl; registers = soft_registered }));
     present = soft_registered.present;
     tracked = soft_registered.registered;
   }

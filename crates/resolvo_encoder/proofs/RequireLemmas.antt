@@ -39,7 +39,7 @@ use Rattle.resolvo_state.specs.declared.registry.Registry.{Registry}
 use Rattle.resolvo_state.specs.Atoms.{origin, Represents}
 use Rattle.resolvo_state.specs.ClauseKinds.{rule_of, kind_at, rule_at}
 use Rattle.resolvo_state.specs.SolverState.{IsCoding, Grows, SameTrail}
-use Rattle.resolvo_state.specs.Registered.{AreTied, IsTracked, IsRegistered, IsDigitClause, digit_literals}
+use Rattle.resolvo_state.specs.Registered.{AreTied, IsTracked, IsQueued, IsRegistered, IsDigitClause, digit_literals}
 use Rattle.resolvo_encoder.specs.Cases.{case_of, IsDeferred}
 use Rattle.resolvo_encoder.specs.Encoded.{IsCandidate, AreCandidates, HasOrder, IsQueuedFor, Asks, IsGuarded, IsLimitEncoded, IsRecorded, IsCaseEncoded, IsParentEncoded, Registered, AreCased, IsEncoding, IsChosenFor}
 use Rattle.resolvo_encoder.specs.Encoded as E
@@ -174,8 +174,8 @@ module _ {N S : Type 0} (same : S → S → Bool) (exact : IsExact same) (p : Pa
 
   -- The deferred cases and the fired ones are unchanged.
   pub cases_keep : (old new : Encoder N S) → AreCased same p root old → Grows old.coding new.coding → new.deferred ≡ old.deferred → new.fired ≡ old.fired → new.recorded ≡ old.recorded
-      → ((parent : Option S) (need : ConditionalRequirement) (case : List VersionSetId) (v : VersionSetId) → E.rules_of new (Rule.needs parent need case) → Contains case v → Contains new.recorded.at_least_one.keys (p.set_package v) × ((s : S) → is_outside same p v s ≡ true → Registered same p root new s))
-      → ((n : N) (s : S) → Contains new.recorded.at_least_one.keys n → IsRegistered new.registry new.coding n s → E.rules_of new (Rule.is_there n s)) → AreCased same p root new
+      → ((parent : Option S) (need : ConditionalRequirement) (case : List VersionSetId) (v : VersionSetId) → E.rules_of new (Rule.needs parent need case) → Contains case v → E.IsNamed new.recorded (p.set_package v) × ((s : S) → is_outside same p v s ≡ true → Registered same p root new s))
+      → ((n : N) (s : S) → Contains new.recorded.at_least_one.keys n → IsRegistered new.registry new.coding n s → E.rules_of new (Rule.is_there n s) ⊎ E.IsWaiting new n s) → AreCased same p root new
   cases_keep old new e grows deferred fired recorded cased at_least_one = record {
     waiting = λ i d at. e.waiting i d (subst (λ (ds : Vec (Deferred S) Global). slice_get ds.items i ≡ Some d) deferred at);
     places = λ i h. subst (λ (ds : Vec (Deferred S) Global). i < length ds.items) (sym deferred) (e.places i (subst (λ ks. Contains ks.keys i) fired h));
@@ -188,10 +188,10 @@ module _ {N S : Type 0} (same : S → S → Bool) (exact : IsExact same) (p : Pa
   -- the packages of an encoded case remain recorded, and the candidates outside registered
   pub cased_stays : (old new : Encoder N S) → AreCased same p root old → Grows old.coding new.coding → new.recorded ≡ old.recorded → ((m : N) (u : VariableId) → IsTracked old.registry m u → IsTracked new.registry m u)
       → (parent : Option S) (need : ConditionalRequirement) (case : List VersionSetId) (v : VersionSetId) → E.rules_of old (Rule.needs parent need case) → Contains case v
-      → Contains new.recorded.at_least_one.keys (p.set_package v) × ((s : S) → is_outside same p v s ≡ true → Registered same p root new s)
+      → E.IsNamed new.recorded (p.set_package v) × ((s : S) → is_outside same p v s ≡ true → Registered same p root new s)
   cased_stays old new e grows recorded keeps parent need case v present h =
       let (named, out) = e.cased parent need case v present h in
-      (subst (λ (x : EncodedOnce N S). Contains x.at_least_one.keys (p.set_package v)) (sym recorded) named, λ s o. registered_stays old new (p.package_of s) s grows keeps (out s o))
+      (subst (λ (x : EncodedOnce N S). E.IsNamed x (p.set_package v)) (sym recorded) named, λ s o. registered_stays old new (p.package_of s) s grows keeps (out s o))
 
 -- the value of a map by requirement where it was put
 pub put_at : {V : Type 0} (m n : List (Option V) × List (Option V)) (r : Requirement) (x : V) → PutsAt m n r x → slot_of n r ≡ Some x
@@ -245,13 +245,13 @@ module _ {N S : Type 0} (same : S → S → Bool) (exact : IsExact same) (p : Pa
 
   -- a registered solvable was registered before, or is offered
   pub registered_split : (offered : List (Offered N S)) (given : List (Candidate N)) (r t : Registry N) (old new : SolverState N S) → AreTied r old → RegistersAll offered given r old t new
-      → (n : N) (s : S) → IsRegistered t new n s → IsRegistered r old n s ⊎ ((o : Offered N S) × Contains offered o × (n ≡ o.name) × (o.solvable ≡ s))
+      → (n : N) (s : S) → IsRegistered t new n s → IsRegistered r old n s ⊎ ((o : Offered N S) × Contains offered o × (n ≡ o.name) × (o.solvable ≡ s) × ((v : VariableId) × Represents new.atoms.keys v (Solvable s) × IsQueued t n v))
   registered_split offered given r t old new tied all n s (v, present, tracked) = elim (all.only n v tracked) [
     | inl k ↦
-        let (x, before) = (tied.tied k.place n k.tracker k.named k.tracked).solvables v k.present in
+        let (x, before) = tied.solvables n v k in
         let one : x ≡ s = some_one x s (sym (solvable_represents new.atoms.keys v x (represents_grow old new v (Solvable x) all.grows before)) ∙ solvable_represents new.atoms.keys v s present) in
         inl (v, subst (λ y. Represents old.atoms.keys v (Solvable y)) one before, k)
-    | inr (o, c, e, f) ↦ inr (o, c, e, some_one o.solvable s (sym (solvable_represents new.atoms.keys v o.solvable f) ∙ solvable_represents new.atoms.keys v s present))
+    | inr (o, c, e, f, queued) ↦ inr (o, c, e, some_one o.solvable s (sym (solvable_represents new.atoms.keys v o.solvable f) ∙ solvable_represents new.atoms.keys v s present), (v, present, queued))
   ]
 
   pub queued_keeps : (old new : Encoder N S) → IsEncoding same p root old → Grows old.coding new.coding → IsPrefixOf old.lists.disjunctions new.lists.disjunctions → (q : NeedClause) → Contains old.queue q → IsQueuedFor same p new.lists new.coding.atoms.keys (kind_at new.coding.kinds.items q.clause.0) q
@@ -306,22 +306,29 @@ module _ {N S : Type 0} (same : S → S → Bool) (exact : IsExact same) (p : Pa
   -- no clause of a case was added
   pub cased_keeps : (old new : Encoder N S) → IsEncoding same p root old → IsCoding new.coding → Grows old.coding new.coding → new.recorded ≡ old.recorded → ((m : N) (u : VariableId) → IsTracked old.registry m u → IsTracked new.registry m u) → NoneAsks old new
       → (parent : Option S) (need : ConditionalRequirement) (case : List VersionSetId) (v : VersionSetId) → E.rules_of new (Rule.needs parent need case) → Contains case v
-      → Contains new.recorded.at_least_one.keys (p.set_package v) × ((s : S) → is_outside same p v s ≡ true → Registered same p root new s)
+      → E.IsNamed new.recorded (p.set_package v) × ((s : S) → is_outside same p v s ≡ true → Registered same p root new s)
   cased_keeps old new e coding grows recorded keeps none parent need case v present h = elim (rules_split old.coding new.coding e.coding coding grows (Rule.needs parent need case) present) [
     | inl a ↦ cased_stays same exact p root old new e.cases grows recorded keeps parent need case v a h
     | inr (n, low, high, at) ↦ absurd (none n (Rule.needs parent need case) low high at tt)
   ]
 
+  -- what waits still does, where the registry is unchanged
+  pub waiting_stays : (old new : Encoder N S) → Grows old.coding new.coding → new.registry ≡ old.registry → (n : N) (s : S) → E.IsWaiting old n s → E.IsWaiting new n s
+  waiting_stays old new grows registry n s (v, present, queued) = (v, represents_grow old.coding new.coding v (Solvable s) grows present, subst (λ (t : Registry N). IsQueued t n v) (sym registry) queued)
+
   -- no solvable was registered
-  pub at_least_one_keeps : (old new : Encoder N S) → AreCased same p root old → Grows old.coding new.coding → new.recorded ≡ old.recorded → ((n : N) (s : S) → IsRegistered new.registry new.coding n s → IsRegistered old.registry old.coding n s)
-      → (n : N) (s : S) → Contains new.recorded.at_least_one.keys n → IsRegistered new.registry new.coding n s → E.rules_of new (Rule.is_there n s)
-  at_least_one_keeps old new e grows recorded back n s h a = rules_grow old.coding new.coding grows (Rule.is_there n s) (e.at_least_one n s (subst (λ (x : EncodedOnce N S). Contains x.at_least_one.keys n) recorded h) (back n s a))
+  pub at_least_one_keeps : (old new : Encoder N S) → AreCased same p root old → Grows old.coding new.coding → new.recorded ≡ old.recorded → new.registry ≡ old.registry → ((n : N) (s : S) → IsRegistered new.registry new.coding n s → IsRegistered old.registry old.coding n s)
+      → (n : N) (s : S) → Contains new.recorded.at_least_one.keys n → IsRegistered new.registry new.coding n s → E.rules_of new (Rule.is_there n s) ⊎ E.IsWaiting new n s
+  at_least_one_keeps old new e grows recorded registry back n s h a = elim (e.at_least_one n s (subst (λ (x : EncodedOnce N S). Contains x.at_least_one.keys n) recorded h) (back n s a)) [
+    | inl rule ↦ inl (rules_grow old.coding new.coding grows (Rule.is_there n s) rule)
+    | inr waits ↦ inr (waiting_stays old new grows registry n s waits)
+  ]
 
   -- registered solvables were so before, where the registry is unchanged
   pub registered_before : (old new : Encoder N S) → AreTied old.registry old.coding → Grows old.coding new.coding → new.registry ≡ old.registry → (n : N) (s : S) → IsRegistered new.registry new.coding n s → IsRegistered old.registry old.coding n s
   registered_before old new tied grows registry n s (u, present, there) =
       let k = subst (λ (t : Registry N). IsTracked t n u) registry there in
-      let (x, before) = (tied.tied k.place n k.tracker k.named k.tracked).solvables u k.present in
+      let (x, before) = tied.solvables n u k in
       let one : x ≡ s = some_one x s (sym (solvable_represents new.coding.atoms.keys u x (represents_grow old.coding new.coding u (Solvable x) grows before)) ∙ solvable_represents new.coding.atoms.keys u s present) in
       (u, subst (λ y. Represents old.coding.atoms.keys u (Solvable y)) one before, k)
 
@@ -357,7 +364,7 @@ module _ {N S : Type 0} (same : S → S → Bool) (exact : IsExact same) (p : Pa
     forbid = guards_keep old new e coding grows none;
     recorded = recorded_grows same exact p root old new grows rest.recorded e.recorded;
     softs = ap (λ (x : EncodedOnce N S). x.softs.items) rest.recorded;
-    cases = cases_keep same exact p root old new e.cases grows rest.deferred rest.fired rest.recorded (cased_keeps old new e coding grows rest.recorded tracked none) (at_least_one_keeps old new e.cases grows rest.recorded back);
+    cases = cases_keep same exact p root old new e.cases grows rest.deferred rest.fired rest.recorded (cased_keeps old new e coding grows rest.recorded tracked none) (at_least_one_keeps old new e.cases grows rest.recorded rest.registry back);
     within = within_keeps old new e rest.parents rest.encoded;
     encoded = encoded_keeps old new e grows rest.parents rest.encoded rest.deferred;
   }

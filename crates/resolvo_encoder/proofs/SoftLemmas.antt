@@ -36,6 +36,10 @@ retied e level h = record {
   once = h.once;
   tied = λ k name t a b. (let i = h.tied k name t a b in record { solvables = i.solvables; digits = i.digits; room = i.room; few = i.few; once = i.once; by_digits = i.by_digits });
   placed = λ n name s place bit at. (let i = h.placed n name s place bit at in record { number = i.number; tracker = i.tracker; variable = i.variable; named = i.named; tracked = i.tracked; present = i.present; means = i.means });
+  within = h.within;
+  solvables = h.solvables;
+  registered = h.registered;
+  rest = h.rest;
 }
 
 pub floor_built : {N S : Type 0} (e : Encoder N S) (level : ℕ) → IsCoding (floored e level).coding → IsBuilt e → IsBuilt (floored e level)

@@ -90,7 +90,7 @@ module _ {N S : Type 0} (same : S → S → Bool) (exact : IsExact same) (p : Pa
     recorded = recorded_grows same exact p root old new goes.grows goes.rest.recorded e.recorded;
     cases = cases_keep same exact p root old new e.cases goes.grows goes.rest.deferred goes.rest.fired goes.rest.recorded
         (λ parent need case v present h. cased_stays same exact p root old new e.cases goes.grows goes.rest.recorded tracked parent need case v (rule_back (Rule.needs parent need case) present) h)
-        (at_least_one_keeps same exact p root lawful old new e.cases goes.grows goes.rest.recorded registered_back);
+        (at_least_one_keeps same exact p root lawful old new e.cases goes.grows goes.rest.recorded goes.rest.registry registered_back);
     within = within_keeps same exact p root lawful old new e goes.rest.parents goes.rest.encoded;
     encoded = encoded_keeps same exact p root lawful old new e goes.grows goes.rest.parents goes.rest.encoded goes.rest.deferred;
     wished = λ s a. registered_still s (e.wished s (subst (λ (x : EncodedOnce N S). Contains x.softs.items s) goes.rest.recorded a));

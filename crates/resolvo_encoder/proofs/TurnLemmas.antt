@@ -88,17 +88,22 @@ root_denied e coding first literals causes refusal l h =
 
 module _ {N S : Type 0} (same : S → S → Bool) (exact : IsExact same) (p : Packages N S) (root : Rules) (lawful : IsLawful p) (e : Encoder N S) where
   -- The properties of the clauses that don't depend on the trail.
-  pub register : IsEncoding same p root e → Ending.AreRegistered same p (E.rules_of e) root (Registered same p root e) e.recorded.softs.items
-  register holds = record {
+  pub register : IsEncoding same p root e → E.IsWhole e → Ending.AreRegistered same p (E.rules_of e) root (Registered same p root e) e.recorded.softs.items
+  register holds placed = record {
     rule = holds.rule;
     soft = λ s h. holds.wished s (in_contained same exact p e.recorded.softs.items s h);
     candidate = λ r s has fits. (let (c, present, is) = holds.offered r s (holds.fixed r has) fits in (c.literal.variable, is.present, is.tracked));
     out = λ parent need case v s present h outside. (holds.cases.cased parent need case v present h).1 s outside;
     candidates = holds.candidates;
-    by_digits = λ s t a b named. by_digits e.registry e.coding (p.package_of s) s t holds.tied a (subst (λ (n : N). IsRegistered e.registry e.coding n t) (sym named) b);
-    there = λ parent need case v s present h registered named. holds.cases.at_least_one (p.set_package v) s (holds.cases.cased parent need case v present h).0 (subst (λ (n : N). IsRegistered e.registry e.coding n s) named registered);
+    by_digits = λ s t a b named. by_digits e.registry e.coding (p.package_of s) s t holds.tied placed.solvables a (subst (λ (n : N). IsRegistered e.registry e.coding n t) (sym named) b);
+    there = λ parent need case v s present h registered named. there (p.set_package v) s (holds.cases.cased parent need case v present h).0 (subst (λ (n : N). IsRegistered e.registry e.coding n s) named registered);
     forbid = λ r v s has h barred. holds.forbid r has v s h barred;
   }
+    where
+      -- where nothing waits, the registered solvables of the packages of cases have at-least-one clauses
+      there : (n : N) (s : S) → E.IsNamed e.recorded n → IsRegistered e.registry e.coding n s → E.rules_of e (Rule.is_there n s)
+      there n s (inl named) registered = elim (holds.cases.at_least_one n s named registered) [ inl rule ↦ rule | inr (v, present, queued) ↦ absurd (placed.solvables n v queued) ]
+      there n s (inr waits) registered = absurd (placed.packages n waits)
 
   -- a clause that encodes a rule is one of the clauses
   rule_within : IsEncoding same p root e → (n : ℕ) (r : Rule N S) → rule_at e.coding.kinds.items n ≡ Some r → n < length e.coding.search.clauses
@@ -290,10 +295,10 @@ module _ {N S : Type 0} (same : S → S → Bool) (exact : IsExact same) (p : Pa
   -- The turn has ended where the clauses are quiet and nothing is left to decide. The root and the
   -- chosen solvables are encoded, and no deferred case holds.
   pub turn_ended : IsEncoding same p root e → AreSpent same e → (values : ℕ → Option Bool) (score : N → ℕ) → AreValues values (made_true (history e.coding.search))
-      → ((n : ℕ) → n < length e.coding.search.clauses → IsQuiet (made_true (history e.coding.search)) (clause_at (clauses_of e.coding.search) n)) → IsDecided e values score
+      → ((n : ℕ) → n < length e.coding.search.clauses → IsQuiet (made_true (history e.coding.search)) (clause_at (clauses_of e.coding.search) n)) → IsDecided e values score → E.IsWhole e
       → (members : List S) → AreChosen e.coding.atoms.keys (made_true (history e.coding.search)) members → AreAmongEncoded e members
       → IsTurnEnd (origin e.coding.atoms.keys) same p (E.rules_of e) root (Registered same p root e) e.recorded.softs.items (count_of e.coding.search) e.coding.search.clauses (history e.coding.search) members
-  turn_ended holds spent values score agree quiet decided members chosen among = record {
+  turn_ended holds spent values score agree quiet decided placed members chosen among = record {
     lawful = lawful;
     coded = coding_coded same p (Registered same p root e) e.coding holds.coding holds.spelled holds.positive;
     trail = holds.coding.ready.state.trail;
@@ -303,18 +308,18 @@ module _ {N S : Type 0} (same : S → S → Bool) (exact : IsExact same) (p : Pa
     true_on_trail = λ s h. chosen.each s (in_contained same exact p members s h);
     chosen = λ l s h means. contained_in same exact p members s (chosen.all l s h means);
     met = λ r k. (let (s, fits, (l, h, means)) = met holds values score agree quiet decided r k in inr (s, fits, contained_in same exact p members s (chosen.all l s h means)));
-    register = register holds;
+    register = register holds placed;
     encoded = members_encoded holds spent members chosen among;
   }
 
   -- The chosen solvables keep all rules, except locks and exclusions of soft requirements whose
   -- packages nobody names. They are those that the root and the chosen soft requirements reach.
   pub turn_accepts : (same_name : N → N → Bool) → IsExact same_name → IsEncoding same p root e → AreSpent same e → (values : ℕ → Option Bool) (score : N → ℕ) → AreValues values (made_true (history e.coding.search))
-      → ((n : ℕ) → n < length e.coding.search.clauses → IsQuiet (made_true (history e.coding.search)) (clause_at (clauses_of e.coding.search) n)) → IsDecided e values score
+      → ((n : ℕ) → n < length e.coding.search.clauses → IsQuiet (made_true (history e.coding.search)) (clause_at (clauses_of e.coding.search) n)) → IsDecided e values score → E.IsWhole e
       → (members : List S) → AreChosen e.coding.atoms.keys (made_true (history e.coding.search)) members → AreAmongEncoded e members → Ending.IsAccepted same p root e.recorded.softs.items members
-  turn_accepts same_name names holds spent values score agree quiet decided members chosen among =
+  turn_accepts same_name names holds spent values score agree quiet decided placed members chosen among =
       turn_accepted same exact same_name names p root (origin e.coding.atoms.keys) (E.rules_of e) (Registered same p root e) e.recorded.softs.items (count_of e.coding.search) e.coding.search.clauses (history e.coding.search) members
-      (turn_ended holds spent values score agree quiet decided members chosen among)
+      (turn_ended holds spent values score agree quiet decided placed members chosen among)
 
   -- the end of a turn before the first soft requirement
   ended_alone : (members : List S) → e.recorded.softs.items ≡ [] → IsTurnEnd (origin e.coding.atoms.keys) same p (E.rules_of e) root (Registered same p root e) e.recorded.softs.items (count_of e.coding.search) e.coding.search.clauses (history e.coding.search) members
@@ -329,21 +334,21 @@ module _ {N S : Type 0} (same : S → S → Bool) (exact : IsExact same) (p : Pa
   -- Before the first soft requirement the chosen solvables keep all rules, and are those that the
   -- root reaches.
   pub turn_keeps : (same_name : N → N → Bool) → IsExact same_name → IsEncoding same p root e → AreSpent same e → (values : ℕ → Option Bool) (score : N → ℕ) → AreValues values (made_true (history e.coding.search))
-      → ((n : ℕ) → n < length e.coding.search.clauses → IsQuiet (made_true (history e.coding.search)) (clause_at (clauses_of e.coding.search) n)) → IsDecided e values score
+      → ((n : ℕ) → n < length e.coding.search.clauses → IsQuiet (made_true (history e.coding.search)) (clause_at (clauses_of e.coding.search) n)) → IsDecided e values score → E.IsWhole e
       → (members : List S) → AreChosen e.coding.atoms.keys (made_true (history e.coding.search)) members → AreAmongEncoded e members → e.recorded.softs.items ≡ []
       → IsRuleKeeping same p root members × ((s : S) → is_in same p members s ≡ true → IsReached same p root [] members s) × ((s : S) → IsReached same p root [] members s → is_in same p members s ≡ true)
-  turn_keeps same_name names holds spent values score agree quiet decided members chosen among alone =
-      let ended = ended_alone members alone (turn_ended holds spent values score agree quiet decided members chosen among) in
+  turn_keeps same_name names holds spent values score agree quiet decided placed members chosen among alone =
+      let ended = ended_alone members alone (turn_ended holds spent values score agree quiet decided placed members chosen among) in
       let accepted = turn_accepted same exact same_name names p root (origin e.coding.atoms.keys) (E.rules_of e) (Registered same p root e) [] (count_of e.coding.search) e.coding.search.clauses (history e.coding.search) members ended in
       (turn_keeps_rules same exact same_name names p root (origin e.coding.atoms.keys) (E.rules_of e) (Registered same p root e) (count_of e.coding.search) e.coding.search.clauses (history e.coding.search) members ended, accepted.reached, accepted.inside)
 
   -- Before the first soft requirement they were chosen in the order of preference.
   pub turn_preferred : (same_name : N → N → Bool) → IsExact same_name → IsEncoding same p root e → AreSpent same e → (orders : Requirement → List S → Type 0) → AreOrdered orders e → (values : ℕ → Option Bool) (score : N → ℕ) → AreValues values (made_true (history e.coding.search))
-      → ((n : ℕ) → n < length e.coding.search.clauses → IsQuiet (made_true (history e.coding.search)) (clause_at (clauses_of e.coding.search) n)) → IsDecided e values score
+      → ((n : ℕ) → n < length e.coding.search.clauses → IsQuiet (made_true (history e.coding.search)) (clause_at (clauses_of e.coding.search) n)) → IsDecided e values score → E.IsWhole e
       → (members : List S) → AreChosen e.coding.atoms.keys (made_true (history e.coding.search)) members → AreAmongEncoded e members → e.recorded.softs.items ≡ [] → ArePreferred same p orders root members
-  turn_preferred same_name names holds spent orders ordered values score agree quiet decided members chosen among alone =
+  turn_preferred same_name names holds spent orders ordered values score agree quiet decided placed members chosen among alone =
       turn_prefers same exact same_name names p root (origin e.coding.atoms.keys) (E.rules_of e) (Registered same p root e) orders (digit_found same e.coding.kinds.items) (count_of e.coding.search) e.coding.search.clauses (history e.coding.search) members
-      (ended_alone members alone (turn_ended holds spent values score agree quiet decided members chosen among)) (λ x older present is other. taken_ordered orders e same p ordered _ _ (picked_alone alone _ _ (holds.called x older present is other))) (digits_agree same exact p root e holds)
+      (ended_alone members alone (turn_ended holds spent values score agree quiet decided placed members chosen among)) (λ x older present is other. taken_ordered orders e same p ordered _ _ (picked_alone alone _ _ (holds.called x older present is other))) (digits_agree same exact p root e holds)
 
   -- A clause that denies decisions of the first level alone, by clauses that agree with the digits
   -- of places, excludes each rule-keeping set.

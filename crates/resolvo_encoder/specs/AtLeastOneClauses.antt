@@ -1,6 +1,6 @@
 -- At-least-one clauses, and the literals of a case over them: its packages are recorded, and the
 -- candidates outside its version sets are registered.
-use Rattle.std.specs.Prelude.{◌≡◌, Bool, true, List, Contains}
+use Rattle.std.specs.Prelude.{◌≡◌, ◌⊎◌, Bool, true, List, Contains}
 use Rattle.resolvo_pool_core.specs.declared.id.VariableId.{VariableId}
 use Rattle.resolvo_pool_core.specs.declared.id.VersionSetId.{VersionSetId}
 use Rattle.resolvo_pool_core.specs.RuleKeeping.{Packages, Rules, IsLawful, is_outside}
@@ -10,19 +10,26 @@ use Rattle.resolvo_sat.specs.Steps.{AreInRange}
 use Rattle.resolvo_packages.specs.declared.package_source.Offered.{Offered}
 use Rattle.resolvo_sat.specs.Encoding.{Rule, case_literals}
 use Rattle.resolvo_sat.specs.Numbered.{Spells}
-use Rattle.resolvo_state.specs.Atoms.{origin}
-use Rattle.resolvo_state.specs.Registered.{IsTracked, IsRegistered}
+use Rattle.resolvo_state.specs.declared.atom.ProofAtom.TheVariants.{Solvable}
+use Rattle.resolvo_state.specs.Atoms.{origin, Represents}
+use Rattle.resolvo_state.specs.Registered.{AreTied, IsInTracker, IsTracked, IsQueued, IsRegistered}
 use Rattle.resolvo_encoder.specs.Cases.{sets_case, AreSets}
-use Rattle.resolvo_encoder.specs.Encoded.{rules_of, IsEncoding}
+use Rattle.resolvo_encoder.specs.Encoded.{rules_of, IsWaiting, IsNamed, IsEncoding}
 use Rattle.resolvo_encoder.specs.Steps.{IsBuilt, Extends, IsListed}
 use Rattle.resolvo_encoder.specs.declared.conditions.ConditionSet.{ConditionSet}
 use Rattle.resolvo_encoder.specs.declared.encoder.Encoder.{Encoder}
 
 module _ {N S : Type 0} where
-  -- the registered solvables of the package, with it
+  -- the registered solvables of the package, with it, but for those that wait
   pub record AreThose (e : Encoder N S) (name : N) (list : List (Offered N S)) : Type 0 where
-    pub each : (s : S) → IsRegistered e.registry e.coding name s → Contains list (record { solvable = s; name = name })
+    pub each : (s : S) → IsRegistered e.registry e.coding name s → Contains list (record { solvable = s; name = name }) ⊎ IsWaiting e name s
     pub all : (o : Offered N S) → Contains list o → (o.name ≡ name) × IsRegistered e.registry e.coding name o.solvable
+
+  -- The solvables that wait, and no others.
+  pub record AreWaiting (e : Encoder N S) (list : List (Offered N S)) : Type 0 where
+    pub tied : AreTied e.registry e.coding
+    pub each : (n : N) (s : S) → IsWaiting e n s → Contains list (record { solvable = s; name = n })
+    pub all : (o : Offered N S) → Contains list o → IsRegistered e.registry e.coding o.name o.solvable
 
   module _ (same : S → S → Bool) where
     -- At-least-one clauses of these solvables were added, if they are candidates of their packages.
@@ -32,6 +39,7 @@ module _ {N S : Type 0} where
       pub lists : new.lists ≡ old.lists
       pub registry : new.registry ≡ old.registry
       pub at_least_one : new.recorded.at_least_one ≡ old.recorded.at_least_one
+      pub queued : new.recorded.queued ≡ old.recorded.queued
       pub encoding : (p : Packages N S) (root : Rules) → IsLawful p → IsEncoding same p root old → ((o : Offered N S) → Contains list o → IsListed same p o)
           → IsEncoding same p root new × ((o : Offered N S) → Contains list o → rules_of new (Rule.is_there o.name o.solvable))
 
@@ -42,7 +50,7 @@ module _ {N S : Type 0} where
       pub only : (o : Offered N S) → Contains added o → Contains offered o
       pub adds : AddsAtLeastOne added old new
 
-    -- The package is recorded, and its registered solvables have at-least-one clauses.
+    -- The package is recorded, and its registered solvables have at-least-one clauses, or wait.
     pub record TracksAtLeastOne (name : N) (old new : Encoder N S) : Type 0 where
       pub built : IsBuilt new
       pub extends : Extends old new
@@ -50,12 +58,23 @@ module _ {N S : Type 0} where
       pub registry : new.registry ≡ old.registry
       pub keeps : (n : N) → Contains old.recorded.at_least_one.keys n → Contains new.recorded.at_least_one.keys n
       pub at_least_one : Contains new.recorded.at_least_one.keys name
+      pub queued : new.recorded.queued ≡ old.recorded.queued
       pub encoding : (p : Packages N S) (root : Rules) → IsLawful p → IsEncoding same p root old → IsEncoding same p root new
 
-    -- The case's packages are recorded, the candidates outside its version sets are registered, and
+    -- The package is one of an encoded case.
+    pub record NamesPackage (name : N) (old new : Encoder N S) : Type 0 where
+      pub built : IsBuilt new
+      pub extends : Extends old new
+      pub lists : new.lists ≡ old.lists
+      pub registry : new.registry ≡ old.registry
+      pub keeps : (n : N) → IsNamed old.recorded n → IsNamed new.recorded n
+      pub named : IsNamed new.recorded name
+      pub encoding : (p : Packages N S) (root : Rules) → IsLawful p → IsEncoding same p root old → IsEncoding same p root new
+
+    -- The case's packages are named, the candidates outside its version sets are registered, and
     -- these are its literals.
     pub record AreCaseLiterals (p : Packages N S) (e : Encoder N S) (case : List VersionSetId) (literals : List Signed) : Type 0 where
-      pub recorded : (v : VersionSetId) → Contains case v → Contains e.recorded.at_least_one.keys (p.set_package v)
+      pub recorded : (v : VersionSetId) → Contains case v → IsNamed e.recorded (p.set_package v)
       pub registered : (v : VersionSetId) (s : S) → Contains case v → is_outside same p v s ≡ true → IsRegistered e.registry e.coding (p.package_of s) s
       pub spells : Spells (origin e.coding.atoms.keys) literals (case_literals same p case)
 
@@ -64,7 +83,52 @@ module _ {N S : Type 0} where
       pub built : IsBuilt new
       pub extends : Extends old new
       pub lists : new.lists ≡ old.lists
-      pub keeps : (n : N) → Contains old.recorded.at_least_one.keys n → Contains new.recorded.at_least_one.keys n
+      pub keeps : (n : N) → IsNamed old.recorded n → IsNamed new.recorded n
       pub tracked : (m : N) (u : VariableId) → IsTracked old.registry m u → IsTracked new.registry m u
       pub in_range : AreInRange (count_of new.coding.search) literals
       pub encoding : (p : Packages N S) (root : Rules) → IsLawful p → IsEncoding same p root old → AreSets same p sets → IsEncoding same p root new × AreCaseLiterals p new (sets_case sets) literals
+
+    -- These solvables have their digits, and at-least-one clauses if their packages are recorded.
+    pub record PlacesAll (list : List (Offered N S)) (old new : Encoder N S) : Type 0 where
+      pub built : IsBuilt new
+      pub extends : Extends old new
+      pub lists : new.lists ≡ old.lists
+      pub members : new.registry.members ≡ old.registry.members
+      pub waits : new.registry.tied ≡ old.registry.tied
+      pub at_least_one : new.recorded.at_least_one ≡ old.recorded.at_least_one
+      pub queued : new.recorded.queued ≡ old.recorded.queued
+      pub placed : (o : Offered N S) → Contains list o → (v : VariableId) × Represents new.coding.atoms.keys v (Solvable o.solvable) × IsInTracker new.registry o.name v
+      pub keeps : (m : N) (u : VariableId) → IsInTracker old.registry m u → IsInTracker new.registry m u
+      pub encoding : (p : Packages N S) (root : Rules) → IsLawful p → IsEncoding same p root old
+          → IsEncoding same p root new × ((o : Offered N S) → Contains list o → Contains old.recorded.at_least_one.keys o.name → rules_of new (Rule.is_there o.name o.solvable))
+
+    -- No solvable waits: those that did have their digits, and their at-least-one clauses if their
+    -- packages are recorded.
+    pub record PlacesQueued (old new : Encoder N S) : Type 0 where
+      pub built : IsBuilt new
+      pub extends : Extends old new
+      pub lists : new.lists ≡ old.lists
+      pub at_least_one : new.recorded.at_least_one ≡ old.recorded.at_least_one
+      pub queued : new.recorded.queued ≡ old.recorded.queued
+      pub none : (n : N) (v : VariableId) → IsQueued new.registry n v → ⊥
+      pub encoding : (p : Packages N S) (root : Rules) → IsLawful p → IsEncoding same p root old → IsEncoding same p root new
+
+    -- These packages are recorded, with their at-least-one clauses.
+    pub record CoversAll (names : List N) (old new : Encoder N S) : Type 0 where
+      pub built : IsBuilt new
+      pub extends : Extends old new
+      pub lists : new.lists ≡ old.lists
+      pub registry : new.registry ≡ old.registry
+      pub queued : new.recorded.queued ≡ old.recorded.queued
+      pub keeps : (n : N) → Contains old.recorded.at_least_one.keys n → Contains new.recorded.at_least_one.keys n
+      pub covered : (n : N) → Contains names n → Contains new.recorded.at_least_one.keys n
+      pub encoding : (p : Packages N S) (root : Rules) → IsLawful p → IsEncoding same p root old → IsEncoding same p root new
+
+    -- No package waits: those that did are recorded, with their at-least-one clauses.
+    pub record CoversQueued (old new : Encoder N S) : Type 0 where
+      pub built : IsBuilt new
+      pub extends : Extends old new
+      pub lists : new.lists ≡ old.lists
+      pub registry : new.registry ≡ old.registry
+      pub none : (n : N) → Contains new.recorded.queued.keys n → ⊥
+      pub encoding : (p : Packages N S) (root : Rules) → IsLawful p → IsEncoding same p root old → IsEncoding same p root new

@@ -31,7 +31,7 @@ use Rattle.resolvo_state.specs.declared.clause_kind.ClauseKind.TheVariants as Ki
 use Rattle.resolvo_state.specs.Atoms.{origin, Represents}
 use Rattle.resolvo_state.specs.ClauseKinds.{kind_at, rule_at, rules_in}
 use Rattle.resolvo_state.specs.SolverState.{IsCoding}
-use Rattle.resolvo_state.specs.Registered.{AreTied, IsTracked, IsRegistered}
+use Rattle.resolvo_state.specs.Registered.{AreTied, IsTracked, IsQueued, IsRegistered}
 use Rattle.resolvo_state.specs.Spelled.{Spelled, AreRegistered}
 use Rattle.resolvo_encoder.specs.declared.encoder.Deferred.{Deferred}
 use Rattle.resolvo_encoder.specs.declared.encoder.Encoder.{Encoder}
@@ -41,6 +41,19 @@ use Rattle.resolvo_encoder.specs.Cases.{case_of, IsDeferred, IsCaseOf}
 -- the rules that clauses encode
 abbrev pub rules_of : {N S : Type 0} → Encoder N S → Rule N S → Type 0
 rules_of e = rules_in e.coding.kinds.items
+
+-- the solvable is registered as one of the package's, and waits for its digits
+abbrev pub IsWaiting : {N S : Type 0} → Encoder N S → N → S → Type 0
+IsWaiting e name s = (v : VariableId) × Represents e.coding.atoms.keys v (Solvable s) × IsQueued e.registry name v
+
+-- the package is one of an encoded case: its solvables have at-least-one clauses, or will
+abbrev pub IsNamed : {N S : Type 0} → EncodedOnce N S → N → Type 0
+IsNamed recorded name = Contains recorded.at_least_one.keys name ⊎ Contains recorded.queued.keys name
+
+-- no solvable waits for its digits, and no package for its at-least-one clauses
+pub record IsWhole {N S : Type 0} (e : Encoder N S) : Type 0 where
+  pub solvables : (name : N) (v : VariableId) → IsQueued e.registry name v → ⊥
+  pub packages : (name : N) → Contains e.recorded.queued.keys name → ⊥
 
 -- the parent's variable: the root's, or the solvable's
 abbrev pub IsParentVariable : {N S : Type 0} → List (ProofAtom N S) → Option S → VariableId → Type 0
@@ -150,9 +163,9 @@ module _ {N S : Type 0} (same : S → S → Bool) (p : Packages N S) (root : Rul
     -- the packages of an encoded case are recorded, and the candidates outside its version sets are
     -- registered
     pub cased : (parent : Option S) (need : ConditionalRequirement) (case : List VersionSetId) (v : VersionSetId) → rules_of e (Rule.needs parent need case) → Contains case v
-        → Contains e.recorded.at_least_one.keys (p.set_package v) × ((s : S) → is_outside same p v s ≡ true → Registered e s)
-    -- each registered solvable of a recorded package has its at-least-one clause
-    pub at_least_one : (n : N) (s : S) → Contains e.recorded.at_least_one.keys n → IsRegistered e.registry e.coding n s → rules_of e (Rule.is_there n s)
+        → IsNamed e.recorded (p.set_package v) × ((s : S) → is_outside same p v s ≡ true → Registered e s)
+    -- each registered solvable of a recorded package has its at-least-one clause, or waits
+    pub at_least_one : (n : N) (s : S) → Contains e.recorded.at_least_one.keys n → IsRegistered e.registry e.coding n s → rules_of e (Rule.is_there n s) ⊎ IsWaiting e n s
     pub there : (s : S) → Contains e.recorded.there.keys s → rules_of e (Rule.is_there (p.package_of s) s)
 
   -- The invariant of the encoding between its steps.

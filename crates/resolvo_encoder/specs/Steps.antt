@@ -37,7 +37,7 @@ use Rattle.resolvo_state.specs.declared.solver_state.SolverState.{SolverState}
 use Rattle.resolvo_state.specs.declared.registry.Registry.{Registry}
 use Rattle.resolvo_state.specs.Atoms.{Represents}
 use Rattle.resolvo_state.specs.SolverState.{IsCoding, IsBegun, Grows, LacksNumber, SameTrail, AddsRule}
-use Rattle.resolvo_state.specs.Registered.{AreTied, IsTracked, IsDigitClause, IsNothing, Registers}
+use Rattle.resolvo_state.specs.Registered.{AreTied, IsTracked, IsQueued, IsNothing, Registers}
 use Rattle.resolvo_encoder.specs.declared.encoder.Encoder.{Encoder}
 
 -- the need's clause exists, and has no literals but the denial of the parent, those of the
@@ -89,16 +89,18 @@ pub record RegistersOne {N S : Type 0} (o : Offered N S) (candidate : Candidate 
   pub literal : candidate.literal.positive ≡ true
   pub registers : Registers o.name o.solvable candidate.literal.variable r old t new
 
--- The offered solvables are registered, no others, and returned as candidates. Each added clause
--- encodes a digit.
+-- The offered solvables are registered, no others, and returned as candidates. New ones wait for
+-- their digits. No clause was added.
 pub record RegistersAll {N S : Type 0} (offered : List (Offered N S)) (given : List (Candidate N)) (r : Registry N) (old : SolverState N S) (t : Registry N) (new : SolverState N S) : Type 0 where
   pub coding : IsCoding new
   pub grows : Grows old new
   pub trail : SameTrail old new
   pub tied : AreTied t new
   pub keeps : (m : N) (u : VariableId) → IsTracked r m u → IsTracked t m u
-  pub only : (m : N) (u : VariableId) → IsTracked t m u → IsTracked r m u ⊎ ((o : Offered N S) × Contains offered o × (m ≡ o.name) × Represents new.atoms.keys u (Solvable o.solvable))
-  pub digits : (n : ℕ) → length old.search.clauses ≤ n → n < length new.search.clauses → (name : N) × IsDigitClause t new name n
+  pub waits : (m : N) (u : VariableId) → IsQueued r m u → IsQueued t m u
+  pub only : (m : N) (u : VariableId) → IsTracked t m u → IsTracked r m u ⊎ ((o : Offered N S) × Contains offered o × (m ≡ o.name) × Represents new.atoms.keys u (Solvable o.solvable) × IsQueued t m u)
+  pub clauses : new.search.clauses ≡ old.search.clauses
+  pub kinds : new.kinds ≡ old.kinds
   pub each : (o : Offered N S) → Contains offered o → (c : Candidate N) × Contains given c × IsOfferedAs t new o c
   pub all : (c : Candidate N) → Contains given c → (o : Offered N S) × Contains offered o × IsOfferedAs t new o c
   pub ordered : AreCandidates new.atoms.keys given (offered_solvables offered)
@@ -117,13 +119,12 @@ AddsCandidates r offered old new = (q : Requirement) → has_candidates new.list
 abbrev pub IsListed : {N S : Type 0} → (S → S → Bool) → Packages N S → Offered N S → Type 0
 IsListed same p o = (o.name ≡ p.package_of o.solvable) × (is_in same p (listed (p.candidates_of o.name)) o.solvable ≡ true)
 
--- The offered solvables are registered, and returned as candidates. Those of a recorded package
--- have at-least-one clauses.
+-- The offered solvables are registered, and returned as candidates.
 pub record Enrols {N S : Type 0} (same : S → S → Bool) (offered : List (Offered N S)) (given : List (Candidate N)) (old new : Encoder N S) : Type 0 where
   pub built : IsBuilt new
   pub extends : Extends old new
   pub lists : new.lists ≡ old.lists
-  pub at_least_one : new.recorded.at_least_one ≡ old.recorded.at_least_one
+  pub recorded : new.recorded ≡ old.recorded
   pub keeps : (m : N) (u : VariableId) → IsTracked old.registry m u → IsTracked new.registry m u
   pub each : (o : Offered N S) → Contains offered o → (c : Candidate N) × Contains given c × IsOfferedAs new.registry new.coding o c
   pub all : (c : Candidate N) → Contains given c → (o : Offered N S) × Contains offered o × IsOfferedAs new.registry new.coding o c
@@ -209,6 +210,7 @@ pub record IsBegunEncoding {N S : Type 0} (e : Encoder N S) : Type 0 where
   pub packages : e.recorded.packages.keys ≡ []
   pub version_sets : e.recorded.version_sets.keys ≡ []
   pub at_least_one : e.recorded.at_least_one.keys ≡ []
+  pub queued : e.recorded.queued.keys ≡ []
   pub there : e.recorded.there.keys ≡ []
   pub softs : e.recorded.softs.items ≡ []
   pub parents : e.parents.keys ≡ Root ∷ []

@@ -7,7 +7,7 @@ ghost use Rattle.resolvo_sat.specs.Encoding.{Rule};
 ghost use Rattle.resolvo_state.specs.SolverState.{LacksNumber};
 ghost use Rattle.resolvo_encoder.specs.Steps.{IsBuilt};
 ghost use Rattle.resolvo_encoder.specs.ClauseRules.{EncodesRules};
-ghost use Rattle.resolvo_encoder.specs.AtLeastOneClauses.{AreThose, AddsAtLeastOne, TracksAtLeastOne, CaseLiterals};
+ghost use Rattle.resolvo_encoder.specs.AtLeastOneClauses.{AreThose, AddsAtLeastOne, TracksAtLeastOne, NamesPackage, CaseLiterals};
 
 use crate::conditions::ConditionSet;
 use crate::encoder::{Encoder, add_key, push_candidates};
@@ -83,7 +83,7 @@ impl<N: Copy + Exact + Hash + Debug + Drop, S: Copy + Exact + Hash + Debug> Enco
 
     /// Records a condition's package, and adds the at-least-one clauses of its registered
     /// solvables.
-    fn track_at_least_one(&mut self, alloc: Global, name: N) -> R<()>
+    pub(crate) fn track_at_least_one(&mut self, alloc: Global, name: N) -> R<()>
         requires { IsBuilt self.old }
         ensures at_least_one { OnOk result (TracksAtLeastOne S.eq name self.old self.new) }
         ensures ids { IsErrOf result Ids → LacksNumber self.new.coding }
@@ -97,14 +97,27 @@ impl<N: Copy + Exact + Hash + Debug + Drop, S: Copy + Exact + Hash + Debug> Enco
         Ok(())
     }
 
-    /// Records the package of a version set, registers the candidates outside it, and returns the
+    /// Names a package of a case: its at-least-one clauses come at the encoding's end.
+    fn name_package(&mut self, name: N) -> R<()>
+        requires { IsBuilt self.old }
+        ensures named { OnOk result (NamesPackage S.eq name self.old self.new) }
+        ensures refusal { IsOkUnless result Memory }
+    {
+        if self.recorded.at_least_one.contains(&name) {
+            return Ok(());
+        }
+        add_key(&mut self.recorded.queued, name)?;
+        Ok(())
+    }
+
+    /// Names the package of a version set, registers the candidates outside it, and returns the
     /// literals of "no match is chosen".
     fn conjunct_literals(&mut self, alloc: Global, set: &ConditionSet<N, S>) -> R<Vec<Literal>>
         requires { IsBuilt self.old }
         ensures at_least_one { IfOk result (λ v. CaseLiterals S.eq (set.now ∷ []) v.items self.old self.new) }
         ensures ids { IsErrOf result Ids → LacksNumber self.new.coding }
     {
-        self.track_at_least_one(alloc, set.name)?;
+        self.name_package(set.name)?;
         let any = self.give(ProofAtom::AtLeastOne(set.name))?;
         let candidates = self.register(alloc, set.outside.as_slice())?;
         let literals = none_or_outside(alloc, any, candidates.as_slice())?;

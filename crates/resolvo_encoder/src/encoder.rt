@@ -53,6 +53,8 @@ pub struct EncodedOnce<N: Copy + Eq + Hash, S: Copy + Eq + Hash> {
     /// The packages of encoded cases: each of their registered solvables has an at-least-one
     /// clause.
     pub at_least_one: IndexSet<N>,
+    /// The packages of newly encoded cases, whose at-least-one clauses wait for the encoding's end.
+    pub queued: IndexSet<N>,
     /// The solvables with an at-least-one clause.
     pub there: IndexSet<S>,
     /// The accepted soft requirements, then the one of the current turn. An equal one may occur
@@ -67,6 +69,7 @@ impl<N: Copy + Eq + Hash, S: Copy + Eq + Hash> Drop for EncodedOnce<N, S> {
             packages: _,
             version_sets: _,
             at_least_one: _,
+            queued: _,
             there: _,
             softs: _,
         } = self;
@@ -148,6 +151,7 @@ fn begun<N: Copy + Exact + Hash + Debug, S: Copy + Exact + Hash + Debug>(
             packages: IndexSet::new(alloc),
             version_sets: IndexSet::new(alloc),
             at_least_one: IndexSet::new(alloc),
+            queued: IndexSet::new(alloc),
             there: IndexSet::new(alloc),
             softs: Vec::new(alloc),
         },

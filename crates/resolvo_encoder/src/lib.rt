@@ -7,5 +7,6 @@ pub mod conditions;
 pub mod decide;
 pub mod encoder;
 pub mod forbid;
+pub mod place;
 pub mod register;
 pub mod soft_requirement;

@@ -1,11 +1,10 @@
 //! Registers solvables: candidates of a requirement, candidates outside a case's version set, and
-//! soft requirements. First it adds the at-least-one clauses of those whose package is recorded.
-ghost use Rattle.std.specs.Prelude.{◌≡◌, ◌∷◌, [], OnOk, IfOk, IsErrOf};
+//! soft requirements. They wait for their digits and at-least-one clauses until the encoding's end.
+ghost use Rattle.std.specs.Prelude.{IfOk, IsErrOf};
 ghost use Rattle.resolvo_pool_core.specs.declared.want.Want.TheVariants.{Ids};
 ghost use Rattle.resolvo_state.specs.SolverState.{IsCoding, LacksNumber};
 ghost use Rattle.resolvo_state.specs.Registered.{AreTied};
 ghost use Rattle.resolvo_encoder.specs.Steps.{RegistersOne, RegistersAll, IsBuilt, Enrols};
-ghost use Rattle.resolvo_encoder.specs.AtLeastOneClauses.{AddsAtLeastOne, Admits};
 ghost use Rattle.resolvo_encoder.specs.SoftRequirement.{RegistersSoft};
 
 use crate::encoder::Encoder;
@@ -31,42 +30,16 @@ impl<N: Copy + Exact + Hash + Debug + Drop, S: Copy + Exact + Hash + Debug> Enco
         ensures enrolled { IfOk result (λ v. Enrols S.eq offered.now v.items self.old self.new) }
         ensures ids { IsErrOf result Ids → LacksNumber self.new.coding }
     {
-        self.admit(alloc, offered)?;
         let given = register_all(alloc, &mut self.registry, &mut self.coding, offered)?;
         Ok(given)
     }
 
-    /// Adds the at-least-one clauses of those whose package is recorded.
-    fn admit(&mut self, alloc: Global, offered: &[Offered<N, S>]) -> R<()>
-        requires { IsBuilt self.old }
-        ensures admitted { OnOk result (Admits S.eq offered.now self.old self.new) }
-        ensures ids { IsErrOf result Ids → LacksNumber self.new.coding }
-    {
-        for one in offered {
-            self.admit_one(alloc, *one)?;
-        }
-        Ok(())
-    }
-
-    /// Adds the at-least-one clause of a solvable, if its package is recorded.
-    fn admit_one(&mut self, alloc: Global, one: Offered<N, S>) -> R<()>
-        requires { IsBuilt self.old }
-        ensures admitted { OnOk result (Admits S.eq (one ∷ []) self.old self.new) }
-        ensures ids { IsErrOf result Ids → LacksNumber self.new.coding }
-    {
-        if self.recorded.at_least_one.contains(&one.name) {
-            self.add_at_least_one(alloc, one)?;
-        }
-        Ok(())
-    }
-
     /// Registers a soft requirement, and returns its variable.
-    pub(crate) fn register_soft(&mut self, alloc: Global, soft: Offered<N, S>) -> R<VariableId>
+    pub(crate) fn register_soft(&mut self, soft: Offered<N, S>) -> R<VariableId>
         requires { IsBuilt self.old }
         ensures registered { IfOk result (λ v. RegistersSoft S.eq soft v self.old self.new) }
         ensures ids { IsErrOf result Ids → LacksNumber self.new.coding }
     {
-        self.admit_one(alloc, soft)?;
         let variable = self
             .registry
             .register(&mut self.coding, soft.name, soft.solvable)?;

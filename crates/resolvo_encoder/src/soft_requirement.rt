@@ -100,11 +100,11 @@ impl<N: Copy + Exact + Hash + Debug + Drop, S: Copy + Exact + Hash + Debug> Enco
     }
 
     /// Registers a soft requirement, records it as the last one, and returns its variable.
-    pub fn record_soft(&mut self, alloc: Global, soft: Offered<N, S>) -> R<VariableId>
+    pub fn record_soft(&mut self, soft: Offered<N, S>) -> R<VariableId>
         requires { IsBuilt self.old }
         ensures { IfOk result (λ v. RecordsSoft S.eq soft v self.old self.new) }
     {
-        let variable = self.register_soft(alloc, soft)?;
+        let variable = self.register_soft(soft)?;
         self.recorded.softs.push(soft.solvable)?;
         Ok(variable)
     }

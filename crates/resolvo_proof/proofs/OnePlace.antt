@@ -13,7 +13,8 @@ use Rattle.resolvo_state.specs.declared.clause_kind.ClauseKind.TheVariants as Ki
 use Rattle.resolvo_state.specs.SolverState.{IsCoding}
 use Rattle.resolvo_state.specs.Registered.{IsPlaced, AreTied, IsTied, IsRegistered}
 use Rattle.resolvo_state.proofs.Growth.{represents_once}
-use Rattle.resolvo_state.proofs.Positions.{get_contains, get_push}
+use Rattle.resolvo_state.proofs.Positions.{get_push}
+use Rattle.resolvo_state.proofs.RegisterLemmas.{placed_registered}
 use Rattle.resolvo_proof.specs.declared.step.ProofRule.{ProofRule}
 use Rattle.resolvo_proof.specs.declared.step.ProofRule.TheVariants.{Digit}
 use Rattle.resolvo_proof.specs.declared.step.ProofStep.{ProofStep}
@@ -58,7 +59,7 @@ module _ {N S : Type 0} (c : SolverState N S) (r : Registry N) (coding : IsCodin
       go (inr (e, d)) = absurd (let both : Rule (Digit s k bit) ≡ Derived d.literals d.causes = d.derived in cc)
 
   registered : (name : N) (k : ℕ) (s : S) → IsPlaced r c name k s → IsRegistered r c name s
-  registered name k s p = (p.variable, p.means, record { place = p.number; tracker = p.tracker; named = p.named; tracked = p.tracked; present = get_contains p.tracker.variables k p.variable p.present })
+  registered name k s p = placed_registered r c name k s tied p
 
   -- a solvable is at one place
   at_one_place : (m n : N) (k l : ℕ) (s : S) → IsPlaced r c m k s → IsPlaced r c n l s → k ≡ l

@@ -12,3 +12,4 @@ pub mod TieLemmas
 pub mod TrackLemmas
 pub mod NameLemmas
 pub mod RegisterLemmas
+pub mod MemberLemmas

@@ -23,11 +23,12 @@ use Rattle.resolvo_state.specs.declared.clause_kind.ClauseKind.{ClauseKind}
 use Rattle.resolvo_state.specs.declared.clause_kind.ClauseKind.TheVariants.{Root, Digit}
 use Rattle.resolvo_state.specs.declared.solver_state.SolverState.{SolverState}
 use Rattle.resolvo_state.specs.declared.registry.Registry.{Registry}
+use Rattle.resolvo_state.specs.declared.registry.Member.{Member}
 use Rattle.resolvo_state.specs.Atoms.{origin, Represents}
 use Rattle.resolvo_state.specs.Keys.{AreOnce}
 use Rattle.resolvo_state.specs.ClauseKinds.{kind_at, rule_at, rules_in}
 use Rattle.resolvo_state.specs.SolverState.{IsCoding, Grows, Gives}
-use Rattle.resolvo_state.specs.Registered.{digit_literals, IsTied, IsPlaced, AreTied, IsTracked, IsRegistered, IsDigitClause, Registers, PlacesName, IsTieClause, Tracks}
+use Rattle.resolvo_state.specs.Registered.{digit_literals, IsTied, IsPlaced, AreTied, IsInTracker, IsTracked, IsQueued, IsRegistered, member, IsNothing, IsDigitClause, Registers, Places, PlacesName, IsTieClause, Tracks}
 use Rattle.resolvo_state.proofs.Positions.{get_old, get_push, get_contains, contains_get, prefix_get, prefix_same, once_none}
 use Rattle.resolvo_state.proofs.Origins.{represents_same, one_variable, means_atom}
 use Rattle.resolvo_state.proofs.Growth.{grows_then, trail_then, represents_grow, represents_once, rules_grow, kind_split, below_or_not}
@@ -95,6 +96,10 @@ ties_grow r a c grows kept tied = record {
   once = tied.once;
   tied = λ k name t n h. tied_grows name t a c grows (tied.tied k name t n h);
   placed = λ n name s place bit h. placed_stays r r a c name place s (prefix_same r.names.keys) (prefix_same r.trackers.items) grows (tied.placed n name s place bit (kept n name s place bit h));
+  within = tied.within;
+  solvables = λ name v h. (let (s, f) = tied.solvables name v h in (s, represents_grow a c v (Solvable s) grows f));
+  registered = tied.registered;
+  rest = tied.rest;
 }
 
 -- registered solvables stay registered
@@ -102,12 +107,16 @@ pub registered_stays : {N S : Type 0} (r : Registry N) (a c : SolverState N S) (
 registered_stays r a c name s grows (v, f, h) = (v, represents_grow a c v (Solvable s) grows f, h)
 
 -- no solvable is registered at first
-pub nothing_tied : {N S : Type 0} (r : Registry N) (c : SolverState N S) → r.names.keys ≡ [] → r.trackers.items ≡ [] → c.kinds.items ≡ Root ∷ [] → AreTied r c
-nothing_tied {N} {S} r c names trackers kinds = record {
-  each = ap length names ∙ sym (ap length trackers);
-  once = λ i j x a b. absurd (nothing i x (subst (λ (xs : List N). slice_get xs i ≡ Some x) names a));
-  tied = λ k name t n h. absurd (nothing k name (subst (λ (xs : List N). slice_get xs k ≡ Some name) names n));
+pub nothing_tied : {N S : Type 0} (r : Registry N) (c : SolverState N S) → IsNothing r → c.kinds.items ≡ Root ∷ [] → AreTied r c
+nothing_tied {N} {S} r c none kinds = record {
+  each = ap length none.names ∙ sym (ap length none.trackers);
+  once = λ i j x a b. absurd (nothing i x (subst (λ (xs : List N). slice_get xs i ≡ Some x) none.names a));
+  tied = λ k name t n h. absurd (nothing k name (subst (λ (xs : List N). slice_get xs k ≡ Some name) none.names n));
   placed = λ n name s place bit h. absurd (no_digit n name s place bit (subst (λ (xs : List (ClauseKind N S)). slice_get xs n ≡ Some (Digit name s place bit)) kinds h));
+  within = (let start : r.tied ≡ 0 = none.tied in omega arith);
+  solvables = λ name v h. absurd (contains_none (member name v) (subst (λ (xs : List (Member N)). Contains xs (member name v)) none.members h));
+  registered = λ name v h. absurd (nothing h.place name (subst (λ (xs : List N). slice_get xs h.place ≡ Some name) none.names h.named));
+  rest = λ name v h. absurd (contains_none (member name v) (subst (λ (xs : List (Member N)). Contains xs (member name v)) none.members h));
 }
   where
     nothing : (i : ℕ) (x : N) → slice_get [] i ≡ Some x → ⊥
@@ -117,8 +126,8 @@ nothing_tied {N} {S} r c names trackers kinds = record {
     no_digit zero name s place bit h = absurd cc
     no_digit (suc n) name s place bit h = absurd cc
 
-pub nothing_registered : {N S : Type 0} (r : Registry N) (c : SolverState N S) (name : N) (s : S) → r.names.keys ≡ [] → IsRegistered r c name s → ⊥
-nothing_registered {N} {S} r c name s none (v, f, h) = let at : slice_get [] h.place ≡ Some name = subst (λ (xs : List N). slice_get xs h.place ≡ Some name) none h.named in absurd cc
+pub nothing_registered : {N S : Type 0} (r : Registry N) (c : SolverState N S) (name : N) (s : S) → IsNothing r → IsRegistered r c name s → ⊥
+nothing_registered {N} {S} r c name s none (v, f, h) = contains_none (member name v) (subst (λ (xs : List (Member N)). Contains xs (member name v)) none.members h)
 
 module _ {N S : Type 0} (name : N) (place : ℕ) (r r1 : Registry N) (a : SolverState N S) (tied : AreTied r a) (places : PlacesName name place r r1) where
   -- a place with its package and its tracker is an old one, or has nothing
@@ -136,6 +145,12 @@ module _ {N S : Type 0} (name : N) (place : ℕ) (r r1 : Registry N) (a : Solver
         )
   ]
 
+  old_tracked : (k : ℕ) (m : N) (t : Tracking VariableId) (w : VariableId) → slice_get r1.names.keys k ≡ Some m → slice_get r1.trackers.items k ≡ Some t → Contains t.variables w → IsInTracker r m w
+  old_tracked k m t w named tracked h = elim (old_or_empty k m t named tracked) [
+    | inl (n, f) ↦ record { place = k; tracker = t; named = n; tracked = f; present = h }
+    | inr (none, helpers) ↦ absurd (contains_none w (subst (λ (xs : List VariableId). Contains xs w) none h))
+  ]
+
   -- the trackers are tied where the package has its place
   pub named_tied : (b : SolverState N S) → Grows a b → KeepsDigits a b → AreTied r1 b
   named_tied b grows kept = record {
@@ -146,13 +161,20 @@ module _ {N S : Type 0} (name : N) (place : ℕ) (r r1 : Registry N) (a : Solver
       | inr (none, helpers) ↦ tied_none m t b none helpers
     ];
     placed = λ n m s at bit h. placed_stays r r1 a b m at s places.names places.trackers grows (tied.placed n m s at bit (kept n m s at bit h));
+    within = subst (λ k. k ≤ length r1.members.keys) (sym places.waits) (subst (λ ms. r.tied ≤ length ms.keys) (sym places.members) tied.within);
+    solvables = λ m v h. (let (s, f) = tied.solvables m v (subst (λ ms. Contains ms.keys (member m v)) places.members h) in (s, represents_grow a b v (Solvable s) grows f));
+    registered = λ m v h. subst (λ ms. Contains ms.keys (member m v)) (sym places.members) (tied.registered m v (old_tracked h.place m h.tracker v h.named h.tracked h.present));
+    rest = λ m v h. elim (tied.rest m v (subst (λ ms. Contains ms.keys (member m v)) places.members h)) [
+      | inl k ↦ inl (record {
+        place = k.place;
+        tracker = k.tracker;
+        named = prefix_get r.names.keys r1.names.keys k.place m places.names k.named;
+        tracked = prefix_get r.trackers.items r1.trackers.items k.place k.tracker places.trackers k.tracked;
+        present = k.present;
+      })
+      | inr (k, low, at) ↦ inr (k, subst (λ j. j ≤ k) (sym places.waits) low, subst (λ ms. slice_get ms.keys k ≡ Some (member m v)) (sym places.members) at)
+    ];
   }
-
-  old_tracked : (k : ℕ) (m : N) (t : Tracking VariableId) (w : VariableId) → slice_get r1.names.keys k ≡ Some m → slice_get r1.trackers.items k ≡ Some t → Contains t.variables w → IsTracked r m w
-  old_tracked k m t w named tracked h = elim (old_or_empty k m t named tracked) [
-    | inl (n, f) ↦ record { place = k; tracker = t; named = n; tracked = f; present = h }
-    | inr (none, helpers) ↦ absurd (contains_none w (subst (λ (xs : List VariableId). Contains xs w) none h))
-  ]
 
 -- the clause of a tie encodes the digit of its solvable
 pub tie_spells : {N S : Type 0} (name : N) (place : ℕ) (tie : VariableId × VariableId × Bool) (c : SolverState N S) (n : ℕ) → (st : IsTieClause name place tie c n) → Spells (origin c.atoms.keys) (clause_at (clauses_of c.search) n) (digit_literals name st.is.solvable st.is.bit tie.2)
@@ -202,7 +224,8 @@ same_or_other k n = elim (cases_Bool (k == n)) [ inl e ↦ inl (eqb-true k n e) 
 
 module _ {N S : Type 0} (name : N) (s : S) (v : VariableId) (place : ℕ) (r r1 r2 : Registry N) (t u : Tracking VariableId) (a b c : SolverState N S)
     (tied : AreTied r a) (places : PlacesName name place r r1) (gives : Gives (Solvable s) v a b) (tracks : Tracks name v t b u c) (there : slice_get r1.trackers.items place ≡ Some t)
-    (names : r2.names ≡ r1.names) (here : slice_get r2.trackers.items place ≡ Some u) (others : (k : ℕ) → (k ≡ place → ⊥) → slice_get r2.trackers.items k ≡ slice_get r1.trackers.items k) (long : length r2.trackers.items ≡ length r1.trackers.items) where
+    (names : r2.names ≡ r1.names) (here : slice_get r2.trackers.items place ≡ Some u) (others : (k : ℕ) → (k ≡ place → ⊥) → slice_get r2.trackers.items k ≡ slice_get r1.trackers.items k) (long : length r2.trackers.items ≡ length r1.trackers.items)
+    (members : r2.members ≡ r1.members) (waits : r2.tied ≡ r1.tied) (given : IsRegistered r a name s) where
   named : (k : ℕ) (m : N) → slice_get r2.names.keys k ≡ Some m → slice_get r1.names.keys k ≡ Some m
   named k m h = subst (λ n. slice_get n.keys k ≡ Some m) names h
 
@@ -261,6 +284,54 @@ module _ {N S : Type 0} (name : N) (s : S) (v : VariableId) (place : ℕ) (r r1 
         means = st.is.present;
       })))
 
+  in_place : (w : VariableId) → Contains u.variables w → IsInTracker r2 name w
+  in_place w h = record { place = place; tracker = u; named = renamed place name places.present; tracked = here; present = h }
+
+  keeps_tracked : (w : VariableId) → Contains t.variables w → Contains u.variables w
+  keeps_tracked w h = let (k, at) = contains_get t.variables w h in get_contains u.variables k w (prefix_get t.variables u.variables k w tracks.prefix at)
+
+  placed_keeps : (m : N) (w : VariableId) → IsInTracker r m w → IsInTracker r2 m w
+  placed_keeps m w h = elim (same_or_other h.place place) [
+    | inl e ↦
+        let n : slice_get r1.names.keys place ≡ Some m = subst (λ j. slice_get r1.names.keys j ≡ Some m) e (prefix_get r.names.keys r1.names.keys h.place m places.names h.named) in
+        let y : slice_get r1.names.keys place ≡ Some name = places.present in
+        let same : name ≡ m = cc in
+        let f : slice_get r1.trackers.items place ≡ Some h.tracker = subst (λ j. slice_get r1.trackers.items j ≡ Some h.tracker) e (prefix_get r.trackers.items r1.trackers.items h.place h.tracker places.trackers h.tracked) in
+        let one : h.tracker ≡ t = cc in
+        subst (λ (z : N). IsInTracker r2 z w) same (in_place w (keeps_tracked w (subst (λ (z : Tracking VariableId). Contains z.variables w) one h.present)))
+    | inr other ↦ record {
+      place = h.place;
+      tracker = h.tracker;
+      named = renamed h.place m (prefix_get r.names.keys r1.names.keys h.place m places.names h.named);
+      tracked = others h.place other ∙ prefix_get r.trackers.items r1.trackers.items h.place h.tracker places.trackers h.tracked;
+      present = h.present;
+    }
+  ]
+
+  placed_only : (m : N) (w : VariableId) → IsInTracker r2 m w → IsInTracker r m w ⊎ ((m ≡ name) × (w ≡ v))
+  placed_only m w h = elim (same_or_other h.place place) [
+    | inr other ↦ inl (old_tracked name place r r1 a tied places h.place m h.tracker w (named h.place m h.named) (sym (others h.place other) ∙ h.tracked) h.present)
+    | inl e ↦
+        let (x, y) = at_place m h.tracker (subst (λ j. slice_get r2.names.keys j ≡ Some m) e h.named) (subst (λ j. slice_get r2.trackers.items j ≡ Some h.tracker) e h.tracked) in
+        elim (tracks.only w (subst (λ (z : Tracking VariableId). Contains z.variables w) y h.present)) [
+          | inr same ↦ inr (x, same)
+          | inl old ↦ inl (subst (λ (z : N). IsInTracker r z w) (sym x) (old_tracked name place r r1 a tied places place name t w places.present there old))
+        ]
+  ]
+
+  -- the same are registered
+  registered_after : (m : N) (w : VariableId) → IsTracked r m w → IsTracked r2 m w
+  registered_after m w h = subst (λ ms. Contains ms.keys (member m w)) (sym (members ∙ places.members)) h
+
+  registered_first : (m : N) (w : VariableId) → IsTracked r2 m w → IsTracked r m w
+  registered_first m w h = subst (λ ms. Contains ms.keys (member m w)) (members ∙ places.members) h
+
+  own_member : IsTracked r name v
+  own_member =
+      let (w, present, there) = given in
+      let one : w ≡ v = one_variable b.atoms.keys w v (Solvable s) gives.coding.distinct (represents_grow a b w (Solvable s) gives.grows present) gives.present in
+      subst (λ (z : VariableId). IsTracked r name z) one there
+
   tied_after : AreTied r2 c
   tied_after = record {
     each = ap (λ n. length n.keys) names ∙ places.each ∙ sym long;
@@ -275,42 +346,17 @@ module _ {N S : Type 0} (name : N) (s : S) (v : VariableId) (place : ℕ) (r r1 
       | inl old ↦ placed_after m at x (tied_before.placed n m x at bit old)
       | inr (low, high) ↦ placed_new n m x at bit low high h
     ];
+    within = subst (λ k. k ≤ length r2.members.keys) (sym waits) (subst (λ ms. r1.tied ≤ length ms.keys) (sym members) tied_before.within);
+    solvables = λ m w h. (let (x, f) = tied_before.solvables m w (subst (λ ms. Contains ms.keys (member m w)) members h) in (x, represents_grow b c w (Solvable x) tracks.grows f));
+    registered = λ m w h. elim (placed_only m w h) [
+      | inl k ↦ registered_after m w (tied.registered m w k)
+      | inr (is, one) ↦ subst (λ (z : N). IsTracked r2 z w) (sym is) (subst (λ (z : VariableId). IsTracked r2 name z) (sym one) (registered_after name v own_member))
+    ];
+    rest = λ m w h. elim (tied.rest m w (registered_first m w h)) [
+      | inl k ↦ inl (placed_keeps m w k)
+      | inr (k, low, at) ↦ inr (k, subst (λ j. j ≤ k) (sym (waits ∙ places.waits)) low, subst (λ ms. slice_get ms.keys k ≡ Some (member m w)) (sym (members ∙ places.members)) at)
+    ];
   }
-
-  in_place : (w : VariableId) → Contains u.variables w → IsTracked r2 name w
-  in_place w h = record { place = place; tracker = u; named = renamed place name places.present; tracked = here; present = h }
-
-  keeps_tracked : (w : VariableId) → Contains t.variables w → Contains u.variables w
-  keeps_tracked w h = let (k, at) = contains_get t.variables w h in get_contains u.variables k w (prefix_get t.variables u.variables k w tracks.prefix at)
-
-  tracked_keeps : (m : N) (w : VariableId) → IsTracked r m w → IsTracked r2 m w
-  tracked_keeps m w h = elim (same_or_other h.place place) [
-    | inl e ↦
-        let n : slice_get r1.names.keys place ≡ Some m = subst (λ j. slice_get r1.names.keys j ≡ Some m) e (prefix_get r.names.keys r1.names.keys h.place m places.names h.named) in
-        let y : slice_get r1.names.keys place ≡ Some name = places.present in
-        let same : name ≡ m = cc in
-        let f : slice_get r1.trackers.items place ≡ Some h.tracker = subst (λ j. slice_get r1.trackers.items j ≡ Some h.tracker) e (prefix_get r.trackers.items r1.trackers.items h.place h.tracker places.trackers h.tracked) in
-        let one : h.tracker ≡ t = cc in
-        subst (λ (z : N). IsTracked r2 z w) same (in_place w (keeps_tracked w (subst (λ (z : Tracking VariableId). Contains z.variables w) one h.present)))
-    | inr other ↦ record {
-      place = h.place;
-      tracker = h.tracker;
-      named = renamed h.place m (prefix_get r.names.keys r1.names.keys h.place m places.names h.named);
-      tracked = others h.place other ∙ prefix_get r.trackers.items r1.trackers.items h.place h.tracker places.trackers h.tracked;
-      present = h.present;
-    }
-  ]
-
-  tracked_only : (m : N) (w : VariableId) → IsTracked r2 m w → IsTracked r m w ⊎ ((m ≡ name) × (w ≡ v))
-  tracked_only m w h = elim (same_or_other h.place place) [
-    | inr other ↦ inl (old_tracked name place r r1 a tied places h.place m h.tracker w (named h.place m h.named) (sym (others h.place other) ∙ h.tracked) h.present)
-    | inl e ↦
-        let (x, y) = at_place m h.tracker (subst (λ j. slice_get r2.names.keys j ≡ Some m) e h.named) (subst (λ j. slice_get r2.trackers.items j ≡ Some h.tracker) e h.tracked) in
-        elim (tracks.only w (subst (λ (z : Tracking VariableId). Contains z.variables w) y h.present)) [
-          | inr same ↦ inr (x, same)
-          | inl old ↦ inl (subst (λ (z : N). IsTracked r z w) (sym x) (old_tracked name place r r1 a tied places place name t w places.present there old))
-        ]
-  ]
 
   digit_clauses : (n : ℕ) → length a.search.clauses ≤ n → n < length c.search.clauses → IsDigitClause r2 c name n
   digit_clauses n low below =
@@ -321,39 +367,39 @@ module _ {N S : Type 0} (name : N) (s : S) (v : VariableId) (place : ℕ) (r r1 
         place = k;
         bit = st.is.bit;
         few = st.is.few;
-        registered = (tie.0, st.is.present, in_place tie.0 (get_contains u.variables k tie.0 at));
+        registered = (tie.0, st.is.present, tied_after.registered name tie.0 (in_place tie.0 (get_contains u.variables k tie.0 at)));
         kinds = st.kinds;
         spells = subst (λ value. Spells (origin c.atoms.keys) (clause_at (clauses_of c.search) n) (digit_literals name st.is.solvable st.is.bit value)) st.is.value (tie_spells name k tie c n st);
       }
 
-  unchanged : IsRegistered r a name s → c ≡ a
-  unchanged (w, (k, e, at), h) =
-      let first : b ≡ a = gives.same k at in
-      let one : w ≡ v = one_variable b.atoms.keys w v (Solvable s) gives.coding.distinct (represents_grow a b w (Solvable s) gives.grows (k, e, at)) gives.present in
-      let n : slice_get r1.names.keys h.place ≡ Some name = prefix_get r.names.keys r1.names.keys h.place name places.names h.named in
-      let f : slice_get r1.trackers.items h.place ≡ Some h.tracker = prefix_get r.trackers.items r1.trackers.items h.place h.tracker places.trackers h.tracked in
-      let same : h.place ≡ place = places.once tied.once h.place place name n places.present in
-      let g : slice_get r1.trackers.items place ≡ Some h.tracker = subst (λ j. slice_get r1.trackers.items j ≡ Some h.tracker) same f in
-      let is : h.tracker ≡ t = cc in
-      tracks.same (subst (λ (z : VariableId). Contains t.variables z) one (subst (λ (z : Tracking VariableId). Contains z.variables w) is h.present)) ∙ first
-
-  pub registers_is : Registers name s v r a r2 c
-  registers_is = record {
+  pub places_is : Places name s r a r2 c
+  places_is = record {
     coding = tracks.coding;
     grows = grows_then a b c gives.grows tracks.grows;
     trail = trail_then a b c gives.trail tracks.trail;
     tied = tied_after;
+    members = members ∙ places.members;
+    waits = waits ∙ places.waits;
+    variable = v;
     present = represents_grow b c v (Solvable s) tracks.grows gives.present;
-    registered = in_place v tracks.tracked;
-    keeps = tracked_keeps;
-    only = tracked_only;
+    placed = in_place v tracks.tracked;
+    keeps = placed_keeps;
     digits = digit_clauses;
-    same = unchanged;
   }
 
+-- all that are registered are in their packages' trackers
+abbrev pub ArePlaced : {N : Type 0} → Registry N → Type 0
+ArePlaced {N} r = (name : N) (v : VariableId) → IsQueued r name v → ⊥
+
+-- so one that is registered is in its package's tracker
+in_tracker : {N S : Type 0} (r : Registry N) (c : SolverState N S) (name : N) (v : VariableId) → AreTied r c → ArePlaced r → IsTracked r name v → IsInTracker r name v
+in_tracker r c name v tied placed h = elim (tied.rest name v h) [ inl k ↦ k | inr w ↦ absurd (placed name v w) ]
+
 -- Two registered solvables of one package are the same, or differ in a digit.
-pub by_digits : {N S : Type 0} (r : Registry N) (c : SolverState N S) (name : N) (s t : S) → AreTied r c → IsRegistered r c name s → IsRegistered r c name t → (s ≡ t) ⊎ DifferInDigit (rules_in c.kinds.items) s t
-by_digits {N} {S} r c name s t tied (v, f, h) (w, g, k) =
+pub by_digits : {N S : Type 0} (r : Registry N) (c : SolverState N S) (name : N) (s t : S) → AreTied r c → ArePlaced r → IsRegistered r c name s → IsRegistered r c name t → (s ≡ t) ⊎ DifferInDigit (rules_in c.kinds.items) s t
+by_digits {N} {S} r c name s t tied placed (v, f, first) (w, g, second) =
+    let h = in_tracker r c name v tied placed first in
+    let k = in_tracker r c name w tied placed second in
     let same : k.place ≡ h.place = tied.once k.place h.place name k.named h.named in
     let there : slice_get r.trackers.items h.place ≡ Some k.tracker = subst (λ j. slice_get r.trackers.items j ≡ Some k.tracker) same k.tracked in
     let here : slice_get r.trackers.items h.place ≡ Some h.tracker = h.tracked in
@@ -377,8 +423,8 @@ by_digits {N} {S} r c name s t tied (v, f, h) (w, g, k) =
 
 module _ {N S : Type 0} (r : Registry N) (c : SolverState N S) (name : N) where
   -- a solvable that has a place is registered
-  pub placed_registered : (place : ℕ) (s : S) → IsPlaced r c name place s → IsRegistered r c name s
-  placed_registered place s h = (h.variable, h.means, record { place = h.number; tracker = h.tracker; named = h.named; tracked = h.tracked; present = get_contains h.tracker.variables place h.variable h.present })
+  pub placed_registered : (place : ℕ) (s : S) → AreTied r c → IsPlaced r c name place s → IsRegistered r c name s
+  placed_registered place s tied h = (h.variable, h.means, tied.registered name h.variable (record { place = h.number; tracker = h.tracker; named = h.named; tracked = h.tracked; present = get_contains h.tracker.variables place h.variable h.present }))
 
   -- the package has one tracker
   one_tracker : {p q : ℕ} {s t : S} → AreTied r c → (h : IsPlaced r c name p s) → (k : IsPlaced r c name q t) → k.tracker ≡ h.tracker
@@ -414,28 +460,6 @@ digit_denies {N} {S} r c name n l s d h (other, m) = elim (d.spells.only l h) [
     | inr g ↦ (let e = contains_one (meaning (origin c.atoms.keys) l) (record { atom = Atom.digit name d.bit; positive = digit d.place d.bit }) g in let f : Atom.solvable s ≡ Atom.digit name d.bit = ap (λ (x : Literal (Atom N S)). x.atom) (m ∙ e) in absurd cc)
   ]
 ]
-
-module _ {N S : Type 0} (name : N) (s : S) (v : VariableId) (r : Registry N) (old : SolverState N S) (t : Registry N) (new : SolverState N S) (registers : Registers name s v r old t new) where
-  -- the solvable is registered
-  pub registered_now : IsRegistered t new name s
-  registered_now = (v, registers.present, registers.registered)
-
-  -- those that were stay registered
-  pub registered_keeps : (m : N) (u : S) → IsRegistered r old m u → IsRegistered t new m u
-  registered_keeps m u (w, f, h) = (w, represents_grow old new w (Solvable u) registers.grows f, registers.keeps m w h)
-
-  -- and no other one is
-  pub registered_only : AreTied r old → (m : N) (u : S) → IsRegistered t new m u → IsRegistered r old m u ⊎ ((m ≡ name) × (u ≡ s))
-  registered_only tied m u (w, f, h) = elim (registers.only m w h) [
-    | inl k ↦
-        let (x, g) = (tied.tied k.place m k.tracker k.named k.tracked).solvables w k.present in
-        let one = represents_same new.atoms.keys w (Solvable x) (Solvable u) (represents_grow old new w (Solvable x) registers.grows g) f in
-        let same : x ≡ u = cc in
-        inl (w, subst (λ (y : S). Represents old.atoms.keys w (Solvable y)) same g, k)
-    | inr (n, e) ↦
-        let one = represents_same new.atoms.keys v (Solvable u) (Solvable s) (subst (λ (z : VariableId). Represents new.atoms.keys z (Solvable u)) e f) registers.present in
-        inr (n, cc)
-  ]
 
 -- A clause that encodes a digit spells its rule, where the package's registered solvables are the
 -- package's.

@@ -1,4 +1,4 @@
--- Equal atoms are one atom.
+-- Equal atoms are one atom, and equal members of a registry one member.
 use Rattle.std.specs.Prelude.{◌≡◌, ℕ, Bool, true, false}
 use Rattle.std.proofs.Common.{ap}
 use Rattle.std.proofs.lemmas.Bool.{both_ways}
@@ -6,6 +6,8 @@ use Rattle.resolvo_pool_core.specs.declared.id.VersionSetId.{VersionSetId}
 use Rattle.resolvo_pool_core.specs.declared.id.VersionSetUnionId.{VersionSetUnionId}
 use Rattle.resolvo_pool_core.specs.declared.requirement.Requirement.{Requirement}
 use Rattle.resolvo_pool_core.specs.declared.requirement.Requirement.TheVariants.{Single, Union}
+use Rattle.resolvo_pool_core.specs.declared.id.VariableId.{VariableId}
+use Rattle.resolvo_state.specs.declared.registry.Member.{Member}
 use Rattle.resolvo_state.specs.declared.atom.ProofAtom.{ProofAtom}
 use Rattle.resolvo_state.specs.declared.atom.ProofAtom.TheVariants.{Solvable, AtLeastOne, Gate, Outside, Bit}
 
@@ -58,3 +60,7 @@ one_atom eq solvable any gate outside bit a b c d e (Bit m j) (AtLeastOne n) h =
 one_atom eq solvable any gate outside bit a b c d e (Bit m j) (Gate r) h = absurd (both_ways _ ((e m j).2 r) h)
 one_atom eq solvable any gate outside bit a b c d e (Bit m j) (Outside v) h = absurd (both_ways _ ((e m j).3 v) h)
 one_atom eq solvable any gate outside bit a b c d e (Bit m j) (Bit n k) h = let p = bit m n j k h in λ i. Bit (p.0 i) (p.1 i)
+
+-- a test of members holds of one member alone
+pub one_member : {N : Type 0} (eq : Member N → Member N → Bool) → ((m n : N) (v w : VariableId) → eq (record { name = m; variable = v }) (record { name = n; variable = w }) ≡ true → (m ≡ n) × (v.0 ≡ w.0)) → (x y : Member N) → eq x y ≡ true → x ≡ y
+one_member eq parts x y h = let p = parts x.name y.name x.variable y.variable h in λ i. record { name = p.0 i; variable = record { 0 = p.1 i } }

@@ -14,6 +14,7 @@ use Rattle.resolvo_state.specs.declared.atom.ProofAtom.TheVariants.{Solvable, Bi
 use Rattle.resolvo_state.specs.declared.clause_kind.ClauseKind.TheVariants.{Digit}
 use Rattle.resolvo_state.specs.declared.solver_state.SolverState.{SolverState}
 use Rattle.resolvo_state.specs.declared.registry.Registry.{Registry}
+use Rattle.resolvo_state.specs.declared.registry.Member.{Member}
 use Rattle.resolvo_state.specs.Atoms.{origin, Represents}
 use Rattle.resolvo_state.specs.Keys.{AreOnce}
 use Rattle.resolvo_state.specs.ClauseKinds.{kind_at, rules_in}
@@ -46,21 +47,37 @@ pub record IsPlaced {N S : Type 0} (r : Registry N) (c : SolverState N S) (name 
   pub present : slice_get tracker.variables place ≡ Some variable
   pub means : Represents c.atoms.keys variable (Solvable s)
 
--- Each package has one tracker, and each is tied. A clause that encodes a digit of a place encodes
--- it of the solvable there.
-pub record AreTied {N S : Type 0} (r : Registry N) (c : SolverState N S) : Type 0 where
-  pub each : length r.names.keys ≡ length r.trackers.items
-  pub once : AreOnce r.names.keys
-  pub tied : (k : ℕ) (name : N) (t : Tracking VariableId) → slice_get r.names.keys k ≡ Some name → slice_get r.trackers.items k ≡ Some t → IsTied name t c
-  pub placed : (n : ℕ) (name : N) (s : S) (place bit : ℕ) → kind_at c.kinds.items n ≡ Some (Digit name s place bit) → IsPlaced r c name place s
-
 -- the variable is in the package's tracker
-pub record IsTracked {N : Type 0} (r : Registry N) (name : N) (v : VariableId) : Type 0 where
+pub record IsInTracker {N : Type 0} (r : Registry N) (name : N) (v : VariableId) : Type 0 where
   pub place : ℕ
   pub tracker : Tracking VariableId
   pub named : slice_get r.names.keys place ≡ Some name
   pub tracked : slice_get r.trackers.items place ≡ Some tracker
   pub present : Contains tracker.variables v
+
+-- a variable with its package
+abbrev pub member : {N : Type 0} → N → VariableId → Member N
+member name v = record { name = name; variable = v }
+
+-- the variable is registered as one of the package's
+abbrev pub IsTracked : {N : Type 0} → Registry N → N → VariableId → Type 0
+IsTracked r name v = Contains r.members.keys (member name v)
+
+-- the variable is registered, and waits for its digits
+abbrev pub IsQueued : {N : Type 0} → Registry N → N → VariableId → Type 0
+IsQueued r name v = (k : ℕ) × (r.tied ≤ k) × (slice_get r.members.keys k ≡ Some (member name v))
+
+-- Each package has one tracker, and each is tied. A clause that encodes a digit of a place encodes
+-- it of the solvable there. What is registered is in a tracker, or waits.
+pub record AreTied {N S : Type 0} (r : Registry N) (c : SolverState N S) : Type 0 where
+  pub each : length r.names.keys ≡ length r.trackers.items
+  pub once : AreOnce r.names.keys
+  pub tied : (k : ℕ) (name : N) (t : Tracking VariableId) → slice_get r.names.keys k ≡ Some name → slice_get r.trackers.items k ≡ Some t → IsTied name t c
+  pub placed : (n : ℕ) (name : N) (s : S) (place bit : ℕ) → kind_at c.kinds.items n ≡ Some (Digit name s place bit) → IsPlaced r c name place s
+  pub within : r.tied ≤ length r.members.keys
+  pub solvables : (name : N) (v : VariableId) → IsTracked r name v → (s : S) × Represents c.atoms.keys v (Solvable s)
+  pub registered : (name : N) (v : VariableId) → IsInTracker r name v → IsTracked r name v
+  pub rest : (name : N) (v : VariableId) → IsTracked r name v → IsInTracker r name v ⊎ IsQueued r name v
 
 -- the solvable is registered as one of the package's
 abbrev pub IsRegistered : {N S : Type 0} → Registry N → SolverState N S → N → S → Type 0
@@ -70,6 +87,8 @@ IsRegistered r c name s = (v : VariableId) × Represents c.atoms.keys v (Solvabl
 pub record IsNothing {N : Type 0} (r : Registry N) : Type 0 where
   pub names : r.names.keys ≡ []
   pub trackers : r.trackers.items ≡ []
+  pub members : r.members.keys ≡ []
+  pub tied : r.tied ≡ 0
 
 -- the clause of this number ties a registered solvable of the package to a digit, one of 32
 pub record IsDigitClause {N S : Type 0} (r : Registry N) (c : SolverState N S) (name : N) (n : ℕ) : Type 0 where
@@ -81,18 +100,35 @@ pub record IsDigitClause {N S : Type 0} (r : Registry N) (c : SolverState N S) (
   pub kinds : kind_at c.kinds.items n ≡ Some (Digit name solvable place bit)
   pub spells : Spells (origin c.atoms.keys) (clause_at (clauses_of c.search) n) (digit_literals name solvable bit (digit place bit))
 
--- The solvable is registered, with this variable; no other one was added. Each new clause ties a solvable to a digit.
+-- The solvable is registered, with this variable; no other one was added. It waits for its digits,
+-- unless it was registered before. No clause was added.
 pub record Registers {N S : Type 0} (name : N) (s : S) (v : VariableId) (r : Registry N) (old : SolverState N S) (t : Registry N) (new : SolverState N S) : Type 0 where
   pub coding : IsCoding new
   pub grows : Grows old new
   pub trail : SameTrail old new
   pub tied : AreTied t new
+  pub clauses : new.search.clauses ≡ old.search.clauses
+  pub kinds : new.kinds ≡ old.kinds
   pub present : Represents new.atoms.keys v (Solvable s)
   pub registered : IsTracked t name v
   pub keeps : (m : N) (u : VariableId) → IsTracked r m u → IsTracked t m u
-  pub only : (m : N) (u : VariableId) → IsTracked t m u → IsTracked r m u ⊎ ((m ≡ name) × (u ≡ v))
+  pub waits : (m : N) (u : VariableId) → IsQueued r m u → IsQueued t m u
+  pub only : (m : N) (u : VariableId) → IsTracked t m u → IsTracked r m u ⊎ ((m ≡ name) × (u ≡ v) × IsQueued t m u)
+
+-- The registered solvable is in its package's tracker. Each new clause ties a solvable to a digit.
+-- Those that are registered are unchanged, and so are those that wait.
+pub record Places {N S : Type 0} (name : N) (s : S) (r : Registry N) (old : SolverState N S) (t : Registry N) (new : SolverState N S) : Type 0 where
+  pub coding : IsCoding new
+  pub grows : Grows old new
+  pub trail : SameTrail old new
+  pub tied : AreTied t new
+  pub members : t.members ≡ r.members
+  pub waits : t.tied ≡ r.tied
+  pub variable : VariableId
+  pub present : Represents new.atoms.keys variable (Solvable s)
+  pub placed : IsInTracker t name variable
+  pub keeps : (m : N) (u : VariableId) → IsInTracker r m u → IsInTracker t m u
   pub digits : (n : ℕ) → length old.search.clauses ≤ n → n < length new.search.clauses → IsDigitClause t new name n
-  pub same : IsRegistered r old name s → new ≡ old
 
 -- the place is the package's; a new one was appended, with nothing tracked
 pub record PlacesName {N : Type 0} (name : N) (place : ℕ) (old new : Registry N) : Type 0 where
@@ -101,6 +137,8 @@ pub record PlacesName {N : Type 0} (name : N) (place : ℕ) (old new : Registry 
   pub each : length new.names.keys ≡ length new.trackers.items
   pub present : slice_get new.names.keys place ≡ Some name
   pub once : AreOnce old.names.keys → AreOnce new.names.keys
+  pub members : new.members ≡ old.members
+  pub waits : new.tied ≡ old.tied
   pub fresh : (k : ℕ) (t : Tracking VariableId) → length old.trackers.items ≤ k → slice_get new.trackers.items k ≡ Some t → (t.variables ≡ []) × (t.helpers ≡ [])
 
 -- the variable of the next digit of the package, where one is made

@@ -1,20 +1,23 @@
 //! The registered solvables of each package: at most one of them is true.
 //! Each package has a tracker of its solvables' variables. Their places are encoded in binary
-//! digits, each digit a variable of its own. For each registered solvable and each digit of its
-//! package, a clause gives the value of the digit where the solvable is true.
+//! digits, each digit a variable of its own. For each solvable in a tracker and each digit of its
+//! package, a clause gives the value of the digit where the solvable is true. A solvable that is
+//! registered waits for them until it is placed.
+ghost use Rattle.std.proofs.lemmas.Bool.{and_parts, eqb-true};
 ghost use Rattle.std.specs.Prelude.{◌≡◌, ℕ, ◌≤◌, ◌+◌, Bool, Some, min, length, slice_get, is_some, IfOk, OnOk, IsErrOf, IsOkUnless, Contains};
 ghost use Rattle.resolvo_pool_core.specs.declared.want.Want.TheVariants.{Memory, Ids};
 ghost use Rattle.resolvo_pool_core.specs.declared.id.VariableId.{VariableId};
 ghost use Rattle.resolvo_store_core.specs.AtMostOne.{needs_helper};
 ghost use Rattle.resolvo_state.specs.declared.atom.ProofAtom.TheVariants.{Solvable, Bit};
+ghost use Rattle.resolvo_state.specs.AtomLaws.{one_member};
 ghost use Rattle.resolvo_state.specs.Atoms.{Represents};
 ghost use Rattle.resolvo_state.specs.SolverState.{IsCoding, LacksNumber};
 ghost use Rattle.resolvo_state.specs.Keys.{AreOnce};
-ghost use Rattle.resolvo_state.specs.Registered.{same_variable, IsNothing, AreTied, IsTracked, Registers, PlacesName, IsTied, Tracks, GivesDigit, IsTie, first_of, place_from, AddsTie, AddsTies};
+ghost use Rattle.resolvo_state.specs.Registered.{same_variable, IsNothing, AreTied, IsInTracker, IsTracked, IsQueued, IsRegistered, member, Registers, Places, PlacesName, IsTied, Tracks, GivesDigit, IsTie, first_of, place_from, AddsTie, AddsTies};
 
 use crate::atom::ProofAtom;
 use crate::clause_kind::ClauseKind;
-use crate::keys::{place_in, push_key};
+use crate::keys::{include, place_in, push_key};
 use crate::solver_state::SolverState;
 use indexmap::IndexSet;
 use resolvo_pool_core::id::{Exact, VariableId};
@@ -25,10 +28,26 @@ use std::alloc::Global;
 use std::fmt::Debug;
 use std::hash::Hash;
 
-/// The packages that have registered solvables, each with the tracker of its solvables' variables.
+/// A registered variable, with its package.
+#[derive(Clone, Copy, PartialEq, Eq, Hash, Debug)]
+pub struct Member<N> {
+    pub name: N,
+    pub variable: VariableId,
+}
+
+impl<N: Exact> Exact for Member<N> {
+    ghost exact = { one_member Self.eq
+        (λ m n v w h. (N.exact m n (and_parts _ _ h).0, eqb-true v.0 w.0 (and_parts _ _ h).1)) };
+}
+
+/// The packages with solvables in their trackers, and the registered solvables' variables.
 pub struct Registry<N: Copy + Eq + Hash> {
     names: IndexSet<N>,
     trackers: Vec<AtMostOnceTracker<VariableId>>,
+    /// The registered variables with their packages, in the order of registration.
+    members: IndexSet<Member<N>>,
+    /// The number of those that don't wait for their digits: the first ones.
+    tied: usize,
 }
 
 // split for the prover: what owns one calls this drop, and doesn't drop each field at each exit
@@ -37,6 +56,8 @@ impl<N: Copy + Eq + Hash> Drop for Registry<N> {
         let Registry {
             names: _,
             trackers: _,
+            members: _,
+            tied: _,
         } = self;
     }
 }
@@ -53,12 +74,13 @@ impl<N: Copy + Exact + Hash + Debug> Registry<N> {
         Registry {
             names: IndexSet::new(alloc),
             trackers: Vec::new(alloc),
+            members: IndexSet::new(alloc),
+            tied: 0,
         }
     }
 
     /// Registers a solvable of a package, and returns its variable, which is created where there is
-    /// none. Adds the clauses that tie it to each digit, and those that tie earlier ones to a new
-    /// digit.
+    /// none. A new one waits for its digits.
     pub fn register<S: Copy + Exact + Hash + Debug>(
         &mut self,
         coding: &mut SolverState<N, S>,
@@ -71,19 +93,56 @@ impl<N: Copy + Exact + Hash + Debug> Registry<N> {
             (λ v. Registers name solvable v self.old coding.old self.new coding.new) }
         ensures ids { IsErrOf result Ids → LacksNumber coding.new }
     {
+        let variable = coding.variable(ProofAtom::Solvable(solvable))?;
+        include(&mut self.members, Member { name, variable })?;
+        Ok(variable)
+    }
+
+    /// The registered variables that wait for their digits, in the order of registration.
+    pub fn queued(&self) -> &[Member<N>]
+        requires { self.now.tied ≤ length self.now.members.keys }
+        ensures waiting { (name : N) (v : VariableId)
+            → IsQueued self.now name v → Contains result.now (member name v) }
+        ensures registered { (name : N) (v : VariableId)
+            → Contains result.now (member name v) → IsTracked self.now name v }
+    {
+        &self.members.as_slice()[self.tied..]
+    }
+
+    /// Ends the wait of those that wait: they are in their trackers.
+    pub fn end_queue(&mut self)
+        ensures { self.new ≡ record self.old { tied = length self.old.members.keys } }
+    {
+        self.tied = self.members.len();
+    }
+
+    /// Puts a registered solvable into its package's tracker. Adds the clauses that tie it to each
+    /// digit, and those that tie earlier ones to a new digit.
+    pub fn place<S: Copy + Exact + Hash + Debug>(
+        &mut self,
+        coding: &mut SolverState<N, S>,
+        name: N,
+        solvable: S,
+    ) -> R<()>
+        requires coding { IsCoding coding.old }
+        requires tied { AreTied self.old coding.old }
+        requires registered { IsRegistered self.old coding.old name solvable }
+        ensures placed { OnOk result (Places name solvable self.old coding.old self.new coding.new) }
+        ensures ids { IsErrOf result Ids → LacksNumber coding.new }
+    {
         let alloc = *self.trackers.allocator();
         let variable = coding.variable(ProofAtom::Solvable(solvable))?;
         let place = self.place_of(alloc, name)?;
         track(alloc, &mut self.trackers[place], coding, name, variable)?;
-        Ok(variable)
+        Ok(())
     }
 
-    /// The variables of the registered solvables of a package.
+    /// The variables in a package's tracker.
     pub fn variables(&self, name: N) -> &[VariableId]
         requires each { length self.now.names.keys ≡ length self.now.trackers.items }
         requires once { AreOnce self.now.names.keys }
-        ensures tracked { (v : VariableId) → Contains result.now v → IsTracked self.now name v }
-        ensures all { (v : VariableId) → IsTracked self.now name v → Contains result.now v }
+        ensures tracked { (v : VariableId) → Contains result.now v → IsInTracker self.now name v }
+        ensures all { (v : VariableId) → IsInTracker self.now name v → Contains result.now v }
     {
         match place_in(&self.names, &name) {
             Some(place) => self.trackers[place].variables(),

@@ -34,7 +34,7 @@ use Rattle.resolvo_encoder.proofs.Parents.{parent_keeps}
 use Rattle.resolvo_encoder.proofs.PickLemmas.{ordered_stays}
 use Rattle.resolvo_encoder.proofs.RequireLemmas.{need_grows, limit_grows, guard_grows, some_one}
 use Rattle.resolvo_turn.specs.Turn.{FiresMore}
-use Rattle.resolvo_turn.specs.Encoder.{IsRoot, AreRulesOf, IsInOrder, AddsNeeds, AddsParents, AreDeferred, IsConditionalEncoded}
+use Rattle.resolvo_turn.specs.Encoder.{IsRoot, AreRulesOf, IsInOrder, AddsNeeds, AddsParents, AddsAll, AreDeferred, IsConditionalEncoded}
 
 -- ---- parents alone
 
@@ -67,6 +67,10 @@ module _ {N S : Type 0} (same : S → S → Bool) (p : Packages N S) (orders : R
   -- the search keeps it one
   pub goes_in_order : GoesOn a b → (IsEncoding same p root a → IsEncoding same p root b) → IsInOrder same p orders root a → IsInOrder same p orders root b
   goes_in_order f stays e = record { encoding = stays e.encoding; ordered = ordered_stays orders a b f.grows f.rest.lists e.ordered }
+
+  -- more clauses keep it one
+  pub extends_in_order : Grows a.coding b.coding → b.lists ≡ a.lists → (IsEncoding same p root a → IsEncoding same p root b) → IsInOrder same p orders root a → IsInOrder same p orders root b
+  extends_in_order grows lists stays e = record { encoding = stays e.encoding; ordered = ordered_stays orders a b grows lists e.ordered }
 
   -- a deferred or fired case keeps it one
   pub defers_in_order : Defers a b → (IsEncoding same p root a → IsEncoding same p root b) → IsInOrder same p orders root a → IsInOrder same p orders root b
@@ -291,4 +295,11 @@ goes_parents {N} {S} a b f = record {
   encoded = (let x : b.encoded ≡ a.encoded = f.rest.encoded in omega arith);
   deferred = prefix_equal a.deferred.items b.deferred.items (ap (λ ds. ds.items) f.rest.deferred);
   fired = prefix_equal a.fired.keys b.fired.keys (ap (λ ks. ks.keys) f.rest.fired);
+}
+
+-- all parents stay encoded where clauses are added
+pub extends_all : {N S : Type 0} (a b c : Encoder N S) → AddsAll a b → Extends b c → AddsAll a c
+extends_all a b c f kept = record {
+  adds = all_then a b c f.adds (needs_parents b c (extends_needs b c kept));
+  all = kept.encoded ∙ f.all ∙ sym (ap (λ ks. length ks.keys) kept.parents);
 }

@@ -16,7 +16,11 @@ use Rattle.resolvo_sat.specs.State.{history}
 use Rattle.resolvo_state.proofs.Growth.{below_or_not}
 use Rattle.resolvo_state.proofs.Positions.{contains_get, prefix_get, prefix_long, get_below}
 use Rattle.resolvo_encoder.specs.declared.encoder.Encoder.{Encoder}
+use Rattle.resolvo_encoder.specs.declared.encoder.EncodedOnce.{EncodedOnce}
+use Rattle.resolvo_encoder.specs.Encoded.{IsWhole}
 use Rattle.resolvo_encoder.specs.Steps.{AddsParent}
+use Rattle.resolvo_state.specs.declared.registry.Registry.{Registry}
+use Rattle.resolvo_state.specs.Registered.{IsQueued}
 use Rattle.resolvo_encoder.specs.Conditions.{AreSpent}
 use Rattle.resolvo_encoder.specs.Base.{base_of, HasTurn, KeepsFirst, KeepsTurn}
 use Rattle.resolvo_encoder.specs.Progress.{IsDone, GoesOn, IsDecision}
@@ -38,6 +42,17 @@ past_end xs n none = elim (below_or_not n (length xs)) [
 -- more parents keep the end of the search
 pub done_parents : {N S : Type 0} (a b : Encoder N S) → AddsParent a b → IsDone a → IsDone b
 done_parents {N} {S} a b f s = subst (λ (x : Encoder N S). IsDone x) (sym f.rest) (record { quiet = s.quiet; values = s.values; score = s.score; agree = s.agree; decided = s.decided })
+
+-- and that nothing waits
+whole_parents : {N S : Type 0} (a b : Encoder N S) → AddsParent a b → IsWhole a → IsWhole b
+whole_parents {N} {S} a b f h = subst (λ (x : Encoder N S). IsWhole x) (sym f.rest) (record { solvables = h.solvables; packages = h.packages })
+
+-- nothing waits after steps of the search
+pub whole_goes : {N S : Type 0} (a b : Encoder N S) → GoesOn a b → IsWhole a → IsWhole b
+whole_goes {N} {S} a b f h = record {
+  solvables = λ n v k. h.solvables n v (subst (λ (r : Registry N). IsQueued r n v) f.rest.registry k);
+  packages = λ n k. h.packages n (subst (λ (x : EncodedOnce N S). Contains x.queued.keys n) f.rest.recorded k);
+}
 
 -- where the chosen solvables are parents, and all parents are encoded, their rules are clauses
 pub chosen_encoded : {N S : Type 0} (a b : Encoder N S) → AddsChosen a b → slice_get b.parents.keys 0 ≡ Some Place.Root → slice_get b.parents.keys b.encoded ≡ None → AreChosenEncoded b
@@ -95,8 +110,8 @@ module _ {N S : Type 0} (same : S → S → Bool) (a b c : Encoder N S) (first :
   round_rooted = still_rooted a c first round_adds
 
   -- where no parent is to be encoded and no case holds, the turn has ended
-  pub round_complete : (soft : Option VariableId) → IsDone b × HasSoft soft b → slice_get c.parents.keys c.encoded ≡ None → AreSpent same c → IsTurn same soft c None
-  round_complete soft (is_done, has) none spent = (done_parents b c chosen.added is_done, chosen_encoded b c chosen round_rooted none, spent, soft_stays soft b c (parents_coding b c chosen.added) has)
+  pub round_complete : (soft : Option VariableId) → IsWhole b → IsDone b × HasSoft soft b → slice_get c.parents.keys c.encoded ≡ None → AreSpent same c → IsTurn same soft c None
+  round_complete soft placed (is_done, has) none spent = (done_parents b c chosen.added is_done, chosen_encoded b c chosen round_rooted none, spent, whole_parents b c chosen.added placed, soft_stays soft b c (parents_coding b c chosen.added) has)
 
 -- there is progress where cases became clauses
 pub fires_goes : {N S : Type 0} (a b c : Encoder N S) → AddsParents a b → FiresMore b c → MakesProgress a c

@@ -13,6 +13,7 @@ use Rattle.resolvo_sat.specs.Entries.{made_true}
 use Rattle.resolvo_sat.specs.State.{history}
 use Rattle.resolvo_state.specs.Chosen.{AreChosen, choices}
 use Rattle.resolvo_encoder.specs.Conditions.{AreSpent}
+use Rattle.resolvo_encoder.specs.Encoded.{IsWhole}
 use Rattle.resolvo_encoder.specs.TurnLevels.{AreAmongEncoded}
 use Rattle.resolvo_encoder.specs.Progress.{IsDone}
 use Rattle.resolvo_encoder.specs.Steps.{AddsParent}
@@ -53,10 +54,10 @@ IsBegunBy soft e None = HasSoft soft e
 IsBegunBy None e (Some r) = ⊥
 IsBegunBy (Some v) e (Some r) = IsTried e v (Some r)
 
--- nothing is left to propagate, decide or encode, and no deferred case holds; or the turn is
--- refused
+-- nothing is left to propagate, decide or encode, no deferred case holds, and no clause waits; or
+-- the turn is refused
 abbrev pub IsTurn : {N S : Type 0} → (S → S → Bool) → Option VariableId → Encoder N S → Option FinalConflict → Type 0
-IsTurn same soft e None = IsDone e × AreChosenEncoded e × AreSpent same e × HasSoft soft e
+IsTurn same soft e None = IsDone e × AreChosenEncoded e × AreSpent same e × IsWhole e × HasSoft soft e
 IsTurn same soft e (Some r) = IsRefusedBy soft e r
 
 -- the chosen solvables are among the parents

@@ -5,12 +5,14 @@ ghost use Rattle.resolvo_pool.specs.Cached.{IsCancelledBy};
 ghost use Rattle.resolvo_pool_core.specs.Text.{solvable_of};
 ghost use Rattle.resolvo_pool_core.specs.declared.requirement.ConditionalRequirement.{ConditionalRequirement};
 ghost use Rattle.resolvo_pool_core.specs.declared.requirement.Requirement.TheVariants.{Single};
+ghost use Rattle.resolvo_encoder.specs.Encoded.{IsWhole};
 ghost use Rattle.resolvo_encoder.specs.Base.{KeepsTurns};
 ghost use Rattle.resolvo_encoder.specs.Steps.{IsBuilt, AddsParent};
 ghost use Rattle.resolvo_turn.specs.Encoder.{AddsNeeds, AddsAll, StaysInOrderOf};
 ghost use Rattle.resolvo_turn.specs.Effects.{ForbidsPackage, ForbidsPackages, GuardsRequirement, RequiresGuarded, RequiresPlain, RequiresOne, RequiresAll, LimitsOne, LimitsGuarded, LimitsAll, EncodesKnown, EncodesParent};
 
 use crate::defer::defer_need;
+use crate::fire::fire_from;
 use resolvo_encoder::encoder::Encoder;
 use resolvo_packages::package_source::{Offered, PackageSource};
 use resolvo_pool::cache::CacheFault;
@@ -168,7 +170,8 @@ fn encode_plain_need<A: PackageSource>(
     Ok(())
 }
 
-/// Encodes a requirement of a parent, or defers its cases if it has a condition.
+/// Encodes a requirement of a parent. If it has a condition, the cases that hold are encoded, and
+/// the others deferred.
 fn encode_need<A: PackageSource>(
     alloc: Global,
     answers: &mut A,
@@ -194,7 +197,9 @@ fn encode_need<A: PackageSource>(
             Ok(())
         }
         Some(condition) => {
+            let first = encoding.deferred.len();
             defer_need(alloc, answers, encoding, parent, need, condition)?;
+            fire_from(alloc, answers, encoding, first)?;
             Ok(())
         }
     }
@@ -376,7 +381,7 @@ fn encode_parent<A: PackageSource>(
 }
 
 /// Encodes the rules of each parent that isn't encoded yet.
-pub fn encode_parents<A: PackageSource>(
+fn encode_each<A: PackageSource>(
     alloc: Global,
     answers: &mut A,
     encoding: &mut Encoder<A::NameId, A::SolvableId>,
@@ -400,5 +405,33 @@ pub fn encode_parents<A: PackageSource>(
         encode_parent(alloc, answers, encoding, requirements, constraints, parent)?;
         encoding.end_parent();
     }
+    Ok(())
+}
+
+/// Encodes the rules of each parent that isn't encoded yet. Then adds the clauses that wait for the
+/// encoding's end.
+pub fn encode_parents<A: PackageSource>(
+    alloc: Global,
+    answers: &mut A,
+    encoding: &mut Encoder<A::NameId, A::SolvableId>,
+    requirements: &[ConditionalRequirement],
+    constraints: &[VersionSetId],
+) -> Result<(), CacheFault<A::Cancel>>
+    requires { IsBuilt encoding.old }
+    // Whatever the answer.
+    ensures same { answers.new ≡ answers.old }
+    // After an answer.
+    ensures encoded { OnOk result
+        (StaysInOrderOf A.SolvableId.eq A.PackageSource answers.old
+        requirements.now constraints.now encoding.old encoding.new) }
+    ensures all { OnOk result (AddsAll encoding.old encoding.new) }
+    ensures turn { OnOk result (KeepsTurns encoding.old encoding.new) }
+    ensures placed { OnOk result (IsWhole encoding.new) }
+    ensures built { OnOk result (IsBuilt encoding.new) }
+    // After a refusal.
+    ensures cancelled { IfErr result (IsCancelledBy (A.may_cancel answers.old)) }
+{
+    encode_each(alloc, answers, encoding, requirements, constraints)?;
+    encoding.add_queued(alloc)?;
     Ok(())
 }

@@ -1,9 +1,11 @@
 //! Cases of conditions that hold become clauses. Each was deferred until all its version sets had a
 //! chosen match.
-ghost use Rattle.std.specs.Prelude.{◌≡◌, ◌<◌, true, false, length, IfOk, IfErr, OnOk, Contains};
+ghost use Rattle.std.specs.Prelude.{◌≡◌, ◌<◌, true, false, length, Some, IfOk, IfErr, OnOk, Contains};
 ghost use Rattle.resolvo_pool.specs.Cached.{IsCancelledBy};
+ghost use Rattle.resolvo_packages.specs.PackageSource.{offered_solvables};
 ghost use Rattle.resolvo_encoder.specs.Conditions.{IsSet, AreSets, sets_case};
 ghost use Rattle.resolvo_encoder.specs.Conditions.{IsSpent, AreSpent};
+ghost use Rattle.resolvo_encoder.specs.declared.conditions.ConditionSet.{ConditionSet as Set};
 ghost use Rattle.resolvo_encoder.specs.Steps.{IsBuilt};
 ghost use Rattle.resolvo_turn.specs.Encoder.{AddsNeeds, StaysInOrder};
 ghost use Rattle.resolvo_turn.specs.Turn.{FiresMore};
@@ -12,11 +14,13 @@ ghost use Rattle.resolvo_turn.specs.Effects.{RequiresGuardedCase, RequiresCase};
 use crate::encode::{add_available, guard};
 use resolvo_encoder::conditions::{ConditionSet, DeferredRequirement};
 use resolvo_encoder::encoder::Encoder;
-use resolvo_packages::package_source::PackageSource;
+use resolvo_packages::package_source::{Offered, PackageSource};
 use resolvo_pool::cache::CacheFault;
-use resolvo_pool_core::id::VersionSetId;
+use resolvo_pool_core::id::{Exact, VersionSetId};
 use resolvo_pool_core::requirement::ConditionalRequirement;
 use std::alloc::Global;
+use std::fmt::Debug;
+use std::hash::Hash;
 
 /// A version set of a case, with its package and the candidates that don't match it.
 fn set_of<A: PackageSource>(
@@ -83,7 +87,46 @@ fn add_case<A: PackageSource>(
     Ok(())
 }
 
-/// Encodes a case of a parent's requirement, and the locks and exclusions of its candidates.
+/// Whether the parent is a solvable outside one of these version sets: then the case can't hold
+/// beside it.
+fn is_void<N, S: Copy + Exact + Hash + Debug>(
+    sets: &[ConditionSet<N, S>],
+    parent: Option<S>,
+) -> bool
+    ensures { result ≡ true
+        → (s : S)
+        × (c : Set N S)
+        × (parent ≡ Some s)
+        × Contains sets.now c
+        × Contains (offered_solvables c.outside.items) s }
+{
+    match parent {
+        None => false,
+        Some(solvable) => {
+            for set in sets {
+                if is_offered(set.outside.as_slice(), solvable) {
+                    return true;
+                }
+            }
+            false
+        }
+    }
+}
+
+/// Whether a solvable is one of these.
+fn is_offered<N, S: Copy + Exact + Hash + Debug>(offered: &[Offered<N, S>], solvable: S) -> bool
+    ensures { result ≡ true → Contains (offered_solvables offered.now) solvable }
+{
+    for one in offered {
+        if one.solvable == solvable {
+            return true;
+        }
+    }
+    false
+}
+
+/// Encodes a case of a parent's requirement, and the locks and exclusions of its candidates. One
+/// that can't hold beside its parent adds nothing.
 fn encode_case<A: PackageSource>(
     alloc: Global,
     answers: &mut A,
@@ -105,8 +148,11 @@ fn encode_case<A: PackageSource>(
     // After a refusal.
     ensures cancelled { IfErr result (IsCancelledBy (A.may_cancel answers.old)) }
 {
-    guard(alloc, answers, encoding, need.requirement)?;
     let sets = sets_of(alloc, answers, case)?;
+    if is_void(sets.as_slice(), parent) {
+        return Ok(());
+    }
+    guard(alloc, answers, encoding, need.requirement)?;
     add_case(alloc, answers, encoding, parent, need, sets.as_slice())?;
     Ok(())
 }
@@ -225,4 +271,28 @@ pub fn fire_each<A: PackageSource>(
         }
     }
     Ok(has_fired)
+}
+
+/// Encodes the deferred cases from this place on that hold, in their order.
+pub(crate) fn fire_from<A: PackageSource>(
+    alloc: Global,
+    answers: &mut A,
+    encoding: &mut Encoder<A::NameId, A::SolvableId>,
+    first: usize,
+) -> Result<(), CacheFault<A::Cancel>>
+    requires { IsBuilt encoding.old }
+    // Whatever the answer.
+    ensures same { answers.new ≡ answers.old }
+    // After an answer.
+    ensures stays { OnOk result
+        (StaysInOrder A.SolvableId.eq A.PackageSource answers.old encoding.old encoding.new) }
+    ensures kept { OnOk result (AddsNeeds encoding.old encoding.new) }
+    ensures built { OnOk result (IsBuilt encoding.new) }
+    // After a refusal.
+    ensures cancelled { IfErr result (IsCancelledBy (A.may_cancel answers.old)) }
+{
+    for index in first..encoding.deferred.len() {
+        fire_if_due(alloc, answers, encoding, index)?;
+    }
+    Ok(())
 }

@@ -6,7 +6,7 @@ ghost use Rattle.resolvo_pool.specs.Cached.{IsCancelledBy};
 ghost use Rattle.resolvo_encoder.specs.Base.{HasTurn, KeepsTurn, KeepsTurns};
 ghost use Rattle.resolvo_encoder.specs.Conditions.{AreSpent};
 ghost use Rattle.resolvo_encoder.specs.Steps.{IsBuilt, AddsParent};
-ghost use Rattle.resolvo_encoder.specs.Encoded.{StaysEncoding};
+ghost use Rattle.resolvo_encoder.specs.Encoded.{IsWhole, StaysEncoding};
 ghost use Rattle.resolvo_encoder.specs.Progress.{GoesOn};
 ghost use Rattle.resolvo_turn.specs.Encoder.{AddsNeeds, AddsParents, AddsAll, StaysInOrder, StaysInOrderOf};
 ghost use Rattle.resolvo_turn.specs.Turn.{AddsChosen, AreTakenParents, FiresMore, IsBegunBy, IsDecisionOf, IsRooted, IsRound, IsTurn, FindsMore, FindsNone};
@@ -96,6 +96,7 @@ fn encode<A: PackageSource>(
         requirements.now constraints.now encoding.old encoding.new) }
     ensures all { OnOk result (AddsAll encoding.old encoding.new) }
     ensures turn { OnOk result (KeepsTurns encoding.old encoding.new) }
+    ensures placed { OnOk result (IsWhole encoding.new) }
     ensures built { OnOk result (IsBuilt encoding.new) }
     // After a refusal.
     ensures cancelled { IfErr result (IsCancelledBy (A.may_cancel answers.old)) }
@@ -210,6 +211,7 @@ fn encode_and_decide<A: PackageSource, C: ScoreMap<A::NameId>>(
     ensures all { OnOk result (AddsAll encoding.old encoding.new) }
     ensures turn { OnOk result (KeepsTurn soft encoding.old encoding.new) }
     ensures decided { IfOk result (IsDecisionOf soft encoding.new) }
+    ensures placed { OnOk result (IsWhole encoding.new) }
     ensures built { OnOk result (IsBuilt encoding.new) }
     // After a refusal.
     ensures cancelled { IfErr result (IsCancelledBy (A.may_cancel answers.old)) }

@@ -14,7 +14,7 @@ use resolvo_store::Literal;
 use std::alloc::Global;
 use std::test::Fail;
 
-/// Registers so many solvables of one package, each twice.
+/// Registers so many solvables of one package, each twice, and places each.
 fn register(
     coding: &mut SolverState<NameId, SolvableId>,
     registry: &mut Registry<NameId>,
@@ -27,11 +27,12 @@ fn register(
         let solvable = SolvableId::from_raw(number);
         registry.register(coding, NameId::from_raw(7), solvable)?;
         registry.register(coding, NameId::from_raw(7), solvable)?;
+        registry.place(coding, NameId::from_raw(7), solvable)?;
     }
     Ok(())
 }
 
-/// The counts after so many solvables of one package were registered, each twice.
+/// The counts after so many solvables of one package were registered, each twice, and placed.
 fn registered(alloc: Global, count: u32) -> R<SolverState<NameId, SolvableId>> {
     let mut coding: SolverState<NameId, SolvableId> = SolverState::begin(alloc)?;
     register(&mut coding, &mut Registry::new(alloc), count)?;
@@ -96,7 +97,7 @@ fn one_of_two(alloc: Global) -> R<Vec<SolvableId>> {
     )
 }
 
-/// Registers two solvables, adds that one is needed and the first excluded, and returns the chosen
+/// Registers and places two solvables, adds that one is needed and the first excluded, and returns the chosen
 /// ones.
 fn choose_one(
     alloc: Global,
@@ -108,7 +109,9 @@ fn choose_one(
 {
     let excluded = SolvableId::from_raw(0);
     let first = registry.register(coding, NameId::from_raw(7), excluded)?;
+    registry.place(coding, NameId::from_raw(7), excluded)?;
     let second = registry.register(coding, NameId::from_raw(7), SolvableId::from_raw(1))?;
+    registry.place(coding, NameId::from_raw(7), SolvableId::from_raw(1))?;
     need_one(alloc, coding, first, second)?;
     exclude(alloc, coding, excluded, first)?;
     coding.propagate_and_learn(alloc)?;

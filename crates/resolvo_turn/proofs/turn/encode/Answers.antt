@@ -1,6 +1,6 @@
 use Rattle.resolvo_encoder.proofs.Bases.{turns_then}
 use Rattle.resolvo_turn.proofs.AddLemmas.{goes_in_order}
-use Rattle.resolvo_turn.proofs.EndLemmas.{all_goes}
+use Rattle.resolvo_turn.proofs.EndLemmas.{all_goes, whole_goes}
 use Rattle.resolvo_turn.proofs.turn.encode.Goals as goal
 
 pub returns-clause-encoded : goal.returns-clause-encoded
@@ -13,3 +13,6 @@ returns-clause-all g c = all_goes c.args.encoding.now c.encode_parents.new.encod
 
 pub returns-clause-turn : goal.returns-clause-turn
 returns-clause-turn g c = turns_then c.args.encoding.now c.encode_parents.new.encoding c.undo_broken.new.encoding c.in_ok-encode_parents.ensures.turn c.undo_broken.ensures.turn
+
+pub returns-clause-placed : goal.returns-clause-placed
+returns-clause-placed g c = whole_goes c.encode_parents.new.encoding c.undo_broken.new.encoding c.undo_broken.ensures.goes_on c.in_ok-encode_parents.ensures.placed

@@ -2,7 +2,7 @@ use Rattle.std.proofs.Common.{subst}
 use Rattle.resolvo_pool_core.specs.RuleKeeping.{Rules}
 use Rattle.resolvo_encoder.proofs.Bases.{turn_has, turn_then}
 use Rattle.resolvo_turn.specs.Encoder.{IsInOrder}
-use Rattle.resolvo_turn.proofs.EndLemmas.{all_goes}
+use Rattle.resolvo_turn.proofs.EndLemmas.{all_goes, whole_goes}
 use Rattle.resolvo_turn.proofs.turn.encode_and_decide.Goals as goal
 
 pub returns-clause-stays : goal.returns-clause-stays
@@ -18,3 +18,6 @@ choose_and_decide-requires-clause-turn g c = turn_has c.args.soft c.args.encodin
 
 pub returns-clause-turn : goal.returns-clause-turn
 returns-clause-turn g c = turn_then c.args.soft c.args.encoding.now c.encode.new.encoding c.choose_and_decide.new.encoding (c.in_ok-encode.ensures.turn c.args.soft) c.in_ok-refusal.ensures.turn
+
+pub returns-clause-placed : goal.returns-clause-placed
+returns-clause-placed g c = whole_goes c.encode.new.encoding c.choose_and_decide.new.encoding c.in_ok-refusal.ensures.goes_on c.in_ok-encode.ensures.placed

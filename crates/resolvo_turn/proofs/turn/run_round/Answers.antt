@@ -132,7 +132,7 @@ pub returns-else-has_more-clause-round : goal.returns-else-has_more-clause-round
 returns-else-has_more-clause-round g c =
     let b = c.encode_and_decide.new.encoding in
     let found = c.in_ok-has_more.ensures.none c.if-has_more.false in
-    round_complete g.A.SolvableId.PartialEq.eq c.args.encoding.now b c.scan_all.new.encoding c.requires.rooted c.in_ok-decided.ensures.all (chosen_then b c.scan_new.new.encoding c.scan_all.new.encoding (c.in_ok-has_new.ensures.none c.if-has_new.false) found.chosen) c.args.soft
+    round_complete g.A.SolvableId.PartialEq.eq c.args.encoding.now b c.scan_all.new.encoding c.requires.rooted c.in_ok-decided.ensures.all (chosen_then b c.scan_new.new.encoding c.scan_all.new.encoding (c.in_ok-has_new.ensures.none c.if-has_new.false) found.chosen) c.args.soft c.in_ok-decided.ensures.placed
     (subst (λ (o : Option FinalConflict). IsDecisionOf c.args.soft b o) c.in_default.is c.in_ok-decided.ensures.decided) found.none found.spent
 
 pub returns-else-has_more-clause-built : goal.returns-else-has_more-clause-built

@@ -23,5 +23,5 @@ loop-variable-preserved g c =
     ]
 
 pub returns-clause-those : goal.returns-clause-those
-returns-clause-those g c = those_of c.args.self.now c.args.name c.variables-variables.result.now c.loop-variable.registered.items c.variables-variables.ensures.tracked c.variables-variables.ensures.all
+returns-clause-those g c = those_of c.args.self.now c.args.name c.variables-variables.result.now c.loop-variable.registered.items c.requires.tied c.variables-variables.ensures.tracked c.variables-variables.ensures.all
     (subst (λ (vs : List VariableId). AreOf c.args.self.now.coding.atoms.keys vs c.args.name c.loop-variable.registered.items) (take_all c.loop-variable.variable-index c.variables-variables.result.now c.loop-variable-test.false) c.loop-variable.invariant)

@@ -7,7 +7,7 @@ use Rattle.resolvo_sat.specs.Encoding.{IsExact}
 use Rattle.resolvo_state.specs.SolverState.{Advances}
 use Rattle.resolvo_encoder.specs.declared.encoder.Encoder.{Encoder}
 use Rattle.resolvo_encoder.specs.Progress.{IsChoice}
-use Rattle.resolvo_encoder.proofs.BuildLemmas.{built_back, built_rest, seen_left}
+use Rattle.resolvo_encoder.proofs.BuildLemmas.{built_back, built_rest, kept_from_one, seen_left}
 use Rattle.resolvo_encoder.proofs.StayLemmas.{digits_kept, step_goes, step_keeps, learnt_heavier, complete_gains, goes_then, needs_go, needs_keep}
 use Rattle.resolvo_encoder.proofs.Bases.{step_first, first_then}
 use Rattle.resolvo_encoder.proofs.encoder.Encoder.step.Goals as goal
@@ -90,10 +90,10 @@ returns-in-Learnt-clause-built g c =
     let step : Advances c.args.self.now.coding c.propagate_and_learn.new.self (StepResult.Learnt c.in-Learnt.clause) = subst (λ (q : StepResult). Advances c.args.self.now.coding c.propagate_and_learn.new.self q) c.in-Learnt.is c.in_ok-refusal.ensures.advanced in
     let goes = step_goes c.args.self.now c.propagate_and_learn.new.self c.in_ok-refusal.field-0 c.requires.coding c.in_ok-refusal.ensures.advanced in
     let trail = c.propagate_and_learn.new.self.search.tracker.trail in
-    let long : c.saturating_sub.result ≡ length trail - 1 = c.saturating_sub.ensures ∙ ap (λ (n : ℕ). n - 1) (ap length c.stack.ensures.trail) in
+    let long : c.saturating_sub.result ≡ length trail - 1 = c.saturating_sub.ensures ∙ ap (λ (n : ℕ). n - 1) (ap length c.stack-entries.ensures.trail) in
     built_back c.args.self.now c.propagate_and_learn.new.self c.look_back.new.self c.requires goes.coding goes.grows (digits_kept c.args.self.now (record c.args.self.now { coding = c.propagate_and_learn.new.self }) c.requires.coding goes) c.look_back.ensures.fits
     (subst (λ (es : List Entry). IsPrefixOf es trail) (sym c.look_back.ensures.seen)
-    (seen_left c.args.self.now.needs.seen.items c.args.self.now.coding.search.tracker.trail trail c.saturating_sub.result c.requires.seen (λ k low within. step.progress.kept k (omega arith) within)))
+    (seen_left c.args.self.now.needs.seen.items c.args.self.now.coding.search.tracker.trail trail c.saturating_sub.result c.requires.seen (kept_from_one c.args.self.now.coding.search.tracker.trail trail c.saturating_sub.result (λ k some low within. step.progress.kept k (omega arith) within))))
 
 pub returns-in-Refused-clause-first : goal.returns-in-Refused-clause-first
 returns-in-Refused-clause-first g c = step_first c.args.self.now c.propagate_and_learn.new.self c.in_ok-refusal.field-0 c.in_ok-refusal.ensures.advanced

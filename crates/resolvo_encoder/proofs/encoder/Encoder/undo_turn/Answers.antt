@@ -43,7 +43,7 @@ returns-clause-built g c =
     built_back c.args.self.now c.undo_until.new.self c.look_back.new.self c.requires goes.coding goes.grows (digits_kept c.args.self.now _ c.requires.coding goes) c.look_back.ensures.fits
     (subst (λ (es : List Entry). IsPrefixOf es trail) (sym c.look_back.ensures.seen)
     (seen_left c.args.self.now.needs.seen.items c.args.self.now.coding.search.tracker.trail trail _ c.requires.seen
-    (λ k low within. entries_left c.args.self.now.coding.search c.undo_until.new.self.search c.max.result k c.undo_until.ensures.undone (omega (arith, ap length c.stack.ensures.trail)))))
+    (λ k low within. entries_left c.args.self.now.coding.search c.undo_until.new.self.search c.max.result k c.undo_until.ensures.undone (omega (arith, ap length c.stack-kept.ensures.trail)))))
 
 pub returns-clause-turn : goal.returns-clause-turn
 returns-clause-turn g c = turn_undone c.args.self.now (record c.args.self.now { coding = c.undo_until.new.self; needs = c.look_back.new.self }) (returns-clause-goes_on g c) (returns-clause-undone g c)

@@ -1,0 +1,140 @@
+//! The end of an encoding: what waits gets its clauses. Package by package each new solvable gets
+//! its digits, then its at-least-one clause, if its package is recorded. Then come those of the
+//! packages of new cases.
+ghost use Rattle.std.specs.Prelude.{◌≡◌, ◌∷◌, [], OnOk, IfOk, Contains, IsPermutation};
+ghost use Rattle.resolvo_packages.specs.declared.package_source.Offered.{Offered as One};
+ghost use Rattle.resolvo_state.specs.Registered.{IsRegistered};
+ghost use Rattle.resolvo_encoder.specs.Encoded.{IsWhole, StaysEncoding};
+ghost use Rattle.resolvo_encoder.specs.Steps.{IsBuilt, Extends};
+ghost use Rattle.resolvo_encoder.specs.AtLeastOneClauses.{Admits, AreWaiting, PlacesAll, PlacesQueued, CoversAll, CoversQueued};
+
+use crate::encoder::Encoder;
+use indexmap::IndexSet;
+use resolvo_packages::package_source::Offered;
+use resolvo_pool_core::id::Exact;
+use resolvo_pool_core::want::R;
+use std::alloc::Global;
+use std::fmt::Debug;
+use std::hash::Hash;
+
+impl<N: Copy + Exact + Hash + Debug + Drop, S: Copy + Exact + Hash + Debug> Encoder<N, S> {
+    /// Adds the clauses of what waits: digits, and at-least-one clauses.
+    pub fn add_queued(&mut self, alloc: Global) -> R<()>
+        requires { IsBuilt self.old }
+        ensures stays { OnOk result (StaysEncoding S.eq self.old self.new) }
+        ensures kept { OnOk result (Extends self.old self.new) }
+        ensures lists { OnOk result (self.new.lists ≡ self.old.lists) }
+        ensures placed { OnOk result (IsWhole self.new) }
+        ensures built { OnOk result (IsBuilt self.new) }
+    {
+        self.place_queued(alloc)?;
+        self.cover_queued(alloc)?;
+        Ok(())
+    }
+
+    /// Adds the digits of the solvables that wait, and the at-least-one clauses of those whose
+    /// package is recorded.
+    fn place_queued(&mut self, alloc: Global) -> R<()>
+        requires { IsBuilt self.old }
+        ensures { OnOk result (PlacesQueued S.eq self.old self.new) }
+    {
+        let waiting = self.queued_solvables(alloc)?;
+        self.place_each(alloc, waiting.as_slice())?;
+        self.registry.end_queue();
+        Ok(())
+    }
+
+    /// The solvables that wait, package by package.
+    fn queued_solvables(&self, alloc: Global) -> R<Vec<Offered<N, S>>>
+        requires { IsBuilt self.now }
+        ensures { IfOk result (λ v. AreWaiting self.now v.items) }
+    {
+        let members = self.registry.queued();
+        let mut waiting = Vec::new(alloc);
+        for member in members {
+            if let Some(solvable) = self.coding.solvable(member.variable) {
+                let name = member.name;
+                waiting.push(Offered { solvable, name })?;
+            }
+        }
+        group(alloc, &mut waiting)?;
+        Ok(waiting)
+    }
+
+    /// Adds the digits of these, and the at-least-one clauses of those whose package is recorded.
+    fn place_each(&mut self, alloc: Global, list: &[Offered<N, S>]) -> R<()>
+        requires built { IsBuilt self.old }
+        requires registered { (o : One N S)
+            → Contains list.now o
+            → IsRegistered self.old.registry self.old.coding o.name o.solvable }
+        ensures { OnOk result (PlacesAll S.eq list.now self.old self.new) }
+    {
+        for one in list {
+            self.place_one(alloc, *one)?;
+        }
+        Ok(())
+    }
+
+    /// Adds the digits of a registered solvable, and its at-least-one clause if its package is
+    /// recorded.
+    fn place_one(&mut self, alloc: Global, one: Offered<N, S>) -> R<()>
+        requires built { IsBuilt self.old }
+        requires registered { IsRegistered self.old.registry self.old.coding one.name one.solvable }
+        ensures { OnOk result (PlacesAll S.eq (one ∷ []) self.old self.new) }
+    {
+        self.registry
+            .place(&mut self.coding, one.name, one.solvable)?;
+        self.admit_one(alloc, one)?;
+        Ok(())
+    }
+
+    /// Adds the at-least-one clause of a solvable, if its package is recorded.
+    fn admit_one(&mut self, alloc: Global, one: Offered<N, S>) -> R<()>
+        requires { IsBuilt self.old }
+        ensures { OnOk result (Admits S.eq (one ∷ []) self.old self.new) }
+    {
+        if self.recorded.at_least_one.contains(&one.name) {
+            self.add_at_least_one(alloc, one)?;
+        }
+        Ok(())
+    }
+
+    /// Adds the at-least-one clauses of the packages of new cases.
+    fn cover_queued(&mut self, alloc: Global) -> R<()>
+        requires { IsBuilt self.old }
+        ensures { OnOk result (CoversQueued S.eq self.old self.new) }
+    {
+        let mut names = Vec::new(alloc);
+        names.extend_from_slice(self.recorded.queued.as_slice())?;
+        self.cover_each(alloc, names.as_slice())?;
+        self.recorded.queued.clear();
+        Ok(())
+    }
+
+    /// Records each of these packages, and adds their at-least-one clauses.
+    fn cover_each(&mut self, alloc: Global, names: &[N]) -> R<()>
+        requires { IsBuilt self.old }
+        ensures { OnOk result (CoversAll S.eq names.now self.old self.new) }
+    {
+        for name in names {
+            self.track_at_least_one(alloc, *name)?;
+        }
+        Ok(())
+    }
+}
+
+/// Sorts solvables by package, in the order in which the packages occur. Those of a package keep
+/// their order.
+fn group<N: Copy + Exact + Hash + Debug + Drop, S: Copy + Exact + Hash + Debug>(
+    alloc: Global,
+    list: &mut Vec<Offered<N, S>>,
+) -> R<()>
+    ensures { OnOk result (IsPermutation list.old.items list.new.items) }
+{
+    let mut names = IndexSet::new(alloc);
+    for one in list.iter() {
+        names.insert(one.name)?;
+    }
+    list.sort_by_key(|one| names.get_index_of(&one.name))?;
+    Ok(())
+}
