@@ -33,11 +33,10 @@ use Rattle.resolvo_proof.specs.declared.step.ProofRule.{ProofRule}
 use Rattle.resolvo_proof.specs.declared.step.ProofStep.{ProofStep}
 use Rattle.resolvo_proof.specs.declared.step.ProofStep.TheVariants.{Rule, Derived}
 use Rattle.resolvo_graph.specs.Message.{IsMessage}
-use Rattle.resolvo_report.specs.Value.{Step, Message, Refused, Report}
-use Rattle.resolvo_report.specs.Text.{HasText, report_lines, report_text}
-use Rattle.resolvo_report.specs.Grammar.{IsReport}
-use Rattle.resolvo_judge.specs.Refusal.{IsAccepted}
-use Rattle.resolvo_judge.specs.Judgement.{IsUpheld, IsClaimTrue}
+use Rattle.resolvo_report.specs.Value.{Step, Message, Report}
+use Rattle.resolvo_report.specs.Text.{HasText, report_text}
+use Rattle.resolvo_report.specs.View.{steps_of}
+use Rattle.resolvo_judge.specs.Judgement.{IsUpheld}
 use Rattle.resolvo_judge.proofs.MessageLaws.{upheld_with}
 use Rattle.resolvo_proof.specs.Offered.{offered_by}
 use Rattle.resolvo_proof.specs.declared.offers.Offers.{Offers}
@@ -50,7 +49,9 @@ use Rattle.resolvo.specs.declared.conflict.Conflict.{Conflict}
 use Rattle.resolvo.specs.declared.solver.UnsolvableOrCancelled.TheVariants.{Unsolvable}
 use Rattle.resolve_install.specs.Numbers.{numbers_of}
 use Rattle.resolve_install.specs.Install.{AreWishes, Serve, IsInstallOf}
-use Rattle.resolve_refusal.specs.Refusal.{IsProofOver, IsWrittenAs, Refutes, IsRefusalOf}
+use Rattle.resolve_refusal.specs.Refusal.{IsProofOver, IsWrittenAs, Refutes}
+use Rattle.resolve_refusal.specs.Parts.{IsRefusalOf, report_with}
+use Rattle.resolve_refusal.specs.declared.report.Refusal.{Refusal}
 use Rattle.resolve_refusal.specs.InstallSteps.{AreInstallSteps}
 use Rattle.resolvo.specs.SoftTurns.{AreCandidates}
 use Rattle.resolvo.specs.declared.turns.Turn as Solver
@@ -60,7 +61,7 @@ use Rattle.resolve_answer.specs.Wishes.{AreWishesAt, AreWishesOf, free_of}
 use Rattle.resolve_answer.specs.ReportTurns.{AreTurnsFor, AreWanted, IsFirstTurn}
 use Rattle.resolve_answer.specs.declared.wishes.Wish.{Wish}
 use Rattle.resolve_answer.specs.First.{orders_of, AreFirstChosen}
-use Rattle.resolve_answer.specs.Message.{IsMessageOf, IsPlain, IsTextOf, joined, with_message}
+use Rattle.resolve_answer.specs.Message.{IsMessageOf, IsPlain, IsTextOf, joined}
 use Rattle.resolve_answer.specs.Solved.{IsInstalledOver, IsRefutedOver}
 use Rattle.resolve_answer.specs.Verdict.{Verdict}
 use Rattle.resolve_answer.specs.Reported as reported
@@ -99,28 +100,21 @@ plain_texts : (message : List (List ℕ)) → AllByRecursion IsPlain message →
 plain_texts [] plain = tt
 plain_texts (line ∷ message) plain = (plain.0, plain_texts message plain.1)
 
--- the refused report of a proof whose steps lead to the last one, with the message of their conflict
-pub refusal_reported : (catalogue request : List Line) (ids : Ids) (steps : List (ProofStep NameId SolvableId)) (r : Report) (message : List (List ℕ)) → IsRefusalOf catalogue request ids steps r → trimming.AreNamed steps → AllByRecursion IsPlain message
-    → ((written : List Step) → AllZip (IsWrittenAs catalogue ids request) steps written → IsMessageOf catalogue request written message) → IsReportOf catalogue request (with_message message r)
+-- the report of a refusal whose steps lead to the last one, with the message of their conflict
+pub refusal_reported : (catalogue request : List Line) (ids : Ids) (steps : List (ProofStep NameId SolvableId)) (r : Refusal) (message : List (List ℕ)) → IsRefusalOf catalogue request ids steps r → trimming.AreNamed steps → AllByRecursion IsPlain message
+    → IsMessageOf catalogue request (steps_of r.steps.items) message → IsReportOf catalogue request (report_with message r)
 refusal_reported catalogue request ids steps r message i named plain is_message =
-    let bare : Report = Refused i.in_catalogue i.in_request i.written [] in
-    let upheld : IsUpheld catalogue request (report_text bare) bare = record {
-      report = subst IsReport i.refuses i.report;
-      is = refl;
-      accepted = subst (λ (x : Report). IsAccepted catalogue request (report_lines x)) i.refuses i.accepted;
-    } in
-    subst (λ (x : Report). IsReportOf catalogue request (with_message message x)) (sym i.refuses) (record {
-      upheld = upheld_with i.in_catalogue i.in_request i.written catalogue request [] message (plain_texts message plain) upheld;
-      claim = subst (λ (x : Report). IsClaimTrue catalogue request x) i.refuses i.claim;
-      answer = (i.used, written_named catalogue request ids steps i.written i.each named, all_first catalogue request ids steps i.written i.each, is_message i.written i.each);
-    })
+    let written = steps_of r.steps.items in
+    let upheld : IsUpheld catalogue request (report_text (report_with [] r)) (report_with [] r) = record { report = i.report; is = refl; accepted = i.accepted } in
+    record {
+      upheld = upheld_with r.catalogue.items r.request.items written catalogue request [] message (plain_texts message plain) upheld;
+      claim = i.claim;
+      answer = (i.used, written_named catalogue request ids steps written i.each named, all_first catalogue request ids steps written i.each, is_message);
+    }
 
 -- The report with the message is right, and no shorter than the message.
-abbrev pub IsTold : List Line → List Line → List (List ℕ) → Report → Type 0
-IsTold catalogue request message r = IsReportOf catalogue request (with_message message r) × (length (joined message) ≤ length (report_text (with_message message r)))
-
-refusal_longer : (catalogue request : List Line) (ids : Ids) (steps : List (ProofStep NameId SolvableId)) (r : Report) (message : List (List ℕ)) → IsRefusalOf catalogue request ids steps r → length (joined message) ≤ length (report_text (with_message message r))
-refusal_longer catalogue request ids steps r message i = subst (λ (x : Report). length (joined message) ≤ length (report_text (with_message message x))) (sym i.refuses) (report_longer i.in_catalogue i.in_request i.written message)
+abbrev pub IsTold : List Line → List Line → List (List ℕ) → Refusal → Type 0
+IsTold catalogue request message r = IsReportOf catalogue request (report_with message r) × (length (joined message) ≤ length (report_text (report_with message r)))
 
 -- ---- an installed set
 
@@ -217,19 +211,19 @@ module _ (catalogue : List Line) (source : ReadRequest) (same : SolvableId → S
 
   -- its report, with the message of the conflict
   pub clash_reported : (kept : List (ProofStep NameId SolvableId)) → IsTrimmed solver.proof kept → trimming.AreNamed kept → StaysProof solver.proof kept → (EndsEmpty solver.proof → EndsEmpty kept)
-      → (HaveOnePlace solver.proof → HaveOnePlace kept) → (HaveOneSigns solver.proof → HaveOneSigns kept) → (r : Report) → (Refutes catalogue source solver.provider kept → IsRefusalOf catalogue source.lines solver.provider.ids kept r)
+      → (HaveOnePlace solver.proof → HaveOnePlace kept) → (HaveOneSigns solver.proof → HaveOneSigns kept) → (r : Refusal) → (Refutes catalogue source solver.provider kept → IsRefusalOf catalogue source.lines solver.provider.ids kept r)
       → (same_name : NameId → NameId → Bool) → IsExact same_name → (l : Left SolvableId) → solver.conflict ≡ Some l
       → (message : List (List ℕ)) → IsTextOf same_name same solver.provider (offered_by l.offers) solver.proof message → IsTold catalogue source.lines message r
   clash_reported kept trimmed named stays ends places signs r reports same_name one_name l at message text =
       let refutes = kept_refutes kept trimmed stays ends places signs in
       let refusal : IsRefusalOf catalogue source.lines solver.provider.ids kept r = reports refutes in (
-        refusal_reported catalogue source.lines solver.provider.ids kept r message refusal named text.plain (λ written matched. record {
+        refusal_reported catalogue source.lines solver.provider.ids kept r message refusal named text.plain (record {
           source = source;
           asks = refl;
           provider = solver.provider;
           proof = kept;
           proves = refutes.proves;
-          matched = matched;
+          matched = refusal.each;
           same_name = same_name;
           one_name = one_name;
           same = same;
@@ -238,12 +232,12 @@ module _ (catalogue : List Line) (source : ReadRequest) (same : SolvableId → S
           offered = offers_kept kept trimmed l.offers (is.offers l at);
           text = text_kept kept trimmed same_name (offered_by l.offers) message text;
         }),
-        refusal_longer catalogue source.lines solver.provider.ids kept r message refusal,
+        report_longer r.catalogue.items r.request.items (steps_of r.steps.items) message,
       )
 
   -- the same by a proof that was taken from the solver
   pub taken_reported : (proof : List (ProofStep NameId SolvableId)) → proof ≡ solver.proof → (kept : List (ProofStep NameId SolvableId)) → IsTrimmed proof kept → trimming.AreNamed kept → StaysProof proof kept → (EndsEmpty proof → EndsEmpty kept)
-      → (HaveOnePlace proof → HaveOnePlace kept) → (HaveOneSigns proof → HaveOneSigns kept) → (r : Report) → (Refutes catalogue source solver.provider kept → IsRefusalOf catalogue source.lines solver.provider.ids kept r)
+      → (HaveOnePlace proof → HaveOnePlace kept) → (HaveOneSigns proof → HaveOneSigns kept) → (r : Refusal) → (Refutes catalogue source solver.provider kept → IsRefusalOf catalogue source.lines solver.provider.ids kept r)
       → (same_name : NameId → NameId → Bool) → IsExact same_name → (l : Left SolvableId) → solver.conflict ≡ Some l
       → (message : List (List ℕ)) → IsTextOf same_name same solver.provider (offered_by l.offers) solver.proof message → IsTold catalogue source.lines message r
   taken_reported proof taken kept trimmed named stays ends places signs r reports same_name one_name l at message text =

@@ -14,7 +14,7 @@ use Rattle.resolvo_catalogue.specs.Ids.{NameId, SolvableId}
 use Rattle.resolvo_catalogue.specs.Known as shows
 use Rattle.resolvo_catalogue.specs.Known.{name_of, set_at, members_of}
 use Rattle.resolvo_catalogue.specs.Provider.{Provider, packages_of}
-use Rattle.resolvo_report.specs.Value.{Report, Step, Install, Refused}
+use Rattle.resolvo_report.specs.Value.{Step}
 use Rattle.resolve_refusal.specs.Refusal.{IsProofOver, IsWrittenAs}
 use Rattle.resolvo_proof.specs.Draw.{conflict_drawing}
 use Rattle.resolvo_proof.specs.Order.{conflict_rules}
@@ -44,11 +44,6 @@ pub record AreLinesOf (text : List ℕ) (lines : List (List ℕ)) : Type 0 where
   pub parts : text ≡ joined lines ++ rest
   pub plain : AllByRecursion IsPlain lines
   pub left : IsPlain rest
-
--- the report with these lines of message, if it is refused
-abbrev pub with_message : List (List ℕ) → Report → Report
-with_message message (Install lines steps) = Install lines steps
-with_message message (Refused catalogue request steps old) = Refused catalogue request steps message
 
 -- the texts that a catalogue's provider gives to the ids of a message
 abbrev pub meaning_of : Provider → Meaning NameId SolvableId

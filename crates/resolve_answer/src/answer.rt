@@ -4,9 +4,8 @@ ghost use Rattle.std.specs.Prelude.{◌≡◌, true, ℕ, Option, IfOk, IfErr, I
 ghost use Rattle.resolvo_catalogue_core.specs.Grammar.{AreRequestLines};
 ghost use Rattle.resolvo_catalogue.specs.KeptSets.{root_of as asked_of};
 ghost use Rattle.resolvo_catalogue.specs.Over.{IsOver, AreAsked};
-ghost use Rattle.resolvo_report.specs.View.{messages_of, report_of};
+ghost use Rattle.resolvo_report.specs.View.{report_of};
 ghost use Rattle.resolvo.specs.Solver.{HoldsConflict, root_of};
-ghost use Rattle.resolve_answer.specs.Message.{with_message};
 ghost use Rattle.resolve_answer.specs.Wishes.{AreWishesAt, GivesAll};
 ghost use Rattle.resolve_answer.specs.Solved.{IsInstalledOver, IsRefutedOver};
 ghost use Rattle.resolve_answer.specs.Reported.{HaveLongReport, IsReportOf};
@@ -17,7 +16,7 @@ use crate::stop::Stop;
 use crate::turns::{Outcome, report_turns, wanted_steps};
 use crate::wishes::{Wish, free_wishes, wishes_of};
 use resolve_install::{install_report, numbers_of};
-use resolve_refusal::{install_steps, refused_report};
+use resolve_refusal::{install_steps, refusal_of};
 use resolvo::conflict::Conflict;
 use resolvo::problem::Problem;
 use resolvo::solver::{Solver, UnsolvableOrCancelled};
@@ -69,26 +68,6 @@ fn installed_over(
     };
     let matched = report_turns(alloc, outcome, wishes, &mut written)?;
     Ok(install_report(alloc, catalogue, request, matched.as_slice(), written)?)
-}
-
-/// A refused report with these lines of message.
-fn with_message(report: Report, lines: Vec<Vec<u8>>) -> Report
-    ensures { report_of result ≡ with_message (messages_of lines.items) (report_of report) }
-{
-    match report {
-        Report::Refused {
-            catalogue,
-            request,
-            steps,
-            message: _,
-        } => Report::Refused {
-            catalogue,
-            request,
-            steps,
-            message: lines,
-        },
-        report => report,
-    }
 }
 
 /// The install report of the solver's choices. It takes the proof from the solver.
@@ -145,7 +124,7 @@ fn refused(
 {
     let lines = message_of(alloc, solver, conflict)?;
     let steps = trim(alloc, solver.take_proof())?;
-    let report = refused_report(
+    let refusal = refusal_of(
         alloc,
         catalogue,
         request,
@@ -153,7 +132,7 @@ fn refused(
         steps.as_slice(),
     )?;
     match lines {
-        Some(lines) => Ok(with_message(report, lines)),
+        Some(lines) => Ok(refusal.with_message(lines)),
         None => Err(Stop::TooLong),
     }
 }

@@ -15,18 +15,20 @@ use Rattle.resolvo_proof.specs.declared.step.ProofStep.{ProofStep}
 use Rattle.resolvo_catalogue.specs.Ids.{NameId, SolvableId}
 use Rattle.resolvo_catalogue.specs.Provider.{Provider}
 use Rattle.resolvo_catalogue.proofs.MarkLemmas.{one_some}
-use Rattle.resolvo_report.specs.Value.{Step, Report, ReportLine, RefusedHead, CatalogueLine, RequestLine, Numbered, Refused}
+use Rattle.resolvo_report.specs.Value.{Step, ReportLine, RefusedHead, CatalogueLine, RequestLine, Numbered, Refused}
 use Rattle.resolvo_report.specs.Text.{numbered, report_lines}
 use Rattle.resolvo_report.specs.Grammar.{IsReport}
+use Rattle.resolvo_report.specs.View.{steps_of}
 use Rattle.resolvo_checker.specs.Proof.{is_valid_step, is_named, ends_empty}
 use Rattle.resolvo_judge.specs.Refusal.{catalogue_line_in, request_line_in, step_in, catalogue_lines_in, request_lines_in, steps_in, has_rule, passes, ArePassed, IsAccepted}
 use Rattle.resolvo_judge.specs.Judgement.{IsClaimTrue}
 use Rattle.resolvo_judge.proofs.JudgeLemmas.{claim_true}
 use Rattle.resolve_refusal.specs.declared.named.Text.{Text}
+use Rattle.resolve_refusal.specs.declared.report.Refusal.{Refusal}
 use Rattle.resolve_refusal.specs.declared.named.Text.TheVariants as text
 use Rattle.resolve_refusal.specs.Named.{line_in, IsNamedBy}
-use Rattle.resolve_refusal.specs.RefusedReport.{IsRefusedBy}
-use Rattle.resolve_refusal.specs.Refusal.{IsWrittenAs, Refutes, IsRefusalOf}
+use Rattle.resolve_refusal.specs.Refusal.{IsWrittenAs, Refutes}
+use Rattle.resolve_refusal.specs.Parts.{IsRefusalOf, IsRefusedBy, report_with}
 use Rattle.resolve_refusal.proofs.FollowLemmas.{zip_right, rests, lines_in, line_rule, present, written_ends}
 
 -- ---- lists, place by place
@@ -159,17 +161,13 @@ module _ (catalogue : List Line) (source : ReadRequest) (provider : Provider) (s
   pub claimed : IsClaimTrue catalogue source.lines (Refused in_catalogue in_request written [])
   claimed = claim_true catalogue source.lines (Refused in_catalogue in_request written []) accepted
 
--- A refused report whose steps write the proof's is a refusal that the judge accepts.
-pub refusal_of : (catalogue : List Line) (source : ReadRequest) (provider : Provider) (steps : List (ProofStep NameId SolvableId)) → Refutes catalogue source provider steps → (r : Report) (refused : IsRefusedBy catalogue source.lines provider.ids steps r)
-    → AllZip (IsWrittenAs catalogue provider.ids source.lines) steps refused.written → IsReport r → IsRefusalOf catalogue source.lines provider.ids steps r
+-- The judge accepts a refusal whose steps write the proof's.
+pub refusal_of : (catalogue : List Line) (source : ReadRequest) (provider : Provider) (steps : List (ProofStep NameId SolvableId)) → Refutes catalogue source provider steps → (r : Refusal) (refused : IsRefusedBy catalogue source.lines provider.ids steps r)
+    → AllZip (IsWrittenAs catalogue provider.ids source.lines) steps (steps_of r.steps.items) → IsReport (report_with [] r) → IsRefusalOf catalogue source.lines provider.ids steps r
 refusal_of catalogue source provider steps refuted r refused each report = record {
-  in_catalogue = refused.in_catalogue;
-  in_request = refused.in_request;
-  written = refused.written;
-  refuses = refused.is;
   each = each;
   used = record { named = refused.named; asked = refused.asked };
   report = report;
-  accepted = subst (λ (x : Report). IsAccepted catalogue source.lines (report_lines x)) (sym refused.is) (accepted catalogue source provider steps refuted refused.in_catalogue refused.in_request refused.written each refused.named refused.asked);
-  claim = subst (λ (x : Report). IsClaimTrue catalogue source.lines x) (sym refused.is) (claimed catalogue source provider steps refuted refused.in_catalogue refused.in_request refused.written each refused.named refused.asked);
+  accepted = accepted catalogue source provider steps refuted r.catalogue.items r.request.items (steps_of r.steps.items) each refused.named refused.asked;
+  claim = claimed catalogue source provider steps refuted r.catalogue.items r.request.items (steps_of r.steps.items) each refused.named refused.asked;
 }

@@ -23,18 +23,21 @@ use Rattle.resolvo_catalogue.specs.Known.{alternatives_at, word_text}
 use Rattle.resolvo_catalogue.specs.Provider.{Provider, packages_of, dependencies_of}
 use Rattle.resolvo_catalogue.specs.KeptSets.{root_of}
 use Rattle.resolvo_catalogue.proofs.CoverLemmas.{spec_is}
-use Rattle.resolvo_report.specs.Value.{Place, OfRequest, OfVersion, Literal, Step, Report, Refused}
+use Rattle.resolvo_report.specs.Value.{Place, OfRequest, OfVersion, Literal, Step, Refused}
 use Rattle.resolvo_report.specs.Value as in_report
 use Rattle.resolvo_report.specs.Text.{literal_text, are_rising, IsLineNumber, IsPlace, IsAtom, IsStep}
 use Rattle.resolvo_report.specs.Text as form_of
 use Rattle.resolvo_report.specs.Grammar.{IsReport}
+use Rattle.resolvo_report.specs.View.{steps_of}
 use Rattle.resolvo_checker.specs.StepClauses as judge
 use Rattle.resolve_refusal.specs.declared.named.Text.{Text}
 use Rattle.resolve_refusal.specs.declared.named.Text.TheVariants as text
+use Rattle.resolve_refusal.specs.declared.report.Refusal.{Refusal}
 use Rattle.resolve_refusal.specs.Named.{IsNamedBy}
-use Rattle.resolve_refusal.specs.RefusedReport.{version_at, place_at, IsWritten}
+use Rattle.resolve_refusal.specs.RefusedReport.{version_at, place_at}
 use Rattle.resolve_refusal.specs.StepRules.{NamesRule}
-use Rattle.resolve_refusal.specs.Refusal.{IsVersion, IsKnownAtom, AreLiterals, IsForbiddenBy, IsWrittenAs, IsProofOver, Refutes, IsRefusalOf}
+use Rattle.resolve_refusal.specs.Refusal.{IsVersion, IsKnownAtom, AreLiterals, IsForbiddenBy, IsWrittenAs, IsProofOver, Refutes}
+use Rattle.resolve_refusal.specs.Parts.{IsRefusalOf, IsRefusedBy}
 use Rattle.resolve_refusal.proofs.RenameLemmas.{named_once}
 use Rattle.resolve_refusal.proofs.Clauses.{Spells, spelled_members, asked_for, gate_asked, limited, is_out, candidate_of, literals_spelled}
 use Rattle.resolve_refusal.proofs.Taken.{out_is}
@@ -191,10 +194,8 @@ module _ (catalogue : List Line) (source : ReadRequest) (provider : Provider) (s
       (named_fit text.Catalogue (length catalogue) in_catalogue written long of_catalogue) (named_fit text.Request (length source.lines) in_request written asked of_request)
       (zipped steps written (step_fits catalogue source provider steps refutes.proves few long asked) names_rule are) (let end = refutes.empty in subst (λ (xs : List (ProofStep NameId SolvableId)). 0 < length xs) (sym end.ends) (some_last end.earlier (Derived end.literals end.causes))) few
 
-  -- A report whose steps are written so, and which names the lines that they rest on, is a refusal of the proof.
-  pub refusal : (in_catalogue in_request : List ℕ) (written : List Step) (r : Report) → r ≡ Refused in_catalogue in_request written [] → AllZip (NamesRule catalogue source.lines provider.ids) steps written → AllZip (IsWritten catalogue provider.ids) steps written
-      → AreAll in_catalogue (IsNamedBy text.Catalogue (length catalogue) written) → AreAll in_request (IsNamedBy text.Request (length source.lines) written) → IsRefusalOf catalogue source.lines provider.ids steps r
-  refusal in_catalogue in_request written r is names_rule wrote of_catalogue of_request =
-      let each = steps_written catalogue source provider steps refutes.proves few written names_rule wrote in
-      refusal_of catalogue source provider steps refutes r (record { in_catalogue = in_catalogue; in_request = in_request; written = written; is = is; each = wrote; named = of_catalogue; asked = of_request }) each
-      (subst (λ (x : Report). IsReport x) (sym is) (is_report in_catalogue in_request written names_rule each of_catalogue of_request))
+  -- A refusal whose steps are written so, and which names the lines that they rest on, is one by the proof.
+  pub refusal : (r : Refusal) → AllZip (NamesRule catalogue source.lines provider.ids) steps (steps_of r.steps.items) → IsRefusedBy catalogue source.lines provider.ids steps r → IsRefusalOf catalogue source.lines provider.ids steps r
+  refusal r names_rule refused =
+      let each = steps_written catalogue source provider steps refutes.proves few (steps_of r.steps.items) names_rule refused.each in
+      refusal_of catalogue source provider steps refutes r refused each (is_report r.catalogue.items r.request.items (steps_of r.steps.items) names_rule each refused.named refused.asked)

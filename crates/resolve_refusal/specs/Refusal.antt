@@ -1,6 +1,5 @@
--- The refused report of a proof over the provider of a catalogue.
-use Rattle.std.specs.Prelude.{◌≡◌, ◌↔◌, ◌⊎◌, ℕ, suc, Bool, ◌<◌, ⊤, IsTrue, List, [], map, None, Some, Contains, slice_get}
-use Rattle.std.specs.List.{AllZip}
+-- The refusal of a proof over the provider of a catalogue.
+use Rattle.std.specs.Prelude.{◌≡◌, ◌↔◌, ◌⊎◌, ℕ, suc, Bool, ◌<◌, ⊤, IsTrue, List, map, None, Some, Contains, slice_get}
 use Rattle.std.proofs.Common.{Vec, Global}
 use Rattle.resolvo_text.specs.Line.{Version, Spec, Line, Needs, Limits}
 use Rattle.resolvo_text.specs.Spelling.{is_name}
@@ -26,17 +25,13 @@ use Rattle.resolvo_catalogue.specs.Provider.{Provider, packages_of}
 use Rattle.resolvo_catalogue.specs.Over.{IsOver, AreAsked}
 use Rattle.resolvo_catalogue.specs.KeptSets.{root_of}
 use Rattle.resolvo_catalogue.specs.declared.provider.RequestIds.{RequestIds}
-use Rattle.resolvo_report.specs.Value.{Place, OfVersion, Literal, Step, Report, Refused}
+use Rattle.resolvo_report.specs.Value.{Place, OfVersion, Literal, Step}
 use Rattle.resolvo_report.specs.Value as in_report
-use Rattle.resolvo_report.specs.Text.{report_lines, IsAtom}
+use Rattle.resolvo_report.specs.Text.{IsAtom}
 use Rattle.resolvo_report.specs.Text as form_of
-use Rattle.resolvo_report.specs.Grammar.{IsReport}
 use Rattle.resolvo_checker.specs.StepClauses.{line_of}
-use Rattle.resolvo_judge.specs.Judgement.{IsClaimTrue}
-use Rattle.resolvo_judge.specs.Refusal.{IsAccepted}
 use Rattle.resolve_refusal.specs.RefusedReport.{version_at, place_at}
 use Rattle.resolve_refusal.specs.Lines.{NeedsIn, NeedsAs, ExcludesAt, MarksUnknownAt, ForbidsAs}
-use Rattle.resolve_refusal.specs.Named.{AreUsedLines}
 
 -- ---- ids that the provider knows
 
@@ -197,16 +192,3 @@ pub record IsProofOver (catalogue : List Line) (source : ReadRequest) (provider 
 pub record Refutes (catalogue : List Line) (source : ReadRequest) (provider : Provider) (steps : List (ProofStep NameId SolvableId)) : Type 0 where
   pub proves : IsProofOver catalogue source provider steps
   pub empty : EndsEmpty steps
-
--- The report is a refusal of these steps that the judge accepts, so its claim is true. It names the
--- lines that they use.
-pub record IsRefusalOf (catalogue request : List Line) (ids : Ids) (steps : List (ProofStep NameId SolvableId)) (r : Report) : Type 0 where
-  pub in_catalogue : List ℕ
-  pub in_request : List ℕ
-  pub written : List Step
-  pub refuses : r ≡ Refused in_catalogue in_request written []
-  pub each : AllZip (IsWrittenAs catalogue ids request) steps written
-  pub used : AreUsedLines catalogue request in_catalogue in_request written
-  pub report : IsReport r
-  pub accepted : IsAccepted catalogue request (report_lines r)
-  pub claim : IsClaimTrue catalogue request r

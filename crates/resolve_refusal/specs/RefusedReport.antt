@@ -1,18 +1,14 @@
 -- How a report writes the steps of a proof over a provider's ids.
-use Rattle.std.specs.Prelude.{◌≡◌, ℕ, ◌+◌, ◌⊎◌, nat_lt, if◌then◌else◌, List, [], map, length, slice_index_or, Option, Some, None}
-use Rattle.std.specs.List.{AllZip}
+use Rattle.std.specs.Prelude.{◌≡◌, ℕ, ◌+◌, ◌⊎◌, nat_lt, if◌then◌else◌, List, [], map, slice_index_or, Option, Some, None}
 use Rattle.resolvo_text.specs.Line.{Version, Line}
 use Rattle.resolvo_catalogue_core.specs.Listed.{listed}
-use Rattle.resolvo_catalogue_core.specs.Questions.{AreAll}
 use Rattle.resolvo_catalogue.specs.Ids.{Ids, NameId, SolvableId}
 use Rattle.resolvo_catalogue.specs.Known.{spec_at, alternatives_at}
 use Rattle.resolvo_proof.specs.declared.step.ProofStep.{ProofStep}
 use Rattle.resolvo_proof.specs.declared.step.ProofStep.TheVariants.{Rule, Derived}
 use Rattle.resolvo_proof.specs.declared.step.ProofRule.TheVariants.{Needs, GateOf, Shared, Limit, Outside, Locked, Excluded, Digit, AtLeastOne}
-use Rattle.resolvo_report.specs.Value.{Place, OfRequest, OfVersion, Literal, Step, Report, Refused}
+use Rattle.resolvo_report.specs.Value.{Place, OfRequest, OfVersion, Literal, Step}
 use Rattle.resolvo_report.specs.Value as in_report
-use Rattle.resolve_refusal.specs.declared.named.Text.TheVariants as text
-use Rattle.resolve_refusal.specs.Named.{IsNamedBy}
 
 -- the listed version of a solvable; one of no name where there is none
 abbrev pub version_at : List Line → SolvableId → Version
@@ -44,14 +40,3 @@ IsWritten catalogue ids (Rule (Excluded s reason)) step = HasWord step
 IsWritten catalogue ids (Rule (Digit s place bit)) step = step ≡ in_report.Digit (version_at catalogue s) place bit
 IsWritten catalogue ids (Rule (AtLeastOne n s)) step = step ≡ in_report.Any (version_at catalogue s)
 IsWritten catalogue ids (Derived literals causes) step = (written : List Literal) × (step ≡ in_report.Derive written (map number_of causes.items))
-
--- The report is refused, has a step for each of the proof's, in order, and has no message. It names
--- the lines of both texts on which its steps rest.
-pub record IsRefusedBy (catalogue request : List Line) (ids : Ids) (steps : List (ProofStep NameId SolvableId)) (r : Report) : Type 0 where
-  pub in_catalogue : List ℕ
-  pub in_request : List ℕ
-  pub written : List Step
-  pub is : r ≡ Refused in_catalogue in_request written []
-  pub each : AllZip (IsWritten catalogue ids) steps written
-  pub named : AreAll in_catalogue (IsNamedBy text.Catalogue (length catalogue) written)
-  pub asked : AreAll in_request (IsNamedBy text.Request (length request) written)

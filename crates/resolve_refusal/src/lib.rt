@@ -1,4 +1,4 @@
-//! The refused report of a proof, and the steps of an install report that leaves wishes out.
+//! The refusal of a proof, and the steps of an install report that leaves wishes out.
 //!
 //! A proof has ids of a provider over a catalogue. Here each step becomes one of a report:
 //! packages, versions and SPECs by their texts, and each rule by its first line. The program writes
@@ -13,4 +13,4 @@ mod report;
 mod steps;
 
 pub use install::{forbid_step, install_steps};
-pub use report::refused_report;
+pub use report::{Refusal, refusal_of};

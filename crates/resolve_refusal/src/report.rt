@@ -1,11 +1,12 @@
-//! The refused report: the steps one by one, and the lines that they cite.
+//! A refusal: the steps one by one, and the lines that they cite. With its message it is a report.
 
-ghost use Rattle.std.specs.Prelude.{IfOk};
+ghost use Rattle.std.specs.Prelude.{◌≡◌, IfOk};
 ghost use Rattle.std.specs.List.{AllZip};
-ghost use Rattle.resolvo_report.specs.View.{report_of, steps_of};
-ghost use Rattle.resolve_refusal.specs.RefusedReport.{IsWritten, IsRefusedBy};
+ghost use Rattle.resolvo_report.specs.View.{messages_of, report_of, steps_of};
+ghost use Rattle.resolve_refusal.specs.RefusedReport.{IsWritten};
 ghost use Rattle.resolve_refusal.specs.StepRules.{NamesRule};
-ghost use Rattle.resolve_refusal.specs.Refusal.{Refutes, IsRefusalOf};
+ghost use Rattle.resolve_refusal.specs.Refusal.{Refutes};
+ghost use Rattle.resolve_refusal.specs.Parts.{IsRefusalOf, IsRefusedBy, report_with};
 
 use crate::lines::Texts;
 use crate::named::{Text, named_lines};
@@ -18,23 +19,45 @@ use resolvo_proof::step::ProofStep;
 use resolvo_report::{Report, Step};
 use std::alloc::Global;
 
-/// The refused report of a proof over the provider of a catalogue. Each rule is named by its first
-/// line, a need also by the first of its cases. `Ids` where there are more steps, or more cases of
-/// a line, than numbers.
-pub fn refused_report(
+/// A refused report without its message.
+#[derive(Debug, Drop)]
+pub struct Refusal {
+    /// The lines of each text on which the steps rest.
+    catalogue: Vec<u32>,
+    request: Vec<u32>,
+    steps: Vec<Step>,
+}
+
+impl Refusal {
+    /// The refused report with this message.
+    pub fn with_message(self, message: Vec<Vec<u8>>) -> Report
+        ensures { report_of result ≡ report_with (messages_of message.items) self }
+    {
+        Report::Refused {
+            catalogue: self.catalogue,
+            request: self.request,
+            steps: self.steps,
+            message,
+        }
+    }
+}
+
+/// The refusal of a proof over the provider of a catalogue. Each rule is named by its first line, a
+/// need also by the first of its cases. `Ids` where there are more steps, or more cases of a line,
+/// than numbers.
+pub fn refusal_of(
     alloc: Global,
     catalogue: &Catalogue,
     request: &Request,
     provider: &CatalogueProvider,
     steps: &[ProofStep<NameId, SolvableId>],
-) -> R<Report>
+) -> R<Refusal>
     ensures refusal { IfOk result
         (λ r.
         Refutes catalogue.now request.now provider.now steps.now
-        → IsRefusalOf catalogue.now request.now.lines provider.now.ids steps.now (report_of r)) }
+        → IsRefusalOf catalogue.now request.now.lines provider.now.ids steps.now r) }
     ensures refused { IfOk result
-        (λ r.
-        IsRefusedBy catalogue.now request.now.lines provider.now.ids steps.now (report_of r)) }
+        (λ r. IsRefusedBy catalogue.now request.now.lines provider.now.ids steps.now r) }
 {
     if steps.len() > MOST_STEPS {
         return Err(Want::Ids);
@@ -53,15 +76,14 @@ pub fn refused_report(
         request.line_count(),
         written.as_slice(),
     )?;
-    Ok(Report::Refused {
+    Ok(Refusal {
         catalogue: in_catalogue,
         request: in_request,
         steps: written,
-        message: Vec::new(alloc),
     })
 }
 
-/// The steps of the report.
+/// The steps of a report.
 pub(crate) fn write_steps(
     alloc: Global,
     texts: Texts,
