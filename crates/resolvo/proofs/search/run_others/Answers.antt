@@ -14,7 +14,7 @@ run_soft_requirements-requires-clause-at g c =
     let same = g.A.SolvableId.PartialEq.eq in
     let exact : IsExact same = record { one = g.met.A.SolvableId.Exact.exact; own = g.met.A.SolvableId.Eq.laws.refl } in
     let are = first_on_trail same exact c.args.encoding.now c.new-turns.result.chosen.keys c.list.new.self.chosen.keys c.requires.built.coding c.requires.turn c.new-turns.ensures.chosen c.in_ok-list.ensures.in_order in
-    let (is_done, whole, spent, soft) = c.requires.ended in
+    let (is_done, whole, spent, placed, soft) = c.requires.ended in
     record {
       chosen = are;
       encoded = whole c.list.new.self.chosen.keys (listed_are_chosen c.args.encoding.now c.list.new.self.chosen.keys are);
