@@ -23,11 +23,12 @@ fn register(
     requires coding { IsCoding coding.old }
     requires tied { AreTied registry.old coding.old }
 {
+    let name = NameId::from_raw(7);
     for number in 0..count {
         let solvable = SolvableId::from_raw(number);
-        registry.register(coding, NameId::from_raw(7), solvable)?;
-        registry.register(coding, NameId::from_raw(7), solvable)?;
-        registry.place(coding, NameId::from_raw(7), solvable)?;
+        registry.register(coding, name, solvable)?;
+        registry.register(coding, name, solvable)?;
+        registry.place(coding, name, solvable)?;
     }
     Ok(())
 }
@@ -97,8 +98,8 @@ fn one_of_two(alloc: Global) -> R<Vec<SolvableId>> {
     )
 }
 
-/// Registers and places two solvables, adds that one is needed and the first excluded, and returns the chosen
-/// ones.
+/// Registers and places two solvables, adds that one is needed and the first excluded, and returns
+/// the chosen ones.
 fn choose_one(
     alloc: Global,
     coding: &mut SolverState<NameId, SolvableId>,
@@ -107,11 +108,13 @@ fn choose_one(
     requires coding { IsCoding coding.old }
     requires tied { AreTied registry.old coding.old }
 {
+    let name = NameId::from_raw(7);
     let excluded = SolvableId::from_raw(0);
-    let first = registry.register(coding, NameId::from_raw(7), excluded)?;
-    registry.place(coding, NameId::from_raw(7), excluded)?;
-    let second = registry.register(coding, NameId::from_raw(7), SolvableId::from_raw(1))?;
-    registry.place(coding, NameId::from_raw(7), SolvableId::from_raw(1))?;
+    let other = SolvableId::from_raw(1);
+    let first = registry.register(coding, name, excluded)?;
+    registry.place(coding, name, excluded)?;
+    let second = registry.register(coding, name, other)?;
+    registry.place(coding, name, other)?;
     need_one(alloc, coding, first, second)?;
     exclude(alloc, coding, excluded, first)?;
     coding.propagate_and_learn(alloc)?;

@@ -5,9 +5,6 @@ use Rattle.resolvo_store_tests.proofs.tests.registry.choose_one.Goals as goal
 pub place-requires-clause-registered : goal.place-requires-clause-registered
 place-requires-clause-registered c = let r = c.in_ok-first.ensures.registered in (c.in_ok-first.first, r.present, r.registered)
 
-pub place-2-requires-clause-registered : goal.place-2-requires-clause-registered
-place-2-requires-clause-registered c = let r = c.in_ok-second.ensures.registered in (c.in_ok-second.second, r.present, r.registered)
-
 pub need_one-requires-clause-first : goal.need_one-requires-clause-first
 need_one-requires-clause-first c =
     let one = c.in_ok-first.ensures.registered in
