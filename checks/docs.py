@@ -249,7 +249,7 @@ def faults() -> Iterator[str]:
     for page in pages():
         yield from name_faults(page, words)
         yield from import_faults(page)
-        if page.startswith("crates/") or os.path.basename(page) in ("ARCHITECTURE.md", "CHANGING.md", "CLAIMS.md", "GLOSSARY.md", "AUDIT.md", "PROOFS.md"):
+        if page.startswith("crates/") or os.path.basename(page) in ("ARCHITECTURE.md", "CHANGING.md", "CLAIMS.md", "GLOSSARY.md", "AUDIT.md", "PROOFS.md", "WALK.md"):
             yield from word_faults(page, words)
 
 
