@@ -159,7 +159,9 @@ impl SatState {
         requires alone { AreUnits (clauses_of self.old) units.now }
         requires within { done ≤ length units.now }
         requires done { AllTrue (made_true (history self.old)) (take done units.now) }
+        // After an answer.
         ensures set { IfOk result (IsUnitsEnd units.now self.old self.new) }
+        // After a refusal.
         ensures refusal { IsOkUnless result Memory }
     {
         let falsified = self.assign_units(&units[done..])?;
@@ -216,7 +218,9 @@ impl SatState {
         requires covered { AreCovered self.old watching.old }
         requires within { AreWithin self.old.qhead watching.old }
         requires done { HasDone self.old watching.old done }
+        // After an answer.
         ensures run { IfOk result (IsRun self.old self.new watching.old watching.new) }
+        // After a refusal.
         ensures refusal { IsOkUnless result Memory }
     {
         if let Some(clause) = self.assign_later(watching.assertions.as_slice(), done.assertions)? {
