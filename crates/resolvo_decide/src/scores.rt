@@ -1,6 +1,7 @@
 //! The scores of packages, with an upper bound that is bumped and decays as they do. It is 0 until a
 //! conflict bumps a score, so the first undecided clause that offers a decision is the pick.
-ghost use Rattle.std.specs.Prelude.{◌≡◌, ◌≤◌, ◌*◌, ◌/◌};
+ghost use Rattle.std.specs.Prelude.{◌≡◌, ◌≤◌, ◌*◌, ◌/◌, IsOkUnless};
+ghost use Rattle.resolvo_pool_core.specs.declared.want.Want.TheVariants.{Memory};
 
 use resolvo_pool_core::id_map::ScoreMap;
 use resolvo_pool_core::want::R;
@@ -38,7 +39,9 @@ impl<N: Copy + Eq, C: ScoreMap<N>> Scores<N, C> {
     }
 
     /// Bumps the score of a package, to the highest number at most.
-    pub fn bump(&mut self, name: N, added: u64) -> R<()> {
+    pub fn bump(&mut self, name: N, added: u64) -> R<()>
+        ensures { IsOkUnless result Memory }
+    {
         let score = self.map.get(name).saturating_add(added);
         if self.most < score {
             self.most = score;

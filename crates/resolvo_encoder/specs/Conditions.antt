@@ -1,5 +1,5 @@
 -- Which cases are deferred, which are due, and which are encoded.
-use Rattle.std.specs.Prelude.{◌≡◌, ℕ, suc, ◌-◌, ◌<◌, ◌⊎◌, Bool, true, false, List, length, slice_get, Some, Contains}
+use Rattle.std.specs.Prelude.{◌≡◌, ℕ, suc, ◌-◌, ◌<◌, ◌⊎◌, Bool, true, false, List, length, slice_get, Option, Some, Contains}
 use Rattle.resolvo_pool_core.specs.declared.id.VariableId.{VariableId}
 use Rattle.resolvo_pool_core.specs.RuleKeeping.{Packages, Rules, IsLawful}
 use Rattle.resolvo_store_core.specs.declared.conditions.DeferredConjunct.{DeferredConjunct}
@@ -16,6 +16,8 @@ use Rattle.resolvo_state.specs.Chosen.{AreChosen}
 pub use Rattle.resolvo_encoder.specs.Cases.{case_of, sets_case, IsDeferred, IsMatching, AreConjuncts, IsSet, AreSets, IsCaseOf}
 pub use Rattle.resolvo_encoder.specs.Encoded.{IsCaseEncoded}
 use Rattle.resolvo_encoder.specs.Encoded.{IsEncoding}
+use Rattle.resolvo_packages.specs.PackageSource.{offered_solvables}
+use Rattle.resolvo_encoder.specs.declared.conditions.ConditionSet.{ConditionSet}
 use Rattle.resolvo_encoder.specs.declared.conditions.DeferredRequirement.{DeferredRequirement}
 use Rattle.resolvo_encoder.specs.declared.encoder.Deferred.{Deferred}
 use Rattle.resolvo_encoder.specs.declared.encoder.Encoder.{Encoder}
@@ -45,6 +47,10 @@ module _ {N S : Type 0} where
     pub parent : w.parent ≡ deferred.parent
     pub need : w.need ≡ deferred.need
     pub case : w.case.items ≡ case_of deferred.conjuncts.items
+
+  -- the parent is a solvable outside one of these version sets
+  abbrev pub IsKeptOut : List (ConditionSet N S) → Option S → Type 0
+  IsKeptOut sets parent = (s : S) × (c : ConditionSet N S) × (parent ≡ Some s) × Contains sets c × Contains (offered_solvables c.outside.items) s
 
   -- the trail makes the solvable's variable true
   abbrev pub IsTrueNow : Encoder N S → S → Type 0

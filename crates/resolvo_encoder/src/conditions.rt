@@ -11,9 +11,8 @@ ghost use Rattle.resolvo_sat.specs.Encoding.{cases_for};
 ghost use Rattle.resolvo_sat.specs.SearchEnd.{IsNeedEncoded};
 ghost use Rattle.resolvo_encoder.specs.Encoded.{rules_of, IsGuarded, IsEncoding};
 ghost use Rattle.resolvo_encoder.specs.Steps.{IsBuilt, Extends, AddsCandidates, LacksNumberFor};
-ghost use Rattle.resolvo_encoder.specs.Conditions.{case_of, sets_case, IsDeferred, AreConjuncts, AreSets, Defers, Fires, waiting_count, IsWaiting, IsTrueNow, IsOneChosen, IsMetNow, IsSpent};
+ghost use Rattle.resolvo_encoder.specs.Conditions.{case_of, sets_case, IsDeferred, AreConjuncts, AreSets, Defers, Fires, waiting_count, IsWaiting, IsTrueNow, IsOneChosen, IsMetNow, IsSpent, IsKeptOut};
 ghost use Rattle.resolvo_encoder.specs.declared.encoder.Deferred.{Deferred as Kept};
-ghost use Rattle.resolvo_encoder.specs.declared.conditions.ConditionSet.{ConditionSet as Set};
 
 use crate::encoder::{Deferred, Encoder, add_key};
 use resolvo_packages::package_source::Offered;
@@ -140,7 +139,8 @@ impl<N: Copy + Exact + Hash + Debug + Drop, S: Copy + Exact + Hash + Debug> Enco
     /// The case at this place.
     pub fn waiting(&self, alloc: Global, index: usize) -> R<DeferredRequirement<S>>
         requires { index < length self.now.deferred.items }
-        ensures { IfOk result (λ w. IsWaiting self.now index w) }
+        ensures waiting { IfOk result (λ w. IsWaiting self.now index w) }
+        ensures refusal { IsOkUnless result Memory }
     {
         let deferred = &self.deferred[index];
         let case = version_sets_of(alloc, deferred.conjuncts.as_slice())?;
@@ -152,7 +152,7 @@ impl<N: Copy + Exact + Hash + Debug + Drop, S: Copy + Exact + Hash + Debug> Enco
     }
 
     /// Encodes a case: if each of its version sets has a chosen match, one of the offered
-    /// candidates is chosen. Adds no clause where a version set excludes the parent itself.
+    /// candidates is chosen.
     pub fn require_case(
         &mut self,
         alloc: Global,
@@ -180,9 +180,6 @@ impl<N: Copy + Exact + Hash + Debug + Drop, S: Copy + Exact + Hash + Debug> Enco
         // After a refusal.
         ensures ids { IsErrOf result Ids → LacksNumberFor need.requirement self.new }
     {
-        if keeps_out(sets, parent) {
-            return Ok(());
-        }
         self.fix_candidates(alloc, need.requirement, offered)?;
         let variable = self.parent_variable(parent)?;
         let literals = self.add_each_at_least_one(alloc, sets)?;
@@ -222,17 +219,14 @@ impl<N: Copy + Exact + Hash + Debug + Drop, S: Copy + Exact + Hash + Debug> Enco
     }
 }
 
-/// Whether the parent is a solvable outside one of these version sets.
-fn keeps_out<N, S: Copy + Exact + Hash + Debug>(
+/// Whether the parent is a solvable outside one of these version sets: then the case can't hold
+/// beside it.
+pub fn keeps_out<N, S: Copy + Exact + Hash + Debug>(
     sets: &[ConditionSet<N, S>],
     parent: Option<S>,
 ) -> bool
-    ensures { result ≡ true
-        → (s : S)
-        × (c : Set N S)
-        × (parent ≡ Some s)
-        × Contains sets.now c
-        × Contains (offered_solvables c.outside.items) s }
+    ensures out { result ≡ true → IsKeptOut sets.now parent }
+    ensures within { result ≡ false → IsKeptOut sets.now parent → ⊥ }
 {
     match parent {
         None => false,
@@ -249,7 +243,8 @@ fn keeps_out<N, S: Copy + Exact + Hash + Debug>(
 
 /// Whether a solvable is one of these.
 fn is_offered<N, S: Copy + Exact + Hash + Debug>(offered: &[Offered<N, S>], solvable: S) -> bool
-    ensures { result ≡ true → Contains (offered_solvables offered.now) solvable }
+    ensures offered { result ≡ true → Contains (offered_solvables offered.now) solvable }
+    ensures other { result ≡ false → Contains (offered_solvables offered.now) solvable → ⊥ }
 {
     for one in offered {
         if one.solvable == solvable {

@@ -42,9 +42,11 @@ impl<N: Copy + Exact + Hash + Debug + Drop, S: Copy + Exact + Hash + Debug> Enco
     fn next_decision<C: ScoreMap<N>>(&mut self, scores: &Scores<N, C>) -> R<Option<NextDecision>>
         requires built { IsBuilt self.old }
         requires quiet { AreQuiet self.old }
+        // After an answer.
         ensures next { IfOk result (IsNext (C.score_of scores.now.map) self.new) }
         ensures built { OnOk result (IsBuilt self.new) }
         ensures rest { OnOk result (self.new ≡ record self.old { needs = self.new.needs }) }
+        // After a refusal.
         ensures refusal { IsOkUnless result Memory }
     {
         let trail = &self.coding.search.tracker;

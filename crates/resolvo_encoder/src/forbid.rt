@@ -60,7 +60,8 @@ impl<N: Copy + Exact + Hash + Debug + Drop, S: Copy + Exact + Hash + Debug> Enco
     /// Forbids a solvable, since its dependencies are unknown.
     pub fn exclude(&mut self, alloc: Global, solvable: S, reason: StringId) -> R<()>
         requires { IsBuilt self.old }
-        ensures { OnOk result (EncodesRules S.eq (Rule.forbids (ForbidReason.word reason) solvable ∷ []) self.old self.new) }
+        ensures encodes { OnOk result (EncodesRules S.eq (Rule.forbids (ForbidReason.word reason) solvable ∷ []) self.old self.new) }
+        ensures ids { IsErrOf result Ids → LacksNumber self.new.coding }
     {
         self.deny(alloc, solvable, ClauseKind::Excluded { solvable, reason })?;
         Ok(())

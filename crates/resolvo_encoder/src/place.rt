@@ -1,9 +1,11 @@
 //! The end of an encoding: what waits gets its clauses. Package by package each new solvable gets
 //! its digits, then its at-least-one clause, if its package is recorded. Then come those of the
 //! packages of new cases.
-ghost use Rattle.std.specs.Prelude.{◌≡◌, ◌∷◌, [], OnOk, IfOk, Contains, IsPermutation};
+ghost use Rattle.std.specs.Prelude.{◌≡◌, ◌∷◌, [], OnOk, IfOk, Contains, IsPermutation, IsErrOf, IsOkUnless};
+ghost use Rattle.resolvo_pool_core.specs.declared.want.Want.TheVariants.{Memory, Ids};
 ghost use Rattle.resolvo_packages.specs.declared.package_source.Offered.{Offered as One};
 ghost use Rattle.resolvo_state.specs.Registered.{IsRegistered};
+ghost use Rattle.resolvo_state.specs.SolverState.{LacksNumber};
 ghost use Rattle.resolvo_encoder.specs.Encoded.{IsWhole, StaysEncoding};
 ghost use Rattle.resolvo_encoder.specs.Steps.{IsBuilt, Extends};
 ghost use Rattle.resolvo_encoder.specs.AtLeastOneClauses.{Admits, AreWaiting, PlacesAll, PlacesQueued, CoversAll, CoversQueued};
@@ -21,11 +23,14 @@ impl<N: Copy + Exact + Hash + Debug + Drop, S: Copy + Exact + Hash + Debug> Enco
     /// Adds the clauses of what waits: digits, and at-least-one clauses.
     pub fn add_queued(&mut self, alloc: Global) -> R<()>
         requires { IsBuilt self.old }
+        // After an answer.
         ensures stays { OnOk result (StaysEncoding S.eq self.old self.new) }
         ensures kept { OnOk result (Extends self.old self.new) }
         ensures lists { OnOk result (self.new.lists ≡ self.old.lists) }
         ensures placed { OnOk result (IsWhole self.new) }
         ensures built { OnOk result (IsBuilt self.new) }
+        // After a refusal.
+        ensures ids { IsErrOf result Ids → LacksNumber self.new.coding }
     {
         self.place_queued(alloc)?;
         self.cover_queued(alloc)?;
@@ -36,7 +41,8 @@ impl<N: Copy + Exact + Hash + Debug + Drop, S: Copy + Exact + Hash + Debug> Enco
     /// package is recorded.
     fn place_queued(&mut self, alloc: Global) -> R<()>
         requires { IsBuilt self.old }
-        ensures { OnOk result (PlacesQueued S.eq self.old self.new) }
+        ensures placed { OnOk result (PlacesQueued S.eq self.old self.new) }
+        ensures ids { IsErrOf result Ids → LacksNumber self.new.coding }
     {
         let waiting = self.queued_solvables(alloc)?;
         self.place_each(alloc, waiting.as_slice())?;
@@ -47,7 +53,8 @@ impl<N: Copy + Exact + Hash + Debug + Drop, S: Copy + Exact + Hash + Debug> Enco
     /// The solvables that wait, package by package.
     fn queued_solvables(&self, alloc: Global) -> R<Vec<Offered<N, S>>>
         requires { IsBuilt self.now }
-        ensures { IfOk result (λ v. AreWaiting self.now v.items) }
+        ensures waiting { IfOk result (λ v. AreWaiting self.now v.items) }
+        ensures refusal { IsOkUnless result Memory }
     {
         let members = self.registry.queued();
         let mut waiting = Vec::new(alloc);
@@ -67,7 +74,8 @@ impl<N: Copy + Exact + Hash + Debug + Drop, S: Copy + Exact + Hash + Debug> Enco
         requires registered { (o : One N S)
             → Contains list.now o
             → IsRegistered self.old.registry self.old.coding o.name o.solvable }
-        ensures { OnOk result (PlacesAll S.eq list.now self.old self.new) }
+        ensures placed { OnOk result (PlacesAll S.eq list.now self.old self.new) }
+        ensures ids { IsErrOf result Ids → LacksNumber self.new.coding }
     {
         for one in list {
             self.place_one(alloc, *one)?;
@@ -80,7 +88,8 @@ impl<N: Copy + Exact + Hash + Debug + Drop, S: Copy + Exact + Hash + Debug> Enco
     fn place_one(&mut self, alloc: Global, one: Offered<N, S>) -> R<()>
         requires built { IsBuilt self.old }
         requires registered { IsRegistered self.old.registry self.old.coding one.name one.solvable }
-        ensures { OnOk result (PlacesAll S.eq (one ∷ []) self.old self.new) }
+        ensures placed { OnOk result (PlacesAll S.eq (one ∷ []) self.old self.new) }
+        ensures ids { IsErrOf result Ids → LacksNumber self.new.coding }
     {
         self.registry
             .place(&mut self.coding, one.name, one.solvable)?;
@@ -91,7 +100,8 @@ impl<N: Copy + Exact + Hash + Debug + Drop, S: Copy + Exact + Hash + Debug> Enco
     /// Adds the at-least-one clause of a solvable, if its package is recorded.
     fn admit_one(&mut self, alloc: Global, one: Offered<N, S>) -> R<()>
         requires { IsBuilt self.old }
-        ensures { OnOk result (Admits S.eq (one ∷ []) self.old self.new) }
+        ensures admitted { OnOk result (Admits S.eq (one ∷ []) self.old self.new) }
+        ensures ids { IsErrOf result Ids → LacksNumber self.new.coding }
     {
         if self.recorded.at_least_one.contains(&one.name) {
             self.add_at_least_one(alloc, one)?;
@@ -102,7 +112,8 @@ impl<N: Copy + Exact + Hash + Debug + Drop, S: Copy + Exact + Hash + Debug> Enco
     /// Adds the at-least-one clauses of the packages of new cases.
     fn cover_queued(&mut self, alloc: Global) -> R<()>
         requires { IsBuilt self.old }
-        ensures { OnOk result (CoversQueued S.eq self.old self.new) }
+        ensures covered { OnOk result (CoversQueued S.eq self.old self.new) }
+        ensures ids { IsErrOf result Ids → LacksNumber self.new.coding }
     {
         let mut names = Vec::new(alloc);
         names.extend_from_slice(self.recorded.queued.as_slice())?;
@@ -114,7 +125,8 @@ impl<N: Copy + Exact + Hash + Debug + Drop, S: Copy + Exact + Hash + Debug> Enco
     /// Records each of these packages, and adds their at-least-one clauses.
     fn cover_each(&mut self, alloc: Global, names: &[N]) -> R<()>
         requires { IsBuilt self.old }
-        ensures { OnOk result (CoversAll S.eq names.now self.old self.new) }
+        ensures covered { OnOk result (CoversAll S.eq names.now self.old self.new) }
+        ensures ids { IsErrOf result Ids → LacksNumber self.new.coding }
     {
         for name in names {
             self.track_at_least_one(alloc, *name)?;
@@ -129,7 +141,8 @@ fn group<N: Copy + Exact + Hash + Debug + Drop, S: Copy + Exact + Hash + Debug>(
     alloc: Global,
     list: &mut Vec<Offered<N, S>>,
 ) -> R<()>
-    ensures { OnOk result (IsPermutation list.old.items list.new.items) }
+    ensures grouped { OnOk result (IsPermutation list.old.items list.new.items) }
+    ensures refusal { IsOkUnless result Memory }
 {
     let mut names = IndexSet::new(alloc);
     for one in list.iter() {

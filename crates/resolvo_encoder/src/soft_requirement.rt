@@ -102,7 +102,8 @@ impl<N: Copy + Exact + Hash + Debug + Drop, S: Copy + Exact + Hash + Debug> Enco
     /// Registers a soft requirement, records it as the last one, and returns its variable.
     pub fn record_soft(&mut self, soft: Offered<N, S>) -> R<VariableId>
         requires { IsBuilt self.old }
-        ensures { IfOk result (λ v. RecordsSoft S.eq soft v self.old self.new) }
+        ensures recorded { IfOk result (λ v. RecordsSoft S.eq soft v self.old self.new) }
+        ensures ids { IsErrOf result Ids → LacksNumber self.new.coding }
     {
         let variable = self.register_soft(soft)?;
         self.recorded.softs.push(soft.solvable)?;

@@ -1,5 +1,6 @@
 //! Answers by value, over a cache of the provider's.
-ghost use Rattle.std.specs.Prelude.{◌≡◌, ◌++◌, IfOk, OnOk, map};
+ghost use Rattle.std.specs.Prelude.{◌≡◌, ◌++◌, IfOk, OnOk, IsOkUnless, map};
+ghost use Rattle.resolvo_pool_core.specs.declared.want.Want.TheVariants.{Memory};
 ghost use Rattle.resolvo_pool_core.specs.Provider.{listing, needs_of};
 ghost use Rattle.resolvo_packages.specs.PackageSource.{packages_by, orders_by, offer_by};
 ghost use Rattle.resolvo_packages.specs.Forbidden.{excluded_by, locked_out, kept_out};
@@ -11,7 +12,7 @@ use resolvo_pool_core::provider::{
     Candidates, Dependencies, DependencyProvider, KnownDependencies,
 };
 use resolvo_pool_core::requirement::Requirement;
-use resolvo_pool_core::want::R;
+use resolvo_pool_core::want::{R, Want};
 use resolvo_store_core::conditions::convert_conditions_to_dnf;
 use std::alloc::Global;
 use std::fmt::Debug;
@@ -51,8 +52,9 @@ impl<D: DependencyProvider> CachedPackages<D> {
 
     /// These solvables, each with its package.
     fn offered(&self, solvables: &[D::SolvableId]) -> R<Vec<Offered<D::NameId, D::SolvableId>>>
-        ensures { IfOk result
+        ensures offered { IfOk result
             (λ v. v.items ≡ map (offer_by (D.name_of_solvable self.now)) solvables.now) }
+        ensures refusal { IsOkUnless result Memory }
     {
         let mut offered = Vec::new(self.alloc);
         for solvable in solvables {
@@ -66,8 +68,9 @@ impl<D: DependencyProvider> CachedPackages<D> {
 
     /// The packages of these version sets.
     fn names_of(&self, version_sets: &[VersionSetId]) -> R<Vec<D::NameId>>
-        ensures { IfOk result
+        ensures named { IfOk result
             (λ v. v.items ≡ map (D.name_of_version_set self.now) version_sets.now) }
+        ensures refusal { IsOkUnless result Memory }
     {
         let mut names = Vec::new(self.alloc);
         for version_set in version_sets {
@@ -91,6 +94,8 @@ impl<D: DependencyProvider> PackageSource for CachedPackages<D> {
         orders_by D.name_of_version_set D.members_of D.candidates_of D.matches D.sorts D.SolvableId.eq p };
 
     ghost may_cancel = { λ p. D.may_cancel p };
+
+    ghost may_lack_ids = { λ p. D.may_lack_ids p };
 
     ghost lawful = { λ p. record { below = D.operands_below p; named = D.candidates_named p } };
 
@@ -141,7 +146,11 @@ impl<D: DependencyProvider> PackageSource for CachedPackages<D> {
     }
 
     fn cases(&self, condition: ConditionId) -> R<Vec<Vec<VersionSetId>>> {
-        convert_conditions_to_dnf(self.alloc, condition, self.cache.provider())
+        match convert_conditions_to_dnf(self.alloc, condition, self.cache.provider()) {
+            Ok(cases) => Ok(cases),
+            // It allocates, and issues no ids.
+            Err(_) => Err(Want::Memory),
+        }
     }
 
     fn forbidden(
@@ -169,7 +178,8 @@ impl<D: DependencyProvider> PackageSource for CachedPackages<D> {
 
 /// A copy of the dependencies.
 fn copy_of(alloc: Global, found: &Dependencies) -> R<Dependencies>
-    ensures { IfOk result (λ d. needs_of d ≡ needs_of found.now) }
+    ensures copy { IfOk result (λ d. needs_of d ≡ needs_of found.now) }
+    ensures refusal { IsOkUnless result Memory }
 {
     match found {
         Dependencies::Known(known) => Ok(Dependencies::Known(KnownDependencies {
@@ -185,7 +195,8 @@ fn forbidden_candidates<S: Copy + Exact + Hash + Debug>(
     alloc: Global,
     found: &Candidates<S>,
 ) -> R<Vec<ForbiddenSolvable<S>>>
-    ensures { IfOk result (λ v. v.items ≡ kept_out S.eq (listing found.now)) }
+    ensures forbidden { IfOk result (λ v. v.items ≡ kept_out S.eq (listing found.now)) }
+    ensures refusal { IsOkUnless result Memory }
 {
     let mut forbidden = forbidden_by_lock(alloc, found.locked, found.candidates.as_slice())?;
     add_excluded(&mut forbidden, found.excluded.as_slice())?;
@@ -198,7 +209,8 @@ fn forbidden_by_lock<S: Copy + Exact + Hash + Debug>(
     lock: Option<S>,
     candidates: &[S],
 ) -> R<Vec<ForbiddenSolvable<S>>>
-    ensures { IfOk result (λ v. v.items ≡ locked_out S.eq lock candidates.now) }
+    ensures forbidden { IfOk result (λ v. v.items ≡ locked_out S.eq lock candidates.now) }
+    ensures refusal { IsOkUnless result Memory }
 {
     let mut forbidden = Vec::new(alloc);
     let locked = match lock {
@@ -221,8 +233,9 @@ fn add_excluded<S: Copy + Exact + Hash + Debug>(
     forbidden: &mut Vec<ForbiddenSolvable<S>>,
     excluded: &[(S, StringId)],
 ) -> R<()>
-    ensures { OnOk result
+    ensures added { OnOk result
         (forbidden.new.items ≡ forbidden.old.items ++ map excluded_by excluded.now) }
+    ensures refusal { IsOkUnless result Memory }
 {
     for one in excluded {
         forbidden.push(ForbiddenSolvable {

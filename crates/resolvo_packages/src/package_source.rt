@@ -1,7 +1,9 @@
 //! A solver's queries about packages, answered by value.
-ghost use Rattle.std.specs.Prelude.{◌≡◌, List, IfOk, IfErr, map};
+ghost use Rattle.std.specs.Prelude.{◌≡◌, List, IfOk, IfErr, IsErrOf, IsOkUnless, map};
+ghost use Rattle.resolvo_pool_core.specs.declared.want.Want.TheVariants.{Memory};
 ghost use Rattle.resolvo_pool_core.specs.Provider.{needs_of};
 ghost use Rattle.resolvo_pool.specs.Cached.{IsCancelledBy};
+ghost use Rattle.resolvo_pool.specs.declared.cache.CacheFault.TheVariants.{Ids};
 ghost use Rattle.resolvo_pool_core.specs.RuleKeeping.{Packages, IsLawful};
 ghost use Rattle.resolvo_pool_core.specs.declared.requirement.Requirement.{Requirement};
 ghost use Rattle.resolvo_pool_core.specs.Text.{alternatives_of};
@@ -59,9 +61,13 @@ pub trait PackageSource {
     /// With which values a query may be cancelled.
     ghost may_cancel: { Self → Self.Cancel → Type 0 };
 
+    /// Whether a query may fail for lack of ids.
+    ghost may_lack_ids: { Self → Type 0 };
+
     /// Fails with the value of the cancellation where the solver shall stop.
     fn check(&self) -> Result<(), CacheFault<Self::Cancel>>
-        ensures cancelled { IfErr result (IsCancelledBy (may_cancel self.now)) };
+        ensures cancelled { IfErr result (IsCancelledBy (may_cancel self.now)) }
+        ensures ids { IsErrOf result Ids → may_lack_ids self.now };
 
     /// The package of a solvable.
     fn package(&self, solvable: Self::SolvableId) -> Self::NameId
@@ -75,7 +81,8 @@ pub trait PackageSource {
         ensures same { self.new ≡ self.old }
         ensures answer { IfOk result
             (λ d. needs_of d ≡ (packages self.old).dependencies_of solvable) }
-        ensures cancelled { IfErr result (IsCancelledBy (may_cancel self.old)) };
+        ensures cancelled { IfErr result (IsCancelledBy (may_cancel self.old)) }
+        ensures ids { IsErrOf result Ids → may_lack_ids self.old };
 
     /// The candidates that match a requirement, in the order in which they are tried.
     fn candidates(
@@ -87,12 +94,14 @@ pub trait PackageSource {
             (λ v. AreOffered Self.SolvableId.eq (packages self.old) requirement v.items) }
         ensures ordered { IfOk result
             (λ v. orders self.old requirement (offered_solvables v.items)) }
-        ensures cancelled { IfErr result (IsCancelledBy (may_cancel self.old)) };
+        ensures cancelled { IfErr result (IsCancelledBy (may_cancel self.old)) }
+        ensures ids { IsErrOf result Ids → may_lack_ids self.old };
 
     /// The packages of a requirement's version sets.
     fn named(&self, requirement: Requirement) -> R<Vec<Self::NameId>>
-        ensures { IfOk result (λ v. v.items ≡ map (packages self.now).set_package
-            (alternatives_of (packages self.now).members_of requirement)) };
+        ensures named { IfOk result (λ v. v.items ≡ map (packages self.now).set_package
+            (alternatives_of (packages self.now).members_of requirement)) }
+        ensures refusal { IsOkUnless result Memory };
 
     /// The package of a version set.
     fn set_package(&self, version_set: VersionSetId) -> Self::NameId
@@ -101,8 +110,9 @@ pub trait PackageSource {
     /// The cases of a condition, in order. It holds exactly if all version sets of some case are
     /// met.
     fn cases(&self, condition: ConditionId) -> R<Vec<Vec<VersionSetId>>>
-        ensures { IfOk result
-            (λ v. cases_of v.items ≡ cases (packages self.now).condition_of condition) };
+        ensures cases { IfOk result
+            (λ v. cases_of v.items ≡ cases (packages self.now).condition_of condition) }
+        ensures refusal { IsOkUnless result Memory };
 
     /// The solvables of a package that locks and exclusions forbid.
     fn forbidden(
@@ -112,7 +122,8 @@ pub trait PackageSource {
         ensures same { self.new ≡ self.old }
         ensures forbidden { IfOk result
             (λ v. AreForbidden Self.SolvableId.eq (packages self.old) name v.items) }
-        ensures cancelled { IfErr result (IsCancelledBy (may_cancel self.old)) };
+        ensures cancelled { IfErr result (IsCancelledBy (may_cancel self.old)) }
+        ensures ids { IsErrOf result Ids → may_lack_ids self.old };
 
     /// The candidates of a version set's package that don't match it.
     fn outside(
@@ -122,7 +133,8 @@ pub trait PackageSource {
         ensures same { self.new ≡ self.old }
         ensures outside { IfOk result
             (λ v. AreOutside Self.SolvableId.eq (packages self.old) version_set v.items) }
-        ensures cancelled { IfErr result (IsCancelledBy (may_cancel self.old)) };
+        ensures cancelled { IfErr result (IsCancelledBy (may_cancel self.old)) }
+        ensures ids { IsErrOf result Ids → may_lack_ids self.old };
 
     /// Whether a solvable's dependencies are at hand. It decides when they are asked for, not what
     /// they are.

@@ -18,6 +18,14 @@ use Rattle.resolvo_encoder.proofs.RequireLemmas.{some_one}
 use Rattle.resolvo_turn.specs.Encoder.{IsInOrder}
 use Rattle.resolvo_turn.proofs.AddLemmas.{fires_in_order}
 
+module _ {N S : Type 0} (same : S → S → Bool) (p : Packages N S) (orders : Requirement → List S → Type 0) (root : Rules) (index : ℕ) (e : Encoder N S) (w : DeferredRequirement S) where
+  -- the deferred case is one of its parent's requirement
+  pub waiting_listed : IsWaiting e index w → IsInOrder same p orders root e → Contains (rules_for same p root w.parent).requirements w.need
+  waiting_listed is order =
+      let d = is.deferred in
+      let of = order.encoding.cases.waiting index d is.at in
+      subst (λ x. Contains (rules_for same p root x).requirements w.need) (sym is.parent) (subst (λ (n : ConditionalRequirement). Contains (rules_for same p root d.parent).requirements n) (sym is.need) of.listed)
+
 module _ {N S : Type 0} (same : S → S → Bool) (p : Packages N S) (orders : Requirement → List S → Type 0) (root : Rules) (index : ℕ) (old middle new : Encoder N S) (w : DeferredRequirement S) where
   -- the encoding is one of the packages after a deferred case was encoded and recorded
   pub encoded_in_order : IsWaiting old index w → IsInOrder same p orders root old → IsPrefixOf old.deferred.items middle.deferred.items
@@ -27,8 +35,7 @@ module _ {N S : Type 0} (same : S → S → Bool) (p : Packages N S) (orders : R
   encoded_in_order is e prefix encodes fires keeps =
       let d = is.deferred in
       let of = e.encoding.cases.waiting index d is.at in
-      let listed : Contains (rules_for same p root w.parent).requirements w.need =
-      subst (λ x. Contains (rules_for same p root x).requirements w.need) (sym is.parent) (subst (λ (n : ConditionalRequirement). Contains (rules_for same p root d.parent).requirements n) (sym is.need) of.listed) in
+      let listed = waiting_listed same p orders root index old w is e in
       let among : Contains (cases_for same p w.need) w.case.items =
       subst (λ (n : ConditionalRequirement). Contains (cases_for same p n) w.case.items) (sym is.need) (subst (λ (xs : List VersionSetId). Contains (cases_for same p d.need) xs) (sym is.case) of.case) in
       let (order, is_encoded) = encodes listed among in

@@ -3,3 +3,4 @@ pub mod EndLemmas
 pub mod CaseEncoded
 pub mod PassLemmas
 pub mod TakenLemmas
+pub mod StopLemmas

@@ -1,3 +1,4 @@
 pub mod Encoder
 pub mod Effects
 pub mod Turn
+pub mod LacksIds

@@ -1,11 +1,14 @@
 //! The CDCL loop between two encodings: propagate, learn and decide, until nothing is left to
 //! decide or the turn is refused.
-ghost use Rattle.std.specs.Prelude.{◌≡◌, ◌<◌, ◌≤◌, length, IfOk, IfErr, OnOk};
+ghost use Rattle.std.specs.Prelude.{◌≡◌, ◌<◌, ◌≤◌, length, IfOk, IfErr, OnOk, IsErrOf, IsOkUnless};
 ghost use Rattle.resolvo_pool.specs.Cached.{IsCancelledBy};
+ghost use Rattle.resolvo_pool.specs.declared.cache.CacheFault.TheVariants.{Ids};
+ghost use Rattle.resolvo_pool_core.specs.declared.want.Want.TheVariants.{Memory};
 ghost use Rattle.resolvo_encoder.specs.Base.{KeepsFirst};
 ghost use Rattle.resolvo_encoder.specs.Steps.{IsBuilt};
 ghost use Rattle.resolvo_encoder.specs.Progress.{GoesOn, IsDecision};
 ghost use Rattle.resolvo_turn.specs.Encoder.{StaysInOrder};
+ghost use Rattle.resolvo_turn.specs.LacksIds.{StopsInOrder};
 
 use crate::scan::Scan;
 use resolvo_decide::scores::Scores;
@@ -59,6 +62,7 @@ fn bump_activity<A: PackageSource, C: ScoreMap<A::NameId>>(
     activity: Activity,
 ) -> R<()>
     requires clause { clause.0 < length coding.now.search.clauses }
+    ensures { IsOkUnless result Memory }
 {
     for literal in coding.search.literals(clause) {
         if let Some(solvable) = coding.solvable(literal.variable()) {
@@ -88,6 +92,8 @@ pub fn decide<A: PackageSource, C: ScoreMap<A::NameId>>(
     ensures built { OnOk result (IsBuilt encoding.new) }
     // After a refusal.
     ensures cancelled { IfErr result (IsCancelledBy (A.may_cancel answers.now)) }
+    ensures ids { IsErrOf result Ids
+        → StopsInOrder A.SolvableId.eq A.PackageSource answers.now encoding.old encoding.new }
 {
     loop {
         answers.check()?;

@@ -1,6 +1,7 @@
 //! Which solvables the turn's entries of the trail choose. Those before its first entry were chosen
 //! in earlier turns.
-ghost use Rattle.std.specs.Prelude.{◌≡◌, ◌≤◌, length, IfOk};
+ghost use Rattle.std.specs.Prelude.{◌≡◌, ◌≤◌, length, IfOk, IsOkUnless};
+ghost use Rattle.resolvo_pool_core.specs.declared.want.Want.TheVariants.{Memory};
 ghost use Rattle.resolvo_sat.specs.Entries.{before};
 ghost use Rattle.resolvo_sat.specs.State.{IsState, history};
 ghost use Rattle.resolvo_state.specs.Chosen.{choices};
@@ -42,7 +43,8 @@ pub(crate) fn choices_of<N: Copy + Exact + Hash + Debug, S: Copy + Exact + Hash 
     coding: &SolverState<N, S>,
     entries: &[Entry],
 ) -> R<Vec<S>>
-    ensures { IfOk result (λ v. v.items ≡ choices coding.now.atoms.keys entries.now) }
+    ensures choices { IfOk result (λ v. v.items ≡ choices coding.now.atoms.keys entries.now) }
+    ensures refusal { IsOkUnless result Memory }
 {
     let mut chosen = Vec::new(alloc);
     for entry in entries {
@@ -61,7 +63,8 @@ pub fn chosen_in_turn<N: Copy + Exact + Hash + Debug, S: Copy + Exact + Hash + D
     encoding: &Encoder<N, S>,
 ) -> R<Vec<S>>
     requires { IsBuilt encoding.now }
-    ensures { IfOk result (λ v. v.items ≡ in_turn encoding.now) }
+    ensures chosen { IfOk result (λ v. v.items ≡ in_turn encoding.now) }
+    ensures refusal { IsOkUnless result Memory }
 {
     let place = first_place(&encoding.coding.search);
     let entries = encoding.coding.search.tracker.stack();

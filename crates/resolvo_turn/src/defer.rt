@@ -1,6 +1,8 @@
 //! Deferred cases of conditions: each waits until every version set of its own has a chosen match.
-ghost use Rattle.std.specs.Prelude.{◌≡◌, Some, IfOk, IfErr, OnOk};
+ghost use Rattle.std.specs.Prelude.{◌≡◌, Some, IfOk, IfErr, OnOk, IsErrOf, IsOkUnless};
 ghost use Rattle.resolvo_pool.specs.Cached.{IsCancelledBy};
+ghost use Rattle.resolvo_pool.specs.declared.cache.CacheFault.TheVariants.{Ids};
+ghost use Rattle.resolvo_pool_core.specs.declared.want.Want.TheVariants.{Memory};
 ghost use Rattle.resolvo_pool_core.specs.declared.id.VersionSetId.{VersionSetId};
 ghost use Rattle.resolvo_store_core.specs.Cases.{cases_of};
 ghost use Rattle.resolvo_store_core.specs.Deferred.{version_set_of};
@@ -21,7 +23,8 @@ use std::alloc::Global;
 
 /// The offered solvables.
 pub fn solvables_of<N, S: Copy>(alloc: Global, offered: &[Offered<N, S>]) -> R<Vec<S>>
-    ensures { IfOk result (λ v. v.items ≡ offered_solvables offered.now) }
+    ensures solvables { IfOk result (λ v. v.items ≡ offered_solvables offered.now) }
+    ensures refusal { IsOkUnless result Memory }
 {
     let mut solvables = Vec::new(alloc);
     for one in offered {
@@ -40,6 +43,7 @@ fn conjunct_of<A: PackageSource>(
     ensures matches { IfOk result (IsMatching A.SolvableId.eq (A.packages answers.old)) }
     ensures version_set { IfOk result (λ c. version_set_of c ≡ version_set) }
     ensures cancelled { IfErr result (IsCancelledBy (A.may_cancel answers.old)) }
+    ensures ids { IsErrOf result Ids → A.may_lack_ids answers.old }
 {
     let offered = answers.candidates(Requirement::Single(version_set))?;
     let matching = solvables_of(alloc, offered.as_slice())?;
@@ -57,6 +61,7 @@ fn conjuncts_of<A: PackageSource>(
         (λ v. AreConjuncts A.SolvableId.eq (A.packages answers.old) v.items) }
     ensures case { IfOk result (λ v. case_of v.items ≡ case.now) }
     ensures cancelled { IfErr result (IsCancelledBy (A.may_cancel answers.old)) }
+    ensures ids { IsErrOf result Ids → A.may_lack_ids answers.old }
 {
     let mut conjuncts = Vec::new(alloc);
     for version_set in case {
@@ -86,6 +91,7 @@ fn defer_case<A: PackageSource>(
     ensures built { OnOk result (IsBuilt encoding.new) }
     // After a refusal.
     ensures cancelled { IfErr result (IsCancelledBy (A.may_cancel answers.old)) }
+    ensures ids { IsErrOf result Ids → A.may_lack_ids answers.old }
 {
     let conjuncts = conjuncts_of(alloc, answers, case)?;
     encoding.defer(parent, need, conjuncts)?;
@@ -113,6 +119,7 @@ pub fn defer_need<A: PackageSource>(
     ensures built { OnOk result (IsBuilt encoding.new) }
     // After a refusal.
     ensures cancelled { IfErr result (IsCancelledBy (A.may_cancel answers.old)) }
+    ensures ids { IsErrOf result Ids → A.may_lack_ids answers.old }
 {
     let cases = answers.cases(condition)?;
     defer_cases(alloc, answers, encoding, parent, need, cases.as_slice())?;
@@ -139,6 +146,7 @@ fn defer_cases<A: PackageSource>(
     ensures built { OnOk result (IsBuilt encoding.new) }
     // After a refusal.
     ensures cancelled { IfErr result (IsCancelledBy (A.may_cancel answers.old)) }
+    ensures ids { IsErrOf result Ids → A.may_lack_ids answers.old }
 {
     for case in cases {
         defer_case(alloc, answers, encoding, parent, need, case.as_slice())?;

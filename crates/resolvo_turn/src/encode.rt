@@ -1,7 +1,9 @@
 //! Requirements and constraints of parents become clauses, in the order of the parents. The
 //! packages are asked for each only when it is encoded.
-ghost use Rattle.std.specs.Prelude.{◌≡◌, IfErr, OnOk};
+ghost use Rattle.std.specs.Prelude.{◌≡◌, IfErr, OnOk, IsErrOf, IsOkUnless};
 ghost use Rattle.resolvo_pool.specs.Cached.{IsCancelledBy};
+ghost use Rattle.resolvo_pool.specs.declared.cache.CacheFault.TheVariants.{Ids};
+ghost use Rattle.resolvo_pool_core.specs.declared.want.Want.TheVariants.{Memory};
 ghost use Rattle.resolvo_pool_core.specs.Text.{solvable_of};
 ghost use Rattle.resolvo_pool_core.specs.declared.requirement.ConditionalRequirement.{ConditionalRequirement};
 ghost use Rattle.resolvo_pool_core.specs.declared.requirement.Requirement.TheVariants.{Single};
@@ -10,6 +12,7 @@ ghost use Rattle.resolvo_encoder.specs.Base.{KeepsTurns};
 ghost use Rattle.resolvo_encoder.specs.Steps.{IsBuilt, AddsParent};
 ghost use Rattle.resolvo_turn.specs.Encoder.{AddsNeeds, AddsAll, StaysInOrderOf};
 ghost use Rattle.resolvo_turn.specs.Effects.{ForbidsPackage, ForbidsPackages, GuardsRequirement, RequiresGuarded, RequiresPlain, RequiresOne, RequiresAll, LimitsOne, LimitsGuarded, LimitsAll, EncodesKnown, EncodesParent};
+ghost use Rattle.resolvo_turn.specs.LacksIds.{StopsAnyhow, StopsNeed, StopsOne, StopsAll, StopsKnown, StopsInOrderOf};
 
 use crate::defer::defer_need;
 use crate::fire::fire_from;
@@ -29,7 +32,8 @@ pub fn add_available<A: PackageSource>(
     encoding: &mut Encoder<A::NameId, A::SolvableId>,
     offered: &[Offered<A::NameId, A::SolvableId>],
 ) -> R<()>
-    ensures { OnOk result (AddsParent encoding.old encoding.new) }
+    ensures added { OnOk result (AddsParent encoding.old encoding.new) }
+    ensures refusal { IsOkUnless result Memory }
 {
     for one in offered {
         if answers.are_dependencies_available_for(one.solvable) {
@@ -58,6 +62,8 @@ fn forbid_package<A: PackageSource>(
     ensures built { OnOk result (IsBuilt encoding.new) }
     // After a refusal.
     ensures cancelled { IfErr result (IsCancelledBy (A.may_cancel answers.old)) }
+    ensures ids { IsErrOf result Ids
+        → StopsAnyhow A.SolvableId.eq A.PackageSource answers.old encoding.new }
 {
     if encoding.is_encoded(name) {
         return Ok(());
@@ -86,6 +92,8 @@ fn forbid_packages<A: PackageSource>(
     ensures built { OnOk result (IsBuilt encoding.new) }
     // After a refusal.
     ensures cancelled { IfErr result (IsCancelledBy (A.may_cancel answers.old)) }
+    ensures ids { IsErrOf result Ids
+        → StopsAnyhow A.SolvableId.eq A.PackageSource answers.old encoding.new }
 {
     for name in names {
         forbid_package(alloc, answers, encoding, *name)?;
@@ -112,6 +120,8 @@ pub fn guard<A: PackageSource>(
     ensures built { OnOk result (IsBuilt encoding.new) }
     // After a refusal.
     ensures cancelled { IfErr result (IsCancelledBy (A.may_cancel answers.old)) }
+    ensures ids { IsErrOf result Ids
+        → StopsAnyhow A.SolvableId.eq A.PackageSource answers.old encoding.new }
 {
     let names = answers.named(requirement)?;
     forbid_packages(alloc, answers, encoding, names.as_slice())?;
@@ -137,6 +147,8 @@ fn require<A: PackageSource>(
     ensures built { OnOk result (IsBuilt encoding.new) }
     // After a refusal.
     ensures cancelled { IfErr result (IsCancelledBy (A.may_cancel answers.old)) }
+    ensures ids { IsErrOf result Ids
+        → StopsNeed A.SolvableId.eq A.PackageSource answers.old parent need encoding.new }
 {
     let offered = answers.candidates(need.requirement)?;
     encoding.require(alloc, parent, need, offered.as_slice())?;
@@ -164,6 +176,8 @@ fn encode_plain_need<A: PackageSource>(
     ensures built { OnOk result (IsBuilt encoding.new) }
     // After a refusal.
     ensures cancelled { IfErr result (IsCancelledBy (A.may_cancel answers.old)) }
+    ensures ids { IsErrOf result Ids
+        → StopsNeed A.SolvableId.eq A.PackageSource answers.old parent need encoding.new }
 {
     guard(alloc, answers, encoding, need.requirement)?;
     require(alloc, answers, encoding, parent, need)?;
@@ -190,6 +204,9 @@ fn encode_need<A: PackageSource>(
     ensures built { OnOk result (IsBuilt encoding.new) }
     // After a refusal.
     ensures cancelled { IfErr result (IsCancelledBy (A.may_cancel answers.old)) }
+    ensures ids { IsErrOf result Ids
+        → StopsOne A.SolvableId.eq A.PackageSource answers.old
+        parent need encoding.old encoding.new }
 {
     match need.condition {
         None => {
@@ -224,6 +241,9 @@ fn encode_needs<A: PackageSource>(
     ensures built { OnOk result (IsBuilt encoding.new) }
     // After a refusal.
     ensures cancelled { IfErr result (IsCancelledBy (A.may_cancel answers.old)) }
+    ensures ids { IsErrOf result Ids
+        → StopsAll A.SolvableId.eq A.PackageSource answers.old
+        parent needs.now encoding.old encoding.new }
 {
     for need in needs {
         encode_need(alloc, answers, encoding, parent, *need)?;
@@ -250,6 +270,8 @@ fn limit<A: PackageSource>(
     ensures built { OnOk result (IsBuilt encoding.new) }
     // After a refusal.
     ensures cancelled { IfErr result (IsCancelledBy (A.may_cancel answers.old)) }
+    ensures ids { IsErrOf result Ids
+        → StopsAnyhow A.SolvableId.eq A.PackageSource answers.old encoding.new }
 {
     let outside = answers.outside(version_set)?;
     encoding.limit(alloc, parent, version_set, outside.as_slice())?;
@@ -276,6 +298,8 @@ fn encode_limit<A: PackageSource>(
     ensures built { OnOk result (IsBuilt encoding.new) }
     // After a refusal.
     ensures cancelled { IfErr result (IsCancelledBy (A.may_cancel answers.old)) }
+    ensures ids { IsErrOf result Ids
+        → StopsAnyhow A.SolvableId.eq A.PackageSource answers.old encoding.new }
 {
     guard(alloc, answers, encoding, Requirement::Single(version_set))?;
     limit(alloc, answers, encoding, parent, version_set)?;
@@ -301,6 +325,8 @@ fn encode_limits<A: PackageSource>(
     ensures built { OnOk result (IsBuilt encoding.new) }
     // After a refusal.
     ensures cancelled { IfErr result (IsCancelledBy (A.may_cancel answers.old)) }
+    ensures ids { IsErrOf result Ids
+        → StopsAnyhow A.SolvableId.eq A.PackageSource answers.old encoding.new }
 {
     for version_set in constraints {
         encode_limit(alloc, answers, encoding, parent, *version_set)?;
@@ -328,6 +354,9 @@ fn encode_rules<A: PackageSource>(
     ensures built { OnOk result (IsBuilt encoding.new) }
     // After a refusal.
     ensures cancelled { IfErr result (IsCancelledBy (A.may_cancel answers.old)) }
+    ensures ids { IsErrOf result Ids
+        → StopsKnown A.SolvableId.eq A.PackageSource answers.old
+        parent requirements.now constraints.now encoding.old encoding.new }
 {
     encode_needs(alloc, answers, encoding, parent, requirements)?;
     encode_limits(alloc, answers, encoding, parent, constraints)?;
@@ -354,6 +383,9 @@ fn encode_parent<A: PackageSource>(
     ensures built { OnOk result (IsBuilt encoding.new) }
     // After a refusal.
     ensures cancelled { IfErr result (IsCancelledBy (A.may_cancel answers.old)) }
+    ensures ids { IsErrOf result Ids
+        → StopsInOrderOf A.SolvableId.eq A.PackageSource answers.old
+        requirements.now constraints.now encoding.old encoding.new }
 {
     match parent {
         SolvableIdOrRoot::Root => {
@@ -380,34 +412,6 @@ fn encode_parent<A: PackageSource>(
     }
 }
 
-/// Encodes the rules of each parent that isn't encoded yet.
-fn encode_each<A: PackageSource>(
-    alloc: Global,
-    answers: &mut A,
-    encoding: &mut Encoder<A::NameId, A::SolvableId>,
-    requirements: &[ConditionalRequirement],
-    constraints: &[VersionSetId],
-) -> Result<(), CacheFault<A::Cancel>>
-    requires { IsBuilt encoding.old }
-    // Whatever the answer.
-    ensures same { answers.new ≡ answers.old }
-    // After an answer.
-    ensures encoded { OnOk result
-        (StaysInOrderOf A.SolvableId.eq A.PackageSource answers.old
-        requirements.now constraints.now encoding.old encoding.new) }
-    ensures all { OnOk result (AddsAll encoding.old encoding.new) }
-    ensures turn { OnOk result (KeepsTurns encoding.old encoding.new) }
-    ensures built { OnOk result (IsBuilt encoding.new) }
-    // After a refusal.
-    ensures cancelled { IfErr result (IsCancelledBy (A.may_cancel answers.old)) }
-{
-    while let Some(parent) = encoding.next_parent() {
-        encode_parent(alloc, answers, encoding, requirements, constraints, parent)?;
-        encoding.end_parent();
-    }
-    Ok(())
-}
-
 /// Encodes the rules of each parent that isn't encoded yet. Then adds the clauses that wait for the
 /// encoding's end.
 pub fn encode_parents<A: PackageSource>(
@@ -430,8 +434,14 @@ pub fn encode_parents<A: PackageSource>(
     ensures built { OnOk result (IsBuilt encoding.new) }
     // After a refusal.
     ensures cancelled { IfErr result (IsCancelledBy (A.may_cancel answers.old)) }
+    ensures ids { IsErrOf result Ids
+        → StopsInOrderOf A.SolvableId.eq A.PackageSource answers.old
+        requirements.now constraints.now encoding.old encoding.new }
 {
-    encode_each(alloc, answers, encoding, requirements, constraints)?;
+    while let Some(parent) = encoding.next_parent() {
+        encode_parent(alloc, answers, encoding, requirements, constraints, parent)?;
+        encoding.end_parent();
+    }
     encoding.add_queued(alloc)?;
     Ok(())
 }

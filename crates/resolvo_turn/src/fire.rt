@@ -1,26 +1,24 @@
 //! Cases of conditions that hold become clauses. Each was deferred until all its version sets had a
 //! chosen match.
-ghost use Rattle.std.specs.Prelude.{◌≡◌, ◌<◌, true, false, length, Some, IfOk, IfErr, OnOk, Contains};
+ghost use Rattle.std.specs.Prelude.{◌≡◌, ◌<◌, true, false, length, IfOk, IfErr, OnOk, IsErrOf, Contains};
 ghost use Rattle.resolvo_pool.specs.Cached.{IsCancelledBy};
-ghost use Rattle.resolvo_packages.specs.PackageSource.{offered_solvables};
+ghost use Rattle.resolvo_pool.specs.declared.cache.CacheFault.TheVariants.{Ids};
 ghost use Rattle.resolvo_encoder.specs.Conditions.{IsSet, AreSets, sets_case};
 ghost use Rattle.resolvo_encoder.specs.Conditions.{IsSpent, AreSpent};
-ghost use Rattle.resolvo_encoder.specs.declared.conditions.ConditionSet.{ConditionSet as Set};
 ghost use Rattle.resolvo_encoder.specs.Steps.{IsBuilt};
 ghost use Rattle.resolvo_turn.specs.Encoder.{AddsNeeds, StaysInOrder};
 ghost use Rattle.resolvo_turn.specs.Turn.{FiresMore};
 ghost use Rattle.resolvo_turn.specs.Effects.{RequiresGuardedCase, RequiresCase};
+ghost use Rattle.resolvo_turn.specs.LacksIds.{StopsInOrder, StopsNeed};
 
 use crate::encode::{add_available, guard};
-use resolvo_encoder::conditions::{ConditionSet, DeferredRequirement};
+use resolvo_encoder::conditions::{ConditionSet, DeferredRequirement, keeps_out};
 use resolvo_encoder::encoder::Encoder;
-use resolvo_packages::package_source::{Offered, PackageSource};
+use resolvo_packages::package_source::PackageSource;
 use resolvo_pool::cache::CacheFault;
-use resolvo_pool_core::id::{Exact, VersionSetId};
+use resolvo_pool_core::id::VersionSetId;
 use resolvo_pool_core::requirement::ConditionalRequirement;
 use std::alloc::Global;
-use std::fmt::Debug;
-use std::hash::Hash;
 
 /// A version set of a case, with its package and the candidates that don't match it.
 fn set_of<A: PackageSource>(
@@ -31,6 +29,7 @@ fn set_of<A: PackageSource>(
     ensures set { IfOk result (IsSet A.SolvableId.eq (A.packages answers.old)) }
     ensures version_set { IfOk result (λ c. c.version_set ≡ version_set) }
     ensures cancelled { IfErr result (IsCancelledBy (A.may_cancel answers.old)) }
+    ensures ids { IsErrOf result Ids → A.may_lack_ids answers.old }
 {
     let outside = answers.outside(version_set)?;
     Ok(ConditionSet {
@@ -50,6 +49,7 @@ fn sets_of<A: PackageSource>(
     ensures sets { IfOk result (λ v. AreSets A.SolvableId.eq (A.packages answers.old) v.items) }
     ensures case { IfOk result (λ v. sets_case v.items ≡ case.now) }
     ensures cancelled { IfErr result (IsCancelledBy (A.may_cancel answers.old)) }
+    ensures ids { IsErrOf result Ids → A.may_lack_ids answers.old }
 {
     let mut sets = Vec::new(alloc);
     for version_set in case {
@@ -80,49 +80,13 @@ fn add_case<A: PackageSource>(
     ensures built { OnOk result (IsBuilt encoding.new) }
     // After a refusal.
     ensures cancelled { IfErr result (IsCancelledBy (A.may_cancel answers.old)) }
+    ensures ids { IsErrOf result Ids
+        → StopsNeed A.SolvableId.eq A.PackageSource answers.old parent need encoding.new }
 {
     let offered = answers.candidates(need.requirement)?;
     encoding.require_case(alloc, parent, need, sets, offered.as_slice())?;
     add_available(answers, encoding, offered.as_slice())?;
     Ok(())
-}
-
-/// Whether the parent is a solvable outside one of these version sets: then the case can't hold
-/// beside it.
-fn is_void<N, S: Copy + Exact + Hash + Debug>(
-    sets: &[ConditionSet<N, S>],
-    parent: Option<S>,
-) -> bool
-    ensures { result ≡ true
-        → (s : S)
-        × (c : Set N S)
-        × (parent ≡ Some s)
-        × Contains sets.now c
-        × Contains (offered_solvables c.outside.items) s }
-{
-    match parent {
-        None => false,
-        Some(solvable) => {
-            for set in sets {
-                if is_offered(set.outside.as_slice(), solvable) {
-                    return true;
-                }
-            }
-            false
-        }
-    }
-}
-
-/// Whether a solvable is one of these.
-fn is_offered<N, S: Copy + Exact + Hash + Debug>(offered: &[Offered<N, S>], solvable: S) -> bool
-    ensures { result ≡ true → Contains (offered_solvables offered.now) solvable }
-{
-    for one in offered {
-        if one.solvable == solvable {
-            return true;
-        }
-    }
-    false
 }
 
 /// Encodes a case of a parent's requirement, and the locks and exclusions of its candidates. One
@@ -147,9 +111,11 @@ fn encode_case<A: PackageSource>(
     ensures built { OnOk result (IsBuilt encoding.new) }
     // After a refusal.
     ensures cancelled { IfErr result (IsCancelledBy (A.may_cancel answers.old)) }
+    ensures ids { IsErrOf result Ids
+        → StopsNeed A.SolvableId.eq A.PackageSource answers.old parent need encoding.new }
 {
     let sets = sets_of(alloc, answers, case)?;
-    if is_void(sets.as_slice(), parent) {
+    if keeps_out(sets.as_slice(), parent) {
         return Ok(());
     }
     guard(alloc, answers, encoding, need.requirement)?;
@@ -177,6 +143,8 @@ fn fire<A: PackageSource>(
     ensures built { OnOk result (IsBuilt encoding.new) }
     // After a refusal.
     ensures cancelled { IfErr result (IsCancelledBy (A.may_cancel answers.old)) }
+    ensures ids { IsErrOf result Ids
+        → StopsInOrder A.SolvableId.eq A.PackageSource answers.old encoding.old encoding.new }
 {
     let DeferredRequirement { parent, need, case } = encoding.waiting(alloc, index)?;
     encode_case(alloc, answers, encoding, parent, need, case.as_slice())?;
@@ -205,6 +173,8 @@ fn fire_if_due<A: PackageSource>(
     ensures built { OnOk result (IsBuilt encoding.new) }
     // After a refusal.
     ensures cancelled { IfErr result (IsCancelledBy (A.may_cancel answers.old)) }
+    ensures ids { IsErrOf result Ids
+        → StopsInOrder A.SolvableId.eq A.PackageSource answers.old encoding.old encoding.new }
 {
     if !encoding.is_due(index) {
         return Ok(false);
@@ -233,6 +203,8 @@ pub fn fire_cases<A: PackageSource>(
     ensures built { OnOk result (IsBuilt encoding.new) }
     // After a refusal.
     ensures cancelled { IfErr result (IsCancelledBy (A.may_cancel answers.old)) }
+    ensures ids { IsErrOf result Ids
+        → StopsInOrder A.SolvableId.eq A.PackageSource answers.old encoding.old encoding.new }
 {
     let mut has_fired = false;
     for index in 0..encoding.deferred.len() {
@@ -263,6 +235,8 @@ pub fn fire_each<A: PackageSource>(
     ensures built { OnOk result (IsBuilt encoding.new) }
     // After a refusal.
     ensures cancelled { IfErr result (IsCancelledBy (A.may_cancel answers.old)) }
+    ensures ids { IsErrOf result Ids
+        → StopsInOrder A.SolvableId.eq A.PackageSource answers.old encoding.old encoding.new }
 {
     let mut has_fired = false;
     for place in places {
@@ -290,6 +264,8 @@ pub(crate) fn fire_from<A: PackageSource>(
     ensures built { OnOk result (IsBuilt encoding.new) }
     // After a refusal.
     ensures cancelled { IfErr result (IsCancelledBy (A.may_cancel answers.old)) }
+    ensures ids { IsErrOf result Ids
+        → StopsInOrder A.SolvableId.eq A.PackageSource answers.old encoding.old encoding.new }
 {
     for index in first..encoding.deferred.len() {
         fire_if_due(alloc, answers, encoding, index)?;

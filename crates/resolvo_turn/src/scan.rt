@@ -1,5 +1,8 @@
-//! How far a turn has scanned the trail: a round scans what is new. No contract depends on it,
-//! since before a turn ends all is scanned.
+//! How far a turn has scanned the trail: a round scans what is new. No contract depends on
+//! what it finds, since before a turn ends all is scanned.
+ghost use Rattle.std.specs.Prelude.{IsOkUnless};
+ghost use Rattle.resolvo_pool_core.specs.declared.want.Want.TheVariants.{Memory};
+
 use crate::chosen::choices_of;
 use indexmap::IndexSet;
 use resolvo_encoder::encoder::Encoder;
@@ -79,7 +82,9 @@ impl<N: Copy + Exact + Hash + Debug> Scan<N> {
         &mut self,
         alloc: Global,
         encoding: &Encoder<N, S>,
-    ) -> R<Vec<S>> {
+    ) -> R<Vec<S>>
+        ensures { IsOkUnless result Memory }
+    {
         let trail = encoding.coding.search.tracker.stack();
         let from = self.entries.min(trail.len());
         self.entries = trail.len();
@@ -87,7 +92,9 @@ impl<N: Copy + Exact + Hash + Debug> Scan<N> {
     }
 
     /// Marks the cases that name this package: they may hold.
-    pub(crate) fn touch(&mut self, name: N) -> R<()> {
+    pub(crate) fn touch(&mut self, name: N) -> R<()>
+        ensures { IsOkUnless result Memory }
+    {
         if let Some(index) = self.names.get_index_of(&name) {
             if let Some(places) = self.places.get(index) {
                 self.touched.extend_from_slice(places.as_slice())?;
@@ -97,7 +104,9 @@ impl<N: Copy + Exact + Hash + Debug> Scan<N> {
     }
 
     /// Records that the case at this place names a package.
-    fn name(&mut self, alloc: Global, name: N, place: usize) -> R<()> {
+    fn name(&mut self, alloc: Global, name: N, place: usize) -> R<()>
+        ensures { IsOkUnless result Memory }
+    {
         let (index, is_new) = self.names.insert_full(name)?;
         if is_new {
             self.places.push(Vec::new(alloc))?;
@@ -115,7 +124,9 @@ pub(crate) fn mark_all<A: PackageSource>(
     answers: &A,
     encoding: &Encoder<A::NameId, A::SolvableId>,
     scan: &mut Scan<A::NameId>,
-) -> R<()> {
+) -> R<()>
+    ensures { IsOkUnless result Memory }
+{
     list(alloc, answers, encoding, scan)?;
     scan.touched.clear();
     scan.entries = encoding.coding.search.tracker.stack().len();
@@ -129,7 +140,9 @@ pub(crate) fn find_touched<A: PackageSource>(
     answers: &A,
     encoding: &Encoder<A::NameId, A::SolvableId>,
     scan: &mut Scan<A::NameId>,
-) -> R<()> {
+) -> R<()>
+    ensures { IsOkUnless result Memory }
+{
     list(alloc, answers, encoding, scan)?;
     scan.touched.sort_unstable();
     scan.touched.dedup();
@@ -142,7 +155,9 @@ fn list<A: PackageSource>(
     answers: &A,
     encoding: &Encoder<A::NameId, A::SolvableId>,
     scan: &mut Scan<A::NameId>,
-) -> R<()> {
+) -> R<()>
+    ensures { IsOkUnless result Memory }
+{
     for place in scan.listed..encoding.deferred.len() {
         for conjunct in &encoding.deferred[place].conjuncts {
             scan.name(alloc, answers.set_package(conjunct.version_set()), place)?;

@@ -1,8 +1,10 @@
 //! A turn, the root's or that of a soft requirement: encode, assume the soft requirement, decide.
 //! Then encode the chosen solvables in the order of the trail, then the cases that hold, until
 //! nothing is new.
-ghost use Rattle.std.specs.Prelude.{◌≡◌, true, false, IfOk, IfErr, OnOk};
+ghost use Rattle.std.specs.Prelude.{◌≡◌, true, false, IfOk, IfErr, OnOk, IsErrOf, IsOkUnless};
 ghost use Rattle.resolvo_pool.specs.Cached.{IsCancelledBy};
+ghost use Rattle.resolvo_pool.specs.declared.cache.CacheFault.TheVariants.{Ids};
+ghost use Rattle.resolvo_pool_core.specs.declared.want.Want.TheVariants.{Memory};
 ghost use Rattle.resolvo_encoder.specs.Base.{HasTurn, KeepsTurn, KeepsTurns};
 ghost use Rattle.resolvo_encoder.specs.Conditions.{AreSpent};
 ghost use Rattle.resolvo_encoder.specs.Steps.{IsBuilt, AddsParent};
@@ -10,6 +12,7 @@ ghost use Rattle.resolvo_encoder.specs.Encoded.{IsWhole, StaysEncoding};
 ghost use Rattle.resolvo_encoder.specs.Progress.{GoesOn};
 ghost use Rattle.resolvo_turn.specs.Encoder.{AddsNeeds, AddsParents, AddsAll, StaysInOrder, StaysInOrderOf};
 ghost use Rattle.resolvo_turn.specs.Turn.{AddsChosen, AreTakenParents, FiresMore, IsBegunBy, IsDecisionOf, IsRooted, IsRound, IsTurn, FindsMore, FindsNone};
+ghost use Rattle.resolvo_turn.specs.LacksIds.{StopsInOrder, StopsInOrderOf};
 
 use crate::cdcl::{Activity, decide};
 use crate::chosen::chosen_in_turn;
@@ -39,7 +42,8 @@ fn add_chosen<N: Copy + Exact + Hash + Debug, S: Copy + Exact + Hash + Debug>(
 ) -> R<()>
     requires built { IsBuilt encoding.old }
     requires taken { AreTakenParents encoding.old }
-    ensures { OnOk result (AddsChosen encoding.old encoding.new) }
+    ensures chosen { OnOk result (AddsChosen encoding.old encoding.new) }
+    ensures refusal { IsOkUnless result Memory }
 {
     let chosen = chosen_in_turn(alloc, encoding)?;
     for solvable in &chosen {
@@ -100,6 +104,9 @@ fn encode<A: PackageSource>(
     ensures built { OnOk result (IsBuilt encoding.new) }
     // After a refusal.
     ensures cancelled { IfErr result (IsCancelledBy (A.may_cancel answers.old)) }
+    ensures ids { IsErrOf result Ids
+        → StopsInOrderOf A.SolvableId.eq A.PackageSource answers.old
+        requirements.now constraints.now encoding.old encoding.new }
 {
     let before = encoding.coding.search.clauses.len();
     encode_parents(alloc, answers, encoding, requirements, constraints)?;
@@ -128,6 +135,8 @@ fn fire<A: PackageSource>(
     ensures built { OnOk result (IsBuilt encoding.new) }
     // After a refusal.
     ensures cancelled { IfErr result (IsCancelledBy (A.may_cancel answers.old)) }
+    ensures ids { IsErrOf result Ids
+        → StopsInOrder A.SolvableId.eq A.PackageSource answers.old encoding.old encoding.new }
 {
     let before = encoding.coding.search.clauses.len();
     if !fire_cases(alloc, answers, encoding)? {
@@ -153,6 +162,8 @@ fn choose_first<N: Copy + Exact + Hash + Debug, S: Copy + Exact + Hash + Debug>(
     ensures turn { OnOk result (KeepsTurn soft encoding.old encoding.new) }
     ensures begun { IfOk result (IsBegunBy soft encoding.new) }
     ensures built { OnOk result (IsBuilt encoding.new) }
+    // After a refusal.
+    ensures refusal { IsOkUnless result Memory }
 {
     match soft {
         None => Ok(None),
@@ -181,6 +192,8 @@ fn choose_and_decide<A: PackageSource, C: ScoreMap<A::NameId>>(
     ensures built { OnOk result (IsBuilt encoding.new) }
     // After a refusal.
     ensures cancelled { IfErr result (IsCancelledBy (A.may_cancel answers.now)) }
+    ensures ids { IsErrOf result Ids
+        → StopsInOrder A.SolvableId.eq A.PackageSource answers.now encoding.old encoding.new }
 {
     if let Some(refusal) = choose_first(alloc, encoding, soft)? {
         return Ok(Some(refusal));
@@ -215,6 +228,9 @@ fn encode_and_decide<A: PackageSource, C: ScoreMap<A::NameId>>(
     ensures built { OnOk result (IsBuilt encoding.new) }
     // After a refusal.
     ensures cancelled { IfErr result (IsCancelledBy (A.may_cancel answers.old)) }
+    ensures ids { IsErrOf result Ids
+        → StopsInOrderOf A.SolvableId.eq A.PackageSource answers.old
+        input.now.requirements.now input.now.constraints.now encoding.old encoding.new }
 {
     encode(
         alloc,
@@ -237,7 +253,8 @@ fn add_new_chosen<A: PackageSource>(
     encoding: &mut Encoder<A::NameId, A::SolvableId>,
     scan: &mut Scan<A::NameId>,
 ) -> R<()>
-    ensures { OnOk result (AddsParent encoding.old encoding.new) }
+    ensures added { OnOk result (AddsParent encoding.old encoding.new) }
+    ensures refusal { IsOkUnless result Memory }
 {
     let chosen = scan.new_chosen(alloc, encoding)?;
     for solvable in &chosen {
@@ -268,6 +285,8 @@ fn fire_touched<A: PackageSource>(
     ensures built { OnOk result (IsBuilt encoding.new) }
     // After a refusal.
     ensures cancelled { IfErr result (IsCancelledBy (A.may_cancel answers.old)) }
+    ensures ids { IsErrOf result Ids
+        → StopsInOrder A.SolvableId.eq A.PackageSource answers.old encoding.old encoding.new }
 {
     if !scan.is_begun() {
         return Ok(false);
@@ -303,6 +322,8 @@ fn scan_new<A: PackageSource>(
     ensures built { OnOk result (IsBuilt encoding.new) }
     // After a refusal.
     ensures cancelled { IfErr result (IsCancelledBy (A.may_cancel answers.old)) }
+    ensures ids { IsErrOf result Ids
+        → StopsInOrder A.SolvableId.eq A.PackageSource answers.old encoding.old encoding.new }
 {
     add_new_chosen(alloc, answers, encoding, scan)?;
     if encoding.next_parent().is_some() {
@@ -334,6 +355,8 @@ fn scan_all<A: PackageSource>(
     ensures built { OnOk result (IsBuilt encoding.new) }
     // After a refusal.
     ensures cancelled { IfErr result (IsCancelledBy (A.may_cancel answers.old)) }
+    ensures ids { IsErrOf result Ids
+        → StopsInOrder A.SolvableId.eq A.PackageSource answers.old encoding.old encoding.new }
 {
     add_chosen(alloc, encoding)?;
     if encoding.next_parent().is_some() {
@@ -381,6 +404,9 @@ fn run_round<A: PackageSource, C: ScoreMap<A::NameId>>(
     ensures built { OnOk result (IsBuilt encoding.new) }
     // After a refusal.
     ensures cancelled { IfErr result (IsCancelledBy (A.may_cancel answers.old)) }
+    ensures ids { IsErrOf result Ids
+        → StopsInOrderOf A.SolvableId.eq A.PackageSource answers.old
+        input.now.requirements.now input.now.constraints.now encoding.old encoding.new }
 {
     let decided = encode_and_decide(alloc, answers, encoding, scores, input, soft, scan)?;
     if let Some(refusal) = decided {
@@ -423,6 +449,9 @@ pub fn run_turn<A: PackageSource, C: ScoreMap<A::NameId>>(
     ensures built { OnOk result (IsBuilt encoding.new) }
     // After a refusal.
     ensures cancelled { IfErr result (IsCancelledBy (A.may_cancel answers.old)) }
+    ensures ids { IsErrOf result Ids
+        → StopsInOrderOf A.SolvableId.eq A.PackageSource answers.old
+        input.now.requirements.now input.now.constraints.now encoding.old encoding.new }
 {
     let mut scan = Scan::begin(alloc, encoding.coding.search.tracker.stack().len());
     loop {

@@ -24,7 +24,7 @@ loop-requirement-preserved g c =
     let same = g.A.SolvableId.PartialEq.eq in
     let before = c.loop-requirement.invariant in
     let offered = c.in_ok-offered in
-    let right = right_from same g.A.PackageSource.packages g.A.PackageSource.orders c.args.answers.now c.loop-requirement.answers _ offered.offered.items c.in_ok-solvables_of.field-0.items before.same (c.in_ok-solvables_of.ensures ∙ ap offered_solvables c.as_slice.ensures.value) offered.ensures.offered offered.ensures.ordered in
+    let right = right_from same g.A.PackageSource.packages g.A.PackageSource.orders c.args.answers.now c.loop-requirement.answers _ offered.offered.items c.in_ok-solvables_of.field-0.items before.same (c.in_ok-solvables_of.ensures.solvables ∙ ap offered_solvables c.as_slice.ensures.value) offered.ensures.offered offered.ensures.ordered in
     record {
       same = offered.ensures.same ∙ before.same;
       recorded = offered_more c.deref-requirement-items.result.now c.loop-requirement.requirement-index _ c.loop-requirement.offers c.offer.new.self _ c.loop-requirement-test.true c.in_ok-offer.ensures.offered before.recorded;

@@ -1,6 +1,8 @@
 use Rattle.resolvo_encoder.proofs.Bases.{first_same, first_then}
 use Rattle.resolvo_encoder.proofs.StayLemmas.{goes_none, goes_then}
 use Rattle.resolvo_turn.proofs.AddLemmas.{goes_in_order}
+use Rattle.std.proofs.Common.{rules}
+use Rattle.resolvo_turn.specs.LacksIds.{LacksIds}
 use Rattle.resolvo_turn.proofs.cdcl.decide.Goals as goal
 
 pub loop-encoding-init : goal.loop-encoding-init
@@ -42,3 +44,9 @@ returns-in-Done-clause-first g c = first_then c.args.encoding.now c.loop-encodin
 
 pub returns-in-Refused-clause-first : goal.returns-in-Refused-clause-first
 returns-in-Refused-clause-first g c = first_then c.args.encoding.now c.loop-encoding.encoding c.step.new.self c.loop-encoding.invariant.goes_on.grows.base_level c.loop-encoding.invariant.first c.in_ok-step.ensures.first
+
+pub returns-in_err-check-clause-ids : goal.returns-in_err-check-clause-ids
+returns-in_err-check-clause-ids g c = search (rules, LacksIds.packages)
+
+pub returns-in_err-step-clause-ids : goal.returns-in_err-step-clause-ids
+returns-in_err-step-clause-ids g c = search (rules, LacksIds.coding)

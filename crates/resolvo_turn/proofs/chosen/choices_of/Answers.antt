@@ -21,5 +21,5 @@ loop-entry-preserved g c =
           ap (λ (v : Vec g.row.S.Denot Global). v.items) w.chosen-is ∙ choices_skip atoms es i d c.loop-entry.chosen.items c.loop-entry-test.true (denies_choice atoms (get_or es i d) w.if-entry.false) c.loop-entry.invariant
     ]
 
-pub returns : goal.returns
-returns g c = c.loop-entry.invariant ∙ ap (choices c.args.coding.now.atoms.keys) (take_all c.loop-entry.entry-index c.args.entries.now c.loop-entry-test.false)
+pub returns-clause-choices : goal.returns-clause-choices
+returns-clause-choices g c = c.loop-entry.invariant ∙ ap (choices c.args.coding.now.atoms.keys) (take_all c.loop-entry.entry-index c.args.entries.now c.loop-entry-test.false)

@@ -10,6 +10,6 @@ pub returns-clause-encoded : goal.returns-clause-encoded
 returns-clause-encoded g c = λ root e listed.
     let p = g.A.PackageSource.packages c.args.answers.now in
     let under : cases_for g.A.SolvableId.PartialEq.eq p c.args.need ≡ cases p.condition_of c.args.condition = ap (cases_under p.condition_of) c.requires.condition in
-    let all : cases_of c.as_slice.result.now ≡ cases_for g.A.SolvableId.PartialEq.eq p c.args.need = ap cases_of c.as_slice.ensures.value ∙ c.in_ok-cases.ensures ∙ sym under in
+    let all : cases_of c.as_slice.result.now ≡ cases_for g.A.SolvableId.PartialEq.eq p c.args.need = ap cases_of c.as_slice.ensures.value ∙ c.in_ok-cases.ensures.cases ∙ sym under in
     let (last, waits) = c.in_ok-defer_cases.ensures.encoded root e listed (λ case h. subst (λ (xs : List (List VersionSetId)). Contains xs case) all h) in
     (last, subst (λ (xs : List (List VersionSetId)). AreDeferred c.defer_cases.new.encoding c.args.parent c.args.need xs) all waits)

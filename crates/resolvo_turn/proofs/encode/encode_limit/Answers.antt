@@ -1,4 +1,4 @@
-use Rattle.std.proofs.Common.{subst}
+use Rattle.std.proofs.Common.{subst, rules}
 use Rattle.std.specs.Prelude.{Contains}
 use Rattle.resolvo_pool_core.specs.declared.requirement.Requirement.TheVariants.{Single}
 use Rattle.resolvo_pool_core.specs.RuleKeeping.{Rules, rules_for}
@@ -7,6 +7,7 @@ use Rattle.resolvo_encoder.specs.Encoded.{IsLimitEncoded, rules_of}
 use Rattle.resolvo_encoder.proofs.RequireLemmas.{guard_grows}
 use Rattle.resolvo_turn.specs.Encoder.{IsInOrder}
 use Rattle.resolvo_turn.proofs.AddLemmas.{needs_then}
+use Rattle.resolvo_turn.specs.LacksIds.{StopsAnyhow}
 use Rattle.resolvo_turn.proofs.encode.encode_limit.Goals as goal
 
 pub returns-clause-encoded : goal.returns-clause-encoded
@@ -24,3 +25,6 @@ returns-clause-encoded g c = λ root e limited.
 
 pub returns-clause-kept : goal.returns-clause-kept
 returns-clause-kept g c = needs_then c.args.encoding.now c.guard.new.encoding c.limit.new.encoding c.in_ok-guard.ensures.kept c.in_ok-limit.ensures.kept
+
+pub returns-in_err-limit-clause-ids : goal.returns-in_err-limit-clause-ids
+returns-in_err-limit-clause-ids g c = λ is. subst (λ (a : g.row.A.Denot). StopsAnyhow g.A.SolvableId.PartialEq.eq g.A.PackageSource a c.limit.new.encoding) c.in_ok-guard.ensures.same (search (rules, is))

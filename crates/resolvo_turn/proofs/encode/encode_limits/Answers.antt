@@ -1,4 +1,4 @@
-use Rattle.std.proofs.Common.{List, slice_index_or, take, sym, ◌∙◌, subst, refl}
+use Rattle.std.proofs.Common.{List, slice_index_or, take, sym, ◌∙◌, subst, refl, rules}
 use Rattle.std.specs.Prelude.{Contains}
 use Rattle.std.proofs.lemmas.List.{take_more, take_all}
 use Rattle.std.proofs.lemmas.List.Elements.{Contains-get_or}
@@ -10,6 +10,7 @@ use Rattle.resolvo_sat.specs.Encoding.{IsExact}
 use Rattle.resolvo_encoder.specs.Encoded.{IsGuarded, IsLimitEncoded, rules_of}
 use Rattle.resolvo_turn.specs.Encoder.{IsInOrder}
 use Rattle.resolvo_turn.proofs.AddLemmas.{needs_none, needs_then, more_limited}
+use Rattle.resolvo_turn.specs.LacksIds.{StopsAnyhow}
 use Rattle.resolvo_turn.proofs.encode.encode_limits.Goals as goal
 
 pub loop-version_set-init : goal.loop-version_set-init
@@ -43,3 +44,6 @@ pub returns-clause-encoded : goal.returns-clause-encoded
 returns-clause-encoded g c = λ root e limited.
     let (last, done) = c.loop-version_set.invariant.encoded root e limited in
     (last, λ v h. done v (subst (λ (xs : List VersionSetId). Contains xs v) (sym (take_all c.loop-version_set.version_set-index c.args.constraints.now c.loop-version_set-test.false)) h))
+
+pub returns-in_err-encode_limit-clause-ids : goal.returns-in_err-encode_limit-clause-ids
+returns-in_err-encode_limit-clause-ids g c = λ is. subst (λ (a : g.row.A.Denot). StopsAnyhow g.A.SolvableId.PartialEq.eq g.A.PackageSource a c.encode_limit.new.encoding) c.loop-version_set.invariant.same (search (rules, is))

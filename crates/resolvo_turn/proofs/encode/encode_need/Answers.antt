@@ -1,4 +1,4 @@
-use Rattle.std.proofs.Common.{inl, inr, Option, List, [], sym, subst}
+use Rattle.std.proofs.Common.{inl, inr, Option, List, [], sym, subst, rules}
 use Rattle.std.specs.Prelude.{Contains}
 use Rattle.resolvo_pool_core.specs.declared.id.ConditionId.{ConditionId}
 use Rattle.resolvo_pool_core.specs.declared.id.VersionSetId.{VersionSetId}
@@ -10,6 +10,7 @@ use Rattle.resolvo_encoder.specs.Encoded.{rules_of}
 use Rattle.resolvo_encoder.proofs.RequireLemmas.{deferred_grows}
 use Rattle.resolvo_turn.specs.Encoder.{IsInOrder}
 use Rattle.resolvo_turn.proofs.AddLemmas.{needs_then}
+use Rattle.resolvo_turn.specs.LacksIds.{LacksIds, StopsNeed, StopsInOrder}
 use Rattle.resolvo_turn.proofs.encode.encode_need.Goals as goal
 
 pub returns-in_ok-encode_plain_need-in-None-clause-encoded : goal.returns-in_ok-encode_plain_need-in-None-clause-encoded
@@ -36,3 +37,16 @@ returns-in_ok-fire_from-in-Some-clause-encoded g c = λ root e listed.
 
 pub returns-in_ok-fire_from-in-Some-clause-kept : goal.returns-in_ok-fire_from-in-Some-clause-kept
 returns-in_ok-fire_from-in-Some-clause-kept g c = needs_then c.args.encoding.now c.defer_need.new.encoding c.fire_from.new.encoding c.in_ok-defer_need-in-Some.ensures.kept c.in_ok-fire_from-in-Some.ensures.kept
+
+pub returns-in_err-encode_plain_need-in-None-clause-ids : goal.returns-in_err-encode_plain_need-in-None-clause-ids
+returns-in_err-encode_plain_need-in-None-clause-ids g c = λ is root e listed.
+    let stops : StopsNeed g.A.SolvableId.PartialEq.eq g.A.PackageSource c.args.answers.now c.args.parent c.args.need c.encode_plain_need.new.encoding = search (rules, is) in
+    stops root listed
+
+pub returns-in_err-defer_need-in-Some-clause-ids : goal.returns-in_err-defer_need-in-Some-clause-ids
+returns-in_err-defer_need-in-Some-clause-ids g c = search (rules, LacksIds.packages)
+
+pub returns-in_err-fire_from-in-Some-clause-ids : goal.returns-in_err-fire_from-in-Some-clause-ids
+returns-in_err-fire_from-in-Some-clause-ids g c = λ is root e listed.
+    let stops = subst (λ (a : g.row.A.Denot). StopsInOrder g.A.SolvableId.PartialEq.eq g.A.PackageSource a c.defer_need.new.encoding c.fire_from.new.encoding) c.in_ok-defer_need-in-Some.ensures.same (search (rules, is)) in
+    stops root (c.in_ok-defer_need-in-Some.ensures.encoded root e listed).0

@@ -1,4 +1,4 @@
-use Rattle.std.proofs.Common.{List, None, slice_index_or, take, sym, ◌∙◌, subst, refl}
+use Rattle.std.proofs.Common.{List, None, slice_index_or, take, sym, ◌∙◌, subst, refl, rules}
 use Rattle.std.specs.Prelude.{Contains}
 use Rattle.std.proofs.lemmas.List.{take_more, take_all}
 use Rattle.std.proofs.lemmas.List.Elements.{Contains-get_or}
@@ -9,6 +9,7 @@ use Rattle.resolvo_sat.proofs.Lists.{contains_none}
 use Rattle.resolvo_sat.specs.Encoding.{IsExact}
 use Rattle.resolvo_turn.specs.Encoder.{IsInOrder, IsConditionalEncoded}
 use Rattle.resolvo_turn.proofs.AddLemmas.{needs_none, needs_then, more_encoded}
+use Rattle.resolvo_turn.specs.LacksIds.{StopsOne}
 use Rattle.resolvo_turn.proofs.encode.encode_needs.Goals as goal
 
 pub loop-need-init : goal.loop-need-init
@@ -41,3 +42,10 @@ pub returns-clause-encoded : goal.returns-clause-encoded
 returns-clause-encoded g c = λ root e needs.
     let (last, done) = c.loop-need.invariant.encoded root e needs in
     (last, λ need h. done need (subst (λ (xs : List ConditionalRequirement). Contains xs need) (sym (take_all c.loop-need.need-index c.args.needs.now c.loop-need-test.false)) h))
+
+pub returns-in_err-encode_need-clause-ids : goal.returns-in_err-encode_need-clause-ids
+returns-in_err-encode_need-clause-ids g c = λ is root e needs.
+    let blank : ConditionalRequirement = record { condition = None; requirement = Single (record { 0 = 0 }) } in
+    let item : ConditionalRequirement = slice_index_or c.args.needs.now c.loop-need.need-index blank in
+    let stops = subst (λ (a : g.row.A.Denot). StopsOne g.A.SolvableId.PartialEq.eq g.A.PackageSource a c.args.parent item c.loop-need.encoding c.encode_need.new.encoding) c.loop-need.invariant.same (search (rules, is)) in
+    stops root (c.loop-need.invariant.encoded root e needs).0 (needs item (Contains-get_or c.args.needs.now c.loop-need.need-index blank c.loop-need-test.true))

@@ -1,4 +1,4 @@
-use Rattle.std.proofs.Common.{List, sym, subst}
+use Rattle.std.proofs.Common.{List, sym, subst, rules}
 use Rattle.std.specs.Prelude.{Contains}
 use Rattle.std.proofs.lemmas.Bool.{both_ways}
 use Rattle.resolvo_pool_core.specs.declared.id.VersionSetId.{VersionSetId}
@@ -9,6 +9,7 @@ use Rattle.resolvo_sat.specs.Encoding.{IsExact}
 use Rattle.resolvo_encoder.specs.Encoded.{IsGuarded, IsLimitEncoded, rules_of}
 use Rattle.resolvo_turn.specs.Encoder.{IsInOrder}
 use Rattle.resolvo_turn.proofs.AddLemmas.{needs_then, case_stays}
+use Rattle.resolvo_turn.specs.LacksIds.{StopsAll, StopsAnyhow}
 use Rattle.resolvo_turn.proofs.encode.encode_rules.Goals as goal
 
 pub returns-clause-encoded : goal.returns-clause-encoded
@@ -35,3 +36,13 @@ returns-clause-encoded g c = λ root are e.
 
 pub returns-clause-kept : goal.returns-clause-kept
 returns-clause-kept g c = needs_then c.args.encoding.now c.encode_needs.new.encoding c.encode_limits.new.encoding c.in_ok-encode_needs.ensures.kept c.in_ok-encode_limits.ensures.kept
+
+pub returns-in_err-encode_needs-clause-ids : goal.returns-in_err-encode_needs-clause-ids
+returns-in_err-encode_needs-clause-ids g c = λ is root are e.
+    let stops : StopsAll g.A.SolvableId.PartialEq.eq g.A.PackageSource c.args.answers.now c.args.parent c.args.requirements.now c.args.encoding.now c.encode_needs.new.encoding = search (rules, is) in
+    stops root e (λ need h. subst (λ (xs : List ConditionalRequirement). Contains xs need) (sym are.requirements) h)
+
+pub returns-in_err-encode_limits-clause-ids : goal.returns-in_err-encode_limits-clause-ids
+returns-in_err-encode_limits-clause-ids g c = λ is root are e.
+    let stops = subst (λ (a : g.row.A.Denot). StopsAnyhow g.A.SolvableId.PartialEq.eq g.A.PackageSource a c.encode_limits.new.encoding) c.in_ok-encode_needs.ensures.same (search (rules, is)) in
+    stops root

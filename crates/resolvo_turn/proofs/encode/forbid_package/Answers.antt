@@ -1,8 +1,9 @@
-use Rattle.std.proofs.Common.{List, subst, sym}
+use Rattle.std.proofs.Common.{List, subst, sym, rules}
 use Rattle.resolvo_packages.specs.declared.package_source.ForbiddenSolvable.{ForbiddenSolvable}
 use Rattle.resolvo_packages.specs.Forbidden.{AreForbidden}
 use Rattle.resolvo_encoder.proofs.PickLemmas.{ordered_stays}
 use Rattle.resolvo_turn.proofs.AddLemmas.{needs_none, extends_needs}
+use Rattle.resolvo_turn.specs.LacksIds.{LacksIds}
 use Rattle.resolvo_turn.proofs.encode.forbid_package.Goals as goal
 
 pub returns-then-is_encoded-clause-encoded : goal.returns-then-is_encoded-clause-encoded
@@ -22,3 +23,9 @@ returns-clause-encoded g c = λ root e.
 
 pub returns-clause-kept : goal.returns-clause-kept
 returns-clause-kept g c = extends_needs c.args.encoding.now c.forbid.new.self c.in_ok-forbid.ensures.kept
+
+pub returns-in_err-forbidden-clause-ids : goal.returns-in_err-forbidden-clause-ids
+returns-in_err-forbidden-clause-ids g c = search (rules, LacksIds.packages)
+
+pub returns-in_err-forbid-clause-ids : goal.returns-in_err-forbid-clause-ids
+returns-in_err-forbid-clause-ids g c = search (rules, LacksIds.coding)

@@ -1,4 +1,4 @@
-use Rattle.std.proofs.Common.{◌≡◌, ◌+◌, ◌∷◌, ◌++◌, [], inl, inr, List, take, sym, ◌∙◌, ap, subst, refl}
+use Rattle.std.proofs.Common.{◌≡◌, ◌+◌, ◌∷◌, ◌++◌, [], inl, inr, List, take, sym, ◌∙◌, ap, subst, refl, rules}
 use Rattle.std.specs.Prelude.{Contains}
 use Rattle.std.proofs.lemmas.List.{take_more, take_all}
 use Rattle.resolvo_pool_core.specs.RuleKeeping.{Rules}
@@ -8,6 +8,7 @@ use Rattle.resolvo_state.proofs.Growth.{forbid_grows}
 use Rattle.resolvo_encoder.specs.Encoded.{rules_of}
 use Rattle.resolvo_turn.specs.Encoder.{IsInOrder}
 use Rattle.resolvo_turn.proofs.AddLemmas.{needs_none, needs_then}
+use Rattle.resolvo_turn.specs.LacksIds.{StopsAnyhow}
 use Rattle.resolvo_turn.proofs.encode.forbid_packages.Goals as goal
 
 pub loop-name-init : goal.loop-name-init
@@ -43,3 +44,6 @@ pub returns-clause-encoded : goal.returns-clause-encoded
 returns-clause-encoded g c = λ root e.
     let (last, done) = c.loop-name.invariant.encoded root e in
     (last, λ name s h forbidden. done name s (subst (λ (xs : List _). Contains xs name) (sym (take_all c.loop-name.name-index c.args.names.now c.loop-name-test.false)) h) forbidden)
+
+pub returns-in_err-forbid_package-clause-ids : goal.returns-in_err-forbid_package-clause-ids
+returns-in_err-forbid_package-clause-ids g c = λ is. subst (λ (a : g.row.A.Denot). StopsAnyhow g.A.SolvableId.PartialEq.eq g.A.PackageSource a c.forbid_package.new.encoding) c.loop-name.invariant.same (search (rules, is))

@@ -1,8 +1,9 @@
-use Rattle.std.proofs.Common.{List, subst, sym}
+use Rattle.std.proofs.Common.{List, subst, sym, rules}
 use Rattle.resolvo_packages.specs.declared.package_source.Offered.{Offered}
 use Rattle.resolvo_packages.specs.PackageSource.{AreOutside}
 use Rattle.resolvo_encoder.proofs.PickLemmas.{ordered_stays}
 use Rattle.resolvo_turn.proofs.AddLemmas.{extends_needs}
+use Rattle.resolvo_turn.specs.LacksIds.{LacksIds}
 use Rattle.resolvo_turn.proofs.encode.limit.Goals as goal
 
 pub returns-clause-encoded : goal.returns-clause-encoded
@@ -16,3 +17,9 @@ returns-clause-encoded g c = λ root e limited.
 
 pub returns-clause-kept : goal.returns-clause-kept
 returns-clause-kept g c = extends_needs c.args.encoding.now c.limit.new.self c.in_ok-limit.ensures.kept
+
+pub returns-in_err-outside-clause-ids : goal.returns-in_err-outside-clause-ids
+returns-in_err-outside-clause-ids g c = search (rules, LacksIds.packages)
+
+pub returns-in_err-limit-clause-ids : goal.returns-in_err-limit-clause-ids
+returns-in_err-limit-clause-ids g c = search (rules, LacksIds.coding)

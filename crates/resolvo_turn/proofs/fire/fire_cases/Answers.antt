@@ -1,9 +1,10 @@
-use Rattle.std.proofs.Common.{◌≡◌, inl, inr, length, refl, ◌∙◌, ap, subst, arith}
+use Rattle.std.proofs.Common.{◌≡◌, inl, inr, length, refl, ◌∙◌, ap, subst, arith, rules}
 use Rattle.resolvo_pool_core.specs.RuleKeeping.{Rules}
 use Rattle.resolvo_encoder.specs.declared.encoder.Encoder.{Encoder}
 use Rattle.resolvo_turn.specs.Encoder.{IsInOrder}
 use Rattle.resolvo_turn.proofs.AddLemmas.{needs_none, needs_then}
 use Rattle.resolvo_turn.proofs.PassLemmas.{passed_none, passed_more, IsFired}
+use Rattle.resolvo_turn.specs.LacksIds.{StopsInOrder}
 use Rattle.resolvo_turn.proofs.fire.fire_cases.Goals as goal
 use Rattle.resolvo_turn.proofs.fire.fire_cases.Goals.{then-branch, else-branch}
 
@@ -33,3 +34,8 @@ returns-clause-spent g c = λ none. (
       let whole : length c.loop-index.encoding.deferred.items ≡ length c.args.encoding.now.deferred.items = ap (λ (x : Encoder _ _). length x.deferred.items) (c.loop-index.invariant.passed.unchanged none) in
       omega (arith, below, whole, c.loop-index-test.false, c.len-index-end.ensures)),
 )
+
+pub returns-in_err-fire_if_due-clause-ids : goal.returns-in_err-fire_if_due-clause-ids
+returns-in_err-fire_if_due-clause-ids g c = λ is root e.
+    let stops = subst (λ (a : g.row.A.Denot). StopsInOrder g.A.SolvableId.PartialEq.eq g.A.PackageSource a c.loop-index.encoding c.fire_if_due.new.encoding) c.loop-index.invariant.same (search (rules, is)) in
+    stops root (c.loop-index.invariant.stays root e)

@@ -1,9 +1,10 @@
-use Rattle.std.proofs.Common.{◌≡◌, inl, inr, true, false, refl, ◌∙◌, subst}
+use Rattle.std.proofs.Common.{◌≡◌, inl, inr, true, false, refl, ◌∙◌, subst, rules}
 use Rattle.std.proofs.lemmas.Bool.{both_ways}
 use Rattle.resolvo_pool_core.specs.RuleKeeping.{Rules}
 use Rattle.resolvo_turn.specs.Encoder.{IsInOrder}
 use Rattle.resolvo_turn.proofs.AddLemmas.{needs_none, needs_then}
 use Rattle.resolvo_turn.proofs.PassLemmas.{IsFired, fires_on, stays_on}
+use Rattle.resolvo_turn.specs.LacksIds.{StopsInOrder}
 use Rattle.resolvo_turn.proofs.fire.fire_each.Goals as goal
 use Rattle.resolvo_turn.proofs.fire.fire_each.Goals.{then-branch, else-branch}
 
@@ -28,3 +29,8 @@ loop-place-preserved g c =
       unchanged = stays_on start old new c.loop-place.has_fired c.in_ok-fire_if_due.field-0 c.if-branch.has_fired before.unchanged same_if fired;
       built = c.in_ok-fire_if_due.ensures.built;
     }
+
+pub returns-in_err-fire_if_due-clause-ids : goal.returns-in_err-fire_if_due-clause-ids
+returns-in_err-fire_if_due-clause-ids g c = λ is root e.
+    let stops = subst (λ (a : g.row.A.Denot). StopsInOrder g.A.SolvableId.PartialEq.eq g.A.PackageSource a c.loop-place.encoding c.fire_if_due.new.encoding) c.loop-place.invariant.same (search (rules, is)) in
+    stops root (c.loop-place.invariant.stays root e)

@@ -1,7 +1,8 @@
-use Rattle.std.proofs.Common.{refl, ◌∙◌, subst}
+use Rattle.std.proofs.Common.{refl, ◌∙◌, subst, rules}
 use Rattle.resolvo_pool_core.specs.RuleKeeping.{Rules}
 use Rattle.resolvo_turn.specs.Encoder.{IsInOrder}
 use Rattle.resolvo_turn.proofs.AddLemmas.{needs_none, needs_then}
+use Rattle.resolvo_turn.specs.LacksIds.{StopsInOrder}
 use Rattle.resolvo_turn.proofs.fire.fire_from.Goals as goal
 
 pub loop-index-init : goal.loop-index-init
@@ -20,3 +21,8 @@ loop-index-preserved g c =
       kept = needs_then c.args.encoding.now old new before.kept c.in_ok-fire_if_due.ensures.kept;
       built = c.in_ok-fire_if_due.ensures.built;
     }
+
+pub returns-in_err-fire_if_due-clause-ids : goal.returns-in_err-fire_if_due-clause-ids
+returns-in_err-fire_if_due-clause-ids g c = λ is root e.
+    let stops = subst (λ (a : g.row.A.Denot). StopsInOrder g.A.SolvableId.PartialEq.eq g.A.PackageSource a c.loop-index.encoding c.fire_if_due.new.encoding) c.loop-index.invariant.same (search (rules, is)) in
+    stops root (c.loop-index.invariant.stays root e)

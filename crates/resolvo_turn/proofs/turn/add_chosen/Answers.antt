@@ -21,9 +21,9 @@ loop-solvable-preserved g c =
       among = λ s h. among_more c.loop-solvable.encoding c.add_parent.new.self (take i xs) item c.in_ok-add_parent.ensures.added c.loop-solvable.invariant.among c.in_ok-add_parent.ensures.present s (subst (λ (ys : List _). Contains ys s) more h);
     }
 
-pub returns : goal.returns
-returns g c =
+pub returns-clause-chosen : goal.returns-clause-chosen
+returns-clause-chosen g c =
     let xs = c.deref-solvable-items.result.now in
     let i = c.loop-solvable.solvable-index in
     turn_added c.args.encoding.now c.loop-solvable.encoding c.loop-solvable.invariant.added c.requires.taken
-    (λ s h. c.loop-solvable.invariant.among s (subst (λ (ys : List _). Contains ys s) (sym (take_all i xs c.loop-solvable-test.false)) (subst (λ (ys : List _). Contains ys s) (sym c.deref-solvable-items.ensures.value) (subst (λ (ys : List _). Contains ys s) (sym c.in_ok-chosen.ensures) h))))
+    (λ s h. c.loop-solvable.invariant.among s (subst (λ (ys : List _). Contains ys s) (sym (take_all i xs c.loop-solvable-test.false)) (subst (λ (ys : List _). Contains ys s) (sym c.deref-solvable-items.ensures.value) (subst (λ (ys : List _). Contains ys s) (sym c.in_ok-chosen.ensures.chosen) h))))

@@ -1,10 +1,11 @@
-use Rattle.std.proofs.Common.{Option, subst}
+use Rattle.std.proofs.Common.{Option, subst, rules}
 use Rattle.resolvo_sat.specs.declared.analyze.FinalConflict.{FinalConflict}
 use Rattle.resolvo_encoder.proofs.Bases.{turn_has, turn_then}
 use Rattle.resolvo_encoder.proofs.StayLemmas.{goes_then}
 use Rattle.resolvo_turn.specs.Turn.{HasSoft, IsBegunBy}
 use Rattle.resolvo_turn.proofs.AddLemmas.{goes_in_order}
 use Rattle.resolvo_turn.proofs.EndLemmas.{begun_of, decided_of, decided_turn, soft_kept}
+use Rattle.resolvo_turn.specs.LacksIds.{StopsInOrder}
 use Rattle.resolvo_turn.proofs.turn.choose_and_decide.Goals as goal
 
 pub returns-in-Some-clause-stays : goal.returns-in-Some-clause-stays
@@ -36,3 +37,10 @@ returns-clause-decided g c =
     let has : HasSoft c.args.soft c.choose_first.new.encoding = subst (λ (o : Option FinalConflict). IsBegunBy c.args.soft c.choose_first.new.encoding o) c.in_default.is c.in_ok-refusal.ensures.begun in
     let turn = turn_has c.args.soft c.args.encoding.now c.choose_first.new.encoding c.requires.turn c.in_ok-refusal.ensures.turn in
     decided_of c.args.soft c.decide.new.encoding c.in_ok-refusal-2.refusal c.in_ok-refusal-2.ensures.decided (soft_kept c.args.soft c.choose_first.new.encoding c.decide.new.encoding turn has c.in_ok-refusal-2.ensures.first)
+
+pub returns-in_err-refusal-2-clause-ids : goal.returns-in_err-refusal-2-clause-ids
+returns-in_err-refusal-2-clause-ids g c = λ is root e.
+    let stops : StopsInOrder g.A.SolvableId.PartialEq.eq g.A.PackageSource c.args.answers.now c.choose_first.new.encoding c.decide.new.encoding = search (rules, is) in
+    stops root
+    (goes_in_order g.A.SolvableId.PartialEq.eq (g.A.PackageSource.packages c.args.answers.now) (g.A.PackageSource.orders c.args.answers.now) root c.args.encoding.now c.choose_first.new.encoding c.in_ok-refusal.ensures.goes_on
+    (c.in_ok-refusal.ensures.stays (g.A.PackageSource.packages c.args.answers.now) root (g.met.A.PackageSource.lawful c.args.answers.now)) e)

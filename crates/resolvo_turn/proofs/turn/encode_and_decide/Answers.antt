@@ -1,8 +1,9 @@
-use Rattle.std.proofs.Common.{subst}
+use Rattle.std.proofs.Common.{subst, rules}
 use Rattle.resolvo_pool_core.specs.RuleKeeping.{Rules}
 use Rattle.resolvo_encoder.proofs.Bases.{turn_has, turn_then}
 use Rattle.resolvo_turn.specs.Encoder.{IsInOrder}
 use Rattle.resolvo_turn.proofs.EndLemmas.{all_goes, whole_goes}
+use Rattle.resolvo_turn.specs.LacksIds.{StopsInOrder}
 use Rattle.resolvo_turn.proofs.turn.encode_and_decide.Goals as goal
 
 pub returns-clause-stays : goal.returns-clause-stays
@@ -21,3 +22,8 @@ returns-clause-turn g c = turn_then c.args.soft c.args.encoding.now c.encode.new
 
 pub returns-clause-placed : goal.returns-clause-placed
 returns-clause-placed g c = whole_goes c.encode.new.encoding c.choose_and_decide.new.encoding c.in_ok-refusal.ensures.goes_on c.in_ok-encode.ensures.placed
+
+pub returns-in_err-refusal-clause-ids : goal.returns-in_err-refusal-clause-ids
+returns-in_err-refusal-clause-ids g c = λ is root are e.
+    let stops = subst (λ (a : g.row.A.Denot). StopsInOrder g.A.SolvableId.PartialEq.eq g.A.PackageSource a c.encode.new.encoding c.choose_and_decide.new.encoding) c.in_ok-encode.ensures.same (search (rules, is)) in
+    stops root (c.in_ok-encode.ensures.encoded root are e)

@@ -1,4 +1,4 @@
-use Rattle.std.proofs.Common.{Option, ◌∙◌, subst}
+use Rattle.std.proofs.Common.{Option, ◌∙◌, subst, rules}
 use Rattle.resolvo_sat.specs.declared.analyze.FinalConflict.{FinalConflict}
 use Rattle.resolvo_pool_core.specs.RuleKeeping.{Rules}
 use Rattle.resolvo_encoder.proofs.Bases.{turn_then}
@@ -7,6 +7,7 @@ use Rattle.resolvo_turn.specs.Turn.{IsDecisionOf}
 use Rattle.resolvo_turn.proofs.AddLemmas.{all_then, needs_parents, needs_then}
 use Rattle.resolvo_turn.proofs.EndLemmas.{chosen_then, finds_goes, finds_then, round_complete}
 use Rattle.resolvo_turn.proofs.TakenLemmas.{taken_kept}
+use Rattle.resolvo_turn.specs.LacksIds.{StopsInOrder}
 use Rattle.resolvo_turn.proofs.turn.run_round.Goals as goal
 
 -- ---- where the turn is refused
@@ -137,3 +138,19 @@ returns-else-has_more-clause-round g c =
 
 pub returns-else-has_more-clause-built : goal.returns-else-has_more-clause-built
 returns-else-has_more-clause-built g c = c.in_ok-has_more.ensures.built
+
+-- ---- where ids lack
+
+pub returns-in_err-has_new-clause-ids : goal.returns-in_err-has_new-clause-ids
+returns-in_err-has_new-clause-ids g c = λ is root are e.
+    let stops = subst (λ (a : g.row.A.Denot). StopsInOrder g.A.SolvableId.PartialEq.eq g.A.PackageSource a c.encode_and_decide.new.encoding c.scan_new.new.encoding) c.in_ok-decided.ensures.same (search (rules, is)) in
+    stops root (c.in_ok-decided.ensures.stays root are e)
+
+pub returns-in_err-has_more-clause-ids : goal.returns-in_err-has_more-clause-ids
+returns-in_err-has_more-clause-ids g c = λ is root are e.
+    let same = g.A.SolvableId.PartialEq.eq in
+    let first = c.encode_and_decide.new.encoding in
+    let old = c.scan_new.new.encoding in
+    let one = subst (λ (a : g.row.A.Denot). (root : Rules) → IsInOrder same (g.A.PackageSource.packages a) (g.A.PackageSource.orders a) root first → IsInOrder same (g.A.PackageSource.packages a) (g.A.PackageSource.orders a) root old) c.in_ok-decided.ensures.same c.in_ok-has_new.ensures.stays in
+    let stops = subst (λ (a : g.row.A.Denot). StopsInOrder same g.A.PackageSource a old c.scan_all.new.encoding) (c.in_ok-has_new.ensures.same ∙ c.in_ok-decided.ensures.same) (search (rules, is)) in
+    stops root (one root (c.in_ok-decided.ensures.stays root are e))

@@ -1,4 +1,4 @@
-use Rattle.std.proofs.Common.{refl, ◌∙◌, subst}
+use Rattle.std.proofs.Common.{refl, ◌∙◌, subst, rules}
 use Rattle.resolvo_pool_core.specs.RuleKeeping.{Rules}
 use Rattle.resolvo_encoder.proofs.Bases.{turn_has, turn_same, turn_then}
 use Rattle.resolvo_turn.specs.Encoder.{IsInOrder, IsRoot}
@@ -7,6 +7,7 @@ use Rattle.resolvo_turn.specs.Turn.{IsRound}
 use Rattle.resolvo_turn.proofs.AddLemmas.{all_none, all_then}
 use Rattle.resolvo_turn.proofs.EndLemmas.{fewer_left, still_rooted}
 use Rattle.resolvo_turn.proofs.TakenLemmas.{taken_kept}
+use Rattle.resolvo_turn.specs.LacksIds.{StopsInOrderOf}
 use Rattle.resolvo_turn.proofs.turn.run_turn.Goals as goal
 
 pub loop-scan-init : goal.loop-scan-init
@@ -79,3 +80,8 @@ returns-in-Refused-clause-turn g c = turn_then c.args.soft c.args.encoding.now c
 
 pub run_round-requires-clause-turn : goal.run_round-requires-clause-turn
 run_round-requires-clause-turn g c = turn_has c.args.soft c.args.encoding.now c.loop-scan.encoding c.requires.turn c.loop-scan.invariant.turn
+
+pub returns-in_err-run_round-clause-ids : goal.returns-in_err-run_round-clause-ids
+returns-in_err-run_round-clause-ids g c = λ is root are e.
+    let stops = subst (λ (a : g.row.A.Denot). StopsInOrderOf g.A.SolvableId.PartialEq.eq g.A.PackageSource a c.args.input.now.requirements.now c.args.input.now.constraints.now c.loop-scan.encoding c.run_round.new.encoding) c.loop-scan.invariant.same (search (rules, is)) in
+    stops root are (c.loop-scan.invariant.stays root are e)

@@ -21,5 +21,5 @@ loop-name-preserved g c =
     subst (λ (xs : List _). CoversAll g.S.PartialEq.eq xs c.args.self.now c.track_at_least_one.new.self) (sym more)
     (covers_more g.S.PartialEq.eq exact (take c.loop-name.name-index c.args.names.now) c.name-item.result c.args.self.now c.loop-name.self c.track_at_least_one.new.self c.loop-name.invariant c.in_ok-track_at_least_one.ensures.at_least_one)
 
-pub returns : goal.returns
-returns g c = subst (λ (xs : List _). CoversAll g.S.PartialEq.eq xs c.args.self.now c.loop-name.self) (take_all c.loop-name.name-index c.args.names.now c.loop-name-test.false) c.loop-name.invariant
+pub returns-clause-covered : goal.returns-clause-covered
+returns-clause-covered g c = subst (λ (xs : List _). CoversAll g.S.PartialEq.eq xs c.args.self.now c.loop-name.self) (take_all c.loop-name.name-index c.args.names.now c.loop-name-test.false) c.loop-name.invariant

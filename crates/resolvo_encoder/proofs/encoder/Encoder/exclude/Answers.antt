@@ -2,5 +2,5 @@ use Rattle.std.proofs.Common.{refl}
 use Rattle.resolvo_sat.specs.Encoding.{ForbidReason}
 use Rattle.resolvo_encoder.proofs.encoder.Encoder.exclude.Goals as goal
 
-pub returns : goal.returns
-returns g c = c.in_ok-deny.ensures.encodes (ForbidReason.word c.args.reason) refl
+pub returns-clause-encodes : goal.returns-clause-encodes
+returns-clause-encodes g c = c.in_ok-deny.ensures.encodes (ForbidReason.word c.args.reason) refl

@@ -28,7 +28,7 @@ loop-one-preserved g c =
     let more : take (c.loop-one.one-index + 1) c.args.list.now ≡ take c.loop-one.one-index c.args.list.now ++ c.one-item.result ∷ [] =
     take_more c.args.list.now c.loop-one.one-index c.one-item.result c.loop-one-test.true ∙ ap (λ (x : Offered _ _). take c.loop-one.one-index c.args.list.now ++ x ∷ []) (sym c.one-item.is) in
     subst (λ (xs : List (Offered _ _)). PlacesAll g.S.PartialEq.eq xs c.args.self.now c.place_one.new.self) (sym more)
-    (places_then g.S.PartialEq.eq exact (take c.loop-one.one-index c.args.list.now) (c.one-item.result ∷ []) c.args.self.now c.loop-one.self c.place_one.new.self c.loop-one.invariant c.in_ok-place_one.ensures)
+    (places_then g.S.PartialEq.eq exact (take c.loop-one.one-index c.args.list.now) (c.one-item.result ∷ []) c.args.self.now c.loop-one.self c.place_one.new.self c.loop-one.invariant c.in_ok-place_one.ensures.placed)
 
-pub returns : goal.returns
-returns g c = subst (λ (xs : List (Offered _ _)). PlacesAll g.S.PartialEq.eq xs c.args.self.now c.loop-one.self) (take_all c.loop-one.one-index c.args.list.now c.loop-one-test.false) c.loop-one.invariant
+pub returns-clause-placed : goal.returns-clause-placed
+returns-clause-placed g c = subst (λ (xs : List (Offered _ _)). PlacesAll g.S.PartialEq.eq xs c.args.self.now c.loop-one.self) (take_all c.loop-one.one-index c.args.list.now c.loop-one-test.false) c.loop-one.invariant

@@ -9,11 +9,11 @@ use Rattle.resolvo_encoder.proofs.encoder.Encoder.place_queued.Goals as goal
 pub place_each-requires : goal.place_each-requires
 place_each-requires g c = record {
   built = c.requires;
-  registered = λ o h. c.in_ok-waiting.ensures.all o (subst (λ (xs : List (Offered _ _)). Contains xs o) c.as_slice.ensures.value h);
+  registered = λ o h. c.in_ok-waiting.ensures.waiting.all o (subst (λ (xs : List (Offered _ _)). Contains xs o) c.as_slice.ensures.value h);
 }
 
-pub returns : goal.returns
-returns g c =
+pub returns-clause-placed : goal.returns-clause-placed
+returns-clause-placed g c =
     let exact : IsExact g.S.PartialEq.eq = record { one = g.met.S.Exact.exact; own = g.met.S.Eq.laws.refl } in
-    queue_ends g.S.PartialEq.eq exact c.in_ok-waiting.waiting.items c.args.self.now c.place_each.new.self c.end_queue.new.self c.in_ok-waiting.ensures
-    (subst (λ (xs : List (Offered _ _)). PlacesAll g.S.PartialEq.eq xs c.args.self.now c.place_each.new.self) c.as_slice.ensures.value c.in_ok-place_each.ensures) c.end_queue.ensures
+    queue_ends g.S.PartialEq.eq exact c.in_ok-waiting.waiting.items c.args.self.now c.place_each.new.self c.end_queue.new.self c.in_ok-waiting.ensures.waiting
+    (subst (λ (xs : List (Offered _ _)). PlacesAll g.S.PartialEq.eq xs c.args.self.now c.place_each.new.self) c.as_slice.ensures.value c.in_ok-place_each.ensures.placed) c.end_queue.ensures

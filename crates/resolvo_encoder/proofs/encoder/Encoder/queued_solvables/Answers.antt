@@ -28,6 +28,6 @@ loop-member-preserved g c =
           subst now (sym w.waiting-is) (subst (λ (us : List (Member _)). AreMembers atoms us c.loop-member.waiting.items) (sym more) (members_other atoms (take i ms) c.loop-member.waiting.items d (sym w.in_default.ensures) c.loop-member.invariant))
     ]
 
-pub returns : goal.returns
-returns g c = waiting_are c.args.self.now c.queued-members.result.now c.loop-member.waiting.items c.group.new.list.items c.requires.tied c.queued-members.ensures.waiting c.queued-members.ensures.registered
-    (subst (λ (us : List (Member _)). AreMembers c.args.self.now.coding.atoms.keys us c.loop-member.waiting.items) (take_all c.loop-member.member-index c.queued-members.result.now c.loop-member-test.false) c.loop-member.invariant) c.in_ok-group.ensures
+pub returns-clause-waiting : goal.returns-clause-waiting
+returns-clause-waiting g c = waiting_are c.args.self.now c.queued-members.result.now c.loop-member.waiting.items c.group.new.list.items c.requires.tied c.queued-members.ensures.waiting c.queued-members.ensures.registered
+    (subst (λ (us : List (Member _)). AreMembers c.args.self.now.coding.atoms.keys us c.loop-member.waiting.items) (take_all c.loop-member.member-index c.queued-members.result.now c.loop-member-test.false) c.loop-member.invariant) c.in_ok-group.ensures.grouped

@@ -1,18 +1,11 @@
 use Rattle.std.proofs.Common.{inl, rules}
 use Rattle.resolvo_sat.specs.Encoding.{IsExact}
 use Rattle.resolvo_store_core.specs.declared.lists.Disjunction.{Disjunction}
-use Rattle.resolvo_encoder.specs.Encoded.{rules_of}
 use Rattle.resolvo_encoder.specs.Steps.{LacksNumberFor}
 use Rattle.resolvo_encoder.proofs.EnrollLemmas.{built_fixes}
-use Rattle.resolvo_encoder.proofs.FireLemmas.{EncodesCase, case_in_range, case_extends, case_adds, case_built, case_encoded, case_left_out}
+use Rattle.resolvo_encoder.proofs.FireLemmas.{EncodesCase, case_in_range, case_extends, case_adds, case_built, case_encoded}
 use Rattle.resolvo_encoder.proofs.EncodesLemmas.{parent_variable_grows}
 use Rattle.resolvo_encoder.proofs.encoder.Encoder.require_case.Goals as goal
-
-pub returns-then-keeps_out-clause-encoded : goal.returns-then-keeps_out-clause-encoded
-returns-then-keeps_out-clause-encoded g c = λ p root lawful e sets offered guarded listed cased.
-    let exact : IsExact g.S.PartialEq.eq = record { one = g.met.S.Exact.exact; own = g.met.S.Eq.laws.refl } in
-    let (s, set, who, present, there) = c.keeps_out.ensures c.if-keeps_out.true in
-    (e, case_left_out g.S.PartialEq.eq exact p (rules_of c.args.self.now) c.args.parent c.args.need c.args.sets.now s set sets who present there)
 
 pub parent_variable-requires : goal.parent_variable-requires
 parent_variable-requires g c = built_fixes g.S.PartialEq.eq c.args.need.requirement c.args.offered.now c.args.self.now c.fix_candidates.new.self c.requires c.in_ok-fix_candidates.ensures.fixed
