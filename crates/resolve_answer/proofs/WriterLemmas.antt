@@ -1,11 +1,8 @@
 -- A writer after some calls.
-use Rattle.std.proofs.Common.{◌≡◌, refl, ℕ, zero, suc, ◌-◌, ◌+◌, ◌<◌, ◌≤◌, Bool, true, false, List, [], ◌∷◌, ◌++◌, length, sym, ap, subst, ◌∙◌, append_assoc, append-nil, arith}
-use Rattle.std.specs.Prelude.{◌==◌, Option, Some, None, IfSome}
+use Rattle.std.proofs.Common.{◌≡◌, refl, ℕ, List, [], ◌∷◌, ◌++◌, sym, subst, append_assoc, append-nil}
+use Rattle.std.specs.Prelude.{Option, Some, None, IfSome}
 use Rattle.std.specs.Fmt.{WritesInCalls}
 use Rattle.std.specs.List.{FoldsTo, concat}
-use Rattle.std.proofs.lemmas.Bool.{false≢true, eqb-true}
-use Rattle.std.proofs.lemmas.List.{length-append}
-use Rattle.resolvo_report.specs.Grammar.{most_bytes}
 use Rattle.resolve_answer.specs.Message.{AreBegun, AreLinesOf}
 
 -- of a text that is known
@@ -14,19 +11,6 @@ if_text None f h = tt
 if_text (Some text) f h = f text h
 
 module _ {W : Type 0} (took : W → List ℕ → W → Type 0) where
-  -- a writer that has less room by each text
-  module _ (room : W → ℕ) (takes : (w : W) (text : List ℕ) (v : W) → took w text v → room v ≡ room w - length text) where
-    room_after_calls : (w : W) (texts : List (List ℕ)) (v : W) → FoldsTo took w texts v → room v ≡ room w - length (concat texts)
-    room_after_calls w [] v p = (let is : room w ≡ room v = ap room p in omega arith)
-    room_after_calls w (x ∷ xs) v p =
-        let first : room p.0 ≡ room w - length x = takes w x p.0 p.1 in
-        let rest : room v ≡ room p.0 - length (concat xs) = room_after_calls p.0 xs v p.2 in
-        let whole : length (x ++ concat xs) ≡ length x + length (concat xs) = length-append x (concat xs) in
-        omega arith
-
-    pub room_after : (w : W) (text : List ℕ) (v : W) → WritesInCalls took w text v → room v ≡ room w - length text
-    room_after w text v p = room_after_calls w p.parts v p.calls ∙ ap (λ (l : List ℕ). room w - length l) p.whole
-
   -- a writer that keeps the lines of what it was given
   module _ (whole : W → List (List ℕ)) (begun : W → List ℕ) (goes_on : (w : W) (more : List ℕ) (v : W) → took w more v → (text : List ℕ) → AreBegun text (whole w) (begun w) → AreBegun (text ++ more) (whole v) (begun v)) where
     begun_after_calls : (w : W) (texts : List (List ℕ)) (v : W) → FoldsTo took w texts v → (text : List ℕ) → AreBegun text (whole w) (begun w) → AreBegun (text ++ concat texts) (whole v) (begun v)
@@ -39,8 +23,3 @@ module _ {W : Type 0} (took : W → List ℕ → W → Type 0) where
         let start : AreBegun [] (whole w) (begun w) = subst (λ (xs : List (List ℕ)). AreBegun [] xs (begun w)) (sym none) (subst (λ (xs : List ℕ). AreBegun [] [] xs) (sym nothing) (record { parts = refl; plain = tt; left = refl })) in
         let after : AreBegun text (whole v) (begun v) = subst (λ (xs : List ℕ). AreBegun xs (whole v) (begun v)) p.whole (begun_after_calls w p.parts v p.calls [] start) in
         record { rest = begun v; parts = after.parts; plain = after.plain; left = after.left }
-
--- whether no room is left for a text
-pub no_room : (room n : ℕ) → room ≡ 1073741825 - n → ((room == 0) ≡ true → most_bytes < n) × ((room == 0) ≡ false → n ≤ most_bytes)
-no_room zero n is = (λ e. omega arith, λ e. absurd (false≢true (sym e)))
-no_room (suc k) n is = (λ e. (let none : suc k ≡ 0 = eqb-true (suc k) 0 e in absurd (omega arith)), λ e. omega arith)

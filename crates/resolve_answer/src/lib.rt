@@ -6,7 +6,6 @@ pub mod answer;
 pub mod laws;
 mod lines;
 mod message;
-mod room;
 pub mod stop;
 pub mod turns;
 pub mod wishes;

@@ -6,7 +6,7 @@ ghost use Rattle.resolve_answer.specs.Solved.{HasLongText, IsTextKept};
 ghost use Rattle.resolvo.specs.Solver.{HoldsConflict};
 
 use crate::lines::lines_of;
-use crate::room::is_too_long;
+use crate::stop::MOST_BYTES;
 use resolvo::conflict::Conflict;
 use resolvo::solver::Solver;
 use resolvo_catalogue::provider::CatalogueProvider;
@@ -15,7 +15,7 @@ use resolvo_pool_core::want::R;
 use std::alloc::Global;
 
 /// The message of the conflict that the solver keeps. `None` where it has more bytes than a report
-/// may have: then no memory is asked for its text.
+/// may have: then no memory is asked for its lines.
 pub(crate) fn message_of(
     alloc: Global,
     solver: &Solver<CatalogueProvider>,
@@ -33,11 +33,11 @@ pub(crate) fn message_of(
         o ≡ None
         → HasLongText ⟦<NameId as PartialEq>⟧.eq ⟦<SolvableId as PartialEq>⟧.eq solver.now) }
 {
-    let display = conflict.display_user_friendly(alloc, solver)?;
-    let is_long = is_too_long(&display)?;
-    if is_long {
-        return Ok(None);
+    match conflict.display_below(alloc, solver, MOST_BYTES + 1)? {
+        Some(display) => {
+            let lines = lines_of(alloc, &display)?;
+            Ok(Some(lines))
+        }
+        None => Ok(None),
     }
-    let lines = lines_of(alloc, &display)?;
-    Ok(Some(lines))
 }

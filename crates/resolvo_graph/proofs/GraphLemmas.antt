@@ -1,10 +1,14 @@
--- A graph with one node more.
-use Rattle.std.proofs.Common.{◌≡◌, Bool, true, false, cond, List, [], ◌∷◌, ◌++◌, All, Some, length-append, sym, subst, arith}
+-- A graph with one node more, and the edge at an index.
+use Rattle.std.proofs.Common.{◌≡◌, ◌∙◌, ℕ, ◌<◌, ◌≤◌, Bool, true, false, cond, List, [], ◌∷◌, ◌++◌, All, Some, None, get_or, length, length-append, refl, sym, ap, subst, arith}
 use Rattle.std.specs.Prelude.{slice_get}
+use Rattle.std.specs.Option.{option_map}
+use Rattle.std.proofs.lemmas.Option.{slice_get-map, slice_get_read, slice_get_past}
 use Rattle.resolvo_graph.specs.declared.graph.ConflictNode.{ConflictNode}
 use Rattle.resolvo_graph.specs.declared.graph.ConflictNode.TheVariants.{Root}
 use Rattle.resolvo_graph.specs.declared.graph.Edge.{Edge}
+use Rattle.resolvo_graph.specs.declared.links.LinkedEdge.{LinkedEdge}
 use Rattle.resolvo_graph.specs.Graph.{IsWithin}
+use Rattle.resolvo_graph.specs.Links.{edges_in}
 
 module _ {S : Type 0} (n : ConflictNode S) where
   still_first : (nodes : List (ConflictNode S)) → slice_get nodes 0 ≡ Some Root → slice_get (nodes ++ n ∷ []) 0 ≡ Some Root
@@ -20,3 +24,14 @@ module _ {S : Type 0} (n : ConflictNode S) where
 pub stays_within : {S : Type 0} (b : Bool) (nodes now : List (ConflictNode S)) (es : List (Edge S)) (n : ConflictNode S) → (slice_get nodes 0 ≡ Some Root) × All (IsWithin nodes) es → now ≡ cond b nodes (nodes ++ n ∷ []) → (slice_get now 0 ≡ Some Root) × All (IsWithin now) es
 stays_within true nodes now es n h put = subst (λ ns. (slice_get ns 0 ≡ Some Root) × All (IsWithin ns) es) (sym put) h
 stays_within false nodes now es n h put = subst (λ ns. (slice_get ns 0 ≡ Some Root) × All (IsWithin ns) es) (sym put) (still_first n nodes h.0, still_within n nodes es h.1)
+
+-- a linked edge that was found is the edge at its index
+pub edge_found : {S : Type 0} (xs ys : List (LinkedEdge S)) (i : ℕ) (l : LinkedEdge S) → xs ≡ ys → i < length xs → l ≡ get_or xs i l → Some l.edge ≡ slice_get (edges_in ys) i
+edge_found {S} xs ys i l same h at =
+    let f : LinkedEdge S → Edge S = λ k. k.edge in
+    sym (ap (λ zs. slice_get (edges_in zs) i) (sym same) ∙ slice_get-map f xs i ∙ ap (option_map f) (slice_get_read xs (length xs) i l refl h at))
+
+pub edge_past : {S : Type 0} (xs ys : List (LinkedEdge S)) (i : ℕ) → xs ≡ ys → length xs ≤ i → None ≡ slice_get (edges_in ys) i
+edge_past {S} xs ys i same h =
+    let f : LinkedEdge S → Edge S = λ k. k.edge in
+    sym (ap (λ zs. slice_get (edges_in zs) i) (sym same) ∙ slice_get-map f xs i ∙ ap (option_map f) (slice_get_past xs i h))

@@ -1,4 +1,5 @@
 pub mod CopyLemmas
+pub mod CountLemmas
 pub mod GraphLemmas
 pub mod IndentLemmas
 pub mod LinkLemmas
@@ -10,5 +11,6 @@ pub mod OutlookLemmas
 pub mod RemovalLemmas
 pub mod ResultLemmas
 pub mod RunLemmas
+pub mod SinkLemmas
 pub mod TreeLemmas
 pub mod WalkLemmas

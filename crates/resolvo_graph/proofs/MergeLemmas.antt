@@ -1,16 +1,18 @@
 -- Profiles belong to versions one by one; groups grow and are inserted one by one.
-use Rattle.std.proofs.Common.{◌≡◌, ℕ, zero, suc, ◌+◌, ◌<◌, ◌≤◌, length-drop, Bool, true, false, cond, List, [], ◌∷◌, ◌++◌, length, map, take, drop, get_or, Option, None, Some, refl, sym, ap, subst, ◌∙◌, arith}
+use Rattle.std.proofs.Common.{◌≡◌, ℕ, zero, suc, ◌+◌, ◌<◌, ◌≤◌, length-drop, Bool, true, false, cond, List, [], ◌∷◌, ◌++◌, length, map, filter, take, drop, get_or, Option, None, Some, refl, sym, ap, subst, ◌∙◌, arith}
 use Rattle.std.specs.Prelude.{◌&&◌, ◌==◌, slice_get, slice_set}
 use Rattle.std.specs.List.{AllZip}
 use Rattle.std.specs.Option.{option_or, option_map, option_map_or}
 use Rattle.std.proofs.lemmas.Option.{slice_get-map, slice_get_read, slice_get_past}
 use Rattle.std.proofs.lemmas.Bool.{eqb-true, eqb-false}
-use Rattle.std.proofs.lemmas.List.{take_more, length-take, append-nil, nil_from_length}
+use Rattle.std.proofs.lemmas.List.{take_more, length-take, append-nil, map-append, nil_from_length}
+use Rattle.std.proofs.lemmas.List.Elements.{filter-append}
 use Rattle.resolvo_graph.specs.declared.graph.NodeIndex.{NodeIndex}
 use Rattle.resolvo_graph.specs.declared.graph.ConflictNode.{ConflictNode}
+use Rattle.resolvo_graph.specs.declared.merge.Member.{Member}
 use Rattle.resolvo_graph.specs.declared.merge.MergedConflictNode.{MergedConflictNode}
 use Rattle.resolvo_graph.specs.Kept.{ids_at}
-use Rattle.resolvo_graph.specs.Merge.{solvable_of, with_version, versions_from}
+use Rattle.resolvo_graph.specs.Merge.{solvable_of, with_version, versions_from, numbered}
 
 pub zip_one : {A B : Type 0} (R : A → B → Type 0) (xs : List A) (ys : List B) (x : A) (y : B) → AllZip R xs ys → R x y → AllZip R (xs ++ x ∷ []) (ys ++ y ∷ [])
 zip_one R [] [] x y h r = (r, tt)
@@ -96,3 +98,14 @@ ids_past f xs i h = ap (λ o. option_map_or (λ n. n.ids.items) o []) (slice_get
 -- nothing is left
 pub dropped : {A : Type 0} (xs : List A) (i : ℕ) → length xs ≤ i → drop i xs ≡ []
 dropped xs i h = nil_from_length (drop i xs) (omega (arith, length-drop i xs))
+
+-- the versions of a number, after one member more
+pub numbered_more : {S : Type 0} (ms : List (Member S)) (i : ℕ) (m : Member S) → i < length ms → m ≡ get_or ms i m → (g : ℕ) → numbered (take (i + 1) ms) g ≡ numbered (take i ms) g ++ cond (m.group == g) (m.solvable ∷ []) []
+numbered_more {S} ms i m h at g =
+    let p : Member S → Bool = λ k. k.group == g in
+    let f : Member S → S = λ k. k.solvable in
+    ap (λ ks. map f (filter p ks)) (take_more ms i m h ∙ ap (λ k. take i ms ++ k ∷ []) (sym at)) ∙ ap (map f) (filter-append p (take i ms) (m ∷ [])) ∙ map-append f (filter p (take i ms)) (filter p (m ∷ [])) ∙ ap (λ xs. map f (filter p (take i ms)) ++ xs) (go (m.group == g))
+  where
+    go : (b : Bool) → map (λ (k : Member S). k.solvable) (cond b (m ∷ []) []) ≡ cond b (m.solvable ∷ []) []
+    go true = refl
+    go false = refl

@@ -11,7 +11,9 @@ use Rattle.resolvo_graph.specs.Outlook.{installable_in, missing_in}
 use Rattle.resolvo_graph.specs.Walk.{IsPostOrder}
 use Rattle.resolvo_graph.specs.Message.{heading, conflict_lines, misses, fits, IsSecondPart, AreParts, IsMessage}
 use Rattle.resolvo_graph.specs.Runs.{runs_of}
+use Rattle.resolvo_graph.specs.Sink.{Adds}
 use Rattle.resolvo_graph.specs.Tree.{Findings, IsTree}
+use Rattle.resolvo_graph.proofs.SinkLemmas.{adds_both, adds_same}
 
 module _ {S : Type 0} (f : Findings S) where
   -- no edge remains for the second part
@@ -32,10 +34,11 @@ module _ {S : Type 0} (f : Findings S) where
       let others : to_second ≡ filter (fits missing) es = i ∙ e ∙ ap (filter (fits missing)) b in
       (first, second, subst (λ xs. IsTree f false (runs_of xs) first) ours tree, subst (λ xs. IsSecondPart f xs es second) others (subst (λ xs. IsSecondPart f to_second xs second) c rest), whole)
 
--- the lists of a heading, a tree and conflicts, concatenated
-pub headed : {S : Type 0} (start pushed grown lines tree own conflicts : List (MessageLine S)) (l : MessageLine S) → start ≡ [] → pushed ≡ start ++ l ∷ [] → grown ≡ pushed ++ tree → lines ≡ grown ++ own → l ≡ heading → own ≡ conflicts → lines ≡ heading ∷ tree ++ conflicts
-headed start pushed grown lines tree own conflicts l none put more last is same =
-    last ∙ ap (λ xs. xs ++ own) (more ∙ ap (λ xs. xs ++ tree) (put ∙ ap (λ xs. xs ++ l ∷ []) none)) ∙ ap (λ x. (x ∷ tree) ++ own) is ∙ ap (λ xs. (heading ∷ tree) ++ xs) same
+-- a heading, a tree and conflicts were taken in turn
+pub headed : {W S : Type 0} (took : W → List (MessageLine S) → W → Type 0) (start pushed tree own conflicts : List (MessageLine S)) (l : MessageLine S) (u v w z : W) → start ≡ [] → pushed ≡ start ++ l ∷ [] → l ≡ heading → own ≡ conflicts → Adds took u pushed v → Adds took v tree w → Adds took w own z → Adds took u (heading ∷ tree ++ conflicts) z
+headed took start pushed tree own conflicts l u v w z none put is same first second third =
+    let top : pushed ≡ heading ∷ [] = put ∙ ap (λ xs. xs ++ l ∷ []) none ∙ ap (λ x. x ∷ []) is in
+    adds_both took u v z (heading ∷ []) (tree ++ conflicts) (adds_same took u v pushed (heading ∷ []) top first) (adds_both took v w z tree conflicts second (adds_same took w z own conflicts same third))
 
 -- the parts, up to equal nodes
 pub parts_along : {S : Type 0} (g : Graph S) (same : S → S → Bool) (merged : S → Option (List S)) (can installable miss missing : List NodeIndex) (lines : List (MessageLine S)) → can ≡ installable → miss ≡ missing → AreParts (record { graph = g; same = same; installable = can; merged = merged }) miss (edges_of g (record { 0 = 0 })) lines → AreParts (record { graph = g; same = same; installable = installable; merged = merged }) missing (edges_of g (record { 0 = 0 })) lines

@@ -27,7 +27,9 @@ use Rattle.resolvo_graph.specs.Indent.{Indent, level_below}
 use Rattle.resolvo_graph.specs.Outlook.{has_target_in}
 use Rattle.resolvo_graph.specs.Runs.{Run, same_requirement, with_first, with_edge, runs_of}
 use Rattle.resolvo_graph.specs.Tree.{Entry, Findings, order_before, siblings, solvable_at_node, with_candidate, candidates_at, with_set, admitted_in, is_admitting, verdict_for, shown_of, outlook_of, is_covered, covered_with, firsts_after, options_of, in_rank, verdict_of, needs_of, lines_at, entries_below, covered_after, Writes, done, next}
+use Rattle.resolvo_graph.specs.Sink.{Adds, Stays}
 use Rattle.resolvo_graph.specs.Walk.{is_among}
+use Rattle.resolvo_graph.proofs.SinkLemmas.{adds_none, adds_both, adds_same}
 use Rattle.resolvo_graph.proofs.WalkLemmas.{unseen, unseen-new, targets_among, edges_among}
 
 pub candidates_at_push : {S : Type 0} (g : Graph S) (ns : List NodeIndex) (n : NodeIndex) → candidates_at g (ns ++ n ∷ []) ≡ candidates_at g ns ++ with_candidate n (solvable_at_node (slice_get g.nodes n.0)) []
@@ -249,6 +251,29 @@ module _ {S : Type 0} where
     pub ends : (start stack : List (Entry S)) (covered : List S) (lines : List (MessageLine S)) → Gives start stack covered lines → stack ≡ [] → (after : List S) × Writes f [] start lines after
     ends start stack covered lines gives none = (covered, subst (λ ls. Writes f [] start ls covered) (append-nil lines) (gives [] covered (subst (λ xs. Writes f covered (reverse xs) [] covered) (sym none) (done covered))))
 
+    module _ {W : Type 0} (took : W → List (MessageLine S) → W → Type 0) where
+      -- lines were taken, and those of the stack's entries are the remaining ones
+      abbrev pub Follows : List (Entry S) → List (Entry S) → List S → W → W → Type 0
+      Follows start stack covered old now = (lines : List (MessageLine S)) × Gives start stack covered lines × Adds took old lines now
+
+      -- a tree was taken
+      abbrev pub Taken : List (Entry S) → W → W → Type 0
+      Taken start old now = (lines : List (MessageLine S)) × ((after : List S) × Writes f [] start lines after) × Adds took old lines now
+
+      pub begins : (start stack : List (Entry S)) (covered : List S) (w : W) → stack ≡ [] ++ reverse start → covered ≡ [] → Follows start stack covered w w
+      begins start stack covered w put none = ([], starts start stack covered [] put none refl, adds_none took w)
+
+      pub follows : (start stack below now : List (Entry S)) (covered covered_now : List S) (was page : List (MessageLine S)) (old mid new : W) (e : Entry S) → Follows start stack covered old mid → stack ≡ below ++ e ∷ [] → now ≡ below ++ reverse (entries_below f covered e.op e.indent e.above) → covered_now ≡ covered_after f covered e.op e.above → was ≡ [] → page ≡ was ++ lines_at f covered e.op e.indent e.above → Adds took mid page new → Follows start now covered_now old new
+      follows start stack below now covered covered_now was page old mid new e (lines, gives, adds) at put with none own more =
+          let it : page ≡ lines_at f covered e.op e.indent e.above = own ∙ ap (λ ls. ls ++ lines_at f covered e.op e.indent e.above) none in (
+            lines ++ lines_at f covered e.op e.indent e.above,
+            steps start stack below now covered covered_now lines (lines ++ lines_at f covered e.op e.indent e.above) e gives at put with refl,
+            adds_both took old mid new lines (lines_at f covered e.op e.indent e.above) adds (adds_same took mid new page (lines_at f covered e.op e.indent e.above) it more),
+          )
+
+      pub taken : (start stack : List (Entry S)) (covered : List S) (old now : W) → Follows start stack covered old now → stack ≡ [] → Taken start old now
+      taken start stack covered old now (lines, gives, adds) none = (lines, ends start stack covered lines gives none, adds)
+
     -- us are nodes among which each entry's are
     module _ (us : List NodeIndex) where
       -- the nodes of an entry are targets of edges
@@ -376,6 +401,25 @@ module _ {S : Type 0} where
 
       pub known_start : (i : Indent) (stack : List (Entry S)) (es : List (Edge S)) → All (λ e. is_among us e.target ≡ true) es → stack ≡ [] ++ reverse (siblings i [] (reverse (in_rank f (runs_of es)))) → All (λ d. IsKnown d.op) stack
       known_start i stack es h put = known_put [] stack (siblings i [] (reverse (in_rank f (runs_of es)))) (All-nil (λ d. IsKnown d.op)) (known_siblings i [] (reverse (in_rank f (runs_of es))) (known_turned (in_rank f (runs_of es)) (known_in_rank (runs_of es) (known_runs es h)))) put
+
+      -- whichever entries are left, they have lines: each entry weighs more than those below it
+      finishes : ((n : NodeIndex) → All (λ e. is_among us e.target ≡ true) (edges_of f.graph n)) → (fuel : ℕ) (covered : List S) (es : List (Entry S)) → All (λ e. IsKnown e.op) es → weights f.graph us es ≤ fuel → (lines : List (MessageLine S)) × (after : List S) × Writes f covered es lines after
+      finishes met fuel covered [] known few = ([], covered, done covered)
+      finishes met zero covered (e ∷ es) known few =
+          let less : weights f.graph us (entries_below f covered e.op e.indent e.above) + 1 ≤ weight (cost (length f.graph.edges) (unseen us e.above)) e.op = lighter covered e.op e.indent e.above (All-head (λ d. IsKnown d.op) e es known) in
+          absurd (omega arith)
+      finishes met (suc k) covered (e ∷ es) known few =
+          let own : IsKnown e.op = All-head (λ d. IsKnown d.op) e es known in
+          let less : weights f.graph us (entries_below f covered e.op e.indent e.above) + 1 ≤ weight (cost (length f.graph.edges) (unseen us e.above)) e.op = lighter covered e.op e.indent e.above own in
+          let inner = finishes met k (covered_after f covered e.op e.above) (entries_below f covered e.op e.indent e.above) (known_below met covered e.op e.indent e.above own) (omega arith) in
+          let rest = finishes met k inner.1 es (All-tail (λ d. IsKnown d.op) e es known) (omega arith) in
+          (lines_at f covered e.op e.indent e.above ++ (inner.0 ++ rest.0), rest.1, next e inner.2 rest.2)
+
+      -- what is full has taken the remaining lines, too
+      pub filled : {W : Type 0} (took : W → List (MessageLine S) → W → Type 0) → ((n : NodeIndex) → All (λ e. is_among us e.target ≡ true) (edges_of f.graph n)) → (start stack : List (Entry S)) (covered : List S) (old full : W) → All (λ e. IsKnown e.op) stack → Follows took start stack covered old full → Stays took full → Taken took start old full
+      filled took met start stack covered old full known (lines, gives, adds) stays =
+          let rest = finishes met (weights f.graph us (reverse stack)) covered (reverse stack) (All-permutation (λ e. IsKnown e.op) stack (reverse stack) (IsPermutation-reverse stack) known) (omega arith) in
+          (lines ++ rest.0, (rest.1, gives rest.0 rest.1 rest.2), adds_both took old full full lines rest.0 adds (stays rest.0))
 
 -- the targets of these edges, and of all edges of the graph
 abbrev pub reached : {S : Type 0} → Graph S → List (Edge S) → List NodeIndex

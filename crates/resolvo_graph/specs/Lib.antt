@@ -7,6 +7,7 @@ pub mod Message
 pub mod Outlook
 pub mod Removal
 pub mod Runs
+pub mod Sink
 pub mod Steps
 pub mod Tree
 pub mod Walk

@@ -1,5 +1,5 @@
 -- The whole message, as a function of a conflict graph.
-use Rattle.std.specs.Prelude.{◌≡◌, ℕ, ◌++◌, Bool, true, false, not, List, [], ◌∷◌, Option, filter}
+use Rattle.std.specs.Prelude.{◌≡◌, ℕ, ◌<◌, ◌≤◌, ◌++◌, Bool, true, false, not, List, [], ◌∷◌, Option, None, Some, filter, length}
 use Rattle.std.specs.List.{flat_map}
 use Rattle.resolvo_graph.specs.declared.graph.NodeIndex.{NodeIndex}
 use Rattle.resolvo_graph.specs.declared.graph.Edge.{Edge}
@@ -63,3 +63,9 @@ pub record IsMessage {N S : Type 0} (same_name : N → N → Bool) (same : S →
 -- the bytes of these lines
 abbrev pub text_of : {N S : Type 0} → Meaning N S → List (MessageLine S) → List ℕ
 text_of m lines = flat_map (line_text m) lines
+
+-- Of the lines of a message: the bytes of some of them, if fewer than the bound; else some have as
+-- many, or more.
+abbrev pub IsLengthBelow : {N S : Type 0} → (List (MessageLine S) → Type 0) → Meaning N S → ℕ → Option ℕ → Type 0
+IsLengthBelow {N} {S} AreLines m bound (Some n) = (lines : List (MessageLine S)) × AreLines lines × (n ≡ length (text_of m lines)) × (n < bound)
+IsLengthBelow {N} {S} AreLines m bound None = (lines : List (MessageLine S)) × AreLines lines × (bound ≤ length (text_of m lines))

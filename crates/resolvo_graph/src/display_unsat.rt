@@ -1,16 +1,21 @@
 //! The whole message: requirements without candidates, incompatible packages, and the conflicts of
-//! the root. Its lines are built by `new`, so that writing them takes no memory.
-ghost use Rattle.std.specs.Prelude.{◌≡◌, ◌++◌, IfOk, OnOk, Some, filter};
+//! the root. Its lines are built by `new`, so that writing them takes no memory. `length_below`
+//! counts their bytes first, and keeps none of them.
+ghost use Rattle.std.specs.Prelude.{◌≡◌, ◌++◌, List, IfOk, OnOk, Some, filter};
+ghost use Rattle.resolvo_graph.specs.declared.line.MessageLine.{MessageLine};
 ghost use Rattle.resolvo_graph.specs.Graph.{edges_of};
-ghost use Rattle.resolvo_graph.specs.Message.{IsMessage, AreParts, IsSecondPart, conflict_line, conflict_lines, misses, fits, text_of};
+ghost use Rattle.resolvo_graph.specs.Message.{IsMessage, IsLengthBelow, AreParts, IsSecondPart, conflict_line, conflict_lines, misses, fits, text_of};
 ghost use Rattle.resolvo_graph.specs.Kept.{findings};
 ghost use Rattle.resolvo_graph.specs.Outlook.{installable_in, missing_in};
+ghost use Rattle.resolvo_graph.specs.Sink.{Adds};
 
+use crate::count::Count;
 use crate::graph::{ConflictCause, ConflictEdge, ConflictGraph, Edge, NodeIndex};
 use crate::indenter::Indenter;
 use crate::line::{DisplayLine, MessageLine, Sentence, Verdict, Versions};
 use crate::merge::MergedConflictNode;
 use crate::outlook::{installable, missing};
+use crate::sink::Sink;
 use crate::tree::{Findings, order_before};
 use crate::walk::post_order;
 use indexmap::IndexSet;
@@ -28,8 +33,8 @@ use std::rc::Rc;
 /// The message of a conflict graph.
 #[derive(Drop)]
 pub struct DisplayUnsat<'a, I: Interner> {
-    interner: &'a I,
-    lines: Vec<MessageLine<I::SolvableId>>,
+    pub(crate) interner: &'a I,
+    pub(crate) lines: Vec<MessageLine<I::SolvableId>>,
 }
 
 impl<'a, I: Interner> DisplayUnsat<'a, I> {
@@ -45,8 +50,42 @@ impl<'a, I: Interner> DisplayUnsat<'a, I> {
             d.lines.items) }
         ensures interner { IfOk result (λ d. d.interner.now ≡ interner.now) }
     {
-        let lines = message_lines(alloc, graph, interner)?;
+        let mut lines = Vec::new(alloc);
+        write_lines(alloc, graph, interner, &mut lines)?;
         Ok(DisplayUnsat { interner, lines })
+    }
+
+    /// How many bytes the message of a graph has, if fewer than a bound. No line is kept, and none
+    /// is written after the bound.
+    pub fn length_below(
+        alloc: Global,
+        graph: &ConflictGraph<I::SolvableId>,
+        interner: &'a I,
+        bound: u64,
+    ) -> R<Option<u64>>
+        ensures { IfOk result
+            (IsLengthBelow
+            (IsMessage I.NameId.eq I.SolvableId.eq (I.name_of_solvable interner.now) graph.now)
+            (record {
+              name_of = I.name_of_version_set interner.now;
+              members_of = I.members_of interner.now;
+              name_text = I.name_text interner.now;
+              version_set_text = I.version_set_text interner.now;
+              versions_text = I.merged_text interner.now;
+              word_text = I.string_text interner.now;
+            })
+            bound) }
+    {
+        let page = DisplayUnsat {
+            interner,
+            lines: Vec::new(alloc),
+        };
+        let mut count = Count { page, left: bound };
+        write_lines(alloc, graph, interner, &mut count)?;
+        if count.left == 0 {
+            return Ok(None);
+        }
+        Ok(Some(bound.saturating_sub(count.left)))
     }
 }
 
@@ -76,98 +115,109 @@ impl<I: Interner> fmt::Display for DisplayUnsat<'_, I> {
     }
 }
 
-/// The lines of the message of a graph.
-fn message_lines<S: SolverId, I: Interner<SolvableId = S>>(
+/// Writes the lines of the message of a graph.
+fn write_lines<S: SolverId, I: Interner<SolvableId = S>, L: Sink<S>>(
     alloc: Global,
     graph: &ConflictGraph<S>,
     interner: &I,
-) -> R<Vec<MessageLine<S>>>
-    ensures { IfOk result
-        (λ v. IsMessage I.NameId.eq S.eq (I.name_of_solvable interner.now) graph.now v.items) }
+    sink: &mut L,
+) -> R<()>
+    ensures { OnOk result
+        ((lines : List (MessageLine S))
+        × IsMessage I.NameId.eq S.eq (I.name_of_solvable interner.now) graph.now lines
+        × Adds L.took sink.old lines sink.new) }
 {
     let order = post_order(alloc, graph)?;
     let merged = graph.simplify(alloc, interner)?;
-    lines_along(alloc, graph, &order, merged)
+    write_along(alloc, graph, &order, merged, sink)
 }
 
-/// The lines of the message, for this post-order and these merged versions.
-fn lines_along<S: Copy + Exact + Hash + Debug>(
+/// Writes the lines of the message, for this post-order and these merged versions.
+fn write_along<S: Copy + Exact + Hash + Debug, L: Sink<S>>(
     alloc: Global,
     graph: &ConflictGraph<S>,
     order: &[NodeIndex],
     merged: HashMap<S, Rc<MergedConflictNode<S>>>,
-) -> R<Vec<MessageLine<S>>>
-    ensures { IfOk result
-        (λ v.
-        AreParts (findings S.eq graph.now (installable_in graph.now order.now) merged)
-        (missing_in graph.now order.now) (edges_of graph.now (record { 0 = 0 })) v.items) }
+    sink: &mut L,
+) -> R<()>
+    ensures { OnOk result
+        ((lines : List (MessageLine S))
+        × AreParts (findings S.eq graph.now (installable_in graph.now order.now) merged)
+        (missing_in graph.now order.now) (edges_of graph.now (record { 0 = 0 })) lines
+        × Adds L.took sink.old lines sink.new) }
 {
     let findings = Findings {
         graph,
         installable: installable(alloc, graph, order)?,
         merged,
     };
-    findings.message_along(alloc, order)
+    findings.message_along(alloc, order, sink)
 }
 
 impl<S: Copy + Exact + Hash + Debug> Findings<'_, S> {
-    /// The lines of the message, for this post-order.
-    fn message_along(&self, alloc: Global, order: &[NodeIndex]) -> R<Vec<MessageLine<S>>>
-        ensures { IfOk result
-            (λ v.
-            AreParts
+    /// Writes the lines of the message, for this post-order.
+    fn message_along<L: Sink<S>>(&self, alloc: Global, order: &[NodeIndex], sink: &mut L) -> R<()>
+        ensures { OnOk result
+            ((lines : List (MessageLine S))
+            × AreParts
             (findings S.eq self.now.graph.now self.now.installable.keys self.now.merged)
             (missing_in self.now.graph.now order.now)
-            (edges_of self.now.graph.now (record { 0 = 0 })) v.items) }
+            (edges_of self.now.graph.now (record { 0 = 0 })) lines
+            × Adds L.took sink.old lines sink.new) }
     {
         let missing = missing(alloc, self.graph, order)?;
-        self.message(alloc, &missing)
+        self.message(alloc, &missing, sink)
     }
 
-    /// The lines of the message, where these nodes miss a candidate.
-    fn message(&self, alloc: Global, missing: &IndexSet<NodeIndex>) -> R<Vec<MessageLine<S>>>
-        ensures { IfOk result
-            (λ v.
-            AreParts
+    /// Writes the lines of the message, where these nodes miss a candidate.
+    fn message<L: Sink<S>>(
+        &self,
+        alloc: Global,
+        missing: &IndexSet<NodeIndex>,
+        sink: &mut L,
+    ) -> R<()>
+        ensures { OnOk result
+            ((lines : List (MessageLine S))
+            × AreParts
             (findings S.eq self.now.graph.now self.now.installable.keys self.now.merged)
-            missing.now.keys (edges_of self.now.graph.now (record { 0 = 0 })) v.items) }
+            missing.now.keys (edges_of self.now.graph.now (record { 0 = 0 })) lines
+            × Adds L.took sink.old lines sink.new) }
     {
         let edges = self.graph.edges(alloc, self.graph.root_node())?;
         let without = missing_edges(alloc, &edges, missing)?;
         let others = other_edges(alloc, &edges, missing)?;
-        let mut lines = self.tree(alloc, &without, false)?;
-        let mut second = self.second_part(alloc, &others, &edges)?;
-        lines.append(&mut second)?;
-        Ok(lines)
+        self.tree(alloc, &without, false, sink)?;
+        self.second_part(alloc, &others, &edges, sink)
     }
 
-    /// The second part of the message: the tree of these edges of the root, and the conflicts among
-    /// all its edges.
-    fn second_part(
+    /// Writes the second part of the message: the tree of these edges of the root, and the
+    /// conflicts among all its edges.
+    fn second_part<L: Sink<S>>(
         &self,
         alloc: Global,
         others: &[Edge<S>],
         edges: &[Edge<S>],
-    ) -> R<Vec<MessageLine<S>>>
-        ensures { IfOk result
-            (λ v.
-            IsSecondPart
+        sink: &mut L,
+    ) -> R<()>
+        ensures { OnOk result
+            ((lines : List (MessageLine S))
+            × IsSecondPart
             (findings S.eq self.now.graph.now self.now.installable.keys self.now.merged)
-            others.now edges.now v.items) }
+            others.now edges.now lines
+            × Adds L.took sink.old lines sink.new) }
     {
-        let mut lines = Vec::new(alloc);
         if others.is_empty() {
-            return Ok(lines);
+            return Ok(());
         }
+        let mut lines = Vec::new(alloc);
         lines.push(MessageLine {
             indenter: Indenter::new(alloc, true),
             sentence: Sentence::Incompatible,
         })?;
-        let mut tree = self.tree(alloc, others, true)?;
-        lines.append(&mut tree)?;
+        sink.take(&mut lines)?;
+        self.tree(alloc, others, true, sink)?;
         let mut conflicts = conflict_lines(alloc, edges)?;
-        lines.append(&mut conflicts)?;
-        Ok(lines)
+        sink.take(&mut conflicts)
     }
 }
 

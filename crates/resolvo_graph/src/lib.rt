@@ -1,6 +1,7 @@
 //! Why a request is unsolvable: the conflict graph, merged versions, and the message.
 #![tactic(auto)]
 
+mod count;
 pub mod display_unsat;
 pub mod graph;
 pub mod indenter;
@@ -9,6 +10,7 @@ mod links;
 mod merge;
 mod outlook;
 mod runs;
+mod sink;
 mod tree;
 mod walk;
 

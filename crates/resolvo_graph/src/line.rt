@@ -12,7 +12,7 @@ use std::fmt;
 use std::marker::Model;
 
 /// The sentence on a requirement.
-#[derive(Clone, Copy, Debug, PartialEq, Eq)]
+#[derive(Clone, Copy)]
 pub enum Outlook {
     /// No candidate matches.
     Missing,
@@ -23,7 +23,7 @@ pub enum Outlook {
 }
 
 /// The sentence on versions.
-#[derive(Clone, Copy, Debug, PartialEq, Eq)]
+#[derive(Clone, Copy)]
 pub enum Verdict {
     /// They can be installed.
     Alone,

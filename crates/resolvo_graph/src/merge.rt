@@ -103,12 +103,26 @@ fn members<N: Copy + Exact + Hash + Debug, S: Copy + Exact + Hash + Debug>(
 {
     let mut likenesses = IndexSet::new(alloc);
     let mut members = Vec::new(alloc);
+    number(profiles, &mut likenesses, &mut members)?;
+    Ok(members)
+}
+
+/// Adds the versions of some profiles, each with the number of its likeness.
+fn number<N: Copy + Exact + Hash + Debug, S: Copy + Exact + Hash + Debug>(
+    profiles: Vec<Profile<N, S>>,
+    likenesses: &mut IndexSet<Likeness<N>>,
+    members: &mut Vec<Member<S>>,
+) -> R<()>
+    requires likenesses { likenesses.old.keys ≡ [] }
+    requires members { members.old.items ≡ [] }
+    ensures { OnOk result (AreMembers N.eq profiles.items members.new.items) }
+{
     for profile in profiles {
         let Profile { solvable, likeness } = profile;
         let (group, _) = likenesses.insert_full(likeness)?;
         members.push(Member { solvable, group })?;
     }
-    Ok(members)
+    Ok(())
 }
 
 /// The groups, each at its number.

@@ -2,13 +2,15 @@
 //! requirements. The entries that are left to write are a stack; an entry pushes those one level
 //! below it. An entry has the versions above it, and a version below itself is skipped, so a tree
 //! ends on graphs with cycles.
-ghost use Rattle.std.specs.Prelude.{◌≡◌, ◌++◌, ◌∷◌, [], IfOk, OnOk, cond, filter, reverse, unwrap_or, slice_get};
+ghost use Rattle.std.specs.Prelude.{◌≡◌, ◌++◌, ◌∷◌, [], List, IfOk, OnOk, cond, filter, reverse, unwrap_or, slice_get};
 ghost use Rattle.std.specs.List.{list_any, dedup};
 ghost use Rattle.resolvo_graph.specs.declared.line.Sentence.TheVariants as Sentences;
+ghost use Rattle.resolvo_graph.specs.declared.line.MessageLine.{MessageLine};
 ghost use Rattle.resolvo_graph.specs.declared.tree.DisplayOp.{DisplayOp};
 ghost use Rattle.resolvo_graph.specs.Graph.{edges_of, is_forbidden};
 ghost use Rattle.resolvo_graph.specs.Indent.{level_below};
 ghost use Rattle.resolvo_graph.specs.Kept.{findings, merged_with};
+ghost use Rattle.resolvo_graph.specs.Sink.{Adds};
 ghost use Rattle.resolvo_graph.specs.Walk.{is_among};
 ghost use Rattle.resolvo_graph.specs.Runs.{runs_of};
 ghost use Rattle.resolvo_graph.specs.Tree.{siblings, is_missing, candidates_at, reason_in, is_admitting, admitted_in, same_set, verdict_for, admitted_lines, further_lines, outlook_of, shown_of, covered_with, is_covered, firsts_after, in_rank, verdict_of, needs_of, is_passed, version_lines, lines_at, entries_below, covered_after, IsTree, solvable_at_node, order_before};
@@ -19,6 +21,7 @@ use crate::line::{MessageLine, Outlook, Sentence, Verdict, Versions};
 use crate::merge::MergedConflictNode;
 use crate::outlook::has_some;
 use crate::runs::{Run, runs};
+use crate::sink::Sink;
 use indexmap::IndexSet;
 use resolvo_pool_core::id::{Exact, SolvableId, StringId, VersionSetId};
 use resolvo_pool_core::want::R;
@@ -70,21 +73,24 @@ struct TreeWriter<S: Copy + Exact + Hash + Debug> {
     covered: IndexSet<S>,
     /// The entries that are left to write, the next one at the end.
     stack: Vec<Entry<S>>,
+    /// The lines of the last entry.
     lines: Vec<MessageLine<S>>,
 }
 
 impl<S: Copy + Exact + Hash + Debug> Findings<'_, S> {
-    /// The lines of the tree of the runs of some edges.
-    pub(crate) fn tree(
+    /// Writes the tree of the runs of some edges.
+    pub(crate) fn tree<L: Sink<S>>(
         &self,
         alloc: Global,
         edges: &[Edge<S>],
         top_level_indent: bool,
-    ) -> R<Vec<MessageLine<S>>>
-        ensures { IfOk result
-            (λ v.
-            IsTree (findings S.eq self.now.graph.now self.now.installable.keys self.now.merged)
-            top_level_indent (runs_of edges.now) v.items) }
+        sink: &mut L,
+    ) -> R<()>
+        ensures { OnOk result
+            ((lines : List (MessageLine S))
+            × IsTree (findings S.eq self.now.graph.now self.now.installable.keys self.now.merged)
+            top_level_indent (runs_of edges.now) lines
+            × Adds L.took sink.old lines sink.new) }
     {
         let mut writer = TreeWriter {
             covered: IndexSet::new(alloc),
@@ -93,9 +99,13 @@ impl<S: Copy + Exact + Hash + Debug> Findings<'_, S> {
         };
         self.place_top(alloc, edges, top_level_indent, &mut writer.stack)?;
         while let Some(entry) = writer.stack.pop() {
+            if sink.is_full() {
+                return Ok(());
+            }
             self.write_entry(alloc, entry, &mut writer)?;
+            sink.take(&mut writer.lines)?;
         }
-        Ok(writer.lines)
+        Ok(())
     }
 
     /// Pushes the runs of some edges, at the top of their tree.

@@ -4,7 +4,7 @@ use Rattle.std.proofs.lemmas.List.Elements.{All-pop, All-same}
 use Rattle.resolvo_graph.specs.Kept.{findings}
 use Rattle.resolvo_graph.specs.Runs.{runs_of}
 use Rattle.resolvo_graph.specs.Tree.{siblings, in_rank}
-use Rattle.resolvo_graph.proofs.TreeLemmas.{IsKnown, reached, reached_own, reached_edges, known_start, known_next, smaller, starts, steps, ends}
+use Rattle.resolvo_graph.proofs.TreeLemmas.{IsKnown, reached, reached_own, reached_edges, known_start, known_next, smaller, begins, follows, taken, filled}
 use Rattle.resolvo_graph.proofs.tree.Findings.tree.Goals as goal
 
 pub loop-entry-init : goal.loop-entry-init
@@ -15,7 +15,8 @@ loop-entry-init g c =
     c.in_ok-place_top.ensures ∙ ap (λ xs. xs ++ reverse (siblings (record { levels = []; top_level_indent = c.args.top_level_indent }) [] (reverse (in_rank f (runs_of es))))) c.new-2.ensures.items in
     record {
       known = known_start f (reached c.args.self.now.graph.now es) (record { levels = []; top_level_indent = c.args.top_level_indent }) c.place_top.new.stack.items es (reached_own c.args.self.now.graph.now es) put;
-      gives = starts f (siblings (record { levels = []; top_level_indent = c.args.top_level_indent }) [] (reverse (in_rank f (runs_of es)))) c.place_top.new.stack.items c.new.result.keys c.new-3.result.items put c.new.ensures.empty c.new-3.ensures.items;
+      none = c.new-3.ensures.items;
+      follows = begins f g.L.Sink.took (siblings (record { levels = []; top_level_indent = c.args.top_level_indent }) [] (reverse (in_rank f (runs_of es)))) c.place_top.new.stack.items c.new.result.keys c.args.sink.now put c.new.ensures.empty;
     }
 
 pub loop-entry-smaller : goal.loop-entry-smaller
@@ -37,10 +38,17 @@ loop-entry-preserved g c =
     let parts = All-pop (λ d. IsKnown f us d.op) (below ++ e ∷ []) below (Some e) refl (All-same (λ d. IsKnown f us d.op) (below ++ e ∷ []) c.loop-entry.writer.stack.items (sym c.in-Some.ensures.items) c.loop-entry.invariant.known) in
     record {
       known = known_next f us (reached_edges c.args.self.now.graph.now es) below c.write_entry.new.writer.stack.items c.loop-entry.writer.covered.keys e parts.0 parts.1 c.in_ok-write_entry.ensures.stack;
-      gives = steps f (siblings (record { levels = []; top_level_indent = c.args.top_level_indent }) [] (reverse (in_rank f (runs_of es)))) c.loop-entry.writer.stack.items below c.write_entry.new.writer.stack.items c.loop-entry.writer.covered.keys c.write_entry.new.writer.covered.keys c.loop-entry.writer.lines.items c.write_entry.new.writer.lines.items e c.loop-entry.invariant.gives c.in-Some.ensures.items c.in_ok-write_entry.ensures.stack c.in_ok-write_entry.ensures.covered c.in_ok-write_entry.ensures.lines;
+      none = c.in_ok-take.ensures.left;
+      follows = follows f g.L.Sink.took (siblings (record { levels = []; top_level_indent = c.args.top_level_indent }) [] (reverse (in_rank f (runs_of es)))) c.loop-entry.writer.stack.items below c.write_entry.new.writer.stack.items c.loop-entry.writer.covered.keys c.write_entry.new.writer.covered.keys c.loop-entry.writer.lines.items c.write_entry.new.writer.lines.items c.args.sink.now c.loop-entry.sink c.take.new.self e c.loop-entry.invariant.follows c.in-Some.ensures.items c.in_ok-write_entry.ensures.stack c.in_ok-write_entry.ensures.covered c.loop-entry.invariant.none c.in_ok-write_entry.ensures.lines c.in_ok-take.ensures.took;
     }
+
+pub returns-then-is_full : goal.returns-then-is_full
+returns-then-is_full g c =
+    let f = findings g.S.PartialEq.eq c.args.self.now.graph.now c.args.self.now.installable.keys c.args.self.now.merged in
+    let es = c.args.edges.now in
+    filled f (reached c.args.self.now.graph.now es) g.L.Sink.took (reached_edges c.args.self.now.graph.now es) (siblings (record { levels = []; top_level_indent = c.args.top_level_indent }) [] (reverse (in_rank f (runs_of es)))) c.loop-entry.writer.stack.items c.loop-entry.writer.covered.keys c.args.sink.now c.loop-entry.sink c.loop-entry.invariant.known c.loop-entry.invariant.follows (c.is_full.ensures c.if-is_full.true)
 
 pub returns : goal.returns
 returns g c =
     let f = findings g.S.PartialEq.eq c.args.self.now.graph.now c.args.self.now.installable.keys c.args.self.now.merged in
-    ends f (siblings (record { levels = []; top_level_indent = c.args.top_level_indent }) [] (reverse (in_rank f (runs_of c.args.edges.now)))) c.loop-entry.writer.stack.items c.loop-entry.writer.covered.keys c.loop-entry.writer.lines.items c.loop-entry.invariant.gives (nil_from_length c.loop-entry.writer.stack.items (omega (arith, c.loop-entry.writer.stack.ok, c.in_default.ensures.cases)))
+    taken f g.L.Sink.took (siblings (record { levels = []; top_level_indent = c.args.top_level_indent }) [] (reverse (in_rank f (runs_of c.args.edges.now)))) c.loop-entry.writer.stack.items c.loop-entry.writer.covered.keys c.args.sink.now c.loop-entry.sink c.loop-entry.invariant.follows (nil_from_length c.loop-entry.writer.stack.items (omega (arith, c.loop-entry.writer.stack.ok, c.in_default.ensures.cases)))

@@ -1,0 +1,75 @@
+//! The bytes of lines, counted down from a bound. No byte is kept, and no line for longer than
+//! it takes to count it.
+ghost use Rattle.std.specs.Prelude.{◌≡◌, ◌-◌, length, IfOk, IfSome};
+ghost use Rattle.resolvo_graph.specs.Message.{text_of};
+
+use crate::display_unsat::DisplayUnsat;
+use crate::line::MessageLine;
+use crate::sink::Sink;
+use resolvo_pool_core::provider::Interner;
+use resolvo_pool_core::want::{R, Want};
+use std::fmt;
+use std::fmt::Write;
+
+/// A writer that keeps no byte, and only how many more there may be.
+#[derive(Drop)]
+struct Room {
+    left: u64,
+}
+
+impl fmt::Write for Room {
+    ghost write_str_gives = { λ s bs t. t.left ≡ s.left - length bs };
+
+    fn write_str(&mut self, s: &str) -> fmt::Result {
+        self.left = self.left.saturating_sub(s.as_bytes().len() as u64);
+        Ok(())
+    }
+}
+
+/// How many bytes more lines may have.
+#[derive(Drop)]
+pub(crate) struct Count<'a, I: Interner> {
+    /// The lines that were counted last.
+    pub(crate) page: DisplayUnsat<'a, I>,
+    pub(crate) left: u64,
+}
+
+impl<I: Interner> Sink<I::SolvableId> for Count<'_, I> {
+    ghost took = { λ start lines end.
+        (end.page.interner.now ≡ start.page.interner.now)
+        × (end.left
+        ≡ start.left - length
+        (text_of
+        (record {
+          name_of = I.name_of_version_set start.page.interner.now;
+          members_of = I.members_of start.page.interner.now;
+          name_text = I.name_text start.page.interner.now;
+          version_set_text = I.version_set_text start.page.interner.now;
+          versions_text = I.merged_text start.page.interner.now;
+          word_text = I.string_text start.page.interner.now;
+        })
+        lines)) };
+
+    fn take(&mut self, lines: &mut Vec<MessageLine<I::SolvableId>>) -> R<()> {
+        self.page.lines.clear();
+        self.page.lines.append(lines)?;
+        self.left = left_after(self.left, &self.page)?;
+        Ok(())
+    }
+
+    fn is_full(&self) -> bool {
+        self.left == 0
+    }
+}
+
+/// How many bytes more there may be after the text of a value.
+fn left_after<D: fmt::Display>(left: u64, value: &D) -> R<u64>
+    ensures { IfOk result
+        (λ n. IfSome (D.output value.now) (λ text. n ≡ left - length text)) }
+{
+    let mut room = Room { left };
+    match room.write(value) {
+        Ok(()) => Ok(room.left),
+        Err(_) => Err(Want::Memory),
+    }
+}
