@@ -1,8 +1,8 @@
 //! The order in which candidates are tried, and those that a limit leaves out.
 
 use crate::solve::Texts;
-use resolvo_catalogue::{CatalogueProvider, Hint, RequestIds};
-use resolvo_pool::{CacheFault, R, SolvableId, SolverCache, Want};
+use resolvo_catalogue::{CatalogueProvider, GivenUp, Hint, RequestIds};
+use resolvo_pool::{CacheFault, DependencyProvider, R, SolvableId, SolverCache, Want};
 use std::alloc::Global;
 
 /// Writes the numbers of the versions, as the catalogue counts them.
@@ -22,8 +22,8 @@ fn write_found<C: Drop>(text: &mut String, found: Result<&[SolvableId], CacheFau
 }
 
 /// Writes the candidates of the first need, in the order in which they are tried, and those of the first limit's package that it leaves out.
-fn write_order(
-    cache: &mut SolverCache<CatalogueProvider>,
+fn write_order<P: DependencyProvider<SolvableId = SolvableId, Cancel = GivenUp>>(
+    cache: &mut SolverCache<P>,
     root: &RequestIds,
     tried: &mut String,
     limited: &mut String,
@@ -40,9 +40,9 @@ fn write_order(
     Ok(())
 }
 
-fn write_cached(
+fn write_cached<P: DependencyProvider<SolvableId = SolvableId, Cancel = GivenUp> + Drop>(
     alloc: Global,
-    provider: CatalogueProvider,
+    provider: P,
     root: &RequestIds,
     tried: &mut String,
     limited: &mut String,

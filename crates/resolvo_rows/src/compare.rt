@@ -44,6 +44,21 @@ fn compare_answer(case: &str, answer: &Answer, tally: &mut Tally) -> R<()> {
     compare_part(case, "== asked\n", answer.asked.as_str(), tally)
 }
 
+/// Compares the answers of a search that was cancelled, and of the one after it.
+fn compare_again(
+    case: &str,
+    wanted: &str,
+    stopped: &str,
+    answer: &Answer,
+    tally: &mut Tally,
+) -> R<bool> {
+    let first = answer.first.as_str();
+    compare(case, "a cancelled search", first, stopped, tally)?;
+    let again = answer.again.as_str();
+    compare(case, "the search after it", again, wanted, tally)?;
+    Ok(true)
+}
+
 /// Whether the answer is that of a provider which was cancelled after so many tests. Its solver then answers.
 fn compare_stopped(
     alloc: Global,
@@ -60,21 +75,7 @@ fn compare_stopped(
         return Err(Want::Memory);
     }
     let stopped = format!(in alloc; "cancelled with {passed}\n")?;
-    compare(
-        case,
-        "a cancelled search",
-        answer.first.as_str(),
-        stopped.as_str(),
-        tally,
-    )?;
-    compare(
-        case,
-        "the search after it",
-        answer.again.as_str(),
-        wanted,
-        tally,
-    )?;
-    Ok(true)
+    compare_again(case, wanted, stopped.as_str(), answer, tally)
 }
 
 /// Cancels at each test of the provider in turn.

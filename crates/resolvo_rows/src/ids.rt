@@ -3,7 +3,7 @@
 use crate::solve::{catalogue_in, request_in};
 use crate::tally::Tally;
 use resolvo_catalogue::{Catalogue, CatalogueProvider, Hint, Request, RequestIds, Span, Spec};
-use resolvo_pool::{R, Requirement};
+use resolvo_pool::{Interner, R, Requirement};
 use std::alloc::Global;
 
 const LISTED: &str =
@@ -37,16 +37,23 @@ fn are_three(specs: &[Spec]) -> bool {
     }
 }
 
+/// Whether a need with alternatives is written by them.
+fn is_written<I: Interner>(alloc: Global, interner: &I, requirement: Requirement) -> R<bool> {
+    let shown = requirement.display(interner);
+    let text = format!(in alloc; "{shown}")?;
+    Ok(text.as_str() == "a 1 | b 2..4 | c *")
+}
+
 /// Whether a need with alternatives is written by them, and is these.
 fn are_alternatives(
     alloc: Global,
     provider: &CatalogueProvider,
     requirement: Requirement,
 ) -> R<bool> {
-    let shown = requirement.display(provider);
-    let text = format!(in alloc; "{shown}")?;
-    let specs = provider.alternatives_of(requirement)?;
-    Ok(text.as_str() == "a 1 | b 2..4 | c *" && are_three(specs.as_slice()))
+    if !is_written(alloc, provider, requirement)? {
+        return Ok(false);
+    }
+    Ok(are_three(provider.alternatives_of(requirement)?.as_slice()))
 }
 
 fn have_one_id(alloc: Global, provider: &CatalogueProvider, asked: &RequestIds) -> R<bool> {

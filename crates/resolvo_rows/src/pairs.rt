@@ -3,8 +3,10 @@
 
 use crate::solve::{Asked, catalogue_in, request_in, solved};
 use crate::tally::Tally;
-use resolvo::solver::{Solver, UnsolvableOrCancelled};
-use resolvo_catalogue::{Catalogue, CatalogueProvider, Hint, Request, RequestIds, VersionNo};
+use resolvo::{Solver, UnsolvableOrCancelled};
+use resolvo_catalogue::{
+    Catalogue, CatalogueProvider, GivenUp, Hint, Request, RequestIds, VersionNo,
+};
 use resolvo_pool::{R, SolvableId, Want};
 use std::alloc::Global;
 
@@ -165,6 +167,23 @@ fn wishes_of(alloc: Global, catalogue: &Catalogue, root: &RequestIds) -> R<Vec<S
     Ok(wishes)
 }
 
+/// The chosen versions fill the set. Whether there are any.
+fn fill_found(
+    set: &mut Vec<VersionNo>,
+    provider: &CatalogueProvider,
+    found: &Result<Vec<SolvableId>, UnsolvableOrCancelled<GivenUp>>,
+) -> R<bool> {
+    match found {
+        Ok(chosen) => {
+            fill_chosen(set, provider, chosen.as_slice())?;
+            Ok(true)
+        }
+        Err(UnsolvableOrCancelled::Unsolvable(_)) => Ok(false),
+        Err(UnsolvableOrCancelled::Memory) => Err(Want::Memory),
+        Err(_) => Err(Want::Ids),
+    }
+}
+
 /// The chosen versions fill the set. Whether there are any that keep the rules, by the solver.
 fn is_chosen(
     alloc: Global,
@@ -172,15 +191,8 @@ fn is_chosen(
     asked: Asked<'_, SolvableId>,
     set: &mut Vec<VersionNo>,
 ) -> R<bool> {
-    match solved(alloc, solver, asked) {
-        Ok(chosen) => {
-            fill_chosen(set, solver.provider(), chosen.as_slice())?;
-            Ok(true)
-        }
-        Err(UnsolvableOrCancelled::Unsolvable(_)) => Ok(false),
-        Err(UnsolvableOrCancelled::Memory) => Err(Want::Memory),
-        Err(_) => Err(Want::Ids),
-    }
+    let found = solved(alloc, solver, asked);
+    fill_found(set, solver.provider(), &found)
 }
 
 fn is_root_chosen(

@@ -1,25 +1,17 @@
 //! A solver over a catalogue by a provider with sparse ids, which records its questions and cancels once.
 
-use crate::answer::{Answer, write_twice};
-use resolvo::problem::Problem;
-use resolvo::solver::{Solver, UnsolvableOrCancelled};
+use crate::answer::{Answer, Recorder, fill_answer};
+use resolvo::{Problem, Solver, UnsolvableOrCancelled};
 use resolvo_catalogue::{
     Catalogue, CatalogueProvider, Hint, MemorySource, ReadFault, Request, RequestIds,
 };
-use resolvo_pool::{
-    ConditionalRequirement, DependencyProvider, R, SolvableId, SolvableTag, SparseId, VersionSetId,
-    Want,
-};
+use resolvo_pool::{ConditionalRequirement, DependencyProvider, R, VersionSetId, Want};
 use resolvo_test_providers::test_provider::{TestProvider, sparse_ids};
 use std::alloc::Global;
 
-pub type Source = TestProvider<CatalogueProvider>;
-
-pub type Version = SparseId<SolvableTag, SolvableId>;
-
 /// What a solver is asked for: needs, limits and wishes.
 #[derive(Clone, Copy)]
-pub struct Asked<'a, S = Version> {
+pub struct Asked<'a, S> {
     pub needs: &'a [ConditionalRequirement],
     pub limits: &'a [VersionSetId],
     pub wishes: &'a [S],
@@ -66,23 +58,54 @@ pub fn request_in(alloc: Global, lines: &str, catalogue: &Catalogue) -> R<Reques
     }
 }
 
+fn solve_with<P: DependencyProvider>(
+    alloc: Global,
+    solver: &mut Solver<P>,
+    requirements: Vec<ConditionalRequirement>,
+    constraints: Vec<VersionSetId>,
+    wishes: &[P::SolvableId],
+) -> Result<Vec<P::SolvableId>, UnsolvableOrCancelled<P::Cancel>> {
+    solver.solve(
+        Problem::new(alloc)
+            .requirements(requirements)
+            .constraints(constraints)
+            .soft_requirements(wishes.iter().copied()),
+    )
+}
+
+fn solve_for<P: DependencyProvider>(
+    alloc: Global,
+    solver: &mut Solver<P>,
+    requirements: Vec<ConditionalRequirement>,
+    asked: Asked<'_, P::SolvableId>,
+) -> Result<Vec<P::SolvableId>, UnsolvableOrCancelled<P::Cancel>> {
+    match Vec::from_slice(alloc, asked.limits) {
+        Ok(constraints) => solve_with(alloc, solver, requirements, constraints, asked.wishes),
+        Err(_) => Err(UnsolvableOrCancelled::Memory),
+    }
+}
+
 /// The answer of a solver.
 pub fn solved<P: DependencyProvider>(
     alloc: Global,
     solver: &mut Solver<P>,
     asked: Asked<'_, P::SolvableId>,
 ) -> Result<Vec<P::SolvableId>, UnsolvableOrCancelled<P::Cancel>> {
-    let needs = Vec::from_slice(alloc, asked.needs);
-    let limits = Vec::from_slice(alloc, asked.limits);
-    match (needs, limits) {
-        (Ok(needs), Ok(limits)) => solver.solve(
-            Problem::new(alloc)
-                .requirements(needs)
-                .constraints(limits)
-                .soft_requirements(asked.wishes.iter().copied()),
-        ),
-        _ => Err(UnsolvableOrCancelled::Memory),
+    match Vec::from_slice(alloc, asked.needs) {
+        Ok(requirements) => solve_for(alloc, solver, requirements, asked),
+        Err(_) => Err(UnsolvableOrCancelled::Memory),
     }
+}
+
+/// Fills in the answer of a solver over a provider.
+fn answer_over<P: DependencyProvider<Cancel = u32> + Recorder + Drop>(
+    alloc: Global,
+    source: P,
+    asked: Asked<'_, P::SolvableId>,
+    answer: &mut Answer,
+) -> R<()> {
+    let mut solver = Solver::new(alloc, source).with_activity_params(1_000_000, 950_000);
+    fill_answer(alloc, &mut solver, asked, answer)
 }
 
 /// Fills in the answer of a solver over a provider that cancels, after so many others, at its next test.
@@ -101,8 +124,7 @@ fn answer_root(
                 wishes: wishes.as_slice(),
             };
             let source = TestProvider::new(alloc, provider, passed, passed);
-            let mut solver = Solver::new(alloc, source).with_activity_params(1_000_000, 950_000);
-            write_twice(alloc, &mut solver, asked, answer)
+            answer_over(alloc, source, asked, answer)
         }
         Err(want) => Err(want),
     }
