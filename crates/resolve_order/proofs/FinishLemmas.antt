@@ -18,7 +18,8 @@ use Rattle.resolvo_catalogue_core.proofs.TableSteps.{numbered}
 use Rattle.resolve_order.specs.Order as order
 use Rattle.resolve_order.specs.Order.{IsNext, AreInOrder, IsComplete, IsOneTurn, AreTurns, wish_entry, chosen_by, chosen_in, accepted_by}
 use Rattle.resolve_order.specs.View.{reason_of, answer_of, wish_at, turn_of, turns_of, IsAccepted, IsWishOf, AreWishesOf}
-use Rattle.resolve_order.specs.Kept.{AreOneEach, IsListing, IsLeft, IsFound, Extends, TakesTurn, IsSpentAt, Remains, answers_in, entries_in, left_of}
+use Rattle.resolve_order.specs.Kept.{AreOneEach, Holds, IsListing, IsLeft, IsFound, Extends, TakesTurn, IsSpentAt, Remains, answers_in, entries_in, left_of}
+use Rattle.resolve_order.specs.declared.chosen.Chosen.{Chosen}
 use Rattle.resolve_order.specs.declared.entry.Answer.TheVariants as answer
 use Rattle.resolve_order.specs.declared.entry.Entry.{Entry}
 use Rattle.resolve_order.specs.declared.entry.Reason.{Reason}
@@ -35,6 +36,14 @@ use Rattle.resolve_order.proofs.TurnLemmas.{Accepts, AllAccepted, after_both, in
 
 pub extends_none : (catalogue request : List Line) (chosen : Set) (x : Listing) → IsListing catalogue request x chosen → Extends catalogue request chosen x x
 extends_none catalogue request chosen x h = record { listing = h; others = []; more = sym (append-nil (answers_in catalogue x)); in_order = tt }
+
+-- the same listing, where fewer versions are left
+pub ready : (catalogue request : List Line) (chosen : Set) (x : Listing) (kept : Chosen) → ((versions : List Version) (all entries : Set) → Holds versions x.chosen all entries → Holds versions kept all entries)
+    → IsListing catalogue request x chosen → IsListing catalogue request (record x { chosen = kept }) chosen
+ready catalogue request chosen x kept holds h = record { holds = holds (listed catalogue) chosen (entries_in catalogue x) h.holds; lines = h.lines; numbered = h.numbered }
+
+pub extends_again : (catalogue request : List Line) (chosen : Set) (x : Listing) (kept : Chosen) (after : Listing) → Extends catalogue request chosen (record x { chosen = kept }) after → Extends catalogue request chosen x after
+extends_again catalogue request chosen x kept after h = record { listing = h.listing; others = h.others; more = h.more; in_order = h.in_order }
 
 pub all_left : (catalogue request : List Line) (chosen : Set) (x : Listing) (places : Places) → places.waiting.items ≡ [] → places.again.items ≡ [] → places.below ≡ 0 → IsLeft catalogue request x chosen places
 all_left catalogue request chosen x places waiting again below = record {

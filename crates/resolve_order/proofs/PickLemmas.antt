@@ -1,5 +1,5 @@
 -- The chosen versions by their packages, and which of them are entries.
-use Rattle.std.proofs.Common.{◌≡◌, ◌⊎◌, inl, inr, ℕ, zero, suc, ◌+◌, ◌<◌, Bool, true, false, not, if◌then◌else◌, List, [], ◌∷◌, ◌++◌, length, Option, Some, None, refl, sym, ap, subst, ◌∙◌, set, get_or, take, drop, append_assoc, arith}
+use Rattle.std.proofs.Common.{◌≡◌, ◌⊎◌, inl, inr, ℕ, zero, suc, ◌+◌, ◌-◌, ◌<◌, Bool, true, false, not, if◌then◌else◌, List, [], ◌∷◌, ◌++◌, length, Option, Some, None, refl, sym, ap, subst, ◌∙◌, set, get_or, take, drop, append_assoc, arith}
 use Rattle.std.specs.Prelude.{slice_get, Contains, option_to_list}
 use Rattle.std.specs.Option.{option_map_or}
 use Rattle.std.specs.List.{list_any}
@@ -8,9 +8,9 @@ use Rattle.std.specs.BTreeMap.{get_by_text}
 use Rattle.std.proofs.lemmas.Bool.{false≢true, cases_Bool, and_parts}
 use Rattle.std.proofs.lemmas.List.Elements.{Contains-append_left, Contains-append_right, Contains-push, Contains-push_cases}
 use Rattle.std.proofs.lemmas.List.Sums.{sum_by-set}
-use Rattle.std.proofs.lemmas.List.{append-nil, take_more, take-append-drop, drop_more, map-append}
+use Rattle.std.proofs.lemmas.List.{append-nil, take_all, take_more, take-append-drop, drop_more, map-append}
 use Rattle.std.proofs.lemmas.Grind.{flat_map-append}
-use Rattle.std.proofs.lemmas.Option.{slice_get_within, get_or_from_slice_get}
+use Rattle.std.proofs.lemmas.Option.{slice_get_within, slice_get-get_or, get_or_from_slice_get}
 use Rattle.std.proofs.lemmas.Slice.Eq.{bytes_eq-Decides}
 use Rattle.resolvo_text.specs.Line.{Version, Spec, Cond, Line, Needs}
 use Rattle.resolvo_text.specs.View.{spec_of, specs_of}
@@ -19,10 +19,10 @@ use Rattle.resolvo_text.specs.Matches.{Set, matches, is_member, is_met, is_in_sp
 use Rattle.resolvo_catalogue_core.specs.Listed.{is_match, members}
 use Rattle.resolvo_catalogue_core.specs.Questions.{is_rule}
 use Rattle.resolvo_catalogue_core.specs.declared.rule.VersionNo.{VersionNo}
-use Rattle.resolve_order.specs.Kept.{AreOneEach, IsPick, is_unlisted, weight, unlisted, Holds, IsChosenMatch, IsUnlistedMatch, IsFirstMatch, IsLineState, IsWaiting, IsSpent}
+use Rattle.resolve_order.specs.Kept.{AreOneEach, IsPick, is_unlisted, weight, unlisted, IsIn, Holds, IsChosenMatch, IsUnlistedMatch, IsFirstMatch, IsLineState, IsWaiting, IsSpent}
 use Rattle.resolve_order.specs.declared.chosen.LineState.TheVariants as state
 use Rattle.resolve_order.specs.declared.chosen.Chosen.{Chosen}
-use Rattle.resolve_order.proofs.Elements.{first_element, any_from, any_element, any_none, member_from, from_member, member_none, none_from_member}
+use Rattle.resolve_order.proofs.Elements.{no_element, first_element, any_from, any_element, any_none, member_from, from_member, member_none, none_from_member}
 
 -- ---- one more chosen version
 
@@ -48,13 +48,20 @@ picks_more versions chosen v n name before after at is one pick = subst (IsPick 
 
 -- the version of this number, if there is one
 pub adds : (versions : List Version) (before after : Chosen) (chosen entries : Set) (n : VersionNo) (v : Version) → slice_get versions n.0 ≡ Some v
-    → ((name : List ℕ) → get_by_text after.picks name ≡ (if bytes_eq v.name name then Some n else get_by_text before.picks name)) → after.listed ≡ before.listed
+    → ((name : List ℕ) → get_by_text after.picks name ≡ (if bytes_eq v.name name then Some n else get_by_text before.picks name)) → after.listed ≡ before.listed → after.left.items ≡ before.left.items ++ n ∷ []
     → Holds versions before chosen entries → AreOneEach (chosen ++ members versions (n ∷ [])) → Holds versions after (chosen ++ members versions (n ∷ [])) entries
-adds versions before after chosen entries n v at picks flags h one = subst (λ (new : Set). Holds versions after (chosen ++ new) entries) (sym alone) (record {
+adds versions before after chosen entries n v at picks flags left h one = subst (λ (new : Set). Holds versions after (chosen ++ new) entries) (sym alone) (record {
   picks = λ name. picks_more versions chosen v n name (get_by_text before.picks name) (get_by_text after.picks name) at (picks name) (subst (λ (new : Set). AreOneEach (chosen ++ new)) alone one) (h.picks name);
   flags = λ k w at_k. ap (λ (l : _). slice_get l.items k) flags ∙ h.flags k w at_k;
   distinct = h.distinct;
   among = λ w c. Contains-append_left chosen (v ∷ []) w (h.among w c);
+  left = λ w c. elim (Contains-push_cases chosen v w c) [
+    | inl old ↦ elim (h.left w old) [
+      | inl entry ↦ inl entry
+      | inr i ↦ inr (i.0, subst (λ (ns : List VersionNo). Contains ns i.0) (sym left) (Contains-append_left before.left.items (n ∷ []) i.0 i.1), i.2)
+    ]
+    | inr new ↦ inr (n, subst (λ (ns : List VersionNo). Contains ns n) (sym left) (Contains-push before.left.items n), at ∙ ap Some new)
+  ];
 })
   where
     alone : members versions (n ∷ []) ≡ v ∷ []
@@ -126,12 +133,16 @@ member_more w v set apart = elim (cases_Bool (is_member w set)) [
 ]
 
 pub marks : (versions : List Version) (before after : Chosen) (chosen entries : Set) (n : ℕ) (v : Version) → slice_get versions n ≡ Some v → Contains chosen v
-    → is_unlisted before.listed.items n ≡ true → after.picks ≡ before.picks → after.listed.items ≡ set before.listed.items n true → Holds versions before chosen entries → Holds versions after chosen (entries ++ v ∷ [])
-marks versions before after chosen entries n v at in_chosen unset picks flags h = record {
+    → is_unlisted before.listed.items n ≡ true → after.picks ≡ before.picks → after.listed.items ≡ set before.listed.items n true → after.left ≡ before.left → Holds versions before chosen entries → Holds versions after chosen (entries ++ v ∷ [])
+marks versions before after chosen entries n v at in_chosen unset picks flags left h = record {
   picks = λ name. subst (λ (p : _). IsPick versions chosen name (get_by_text p name)) (sym picks) (h.picks name);
   flags = λ k w at_k. ap (λ (fs : List Bool). slice_get fs k) flags ∙ of k w at_k (is_nat k n);
   distinct = h.distinct;
   among = λ w c. elim (Contains-push_cases entries v w c) [ inl old ↦ h.among w old | inr new ↦ subst (Contains chosen) new in_chosen ];
+  left = λ w c. elim (h.left w c) [
+    | inl entry ↦ inl (Contains-append_left entries (v ∷ []) w entry)
+    | inr i ↦ inr (i.0, subst (λ (l : _). Contains l.items i.0) (sym left) i.1, i.2)
+  ];
 }
   where
     of : (k : ℕ) (w : Version) → slice_get versions k ≡ Some w → (k ≡ n) ⊎ (k ≡ n → ⊥) → slice_get (set before.listed.items n true) k ≡ Some (is_member w (entries ++ v ∷ []))
@@ -173,6 +184,42 @@ not_true false e = refl
 not_false : (b : Bool) → not b ≡ false → b ≡ true
 not_false true e = refl
 not_false false e = absurd (false≢true (sym e))
+
+-- ---- those left
+
+-- the last number of a list, which is dropped
+pub popped : (before after : List VersionNo) (n : VersionNo) → after ≡ take (length before - 1) before → slice_get before (length before - 1) ≡ Some n → before ≡ after ++ n ∷ []
+popped before after n rest at =
+    let i = length before - 1 in
+    let lt = slice_get_within before i n at in
+    sym (take_all (i + 1) before (omega (arith, lt))) ∙ take_more before i n lt ∙ ap (λ (x : VersionNo). take i before ++ x ∷ []) (get_or_from_slice_get before i n n at) ∙ ap (λ (ns : List VersionNo). ns ++ n ∷ []) (sym rest)
+
+pub last_none : (numbers : List VersionNo) → slice_get numbers (length numbers - 1) ≡ None → numbers ≡ []
+last_none [] at = refl
+last_none (n ∷ numbers) at =
+    let is = slice_get-get_or (n ∷ numbers) (length (n ∷ numbers) - 1) n (omega arith) in cc
+
+-- an entry is dropped
+pub drops : (versions : List Version) (before after : Chosen) (chosen entries : Set) (n : VersionNo) → before.left.items ≡ after.left.items ++ n ∷ [] → is_unlisted before.listed.items n.0 ≡ false
+    → after.picks ≡ before.picks → after.listed ≡ before.listed → Holds versions before chosen entries → Holds versions after chosen entries
+drops versions before after chosen entries n left is_set picks flags h = record {
+  picks = λ name. subst (λ (p : _). IsPick versions chosen name (get_by_text p name)) (sym picks) (h.picks name);
+  flags = λ k w at. ap (λ (l : _). slice_get l.items k) flags ∙ h.flags k w at;
+  distinct = h.distinct;
+  among = h.among;
+  left = λ w c. elim (h.left w c) [
+    | inl entry ↦ inl entry
+    | inr i ↦ of w i.0 i.2 (Contains-push_cases after.left.items n i.0 (subst (λ (ns : List VersionNo). Contains ns i.0) left i.1))
+  ];
+}
+  where
+    of : (w : Version) (m : VersionNo) → slice_get versions m.0 ≡ Some w → Contains after.left.items m ⊎ (n ≡ m) → Contains entries w ⊎ IsIn versions after.left.items w
+    of w m at (inl old) = inr (m, old, at)
+    of w m at (inr same) =
+        inl (from_member entries w (not_false (is_member w entries) (sym (flag_means versions before chosen entries m.0 w h at) ∙ subst (λ (k : VersionNo). is_unlisted before.listed.items k.0 ≡ false) same is_set)))
+
+pub none_left_entries : (versions : List Version) (kept : Chosen) (chosen entries : Set) → kept.left.items ≡ [] → Holds versions kept chosen entries → (v : Version) → Contains chosen v → Contains entries v
+none_left_entries versions kept chosen entries none h v c = elim (h.left v c) [ inl entry ↦ entry | inr i ↦ absurd (no_element i.0 (subst (λ (ns : List VersionNo). Contains ns i.0) none i.1)) ]
 
 pub match_unlisted : (versions : List Version) (kept : Chosen) (chosen entries : Set) (s : Spec) (n : VersionNo) → Holds versions kept chosen entries → IsChosenMatch versions chosen s (Some n)
     → is_unlisted kept.listed.items n.0 ≡ true → IsUnlistedMatch versions chosen entries s (Some n)

@@ -48,12 +48,18 @@ weight false = 1
 abbrev pub unlisted : List Bool → ℕ
 unlisted flags = sum_by weight flags
 
--- These are the chosen versions, and these of them are entries.
+-- It is the version of one of the numbers.
+abbrev pub IsIn : List Version → List VersionNo → Version → Type 0
+IsIn versions numbers v = (n : VersionNo) × Contains numbers n × (slice_get versions n.0 ≡ Some v)
+
+-- These are the chosen versions, and these of them are entries. Chosen versions that are none are
+-- among those left.
 pub record Holds (versions : List Version) (kept : Chosen) (chosen entries : Set) : Type 0 where
   pub picks : (name : List ℕ) → IsPick versions chosen name (get_by_text kept.picks name)
   pub flags : (n : ℕ) (v : Version) → slice_get versions n ≡ Some v → slice_get kept.listed.items n ≡ Some (is_member v entries)
   pub distinct : AreDistinct versions
   pub among : (v : Version) → Contains entries v → Contains chosen v
+  pub left : (v : Version) → Contains chosen v → Contains entries v ⊎ IsIn versions kept.left.items v
 
 -- the only match among the chosen versions, or there is none
 abbrev pub IsChosenMatch : List Version → Set → Spec → Option VersionNo → Type 0

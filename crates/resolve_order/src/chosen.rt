@@ -39,6 +39,8 @@ pub struct Chosen {
     picks: BTreeMap<String, VersionNo>,
     /// Of each version of the catalogue, whether it is an entry.
     listed: Vec<bool>,
+    /// The chosen versions that may be no entries yet.
+    left: Vec<VersionNo>,
 }
 
 impl Chosen {
@@ -50,6 +52,7 @@ impl Chosen {
         Ok(Chosen {
             picks: BTreeMap::new(alloc),
             listed,
+            left: Vec::new(alloc),
         })
     }
 
@@ -64,6 +67,7 @@ impl Chosen {
     {
         if let Some(listed) = version_at(catalogue, version) {
             self.picks.insert(listed.0.clone()?, version)?;
+            self.left.push(version)?;
         }
         Ok(())
     }
@@ -109,6 +113,26 @@ impl Chosen {
             → Holds versions self.new chosen (entries ++ v ∷ []) }
     {
         self.listed[version.0 as usize] = true;
+    }
+
+    /// Whether each chosen version is seen to be an entry. Drops those that are from the end of
+    /// the left ones, so that each is looked at once.
+    pub fn are_all_listed(&mut self) -> bool
+        ensures holds { (versions : List content.Version) (chosen entries : Set)
+            → Holds versions self.old chosen entries
+            → Holds versions self.new chosen entries }
+        ensures listed { result ≡ true
+            → (versions : List content.Version) (chosen entries : Set)
+            → Holds versions self.old chosen entries
+            → (v : content.Version) → Contains chosen v → Contains entries v }
+    {
+        while let Some(version) = self.left.last().copied() {
+            if self.is_unlisted(version) {
+                return false;
+            }
+            self.left.pop();
+        }
+        true
     }
 
     /// The chosen version of a package.

@@ -152,7 +152,8 @@ impl Listing {
         Ok(None)
     }
 
-    /// Lists one version after the other, until no line gives anything more.
+    /// Lists one version after the other, until no line gives anything more. No line is looked at
+    /// where each chosen version is an entry.
     fn finish(
         &mut self,
         alloc: Global,
@@ -169,6 +170,9 @@ impl Listing {
             → IsComplete catalogue.now request.now.lines chosen
             (entries_in catalogue.now self.new)) }
     {
+        if self.chosen.are_all_listed() {
+            return Ok(());
+        }
         let mut places = Places::new(alloc);
         while let Some(entry) = self.next(catalogue, request, &mut places)? {
             self.give(catalogue, entry)?;
