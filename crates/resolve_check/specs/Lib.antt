@@ -1,4 +1,4 @@
-pub mod Endings
+pub mod ExitStatus
 pub mod Texts
 pub mod Input
 pub mod Devices

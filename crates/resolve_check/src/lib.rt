@@ -3,7 +3,7 @@
 #![tactic(auto)]
 
 pub mod check;
-pub mod endings;
+pub mod exit_status;
 pub mod input;
 pub mod length;
 pub mod outcome;

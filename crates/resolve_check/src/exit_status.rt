@@ -1,7 +1,7 @@
-//! The program's status, and the line that it prints after the text. `main` calls it last.
+//! The program's exit status, and the line that it prints after the text. `main` calls it last.
 
 ghost use Rattle.std.specs.Prelude.{◌≡◌};
-ghost use Rattle.resolve_check.specs.Endings.{status_of, last_line_of, fault_line_of, check_status_of, check_last_line_of};
+ghost use Rattle.resolve_check.specs.ExitStatus.{status_of, last_line_of, fault_line_of, check_status_of, check_last_line_of};
 
 use crate::outcome::{Checked, Outcome, RunFault};
 
