@@ -1,14 +1,16 @@
 -- What the marked entries of a trail deny.
-use Rattle.std.proofs.Common.{◌≡◌, ℕ, ◌+◌, ◌<◌, ◌≤◌, ◌⊎◌, inl, inr, Bool, true, false, cond, List, [], ◌∷◌, take, length, get_or, refl, sym, ◌∙◌, ap, subst, arith, ◌==◌, eqb-true, eq-eqb}
-use Rattle.std.specs.Prelude.{slice_index_or}
+use Rattle.std.proofs.Common.{◌≡◌, ℕ, ◌+◌, ◌-◌, ◌<◌, ◌≤◌, ◌⊎◌, inl, inr, Bool, true, false, not, if◌then◌else◌, cond, List, [], ◌∷◌, take, length, get_or, refl, sym, ◌∙◌, ap, subst, arith, ◌==◌, eqb-true, eq-eqb}
+use Rattle.std.specs.Prelude.{slice_index_or, min}
 use Rattle.std.proofs.lemmas.Bool.{both_ways}
+use Rattle.std.proofs.lemmas.List.{length-reverse, length-take-le}
 use Rattle.resolvo_store_core.specs.Signed.{Signed, negation, has}
 use Rattle.resolvo_store_core.specs.declared.decision.Entry.{Entry}
 use Rattle.resolvo_pool_core.specs.declared.id.VariableId.{VariableId}
-use Rattle.resolvo_sat.specs.Entries.{literal_of, made_true, top_level, IsTrail, IsTrueAt}
-use Rattle.resolvo_sat.specs.Analysis.{is_seen, denied, Seen, IsMarkedLevel}
+use Rattle.resolvo_sat.specs.Known.{IsUndecided}
+use Rattle.resolvo_sat.specs.Entries.{literal_of, made_true, before, top_level, IsTrail, IsTrueAt}
+use Rattle.resolvo_sat.specs.Analysis.{is_seen, denied, Seen, MarksAtMost, IsMarkedLevel}
 use Rattle.resolvo_sat.proofs.Literals.{negation-negation, has-cons, has_here, has_later, has_more, more_has_old, more_has_new}
-use Rattle.resolvo_sat.proofs.Trails.{level_le_last, level_steps}
+use Rattle.resolvo_sat.proofs.Trails.{level_le_last, level_steps, same_or_negated}
 
 -- a denied literal is of the newest entry, which is marked, or of an older one
 pub denied_cases : (seen : List Bool) (e : Entry) (older : List Entry) (l : Signed) → has (denied seen (e ∷ older)) l ≡ true → ((is_seen seen e ≡ true) × (l ≡ negation (literal_of e))) ⊎ (has (denied seen older) l ≡ true)
@@ -138,3 +140,138 @@ marks_more literals i x old mid new lt is nonroot put m = record {
       | inl a ↦ inl a
       | inr a ↦ let (l, present, same) = a.1 in inr (a.0, (l, more_has_old literals i x l lt present, same))
     ]
+
+-- the marks of the trail's variables alone decide what is denied
+pub same_denied : (old new : List Bool) (h : List Entry) → ((l : Signed) → has (made_true h) l ≡ true → slice_index_or new l.variable.0 false ≡ slice_index_or old l.variable.0 false) → denied new h ≡ denied old h
+same_denied old new [] same = refl
+same_denied old new (e ∷ older) same =
+    let here : is_seen new e ≡ is_seen old e = same (literal_of e) (has_here (literal_of e) (made_true older) (literal_of e) refl) in
+    let rest : denied new older ≡ denied old older = same_denied old new older (λ l h. same l (has_later (literal_of e) (made_true older) l h)) in
+    ap (λ b. cond b (negation (literal_of e) ∷ denied new older) (denied new older)) here ∙ ap (λ (ls : List Signed). cond (is_seen old e) (negation (literal_of e) ∷ ls) ls) rest
+
+-- a marked entry counts one more than those before it, another one none
+pub count_marked : (seen : List Bool) (e : Entry) (older : List Entry) → is_seen seen e ≡ true → length (denied seen (e ∷ older)) ≡ length (denied seen older) + 1
+count_marked seen e older m =
+    let is : length (denied seen (e ∷ older)) ≡ length (negation (literal_of e) ∷ denied seen older) = ap (λ b. length (cond b (negation (literal_of e) ∷ denied seen older) (denied seen older))) m in
+    omega arith
+
+pub count_unmarked : (seen : List Bool) (e : Entry) (older : List Entry) → is_seen seen e ≡ false → length (denied seen (e ∷ older)) ≡ length (denied seen older)
+count_unmarked seen e older m = ap (λ b. length (cond b (negation (literal_of e) ∷ denied seen older) (denied seen older))) m
+
+-- an entry's variable has no value before it
+unmade : (h : List Entry) (e : Entry) (l : Signed) → IsUndecided (made_true h) (literal_of e) → has (made_true h) l ≡ true → l.variable.0 ≡ e.decision.variable.0 → ⊥
+unmade h e l u t same = elim (same_or_negated l (literal_of e) same) [
+  | inl i ↦ both_ways _ u.not_true (subst (λ (x : Signed). has (made_true h) x ≡ true) i t)
+  | inr i ↦ both_ways _ u.not_false (subst (λ (x : Signed). has (made_true h) x ≡ true) i t)
+]
+
+distinct : (a b : ℕ) → (a ≡ b → ⊥) → (a == b) ≡ false
+distinct a b h = go (a == b) refl
+  where
+    go : (x : Bool) → (a == b) ≡ x → x ≡ false
+    go true e = absurd (h (eqb-true _ _ e))
+    go false e = refl
+
+-- the mark of one more variable is that of one entry at most
+pub counts_one : (count : ℕ) (cs : List (List Signed)) (old new : List Bool) (v : ℕ) (h : List Entry) → IsTrail count cs h → ((q : ℕ) → slice_index_or new q false ≡ cond (v == q) true (slice_index_or old q false)) → length (denied new h) ≤ length (denied old h) + 1
+counts_one count cs old new v [] t put = omega arith
+counts_one count cs old new v (e ∷ older) t put = go (v == e.decision.variable.0) refl (is_seen old e) refl (counts_one count cs old new v older t.1 put)
+  where
+    kept : (v == e.decision.variable.0) ≡ false → is_seen new e ≡ is_seen old e
+    kept is = put e.decision.variable.0 ∙ ap (λ b. cond b true (is_seen old e)) is
+
+    at_least : (m : Bool) → is_seen old e ≡ m → length (denied old older) ≤ length (denied old (e ∷ older))
+    at_least true was = let a : length (denied old (e ∷ older)) ≡ length (denied old older) + 1 = count_marked old e older was in omega arith
+    at_least false was = let a : length (denied old (e ∷ older)) ≡ length (denied old older) = count_unmarked old e older was in omega arith
+
+    go : (b : Bool) → (v == e.decision.variable.0) ≡ b → (m : Bool) → is_seen old e ≡ m → length (denied new older) ≤ length (denied old older) + 1 → length (denied new (e ∷ older)) ≤ length (denied old (e ∷ older)) + 1
+    go true is m was rest =
+        let same : v ≡ e.decision.variable.0 = eqb-true _ _ is in
+        let others : denied new older ≡ denied old older = same_denied old new older (λ l h. put l.variable.0 ∙ ap (λ b. cond b true (slice_index_or old l.variable.0 false)) (distinct v l.variable.0 (λ i. unmade older e l t.0.undecided h (sym i ∙ same)))) in
+        let a : length (denied new older) ≡ length (denied old older) = ap length others in
+        let marked : is_seen new e ≡ true = put e.decision.variable.0 ∙ ap (λ b. cond b true (is_seen old e)) is in
+        let b : length (denied new (e ∷ older)) ≡ length (denied new older) + 1 = count_marked new e older marked in
+        let c : length (denied old older) ≤ length (denied old (e ∷ older)) = at_least m was in
+        omega arith
+    go false is true was rest =
+        let b : length (denied new (e ∷ older)) ≡ length (denied new older) + 1 = count_marked new e older (kept is ∙ was) in
+        let c : length (denied old (e ∷ older)) ≡ length (denied old older) + 1 = count_marked old e older was in
+        omega (arith, rest)
+    go false is false was rest =
+        let b : length (denied new (e ∷ older)) ≡ length (denied new older) = count_unmarked new e older (kept is ∙ was) in
+        let c : length (denied old (e ∷ older)) ≡ length (denied old older) = count_unmarked old e older was in
+        omega (arith, rest)
+
+-- one more variable was marked, which counts where it is new
+pub few_more : (n m last : ℕ) (v : VariableId) (old mid new : List Bool) (is_new : Bool) → is_new ≡ not (slice_index_or mid v.0 false) → ((q : VariableId) → slice_index_or new q.0 false ≡ cond (v.0 == q.0) true (slice_index_or mid q.0 false))
+    → m ≡ min (n + (if is_new then 1 else 0)) last → n < last → MarksAtMost n old mid → MarksAtMost m old new × (m ≤ n + 1)
+few_more n m last v old mid new is_new was put more low few = (λ count cs h t. go count cs h t is_new was more, bounded is_new more)
+  where
+    was_marked : (b : Bool) → slice_index_or mid v.0 false ≡ b → false ≡ not b → slice_index_or mid v.0 false ≡ true
+    was_marked true e f = e
+    was_marked false e f = absurd (both_ways false refl f)
+
+    agrees : (q : ℕ) → slice_index_or mid v.0 false ≡ true → cond (v.0 == q) true (slice_index_or mid q false) ≡ slice_index_or mid q false
+    agrees q marked = step (v.0 == q) refl
+      where
+        step : (b : Bool) → (v.0 == q) ≡ b → cond b true (slice_index_or mid q false) ≡ slice_index_or mid q false
+        step true e = sym (ap (λ (n : ℕ). slice_index_or mid n false) (sym (eqb-true _ _ e)) ∙ marked)
+        step false e = refl
+
+    bounded : (b : Bool) → m ≡ min (n + (if b then 1 else 0)) last → m ≤ n + 1
+    bounded true one = omega (arith, one)
+    bounded false one = omega (arith, one)
+
+    go : (count : ℕ) (cs : List (List Signed)) (h : List Entry) → IsTrail count cs h → (b : Bool) → b ≡ not (slice_index_or mid v.0 false) → m ≡ min (n + (if b then 1 else 0)) last → length (denied new h) ≤ length (denied old h) + m
+    go count cs h t true is one =
+        let a : length (denied new h) ≤ length (denied mid h) + 1 = counts_one count cs mid new v.0 h t (λ q. put (record { 0 = q })) in
+        let b : length (denied mid h) ≤ length (denied old h) + n = few count cs h t in
+        omega (arith, one)
+    go count cs h t false is one =
+        let same : denied new h ≡ denied mid h = same_denied mid new h (λ l i. put l.variable ∙ agrees l.variable.0 (was_marked (slice_index_or mid v.0 false) refl is)) in
+        let a : length (denied new h) ≡ length (denied mid h) = ap length same in
+        let b : length (denied mid h) ≤ length (denied old h) + n = few count cs h t in
+        omega (arith, one)
+
+-- nothing is denied where nothing is marked
+unmarked_none : (h : List Entry) → denied [] h ≡ []
+unmarked_none [] = refl
+unmarked_none (e ∷ older) = unmarked_none older
+
+-- no more entries are marked than were counted
+pub few_begun : (n count : ℕ) (cs : List (List Signed)) (none seen : List Bool) (h : List Entry) → IsTrail count cs h → none ≡ [] → MarksAtMost n none seen → length (denied seen h) ≤ n
+few_begun n count cs none seen h t empty few =
+    let a : length (denied seen h) ≤ length (denied none h) + n = few count cs h t in
+    let b : length (denied none h) ≡ 0 = ap length (ap (λ (xs : List Bool). denied xs h) empty ∙ unmarked_none h) in
+    omega arith
+
+-- a marked entry was passed
+pub few_passed : (seen : List Bool) (h : List Entry) (e : Entry) (older : List Entry) (all left : ℕ) → h ≡ e ∷ older → is_seen seen e ≡ true → length (denied seen h) ≤ all → left ≡ all - 1 → length (denied seen older) ≤ left
+few_passed seen h e older all left is marked few less =
+    let a : length (denied seen h) ≡ length (denied seen older) + 1 = ap (λ (x : List Entry). length (denied seen x)) is ∙ count_marked seen e older marked in
+    omega (arith, few, less)
+
+denied_short : (seen : List Bool) (h : List Entry) → length (denied seen h) ≤ length h
+denied_short seen [] = omega arith
+denied_short seen (e ∷ older) = go (is_seen seen e) refl (denied_short seen older)
+  where
+    go : (b : Bool) → is_seen seen e ≡ b → length (denied seen older) ≤ length older → length (denied seen (e ∷ older)) ≤ length (e ∷ older)
+    go true m rest = let b : length (denied seen (e ∷ older)) ≡ length (denied seen older) + 1 = count_marked seen e older m in omega (arith, rest)
+    go false m rest = let b : length (denied seen (e ∷ older)) ≡ length (denied seen older) = count_unmarked seen e older m in omega (arith, rest)
+
+-- the reason's variables were marked
+pub few_resolved : (n more sum last count : ℕ) (cs : List (List Signed)) (old new : List Bool) (xs : List Entry) (p : ℕ) → IsTrail count cs (before xs p) → p ≤ last → p ≤ length xs → MarksAtMost more old new → sum ≡ min (n + more) last → length (denied old (before xs p)) ≤ n → length (denied new (before xs p)) ≤ sum
+few_resolved n more sum last count cs old new xs p t low within few is counted =
+    let a : length (denied new (before xs p)) ≤ length (denied old (before xs p)) + more = few count cs (before xs p) t in
+    let b : length (denied new (before xs p)) ≤ length (before xs p) = denied_short new (before xs p) in
+    let c : length (before xs p) ≡ length (take p xs) = length-reverse (take p xs) in
+    let d : length (take p xs) ≡ p = length-take-le p xs within in
+    omega (arith, counted, is, low)
+
+-- where none is marked, the level 0 bounds them
+pub level_none : (seen : List Bool) (h : List Entry) (n : ℕ) → length (denied seen h) ≤ n → n ≡ 0 → IsMarkedLevel seen h 0
+level_none seen h n few zero = record { bounds = λ l d. absurd (go l (denied seen h) (omega (arith, few, zero)) d); low = omega arith }
+  where
+    go : (l : Signed) (ls : List Signed) → length ls ≤ 0 → has ls l ≡ true → ⊥
+    go l [] none d = both_ways false refl d
+    go l (x ∷ ls) none d = omega (arith, none)

@@ -64,6 +64,10 @@ meets s p d state h e =
     let t : IsTrail (count_of s) (clauses_of s) (d ∷ before s.tracker.trail p) = subst (IsTrail (count_of s) (clauses_of s)) e (trail_before (count_of s) (clauses_of s) s.tracker.trail (p + 1) state.trail) in
     record { in_range = h; next = e; follows = t.0; trail = t.1 }
 
+-- the entries before a place that was read
+pub came : (xs : List Entry) (n : ℕ) (d : Entry) → 0 < n → before xs (n - 1 + 1) ≡ d ∷ before xs (n - 1) → before xs n ≡ d ∷ before xs (n - 1)
+came xs n d some next = let same : n ≡ n - 1 + 1 = omega arith in ap (before xs) same ∙ next
+
 -- the denied literals before the place, with the newest entry apart
 denied_next : (s : SatState) (p : ℕ) (d : Entry) (seen : List Bool) → Meets s p d → denied seen (before s.tracker.trail (p + 1)) ≡ denied seen (d ∷ before s.tracker.trail p)
 denied_next s p d seen m = ap (denied seen) m.next

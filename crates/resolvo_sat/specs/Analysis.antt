@@ -1,5 +1,5 @@
 -- What is learnt from a broken clause.
-use Rattle.std.specs.Prelude.{◌≡◌, ℕ, ◌<◌, ◌≤◌, ◌⊎◌, Bool, true, false, List, [], ◌∷◌, ◌++◌, reverse, length, cond, slice_index_or, Option, Some, None, slice_get}
+use Rattle.std.specs.Prelude.{◌≡◌, ℕ, ◌<◌, ◌≤◌, ◌+◌, ◌⊎◌, Bool, true, false, List, [], ◌∷◌, ◌++◌, reverse, length, cond, slice_index_or, Option, Some, None, slice_get}
 use Rattle.resolvo_pool_core.specs.declared.id.ClauseId.{ClauseId}
 use Rattle.resolvo_pool_core.specs.declared.id.VariableId.{VariableId}
 use Rattle.resolvo_store_core.specs.Signed.{Signed, negation, has}
@@ -11,7 +11,7 @@ use Rattle.resolvo_sat.specs.declared.analyze.Analysis.{Analysis}
 use Rattle.resolvo_sat.specs.declared.analyze.Learnt.{Learnt}
 use Rattle.resolvo_sat.specs.declared.analyze.FinalConflict.{FinalConflict}
 use Rattle.resolvo_sat.specs.Known.{clause_at}
-use Rattle.resolvo_sat.specs.Entries.{literal_of, made_true, before, top_level, IsChoice, IsPropagated, IsTrueAt, IsOnTrail}
+use Rattle.resolvo_sat.specs.Entries.{literal_of, made_true, before, top_level, IsChoice, IsPropagated, IsTrail, IsTrueAt, IsOnTrail}
 use Rattle.resolvo_sat.specs.State.{history, clauses_of, IsDerived}
 
 -- the entry's variable is marked
@@ -28,6 +28,10 @@ pub record Seen (literals : List Signed) (old new : List Bool) : Type 0 where
   pub keeps : (v : ℕ) → slice_index_or old v false ≡ true → slice_index_or new v false ≡ true
   pub takes : (l : Signed) → has literals l ≡ true → (l.variable.0 ≡ 0) ⊎ (slice_index_or new l.variable.0 false ≡ true)
   pub only : (v : ℕ) → slice_index_or new v false ≡ true → (slice_index_or old v false ≡ true) ⊎ ((v ≡ 0 → ⊥) × ((l : Signed) × (has literals l ≡ true) × (l.variable.0 ≡ v)))
+
+-- of each trail no more than so many entries are newly marked
+abbrev pub MarksAtMost : ℕ → List Bool → List Bool → Type 0
+MarksAtMost n old new = (count : ℕ) (cs : List (List Signed)) (h : List Entry) → IsTrail count cs h → length (denied new h) ≤ length (denied old h) + n
 
 -- no marked entry is above the level, which is not above the last entry's
 pub record IsMarkedLevel (seen : List Bool) (h : List Entry) (level : ℕ) : Type 0 where

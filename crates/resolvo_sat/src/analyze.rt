@@ -1,11 +1,11 @@
 //! Conflict analysis: what is learnt from a falsified clause, by a walk back along the trail.
-ghost use Rattle.std.specs.Prelude.{◌≡◌, ◌≤◌, ◌<◌, ◌+◌, ◌∷◌, length, max, IfOk, IsOkUnless};
+ghost use Rattle.std.specs.Prelude.{◌≡◌, ◌≤◌, ◌<◌, ◌+◌, ◌-◌, ◌∷◌, if◌then◌else◌, length, max, min, IfOk, IsOkUnless};
 ghost use Rattle.resolvo_pool_core.specs.declared.want.Want.TheVariants.{Memory};
 ghost use Rattle.resolvo_store_core.specs.Signed.{has};
 ghost use Rattle.resolvo_sat.specs.Known.{IsFalseUnder, clause_at};
 ghost use Rattle.resolvo_sat.specs.Entries.{made_true, before, literal_of};
 ghost use Rattle.resolvo_sat.specs.State.{IsState, history, clauses_of};
-ghost use Rattle.resolvo_sat.specs.Analysis.{Seen, denied, IsMarkedLevel, IsAssertion, IsAnalysis, IsLearntOf, IsDecisionOrForced};
+ghost use Rattle.resolvo_sat.specs.Analysis.{Seen, MarksAtMost, denied, IsMarkedLevel, IsAssertion, IsAnalysis, IsLearntOf, IsDecisionOrForced};
 
 use crate::state::SatState;
 use resolvo_pool_core::id::{ClauseId, VariableId};
@@ -43,34 +43,71 @@ pub struct Learnt {
     pub level: u32,
 }
 
-/// Marks the variables of the literals, except the root's. Returns how many of them are of this
-/// level and weren't marked before.
+/// How many entries are marked, and how many of them are of the conflict's level.
+#[derive(Clone, Copy, Debug)]
+pub(crate) struct Marked {
+    pub all: usize,
+    pub of_level: usize,
+}
+
+/// Marks the variables of the literals, except the root's. Returns how many weren't marked before,
+/// and how many of these are of this level.
 pub(crate) fn mark_seen(
     seen: &mut IndexedSet<VariableId>,
     literals: &[Literal],
     values: &DecisionMap,
     level: u32,
-) -> R<usize>
+) -> R<Marked>
     ensures marked { IfOk result (λ _. Seen literals.now seen.old seen.new) }
+    ensures few { IfOk result (λ m. MarksAtMost m.all seen.old seen.new) }
     ensures refusal { IsOkUnless result Memory }
 {
-    let mut count = 0;
+    let mut count = Marked {
+        all: 0,
+        of_level: 0,
+    };
     for literal in literals {
         let variable = literal.variable();
         if !variable.is_root() {
             let is_new = seen.insert(variable)?;
-            count = counted(count, is_new, values.level(variable) == level);
+            count = count.with(is_new, values.level(variable) == level);
         }
     }
     Ok(count)
 }
 
-/// The count, plus one where both hold.
-fn counted(count: usize, is_new: bool, is_there: bool) -> usize {
-    if is_new && is_there {
-        count.saturating_add(1)
-    } else {
-        count
+impl Marked {
+    /// One more where it is new, of the conflict's level or not.
+    fn with(self, is_new: bool, is_there: bool) -> Marked
+        ensures { result.all ≡ min (self.all + (if is_new then 1 else 0)) usize.MAX }
+    {
+        if !is_new {
+            return self;
+        }
+        Marked {
+            all: self.all.saturating_add(1),
+            of_level: self.of_level.saturating_add(is_there as usize),
+        }
+    }
+
+    /// Both counts together.
+    fn plus(self, more: Marked) -> Marked
+        ensures { result.all ≡ min (self.all + more.all) usize.MAX }
+    {
+        Marked {
+            all: self.all.saturating_add(more.all),
+            of_level: self.of_level.saturating_add(more.of_level),
+        }
+    }
+
+    /// One less of both, where a marked entry was passed.
+    fn passed(self) -> Marked
+        ensures { result.all ≡ self.all - 1 }
+    {
+        Marked {
+            all: self.all.saturating_sub(1),
+            of_level: self.of_level.saturating_sub(1),
+        }
     }
 }
 
@@ -89,7 +126,7 @@ impl SatState {
         let mut seen = IndexedSet::new(alloc);
         let values = self.tracker.map();
         let level = self.top_level();
-        let mut pending = mark_seen(&mut seen, self.literals(falsified), values, level)?;
+        let mut marked = mark_seen(&mut seen, self.literals(falsified), values, level)?;
         let mut causes = Vec::new(alloc);
         causes.push(falsified)?;
         let mut kept = Vec::new(alloc);
@@ -98,18 +135,18 @@ impl SatState {
             place -= 1;
             let entry = self.entry(place);
             if seen.contains(entry.decision.variable) {
-                if let Some(below) = self.assertion_level(place, entry, pending, &seen) {
-                    let literals = self.denied(alloc, place, &seen)?;
+                marked = marked.passed();
+                if let Some(below) = self.assertion_level(place, entry, marked, &seen) {
+                    let literals = self.denied(alloc, place, marked.all, &seen)?;
                     return self.learnt(literals, kept, causes, entry, below);
                 }
-                pending = pending.saturating_sub(1);
                 if self.is_decision(place, entry) {
                     kept.push(literal_made_true(entry).negate())?;
                 } else {
                     causes.push(entry.decision.derived_from)?;
                     let reason = self.literals(entry.decision.derived_from);
                     let more = mark_seen(&mut seen, reason, values, level)?;
-                    pending = pending.saturating_add(more);
+                    marked = marked.plus(more);
                 }
             }
         }
@@ -121,27 +158,27 @@ impl SatState {
     }
 
     /// The level of the last marked entry before a place. There is one where the entry at the place
-    /// is the last marked one of its level, above the turn's first level. `pending` is how many
-    /// entries of the conflict's level are marked from this one back: while there are others, none
-    /// is searched for.
+    /// is the last marked one of its level, above the turn's first level. `marked` is how many
+    /// entries before it are marked: while some are of the conflict's level, none is searched for.
     fn assertion_level(
         &self,
         place: usize,
         entry: Entry,
-        pending: usize,
+        marked: Marked,
         seen: &IndexedSet<VariableId>,
     ) -> Option<u32>
         requires state { IsState self.now }
         requires in_range { place ≤ length self.now.tracker.trail }
+        requires marked { length (denied seen.now (before self.now.tracker.trail place)) ≤ marked.all }
         ensures { IsAssertion self.now seen.now entry (before self.now.tracker.trail place) result }
     {
         if entry.level <= self.base_level {
             return None;
         }
-        if pending > 1 && entry.level <= self.level_before(place) {
+        if marked.of_level > 0 && entry.level <= self.level_before(place) {
             return None;
         }
-        let below = self.backjump_level(place, seen);
+        let below = self.backjump_level(place, marked.all, seen);
         if entry.level <= below {
             return None;
         }
@@ -193,15 +230,24 @@ impl SatState {
     }
 
     /// The negated literals of the marked entries among the first `place`, from the newest on.
-    fn denied(&self, alloc: Global, place: usize, seen: &IndexedSet<VariableId>) -> R<Vec<Literal>>
+    /// The walk ends behind the last one: not more than `marked` of them are marked.
+    fn denied(
+        &self,
+        alloc: Global,
+        place: usize,
+        marked: usize,
+        seen: &IndexedSet<VariableId>,
+    ) -> R<Vec<Literal>>
         requires state { IsState self.now }
         requires in_range { place ≤ length self.now.tracker.trail }
+        requires marked { length (denied seen.now (before self.now.tracker.trail place)) ≤ marked }
+        // What the call promises.
         ensures literals { IfOk result (λ v. v.items ≡ denied seen.now (before self.now.tracker.trail place)) }
         ensures refusal { IsOkUnless result Memory }
     {
         let mut literals = Vec::new(alloc);
         let mut place = place;
-        while place > 0 {
+        while place > 0 && literals.len() < marked {
             place -= 1;
             let entry = self.entry(place);
             if seen.contains(entry.decision.variable) {
@@ -211,12 +257,17 @@ impl SatState {
         Ok(literals)
     }
 
-    /// The highest level of the marked entries among the first `place`, or 0.
-    fn backjump_level(&self, place: usize, seen: &IndexedSet<VariableId>) -> u32
+    /// The highest level of the marked entries among the first `place`, or 0. Not more than
+    /// `marked` of them are marked.
+    fn backjump_level(&self, place: usize, marked: usize, seen: &IndexedSet<VariableId>) -> u32
         requires state { IsState self.now }
         requires in_range { place ≤ length self.now.tracker.trail }
+        requires marked { length (denied seen.now (before self.now.tracker.trail place)) ≤ marked }
         ensures { IsMarkedLevel seen.now (before self.now.tracker.trail place) result }
     {
+        if marked == 0 {
+            return 0;
+        }
         let mut place = place;
         while place > 0 {
             place -= 1;

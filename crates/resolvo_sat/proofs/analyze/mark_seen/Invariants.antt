@@ -1,6 +1,10 @@
-use Rattle.std.proofs.Common.{take}
-use Rattle.resolvo_sat.specs.Analysis.{Seen}
+use Rattle.std.proofs.Common.{◌≤◌, take}
+use Rattle.resolvo_sat.specs.Analysis.{Seen, MarksAtMost}
 use Rattle.resolvo_sat.proofs.analyze.mark_seen.Given as goal
 
 abbrev pub invariant-loop-literal : goal.invariant-loop-literal
-invariant-loop-literal l = Seen (take l.literal-index l.literals) l.initial.seen l.seen
+invariant-loop-literal l = record {
+  marked : Seen (take l.literal-index l.literals) l.initial.seen l.seen;
+  few : MarksAtMost l.count.all l.initial.seen l.seen;
+  low : l.count.all ≤ l.literal-index;
+}

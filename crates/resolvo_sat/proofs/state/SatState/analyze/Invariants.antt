@@ -1,9 +1,13 @@
-use Rattle.std.specs.Prelude.{[]}
-use Rattle.resolvo_sat.specs.Analysis.{Walks}
+use Rattle.std.proofs.Common.{◌≤◌, [], length}
+use Rattle.resolvo_sat.specs.Entries.{before}
+use Rattle.resolvo_sat.specs.Analysis.{Walks, denied}
 use Rattle.resolvo_sat.proofs.state.SatState.analyze.Given as goal
 
 abbrev pub invariant-loop-place : goal.invariant-loop-place
-invariant-loop-place l = Walks l.self [] l.place l.seen l.kept.items l.causes.items
+invariant-loop-place l = record {
+  walks : Walks l.self [] l.place l.seen l.kept.items l.causes.items;
+  few : length (denied l.seen (before l.self.tracker.trail l.place)) ≤ l.marked.all;
+}
 
 abbrev pub decreases-loop-place : goal.decreases-loop-place
 decreases-loop-place l = l.place

@@ -4,7 +4,7 @@ use Rattle.resolvo_sat.specs.Entries.{before}
 use Rattle.resolvo_sat.specs.State.{count_of, clauses_of}
 use Rattle.resolvo_sat.specs.Analysis.{is_seen}
 use Rattle.resolvo_sat.proofs.Trails.{trail_before}
-use Rattle.resolvo_sat.proofs.MarkLemmas.{level_found, level_passes}
+use Rattle.resolvo_sat.proofs.MarkLemmas.{level_found, level_passes, level_none}
 use Rattle.resolvo_sat.proofs.state.SatState.backjump_level.Goals as goal
 
 pub returns-then-contains : goal.returns-then-contains
@@ -28,3 +28,6 @@ loop-place-preserved c =
       goes_on = λ level m. c.loop-place.invariant.goes_on level
           (level_passes (count_of c.args.self.now) (clauses_of c.args.self.now) c.args.seen.now c.entry-entry.result (before xs (n - 1)) (before xs n) level (trail_before (count_of c.args.self.now) (clauses_of c.args.self.now) xs n c.requires.state.trail) is unmarked m);
     }
+
+pub returns-then-marked-eq0 : goal.returns-then-marked-eq0
+returns-then-marked-eq0 c = level_none c.args.seen.now (before c.args.self.now.tracker.trail c.args.place) c.args.marked c.requires.marked (omega arith)
