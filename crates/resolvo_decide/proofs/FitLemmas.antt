@@ -12,9 +12,9 @@ use Rattle.std.proofs.lemmas.List.Elements.{Contains-append_right}
 use Rattle.resolvo_pool_core.specs.declared.requirement.Requirement.{Requirement}
 use Rattle.resolvo_store_core.specs.Signed.{Signed, value_under, is_true, is_false, is_open}
 use Rattle.resolvo_store_core.specs.Clauses.{candidate_literals}
-use Rattle.resolvo_store_core.specs.Lists.{named_by, candidates_in, condition_in}
+use Rattle.resolvo_store_core.specs.Lists.{items_or_none, named_by, candidates_in, condition_in}
 use Rattle.resolvo_store_core.specs.Pick.{offer, pick_after, offer_of, decision_for, is_eligible, later}
-use Rattle.resolvo_store_core.specs.Trail.{value_in}
+use Rattle.resolvo_store_core.specs.Trail.{assigned, value_in, EachOnce}
 use Rattle.resolvo_store_core.specs.declared.decision.Entry.{Entry}
 use Rattle.resolvo_store_core.specs.declared.decide_queue.NeedClause.{NeedClause}
 use Rattle.resolvo_store_core.specs.declared.decide_queue.NextDecision.{NextDecision}
@@ -22,10 +22,14 @@ use Rattle.resolvo_store_core.specs.declared.lists.Candidate.{Candidate}
 use Rattle.resolvo_store_core.specs.declared.lists.FixedLists.{FixedLists}
 use Rattle.resolvo_decide.specs.declared.clause_states.ClauseState.{ClauseState}
 use Rattle.resolvo_decide.specs.declared.clause_states.ClauseState.TheVariants.{Open, Met, Idle}
+use Rattle.resolvo_decide.specs.declared.tallies.Tallies.{Tallies}
+use Rattle.resolvo_decide.specs.declared.tallies.Use.{Use}
 use Rattle.resolvo_decide.specs.declared.undecided_clauses.UndecidedClauses.{UndecidedClauses}
 use Rattle.resolvo_decide.specs.States.{state_at, reopened, is_open_state}
-use Rattle.resolvo_decide.specs.Needs.{literals_in, is_met, places_at, IsMetNow, IsSoundState, Fits, KeepsFitting, OffersAtLeast, AddsNeed}
+use Rattle.resolvo_decide.specs.Tallies.{IsTally, AreListed, AreBelow, HasNoTally, number_at}
+use Rattle.resolvo_decide.specs.Needs.{literals_in, is_met, places_at, IsMetNow, IsSoundState, Fits, AreTallied, KeepsFitting, KeepsTallies, KeepsCounted, OffersAtLeast, AddsNeed}
 use Rattle.resolvo_decide.proofs.Positions.{state_end, state_map, state_out, state_put, state_set_other}
+use Rattle.resolvo_decide.proofs.TrailEnds.{open_before}
 use Rattle.resolvo_decide.proofs.Seen.{met_take, met_whole, take_less, idle_take, idle_more}
 
 module _ (literals : Requirement → List Signed) (q : NeedClause) where
@@ -58,22 +62,24 @@ pub sound_put : (literals : Requirement → List Signed) (es : List Entry) (q : 
 sound_put literals es q found new so (inl is) = subst (IsSoundState literals es q) (sym is) so
 sound_put literals es q found new so (inr is) = sound_open literals q es new is
 
-pub fits_back : (common : ℕ) (old new : UndecidedClauses) → new.seen.items ≡ take common old.seen.items → new.states ≡ map (reopened common) old.states → new.places ≡ old.places → KeepsFitting old new
-fits_back common old new seen states places = λ literals queue f. record {
+pub fits_back : (common : ℕ) (old new : UndecidedClauses) → new.seen.items ≡ take common old.seen.items → new.states ≡ map (reopened common) old.states → new.places ≡ old.places → KeepsTallies old.seen.items new.seen.items old.tallies new.tallies → KeepsFitting old new
+fits_back common old new seen states places tallies = λ literals queue f. record {
   count = ap length states ∙ length-map old.states (reopened common) ∙ f.count;
   each = λ i q at. subst (λ (es : List Entry). IsSoundState literals es q (state_at new.states i)) (sym seen)
       (subst (IsSoundState literals (take common old.seen.items) q) (sym (ap (λ ss. state_at ss i) states ∙ state_map common old.states i)) (sound_back literals q common old.seen.items (state_at old.states i) (f.each i q at)));
   placed = λ i q at. subst (λ ps. Contains (places_at ps.items q.parent.0) i) (sym places) (f.placed i q at);
+  tallied = tallies literals queue f.tallied;
 }
 
 -- the states are unchanged or open, and the clauses of a parent that the entry makes true are open
 pub fits_on : (e : Entry) (old new : UndecidedClauses) → new.seen.items ≡ old.seen.items ++ e ∷ [] → new.places ≡ old.places → length new.states ≡ length old.states
     → ((i : ℕ) → (state_at new.states i ≡ state_at old.states i) ⊎ (state_at new.states i ≡ Open))
-    → (e.decision.value ≡ true → (i : ℕ) → Contains (places_at old.places.items e.decision.variable.0) i → state_at new.states i ≡ Open) → KeepsFitting old new
-fits_on e old new seen places long others opened = λ literals queue f. record {
+    → (e.decision.value ≡ true → (i : ℕ) → Contains (places_at old.places.items e.decision.variable.0) i → state_at new.states i ≡ Open) → KeepsTallies old.seen.items (old.seen.items ++ e ∷ []) old.tallies new.tallies → KeepsFitting old new
+fits_on e old new seen places long others opened tallies = λ literals queue f. record {
   count = long ∙ f.count;
   each = λ i q at. subst (λ (es : List Entry). IsSoundState literals es q (state_at new.states i)) (sym seen) (each literals queue f i q at);
   placed = λ i q at. subst (λ ps. Contains (places_at ps.items q.parent.0) i) (sym places) (f.placed i q at);
+  tallied = subst (λ (es : List Entry). AreTallied literals queue es new.tallies) (sym seen) (tallies literals queue f.tallied);
 }
   where
     open_not : (s : ClauseState) → s ≡ Open → s ≡ Idle → ⊥
@@ -92,6 +98,12 @@ fits_add literals q old new queue f a = record {
   count = ap length a.states ∙ length-append old.states (Open ∷ []) ∙ ap (λ n. n + 1) f.count ∙ sym (length-append queue (q ∷ []));
   each = λ i r at. subst (λ (es : List Entry). IsSoundState literals es r (state_at new.states i)) (sym (ap (λ v. v.items) a.seen)) (each i r (at_end queue i r at));
   placed = λ i r at. placed i r (at_end queue i r at);
+  tallied = record {
+    each = λ i r k at number. tallied i r k number (at_end queue i r at);
+    within = λ i k number. subst (λ ts. k < length ts.items) (sym a.tallies.tallies) (f.tallied.within i k (numbered i k number));
+    apart = λ i j k here there. f.tallied.apart i j k (numbered i k here) (numbered j k there);
+    below = subst (λ ts. AreBelow (length ts.items) new.tallies.uses.items) (sym a.tallies.tallies) (subst (λ us. AreBelow (length old.tallies.tallies.items) us.items) (sym a.tallies.uses) f.tallied.below);
+  };
 }
   where
     at_end : (qs : List NeedClause) (i : ℕ) (r : NeedClause) → slice_get (qs ++ q ∷ []) i ≡ Some r → (slice_get qs i ≡ Some r) ⊎ ((i ≡ length qs) × (r ≡ q) × (slice_get qs i ≡ None))
@@ -110,6 +122,35 @@ fits_add literals q old new queue f a = record {
     placed : (i : ℕ) (r : NeedClause) → (slice_get queue i ≡ Some r) ⊎ ((i ≡ length queue) × (r ≡ q) × (slice_get queue i ≡ None)) → Contains (places_at new.places.items r.parent.0) i
     placed i r (inl before) = a.kept r.parent.0 i (f.placed i r before)
     placed i r (inr (last, is, none)) = subst (λ (s : NeedClause). Contains (places_at new.places.items s.parent.0) i) (sym is) (subst (λ j. Contains (places_at new.places.items q.parent.0) j) (f.count ∙ sym last) a.placed)
+
+    numbered : (i k : ℕ) → number_at new.tallies.countings.items i ≡ Some k → number_at old.tallies.countings.items i ≡ Some k
+    numbered i k number = elim (cases_lt i (length old.states)) [
+      | inl low ↦ sym (a.tallies.kept i low) ∙ number
+      | inr high ↦ (let no : None ≡ Some k = sym (a.tallies.fresh i high) ∙ number in absurd cc)
+    ]
+
+    known : (i : ℕ) (r : NeedClause) → slice_get queue i ≡ Some r → i < length queue
+    known i r at = inside queue i at
+      where
+        inside : (qs : List NeedClause) (j : ℕ) → slice_get qs j ≡ Some r → j < length qs
+        inside [] j h = cc
+        inside (x ∷ qs) zero h = omega arith
+        inside (x ∷ qs) (suc j) h = let low : j < length qs = inside qs j h in omega (arith, low)
+
+    tallied : (i : ℕ) (r : NeedClause) (k : ℕ) → number_at new.tallies.countings.items i ≡ Some k → (slice_get queue i ≡ Some r) ⊎ ((i ≡ length queue) × (r ≡ q) × (slice_get queue i ≡ None)) → IsTally (literals r.requirement) new.seen.items new.tallies k
+    tallied i r k number (inl before) =
+        let low : i < length old.states = omega (arith, known i r before, f.count) in
+        let was : IsTally (literals r.requirement) old.seen.items old.tallies k = f.tallied.each i r k before (sym (a.tallies.kept i low) ∙ number) in
+        let here : IsTally (literals r.requirement) new.seen.items old.tallies k = subst (λ es. IsTally (literals r.requirement) es.items old.tallies k) (sym a.seen) was in
+        record {
+          some = here.some;
+          once = here.once;
+          tally = here.tally;
+          there = ap (λ ts. slice_get ts.items k) a.tallies.tallies ∙ here.there;
+          counts = here.counts;
+          listed = subst (λ us. AreListed (literals r.requirement) us.items k) (sym a.tallies.uses) here.listed;
+        }
+    tallied i r k number (inr (last, is, none)) = (let no : None ≡ Some k = sym (a.tallies.fresh i (omega (arith, last, f.count))) ∙ number in absurd cc)
 
 -- the state of a clause under values
 module _ {N : Type 0} (lists : FixedLists N) (values : ℕ → Option Bool) (es : List Entry) (agree : (v : ℕ) → values v ≡ value_in es v) where
@@ -193,7 +234,7 @@ module _ {N : Type 0} (lists : FixedLists N) (values : ℕ → Option Bool) (sco
 -- the state of one clause is set
 pub fits_found : (literals : Requirement → List Signed) (needs : UndecidedClauses) (queue : List NeedClause) (position : ℕ) (q : NeedClause) (found : ClauseState) → Fits literals needs queue → slice_get queue position ≡ Some q
     → IsSoundState literals needs.seen.items q found → Fits literals (record needs { states = slice_set needs.states position found }) queue
-fits_found literals needs queue position q found f here so = record { count = length-set needs.states position found ∙ f.count; each = each; placed = f.placed }
+fits_found literals needs queue position q found f here so = record { count = length-set needs.states position found ∙ f.count; each = each; placed = f.placed; tallied = f.tallied }
   where
     each : (i : ℕ) (r : NeedClause) → slice_get queue i ≡ Some r → IsSoundState literals needs.seen.items r (state_at (slice_set needs.states position found) i)
     each i r at = elim (state_set_other needs.states position found i) [
@@ -278,6 +319,7 @@ fits_same literals needs queue states is f = record {
   count = ap length is ∙ f.count;
   each = λ i q at. subst (λ (ss : List ClauseState). IsSoundState literals needs.seen.items q (state_at ss i)) (sym is) (f.each i q at);
   placed = f.placed;
+  tallied = f.tallied;
 }
 
 -- the clause read is the one at its position
@@ -291,6 +333,38 @@ pub read_fits : (literals : Requirement → List Signed) (old new : UndecidedCla
     → new ≡ record old { states = slice_set old.states i found } → Fits literals new queue
 read_fits literals old new queue i d h f found so is = subst (λ (n : UndecidedClauses). Fits literals n queue) (sym is) (fits_found literals old queue i (get_or queue i d) found f (read_at queue i d h) so)
 
+-- the clause there is the one read
+pub read_is : (qs : List NeedClause) (i : ℕ) (d q : NeedClause) → slice_get qs i ≡ Some q → get_or qs i d ≡ q
+read_is [] i d q h = cc
+read_is (x ∷ qs) zero d q h = cc
+read_is (x ∷ qs) (suc i) d q h = read_is qs i d q h
+
+-- the tallies were changed by the candidates of a clause
+pub fits_counted : {N : Type 0} (lists : FixedLists N) (values : ℕ → Option Bool) (old : UndecidedClauses) (all : Tallies) (queue : List NeedClause) (position : ℕ) (d : NeedClause) (cs : List (Candidate N)) → cs ≡ candidates_in lists (get_or queue position d).requirement
+    → ((v : ℕ) → values v ≡ value_in old.seen.items v) → KeepsCounted old.seen.items values position (candidate_literals cs) old.tallies all → Fits (literals_in lists) old queue → Fits (literals_in lists) (record old { tallies = all }) queue
+fits_counted {N} lists values old all queue position d cs is agree kept f = record {
+  count = f.count;
+  each = f.each;
+  placed = f.placed;
+  tallied = kept agree (literals_in lists) queue (λ q at. ap (λ (r : NeedClause). literals_in lists r.requirement) (sym (read_is queue position d q at)) ∙ ap candidate_literals (sym is)) f.tallied;
+}
+
+-- another clause was counted
+pub fits_marked : (literals : Requirement → List Signed) (needs : UndecidedClauses) (queue : List NeedClause) (counted : Option ℕ) → Fits literals needs queue → Fits literals (record needs { counted = counted }) queue
+fits_marked literals needs queue counted f = record { count = f.count; each = f.each; placed = f.placed; tallied = f.tallied }
+
+-- a clause doesn't beat a decision that no score as its first undecided candidate's beats
+pub offer_beaten : {N : Type 0} (lists : FixedLists N) (values : ℕ → Option Bool) (score : N → ℕ) (q : NeedClause) (best : Option NextDecision) (c : Candidate N) → find (λ d. is_open (value_under values d.literal)) (candidates_in lists q.requirement) ≡ Some c
+    → ((next : NextDecision) → next.package_activity ≤ score c.package → 0 ≤ next.candidate_count → later best (Some next) ≡ best) → later best (offer lists values score q) ≡ best
+offer_beaten {N} lists values score q best c first final =
+    ap (λ o. later best (cond (is_eligible lists values q) (cond (list_any (λ d. is_true (value_under values d.literal)) (candidates_in lists q.requirement)) None (option_map (decision_for (named_by lists) values score q (candidates_in lists q.requirement)) o)) None)) first
+    ∙ go (is_eligible lists values q) (list_any (λ d. is_true (value_under values d.literal)) (candidates_in lists q.requirement))
+  where
+    go : (e m : Bool) → later best (cond e (cond m None (Some (decision_for (named_by lists) values score q (candidates_in lists q.requirement) c))) None) ≡ best
+    go false m = later_none best
+    go true true = later_none best
+    go true false = final (decision_for (named_by lists) values score q (candidates_in lists q.requirement) c) (omega arith) (omega arith)
+
 -- one entry more is in `seen`
 pub seen_more : (first rest before after : List Entry) (i : ℕ) (d : Entry) → before ≡ first ++ take i rest → i < length rest → after ≡ before ++ get_or rest i d ∷ [] → after ≡ first ++ take (i + 1) rest
 seen_more first rest before after i d is low more = more ∙ ap (λ xs. xs ++ get_or rest i d ∷ []) is ∙ append_assoc first (take i rest) (get_or rest i d ∷ []) ∙ ap (λ xs. first ++ xs) (sym (take_more rest i d low))
@@ -301,18 +375,63 @@ seen_all n i es seen low is end =
     let long : length (drop n es) ≡ length es - n = length-drop n es in
     is ∙ ap (λ xs. take n es ++ xs) (take_all i (take (length es - n) (drop n es)) end ∙ take_all (length es - n) (drop n es) (omega arith)) ∙ take-append-drop n es
 
--- where requirements get candidates
-pub fits_more : (old new : Requirement → List Signed) (needs : UndecidedClauses) (queue : List NeedClause) → ((r : Requirement) (es : List Entry) → is_met es (old r) ≡ true → is_met es (new r) ≡ true) → Fits old needs queue → Fits new needs queue
-fits_more old new needs queue more f = record { count = f.count; each = λ i q at. so q (state_at needs.states i) (f.each i q at); placed = f.placed }
+-- and its variable is in none of the seen ones
+pub seen_fresh : (n i : ℕ) (es seen : List Entry) (d : Entry) → n ≤ length es → seen ≡ take n es ++ take i (take (length es - n) (drop n es)) → i < length (take (length es - n) (drop n es)) → EachOnce es
+    → assigned seen (get_or (take (length es - n) (drop n es)) i d).decision.variable.0 ≡ None
+seen_fresh n i es seen d low is within once =
+    let rest = take (length es - n) (drop n es) in
+    let long : length (drop n es) ≡ length es - n = length-drop n es in
+    let all : rest ≡ drop n es = take_all (length es - n) (drop n es) (omega arith) in
+    let parts : take i rest ++ get_or rest i d ∷ drop (i + 1) rest ≡ rest = sym (append_assoc (take i rest) (get_or rest i d ∷ []) (drop (i + 1) rest)) ∙ ap (λ xs. xs ++ drop (i + 1) rest) (sym (take_more rest i d within)) ∙ take-append-drop (i + 1) rest in
+    let whole : seen ++ get_or rest i d ∷ drop (i + 1) rest ≡ es =
+    ap (λ xs. xs ++ get_or rest i d ∷ drop (i + 1) rest) is ∙ append_assoc (take n es) (take i rest) (get_or rest i d ∷ drop (i + 1) rest) ∙ ap (λ xs. take n es ++ xs) (parts ∙ all) ∙ take-append-drop n es in
+    open_before seen (get_or rest i d) (drop (i + 1) rest) (subst EachOnce (sym whole) once)
+
+-- where requirements without candidates get some
+pub fits_more : (old new : Requirement → List Signed) (needs : UndecidedClauses) (queue : List NeedClause) → ((r : Requirement) → 0 < length (old r) → new r ≡ old r) → Fits old needs queue → Fits new needs queue
+fits_more old new needs queue same f = record {
+  count = f.count;
+  each = λ i q at. so q (state_at needs.states i) (f.each i q at);
+  placed = f.placed;
+  tallied = record {
+    each = λ i q k at number. (let h = f.tallied.each i q k at number in subst (λ ls. IsTally ls needs.seen.items needs.tallies k) (sym (same q.requirement h.some)) h);
+    within = f.tallied.within;
+    apart = f.tallied.apart;
+    below = f.tallied.below;
+  };
+}
   where
+    some_literal : (es : List Entry) (ls : List Signed) → is_met es ls ≡ true → 0 < length ls
+    some_literal es [] h = cc
+    some_literal es (l ∷ ls) h = omega arith
+
+    more : (r : Requirement) (es : List Entry) → is_met es (old r) ≡ true → is_met es (new r) ≡ true
+    more r es h = ap (is_met es) (same r (some_literal es (old r) h)) ∙ h
+
     so : (q : NeedClause) (s : ClauseState) → IsSoundState old needs.seen.items q s → IsSoundState new needs.seen.items q s
     so q Open h = tt
     so q (Met within) h = more q.requirement (take within needs.seen.items) h
     so q Idle h = h
 
 -- the empty queue
-pub fits_none : (literals : Requirement → List Signed) (needs : UndecidedClauses) → needs.states ≡ [] → Fits literals needs []
-fits_none literals needs none = record { count = ap length none; each = λ i q at. absurd (nothing i q at); placed = λ i q at. absurd (nothing i q at) }
+pub fits_none : (literals : Requirement → List Signed) (needs : UndecidedClauses) → needs.states ≡ [] → HasNoTally needs.tallies → Fits literals needs []
+fits_none literals needs none untallied = record {
+  count = ap length none;
+  each = λ i q at. absurd (nothing i q at);
+  placed = λ i q at. absurd (nothing i q at);
+  tallied = record {
+    each = λ i q k at number. absurd (nothing i q at);
+    within = λ i k number. absurd (unnumbered i k number);
+    apart = λ i j k here there. absurd (unnumbered i k here);
+    below = λ index u h. absurd (unused u (subst (λ us. Contains (items_or_none (slice_get us index)) u) untallied.uses h));
+  };
+}
   where
     nothing : (i : ℕ) (q : NeedClause) → slice_get [] i ≡ Some q → ⊥
     nothing i q at = cc
+
+    unnumbered : (i k : ℕ) → number_at needs.tallies.countings.items i ≡ Some k → ⊥
+    unnumbered i k number = (let no : None ≡ Some k = ap (λ cs. number_at cs i) (sym untallied.countings) ∙ number in absurd cc)
+
+    unused : (u : Use) → Contains [] u → ⊥
+    unused u (i, low, at) = omega (arith, low)

@@ -2,3 +2,6 @@ pub mod Positions
 pub mod Seen
 pub mod FitLemmas
 pub mod OfferLemmas
+mod TrailEnds
+mod TallyLemmas
+mod CountLemmas

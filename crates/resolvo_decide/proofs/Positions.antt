@@ -1,9 +1,10 @@
 -- Lists of states, and of positions by parent.
 use Rattle.std.proofs.Common.{◌≡◌, ℕ, zero, suc, ◌+◌, ◌<◌, ◌≤◌, ◌⊎◌, inl, inr, List, [], ◌∷◌, ◌++◌, map, length, get_or, Vec, Global, refl, sym, ◌∙◌, ap, subst, arith}
-use Rattle.std.specs.Prelude.{slice_set, Contains}
+use Rattle.std.specs.Prelude.{slice_get, slice_set, Contains}
 use Rattle.std.proofs.lemmas.Bool.{cases_lt}
 use Rattle.std.proofs.lemmas.List.{ext_get_or, length-map}
 use Rattle.std.proofs.lemmas.List.Elements.{Contains-append_cases}
+use Rattle.resolvo_store_core.specs.Lists.{items_or_none}
 use Rattle.resolvo_decide.specs.declared.clause_states.ClauseState.{ClauseState}
 use Rattle.resolvo_decide.specs.declared.clause_states.ClauseState.TheVariants.{Open}
 use Rattle.resolvo_decide.specs.States.{state_at, reopened}
@@ -47,15 +48,15 @@ state_map common (x ∷ ss) (suc i) = state_map common ss i
 
 -- the positions of parents
 
-pub places_end : (ps : List (Vec ℕ Global)) (p : Vec ℕ Global) (v : ℕ) → p.items ≡ [] → places_at (ps ++ p ∷ []) v ≡ places_at ps v
-places_end [] p zero h = h
-places_end [] p (suc v) h = refl
-places_end (x ∷ ps) p zero h = refl
-places_end (x ∷ ps) p (suc v) h = places_end ps p v h
+pub list_end : {X : Type 0} (ls : List (Vec X Global)) (p : Vec X Global) (v : ℕ) → p.items ≡ [] → items_or_none (slice_get (ls ++ p ∷ []) v) ≡ items_or_none (slice_get ls v)
+list_end [] p zero h = h
+list_end [] p (suc v) h = refl
+list_end (x ∷ ls) p zero h = refl
+list_end (x ∷ ls) p (suc v) h = list_end ls p v h
 
-pub places_read : (ps : List (Vec ℕ Global)) (i : ℕ) (p : Vec ℕ Global) → i < length ps → p ≡ get_or ps i p → places_at ps i ≡ p.items
+pub places_read : {X : Type 0} (ps : List (Vec X Global)) (i : ℕ) (p : Vec X Global) → i < length ps → p ≡ get_or ps i p → items_or_none (slice_get ps i) ≡ p.items
 places_read [] i p h e = absurd (omega arith)
-places_read (x ∷ ps) zero p h e = ap (λ (w : Vec ℕ Global). w.items) (sym e)
+places_read (x ∷ ps) zero p h e = ap (λ w. w.items) (sym e)
 places_read (x ∷ ps) (suc i) p h e = places_read ps i p (omega arith) e
 
 pub places_out : (ps : List (Vec ℕ Global)) (i : ℕ) → length ps ≤ i → places_at ps i ≡ []
@@ -63,12 +64,12 @@ places_out [] i h = refl
 places_out (x ∷ ps) zero h = absurd (omega arith)
 places_out (x ∷ ps) (suc i) h = places_out ps i (omega arith)
 
-pub places_set : (ps : List (Vec ℕ Global)) (i : ℕ) (p : Vec ℕ Global) → i < length ps → places_at (slice_set ps i p) i ≡ p.items
+pub places_set : {X : Type 0} (ps : List (Vec X Global)) (i : ℕ) (p : Vec X Global) → i < length ps → items_or_none (slice_get (slice_set ps i p) i) ≡ p.items
 places_set [] i p h = absurd (omega arith)
 places_set (x ∷ ps) zero p h = refl
 places_set (x ∷ ps) (suc i) p h = places_set ps i p (omega arith)
 
-pub places_set_other : (ps : List (Vec ℕ Global)) (i : ℕ) (p : Vec ℕ Global) (j : ℕ) → (places_at (slice_set ps i p) j ≡ places_at ps j) ⊎ (j ≡ i)
+pub places_set_other : {X : Type 0} (ps : List (Vec X Global)) (i : ℕ) (p : Vec X Global) (j : ℕ) → (items_or_none (slice_get (slice_set ps i p) j) ≡ items_or_none (slice_get ps j)) ⊎ (j ≡ i)
 places_set_other [] i p j = inl refl
 places_set_other (x ∷ ps) zero p zero = inr refl
 places_set_other (x ∷ ps) zero p (suc j) = inl refl

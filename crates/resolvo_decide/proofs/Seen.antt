@@ -12,7 +12,7 @@ use Rattle.resolvo_store_core.specs.declared.decision_map.Assignment.{Assignment
 use Rattle.resolvo_decide.specs.Needs.{is_met}
 
 -- a value stays where the trail grows
-value_prefix : (xs ys : List Entry) (v : ℕ) (b : Bool) → value_in xs v ≡ Some b → value_in (xs ++ ys) v ≡ Some b
+pub value_prefix : (xs ys : List Entry) (v : ℕ) (b : Bool) → value_in xs v ≡ Some b → value_in (xs ++ ys) v ≡ Some b
 value_prefix [] ys v b h = cc
 value_prefix (x ∷ xs) ys v b h = go (x.decision.variable.0 == v) h (value_prefix xs ys v b)
   where

@@ -5,5 +5,8 @@
 
 pub mod clause_states;
 mod offer;
+mod rooms;
 pub mod scores;
+pub mod tallies;
+pub mod tally;
 pub mod undecided_clauses;

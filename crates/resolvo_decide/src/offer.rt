@@ -1,11 +1,15 @@
 //! The decision that a clause offers, by one walk over its candidates.
-ghost use Rattle.std.specs.Prelude.{◌≡◌, cond, None};
-ghost use Rattle.std.specs.Option.{option_map};
+ghost use Rattle.std.specs.Prelude.{◌≡◌, cond, drop, None};
+ghost use Rattle.std.specs.Option.{option_map, option_copied};
 ghost use Rattle.std.specs.List.{find, count_by, list_any, list_all};
 ghost use Rattle.resolvo_store_core.specs.Signed.{value_under, is_false, is_true, is_open};
 ghost use Rattle.resolvo_store_core.specs.Values.{value_at};
 ghost use Rattle.resolvo_store_core.specs.Pick.{is_eligible, offer};
+ghost use Rattle.resolvo_store_core.specs.Clauses.{candidate_literals};
+ghost use Rattle.resolvo_store_core.specs.Lists.{candidates_in};
+ghost use Rattle.resolvo_decide.specs.Tallies.{Counts, passed_by};
 
+use crate::tally::Tally;
 use resolvo_pool_core::id_map::ScoreMap;
 use resolvo_store_core::decide_queue::{NeedClause, NextDecision};
 use resolvo_store_core::decision_map::DecisionMap;
@@ -35,6 +39,44 @@ where
         package_activity: scores.get(candidate.package),
         candidate_count,
     })
+}
+
+/// The same, where the candidates are tallied.
+pub(crate) fn tallied_offer<N: Copy + Eq, C: ScoreMap<N>>(
+    need: &NeedClause,
+    lists: &FixedLists<N>,
+    values: &DecisionMap,
+    scores: &C,
+    tally: Tally,
+) -> Option<NextDecision>
+where
+    N: Drop,
+    requires { Counts (value_at values.now)
+        (candidate_literals (candidates_in lists.now need.now.requirement)) tally }
+    ensures { result ≡ offer lists.now (value_at values.now) (C.score_of scores.now) need.now }
+{
+    if tally.trues > 0 || !is_needed(need, lists, values) {
+        return None;
+    }
+    let candidates = lists.candidates(need.requirement)?;
+    let candidate = first_undecided(behind_passed(candidates, Some(tally)), values)?;
+    Some(NextDecision {
+        candidate: candidate.literal.variable(),
+        required_by: need.parent,
+        clause_id: need.clause,
+        package_activity: scores.get(candidate.package),
+        candidate_count: tally.undecided(),
+    })
+}
+
+/// The candidates behind those that a tally passes over.
+pub(crate) fn behind_passed<N>(candidates: &[Candidate<N>], tally: Option<Tally>) -> &[Candidate<N>]
+    ensures { result.now ≡ drop (passed_by tally) candidates.now }
+{
+    match tally {
+        Some(tally) => &candidates[tally.passed.min(candidates.len())..],
+        None => candidates,
+    }
 }
 
 /// Whether the parent of a clause is true and its condition holds.
@@ -89,4 +131,17 @@ fn undecided<N: Copy>(
         Some(candidate) => Some((candidate, count)),
         None => None,
     }
+}
+
+/// The first undecided candidate.
+fn first_undecided<'a, N: Copy>(
+    candidates: &'a [Candidate<N>],
+    values: &DecisionMap,
+) -> Option<&'a Candidate<N>>
+    ensures { option_copied result
+        ≡ find (λ c. is_open (value_under (value_at values.now) c.literal)) candidates.now }
+{
+    candidates
+        .iter()
+        .find(|candidate| candidate.literal.is_undecided(values))
 }

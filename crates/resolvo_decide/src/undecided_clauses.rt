@@ -1,7 +1,7 @@
 //! The states of the need clauses of a queue: satisfied, idle, or undecided.
 //! They hold for the trail in `seen`. Each pick adds the new entries of the trail; `look_back` drops
 //! those that a backjump removed.
-ghost use Rattle.std.specs.Prelude.{◌≡◌, ℕ, ◌<◌, ◌≤◌, ◌++◌, ◌∷◌, ◌⊎◌, [], List, map, take, length, not, false, true, slice_get, Some, None, Contains, OnOk, IfOk, IfErr, IsOkUnless};
+ghost use Rattle.std.specs.Prelude.{◌≡◌, ℕ, ◌<◌, ◌≤◌, ◌++◌, ◌∷◌, ◌⊎◌, [], take, drop, length, not, false, true, slice_get, Some, None, Contains, OnOk, IfOk, IfErr, IsOkUnless};
 ghost use Rattle.resolvo_pool_core.specs.declared.want.Want.TheVariants.{Memory};
 ghost use Rattle.std.specs.List.{find};
 ghost use Rattle.std.specs.Option.{option_copied};
@@ -9,16 +9,20 @@ ghost use Rattle.resolvo_store_core.specs.AtMostOne.{IsPrefixOf};
 ghost use Rattle.resolvo_store_core.specs.Lists.{candidates_in};
 ghost use Rattle.resolvo_store_core.specs.Signed.{value_under, is_false, is_open};
 ghost use Rattle.resolvo_store_core.specs.Values.{value_at};
-ghost use Rattle.resolvo_store_core.specs.Trail.{value_in};
+ghost use Rattle.resolvo_store_core.specs.Trail.{EachOnce, assigned, value_in};
 ghost use Rattle.resolvo_store_core.specs.Pick.{pick, offer, later};
 ghost use Rattle.resolvo_store_core.specs.declared.decide_queue.NeedClause.{NeedClause};
 ghost use Rattle.resolvo_decide.specs.declared.clause_states.ClauseState.TheVariants.{Open};
 ghost use Rattle.resolvo_decide.specs.States.{state_at};
-ghost use Rattle.resolvo_decide.specs.Needs.{literals_in, places_at, IsMetNow, IsSoundState, Fits, KeepsFitting, OffersAtLeast, LeavesUndecided, IsPick, AddsNeed};
+ghost use Rattle.resolvo_decide.specs.Tallies.{has_true_in, HasNoTally};
+ghost use Rattle.resolvo_decide.specs.Needs.{literals_in, places_at, IsMetNow, IsSoundState, Fits, KeepsFitting, KeepsTallies, IsTalliedAt, OffersAtLeast, LeavesUndecided, IsPick, AddsNeed};
 
 use crate::clause_states::{ClauseState, ClauseStates};
-use crate::offer::offered;
+use crate::offer::{behind_passed, offered, tallied_offer};
+use crate::rooms::make_room;
 use crate::scores::Scores;
+use crate::tallies::Tallies;
+use crate::tally::Tally;
 use resolvo_pool_core::id::VariableId;
 use resolvo_pool_core::id_map::ScoreMap;
 use resolvo_pool_core::want::R;
@@ -38,6 +42,10 @@ pub struct UndecidedClauses {
     seen: Vec<Entry>,
     /// The positions of the clauses of each parent, by the parent's variable.
     places: Vec<Vec<usize>>,
+    /// How many candidates are true or false, of the clauses for which that is kept.
+    tallies: Tallies,
+    /// The clause whose candidates were last counted by a walk over them.
+    counted: Option<usize>,
 }
 
 impl UndecidedClauses {
@@ -46,11 +54,14 @@ impl UndecidedClauses {
         ensures states { result.states ≡ [] }
         ensures seen { result.seen.items ≡ [] }
         ensures places { result.places.items ≡ [] }
+        ensures tallies { HasNoTally result.tallies }
     {
         UndecidedClauses {
             states: ClauseStates::new(alloc),
             seen: Vec::new(alloc),
             places: Vec::new(alloc),
+            tallies: Tallies::new(alloc),
+            counted: None,
         }
     }
 
@@ -61,7 +72,9 @@ impl UndecidedClauses {
     {
         let index = parent.0 as usize;
         make_room(&mut self.places, alloc, index + 1)?;
-        self.places[index].push(self.states.len())?;
+        let position = self.states.len();
+        self.places[index].push(position)?;
+        self.tallies.begin(position)?;
         self.states.push()?;
         Ok(())
     }
@@ -90,14 +103,11 @@ impl UndecidedClauses {
         ensures refusal { IsOkUnless result Memory }
     {
         self.see_rest(trail.stack())?;
-        Ok(self.pick(
-            queue.registered(),
-            lists,
-            trail.map(),
-            &scores.map,
-            scores.most(),
-            fewest,
-        ))
+        let needs = queue.registered();
+        let values = trail.map();
+        let next = self.pick(needs, lists, values, &scores.map, scores.most(), fewest);
+        self.note_count(needs, lists, values)?;
+        Ok(next)
     }
 
     /// Drops the seen entries behind this many. The cost is that of the clauses that they satisfied.
@@ -106,14 +116,62 @@ impl UndecidedClauses {
         ensures fits { KeepsFitting self.old self.new }
     {
         if kept < self.seen.len() {
-            self.seen.truncate(kept);
+            self.undo_entries(kept);
             self.states.reopen(kept);
         }
     }
 
+    /// Removes the last seen entries, until this many are left.
+    fn undo_entries(&mut self, kept: usize)
+        ensures seen { self.new.seen.items ≡ take kept self.old.seen.items }
+        ensures tallies { KeepsTallies self.old.seen.items self.new.seen.items self.old.tallies
+            self.new.tallies }
+        ensures rest { self.new ≡ record self.old {
+          seen = self.new.seen;
+          tallies = self.new.tallies;
+        } }
+    {
+        while kept < self.seen.len() {
+            if let Some(entry) = self.seen.pop() {
+                self.tallies.undo_entry(entry);
+            }
+        }
+    }
+
+    /// Notes the clause whose candidates the pick counted by a walk, so that it may get a tally.
+    fn note_count<N: Copy>(
+        &mut self,
+        queue: &[NeedClause],
+        lists: &FixedLists<N>,
+        values: &DecisionMap,
+    ) -> R<()>
+    where
+        N: Drop,
+        requires fits { Fits (literals_in lists.now) self.old queue.now }
+        requires values { (v : ℕ) → value_at values.now v ≡ value_in self.old.seen.items v }
+        requires once { EachOnce self.old.seen.items }
+        // After an answer.
+        ensures fits { OnOk result (Fits (literals_in lists.now) self.new queue.now) }
+        ensures seen { OnOk result (self.new.seen ≡ self.old.seen) }
+        // After a refusal.
+        ensures refusal { IsOkUnless result Memory }
+    {
+        let counted = self.counted;
+        self.counted = None;
+        if let Some(position) = counted {
+            if position < queue.len() {
+                if let Some(candidates) = lists.candidates(queue[position].requirement) {
+                    self.tallies.note_count(position, candidates, values)?;
+                }
+            }
+        }
+        Ok(())
+    }
+
     /// Adds the new entries of this trail.
     fn see_rest(&mut self, trail: &[Entry]) -> R<()>
-        requires { IsPrefixOf self.old.seen.items trail.now }
+        requires seen { IsPrefixOf self.old.seen.items trail.now }
+        requires once { EachOnce trail.now }
         ensures seen { OnOk result (self.new.seen.items ≡ trail.now) }
         ensures fits { OnOk result (KeepsFitting self.old self.new) }
         ensures refusal { IsOkUnless result Memory }
@@ -127,11 +185,13 @@ impl UndecidedClauses {
 
     /// Adds one entry, and opens the clauses of a variable that it makes true.
     fn see_entry(&mut self, entry: Entry) -> R<()>
+        requires { assigned self.old.seen.items entry.decision.variable.0 ≡ None }
         ensures seen { OnOk result (self.new.seen.items ≡ self.old.seen.items ++ entry ∷ []) }
         ensures fits { OnOk result (KeepsFitting self.old self.new) }
         ensures refusal { IsOkUnless result Memory }
     {
         self.seen.push(entry)?;
+        self.tallies.add_entry(entry);
         if entry.decision.value {
             self.open_needs_of(entry.decision.variable);
         }
@@ -182,7 +242,8 @@ impl UndecidedClauses {
         let mut position = self.states.next_open(0);
         while position < queue.len() {
             if self.may_beat(best, position, queue, lists, values, scores) {
-                best = or_later(best, offered(&queue[position], lists, values, scores));
+                let next = self.offer_at(position, &queue[position], lists, values, scores);
+                best = or_later(best, next);
                 if is_final(best, most, fewest) {
                     return best;
                 }
@@ -190,6 +251,32 @@ impl UndecidedClauses {
             position = self.states.next_open(position + 1);
         }
         best
+    }
+
+    /// The decision that the clause at this position offers.
+    fn offer_at<N: Copy + Eq, C: ScoreMap<N>>(
+        &mut self,
+        position: usize,
+        need: &NeedClause,
+        lists: &FixedLists<N>,
+        values: &DecisionMap,
+        scores: &C,
+    ) -> Option<NextDecision>
+    where
+        N: Drop,
+        requires tallied { IsTalliedAt (literals_in lists.now) self.old position need.now }
+        requires values { (v : ℕ) → value_at values.now v ≡ value_in self.old.seen.items v }
+        ensures offer { result
+            ≡ offer lists.now (value_at values.now) (C.score_of scores.now) need.now }
+        ensures rest { self.new ≡ record self.old { counted = self.new.counted } }
+    {
+        match self.tallies.tally(position) {
+            Some(tally) => tallied_offer(need, lists, values, scores, tally),
+            None => {
+                self.counted = Some(position);
+                offered(need, lists, values, scores)
+            }
+        }
     }
 
     /// Whether the clause at this position may offer a decision that beats the one so far. Stores
@@ -217,7 +304,10 @@ impl UndecidedClauses {
         ensures fits { Fits (literals_in lists.now) self.new queue.now }
         ensures seen { self.new.seen ≡ self.old.seen }
     {
-        match self.first_undecided(&queue[position], lists, values) {
+        if let Some(candidates) = lists.candidates(queue[position].requirement) {
+            self.tallies.pass_false(position, candidates, values);
+        }
+        match self.first_undecided(position, &queue[position], lists, values) {
             Ok(candidate) => !is_final(best, scores.get(candidate.package), 0),
             Err(state) => {
                 self.states.put(position, state);
@@ -229,12 +319,14 @@ impl UndecidedClauses {
     /// The first undecided candidate of a clause, or the state of one that offers no decision.
     fn first_undecided<N: Copy>(
         &self,
+        position: usize,
         need: &NeedClause,
         lists: &FixedLists<N>,
         values: &DecisionMap,
     ) -> Result<Candidate<N>, ClauseState>
     where
         N: Drop,
+        requires tallied { IsTalliedAt (literals_in lists.now) self.now position need.now }
         requires values { (v : ℕ) → value_at values.now v ≡ value_in self.now.seen.items v }
         ensures first { IfOk result
             (λ c. find (λ d. is_open (value_under (value_at values.now) d.literal))
@@ -251,7 +343,11 @@ impl UndecidedClauses {
         let Some(candidates) = lists.candidates(need.requirement) else {
             return Err(ClauseState::Open);
         };
-        match first_possible(candidates, values) {
+        let tally = self.tallies.tally(position);
+        if has_true(tally) {
+            return Err(self.met());
+        }
+        match first_possible(behind_passed(candidates, tally), values) {
             Some(candidate) if candidate.literal.is_true(values) => Err(self.met()),
             Some(candidate) => Ok(*candidate),
             None => Err(ClauseState::Open),
@@ -266,6 +362,16 @@ impl UndecidedClauses {
             Ok(within) => ClauseState::Met(within),
             Err(_) => ClauseState::Open,
         }
+    }
+}
+
+/// Whether a tally has a true candidate.
+fn has_true(tally: Option<Tally>) -> bool
+    ensures { result ≡ has_true_in tally }
+{
+    match tally {
+        Some(tally) => tally.trues > 0,
+        None => false,
     }
 }
 
@@ -295,16 +401,4 @@ fn is_final(best: Option<NextDecision>, most: u64, fewest: usize) -> bool
         Some(best) => most <= best.package_activity || best.candidate_count <= fewest,
         None => false,
     }
-}
-
-/// Adds empty lists of positions, up to this number of parents.
-fn make_room(places: &mut Vec<Vec<usize>>, alloc: Global, count: usize) -> R<()>
-    ensures long { OnOk result (count ≤ length places.new.items) }
-    ensures same { OnOk result ((v : ℕ) → places_at places.new.items v ≡ places_at places.old.items v) }
-    ensures refusal { IsOkUnless result Memory }
-{
-    while places.len() < count {
-        places.push(Vec::new(alloc))?;
-    }
-    Ok(())
 }

@@ -18,7 +18,7 @@ use Rattle.resolvo_store_core.specs.declared.lists.FixedLists.{FixedLists}
 use Rattle.resolvo_store_core.specs.Pick.{pick_by}
 use Rattle.resolvo_store_core.specs.declared.decide_queue.NextDecision.{NextDecision}
 use Rattle.resolvo_store_core.specs.declared.decision.Entry.{Entry}
-use Rattle.resolvo_decide.specs.Needs.{literals_in, is_met, Fits, KeepsFitting}
+use Rattle.resolvo_decide.specs.Needs.{literals_in, Fits, KeepsFitting}
 use Rattle.resolvo_decide.specs.declared.undecided_clauses.UndecidedClauses.{UndecidedClauses}
 use Rattle.resolvo_decide.proofs.FitLemmas.{fits_add, fits_more, fits_none}
 use Rattle.resolvo_store_core.specs.declared.decide_queue.NeedClause.{NeedClause}
@@ -140,7 +140,7 @@ built_disjunction number given old ls b f = record {
   gates = b.gates;
   within = b.within;
   clauses = λ q a. literals_widen old.lists ls old.coding.search.clauses q (condition_widens old.lists ls (given ∷ [], f.put) q.condition) (λ l h. subst (λ cs. has (candidate_literals (items_or_none (slot_of cs q.requirement))) l ≡ true) (sym f.candidates) h) (b.clauses q a);
-  needs = fits_more (literals_in old.lists) (literals_in ls) old.needs old.queue (λ r es met. subst (λ cs. is_met es (candidate_literals (items_or_none (slot_of cs r))) ≡ true) (sym f.candidates) met) b.needs;
+  needs = fits_more (literals_in old.lists) (literals_in ls) old.needs old.queue (λ r some. ap (λ cs. candidate_literals (items_or_none (slot_of cs r))) f.candidates) b.needs;
   seen = b.seen;
 }
 
@@ -194,7 +194,7 @@ built_begun {N} {S} e begun = record {
   gates = λ r v at. (let none : None ≡ Some v = sym (begun.gates r) ∙ at in absurd cc);
   within = (let none : e.encoded ≡ 0 = begun.encoded in omega arith);
   clauses = λ q a. absurd (contains_none q (subst (λ (qs : List NeedClause). Contains qs q) begun.queue a));
-  needs = subst (λ qs. Fits (literals_in e.lists) e.needs qs) (sym begun.queue) (fits_none (literals_in e.lists) e.needs begun.needs);
+  needs = subst (λ qs. Fits (literals_in e.lists) e.needs qs) (sym begun.queue) (fits_none (literals_in e.lists) e.needs begun.needs begun.tallies);
   seen = subst (λ es. IsPrefixOf es e.coding.search.tracker.trail) (sym begun.seen) (e.coding.search.tracker.trail, refl);
 }
 

@@ -11,7 +11,7 @@ use Rattle.resolvo_store_core.specs.Lists.{has_candidates, candidates_in, items_
 use Rattle.resolvo_store_core.specs.declared.lists.Candidate.{Candidate}
 use Rattle.resolvo_store_core.specs.declared.lists.Disjunction.{Disjunction}
 use Rattle.resolvo_store_core.specs.declared.lists.FixedLists.{FixedLists}
-use Rattle.resolvo_decide.specs.Needs.{literals_in, is_met}
+use Rattle.resolvo_decide.specs.Needs.{literals_in}
 use Rattle.resolvo_decide.proofs.FitLemmas.{fits_more}
 use Rattle.resolvo_store_core.specs.Signed.{Signed, has}
 use Rattle.resolvo_store_core.specs.Clauses.{candidate_literals}
@@ -265,7 +265,7 @@ module _ {N S : Type 0} (same : S → S → Bool) where
       within = enrols.built.within;
       clauses = λ q a. literals_widen middle.lists new.lists middle.coding.search.clauses q (condition_widens middle.lists new.lists (prefix_equal middle.lists.disjunctions new.lists.disjunctions fixes.disjunctions) q.condition)
           (λ l. still_has (λ literals. has literals l) refl middle given fixes (ap (λ ls. has_candidates ls r) enrols.lists ∙ fresh) q.requirement) (enrols.built.clauses q a);
-      needs = fits_more (literals_in middle.lists) (literals_in new.lists) middle.needs middle.queue (λ q es. still_has (is_met es) refl middle given fixes (ap (λ ls. has_candidates ls r) enrols.lists ∙ fresh) q) enrols.built.needs;
+      needs = fits_more (literals_in middle.lists) (literals_in new.lists) middle.needs middle.queue (still_same middle given fixes (ap (λ ls. has_candidates ls r) enrols.lists ∙ fresh)) enrols.built.needs;
       seen = enrols.built.seen;
     })
   ]
@@ -275,6 +275,13 @@ module _ {N S : Type 0} (same : S → S → Bool) where
       still_has test empty middle given fixes fresh q h = elim (fix_other r q given middle.lists new.lists fixes) [
         | inl is ↦ absurd (both_ways (test (candidate_literals (items_or_none (slot_of middle.lists.candidates q)))) (ap (λ x. test (candidate_literals (items_or_none x))) (ap (slot_of middle.lists.candidates) is ∙ no_slot (slot_of middle.lists.candidates r) fresh) ∙ empty) h)
         | inr is ↦ subst (λ x. test (candidate_literals (items_or_none x)) ≡ true) (sym is) h
+      ]
+
+      -- what has candidates keeps them
+      still_same : (middle : Encoder N S) (given : Vec (Candidate N) Global) → FixesCandidates r given middle.lists new.lists → has_candidates middle.lists r ≡ false → (q : Requirement) → 0 < length (literals_in middle.lists q) → literals_in new.lists q ≡ literals_in middle.lists q
+      still_same middle given fixes fresh q some = elim (fix_other r q given middle.lists new.lists fixes) [
+        | inl is ↦ (let none : length (literals_in middle.lists q) ≡ 0 = ap (λ x. length (candidate_literals (items_or_none x))) (ap (slot_of middle.lists.candidates) is ∙ no_slot (slot_of middle.lists.candidates r) fresh) in absurd (omega (arith, some, none)))
+        | inr is ↦ ap (λ x. candidate_literals (items_or_none x)) is
       ]
 
       candidates_new : (middle : Encoder N S) (given : Vec (Candidate N) Global) → IsBuilt middle → FixesCandidates r given middle.lists new.lists → ((c : Candidate N) → Contains given.items c → (o : Offered N S) × Contains offered o × IsOfferedAs middle.registry middle.coding o c)

@@ -1,6 +1,11 @@
 use Rattle.std.proofs.Common.{◌-◌, ◌≤◌, ap, arith, length, length-append, take, drop}
-use Rattle.resolvo_decide.proofs.FitLemmas.{keeps_both, seen_more, seen_all}
+use Rattle.resolvo_decide.proofs.FitLemmas.{keeps_both, seen_more, seen_all, seen_fresh}
 use Rattle.resolvo_decide.proofs.undecided_clauses.UndecidedClauses.see_rest.Goals as goal
+
+pub see_entry-requires : goal.see_entry-requires
+see_entry-requires c =
+    let low : c.len-seen.result ≤ length c.args.trail.now = omega (arith, ap length c.requires.seen.1, length-append c.args.self.now.seen.items c.requires.seen.0) in
+    seen_fresh c.len-seen.result c.loop-entry.entry-index c.args.trail.now c.loop-entry.self.seen.items _ low c.loop-entry.invariant.seen c.loop-entry-test.true c.requires.once
 
 pub loop-entry-preserved : goal.loop-entry-preserved
 loop-entry-preserved c =
@@ -12,5 +17,5 @@ loop-entry-preserved c =
 
 pub returns-clause-seen : goal.returns-clause-seen
 returns-clause-seen c =
-    let low : c.len-seen.result ≤ length c.args.trail.now = omega (arith, ap length c.requires.1, length-append c.args.self.now.seen.items c.requires.0) in
+    let low : c.len-seen.result ≤ length c.args.trail.now = omega (arith, ap length c.requires.seen.1, length-append c.args.self.now.seen.items c.requires.seen.0) in
     seen_all c.len-seen.result c.loop-entry.entry-index c.args.trail.now c.loop-entry.self.seen.items low c.loop-entry.invariant.seen c.loop-entry-test.false

@@ -1,0 +1,14 @@
+use Rattle.std.proofs.Common.{◌≡◌, length, take}
+use Rattle.resolvo_decide.specs.Needs.{KeepsTallies}
+use Rattle.resolvo_decide.proofs.undecided_clauses.UndecidedClauses.undo_entries.Given as goal
+
+-- the entries to keep are there, and the tallies are right for the rest
+abbrev pub invariant-loop-self : goal.invariant-loop-self
+invariant-loop-self l = record {
+  seen : take l.kept l.self.seen.items ≡ take l.kept l.fn.self.seen.items;
+  tallies : KeepsTallies l.fn.self.seen.items l.self.seen.items l.fn.self.tallies l.self.tallies;
+  rest : l.self ≡ record l.fn.self { seen = l.self.seen; tallies = l.self.tallies };
+}
+
+abbrev pub decreases-loop-self : goal.decreases-loop-self
+decreases-loop-self l = length l.self.seen.items

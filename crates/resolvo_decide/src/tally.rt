@@ -1,0 +1,87 @@
+//! How many candidates of a clause are true, and how many are false. An entry that is added to the
+//! trail, or removed from it, changes them by one for each candidate of its variable.
+
+ghost use Rattle.std.specs.Prelude.{◌≡◌, ◌+◌, ◌-◌};
+ghost use Rattle.resolvo_decide.specs.Tallies.{changed, one_more};
+
+/// What an entry of the trail does to a candidate.
+#[derive(Clone, Copy, Debug)]
+pub enum Change {
+    /// It makes the candidate true.
+    Met,
+    /// It makes the candidate false.
+    Fell,
+    /// It is removed, and had made the candidate true.
+    Unmet,
+    /// It is removed, and had made the candidate false.
+    Rose,
+}
+
+/// The candidates of a clause under the trail.
+#[derive(Clone, Copy, Debug)]
+pub struct Tally {
+    /// How many candidates there are.
+    pub total: usize,
+    /// How many are true.
+    pub trues: usize,
+    /// How many are false.
+    pub falses: usize,
+    /// So many of the first ones are false.
+    pub passed: usize,
+}
+
+impl Tally {
+    /// How many candidates are undecided.
+    pub fn undecided(self) -> usize
+        ensures { result ≡ self.total - (self.trues + self.falses) }
+    {
+        self.total
+            .saturating_sub(self.trues)
+            .saturating_sub(self.falses)
+    }
+
+    /// After a change of the candidate at this place.
+    pub fn changed(self, change: Change, place: usize) -> Tally
+        ensures { result ≡ changed change place self }
+    {
+        let Tally {
+            total,
+            trues,
+            falses,
+            passed,
+        } = self;
+        match change {
+            Change::Met => Tally {
+                total,
+                trues: one_more(total, trues),
+                falses,
+                passed,
+            },
+            Change::Fell => Tally {
+                total,
+                trues,
+                falses: one_more(total, falses),
+                passed,
+            },
+            Change::Unmet => Tally {
+                total,
+                trues: trues.saturating_sub(1),
+                falses,
+                passed,
+            },
+            Change::Rose => Tally {
+                total,
+                trues,
+                falses: falses.saturating_sub(1),
+                passed: passed.min(place),
+            },
+        }
+    }
+}
+
+/// One more, up to the total.
+fn one_more(total: usize, count: usize) -> usize
+    ensures { result ≡ one_more total count }
+{
+    if count < total { count + 1 } else { count }
+}
