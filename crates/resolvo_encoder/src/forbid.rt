@@ -35,6 +35,13 @@ impl<N: Copy + Exact + Hash + Debug + Drop, S: Copy + Exact + Hash + Debug> Enco
         self.recorded.packages.contains(&name)
     }
 
+    /// Whether clauses encode which candidates are outside a version set.
+    pub fn is_left_out(&self, version_set: VersionSetId) -> bool
+        ensures { Decides result (Contains self.now.recorded.version_sets.keys version_set) }
+    {
+        self.recorded.version_sets.contains(&version_set)
+    }
+
     /// Encodes the locks and exclusions of a package.
     pub fn forbid(&mut self, alloc: Global, name: N, barred: &[ForbiddenSolvable<S>]) -> R<()>
         requires { IsBuilt self.old }
@@ -127,7 +134,7 @@ impl<N: Copy + Exact + Hash + Debug + Drop, S: Copy + Exact + Hash + Debug> Enco
         // After a refusal.
         ensures ids { IsErrOf result Ids → LacksNumber self.new.coding }
     {
-        if self.recorded.version_sets.contains(&version_set) {
+        if self.is_left_out(version_set) {
             return Ok(());
         }
         self.encode_outside(alloc, version_set, outside)?;
@@ -221,15 +228,26 @@ impl<N: Copy + Exact + Hash + Debug + Drop, S: Copy + Exact + Hash + Debug> Enco
         Ok(())
     }
 
-    /// Encodes that a parent's version set forbids all candidates outside it.
-    fn limit_outside(
+    /// Encodes that a parent's version set forbids all candidates outside it. Where clauses encode
+    /// which these are, its constraint is encoded then.
+    pub fn limit_outside(
         &mut self,
         alloc: Global,
         parent: Option<S>,
         version_set: VersionSetId,
     ) -> R<()>
         requires { IsBuilt self.old }
+        // After an answer.
         ensures encodes { OnOk result (EncodesRules S.eq (Rule.limits_outside parent version_set ∷ []) self.old self.new) }
+        ensures encoded { OnOk result
+            ((p : Packages N S) (root : Rules)
+            → IsLawful p
+            → IsEncoding S.eq p root self.old
+            → Contains self.old.recorded.version_sets.keys version_set
+            → Contains (rules_for S.eq p root parent).constraints version_set
+            → IsEncoding S.eq p root self.new
+            × IsLimitEncoded S.eq p (rules_of self.new) parent version_set) }
+        // After a refusal.
         ensures ids { IsErrOf result Ids → LacksNumber self.new.coding }
     {
         let first = self.parent_variable(parent)?;

@@ -273,6 +273,10 @@ fn limit<A: PackageSource>(
     ensures ids { IsErrOf result Ids
         → StopsAnyhow A.SolvableId.eq A.PackageSource answers.old encoding.new }
 {
+    if encoding.is_left_out(version_set) {
+        encoding.limit_outside(alloc, parent, version_set)?;
+        return Ok(());
+    }
     let outside = answers.outside(version_set)?;
     encoding.limit(alloc, parent, version_set, outside.as_slice())?;
     Ok(())

@@ -6,6 +6,22 @@ use Rattle.resolvo_turn.proofs.AddLemmas.{extends_needs}
 use Rattle.resolvo_turn.specs.LacksIds.{LacksIds}
 use Rattle.resolvo_turn.proofs.encode.limit.Goals as goal
 
+pub returns-then-is_left_out-clause-encoded : goal.returns-then-is_left_out-clause-encoded
+returns-then-is_left_out-clause-encoded g c = λ root e limited.
+    let orders = g.A.PackageSource.orders c.args.answers.now in
+    let encodes = c.in_ok-limit_outside.ensures.encodes in
+    let (last, done) = c.in_ok-limit_outside.ensures.encoded (g.A.PackageSource.packages c.args.answers.now) root (g.met.A.PackageSource.lawful c.args.answers.now) e.encoding (c.is_left_out.ensures.0 c.if-is_left_out.true) limited in
+    (record { encoding = last; ordered = ordered_stays orders c.args.encoding.now c.limit_outside.new.self encodes.extends.grows encodes.lists e.ordered }, done)
+
+pub returns-then-is_left_out-clause-kept : goal.returns-then-is_left_out-clause-kept
+returns-then-is_left_out-clause-kept g c = extends_needs c.args.encoding.now c.limit_outside.new.self c.in_ok-limit_outside.ensures.encodes.extends
+
+pub returns-then-is_left_out-clause-built : goal.returns-then-is_left_out-clause-built
+returns-then-is_left_out-clause-built g c = c.in_ok-limit_outside.ensures.encodes.built
+
+pub returns-in_err-limit_outside-clause-ids : goal.returns-in_err-limit_outside-clause-ids
+returns-in_err-limit_outside-clause-ids g c = search (rules, LacksIds.coding)
+
 pub returns-clause-encoded : goal.returns-clause-encoded
 returns-clause-encoded g c = λ root e limited.
     let same = g.A.SolvableId.PartialEq.eq in

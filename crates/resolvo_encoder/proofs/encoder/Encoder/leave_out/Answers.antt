@@ -1,17 +1,12 @@
-use Rattle.std.proofs.Common.{◌==◌, refl, sym, ◌∙◌, ap, eqb-true}
-use Rattle.resolvo_pool_core.specs.declared.id.VersionSetId.{VersionSetId}
+use Rattle.std.proofs.Common.{refl}
 use Rattle.resolvo_sat.specs.Encoding.{IsExact, Rule}
 use Rattle.resolvo_encoder.specs.Encoded.{rules_of}
-use Rattle.resolvo_encoder.proofs.Parents.{any_is_in}
 use Rattle.resolvo_encoder.proofs.EncodesLemmas.{outs_are_rules, outside_encoded, set_recorded}
 use Rattle.resolvo_encoder.proofs.encoder.Encoder.leave_out.Goals as goal
 
-pub returns-then-contains-clause-encoded : goal.returns-then-contains-clause-encoded
-returns-then-contains-clause-encoded g c = λ p root lawful holds outside parent limited. (
-  holds,
-  λ s h. holds.recorded.version_sets c.args.version_set s
-      (any_is_in (λ (v w : VersionSetId). v.0 == w.0) c.args.self.now.recorded.version_sets.keys c.args.version_set (λ y e. sym (ap (λ n. let v : VersionSetId = record { 0 = n } in v) (eqb-true c.args.version_set.0 y.0 e))) (sym c.contains.ensures ∙ c.if-contains.true)) h,
-)
+pub returns-then-is_left_out-clause-encoded : goal.returns-then-is_left_out-clause-encoded
+returns-then-is_left_out-clause-encoded g c = λ p root lawful holds outside parent limited.
+    (holds, λ s h. holds.recorded.version_sets c.args.version_set s (c.is_left_out.ensures.0 c.if-is_left_out.true) h)
 
 pub returns-clause-encoded : goal.returns-clause-encoded
 returns-clause-encoded g c = λ p root lawful holds outside parent limited.
