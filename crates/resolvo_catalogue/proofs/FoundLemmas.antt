@@ -8,9 +8,9 @@ use Rattle.std.specs.declared.string.String.{String}
 use Rattle.std.specs.Map.{lookup, KeepsOthers, IsKeyTest, AreApart}
 use Rattle.std.specs.Str.{bytes_eq}
 use Rattle.std.specs.BTreeMap.{BTreeMap, Updates, UpdatesBy, get_by_text, is_at}
-use Rattle.std.specs.Cmp.{eq_by_cmp_equiv}
+use Rattle.std.specs.Cmp.{eq_by_cmp_equiv, first_so, second_so, tied_then, tied_itself, nat_cmp_total, unsigned_Decides, unsigned_ties}
 use Rattle.std.specs.Cmp.Lexicographic.{slice_cmp, bytes_decides, nat_list_cmp_total, nat_list_eq_equiv}
-use Rattle.std.specs.Ordering.{nat_cmp, eq_by_cmp}
+use Rattle.std.specs.Ordering.{nat_cmp, is_eq, eq_by_cmp, ordering_then}
 use Rattle.std.proofs.lemmas.Bool.{cases_Bool, cond-true, cond-false}
 use Rattle.std.proofs.lemmas.Bool.Decides.{nat_tests}
 use Rattle.std.proofs.lemmas.Map.Text.{btree_map_updates_text, is_eq-slice_cmp}
@@ -30,7 +30,7 @@ use Rattle.resolvo_catalogue_core.proofs.Pushed.{get_new, get_kept, get_push}
 use Rattle.resolvo_catalogue.specs.declared.id_table.Numbers.{Numbers}
 use Rattle.resolvo_catalogue.specs.Ids.{NameId, Extends, AreOnce, IsPlaced}
 use Rattle.resolvo_catalogue.specs.Known.{sound}
-use Rattle.resolvo_catalogue.specs.Found.{AreFound, AreKept, number_in, list_number_in, span_key, set_key, union_key, condition_key}
+use Rattle.resolvo_catalogue.specs.Found.{AreFound, AreKept, Key, key_eq, number_in, list_number_in, span_key, set_key, union_key, condition_key}
 
 -- ---- any values
 
@@ -147,43 +147,64 @@ module _ {K : Type 0} (items : K → List ℕ) where
     | inr y ↦ others key m.entries n.entries h.3 (finds other) (λ a b. (eq_by_cmp_equiv nat_list_cmp_total).congr other (items a) (items b)) (λ k. apart key other k y) ∙ sym (cond-false (bytes_eq key other) w (lookup (finds other) m.entries) y)
   ]
 
-pub number_put : (m n : BTreeMap (List ℕ) ℕ) (key : List ℕ) (w : Option ℕ) → UpdatesBy (λ x y. slice_cmp nat_cmp x y) (λ k. slice_cmp nat_cmp key k) m n w
-    → (other : List ℕ) → number_in n.entries other ≡ cond (bytes_eq key other) w (number_in m.entries other)
-number_put m n key w h other = put_at (λ k. k) m n key w h other
-
 pub list_number_put : (m n : BTreeMap (Vec ℕ) ℕ) (key : List ℕ) (w : Option ℕ) → UpdatesBy (λ x y. slice_cmp nat_cmp x.items y.items) (λ k. slice_cmp nat_cmp key k.items) m n w
     → (other : List ℕ) → list_number_in n.entries other ≡ cond (bytes_eq key other) w (list_number_in m.entries other)
 list_number_put m n key w h other = put_at (λ k. k.items) m n key w h other
 
--- the values after one more, whose key had no number
-keyed_more : {V : Type 0} (key : V → List ℕ) → ((x y : V) → key x ≡ key y → x ≡ y) → (old new : List ℕ → Option ℕ) (vs : List V) (v : V) → AreFound (λ x. old (key x)) vs → old (key v) ≡ None
-    → ((other : List ℕ) → new other ≡ cond (bytes_eq (key v) other) (Some (length vs)) (old other)) → AreFound (λ x. new (key x)) (vs ++ v ∷ [])
-keyed_more key exact old new vs v h none put =
-    found_more (λ x y. bytes_eq (key x) (key y)) (λ x y e. exact x y ((bytes_decides (key x) (key y)).0 e)) (λ x. (bytes_decides (key x) (key x)).1 refl) (λ x. old (key x)) (λ x. new (key x)) vs v h none (λ x. put (key x))
+-- keys of four numbers are equal when they compare so
+same_number : (x y : ℕ) → is_eq (nat_cmp x y) ≡ true → x ≡ y
+same_number x y e = (unsigned_Decides x y).0 (unsigned_ties x y ∙ e)
 
-abbrev first : List ℕ → ℕ
-first xs = get_or xs 0 0
+keys_exact : (x y : Key) → key_eq x y ≡ true → x ≡ y
+keys_exact x y e =
+    let a : Ordering = nat_cmp x.0 y.0 in
+    let b : Ordering = nat_cmp x.1 y.1 in
+    let c : Ordering = nat_cmp x.2 y.2 in
+    let d : Ordering = nat_cmp x.3 y.3 in
+    let all = tied_then (ordering_then (ordering_then a b) c) d ∙ e in
+    let three = tied_then (ordering_then a b) c ∙ first_so (is_eq (ordering_then (ordering_then a b) c)) (is_eq d) all in
+    let two = tied_then a b ∙ first_so (is_eq (ordering_then a b)) (is_eq c) three in
+    let first = same_number x.0 y.0 (first_so (is_eq a) (is_eq b) two) in
+    let second = same_number x.1 y.1 (second_so (is_eq a) (is_eq b) two) in
+    let third = same_number x.2 y.2 (second_so (is_eq (ordering_then a b)) (is_eq c) three) in
+    let fourth = same_number x.3 y.3 (second_so (is_eq (ordering_then (ordering_then a b) c)) (is_eq d) all) in
+    λ i. (first i, second i, third i, fourth i)
+
+keys_own : (x : Key) → key_eq x x ≡ true
+keys_own x = rw (tied_itself nat_cmp_total x.0, tied_itself nat_cmp_total x.1, tied_itself nat_cmp_total x.2, tied_itself nat_cmp_total x.3) refl
+
+-- the values after one more, whose key had no number
+keyed_more : {V : Type 0} (key : V → Key) → ((x y : V) → key x ≡ key y → x ≡ y) → (old new : Key → Option ℕ) (vs : List V) (v : V) → AreFound (λ x. old (key x)) vs → old (key v) ≡ None
+    → ((other : Key) → new other ≡ cond (key_eq (key v) other) (Some (length vs)) (old other)) → AreFound (λ x. new (key x)) (vs ++ v ∷ [])
+keyed_more key exact old new vs v h none put =
+    found_more (λ x y. key_eq (key x) (key y)) (λ x y e. exact x y (keys_exact (key x) (key y) e)) (λ x. keys_own (key x)) (λ x. old (key x)) (λ x. new (key x)) vs v h none (λ x. put (key x))
+
+-- the same where the keys are lists
+listed_more : {V : Type 0} (key : V → List ℕ) → ((x y : V) → key x ≡ key y → x ≡ y) → (old new : List ℕ → Option ℕ) (vs : List V) (v : V) → AreFound (λ x. old (key x)) vs → old (key v) ≡ None
+    → ((other : List ℕ) → new other ≡ cond (bytes_eq (key v) other) (Some (length vs)) (old other)) → AreFound (λ x. new (key x)) (vs ++ v ∷ [])
+listed_more key exact old new vs v h none put =
+    found_more (λ x y. bytes_eq (key x) (key y)) (λ x y e. exact x y ((bytes_decides (key x) (key y)).0 e)) (λ x. (bytes_decides (key x) (key x)).1 refl) (λ x. old (key x)) (λ x. new (key x)) vs v h none (λ x. put (key x))
 
 -- ---- values of one key are one
 
 spans_exact : (a b : Span) → span_key a ≡ span_key b → a ≡ b
 spans_exact Any Any e = refl
-spans_exact Any (One n) e = let head : 0 ≡ 1 = ap first e in absurd (omega (arith, head))
-spans_exact Any (Range low high) e = let head : 0 ≡ 2 = ap first e in absurd (omega (arith, head))
-spans_exact (One m) Any e = let head : 1 ≡ 0 = ap first e in absurd (omega (arith, head))
-spans_exact (One m) (One n) e = let same : m ≡ n = cc in ap (λ (k : ℕ). One k) same
-spans_exact (One m) (Range low high) e = let head : 1 ≡ 2 = ap first e in absurd (omega (arith, head))
-spans_exact (Range bottom top) Any e = let head : 2 ≡ 0 = ap first e in absurd (omega (arith, head))
-spans_exact (Range bottom top) (One n) e = let head : 2 ≡ 1 = ap first e in absurd (omega (arith, head))
+spans_exact Any (One n) e = let head : 0 ≡ 1 = ap (λ k. k.0) e in absurd (omega (arith, head))
+spans_exact Any (Range low high) e = let head : 0 ≡ 2 = ap (λ k. k.0) e in absurd (omega (arith, head))
+spans_exact (One m) Any e = let head : 1 ≡ 0 = ap (λ k. k.0) e in absurd (omega (arith, head))
+spans_exact (One m) (One n) e = let same : m ≡ n = ap (λ k. k.1) e in ap (λ (k : ℕ). One k) same
+spans_exact (One m) (Range low high) e = let head : 1 ≡ 2 = ap (λ k. k.0) e in absurd (omega (arith, head))
+spans_exact (Range bottom top) Any e = let head : 2 ≡ 0 = ap (λ k. k.0) e in absurd (omega (arith, head))
+spans_exact (Range bottom top) (One n) e = let head : 2 ≡ 1 = ap (λ k. k.0) e in absurd (omega (arith, head))
 spans_exact (Range bottom top) (Range low high) e =
-    let lows : bottom ≡ low = cc in
-    let highs : top ≡ high = cc in
+    let lows : bottom ≡ low = ap (λ k. k.1) e in
+    let highs : top ≡ high = ap (λ k. k.2) e in
     ap (λ (k : ℕ). Range k top) lows ∙ ap (λ (k : ℕ). Range low k) highs
 
 sets_exact : (x y : NameId × Numbers) → set_key x ≡ set_key y → x ≡ y
 sets_exact x y e =
-    let names : x.0.raw ≡ y.0.raw = cc in
-    let spans : span_key x.1.0 ≡ span_key y.1.0 = cc in
+    let names : x.0.raw ≡ y.0.raw = ap (λ k. k.0) e in
+    let spans : span_key x.1.0 ≡ span_key y.1.0 = ap (λ (k : Key). let t : ℕ × ℕ × ℕ = (k.1, k.2, k.3) in t) e in
     ap (λ (n : ℕ). let p : NameId × Numbers = (record { raw = n; tag = record {} }, x.1) in p) names
     ∙ ap (λ (s : Span). let p : NameId × Numbers = (y.0, record { 0 = s }) in p) (spans_exact x.1.0 y.1.0 spans)
 
@@ -200,38 +221,38 @@ joined : (op : LogicalOperator) (a b c d : ConditionId) → a.0 ≡ c.0 → b.0 
 joined op a b c d left right = ap (λ (n : ℕ). Binary op (record { 0 = n }) b) left ∙ ap (λ (n : ℕ). Binary op c (record { 0 = n })) right
 
 conditions_exact : (x y : Condition) → condition_key x ≡ condition_key y → x ≡ y
-conditions_exact (Requirement v) (Requirement w) e = let same : v.0 ≡ w.0 = cc in ap (λ (n : ℕ). let q : Condition = Requirement (record { 0 = n }) in q) same
-conditions_exact (Requirement v) (Binary And c d) e = let head : 0 ≡ 1 = ap first e in absurd (omega (arith, head))
-conditions_exact (Requirement v) (Binary Or c d) e = let head : 0 ≡ 2 = ap first e in absurd (omega (arith, head))
-conditions_exact (Binary And a b) (Requirement w) e = let head : 1 ≡ 0 = ap first e in absurd (omega (arith, head))
-conditions_exact (Binary Or a b) (Requirement w) e = let head : 2 ≡ 0 = ap first e in absurd (omega (arith, head))
+conditions_exact (Requirement v) (Requirement w) e = let same : v.0 ≡ w.0 = ap (λ k. k.1) e in ap (λ (n : ℕ). let q : Condition = Requirement (record { 0 = n }) in q) same
+conditions_exact (Requirement v) (Binary And c d) e = let head : 0 ≡ 1 = ap (λ k. k.0) e in absurd (omega (arith, head))
+conditions_exact (Requirement v) (Binary Or c d) e = let head : 0 ≡ 2 = ap (λ k. k.0) e in absurd (omega (arith, head))
+conditions_exact (Binary And a b) (Requirement w) e = let head : 1 ≡ 0 = ap (λ k. k.0) e in absurd (omega (arith, head))
+conditions_exact (Binary Or a b) (Requirement w) e = let head : 2 ≡ 0 = ap (λ k. k.0) e in absurd (omega (arith, head))
 conditions_exact (Binary And a b) (Binary And c d) e =
-    let left : a.0 ≡ c.0 = cc in
-    let right : b.0 ≡ d.0 = cc in
+    let left : a.0 ≡ c.0 = ap (λ k. k.1) e in
+    let right : b.0 ≡ d.0 = ap (λ k. k.2) e in
     joined And a b c d left right
 conditions_exact (Binary Or a b) (Binary Or c d) e =
-    let left : a.0 ≡ c.0 = cc in
-    let right : b.0 ≡ d.0 = cc in
+    let left : a.0 ≡ c.0 = ap (λ k. k.1) e in
+    let right : b.0 ≡ d.0 = ap (λ k. k.2) e in
     joined Or a b c d left right
-conditions_exact (Binary And a b) (Binary Or c d) e = let head : 1 ≡ 2 = ap first e in absurd (omega (arith, head))
-conditions_exact (Binary Or a b) (Binary And c d) e = let head : 2 ≡ 1 = ap first e in absurd (omega (arith, head))
+conditions_exact (Binary And a b) (Binary Or c d) e = let head : 1 ≡ 2 = ap (λ k. k.0) e in absurd (omega (arith, head))
+conditions_exact (Binary Or a b) (Binary And c d) e = let head : 2 ≡ 1 = ap (λ k. k.0) e in absurd (omega (arith, head))
 
 -- ---- one more of each kind
 
-module _ (ss : List (NameId × Numbers)) (si : List (List ℕ × ℕ)) (us : List (List VersionSetId)) (ui : List (Vec ℕ × ℕ)) (cs : List Condition) (ci : List (List ℕ × ℕ)) (h : AreKept ss si us ui cs ci) where
-  pub sets_more : (s : NameId × Numbers) (new : List (List ℕ × ℕ)) → number_in si (set_key s) ≡ None → ((other : List ℕ) → number_in new other ≡ cond (bytes_eq (set_key s) other) (Some (length ss)) (number_in si other)) → AreKept (ss ++ s ∷ []) new us ui cs ci
+module _ (ss : List (NameId × Numbers)) (si : List (Key × ℕ)) (us : List (List VersionSetId)) (ui : List (Vec ℕ × ℕ)) (cs : List Condition) (ci : List (Key × ℕ)) (h : AreKept ss si us ui cs ci) where
+  pub sets_more : (s : NameId × Numbers) (new : List (Key × ℕ)) → number_in si (set_key s) ≡ None → ((other : Key) → number_in new other ≡ cond (key_eq (set_key s) other) (Some (length ss)) (number_in si other)) → AreKept (ss ++ s ∷ []) new us ui cs ci
   sets_more s new none put = record { sets = keyed_more set_key sets_exact (number_in si) (number_in new) ss s h.sets none put; unions = h.unions; conditions = h.conditions; below = h.below; several = h.several }
 
   pub unions_more : (u : List VersionSetId) (new : List (Vec ℕ × ℕ)) → ((v : VersionSetId) → u ≡ v ∷ [] → ⊥) → list_number_in ui (union_key u) ≡ None → ((other : List ℕ) → list_number_in new other ≡ cond (bytes_eq (union_key u) other) (Some (length us)) (list_number_in ui other)) → AreKept ss si (us ++ u ∷ []) new cs ci
   unions_more u new several none put = record {
     sets = h.sets;
-    unions = keyed_more union_key unions_exact (list_number_in ui) (list_number_in new) us u h.unions none put;
+    unions = listed_more union_key unions_exact (list_number_in ui) (list_number_in new) us u h.unions none put;
     conditions = h.conditions;
     below = h.below;
     several = λ k v e. elim (get_push us u (v ∷ []) k e) [ inl old ↦ h.several k v old | inr last ↦ several v last.1 ];
   }
 
-  pub conditions_more : (c : Condition) (new : List (List ℕ × ℕ)) → OperandsBelow c (record { 0 = length cs }) → number_in ci (condition_key c) ≡ None → ((other : List ℕ) → number_in new other ≡ cond (bytes_eq (condition_key c) other) (Some (length cs)) (number_in ci other)) → AreKept ss si us ui (cs ++ c ∷ []) new
+  pub conditions_more : (c : Condition) (new : List (Key × ℕ)) → OperandsBelow c (record { 0 = length cs }) → number_in ci (condition_key c) ≡ None → ((other : Key) → number_in new other ≡ cond (key_eq (condition_key c) other) (Some (length cs)) (number_in ci other)) → AreKept ss si us ui (cs ++ c ∷ []) new
   conditions_more c new under none put = record {
     sets = h.sets;
     unions = h.unions;

@@ -1,8 +1,9 @@
--- Values that are each found at their places, by keys that are lists of numbers.
-use Rattle.std.specs.Prelude.{◌≡◌, ℕ, List, [], ◌∷◌, map, Option, Some, slice_get}
+-- Values that are each found at their places, by keys that are four numbers or lists of numbers.
+use Rattle.std.specs.Prelude.{◌≡◌, ℕ, Bool, List, map, Option, Some, slice_get}
 use Rattle.std.specs.Global.{Vec}
 use Rattle.std.specs.Map.{lookup}
-use Rattle.std.specs.Ordering.{is_eq, nat_cmp}
+use Rattle.std.specs.declared.cmp.Ordering.{Ordering}
+use Rattle.std.specs.Ordering.{is_eq, nat_cmp, ordering_then}
 use Rattle.std.specs.Cmp.Lexicographic.{slice_cmp}
 use Rattle.resolvo_text.specs.declared.spec.Span.{Span}
 use Rattle.resolvo_text.specs.declared.spec.Span.TheVariants.{Any, One, Range}
@@ -19,9 +20,19 @@ pub record AreFound {V : Type 0} (find : V → Option ℕ) (values : List V) : T
   pub found : (v : V) (i : ℕ) → find v ≡ Some i → slice_get values i ≡ Some v
   pub all : (v : V) (i : ℕ) → slice_get values i ≡ Some v → find v ≡ Some i
 
+-- the key of a version set or a condition
+abbrev pub Key : Type 0
+Key = ℕ × ℕ × ℕ × ℕ
+
+abbrev pub key_cmp : Key → Key → Ordering
+key_cmp x y = ordering_then (ordering_then (ordering_then (nat_cmp x.0 y.0) (nat_cmp x.1 y.1)) (nat_cmp x.2 y.2)) (nat_cmp x.3 y.3)
+
+abbrev pub key_eq : Key → Key → Bool
+key_eq x y = is_eq (key_cmp x y)
+
 -- the number of a key among the entries of a sorted map
-abbrev pub number_in : List (List ℕ × ℕ) → List ℕ → Option ℕ
-number_in entries key = lookup (λ k. is_eq (slice_cmp nat_cmp key k)) entries
+abbrev pub number_in : List (Key × ℕ) → Key → Option ℕ
+number_in entries key = lookup (key_eq key) entries
 
 -- the same where the keys are vectors
 abbrev pub list_number_in : List (Vec ℕ × ℕ) → List ℕ → Option ℕ
@@ -29,24 +40,24 @@ list_number_in entries key = lookup (λ k. is_eq (slice_cmp nat_cmp key k.items)
 
 -- ---- keys
 
-abbrev pub span_key : Span → List ℕ
-span_key Any = 0 ∷ 0 ∷ 0 ∷ []
-span_key (One n) = 1 ∷ n ∷ 0 ∷ []
-span_key (Range low high) = 2 ∷ low ∷ high ∷ []
+abbrev pub span_key : Span → ℕ × ℕ × ℕ
+span_key Any = (0, 0, 0)
+span_key (One n) = (1, n, 0)
+span_key (Range low high) = (2, low, high)
 
-abbrev pub set_key : NameId × Numbers → List ℕ
-set_key s = s.0.raw ∷ span_key s.1.0
+abbrev pub set_key : NameId × Numbers → Key
+set_key s = (s.0.raw, (span_key s.1.0).0, (span_key s.1.0).1, (span_key s.1.0).2)
 
 abbrev pub union_key : List VersionSetId → List ℕ
 union_key members = map (λ v. v.0) members
 
-abbrev pub condition_key : Condition → List ℕ
-condition_key (Requirement v) = 0 ∷ v.0 ∷ 0 ∷ 0 ∷ []
-condition_key (Binary joins.And a b) = 1 ∷ a.0 ∷ b.0 ∷ 0 ∷ []
-condition_key (Binary joins.Or a b) = 2 ∷ a.0 ∷ b.0 ∷ 0 ∷ []
+abbrev pub condition_key : Condition → Key
+condition_key (Requirement v) = (0, v.0, 0, 0)
+condition_key (Binary joins.And a b) = (1, a.0, b.0, 0)
+condition_key (Binary joins.Or a b) = (2, a.0, b.0, 0)
 
 -- Version sets, unions and conditions are found by their keys; no union is of one version set, and operands come first.
-pub record AreKept (ss : List (NameId × Numbers)) (si : List (List ℕ × ℕ)) (us : List (List VersionSetId)) (ui : List (Vec ℕ × ℕ)) (cs : List Condition) (ci : List (List ℕ × ℕ)) : Type 0 where
+pub record AreKept (ss : List (NameId × Numbers)) (si : List (Key × ℕ)) (us : List (List VersionSetId)) (ui : List (Vec ℕ × ℕ)) (cs : List Condition) (ci : List (Key × ℕ)) : Type 0 where
   pub sets : AreFound (λ s. number_in si (set_key s)) ss
   pub unions : AreFound (λ u. list_number_in ui (union_key u)) us
   pub conditions : AreFound (λ c. number_in ci (condition_key c)) cs

@@ -11,7 +11,7 @@ ghost use Rattle.resolvo_pool_core.specs.declared.condition.Condition.TheVariant
 ghost use Rattle.resolvo_pool_core.specs.Provider.{OperandsBelow};
 ghost use Rattle.resolvo_pool_core.specs.declared.want.Want.TheVariants.{Ids};
 ghost use Rattle.resolvo_catalogue.specs.Ids.{Interns, Grows, IsPlaced, AreSound, LacksNumber, IsPackage, IsWord, IsSpec, AreEach, AreAlternatives, IsCondition, IsConditionOf, IsNeed};
-ghost use Rattle.resolvo_catalogue.specs.Found.{number_in, list_number_in, set_key, union_key, condition_key};
+ghost use Rattle.resolvo_catalogue.specs.Found.{Key, key_eq, number_in, list_number_in, set_key, union_key, condition_key};
 
 use crate::guesses::{Guesses, mixed};
 use crate::text_ids::TextIds;
@@ -37,7 +37,7 @@ impl VersionSet for Numbers {
 }
 
 /// The key of a version set or a condition. It owns no memory, so that a look-up allocates nothing.
-type Key = [u32; 4];
+type Key = (u32, u32, u32, u32);
 
 /// Values in the order in which they were added, and the number of each by its key.
 struct Numbered<T: Drop> {
@@ -472,9 +472,9 @@ impl<T: Drop> Numbered<T> {
         ensures id { IfOk result (λ i. i ≡ length self.old.values.items) }
         ensures value { OnOk result (self.new.values.items ≡ self.old.values.items ++ value ∷ []) }
         ensures key { OnOk result
-            ((other : List ℕ)
+            ((other : Key)
             → number_in self.new.ids.entries other
-            ≡ (if bytes_eq key other then Some (length self.old.values.items) else number_in self.old.ids.entries other)) }
+            ≡ (if key_eq key other then Some (length self.old.values.items) else number_in self.old.ids.entries other)) }
         // After a refusal.
         ensures kept { OnErr result (self.new.values.items ≡ self.old.values.items) }
         ensures keys { OnErr result (self.new.ids.entries ≡ self.old.ids.entries) }
@@ -539,9 +539,9 @@ fn key_of_set(name: NameId, span: Span) -> Key
     ensures { result ≡ set_key (name, record { 0 = span }) }
 {
     match span {
-        Span::Any => [name.into_raw(), 0, 0, 0],
-        Span::One(number) => [name.into_raw(), 1, number, 0],
-        Span::Range(low, high) => [name.into_raw(), 2, low, high],
+        Span::Any => (name.into_raw(), 0, 0, 0),
+        Span::One(number) => (name.into_raw(), 1, number, 0),
+        Span::Range(low, high) => (name.into_raw(), 2, low, high),
     }
 }
 
@@ -569,8 +569,8 @@ fn key_of_condition(condition: Condition) -> Key
     ensures { result ≡ condition_key condition }
 {
     match condition {
-        Condition::Requirement(version_set) => [0, version_set.0, 0, 0],
-        Condition::Binary(LogicalOperator::And, left, right) => [1, left.0, right.0, 0],
-        Condition::Binary(LogicalOperator::Or, left, right) => [2, left.0, right.0, 0],
+        Condition::Requirement(version_set) => (0, version_set.0, 0, 0),
+        Condition::Binary(LogicalOperator::And, left, right) => (1, left.0, right.0, 0),
+        Condition::Binary(LogicalOperator::Or, left, right) => (2, left.0, right.0, 0),
     }
 }
