@@ -24,7 +24,7 @@ use resolvo_proof::offers::Offers;
 use resolvo_proof::rules::{conflict_rules, requirements_of};
 use resolvo_proof::step::ProofStep;
 use resolvo_turn::cdcl::Activity;
-use resolvo_turn::defer::solvables_of;
+use resolvo_turn::defer_conditions::solvables_of;
 use std::alloc::Global;
 use std::fmt::Debug;
 use std::hash::Hash;

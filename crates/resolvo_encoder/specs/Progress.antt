@@ -15,7 +15,7 @@ use Rattle.resolvo_state.specs.SolverState.{IsCoding, Grows}
 use Rattle.resolvo_state.specs.ClauseKinds.{kind_at}
 use Rattle.resolvo_encoder.specs.Steps.{SameButCoding}
 use Rattle.resolvo_encoder.specs.TurnLevels.{AreValues, IsDecided}
-use Rattle.resolvo_encoder.specs.declared.decide.Step.{Step}
+use Rattle.resolvo_encoder.specs.declared.step.Step.{Step}
 use Rattle.resolvo_encoder.specs.declared.encoder.Encoder.{Encoder}
 
 -- the next decision by the trail's values and the scores

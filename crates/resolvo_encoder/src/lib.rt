@@ -4,9 +4,9 @@
 
 pub mod at_least_one;
 pub mod conditions;
-pub mod decide;
 pub mod encoder;
 pub mod forbid;
 pub mod place;
 pub mod register;
 pub mod soft_requirement;
+pub mod step;

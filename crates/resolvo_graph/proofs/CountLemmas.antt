@@ -6,7 +6,7 @@ use Rattle.std.specs.List.{FoldsTo, concat}
 use Rattle.std.proofs.lemmas.Bool.{eqb-true}
 use Rattle.std.proofs.lemmas.List.{length-append}
 use Rattle.std.proofs.lemmas.List.Concat.{flat_map-append}
-use Rattle.resolvo_graph.specs.declared.line.MessageLine.{MessageLine}
+use Rattle.resolvo_graph.specs.declared.wording.MessageLine.{MessageLine}
 use Rattle.resolvo_graph.specs.Message.{text_of}
 use Rattle.resolvo_graph.specs.Words.{Meaning, line_text}
 

@@ -5,13 +5,13 @@ use Rattle.resolvo_pool_core.specs.declared.id.VersionSetId.{VersionSetId}
 use Rattle.resolvo_pool_core.specs.declared.id.VersionSetUnionId.{VersionSetUnionId}
 use Rattle.resolvo_pool_core.specs.declared.requirement.Requirement.{Requirement}
 use Rattle.resolvo_pool_core.specs.Text.{set_text, requirement_text}
-use Rattle.resolvo_graph.specs.declared.line.Outlook.{Outlook}
-use Rattle.resolvo_graph.specs.declared.line.Outlook.TheVariants.{Missing, Installable, Hopeless}
-use Rattle.resolvo_graph.specs.declared.line.Verdict.{Verdict}
-use Rattle.resolvo_graph.specs.declared.line.Verdict.TheVariants.{Alone, Excluded, Conflicts, Constrains, Requires, Locked}
-use Rattle.resolvo_graph.specs.declared.line.Sentence.{Sentence}
-use Rattle.resolvo_graph.specs.declared.line.Sentence.TheVariants as Sentences
-use Rattle.resolvo_graph.specs.declared.line.MessageLine.{MessageLine}
+use Rattle.resolvo_graph.specs.declared.wording.Outlook.{Outlook}
+use Rattle.resolvo_graph.specs.declared.wording.Outlook.TheVariants.{Missing, Installable, Hopeless}
+use Rattle.resolvo_graph.specs.declared.wording.Verdict.{Verdict}
+use Rattle.resolvo_graph.specs.declared.wording.Verdict.TheVariants.{Alone, Excluded, Conflicts, Constrains, Requires, Locked}
+use Rattle.resolvo_graph.specs.declared.wording.Sentence.{Sentence}
+use Rattle.resolvo_graph.specs.declared.wording.Sentence.TheVariants as Sentences
+use Rattle.resolvo_graph.specs.declared.wording.MessageLine.{MessageLine}
 use Rattle.resolvo_graph.specs.Indent.{indent_text}
 
 -- the meaning of ids, and their texts

@@ -4,8 +4,8 @@ ghost use Rattle.std.specs.Prelude.{◌≡◌, ◌-◌, length, IfOk, IfSome};
 ghost use Rattle.resolvo_graph.specs.Message.{text_of};
 
 use crate::display_unsat::DisplayUnsat;
-use crate::line::MessageLine;
 use crate::sink::Sink;
+use crate::wording::MessageLine;
 use resolvo_pool_core::provider::Interner;
 use resolvo_pool_core::want::{R, Want};
 use std::fmt;

@@ -2,7 +2,7 @@
 //! the root. Its lines are built by `new`, so that writing them takes no memory. `length_below`
 //! counts their bytes first, and keeps none of them.
 ghost use Rattle.std.specs.Prelude.{◌≡◌, ◌++◌, List, IfOk, OnOk, Some, filter};
-ghost use Rattle.resolvo_graph.specs.declared.line.MessageLine.{MessageLine};
+ghost use Rattle.resolvo_graph.specs.declared.wording.MessageLine.{MessageLine};
 ghost use Rattle.resolvo_graph.specs.Graph.{edges_of};
 ghost use Rattle.resolvo_graph.specs.Message.{IsMessage, IsLengthBelow, AreParts, IsSecondPart, conflict_line, conflict_lines, misses, fits, text_of};
 ghost use Rattle.resolvo_graph.specs.Kept.{findings};
@@ -12,12 +12,12 @@ ghost use Rattle.resolvo_graph.specs.Sink.{Adds};
 use crate::count::Count;
 use crate::graph::{ConflictCause, ConflictEdge, ConflictGraph, Edge, NodeIndex};
 use crate::indenter::Indenter;
-use crate::line::{DisplayLine, MessageLine, Sentence, Verdict, Versions};
 use crate::merge::MergedConflictNode;
 use crate::outlook::{installable, missing};
 use crate::sink::Sink;
 use crate::tree::{Findings, order_before};
 use crate::walk::post_order;
+use crate::wording::{DisplayLine, MessageLine, Sentence, Verdict, Versions};
 use indexmap::IndexSet;
 use resolvo_pool_core::id::Exact;
 use resolvo_pool_core::provider::Interner;

@@ -5,7 +5,6 @@ mod count;
 pub mod display_unsat;
 pub mod graph;
 pub mod indenter;
-mod line;
 mod links;
 mod merge;
 mod outlook;
@@ -13,10 +12,11 @@ mod runs;
 mod sink;
 mod tree;
 mod walk;
+mod wording;
 
 pub use display_unsat::DisplayUnsat;
 pub use graph::{
     ConflictCause, ConflictEdge, ConflictGraph, ConflictNode, Edge, EdgeIndex, NodeIndex,
 };
-pub use line::MessageLine;
 pub use merge::MergedConflictNode;
+pub use wording::MessageLine;

@@ -2,14 +2,14 @@
 ghost use Rattle.std.specs.Prelude.{◌≡◌, ◌++◌, [], true, OnOk};
 ghost use Rattle.resolvo_graph.specs.Sink.{Adds, Stays};
 
-use crate::line::MessageLine;
+use crate::wording::MessageLine;
 use resolvo_pool_core::want::R;
 use std::vec::Vec;
 
 /// What takes lines, some at a time.
 pub(crate) trait Sink<S: Copy> {
     ghost use Rattle.std.specs.Prelude.{List};
-    ghost use Rattle.resolvo_graph.specs.declared.line.MessageLine.{MessageLine};
+    ghost use Rattle.resolvo_graph.specs.declared.wording.MessageLine.{MessageLine};
 
     /// Its state before some lines, these lines, and its state after them.
     ghost took: { Self → List (MessageLine S) → Self → Type 0 };

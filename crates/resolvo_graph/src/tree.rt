@@ -4,8 +4,8 @@
 //! ends on graphs with cycles.
 ghost use Rattle.std.specs.Prelude.{◌≡◌, ◌++◌, ◌∷◌, [], List, IfOk, OnOk, cond, filter, reverse, unwrap_or, slice_get};
 ghost use Rattle.std.specs.List.{list_any, dedup};
-ghost use Rattle.resolvo_graph.specs.declared.line.Sentence.TheVariants as Sentences;
-ghost use Rattle.resolvo_graph.specs.declared.line.MessageLine.{MessageLine};
+ghost use Rattle.resolvo_graph.specs.declared.wording.Sentence.TheVariants as Sentences;
+ghost use Rattle.resolvo_graph.specs.declared.wording.MessageLine.{MessageLine};
 ghost use Rattle.resolvo_graph.specs.declared.tree.DisplayOp.{DisplayOp};
 ghost use Rattle.resolvo_graph.specs.Graph.{edges_of, is_forbidden};
 ghost use Rattle.resolvo_graph.specs.Indent.{level_below};
@@ -17,11 +17,11 @@ ghost use Rattle.resolvo_graph.specs.Tree.{siblings, is_missing, candidates_at, 
 
 use crate::graph::{ConflictGraph, ConflictNode, Edge, NodeIndex};
 use crate::indenter::{ChildOrder, Indenter};
-use crate::line::{MessageLine, Outlook, Sentence, Verdict, Versions};
 use crate::merge::MergedConflictNode;
 use crate::outlook::has_some;
 use crate::runs::{Run, runs};
 use crate::sink::Sink;
+use crate::wording::{MessageLine, Outlook, Sentence, Verdict, Versions};
 use indexmap::IndexSet;
 use resolvo_pool_core::id::{Exact, SolvableId, StringId, VersionSetId};
 use resolvo_pool_core::want::R;

@@ -5,9 +5,9 @@
 
 pub mod add_clause;
 pub mod atom;
-pub mod cdcl;
 pub mod chosen;
 pub mod clause_kind;
 mod keys;
+pub mod propagate_and_learn;
 pub mod registry;
 pub mod solver_state;

@@ -20,7 +20,7 @@ use Rattle.resolvo_store.specs.Calls.{PlainAnswer, Became, Undone, Met, Falsifie
 use Rattle.resolvo_store_core.specs.declared.decision.Entry.{Entry}
 use Rattle.resolvo_store_core.specs.declared.decide_queue.NeedClause.{NeedClause}
 use Rattle.resolvo_store_core.specs.declared.decide_queue.NextDecision.{NextDecision}
-use Rattle.resolvo_store_core.specs.declared.clause.Clause.{Clause}
+use Rattle.resolvo_store_core.specs.declared.store_clause.Clause.{Clause}
 use Rattle.resolvo_store_core.specs.declared.watched_literals.WatchedLiterals.{WatchedLiterals}
 use Rattle.resolvo_store.specs.declared.store_call.StoreCall.{StoreCall}
 use Rattle.resolvo_store.specs.declared.store_call.StoreCall.TheVariants as call

@@ -14,8 +14,8 @@ use Rattle.resolvo_store.specs.Stored.{Kept, plain}
 use Rattle.resolvo_store.specs.Calls.{has_condition, has_candidates_for, has_learnt_in}
 use Rattle.resolvo_store_core.specs.declared.lists.Disjunction.{Disjunction}
 use Rattle.resolvo_store_core.specs.declared.lists.FixedLists.{FixedLists}
-use Rattle.resolvo_store_core.specs.declared.clause.Clause.{Clause}
-use Rattle.resolvo_store_core.specs.declared.clause.Clause.TheVariants.{InstallRoot, Requires, ForbidMultipleInstances, Constrains, ConstrainsParent, ConstrainsExcluded, Lock, Learnt, Excluded, AnyOf}
+use Rattle.resolvo_store_core.specs.declared.store_clause.Clause.{Clause}
+use Rattle.resolvo_store_core.specs.declared.store_clause.Clause.TheVariants.{InstallRoot, Requires, ForbidMultipleInstances, Constrains, ConstrainsParent, ConstrainsExcluded, Lock, Learnt, Excluded, AnyOf}
 use Rattle.resolvo_store.proofs.Picks.{SameNames}
 
 -- equal names give equal literals

@@ -18,7 +18,7 @@ use Rattle.resolvo_store_core.specs.Clauses.{is_in_range, is_own_in_range, lists
 use Rattle.resolvo_store_core.specs.Pick.{first_broken_by, pick_by}
 use Rattle.resolvo_store.specs.Stored.{Stored, Like, names_in}
 use Rattle.resolvo_store.specs.Changes.{candidates_from, with_candidates, with_disjunction, with_learnt, with_clause, with_need, with_decision, undone, last_undone, undone_until, bumped, decayed, walked}
-use Rattle.resolvo_store_core.specs.declared.clause.Clause.{Clause}
+use Rattle.resolvo_store_core.specs.declared.store_clause.Clause.{Clause}
 use Rattle.resolvo_store_core.specs.declared.decision.Decision.{Decision}
 use Rattle.resolvo_store_core.specs.declared.decision_tracker.Set.{Set}
 use Rattle.resolvo_store_core.specs.declared.decide_queue.NeedClause.{NeedClause}

@@ -14,7 +14,7 @@ use Rattle.resolvo_store_core.specs.Trail.{value_in, last_level}
 use Rattle.resolvo_store_core.specs.AddPairs.{set_for, entered}
 use Rattle.resolvo_store_core.specs.Walk.{pairs_after, lists_after}
 use Rattle.resolvo_store.specs.Stored.{Stored}
-use Rattle.resolvo_store_core.specs.declared.clause.Clause.{Clause}
+use Rattle.resolvo_store_core.specs.declared.store_clause.Clause.{Clause}
 use Rattle.resolvo_store_core.specs.declared.lists.Candidate.{Candidate}
 use Rattle.resolvo_store_core.specs.declared.decision.Decision.{Decision}
 use Rattle.resolvo_store_core.specs.declared.decision.Entry.{Entry}

@@ -10,8 +10,8 @@ use Rattle.resolvo_pool_core.specs.declared.id.VersionSetUnionId.{VersionSetUnio
 use Rattle.resolvo_pool_core.specs.declared.requirement.Requirement.{Requirement}
 use Rattle.resolvo_pool_core.specs.Text.{set_text, requirement_text}
 use Rattle.resolvo_store_core.specs.Signed.{Signed}
-use Rattle.resolvo_store_core.specs.declared.clause.Clause.{Clause}
-use Rattle.resolvo_store_core.specs.declared.clause.Clause.TheVariants.{InstallRoot, Requires, ForbidMultipleInstances, Constrains, ConstrainsParent, ConstrainsExcluded, Lock, Learnt, Excluded, AnyOf}
+use Rattle.resolvo_store_core.specs.declared.store_clause.Clause.{Clause}
+use Rattle.resolvo_store_core.specs.declared.store_clause.Clause.TheVariants.{InstallRoot, Requires, ForbidMultipleInstances, Constrains, ConstrainsParent, ConstrainsExcluded, Lock, Learnt, Excluded, AnyOf}
 use Rattle.resolvo_store.specs.declared.variable_map.VariableOrigin.{VariableOrigin}
 use Rattle.resolvo_store.specs.declared.variable_map.VariableOrigin.TheVariants.{Root, Solvable, ForbidMultiple, AtLeastOne, ConstrainsViolation, RequiresGate}
 

@@ -8,8 +8,8 @@ use Rattle.resolvo_pool_core.specs.declared.requirement.Requirement.{Requirement
 use Rattle.resolvo_pool_core.specs.ByRequirement.{slot_of}
 use Rattle.resolvo_store_core.specs.Signed.{Signed}
 use Rattle.resolvo_store_core.specs.Lists.{Named}
-use Rattle.resolvo_store_core.specs.declared.clause.Clause.{Clause}
-use Rattle.resolvo_store_core.specs.declared.clause.Clause.TheVariants.{InstallRoot}
+use Rattle.resolvo_store_core.specs.declared.store_clause.Clause.{Clause}
+use Rattle.resolvo_store_core.specs.declared.store_clause.Clause.TheVariants.{InstallRoot}
 use Rattle.resolvo_store_core.specs.declared.lists.Candidate.{Candidate}
 use Rattle.resolvo_store_core.specs.declared.lists.FixedLists.{FixedLists}
 use Rattle.resolvo_store_core.specs.declared.decision.Entry.{Entry}

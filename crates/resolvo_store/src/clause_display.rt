@@ -9,7 +9,7 @@ use crate::variable_map::{VariableMap, VariableOrigin};
 use resolvo_pool_core::id::{DisjunctionId, StringId, VariableId, VersionSetId};
 use resolvo_pool_core::provider::Interner;
 use resolvo_pool_core::requirement::{DisplayRequirement, Requirement};
-use resolvo_store_core::clause::Clause;
+use resolvo_store_core::store_clause::Clause;
 use resolvo_store_core::literal::Literal;
 use std::fmt;
 

@@ -21,7 +21,7 @@ use resolvo_pool_core::id_map::ScoreMap;
 use resolvo_pool_core::requirement::Requirement;
 use resolvo_pool_core::solver_id::SolverId;
 use resolvo_pool_core::want::{R, Want};
-use resolvo_store_core::clause::Clause;
+use resolvo_store_core::store_clause::Clause;
 use resolvo_store_core::decide_queue::{DecideQueue, NeedClause, NextDecision};
 use resolvo_store_core::decision::Decision;
 use resolvo_store_core::decision_tracker::{DecisionTracker, Set};

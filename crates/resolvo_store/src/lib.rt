@@ -10,7 +10,7 @@ pub mod variable_map;
 pub use clause_display::{ClauseDisplay, VariableDisplay};
 pub use clause_store::ClauseStore;
 pub use resolvo_store_core::binary_encoding::AtMostOnceTracker;
-pub use resolvo_store_core::clause::Clause;
+pub use resolvo_store_core::store_clause::Clause;
 pub use resolvo_store_core::conditions::{DeferredConjunct, convert_conditions_to_dnf};
 pub use resolvo_store_core::decide_queue::{DecideQueue, NeedClause, NextDecision};
 pub use resolvo_store_core::decision::{Decision, Entry};

@@ -3,7 +3,7 @@
 
 use resolvo_pool_core::id::{ClauseId, DisjunctionId, VariableId};
 use resolvo_pool_core::requirement::Requirement;
-use resolvo_store_core::clause::Clause;
+use resolvo_store_core::store_clause::Clause;
 use resolvo_store_core::decide_queue::NextDecision;
 use resolvo_store_core::decision::Decision;
 use resolvo_store_core::decision_tracker::Set;

@@ -4,8 +4,8 @@ use Rattle.resolvo_store_core.specs.Signed.{Signed}
 use Rattle.resolvo_store_core.specs.declared.lists.FixedLists.{FixedLists}
 use Rattle.resolvo_store_core.specs.Lists.{candidates_in, condition_in, learnt_in}
 use Rattle.resolvo_store_core.specs.Clauses.{yes, no, root, candidate_literals}
-use Rattle.resolvo_store_core.specs.declared.clause.Clause.{Clause}
-use Rattle.resolvo_store_core.specs.declared.clause.Clause.TheVariants.{InstallRoot, Requires, ForbidMultipleInstances, Constrains, ConstrainsParent, ConstrainsExcluded, Lock, Learnt, Excluded, AnyOf}
+use Rattle.resolvo_store_core.specs.declared.store_clause.Clause.{Clause}
+use Rattle.resolvo_store_core.specs.declared.store_clause.Clause.TheVariants.{InstallRoot, Requires, ForbidMultipleInstances, Constrains, ConstrainsParent, ConstrainsExcluded, Lock, Learnt, Excluded, AnyOf}
 
 abbrev pub own_literals_of : {N : Type 0} → Clause N → List Signed
 own_literals_of InstallRoot = yes root ∷ []

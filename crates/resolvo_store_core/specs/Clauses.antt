@@ -9,8 +9,8 @@ use Rattle.resolvo_store_core.specs.Signed.{Signed}
 use Rattle.resolvo_store_core.specs.declared.lists.Candidate.{Candidate}
 use Rattle.resolvo_store_core.specs.declared.lists.FixedLists.{FixedLists}
 use Rattle.resolvo_store_core.specs.Lists.{Named, named_by, has_candidates, has_disjunction, HasDisjunction, has_learnt, learnt_count}
-use Rattle.resolvo_store_core.specs.declared.clause.Clause.{Clause}
-use Rattle.resolvo_store_core.specs.declared.clause.Clause.TheVariants.{InstallRoot, Requires, ForbidMultipleInstances, Constrains, ConstrainsParent, ConstrainsExcluded, Lock, Learnt, Excluded, AnyOf}
+use Rattle.resolvo_store_core.specs.declared.store_clause.Clause.{Clause}
+use Rattle.resolvo_store_core.specs.declared.store_clause.Clause.TheVariants.{InstallRoot, Requires, ForbidMultipleInstances, Constrains, ConstrainsParent, ConstrainsExcluded, Lock, Learnt, Excluded, AnyOf}
 
 -- the variable is true
 abbrev pub yes : VariableId → Signed

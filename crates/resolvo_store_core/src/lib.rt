@@ -5,7 +5,6 @@
 #![tactic(auto)]
 
 pub mod binary_encoding;
-pub mod clause;
 pub mod conditions;
 pub mod decide_queue;
 pub mod decision;
@@ -14,5 +13,6 @@ pub mod decision_tracker;
 pub mod lists;
 pub mod literal;
 pub mod literals;
+pub mod store_clause;
 pub mod watch_map;
 pub mod watched_literals;

@@ -9,15 +9,15 @@ ghost use Rattle.resolvo_store_core.specs.Lists.{learnt_in, learnt_count};
 ghost use Rattle.resolvo_store_core.specs.Clauses.{literals_of, InRange, Fits};
 ghost use Rattle.resolvo_store_core.specs.Watchable.{CanWatch, IsNext, IsSecond, HasFreeSecond, AreEnds};
 ghost use Rattle.resolvo_store_core.specs.declared.lists.FixedLists.{FixedLists};
-ghost use Rattle.resolvo_store_core.specs.declared.clause.Clause.{Clause};
-ghost use Rattle.resolvo_store_core.specs.declared.clause.Clause.TheVariants as Kinds;
+ghost use Rattle.resolvo_store_core.specs.declared.store_clause.Clause.{Clause};
+ghost use Rattle.resolvo_store_core.specs.declared.store_clause.Clause.TheVariants as Kinds;
 ghost use Rattle.resolvo_store_core.specs.Signed.{Signed, same_literal};
 ghost use Rattle.resolvo_store_core.specs.Pairs.{other_of, moved_pair, watches, side_of};
 
-use crate::clause::Clause;
 use crate::decision_map::DecisionMap;
 use crate::lists::FixedLists;
 use crate::literal::Literal;
+use crate::store_clause::Clause;
 use resolvo_pool_core::id::{DisjunctionId, LearntClauseId, StringId, VariableId, VersionSetId};
 use resolvo_pool_core::requirement::Requirement;
 

@@ -12,8 +12,8 @@ ghost use Rattle.resolvo_turn.specs.LacksIds.{StopsInOrder};
 
 use crate::scan::Scan;
 use resolvo_decide::scores::Scores;
-use resolvo_encoder::decide::Step;
 use resolvo_encoder::encoder::Encoder;
+use resolvo_encoder::step::Step;
 use resolvo_packages::package_source::PackageSource;
 use resolvo_pool::cache::CacheFault;
 use resolvo_pool_core::id::ClauseId;
@@ -74,7 +74,7 @@ fn bump_activity<A: PackageSource, C: ScoreMap<A::NameId>>(
 }
 
 /// Propagates, learns and decides, until nothing is left to decide or the turn is refused.
-pub fn decide<A: PackageSource, C: ScoreMap<A::NameId>>(
+pub fn run_cdcl<A: PackageSource, C: ScoreMap<A::NameId>>(
     alloc: Global,
     answers: &A,
     encoding: &mut Encoder<A::NameId, A::SolvableId>,

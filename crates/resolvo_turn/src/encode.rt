@@ -14,8 +14,8 @@ ghost use Rattle.resolvo_turn.specs.Encoder.{AddsNeeds, AddsAll, StaysInOrderOf}
 ghost use Rattle.resolvo_turn.specs.Effects.{ForbidsPackage, ForbidsPackages, GuardsRequirement, RequiresGuarded, RequiresPlain, RequiresOne, RequiresAll, LimitsOne, LimitsGuarded, LimitsAll, EncodesKnown, EncodesParent};
 ghost use Rattle.resolvo_turn.specs.LacksIds.{StopsAnyhow, StopsNeed, StopsOne, StopsAll, StopsKnown, StopsInOrderOf};
 
-use crate::defer::defer_need;
-use crate::fire::fire_from;
+use crate::defer_conditions::defer_need;
+use crate::fire_conditions::fire_from;
 use resolvo_encoder::encoder::Encoder;
 use resolvo_packages::package_source::{Offered, PackageSource};
 use resolvo_pool::cache::CacheFault;

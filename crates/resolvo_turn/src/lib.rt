@@ -5,9 +5,9 @@
 
 pub mod cdcl;
 pub mod chosen;
-pub mod defer;
+pub mod defer_conditions;
 pub mod encode;
-pub mod fire;
+pub mod fire_conditions;
 pub mod scan;
 pub mod turn;
 pub mod turn_input;

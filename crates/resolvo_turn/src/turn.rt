@@ -14,10 +14,10 @@ ghost use Rattle.resolvo_turn.specs.Encoder.{AddsNeeds, AddsParents, AddsAll, St
 ghost use Rattle.resolvo_turn.specs.Turn.{AddsChosen, AreTakenParents, FiresMore, IsBegunBy, IsDecisionOf, IsRooted, IsRound, IsTurn, FindsMore, FindsNone};
 ghost use Rattle.resolvo_turn.specs.LacksIds.{StopsInOrder, StopsInOrderOf};
 
-use crate::cdcl::{Activity, decide};
+use crate::cdcl::{Activity, run_cdcl};
 use crate::chosen::chosen_in_turn;
 use crate::encode::encode_parents;
-use crate::fire::{fire_cases, fire_each};
+use crate::fire_conditions::{fire_cases, fire_each};
 use crate::scan::{Scan, find_touched, mark_all};
 use crate::turn_input::TurnInput;
 use resolvo_decide::scores::Scores;
@@ -199,7 +199,7 @@ fn choose_and_decide<A: PackageSource, C: ScoreMap<A::NameId>>(
         return Ok(Some(refusal));
     }
     scan.go_back(encoding);
-    let refusal = decide(alloc, answers, encoding, scores, activity, scan)?;
+    let refusal = run_cdcl(alloc, answers, encoding, scores, activity, scan)?;
     Ok(refusal)
 }
 
