@@ -4,7 +4,7 @@ use Rattle.std.specs.Prelude.{◌==◌}
 use Rattle.std.proofs.lemmas.Bool.{eqb-true, eq-eqb, and_parts, and_from, false≢true}
 use Rattle.resolvo_pool_core.specs.declared.requirement.Requirement.{Requirement}
 use Rattle.resolvo_pool_core.specs.declared.requirement.Requirement.TheVariants.{Single, Union}
-use Rattle.resolvo_sat.specs.Encoding.{Atom, IsExact, same_requirement}
+use Rattle.resolvo_sat.specs.RuleClauses.{Atom, IsExact, same_requirement}
 use Rattle.resolvo_catalogue.specs.Ids.{NameId, SolvableId}
 
 abbrev pub same_atom : Atom NameId SolvableId → Atom NameId SolvableId → Bool

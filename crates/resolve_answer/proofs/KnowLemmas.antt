@@ -21,7 +21,7 @@ use Rattle.resolvo_pool_core.specs.Provider as pool
 use Rattle.resolvo_pool_core.specs.RuleKeeping.{Packages, rules_of, rules_for, is_in, is_outside}
 use Rattle.resolvo_pool_core.specs.Text.{alternatives_of}
 use Rattle.resolvo_store_core.specs.AtMostOne.{digit}
-use Rattle.resolvo_sat.specs.Encoding.{Atom, IsExact, ForbidReason, plus, minus, solvables, IsRule, asks, has_condition, same_requirement, cases_under, parent_literals, case_literals, candidate_literals, literals_of}
+use Rattle.resolvo_sat.specs.RuleClauses.{Atom, IsExact, ForbidReason, plus, minus, solvables, IsRule, asks, has_condition, same_requirement, cases_under, parent_literals, case_literals, candidate_literals, literals_of}
 use Rattle.resolvo_sat.proofs.Lists.{contains_none, contains_cases, contains_first, contains_later, contains_parts, map_contains, filter_contains, any_contained, contains_map}
 use Rattle.resolvo_state.specs.declared.atom.ProofAtom.{ProofAtom}
 use Rattle.resolvo_state.specs.declared.atom.ProofAtom.TheVariants as atom

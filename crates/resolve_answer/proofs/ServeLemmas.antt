@@ -18,7 +18,7 @@ use Rattle.resolve_order.specs.Order as order
 use Rattle.resolve_order.specs.View.{turn_of, turns_of}
 use Rattle.resolve_order.specs.declared.entry.Turn.{Turn}
 use Rattle.resolve_order.specs.declared.entry.Turn.TheVariants.{Chose, LeftOut}
-use Rattle.resolvo_sat.specs.Encoding.{IsExact}
+use Rattle.resolvo_sat.specs.RuleClauses.{IsExact}
 use Rattle.resolvo_sat.specs.First.{ArePreferred}
 use Rattle.resolvo_sat.proofs.Lists.{contains_first, contains_later, contains_left, contains_none, contains_map, contains_one, contains_parts}
 use Rattle.resolvo_state.proofs.Positions.{contains_get, get_below, get_push}

@@ -17,7 +17,7 @@ use Rattle.resolve_order.specs.declared.entry.Turn.TheVariants.{Chose}
 use Rattle.std.proofs.lemmas.Option.{same_Some}
 use Rattle.resolvo_pool_core.specs.declared.requirement.Requirement.{Requirement}
 use Rattle.resolvo_pool_core.specs.RuleKeeping.{Rules}
-use Rattle.resolvo_sat.specs.Encoding.{IsExact}
+use Rattle.resolvo_sat.specs.RuleClauses.{IsExact}
 use Rattle.resolvo_catalogue.specs.Ids.{Ids, NameId, SolvableId}
 use Rattle.resolvo_catalogue.specs.KeptSets.{root_of}
 use Rattle.resolvo_catalogue.specs.Known.{name_of}

@@ -20,7 +20,7 @@ use Rattle.resolve_order.specs.View.{turn_of, turns_of}
 use Rattle.resolve_order.specs.declared.entry.Turn.{Turn}
 use Rattle.resolve_order.specs.declared.entry.Turn.TheVariants.{Chose, LeftOut}
 use Rattle.resolvo_pool_core.specs.RuleKeeping.{is_in, is_forbidden, IsExemptKeeping, IsRuleKeeping, IsReached}
-use Rattle.resolvo_sat.specs.Encoding.{IsExact}
+use Rattle.resolvo_sat.specs.RuleClauses.{IsExact}
 use Rattle.resolvo_sat.specs.SearchEnd.{IsAccepted}
 use Rattle.resolvo_sat.proofs.Lists.{contains_first, contains_later, contains_one, contains_parts}
 use Rattle.resolvo_sat.proofs.Members.{in_contained}

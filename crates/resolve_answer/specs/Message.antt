@@ -8,7 +8,7 @@ use Rattle.resolvo_graph.specs.Message.{IsMessage, text_of}
 use Rattle.resolvo_graph.specs.Words.{Meaning}
 use Rattle.resolvo_graph.specs.declared.wording.MessageLine.{MessageLine}
 use Rattle.resolvo_pool_core.specs.declared.requirement.Requirement.{Requirement}
-use Rattle.resolvo_sat.specs.Encoding.{IsExact}
+use Rattle.resolvo_sat.specs.RuleClauses.{IsExact}
 use Rattle.resolvo_proof.specs.declared.step.ProofStep.{ProofStep}
 use Rattle.resolvo_catalogue.specs.Ids.{NameId, SolvableId}
 use Rattle.resolvo_catalogue.specs.Known as shows

@@ -4,12 +4,12 @@ use Rattle.std.specs.Global.{Vec}
 use Rattle.resolvo_text.specs.Line.{Line}
 use Rattle.resolvo_catalogue_core.specs.Grammar.{AreRequestLines}
 use Rattle.resolvo_catalogue_core.specs.Questions.{ReadRequest}
-use Rattle.resolvo_sat.specs.Encoding.{IsExact}
+use Rattle.resolvo_sat.specs.RuleClauses.{IsExact}
 use Rattle.resolvo_catalogue.specs.Ids.{NameId, SolvableId}
 use Rattle.resolvo_catalogue.specs.Provider.{Provider, packages_of}
 use Rattle.resolvo_catalogue.specs.Over.{IsOver, AreAsked}
 use Rattle.resolvo_catalogue.specs.KeptSets.{root_of}
-use Rattle.resolvo_catalogue.specs.declared.impls.GivenUp.{GivenUp}
+use Rattle.resolvo_catalogue.specs.declared.dependency_provider.GivenUp.{GivenUp}
 use Rattle.resolvo_catalogue.specs.declared.provider.RequestIds.{RequestIds}
 use Rattle.resolvo.specs.Solver.{IsAnswer, Kept}
 use Rattle.resolvo.specs.declared.conflict.Conflict.{Conflict}

@@ -16,7 +16,7 @@ use Rattle.resolve_run.specs.Run.{AnswersTexts, AreRead, StopsBefore, StopsRun}
 use Rattle.resolve_run.specs.Within.{AreGrammatical, StopsWithin}
 use Rattle.resolve_run.specs.declared.stop.RunStop.{RunStop}
 use Rattle.resolve_run.specs.declared.stop.RunStop.TheVariants.{Fault, GivenUp}
-use Rattle.resolve_c.specs.Endings.{growing, growing_within, fault_ending_of, stop_ending_of}
+use Rattle.resolve_c.specs.CallStatus.{growing, growing_within, fault_ending_of, stop_ending_of}
 use Rattle.resolve_c.specs.CallResult.{Leaves, lent, StopsSolving, StopsSolvingWithin, StopsJudging, Solves, SolvesWithin, Judges}
 use Rattle.resolve_c.specs.CallResult as how
 use Rattle.resolve_c.specs.declared.call_result.CallResult.{CallResult}

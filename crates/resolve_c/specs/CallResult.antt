@@ -13,7 +13,7 @@ use Rattle.resolve_run.specs.Run.{StopsBefore}
 use Rattle.resolve_run.specs.Within.{AreGrammatical}
 use Rattle.resolve_run.specs.declared.stop.RunStop.{RunStop}
 use Rattle.resolve_run.specs.declared.stop.RunStop.TheVariants.{Fault, GivenUp}
-use Rattle.resolve_c.specs.Endings.{ending_of, check_ending_of}
+use Rattle.resolve_c.specs.CallStatus.{ending_of, check_ending_of}
 use Rattle.resolve_c.specs.declared.call_result.CallResult.{CallResult}
 
 -- The call returns this ending and the text's length, and the room has the prefix of the text that

@@ -1,2 +1,2 @@
-pub mod Endings
+pub mod CallStatus
 pub mod CallResult

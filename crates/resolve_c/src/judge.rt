@@ -5,7 +5,7 @@ ghost use Rattle.resolve_check.specs.Check.{IsCheck};
 ghost use Rattle.resolve_c.specs.CallResult.{Judges, StopsJudging};
 
 use crate::call_result::{CallResult, write_text};
-use crate::endings::{check_ending_of, fault_ending_of, growing};
+use crate::call_status::{check_ending_of, fault_ending_of, growing};
 use crate::lent::Lent;
 use resolve_check::check::check;
 use resolve_check::outcome::{Checked, RunFault};

@@ -6,7 +6,7 @@
 #![tactic(auto)]
 
 mod call_result;
-mod endings;
+mod call_status;
 mod judge;
 mod lent;
 mod solve;

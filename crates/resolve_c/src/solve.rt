@@ -5,7 +5,7 @@ ghost use Rattle.resolve_run.specs.Answer.{IsAnswer};
 ghost use Rattle.resolve_c.specs.CallResult.{Solves, SolvesWithin, StopsSolvingWithin};
 
 use crate::call_result::{CallResult, write_text};
-use crate::endings::{ending_of, growing_within, stop_ending_of};
+use crate::call_status::{ending_of, growing_within, stop_ending_of};
 use crate::lent::Lent;
 use resolve_check::written::Written;
 use resolve_run::{RunStop, run_within};

@@ -25,8 +25,8 @@ use Rattle.resolve_order.specs.declared.entry.Entry.{Entry}
 use Rattle.resolve_order.specs.declared.entry.Reason.{Reason}
 use Rattle.resolve_order.specs.declared.entry.Turn.{Turn}
 use Rattle.resolve_order.specs.declared.entry.Turn.TheVariants as turn
-use Rattle.resolve_order.specs.declared.install_order.Listing.{Listing}
-use Rattle.resolve_order.specs.declared.open_lines.Places.{Places}
+use Rattle.resolve_order.specs.declared.install_order.InstallOrder.{InstallOrder}
+use Rattle.resolve_order.specs.declared.open_lines.OpenLines.{OpenLines}
 use Rattle.resolve_order.proofs.Elements.{no_element}
 use Rattle.resolve_order.proofs.GiveLemmas.{answers_more}
 use Rattle.resolve_order.proofs.RemainLemmas.{remains_all}
@@ -34,18 +34,18 @@ use Rattle.resolve_order.proofs.TurnLemmas.{Accepts, AllAccepted, after_both, in
 
 -- ---- one entry after the other
 
-pub extends_none : (catalogue request : List Line) (chosen : Set) (x : Listing) → IsListing catalogue request x chosen → Extends catalogue request chosen x x
+pub extends_none : (catalogue request : List Line) (chosen : Set) (x : InstallOrder) → IsListing catalogue request x chosen → Extends catalogue request chosen x x
 extends_none catalogue request chosen x h = record { listing = h; others = []; more = sym (append-nil (answers_in catalogue x)); in_order = tt }
 
 -- the same listing, where fewer versions are left
-pub ready : (catalogue request : List Line) (chosen : Set) (x : Listing) (kept : Chosen) → ((versions : List Version) (all entries : Set) → Holds versions x.chosen all entries → Holds versions kept all entries)
+pub ready : (catalogue request : List Line) (chosen : Set) (x : InstallOrder) (kept : Chosen) → ((versions : List Version) (all entries : Set) → Holds versions x.chosen all entries → Holds versions kept all entries)
     → IsListing catalogue request x chosen → IsListing catalogue request (record x { chosen = kept }) chosen
 ready catalogue request chosen x kept holds h = record { holds = holds (listed catalogue) chosen (entries_in catalogue x) h.holds; lines = h.lines; numbered = h.numbered }
 
-pub extends_again : (catalogue request : List Line) (chosen : Set) (x : Listing) (kept : Chosen) (after : Listing) → Extends catalogue request chosen (record x { chosen = kept }) after → Extends catalogue request chosen x after
+pub extends_again : (catalogue request : List Line) (chosen : Set) (x : InstallOrder) (kept : Chosen) (after : InstallOrder) → Extends catalogue request chosen (record x { chosen = kept }) after → Extends catalogue request chosen x after
 extends_again catalogue request chosen x kept after h = record { listing = h.listing; others = h.others; more = h.more; in_order = h.in_order }
 
-pub all_left : (catalogue request : List Line) (chosen : Set) (x : Listing) (places : Places) → places.waiting.items ≡ [] → places.again.items ≡ [] → places.below ≡ 0 → IsLeft catalogue request x chosen places
+pub all_left : (catalogue request : List Line) (chosen : Set) (x : InstallOrder) (places : OpenLines) → places.waiting.items ≡ [] → places.again.items ≡ [] → places.below ≡ 0 → IsLeft catalogue request x chosen places
 all_left catalogue request chosen x places waiting again below = record {
   left = record {
     within = omega (arith, below);
@@ -61,7 +61,7 @@ all_left catalogue request chosen x places waiting again below = record {
 pub number_at : (catalogue : List Line) (n : VersionNo) → n.0 < length (listed catalogue) → slice_get (listed catalogue) n.0 ≡ Some (nth (listed catalogue) n)
 number_at catalogue n lt = slice_get-get_or (listed catalogue) n.0 nowhere lt
 
-pub extends_more : (catalogue request : List Line) (chosen : Set) (first before after : Listing) (e : Entry) → Extends catalogue request chosen first before → IsFound catalogue request before chosen (Some e)
+pub extends_more : (catalogue request : List Line) (chosen : Set) (first before after : InstallOrder) (e : Entry) → Extends catalogue request chosen first before → IsFound catalogue request before chosen (Some e)
     → after.answers.items ≡ before.answers.items ++ answer.Entry e ∷ [] → IsListing catalogue request after chosen → Extends catalogue request chosen first after
 extends_more catalogue request chosen first before after e h found more listing = record {
   listing = listing;
@@ -73,7 +73,7 @@ extends_more catalogue request chosen first before after e h found more listing 
 
 -- ---- one turn
 
-pub turn_taken : (catalogue request : List Line) (chosen : Set) (wish : Option (ℕ × Version)) (mine : Set) (first begun after : Listing) → answers_in catalogue begun ≡ answers_in catalogue first ++ wish_entry wish (entries_in catalogue first)
+pub turn_taken : (catalogue request : List Line) (chosen : Set) (wish : Option (ℕ × Version)) (mine : Set) (first begun after : InstallOrder) → answers_in catalogue begun ≡ answers_in catalogue first ++ wish_entry wish (entries_in catalogue first)
     → Extends catalogue request chosen begun after → IsComplete catalogue request chosen (entries_in catalogue after) → TakesTurn catalogue request chosen (order.Chose wish mine) first after
 turn_taken catalogue request chosen wish mine first begun after wished h complete = record {
   listing = h.listing;
@@ -141,11 +141,11 @@ all_accepted versions request chosen (t ∷ turns) h =
     (turn_accepts versions request (chosen ++ chosen_by (turn_of versions t)) t h.0, all_accepted versions request (chosen ++ chosen_by (turn_of versions t)) turns h.1)
 
 -- The answers of the turns up to turn i.
-pub record ListsTurns (catalogue request : List Line) (turns : List Turn) (i : ℕ) (x : Listing) : Type 0 where
+pub record ListsTurns (catalogue request : List Line) (turns : List Turn) (i : ℕ) (x : InstallOrder) : Type 0 where
   pub listing : IsListing catalogue request x (chosen_in (turns_of (listed catalogue) (take i turns)))
   pub turns_listed : AreTurns catalogue request [] [] (turns_of (listed catalogue) (take i turns)) (answers_in catalogue x)
 
-pub lists_more : (catalogue request : List Line) (turns : List Turn) (i : ℕ) (t : Turn) (before after : Listing) → i < length turns → t ≡ get_or turns i t → ListsTurns catalogue request turns i before
+pub lists_more : (catalogue request : List Line) (turns : List Turn) (i : ℕ) (t : Turn) (before after : InstallOrder) → i < length turns → t ≡ get_or turns i t → ListsTurns catalogue request turns i before
     → TakesTurn catalogue request (chosen_in (turns_of (listed catalogue) (take (i + 1) turns))) (turn_of (listed catalogue) t) before after → ListsTurns catalogue request turns (i + 1) after
 lists_more catalogue request turns i t before after lt is h took =
     let vs = listed catalogue in

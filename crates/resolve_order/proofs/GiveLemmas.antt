@@ -23,11 +23,11 @@ use Rattle.resolve_order.specs.declared.entry.Entry.{Entry}
 use Rattle.resolve_order.specs.declared.entry.Reason.{Reason}
 use Rattle.resolve_order.specs.declared.entry.Answer.{Answer}
 use Rattle.resolve_order.specs.declared.entry.Answer.TheVariants as answer
-use Rattle.resolve_order.specs.declared.install_order.Listing.{Listing}
+use Rattle.resolve_order.specs.declared.install_order.InstallOrder.{InstallOrder}
 use Rattle.resolve_order.proofs.LineLemmas.{first_lines, more_lines}
 use Rattle.resolve_order.proofs.PickLemmas.{flag_means}
 
-pub no_entries : (catalogue request : List Line) (x : Listing) (n : ℕ) → x.answers.items ≡ [] → x.lines.items ≡ lines_to n → n ≡ length request → Holds (listed catalogue) x.chosen [] [] → IsListing catalogue request x []
+pub no_entries : (catalogue request : List Line) (x : InstallOrder) (n : ℕ) → x.answers.items ≡ [] → x.lines.items ≡ lines_to n → n ≡ length request → Holds (listed catalogue) x.chosen [] [] → IsListing catalogue request x []
 no_entries catalogue request x n none lines count h = record {
   holds = subst (λ (es : List Answer). Holds (listed catalogue) x.chosen [] (entries_of (answers_of (listed catalogue) es))) (sym none) h;
   lines = subst (λ (es : List Answer). AreLines catalogue request (entries_of (answers_of (listed catalogue) es)) x.lines.items) (sym none)
@@ -38,16 +38,16 @@ no_entries catalogue request x n none lines count h = record {
     past : (i : ℕ) (e : Answer) → slice_get [] i ≡ Some e → ⊥
     past i e at = cc
 
-pub answers_more : (catalogue : List Line) (before after : Listing) (a : Answer) → after.answers.items ≡ before.answers.items ++ a ∷ [] → answers_in catalogue after ≡ answers_in catalogue before ++ answer_of (listed catalogue) a ∷ []
+pub answers_more : (catalogue : List Line) (before after : InstallOrder) (a : Answer) → after.answers.items ≡ before.answers.items ++ a ∷ [] → answers_in catalogue after ≡ answers_in catalogue before ++ answer_of (listed catalogue) a ∷ []
 answers_more catalogue before after a more = ap (answers_of (listed catalogue)) more ∙ map-append (answer_of (listed catalogue)) before.answers.items (a ∷ [])
 
-pub entries_more : (catalogue : List Line) (before after : Listing) (e : Entry) (v : Version) → slice_get (listed catalogue) e.version.0 ≡ Some v → after.answers.items ≡ before.answers.items ++ answer.Entry e ∷ [] → entries_in catalogue after ≡ entries_in catalogue before ++ v ∷ []
+pub entries_more : (catalogue : List Line) (before after : InstallOrder) (e : Entry) (v : Version) → slice_get (listed catalogue) e.version.0 ≡ Some v → after.answers.items ≡ before.answers.items ++ answer.Entry e ∷ [] → entries_in catalogue after ≡ entries_in catalogue before ++ v ∷ []
 entries_more catalogue before after e v at more =
     ap entries_of (answers_more catalogue before after (answer.Entry e) more)
     ∙ flat_map-append entry_of (answers_in catalogue before) (answer_of (listed catalogue) (answer.Entry e) ∷ [])
     ∙ ap (λ (w : Version). entries_in catalogue before ++ w ∷ []) (numbered (listed catalogue) e.version v at)
 
-pub listing_more : (catalogue request : List Line) (chosen : Set) (before after : Listing) (e : Entry) (v : Version) (numbers : List ℕ) → slice_get (listed catalogue) e.version.0 ≡ Some v
+pub listing_more : (catalogue request : List Line) (chosen : Set) (before after : InstallOrder) (e : Entry) (v : Version) (numbers : List ℕ) → slice_get (listed catalogue) e.version.0 ≡ Some v
     → after.answers.items ≡ before.answers.items ++ answer.Entry e ∷ [] → after.lines.items ≡ before.lines.items ++ lines_for e.version numbers → AreAll numbers (IsVersionLine (listed catalogue) catalogue e.version.0 BelongsTo)
     → Holds (listed catalogue) after.chosen chosen (entries_in catalogue before ++ v ∷ []) → IsListing catalogue request before chosen → IsListing catalogue request after chosen
 listing_more catalogue request chosen before after e v numbers at more lines all h was =
@@ -65,7 +65,7 @@ listing_more catalogue request chosen before after e v numbers at more lines all
 -- ---- wishes
 
 -- a wish that is no entry
-pub wish_listed : (catalogue request : List Line) (chosen : Set) (before after : Listing) (line : ℕ) (n : VersionNo) → IsListing catalogue request before chosen → IsAccepted (listed catalogue) request chosen (Some (line, n))
+pub wish_listed : (catalogue request : List Line) (chosen : Set) (before after : InstallOrder) (line : ℕ) (n : VersionNo) → IsListing catalogue request before chosen → IsAccepted (listed catalogue) request chosen (Some (line, n))
     → is_unlisted before.chosen.listed.items n.0 ≡ not false → answers_in catalogue after ≡ answers_in catalogue before ++ answers.Entry (nth (listed catalogue) n) (answers.Wished line) ∷ []
     → answers_in catalogue after ≡ answers_in catalogue before ++ wish_entry (Some (line, nth (listed catalogue) n)) (entries_in catalogue before)
 wish_listed catalogue request chosen before after line n h accepted unset more =
@@ -79,7 +79,7 @@ wish_listed catalogue request chosen before after line n h accepted unset more =
     not_true b e = elim (cases_Bool b) [ inl t ↦ absurd (false≢true (ap not (sym t) ∙ e)) | inr f ↦ f ]
 
 -- a wish that is an entry
-pub wish_is_entry : (catalogue request : List Line) (chosen : Set) (before : Listing) (line : ℕ) (n : VersionNo) → IsListing catalogue request before chosen → IsAccepted (listed catalogue) request chosen (Some (line, n))
+pub wish_is_entry : (catalogue request : List Line) (chosen : Set) (before : InstallOrder) (line : ℕ) (n : VersionNo) → IsListing catalogue request before chosen → IsAccepted (listed catalogue) request chosen (Some (line, n))
     → is_unlisted before.chosen.listed.items n.0 ≡ false → answers_in catalogue before ≡ answers_in catalogue before ++ wish_entry (Some (line, nth (listed catalogue) n)) (entries_in catalogue before)
 wish_is_entry catalogue request chosen before line n h accepted is_set =
     let v = nth (listed catalogue) n in
@@ -92,7 +92,7 @@ wish_is_entry catalogue request chosen before line n h accepted is_set =
     not_false b e = elim (cases_Bool b) [ inl t ↦ t | inr f ↦ absurd (false≢true (sym e ∙ ap not f)) ]
 
 -- a wish that is left out
-pub left_out_more : (catalogue request : List Line) (chosen : Set) (before after : Listing) (line : ℕ) (n : VersionNo) (step : ℕ) → after.chosen ≡ before.chosen → after.lines ≡ before.lines
+pub left_out_more : (catalogue request : List Line) (chosen : Set) (before after : InstallOrder) (line : ℕ) (n : VersionNo) (step : ℕ) → after.chosen ≡ before.chosen → after.lines ≡ before.lines
     → after.answers.items ≡ before.answers.items ++ answer.LeftOut n line step ∷ [] → n.0 < length (listed catalogue) → IsListing catalogue request before chosen → TakesTurn catalogue request chosen (LeavesOut (line, nth (listed catalogue) n) step) before after
 left_out_more catalogue request chosen before after line n step chosen_is lines_are more known h =
     let added : answers_in catalogue after ≡ answers_in catalogue before ++ answers.LeftOut (nth (listed catalogue) n) line step ∷ [] = answers_more catalogue before after (answer.LeftOut n line step) more in

@@ -21,8 +21,8 @@ use Rattle.resolve_order.specs.declared.chosen.LineState.TheVariants as state
 use Rattle.resolve_order.specs.declared.entry.Reason.{Reason}
 use Rattle.resolve_order.specs.declared.entry.Reason.TheVariants as reason
 use Rattle.resolve_order.specs.declared.entry.Entry.{Entry}
-use Rattle.resolve_order.specs.declared.install_order.Listing.{Listing}
-use Rattle.resolve_order.specs.declared.open_lines.Places.{Places}
+use Rattle.resolve_order.specs.declared.install_order.InstallOrder.{InstallOrder}
+use Rattle.resolve_order.specs.declared.open_lines.OpenLines.{OpenLines}
 
 -- ---- chosen versions
 
@@ -120,13 +120,13 @@ pub record AreLines (catalogue request : List Line) (entries : Set) (lines : Lis
       → line_named catalogue request reason ≡ Some (Needs alternatives condition) → (r : Reason) × Contains lines r × (reason_of (listed catalogue) r ≡ reason)
   pub ordered : AreOrdered (λ a b. Precedes entries (reason_of (listed catalogue) a) (reason_of (listed catalogue) b)) lines
 
-abbrev pub answers_in : List Line → Listing → List answers.Answer
+abbrev pub answers_in : List Line → InstallOrder → List answers.Answer
 answers_in catalogue x = answers_of (listed catalogue) x.answers.items
 
-abbrev pub entries_in : List Line → Listing → Set
+abbrev pub entries_in : List Line → InstallOrder → Set
 entries_in catalogue x = entries_of (answers_in catalogue x)
 
-pub record IsListing (catalogue request : List Line) (x : Listing) (chosen : Set) : Type 0 where
+pub record IsListing (catalogue request : List Line) (x : InstallOrder) (chosen : Set) : Type 0 where
   pub holds : Holds (listed catalogue) x.chosen chosen (entries_in catalogue x)
   pub lines : AreLines catalogue request (entries_in catalogue x) x.lines.items
   pub numbered : AreNumbered (listed catalogue) x.answers.items
@@ -134,7 +134,7 @@ pub record IsListing (catalogue request : List Line) (x : Listing) (chosen : Set
 -- ---- the lines left to look at
 
 -- the lines that weren't looked at since the last entry
-abbrev pub left_of : Places → List Reason → List Reason
+abbrev pub left_of : OpenLines → List Reason → List Reason
 left_of places lines = reverse places.again.items ++ drop places.below lines
 
 -- Of all of them these remain; P holds of the others.
@@ -146,18 +146,18 @@ abbrev pub IsSpentAt : List Line → List Line → Set → Set → Reason → Ty
 IsSpentAt catalogue request chosen entries r = IsSpent chosen entries (line_named catalogue request (reason_of (listed catalogue) r))
 
 -- All lines but spent ones wait or are left to look at.
-pub record AreLeft (catalogue request : List Line) (x : Listing) (chosen : Set) (places : Places) : Type 0 where
+pub record AreLeft (catalogue request : List Line) (x : InstallOrder) (chosen : Set) (places : OpenLines) : Type 0 where
   pub within : places.below ≤ length x.lines.items
   pub waiting : (r : Reason) → Contains places.waiting.items r → IsWaiting (entries_in catalogue x) (line_named catalogue request (reason_of (listed catalogue) r))
   pub remain : Remains (IsSpentAt catalogue request chosen (entries_in catalogue x)) x.lines.items (places.waiting.items ++ left_of places x.lines.items)
 
 -- None of them waits.
-pub record IsLeft (catalogue request : List Line) (x : Listing) (chosen : Set) (places : Places) : Type 0 where
+pub record IsLeft (catalogue request : List Line) (x : InstallOrder) (chosen : Set) (places : OpenLines) : Type 0 where
   pub left : AreLeft catalogue request x chosen places
   pub none_waits : places.waiting.items ≡ []
 
 -- the next entry, if there is one
-abbrev pub IsFound : List Line → List Line → Listing → Set → Option Entry → Type 0
+abbrev pub IsFound : List Line → List Line → InstallOrder → Set → Option Entry → Type 0
 IsFound catalogue request x chosen None = IsComplete catalogue request chosen (entries_in catalogue x)
 IsFound catalogue request x chosen (Some e) = (e.version.0 < length (listed catalogue))
     × IsNext catalogue request chosen (entries_in catalogue x) (reason_of (listed catalogue) e.reason) (nth (listed catalogue) e.version)
@@ -165,14 +165,14 @@ IsFound catalogue request x chosen (Some e) = (e.version.0 < length (listed cata
 -- ---- the result of a listing
 
 -- The second has these answers besides those of the first, each the next.
-pub record Extends (catalogue request : List Line) (chosen : Set) (before after : Listing) : Type 0 where
+pub record Extends (catalogue request : List Line) (chosen : Set) (before after : InstallOrder) : Type 0 where
   pub listing : IsListing catalogue request after chosen
   pub others : List answers.Answer
   pub more : answers_in catalogue after ≡ answers_in catalogue before ++ others
   pub in_order : AreInOrder catalogue request chosen (entries_in catalogue before) others
 
 -- The second has the answers of the turn after those of the first.
-pub record TakesTurn (catalogue request : List Line) (chosen : Set) (t : Turn) (before after : Listing) : Type 0 where
+pub record TakesTurn (catalogue request : List Line) (chosen : Set) (t : Turn) (before after : InstallOrder) : Type 0 where
   pub listing : IsListing catalogue request after chosen
   pub others : List answers.Answer
   pub more : answers_in catalogue after ≡ answers_in catalogue before ++ others

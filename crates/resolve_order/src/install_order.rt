@@ -19,13 +19,13 @@ ghost use Rattle.resolve_order.specs.Kept.{IsListing, IsLeft, IsFound, IsRuleAt,
 
 use crate::chosen::{Chosen, LineState};
 use crate::entry::{Answer, Entry, Reason, Turn};
-use crate::open_lines::Places;
+use crate::open_lines::OpenLines;
 use resolvo_catalogue_core::{Catalogue, Request, Rule, VersionNo};
 use std::alloc::{AllocError, Global};
 
 /// The answers so far, and the lines that ask for more.
 #[derive(Drop)]
-pub struct Listing {
+pub struct InstallOrder {
     chosen: Chosen,
     /// The lines of the request, then those of the entries.
     lines: Vec<Reason>,
@@ -73,13 +73,17 @@ fn rule_at<'a>(catalogue: &'a Catalogue, request: &'a Request, reason: Reason) -
     }
 }
 
-impl Listing {
+impl InstallOrder {
     /// No entry yet, and no version chosen.
-    fn new(alloc: Global, catalogue: &Catalogue, request: &Request) -> Result<Listing, AllocError>
+    fn new(
+        alloc: Global,
+        catalogue: &Catalogue,
+        request: &Request,
+    ) -> Result<InstallOrder, AllocError>
         ensures none { IfOk result (λ x. x.answers.items ≡ []) }
         ensures listing { IfOk result (λ x. IsListing catalogue.now request.now.lines x []) }
     {
-        Ok(Listing {
+        Ok(InstallOrder {
             chosen: Chosen::new(alloc, catalogue)?,
             lines: request_lines(alloc, request.line_count())?,
             answers: Vec::new(alloc),
@@ -117,7 +121,7 @@ impl Listing {
         &self,
         catalogue: &Catalogue,
         request: &Request,
-        places: &mut Places,
+        places: &mut OpenLines,
     ) -> Result<Option<Entry>, AllocError>
         ensures unlisted { IfOk result
             (λ found.
@@ -173,7 +177,7 @@ impl Listing {
         if self.chosen.are_all_listed() {
             return Ok(());
         }
-        let mut places = Places::new(alloc);
+        let mut places = OpenLines::new(alloc);
         while let Some(entry) = self.next(catalogue, request, &mut places)? {
             self.give(catalogue, entry)?;
         }
@@ -316,7 +320,7 @@ pub fn list(
         AreTurnsOf catalogue.now request.now.lines turns.now
         → AreNumbered (listed catalogue.now) answers.items) }
 {
-    let mut listing = Listing::new(alloc, catalogue, request)?;
+    let mut listing = InstallOrder::new(alloc, catalogue, request)?;
     for turn in turns {
         listing.take_turn(alloc, catalogue, request, turn)?;
     }

@@ -8,7 +8,7 @@ use crate::entry::Reason;
 use std::alloc::{AllocError, Global};
 
 #[derive(Drop)]
-pub struct Places {
+pub struct OpenLines {
     /// The lines that were looked at since the last entry, and wait for their condition, in order.
     pub waiting: Vec<Reason>,
     /// The lines before `below` to be looked at again, the last of them first.
@@ -17,13 +17,13 @@ pub struct Places {
     pub below: usize,
 }
 
-impl Places {
-    pub fn new(alloc: Global) -> Places
+impl OpenLines {
+    pub fn new(alloc: Global) -> OpenLines
         ensures waiting { result.waiting.items ≡ [] }
         ensures again { result.again.items ≡ [] }
         ensures below { result.below ≡ 0 }
     {
-        Places {
+        OpenLines {
             waiting: Vec::new(alloc),
             again: Vec::new(alloc),
             below: 0,

@@ -12,7 +12,7 @@ use Rattle.resolvo_pool_core.specs.declared.condition.Condition.TheVariants.{Bin
 use Rattle.resolvo_pool_core.specs.declared.condition.LogicalOperator.TheVariants as joins
 use Rattle.resolvo_pool_core.specs.Intern.{AreBelow}
 use Rattle.resolvo_store_core.specs.Cases.{cases_by, cases_within}
-use Rattle.resolvo_sat.specs.Encoding.{cases_under}
+use Rattle.resolvo_sat.specs.RuleClauses.{cases_under}
 use Rattle.resolvo_sat.proofs.Lists.{contains_one, contains_parts, map_contains}
 use Rattle.resolvo_catalogue.specs.Ids.{Ids, AreEach, IsSpec, IsCondition, IsConditionOf}
 use Rattle.resolvo_catalogue.specs.Known.{condition_at}

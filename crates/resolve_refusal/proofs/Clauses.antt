@@ -23,7 +23,7 @@ use Rattle.resolvo_pool_core.specs.RuleKeeping.{rules_of, rules_for}
 use Rattle.resolvo_pool_core.specs.RuleKeeping as pool_rules
 use Rattle.resolvo_pool_core.specs.Text.{alternatives_of}
 use Rattle.resolvo_store_core.specs.AtMostOne.{digit}
-use Rattle.resolvo_sat.specs.Encoding.{Atom, Rule, IsExact, plus, minus, solvables, parent_literals, case_literals, candidate_literals, same_requirement, asks, has_condition, literals_of}
+use Rattle.resolvo_sat.specs.RuleClauses.{Atom, Rule, IsExact, plus, minus, solvables, parent_literals, case_literals, candidate_literals, same_requirement, asks, has_condition, literals_of}
 use Rattle.resolvo_sat.proofs.Lists.{contains_none, contains_cases, contains_first, contains_later, contains_left, contains_right, contains_parts, contains_map, map_contains, contains_filter, filter_contains, any_contained, contained_all}
 use Rattle.resolvo_state.specs.declared.atom.ProofAtom.{ProofAtom}
 use Rattle.resolvo_state.specs.declared.atom.ProofAtom.TheVariants as atom

@@ -11,7 +11,7 @@ use Rattle.resolvo_catalogue_core.specs.Questions.{ReadRequest, AreAll}
 use Rattle.resolvo_pool_core.specs.declared.requirement.Requirement.{Requirement}
 use Rattle.resolvo_pool_core.specs.declared.requirement.ConditionalRequirement.{ConditionalRequirement}
 use Rattle.resolvo_pool_core.specs.RuleKeeping.{rules_of}
-use Rattle.resolvo_sat.specs.Encoding.{ForbidReason, has_condition, same_requirement}
+use Rattle.resolvo_sat.specs.RuleClauses.{ForbidReason, has_condition, same_requirement}
 use Rattle.resolvo_sat.proofs.Lists.{contains_map, map_contains, any_contained}
 use Rattle.resolvo_proof.specs.Steps.{literal_in}
 use Rattle.resolvo_proof.specs.declared.step.ProofLiteral.{ProofLiteral}

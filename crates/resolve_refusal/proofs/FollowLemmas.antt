@@ -11,7 +11,7 @@ use Rattle.resolvo_text.specs.Matches.{same_version}
 use Rattle.resolvo_catalogue_core.specs.Grammar.{line_at}
 use Rattle.resolvo_catalogue_core.specs.Questions.{ReadRequest, is_rule}
 use Rattle.resolvo_catalogue_core.proofs.PlaceLemmas.{at_from_contains}
-use Rattle.resolvo_sat.specs.Encoding.{ForbidReason}
+use Rattle.resolvo_sat.specs.RuleClauses.{ForbidReason}
 use Rattle.resolvo_sat.proofs.Lists.{contains_none, contains_first, contains_later, map_contains, contained_all}
 use Rattle.resolvo_proof.specs.Members.{SameMembers}
 use Rattle.resolvo_proof.specs.Steps.{literal_in, clause_of, clause_at}

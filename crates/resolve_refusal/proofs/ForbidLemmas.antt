@@ -16,7 +16,7 @@ use Rattle.resolvo_catalogue_core.proofs.PlaceLemmas.{at_from_contains}
 use Rattle.resolvo_pool_core.specs.RuleKeeping.{is_unknown, is_forbidden, locks_out}
 use Rattle.resolvo_pool_core.specs.declared.id.StringId.{StringId}
 use Rattle.resolvo_pool_core.specs.Provider as pool
-use Rattle.resolvo_sat.specs.Encoding.{IsExact, ForbidReason, KeepsOut}
+use Rattle.resolvo_sat.specs.RuleClauses.{IsExact, ForbidReason, KeepsOut}
 use Rattle.resolvo_sat.proofs.Lists.{contains_none}
 use Rattle.resolvo_catalogue.specs.Ids.{SolvableId, IsPackage, IsWord, solvable_id, solvables_of}
 use Rattle.resolvo_catalogue.specs.Known.{name_of, word_text}

@@ -13,7 +13,7 @@ use Rattle.resolvo_pool_core.specs.OnePass as pass
 use Rattle.resolvo_pool_core.specs.OnePass.{one_pass, AreNamed, AreNamedClauses}
 use Rattle.resolvo_pool_core.specs.Text.{alternatives_of}
 use Rattle.resolvo_pool_core.proofs.PassNamed.{one_pass_alike}
-use Rattle.resolvo_sat.specs.Encoding.{Atom, IsExact}
+use Rattle.resolvo_sat.specs.RuleClauses.{Atom, IsExact}
 use Rattle.resolvo_sat.proofs.Lists.{contains_first, contains_later, map_contains}
 use Rattle.resolvo_proof.specs.Members.{SameMembers, HaveOneSign}
 use Rattle.resolvo_proof.proofs.PassMembers.{one_pass_members}

@@ -19,7 +19,7 @@ use Rattle.resolvo_pool_core.specs.declared.id.VersionSetId.{VersionSetId}
 use Rattle.resolvo_pool_core.specs.declared.requirement.Requirement.{Requirement}
 use Rattle.resolvo_pool_core.specs.declared.requirement.ConditionalRequirement.{ConditionalRequirement}
 use Rattle.resolvo_pool_core.specs.RuleKeeping.{rules_of, rules_for, is_forbidden, is_unknown}
-use Rattle.resolvo_sat.specs.Encoding.{ForbidReason, KeepsOut, has_condition, same_requirement, cases_under}
+use Rattle.resolvo_sat.specs.RuleClauses.{ForbidReason, KeepsOut, has_condition, same_requirement, cases_under}
 use Rattle.resolvo_sat.proofs.Lists.{contains_first, contains_later, any_contained}
 use Rattle.resolvo_proof.specs.declared.step.ProofStep.{ProofStep}
 use Rattle.resolvo_proof.specs.declared.step.ProofStep.TheVariants.{Rule, Derived}

@@ -8,7 +8,7 @@ use Rattle.resolvo_catalogue_core.specs.Listed.{listed}
 use Rattle.resolvo_catalogue_core.specs.Questions.{ReadRequest, LineIs, LocksAnother, Excludes, MarksUnknownOf}
 use Rattle.resolvo_pool_core.specs.declared.id.VersionSetId.{VersionSetId}
 use Rattle.resolvo_pool_core.specs.declared.requirement.Requirement.{Requirement}
-use Rattle.resolvo_sat.specs.Encoding.{Atom, IsExact}
+use Rattle.resolvo_sat.specs.RuleClauses.{Atom, IsExact}
 use Rattle.resolvo_state.specs.declared.atom.ProofAtom.{ProofAtom}
 use Rattle.resolvo_state.specs.declared.atom.ProofAtom.TheVariants as atom
 use Rattle.resolvo_proof.specs.declared.step.ProofLiteral.{ProofLiteral}

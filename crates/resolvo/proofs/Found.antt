@@ -13,7 +13,7 @@ use Rattle.resolvo_sat.specs.declared.analyze.FinalConflict.{FinalConflict}
 use Rattle.resolvo_sat.specs.Analysis.{IsRefusal}
 use Rattle.resolvo_sat.specs.Entries.{made_true}
 use Rattle.resolvo_sat.specs.State.{history}
-use Rattle.resolvo_sat.specs.Encoding.{IsExact}
+use Rattle.resolvo_sat.specs.RuleClauses.{IsExact}
 use Rattle.resolvo_sat.specs.SearchEnd.{IsAccepted}
 use Rattle.resolvo_sat.specs.First.{ArePreferred}
 use Rattle.resolvo_sat.proofs.Lists.{contains_none}

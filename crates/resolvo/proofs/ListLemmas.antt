@@ -5,7 +5,7 @@ use Rattle.std.proofs.lemmas.List.{take_all}
 use Rattle.resolvo_pool_core.specs.RuleKeeping.{Packages, Rules, is_in, IsReached, IsExemptKeeping, IsRuleKeeping}
 use Rattle.resolvo_store_core.specs.AtMostOne.{IsPrefixOf}
 use Rattle.resolvo_sat.proofs.StepLemmas.{reverse_push}
-use Rattle.resolvo_sat.specs.Encoding.{IsExact}
+use Rattle.resolvo_sat.specs.RuleClauses.{IsExact}
 use Rattle.resolvo_sat.specs.SearchEnd.{IsAccepted}
 use Rattle.resolvo_sat.proofs.Lists.{contains_left}
 use Rattle.resolvo_sat.proofs.Members.{in_contained, contained_in}

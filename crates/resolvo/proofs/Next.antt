@@ -17,7 +17,7 @@ use Rattle.resolvo_sat.specs.Analysis.{IsRefusal}
 use Rattle.resolvo_sat.specs.Entries.{made_true}
 use Rattle.resolvo_sat.specs.State.{history}
 use Rattle.resolvo_sat.proofs.StepLemmas.{reverse_push}
-use Rattle.resolvo_sat.specs.Encoding.{IsExact}
+use Rattle.resolvo_sat.specs.RuleClauses.{IsExact}
 use Rattle.resolvo_sat.specs.SearchEnd.{IsAccepted}
 use Rattle.resolvo_sat.proofs.Lists.{contains_one, contains_parts}
 use Rattle.resolvo_sat.proofs.Members.{in_contained, contained_in}

@@ -5,7 +5,7 @@ use Rattle.std.proofs.lemmas.Bool.{both_ways, cases_Bool}
 use Rattle.std.proofs.lemmas.List.{take_more}
 use Rattle.resolvo_pool_core.specs.declared.requirement.Requirement.{Requirement}
 use Rattle.resolvo_sat.proofs.Lists.{contains_one, contains_parts}
-use Rattle.resolvo_sat.specs.Encoding.{same_requirement}
+use Rattle.resolvo_sat.specs.RuleClauses.{same_requirement}
 use Rattle.resolvo_sat.proofs.Members.{same_requirement_true, same_requirement-self}
 use Rattle.resolvo_pool.specs.declared.cache.CacheFault.{CacheFault}
 use Rattle.resolvo_pool.specs.Cached.{IsCancelledBy}

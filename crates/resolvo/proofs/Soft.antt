@@ -17,7 +17,7 @@ use Rattle.resolvo_sat.proofs.Literals.{has-cons, negation-negation}
 use Rattle.resolvo_sat.specs.Entries.{made_true, top_level}
 use Rattle.resolvo_sat.specs.State.{count_of, history, clauses_of}
 use Rattle.resolvo_sat.proofs.Trails.{known_in_range, level_le_last, root_level}
-use Rattle.resolvo_sat.specs.Encoding.{IsExact}
+use Rattle.resolvo_sat.specs.RuleClauses.{IsExact}
 use Rattle.resolvo_state.specs.declared.atom.ProofAtom.{ProofAtom}
 use Rattle.resolvo_state.specs.declared.atom.ProofAtom.TheVariants.{Solvable}
 use Rattle.resolvo_state.specs.declared.solver_state.SolverState.{SolverState}

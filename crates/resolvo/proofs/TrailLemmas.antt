@@ -10,7 +10,7 @@ use Rattle.resolvo_store_core.specs.AtMostOne.{IsPrefixOf}
 use Rattle.resolvo_store_core.specs.declared.decision.Entry.{Entry}
 use Rattle.resolvo_sat.specs.Entries.{made_true}
 use Rattle.resolvo_sat.specs.State.{count_of, history, clauses_of}
-use Rattle.resolvo_sat.specs.Encoding.{IsExact}
+use Rattle.resolvo_sat.specs.RuleClauses.{IsExact}
 use Rattle.resolvo_state.specs.Chosen.{AreChosen, choice_of, choices}
 use Rattle.resolvo_state.specs.SolverState.{IsCoding}
 use Rattle.resolvo_state.specs.Keys.{AreOnce, IsPlace}

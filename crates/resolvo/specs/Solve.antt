@@ -18,7 +18,7 @@ use Rattle.resolvo_encoder.specs.TurnLevels.{AreAmongEncoded}
 use Rattle.resolvo_proof.specs.Drawn.{AreDrawn, HaveOneSigns}
 use Rattle.resolvo_proof.specs.Places.{HaveOnePlace}
 use Rattle.resolvo_proof.specs.Proof.{IsProof, EndsEmpty, DenyRoot}
-use Rattle.resolvo_sat.specs.Encoding.{Atom, IsExact}
+use Rattle.resolvo_sat.specs.RuleClauses.{Atom, IsExact}
 use Rattle.resolvo_proof.specs.declared.step.ProofLiteral.{ProofLiteral}
 use Rattle.resolvo_proof.specs.declared.step.ProofStep.{ProofStep}
 use Rattle.resolvo_proof.specs.declared.step.ProofStep.TheVariants.{Derived}

@@ -124,7 +124,7 @@ fn run_turns<A: PackageSource, C: ScoreMap<A::NameId>>(
 }
 
 /// Whether a problem has no requirements.
-fn asks_nothing<S>(
+fn is_empty_problem<S>(
     requirements: &[ConditionalRequirement],
     constraints: &[VersionSetId],
     softs: &[S],
@@ -187,7 +187,7 @@ pub fn search<A: PackageSource, C: ScoreMap<A::NameId> + Drop>(
     // After a refusal.
     ensures cancelled { IfErr result (IsCancelledBy (A.may_cancel answers.old)) }
 {
-    if asks_nothing(requirements, constraints, softs) {
+    if is_empty_problem(requirements, constraints, softs) {
         let nothing = find_nothing(alloc, answers, encoding)?;
         return Ok(nothing);
     }

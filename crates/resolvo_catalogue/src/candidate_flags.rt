@@ -23,7 +23,7 @@ pub struct CandidateFlags {
     pub excluded: Option<StringId>,
 }
 
-const UNMARKED: CandidateFlags = CandidateFlags {
+const NO_FLAGS: CandidateFlags = CandidateFlags {
     locked: false,
     favored: false,
     excluded: None,
@@ -60,7 +60,7 @@ fn unmarked(alloc: Global, count: usize) -> R<Vec<CandidateFlags>>
 {
     let mut marks = Vec::new(alloc);
     for _ in 0..count {
-        marks.push(UNMARKED)?;
+        marks.push(NO_FLAGS)?;
     }
     Ok(marks)
 }

@@ -3,15 +3,15 @@
 
 mod candidate_flags;
 mod dependencies;
+pub mod dependency_provider;
 mod guesses;
 mod id_table;
-pub mod impls;
 pub mod provider;
 mod text_ids;
 mod versions;
 
+pub use dependency_provider::GivenUp;
 pub use id_table::Numbers;
-pub use impls::GivenUp;
 pub use provider::{CatalogueProvider, Hint, RequestIds};
 pub use resolvo_catalogue_core::{
     Catalogue, Cond, Counted, IoFault, LineReader, MemorySink, MemorySource, ReadFault, Request,

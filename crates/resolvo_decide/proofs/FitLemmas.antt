@@ -21,7 +21,7 @@ use Rattle.resolvo_store_core.specs.declared.decide_queue.NextDecision.{NextDeci
 use Rattle.resolvo_store_core.specs.declared.lists.Candidate.{Candidate}
 use Rattle.resolvo_store_core.specs.declared.lists.FixedLists.{FixedLists}
 use Rattle.resolvo_decide.specs.declared.clause_states.ClauseState.{ClauseState}
-use Rattle.resolvo_decide.specs.declared.clause_states.ClauseState.TheVariants.{Open, Met, Idle}
+use Rattle.resolvo_decide.specs.declared.clause_states.ClauseState.TheVariants.{Open, Satisfied, Inactive}
 use Rattle.resolvo_decide.specs.declared.tallies.Tallies.{Tallies}
 use Rattle.resolvo_decide.specs.declared.tallies.Use.{Use}
 use Rattle.resolvo_decide.specs.declared.undecided_clauses.UndecidedClauses.{UndecidedClauses}
@@ -36,18 +36,18 @@ module _ (literals : Requirement → List Signed) (q : NeedClause) where
   -- under a prefix of the trail
   sound_back : (common : ℕ) (es : List Entry) (s : ClauseState) → IsSoundState literals es q s → IsSoundState literals (take common es) q (reopened common s)
   sound_back common es Open h = tt
-  sound_back common es Idle h = idle_take common es q.parent.0 h
-  sound_back common es (Met within) h = go (nat_lt common within) refl
+  sound_back common es Inactive h = idle_take common es q.parent.0 h
+  sound_back common es (Satisfied within) h = go (nat_lt common within) refl
     where
-      go : (b : Bool) → nat_lt common within ≡ b → IsSoundState literals (take common es) q (cond b Open (Met within))
+      go : (b : Bool) → nat_lt common within ≡ b → IsSoundState literals (take common es) q (cond b Open (Satisfied within))
       go true is = tt
       go false is = subst (λ (xs : List Entry). is_met xs (literals q.requirement) ≡ true) (sym (take_less within common es (ltb-false common within is))) h
 
   -- after an entry that makes no parent of an idle clause true
-  sound_on : (es : List Entry) (e : Entry) (s : ClauseState) → IsSoundState literals es q s → (e.decision.value ≡ true → e.decision.variable.0 ≡ q.parent.0 → s ≡ Idle → ⊥) → IsSoundState literals (es ++ e ∷ []) q s
+  sound_on : (es : List Entry) (e : Entry) (s : ClauseState) → IsSoundState literals es q s → (e.decision.value ≡ true → e.decision.variable.0 ≡ q.parent.0 → s ≡ Inactive → ⊥) → IsSoundState literals (es ++ e ∷ []) q s
   sound_on es e Open h other = tt
-  sound_on es e (Met within) h other = met_take within es (e ∷ []) (literals q.requirement) h
-  sound_on es e Idle h other = idle_more es e q.parent.0 h (λ same. go e.decision.value refl same)
+  sound_on es e (Satisfied within) h other = met_take within es (e ∷ []) (literals q.requirement) h
+  sound_on es e Inactive h other = idle_more es e q.parent.0 h (λ same. go e.decision.value refl same)
     where
       go : (b : Bool) → e.decision.value ≡ b → e.decision.variable.0 ≡ q.parent.0 → b ≡ false
       go true is same = absurd (other is same refl)
@@ -82,8 +82,8 @@ fits_on e old new seen places long others opened tallies = λ literals queue f. 
   tallied = subst (λ (es : List Entry). AreTallied literals queue es new.tallies) (sym seen) (tallies literals queue f.tallied);
 }
   where
-    open_not : (s : ClauseState) → s ≡ Open → s ≡ Idle → ⊥
-    open_not s a b = (let no : Open ≡ Idle = sym a ∙ b in absurd cc)
+    open_not : (s : ClauseState) → s ≡ Open → s ≡ Inactive → ⊥
+    open_not s a b = (let no : Open ≡ Inactive = sym a ∙ b in absurd cc)
 
     each : (literals : Requirement → List Signed) (queue : List NeedClause) → Fits literals old queue → (i : ℕ) (q : NeedClause) → slice_get queue i ≡ Some q → IsSoundState literals (old.seen.items ++ e ∷ []) q (state_at new.states i)
     each literals queue f i q at = elim (others i) [
@@ -162,14 +162,14 @@ module _ {N : Type 0} (lists : FixedLists N) (values : ℕ → Option Bool) (es 
 
   pub sound_met : (q : NeedClause) (s : ClauseState) → IsMetNow (length es) s → list_any (λ c. is_true (value_under values c.literal)) (candidates_in lists q.requirement) ≡ true → IsSoundState (literals_in lists) es q s
   sound_met q Open h met = tt
-  sound_met q Idle h met = absurd h
-  sound_met q (Met within) h met = subst (λ n. is_met (take n es) (literals_in lists q.requirement) ≡ true) (sym h)
+  sound_met q Inactive h met = absurd h
+  sound_met q (Satisfied within) h met = subst (λ n. is_met (take n es) (literals_in lists q.requirement) ≡ true) (sym h)
       (subst (λ (xs : List Entry). is_met xs (literals_in lists q.requirement) ≡ true) (sym (take-length es)) (sym (met_agrees (candidates_in lists q.requirement)) ∙ met))
 
   pub sound_nothing : (q : NeedClause) (s : ClauseState) → IsSoundState (literals_in lists) es q s → is_open_state s ≡ false → (score : N → ℕ) → offer lists values score q ≡ None
   sound_nothing q Open h closed score = cc
-  sound_nothing q Idle h closed score = ap (λ b. cond (b && list_all (λ l. is_false (value_under values l)) (condition_in lists q.condition)) (offer_of (named_by lists) values score q (candidates_in lists q.requirement)) None) (ap is_true (agree q.parent.0) ∙ h)
-  sound_nothing q (Met within) h closed score = ap (λ b. cond (is_eligible lists values q) (cond b None (option_map (decision_for (named_by lists) values score q (candidates_in lists q.requirement)) (find (λ c. is_open (value_under values c.literal)) (candidates_in lists q.requirement)))) None)
+  sound_nothing q Inactive h closed score = ap (λ b. cond (b && list_all (λ l. is_false (value_under values l)) (condition_in lists q.condition)) (offer_of (named_by lists) values score q (candidates_in lists q.requirement)) None) (ap is_true (agree q.parent.0) ∙ h)
+  sound_nothing q (Satisfied within) h closed score = ap (λ b. cond (is_eligible lists values q) (cond b None (option_map (decision_for (named_by lists) values score q (candidates_in lists q.requirement)) (find (λ c. is_open (value_under values c.literal)) (candidates_in lists q.requirement)))) None)
       (met_agrees (candidates_in lists q.requirement) ∙ met_whole within es (literals_in lists q.requirement) h) ∙ either (is_eligible lists values q)
     where
       either : (b : Bool) → cond {A = Option NextDecision} b None None ≡ None
@@ -410,8 +410,8 @@ fits_more old new needs queue same f = record {
 
     so : (q : NeedClause) (s : ClauseState) → IsSoundState old needs.seen.items q s → IsSoundState new needs.seen.items q s
     so q Open h = tt
-    so q (Met within) h = more q.requirement (take within needs.seen.items) h
-    so q Idle h = h
+    so q (Satisfied within) h = more q.requirement (take within needs.seen.items) h
+    so q Inactive h = h
 
 -- the empty queue
 pub fits_none : (literals : Requirement → List Signed) (needs : UndecidedClauses) → needs.states ≡ [] → HasNoTally needs.tallies → Fits literals needs []

@@ -14,7 +14,7 @@ use Rattle.resolvo_store_core.specs.declared.decide_queue.NeedClause.{NeedClause
 use Rattle.resolvo_decide.specs.declared.tallies.Tallies.{Tallies}
 use Rattle.resolvo_decide.specs.declared.tallies.Use.{Use}
 use Rattle.resolvo_decide.specs.declared.tally.Change.{Change}
-use Rattle.resolvo_decide.specs.declared.tally.Change.TheVariants.{Met, Fell, Unmet, Rose}
+use Rattle.resolvo_decide.specs.declared.tally.Change.TheVariants.{MadeTrue, MadeFalse, UndoneTrue, UndoneFalse}
 use Rattle.resolvo_decide.specs.declared.tally.Tally.{Tally}
 use Rattle.resolvo_decide.specs.Tallies.{one_more, changed, changed_each, times, found, uses_at, made_true, number_at, AreListed, AreBelow, IsTally, Changes}
 use Rattle.resolvo_decide.specs.Needs.{AreTallied, KeepsTallies}
@@ -30,20 +30,20 @@ one_more_is total n h = go (nat_lt n total) refl
     go false is = (let above : total ≤ n = ltb-false n total is in absurd (omega (arith, h, above)))
 
 met_each : (k : ℕ) (us : List Use) (total trues falses passed : ℕ) → trues + times k us ≤ total
-    → changed_each Met k us (record { total = total; trues = trues; falses = falses; passed = passed }) ≡ record { total = total; trues = trues + times k us; falses = falses; passed = passed }
+    → changed_each MadeTrue k us (record { total = total; trues = trues; falses = falses; passed = passed }) ≡ record { total = total; trues = trues + times k us; falses = falses; passed = passed }
 met_each k [] total trues falses passed h =
     let same : trues ≡ trues + 0 = omega arith in
     ap (λ (n : ℕ). record { total = total; trues = n; falses = falses; passed = passed }) same
 met_each k (u ∷ us) total trues falses passed h = go (u.tally == k) h (λ n low. met_each k us total n falses passed low)
   where
-    go : (b : Bool) → trues + (cond b 1 0 + times k us) ≤ total → ((n : ℕ) → n + times k us ≤ total → changed_each Met k us (record { total = total; trues = n; falses = falses; passed = passed }) ≡ record { total = total; trues = n + times k us; falses = falses; passed = passed })
-        → changed_each Met k us (cond b (changed Met u.place (record { total = total; trues = trues; falses = falses; passed = passed })) (record { total = total; trues = trues; falses = falses; passed = passed }))
+    go : (b : Bool) → trues + (cond b 1 0 + times k us) ≤ total → ((n : ℕ) → n + times k us ≤ total → changed_each MadeTrue k us (record { total = total; trues = n; falses = falses; passed = passed }) ≡ record { total = total; trues = n + times k us; falses = falses; passed = passed })
+        → changed_each MadeTrue k us (cond b (changed MadeTrue u.place (record { total = total; trues = trues; falses = falses; passed = passed })) (record { total = total; trues = trues; falses = falses; passed = passed }))
         ≡ record { total = total; trues = trues + (cond b 1 0 + times k us); falses = falses; passed = passed }
     go true low more =
         let less : trues < total = omega (arith, low) in
         let rest : trues + 1 + times k us ≤ total = omega (arith, low) in
         let sum : trues + 1 + times k us ≡ trues + (1 + times k us) = omega arith in
-        ap (λ (n : ℕ). changed_each Met k us (record { total = total; trues = n; falses = falses; passed = passed })) (one_more_is total trues less)
+        ap (λ (n : ℕ). changed_each MadeTrue k us (record { total = total; trues = n; falses = falses; passed = passed })) (one_more_is total trues less)
         ∙ more (trues + 1) rest
         ∙ ap (λ (n : ℕ). record { total = total; trues = n; falses = falses; passed = passed }) sum
     go false low more =
@@ -53,20 +53,20 @@ met_each k (u ∷ us) total trues falses passed h = go (u.tally == k) h (λ n lo
         ∙ ap (λ (n : ℕ). record { total = total; trues = n; falses = falses; passed = passed }) sum
 
 fell_each : (k : ℕ) (us : List Use) (total trues falses passed : ℕ) → falses + times k us ≤ total
-    → changed_each Fell k us (record { total = total; trues = trues; falses = falses; passed = passed }) ≡ record { total = total; trues = trues; falses = falses + times k us; passed = passed }
+    → changed_each MadeFalse k us (record { total = total; trues = trues; falses = falses; passed = passed }) ≡ record { total = total; trues = trues; falses = falses + times k us; passed = passed }
 fell_each k [] total trues falses passed h =
     let same : falses ≡ falses + 0 = omega arith in
     ap (λ (n : ℕ). record { total = total; trues = trues; falses = n; passed = passed }) same
 fell_each k (u ∷ us) total trues falses passed h = go (u.tally == k) h (λ n low. fell_each k us total trues n passed low)
   where
-    go : (b : Bool) → falses + (cond b 1 0 + times k us) ≤ total → ((n : ℕ) → n + times k us ≤ total → changed_each Fell k us (record { total = total; trues = trues; falses = n; passed = passed }) ≡ record { total = total; trues = trues; falses = n + times k us; passed = passed })
-        → changed_each Fell k us (cond b (changed Fell u.place (record { total = total; trues = trues; falses = falses; passed = passed })) (record { total = total; trues = trues; falses = falses; passed = passed }))
+    go : (b : Bool) → falses + (cond b 1 0 + times k us) ≤ total → ((n : ℕ) → n + times k us ≤ total → changed_each MadeFalse k us (record { total = total; trues = trues; falses = n; passed = passed }) ≡ record { total = total; trues = trues; falses = n + times k us; passed = passed })
+        → changed_each MadeFalse k us (cond b (changed MadeFalse u.place (record { total = total; trues = trues; falses = falses; passed = passed })) (record { total = total; trues = trues; falses = falses; passed = passed }))
         ≡ record { total = total; trues = trues; falses = falses + (cond b 1 0 + times k us); passed = passed }
     go true low more =
         let less : falses < total = omega (arith, low) in
         let rest : falses + 1 + times k us ≤ total = omega (arith, low) in
         let sum : falses + 1 + times k us ≡ falses + (1 + times k us) = omega arith in
-        ap (λ (n : ℕ). changed_each Fell k us (record { total = total; trues = trues; falses = n; passed = passed })) (one_more_is total falses less)
+        ap (λ (n : ℕ). changed_each MadeFalse k us (record { total = total; trues = trues; falses = n; passed = passed })) (one_more_is total falses less)
         ∙ more (falses + 1) rest
         ∙ ap (λ (n : ℕ). record { total = total; trues = trues; falses = n; passed = passed }) sum
     go false low more =
@@ -76,14 +76,14 @@ fell_each k (u ∷ us) total trues falses passed h = go (u.tally == k) h (λ n l
         ∙ ap (λ (n : ℕ). record { total = total; trues = trues; falses = n; passed = passed }) sum
 
 unmet_each : (k : ℕ) (us : List Use) (total trues falses passed : ℕ)
-    → changed_each Unmet k us (record { total = total; trues = trues; falses = falses; passed = passed }) ≡ record { total = total; trues = trues - times k us; falses = falses; passed = passed }
+    → changed_each UndoneTrue k us (record { total = total; trues = trues; falses = falses; passed = passed }) ≡ record { total = total; trues = trues - times k us; falses = falses; passed = passed }
 unmet_each k [] total trues falses passed =
     let same : trues ≡ trues - 0 = omega arith in
     ap (λ (n : ℕ). record { total = total; trues = n; falses = falses; passed = passed }) same
 unmet_each k (u ∷ us) total trues falses passed = go (u.tally == k) (λ n. unmet_each k us total n falses passed)
   where
-    go : (b : Bool) → ((n : ℕ) → changed_each Unmet k us (record { total = total; trues = n; falses = falses; passed = passed }) ≡ record { total = total; trues = n - times k us; falses = falses; passed = passed })
-        → changed_each Unmet k us (cond b (changed Unmet u.place (record { total = total; trues = trues; falses = falses; passed = passed })) (record { total = total; trues = trues; falses = falses; passed = passed }))
+    go : (b : Bool) → ((n : ℕ) → changed_each UndoneTrue k us (record { total = total; trues = n; falses = falses; passed = passed }) ≡ record { total = total; trues = n - times k us; falses = falses; passed = passed })
+        → changed_each UndoneTrue k us (cond b (changed UndoneTrue u.place (record { total = total; trues = trues; falses = falses; passed = passed })) (record { total = total; trues = trues; falses = falses; passed = passed }))
         ≡ record { total = total; trues = trues - (cond b 1 0 + times k us); falses = falses; passed = passed }
     go true more =
         let sum : trues - 1 - times k us ≡ trues - (1 + times k us) = omega arith in
@@ -144,14 +144,14 @@ lowest k [] p = p
 lowest k (u ∷ us) p = lowest k us (cond (u.tally == k) (min p u.place) p)
 
 rose_each : (k : ℕ) (us : List Use) (total trues falses passed : ℕ)
-    → changed_each Rose k us (record { total = total; trues = trues; falses = falses; passed = passed }) ≡ record { total = total; trues = trues; falses = falses - times k us; passed = lowest k us passed }
+    → changed_each UndoneFalse k us (record { total = total; trues = trues; falses = falses; passed = passed }) ≡ record { total = total; trues = trues; falses = falses - times k us; passed = lowest k us passed }
 rose_each k [] total trues falses passed =
     let same : falses ≡ falses - 0 = omega arith in
     ap (λ (n : ℕ). record { total = total; trues = trues; falses = n; passed = passed }) same
 rose_each k (u ∷ us) total trues falses passed = go (u.tally == k) (λ n p. rose_each k us total trues n p)
   where
-    go : (b : Bool) → ((n p : ℕ) → changed_each Rose k us (record { total = total; trues = trues; falses = n; passed = p }) ≡ record { total = total; trues = trues; falses = n - times k us; passed = lowest k us p })
-        → changed_each Rose k us (cond b (changed Rose u.place (record { total = total; trues = trues; falses = falses; passed = passed })) (record { total = total; trues = trues; falses = falses; passed = passed }))
+    go : (b : Bool) → ((n p : ℕ) → changed_each UndoneFalse k us (record { total = total; trues = trues; falses = n; passed = p }) ≡ record { total = total; trues = trues; falses = n - times k us; passed = lowest k us p })
+        → changed_each UndoneFalse k us (cond b (changed UndoneFalse u.place (record { total = total; trues = trues; falses = falses; passed = passed })) (record { total = total; trues = trues; falses = falses; passed = passed }))
         ≡ record { total = total; trues = trues; falses = falses - (cond b 1 0 + times k us); passed = lowest k us (cond b (min passed u.place) passed) }
     go true more =
         let sum : falses - 1 - times k us ≡ falses - (1 + times k us) = omega arith in
@@ -199,7 +199,7 @@ module _ (ls : List Signed) (es : List Entry) (e : Entry) (k : ℕ) (old middle 
   abbrev pub fallen : ℕ
   fallen = index_in (negation (made_true e))
 
-  pub add_one : assigned es e.decision.variable.0 ≡ None → Changes Met made old middle → Changes Fell fallen middle new → IsTally ls es old k → IsTally ls (es ++ e ∷ []) new k
+  pub add_one : assigned es e.decision.variable.0 ≡ None → Changes MadeTrue made old middle → Changes MadeFalse fallen middle new → IsTally ls es old k → IsTally ls (es ++ e ∷ []) new k
   add_one fresh a b h =
       let t = h.tally in
       let us = uses_at old.uses.items made in
@@ -213,12 +213,12 @@ module _ (ls : List Signed) (es : List Entry) (e : Entry) (k : ℕ) (old middle 
       let met : t.trues + times k us ≤ t.total = omega (arith, h.counts.trues, h.counts.total, one, trues, most) in
       let fell : t.falses + times k vs ≤ t.total = omega (arith, h.counts.falses, h.counts.total, two, falses, more) in
       let there : slice_get middle.tallies.items k ≡ Some (record { total = t.total; trues = t.trues + times k us; falses = t.falses; passed = t.passed }) =
-      a.tallies k ∙ ap (option_map (changed_each Met k us)) h.there ∙ ap Some (met_each k us t.total t.trues t.falses t.passed met) in
+      a.tallies k ∙ ap (option_map (changed_each MadeTrue k us)) h.there ∙ ap Some (met_each k us t.total t.trues t.falses t.passed met) in
       record {
         some = h.some;
         once = once_end es e h.once fresh;
         tally = record { total = t.total; trues = t.trues + times k us; falses = t.falses + times k vs; passed = t.passed };
-        there = b.tallies k ∙ ap (λ w. option_map (changed_each Fell k (uses_at w.items fallen)) (slice_get middle.tallies.items k)) a.uses ∙ ap (option_map (changed_each Fell k vs)) there
+        there = b.tallies k ∙ ap (λ w. option_map (changed_each MadeFalse k (uses_at w.items fallen)) (slice_get middle.tallies.items k)) a.uses ∙ ap (option_map (changed_each MadeFalse k vs)) there
             ∙ ap Some (fell_each k vs t.total (t.trues + times k us) t.falses t.passed fell);
         counts = record {
           total = h.counts.total;
@@ -229,7 +229,7 @@ module _ (ls : List Signed) (es : List Entry) (e : Entry) (k : ℕ) (old middle 
         listed = subst (λ w. AreListed ls w.items k) (sym (b.uses ∙ a.uses)) h.listed;
       }
 
-  pub undo_one : Changes Unmet made old middle → Changes Rose fallen middle new → IsTally ls (es ++ e ∷ []) old k → IsTally ls es new k
+  pub undo_one : Changes UndoneTrue made old middle → Changes UndoneFalse fallen middle new → IsTally ls (es ++ e ∷ []) old k → IsTally ls es new k
   undo_one a b h =
       let t = h.tally in
       let fresh = last_open es e h.once in
@@ -238,12 +238,12 @@ module _ (ls : List Signed) (es : List Entry) (e : Entry) (k : ℕ) (old middle 
       let one : times k us ≡ found (made_true e) ls = h.listed.times (made_true e) in
       let two : times k vs ≡ found (negation (made_true e)) ls = h.listed.times (negation (made_true e)) in
       let there : slice_get middle.tallies.items k ≡ Some (record { total = t.total; trues = t.trues - times k us; falses = t.falses; passed = t.passed }) =
-      a.tallies k ∙ ap (option_map (changed_each Unmet k us)) h.there ∙ ap Some (unmet_each k us t.total t.trues t.falses t.passed) in
+      a.tallies k ∙ ap (option_map (changed_each UndoneTrue k us)) h.there ∙ ap Some (unmet_each k us t.total t.trues t.falses t.passed) in
       record {
         some = h.some;
         once = once_prefix es e h.once;
         tally = record { total = t.total; trues = t.trues - times k us; falses = t.falses - times k vs; passed = lowest k vs t.passed };
-        there = b.tallies k ∙ ap (λ w. option_map (changed_each Rose k (uses_at w.items fallen)) (slice_get middle.tallies.items k)) a.uses ∙ ap (option_map (changed_each Rose k vs)) there
+        there = b.tallies k ∙ ap (λ w. option_map (changed_each UndoneFalse k (uses_at w.items fallen)) (slice_get middle.tallies.items k)) a.uses ∙ ap (option_map (changed_each UndoneFalse k vs)) there
             ∙ ap Some (rose_each k vs t.total (t.trues - times k us) t.falses t.passed);
         counts = record {
           total = h.counts.total;
@@ -269,10 +269,10 @@ module _ (e : Entry) (old middle new : Tallies) where
     below = subst (λ n. AreBelow n new.uses.items) (sym long) (subst (λ xs. AreBelow (length old.tallies.items) xs.items) (sym us) h.below);
   }
 
-  pub tallies_add : Changes Met (index_in (made_true e)) old middle → Changes Fell (index_in (negation (made_true e))) middle new → (trail : List Entry) → assigned trail e.decision.variable.0 ≡ None → KeepsTallies trail (trail ++ e ∷ []) old new
+  pub tallies_add : Changes MadeTrue (index_in (made_true e)) old middle → Changes MadeFalse (index_in (negation (made_true e))) middle new → (trail : List Entry) → assigned trail e.decision.variable.0 ≡ None → KeepsTallies trail (trail ++ e ∷ []) old new
   tallies_add a b trail fresh = λ literals queue h. kept_numbers trail (trail ++ e ∷ []) (b.uses ∙ a.uses) (b.countings ∙ a.countings) (b.len ∙ a.len) literals queue h
       (λ i q k at number. add_one (literals q.requirement) trail e k old middle new fresh a b (h.each i q k at number))
 
-  pub tallies_undo : Changes Unmet (index_in (made_true e)) old middle → Changes Rose (index_in (negation (made_true e))) middle new → (trail : List Entry) → KeepsTallies (trail ++ e ∷ []) trail old new
+  pub tallies_undo : Changes UndoneTrue (index_in (made_true e)) old middle → Changes UndoneFalse (index_in (negation (made_true e))) middle new → (trail : List Entry) → KeepsTallies (trail ++ e ∷ []) trail old new
   tallies_undo a b trail = λ literals queue h. kept_numbers (trail ++ e ∷ []) trail (b.uses ∙ a.uses) (b.countings ∙ a.countings) (b.len ∙ a.len) literals queue h
       (λ i q k at number. undo_one (literals q.requirement) trail e k old middle new a b (h.each i q k at number))

@@ -17,7 +17,7 @@ use Rattle.resolvo_store_core.specs.declared.decide_queue.NextDecision.{NextDeci
 use Rattle.resolvo_store_core.specs.declared.decision_map.Assignment.{Assignment}
 use Rattle.resolvo_store_core.specs.declared.lists.FixedLists.{FixedLists}
 use Rattle.resolvo_decide.specs.declared.clause_states.ClauseState.{ClauseState}
-use Rattle.resolvo_decide.specs.declared.clause_states.ClauseState.TheVariants.{Open, Met, Idle}
+use Rattle.resolvo_decide.specs.declared.clause_states.ClauseState.TheVariants.{Open, Satisfied, Inactive}
 use Rattle.resolvo_decide.specs.declared.undecided_clauses.UndecidedClauses.{UndecidedClauses}
 use Rattle.resolvo_decide.specs.declared.tallies.Tallies.{Tallies}
 use Rattle.resolvo_decide.specs.States.{state_at}
@@ -38,14 +38,14 @@ places_at ps v = items_or_none (slice_get ps v)
 -- the state is satisfied within so many entries, or open
 abbrev pub IsMetNow : ℕ → ClauseState → Type 0
 IsMetNow count Open = ⊤
-IsMetNow count (Met within) = within ≡ count
-IsMetNow count Idle = ⊥
+IsMetNow count (Satisfied within) = within ≡ count
+IsMetNow count Inactive = ⊥
 
 -- the state of the clause is right under the trail, where requirements have these literals
 abbrev pub IsSoundState : (Requirement → List Signed) → List Entry → NeedClause → ClauseState → Type 0
 IsSoundState literals trail q Open = ⊤
-IsSoundState literals trail q (Met within) = is_met (take within trail) (literals q.requirement) ≡ true
-IsSoundState literals trail q Idle = is_true (value_in trail q.parent.0) ≡ false
+IsSoundState literals trail q (Satisfied within) = is_met (take within trail) (literals q.requirement) ≡ true
+IsSoundState literals trail q Inactive = is_true (value_in trail q.parent.0) ≡ false
 
 -- each clause has a tally of its own, and that of each clause of the queue is right under the trail
 pub record AreTallied (literals : Requirement → List Signed) (queue : List NeedClause) (trail : List Entry) (all : Tallies) : Type 0 where

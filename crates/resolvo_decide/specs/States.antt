@@ -2,7 +2,7 @@
 use Rattle.std.specs.Prelude.{◌≡◌, ℕ, ◌/◌, ◌<◌, ◌≤◌, cond, nat_lt, Bool, true, false, List, length, slice_index_or}
 use Rattle.resolvo_decide.specs.declared.clause_states.TheConstants.{BLOCK, GROUP}
 use Rattle.resolvo_decide.specs.declared.clause_states.ClauseState.{ClauseState}
-use Rattle.resolvo_decide.specs.declared.clause_states.ClauseState.TheVariants.{Open, Met, Idle}
+use Rattle.resolvo_decide.specs.declared.clause_states.ClauseState.TheVariants.{Open, Satisfied, Inactive}
 
 -- the state of the clause at a position; open past the end
 abbrev pub state_at : List ClauseState → ℕ → ClauseState
@@ -11,14 +11,14 @@ state_at states i = slice_index_or states i Open
 -- the clause may offer a decision
 abbrev pub is_open_state : ClauseState → Bool
 is_open_state Open = true
-is_open_state (Met within) = false
-is_open_state Idle = false
+is_open_state (Satisfied within) = false
+is_open_state Inactive = false
 
 -- the state once the trail has only a prefix of this length in common
 abbrev pub reopened : ℕ → ClauseState → ClauseState
 reopened common Open = Open
-reopened common (Met within) = cond (nat_lt common within) Open (Met within)
-reopened common Idle = Idle
+reopened common (Satisfied within) = cond (nat_lt common within) Open (Satisfied within)
+reopened common Inactive = Inactive
 
 -- whether a block may have an open clause; true past the end
 abbrev pub mark_at : List Bool → ℕ → Bool
@@ -35,8 +35,8 @@ AreGrouped states groups = (i : ℕ) → i < length states → mark_at groups (i
 -- the length of the trail's prefix that satisfies the clause; 0 where none is known
 abbrev pub met_within : ClauseState → ℕ
 met_within Open = 0
-met_within (Met within) = within
-met_within Idle = 0
+met_within (Satisfied within) = within
+met_within Inactive = 0
 
 -- the length of a prefix that bounds those of a block's clauses; the highest number is no bound
 abbrev pub bound_at : List ℕ → ℕ → ℕ

@@ -12,7 +12,7 @@ use Rattle.resolvo_decide.specs.declared.tallies.Counting.TheVariants.{Never, On
 use Rattle.resolvo_decide.specs.declared.tallies.Tallies.{Tallies}
 use Rattle.resolvo_decide.specs.declared.tallies.Use.{Use}
 use Rattle.resolvo_decide.specs.declared.tally.Change.{Change}
-use Rattle.resolvo_decide.specs.declared.tally.Change.TheVariants.{Met, Fell, Unmet, Rose}
+use Rattle.resolvo_decide.specs.declared.tally.Change.TheVariants.{MadeTrue, MadeFalse, UndoneTrue, UndoneFalse}
 use Rattle.resolvo_decide.specs.declared.tally.Tally.{Tally}
 
 -- one more, up to the total
@@ -21,10 +21,10 @@ one_more total n = cond (nat_lt n total) (n + 1) n
 
 -- the tally after a change of the candidate at a place
 abbrev pub changed : Change → ℕ → Tally → Tally
-changed Met place t = record t { trues = one_more t.total t.trues }
-changed Fell place t = record t { falses = one_more t.total t.falses }
-changed Unmet place t = record t { trues = t.trues - 1 }
-changed Rose place t = record t { falses = t.falses - 1; passed = min t.passed place }
+changed MadeTrue place t = record t { trues = one_more t.total t.trues }
+changed MadeFalse place t = record t { falses = one_more t.total t.falses }
+changed UndoneTrue place t = record t { trues = t.trues - 1 }
+changed UndoneFalse place t = record t { falses = t.falses - 1; passed = min t.passed place }
 
 -- the same for each use of the tally of this number
 abbrev pub changed_each : Change → ℕ → List Use → Tally → Tally

@@ -23,9 +23,9 @@ pub enum ClauseState {
     /// It may have something to decide.
     Open,
     /// Satisfied: a candidate is true in the trail's prefix of this length.
-    Met(u32),
+    Satisfied(u32),
     /// Its parent is not true.
-    Idle,
+    Inactive,
 }
 
 impl ClauseState {
@@ -44,7 +44,7 @@ impl ClauseState {
         ensures { result ≡ met_within self }
     {
         match self {
-            ClauseState::Met(within) => within,
+            ClauseState::Satisfied(within) => within,
             _ => 0,
         }
     }

@@ -4,8 +4,8 @@
 #![tactic(auto)]
 
 pub mod clause_states;
+mod lists_by_index;
 mod offer;
-mod rooms;
 pub mod scores;
 pub mod tallies;
 pub mod tally;

@@ -13,7 +13,7 @@ ghost use Rattle.resolvo_store_core.specs.declared.decision.Entry.{Entry};
 ghost use Rattle.resolvo_decide.specs.Tallies.{changed_each, uses_at, made_true, number_at, tally_in, Counts, Lists, HasNoTally, Changes, Begins};
 ghost use Rattle.resolvo_decide.specs.Needs.{KeepsTallies, KeepsCounted};
 
-use crate::rooms::make_room;
+use crate::lists_by_index::make_room;
 use crate::tally::{Change, Tally};
 use resolvo_pool_core::id::DenseIndex;
 use resolvo_pool_core::want::R;
@@ -94,8 +94,8 @@ impl Tallies {
             → assigned trail entry.decision.variable.0 ≡ None
             → KeepsTallies trail (trail ++ entry ∷ []) self.old self.new }
     {
-        self.change(index_made_true(entry), Change::Met);
-        self.change(index_made_false(entry), Change::Fell);
+        self.change(index_made_true(entry), Change::MadeTrue);
+        self.change(index_made_false(entry), Change::MadeFalse);
     }
 
     /// Changes the tallies after this last entry was removed from the trail.
@@ -103,8 +103,8 @@ impl Tallies {
         ensures kept { (trail : List Entry)
             → KeepsTallies (trail ++ entry ∷ []) trail self.old self.new }
     {
-        self.change(index_made_true(entry), Change::Unmet);
-        self.change(index_made_false(entry), Change::Rose);
+        self.change(index_made_true(entry), Change::UndoneTrue);
+        self.change(index_made_false(entry), Change::UndoneFalse);
     }
 
     /// Changes the tallies of the literal of this index.

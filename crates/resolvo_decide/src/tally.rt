@@ -8,13 +8,13 @@ ghost use Rattle.resolvo_decide.specs.Tallies.{changed, one_more};
 #[derive(Clone, Copy, Debug)]
 pub enum Change {
     /// It makes the candidate true.
-    Met,
+    MadeTrue,
     /// It makes the candidate false.
-    Fell,
+    MadeFalse,
     /// It is removed, and had made the candidate true.
-    Unmet,
+    UndoneTrue,
     /// It is removed, and had made the candidate false.
-    Rose,
+    UndoneFalse,
 }
 
 /// The candidates of a clause under the trail.
@@ -51,25 +51,25 @@ impl Tally {
             passed,
         } = self;
         match change {
-            Change::Met => Tally {
+            Change::MadeTrue => Tally {
                 total,
                 trues: one_more(total, trues),
                 falses,
                 passed,
             },
-            Change::Fell => Tally {
+            Change::MadeFalse => Tally {
                 total,
                 trues,
                 falses: one_more(total, falses),
                 passed,
             },
-            Change::Unmet => Tally {
+            Change::UndoneTrue => Tally {
                 total,
                 trues: trues.saturating_sub(1),
                 falses,
                 passed,
             },
-            Change::Rose => Tally {
+            Change::UndoneFalse => Tally {
                 total,
                 trues,
                 falses: falses.saturating_sub(1),

@@ -1,5 +1,5 @@
 //! The states of the need clauses of a queue: satisfied, idle, or undecided.
-//! They hold for the trail in `seen`. Each pick adds the new entries of the trail; `look_back` drops
+//! They hold for the trail in `seen`. Each pick adds the new entries of the trail; `truncate` drops
 //! those that a backjump removed.
 ghost use Rattle.std.specs.Prelude.{◌≡◌, ℕ, ◌<◌, ◌≤◌, ◌++◌, ◌∷◌, ◌⊎◌, [], take, drop, length, not, false, true, slice_get, Some, None, Contains, OnOk, IfOk, IfErr, IsOkUnless};
 ghost use Rattle.resolvo_pool_core.specs.declared.want.Want.TheVariants.{Memory};
@@ -18,8 +18,8 @@ ghost use Rattle.resolvo_decide.specs.Tallies.{has_true_in, HasNoTally};
 ghost use Rattle.resolvo_decide.specs.Needs.{literals_in, places_at, IsMetNow, IsSoundState, Fits, KeepsFitting, KeepsTallies, IsTalliedAt, OffersAtLeast, LeavesUndecided, IsPick, AddsNeed};
 
 use crate::clause_states::{ClauseState, ClauseStates};
+use crate::lists_by_index::make_room;
 use crate::offer::{behind_passed, offered, tallied_offer};
-use crate::rooms::make_room;
 use crate::scores::Scores;
 use crate::tallies::Tallies;
 use crate::tally::Tally;
@@ -80,7 +80,7 @@ impl UndecidedClauses {
     }
 
     /// The next decision under the trail: the pick over all clauses of the queue. The trail extends
-    /// the seen one; after a backjump, `look_back` must be called first. No clause offers a decision
+    /// the seen one; after a backjump, `truncate` must be called first. No clause offers a decision
     /// with fewer than `fewest` undecided candidates: 0 always holds, and 2 after propagation.
     pub fn next_decision<N: Copy + Eq, C: ScoreMap<N>>(
         &mut self,
@@ -102,7 +102,7 @@ impl UndecidedClauses {
         // After a refusal.
         ensures refusal { IsOkUnless result Memory }
     {
-        self.see_rest(trail.stack())?;
+        self.sync(trail.stack())?;
         let needs = queue.registered();
         let values = trail.map();
         let next = self.pick(needs, lists, values, &scores.map, scores.most(), fewest);
@@ -111,7 +111,7 @@ impl UndecidedClauses {
     }
 
     /// Drops the seen entries behind this many. The cost is that of the clauses that they satisfied.
-    pub fn look_back(&mut self, kept: usize)
+    pub fn truncate(&mut self, kept: usize)
         ensures seen { self.new.seen.items ≡ take kept self.old.seen.items }
         ensures fits { KeepsFitting self.old self.new }
     {
@@ -169,7 +169,7 @@ impl UndecidedClauses {
     }
 
     /// Adds the new entries of this trail.
-    fn see_rest(&mut self, trail: &[Entry]) -> R<()>
+    fn sync(&mut self, trail: &[Entry]) -> R<()>
         requires seen { IsPrefixOf self.old.seen.items trail.now }
         requires once { EachOnce trail.now }
         ensures seen { OnOk result (self.new.seen.items ≡ trail.now) }
@@ -178,13 +178,13 @@ impl UndecidedClauses {
     {
         let seen = self.seen.len();
         for entry in &trail[seen..] {
-            self.see_entry(*entry)?;
+            self.sync_entry(*entry)?;
         }
         Ok(())
     }
 
     /// Adds one entry, and opens the clauses of a variable that it makes true.
-    fn see_entry(&mut self, entry: Entry) -> R<()>
+    fn sync_entry(&mut self, entry: Entry) -> R<()>
         requires { assigned self.old.seen.items entry.decision.variable.0 ≡ None }
         ensures seen { OnOk result (self.new.seen.items ≡ self.old.seen.items ++ entry ∷ []) }
         ensures fits { OnOk result (KeepsFitting self.old self.new) }
@@ -193,13 +193,13 @@ impl UndecidedClauses {
         self.seen.push(entry)?;
         self.tallies.add_entry(entry);
         if entry.decision.value {
-            self.open_needs_of(entry.decision.variable);
+            self.open_clauses_of(entry.decision.variable);
         }
         Ok(())
     }
 
     /// Opens the clauses of a parent.
-    fn open_needs_of(&mut self, parent: VariableId)
+    fn open_clauses_of(&mut self, parent: VariableId)
         ensures opened { (i : ℕ)
             → Contains (places_at self.old.places.items parent.0) i
             → state_at self.new.states i ≡ Open }
@@ -338,7 +338,7 @@ impl UndecidedClauses {
             (λ _. (score : N → ℕ) → offer lists.now (value_at values.now) score need.now ≡ None) }
     {
         if values.value(need.parent) != Some(true) {
-            return Err(ClauseState::Idle);
+            return Err(ClauseState::Inactive);
         }
         let Some(candidates) = lists.candidates(need.requirement) else {
             return Err(ClauseState::Open);
@@ -359,7 +359,7 @@ impl UndecidedClauses {
         ensures { IsMetNow (length self.now.seen.items) result }
     {
         match u32::try_from(self.seen.len()) {
-            Ok(within) => ClauseState::Met(within),
+            Ok(within) => ClauseState::Satisfied(within),
             Err(_) => ClauseState::Open,
         }
     }

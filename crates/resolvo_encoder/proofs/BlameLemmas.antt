@@ -17,7 +17,7 @@ use Rattle.resolvo_sat.specs.State.{count_of, history, clauses_of}
 use Rattle.resolvo_sat.specs.Steps.{choice_entry}
 use Rattle.resolvo_sat.proofs.Literals.{negation-negation, has-cons}
 use Rattle.resolvo_sat.proofs.Trails.{known_from_level, level_le_last, level_from_entry}
-use Rattle.resolvo_sat.specs.Encoding.{IsExact, Atom, minus}
+use Rattle.resolvo_sat.specs.RuleClauses.{IsExact, Atom, minus}
 use Rattle.resolvo_sat.specs.Numbered.{Means, Denies}
 use Rattle.resolvo_sat.proofs.Turns.{turn_refused}
 use Rattle.resolvo_state.specs.declared.atom.ProofAtom.{ProofAtom}

@@ -18,7 +18,7 @@ use Rattle.resolvo_sat.specs.Steps.{AreInRange}
 use Rattle.resolvo_sat.proofs.Literals.{has-cons, has_here, has_later, has-append}
 use Rattle.resolvo_packages.specs.declared.package_source.Offered.{Offered}
 use Rattle.resolvo_packages.specs.PackageSource.{offered_solvables}
-use Rattle.resolvo_sat.specs.Encoding.{IsExact, Atom, Rule, plus, minus, case_literals, IsRule}
+use Rattle.resolvo_sat.specs.RuleClauses.{IsExact, Atom, Rule, plus, minus, case_literals, IsRule}
 use Rattle.resolvo_sat.specs.Numbered.{meaning, Means, Spells}
 use Rattle.resolvo_sat.proofs.GrowLemmas.{spells_agree}
 use Rattle.resolvo_sat.proofs.Lists.{contains_none, contains_only, contains_one, contains_left, contains_right, contains_parts, contains_map, map_contains}

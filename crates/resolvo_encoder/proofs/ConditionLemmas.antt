@@ -14,7 +14,7 @@ use Rattle.resolvo_store_core.specs.declared.decide_queue.NeedClause.{NeedClause
 use Rattle.resolvo_store_core.specs.declared.lists.FixedLists.{FixedLists}
 use Rattle.resolvo_sat.specs.Steps.{AreInRange}
 use Rattle.resolvo_sat.proofs.Literals.{has-cons, has_here, has_later, has-append, has_left, has_right}
-use Rattle.resolvo_sat.specs.Encoding.{Atom, case_literals}
+use Rattle.resolvo_sat.specs.RuleClauses.{Atom, case_literals}
 use Rattle.resolvo_sat.specs.Numbered.{meaning, Spells}
 use Rattle.resolvo_sat.proofs.Lists.{contains_left, contains_right, contains_parts}
 use Rattle.resolvo_sat.proofs.GrowLemmas.{spells_agree}

@@ -8,14 +8,14 @@ use Rattle.resolvo_pool_core.specs.RuleKeeping.{Packages}
 use Rattle.resolvo_store_core.specs.Signed.{Signed, has}
 use Rattle.resolvo_store_core.specs.Clauses.{no, root as root_variable}
 use Rattle.resolvo_sat.proofs.Literals.{has-cons, has_here, has_later}
-use Rattle.resolvo_sat.specs.Encoding.{Atom, Rule, plus, literals_of}
+use Rattle.resolvo_sat.specs.RuleClauses.{Atom, Rule, plus, literals_of}
 use Rattle.resolvo_sat.specs.Numbered.{meaning, Means, Spells}
 use Rattle.resolvo_sat.proofs.Lists.{contains_none, contains_first, contains_left, contains_right, contains_one, contains_parts, contained_any}
 use Rattle.resolvo_store_core.specs.AtMostOne.{digit}
 use Rattle.resolvo_state.specs.declared.clause_kind.ClauseKind.{ClauseKind}
 use Rattle.resolvo_state.specs.declared.clause_kind.ClauseKind.TheVariants as Kind
 use Rattle.resolvo_state.specs.ClauseKinds.{rule_of}
-use Rattle.resolvo_encoder.specs.Encoded.{Asks}
+use Rattle.resolvo_encoder.specs.Encoded.{IsRequiresRule}
 use Rattle.resolvo_encoder.proofs.RequireLemmas.{some_one}
 use Rattle.resolvo_encoder.specs.ClauseRules.{IsRestraint, IsPair}
 
@@ -32,7 +32,7 @@ is_choice l = is_choice_of l.atom l.positive
 
 module _ {N S : Type 0} where
   -- a restraint is no requires clause
-  pub asks_none : (r : Rule N S) → IsRestraint r → Asks r → ⊥
+  pub asks_none : (r : Rule N S) → IsRestraint r → IsRequiresRule r → ⊥
   asks_none (Rule.needs parent need case) d a = d
   asks_none (Rule.gated s r) d a = a
   asks_none (Rule.shared r) d a = d

@@ -3,7 +3,7 @@ use Rattle.std.proofs.Common.{◌≡◌, ℕ, zero, suc, ◌==◌, ◌&&◌, inl
 use Rattle.std.proofs.lemmas.Bool.{cases_Bool, and_from, and_parts}
 use Rattle.resolvo_pool_core.specs.RuleKeeping.{Packages, Rules}
 use Rattle.resolvo_store_core.specs.AtMostOne.{digit}
-use Rattle.resolvo_sat.specs.Encoding.{IsExact, Rule, AgreeWith}
+use Rattle.resolvo_sat.specs.RuleClauses.{IsExact, Rule, AgreeWith}
 use Rattle.resolvo_state.specs.declared.clause_kind.ClauseKind.{ClauseKind}
 use Rattle.resolvo_state.specs.ClauseKinds.{rule_of, rule_at, rules_in}
 use Rattle.resolvo_state.specs.Registered.{IsPlaced}

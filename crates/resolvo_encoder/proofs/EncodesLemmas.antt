@@ -15,12 +15,12 @@ use Rattle.resolvo_store_core.specs.Clauses.{yes, no, root as root_variable}
 use Rattle.resolvo_sat.specs.Steps.{AreInRange}
 use Rattle.resolvo_packages.specs.declared.package_source.ForbiddenSolvable.{ForbiddenSolvable}
 use Rattle.resolvo_packages.specs.declared.package_source.Offered.{Offered}
-use Rattle.resolvo_packages.specs.declared.package_source.Why.{Why}
-use Rattle.resolvo_packages.specs.declared.package_source.Why.TheVariants.{Locked, Excluded}
+use Rattle.resolvo_packages.specs.declared.package_source.ForbiddenBy.{ForbiddenBy}
+use Rattle.resolvo_packages.specs.declared.package_source.ForbiddenBy.TheVariants.{Locked, Excluded}
 use Rattle.resolvo_packages.specs.PackageSource.{offered_solvables, AreOutside}
 use Rattle.resolvo_packages.specs.Forbidden.{KeepsOut, forbidden_solvables, AreForbidden}
-use Rattle.resolvo_sat.specs.Encoding as rules
-use Rattle.resolvo_sat.specs.Encoding.{IsExact, Atom, Rule, ForbidReason, plus, minus, IsRule, IsForbiddenIn, IsForbidden, literals_of, parent_literals}
+use Rattle.resolvo_sat.specs.RuleClauses as rules
+use Rattle.resolvo_sat.specs.RuleClauses.{IsExact, Atom, Rule, ForbidReason, plus, minus, IsRule, IsForbiddenIn, IsForbidden, literals_of, parent_literals}
 use Rattle.resolvo_sat.specs.Numbered.{Spells, AreCalledFor}
 use Rattle.resolvo_sat.proofs.Lists.{contains_none, contains_only, contains_left, contains_right, contains_parts, contains_one, contains_map, map_contains}
 use Rattle.resolvo_sat.proofs.Members.{in_contained, contained_in}
@@ -172,7 +172,7 @@ module _ {N S : Type 0} (same : S → S → Bool) (exact : IsExact same) where
   pub kept_by_listing : (p : Packages N S) (n : N) (b : ForbiddenSolvable S) → (p.package_of b.solvable ≡ n) × KeepsOut same (listing_or_empty (p.candidates_of n)) b.solvable b.why → rules.KeepsOut same p (reason_of b.why) b.solvable
   kept_by_listing p n b (named, kept) = go b.why (subst (λ m. KeepsOut same (listing_or_empty (p.candidates_of m)) b.solvable b.why) (sym named) kept)
     where
-      go : (why : Why S) → KeepsOut same (listing_for same p b.solvable) b.solvable why → rules.KeepsOut same p (reason_of why) b.solvable
+      go : (why : ForbiddenBy S) → KeepsOut same (listing_for same p b.solvable) b.solvable why → rules.KeepsOut same p (reason_of why) b.solvable
       go (Locked l) (is, other, there) = (is, other, contained_in same exact p (listing_for same p b.solvable).candidates b.solvable there)
       go (Excluded reason) h = inl h
 

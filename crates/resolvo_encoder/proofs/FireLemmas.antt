@@ -26,7 +26,7 @@ use Rattle.resolvo_sat.specs.State.{history, count_of}
 use Rattle.resolvo_sat.specs.Steps.{AreInRange}
 use Rattle.resolvo_packages.specs.declared.package_source.Offered.{Offered}
 use Rattle.resolvo_packages.specs.PackageSource.{offered_solvables, AreOffered}
-use Rattle.resolvo_sat.specs.Encoding.{IsExact, Rule, case_holds, case_literals, cases_for}
+use Rattle.resolvo_sat.specs.RuleClauses.{IsExact, Rule, case_holds, case_literals, cases_for}
 use Rattle.resolvo_sat.specs.Numbered.{Spells}
 use Rattle.resolvo_sat.specs.SearchEnd.{IsNeedEncoded}
 use Rattle.resolvo_sat.proofs.Lists.{contains_none, contains_one, contains_parts, contained_any, all_contained, any_contained, contains_map}

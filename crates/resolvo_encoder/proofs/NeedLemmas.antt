@@ -20,7 +20,7 @@ use Rattle.resolvo_store_core.specs.declared.lists.FixedLists.{FixedLists}
 use Rattle.resolvo_store_core.specs.Lists.{has_candidates, candidates_in, condition_in, items_or_none}
 use Rattle.resolvo_store_core.specs.declared.decide_queue.NeedClause.{NeedClause}
 use Rattle.resolvo_store_core.specs.declared.lists.Candidate.{Candidate}
-use Rattle.resolvo_sat.specs.declared.state.SatClause.{SatClause}
+use Rattle.resolvo_sat.specs.declared.clause.SatClause.{SatClause}
 use Rattle.resolvo_sat.specs.Known.{clause_at}
 use Rattle.resolvo_sat.specs.State.{lists, clauses_of, history}
 use Rattle.resolvo_store_core.specs.declared.decision.Entry.{Entry}
@@ -28,7 +28,7 @@ use Rattle.resolvo_sat.specs.Entries.{IsOnTrail}
 use Rattle.resolvo_sat.specs.Begin.{IsRootClause, root_entry}
 use Rattle.resolvo_sat.proofs.Literals.{has-cons, has-append, has_here, has_later}
 use Rattle.resolvo_sat.proofs.Clauses.{literals_at}
-use Rattle.resolvo_sat.specs.Encoding.{IsExact, Atom, Rule, plus, minus, IsRule, literals_of, parent_literals, case_literals, candidate_literals, cases_under, cases_for, asks, has_condition, same_requirement}
+use Rattle.resolvo_sat.specs.RuleClauses.{IsExact, Atom, Rule, plus, minus, IsRule, literals_of, parent_literals, case_literals, candidate_literals, cases_under, cases_for, asks, has_condition, same_requirement}
 use Rattle.resolvo_sat.specs.SearchEnd.{HasClause}
 use Rattle.resolvo_sat.specs.Numbered.{meaning, Means, Spells}
 use Rattle.resolvo_sat.proofs.Lists.{contains_none, contains_cases, contains_first, contains_later, contains_left, contains_right, contains_one, contains_only, contains_parts, contained_any}
@@ -43,7 +43,7 @@ use Rattle.resolvo_state.specs.ClauseKinds.{rule_of, kind_at, rule_at}
 use Rattle.resolvo_state.specs.SolverState.{IsCoding, AddsRule, Gives}
 use Rattle.resolvo_state.specs.declared.registry.Member.{Member}
 use Rattle.resolvo_state.specs.Registered.{member, AreTied, IsTracked}
-use Rattle.resolvo_encoder.specs.Encoded.{IsParentVariable, IsCandidate, IsQueuedFor, Asks, IsGuarded, Registered, IsEncoding}
+use Rattle.resolvo_encoder.specs.Encoded.{IsParentVariable, IsCandidate, IsQueuedFor, IsRequiresRule, IsGuarded, Registered, IsEncoding}
 use Rattle.resolvo_encoder.specs.Encoded as E
 use Rattle.resolvo_encoder.specs.ClauseRules.{IsRestraint}
 use Rattle.resolvo_encoder.proofs.Denials.{makes_none, asks_none, not_digit, pair_spells}
@@ -468,7 +468,7 @@ module _ {N S : Type 0} (same : S → S → Bool) (exact : IsExact same) (p : Pa
       none : NoneAsks same exact p root lawful old new
       none n q low high at a =
           let one : rule ≡ q = some_one rule q (sym rule_here ∙ subst (λ k. rule_at new.coding.kinds.items k ≡ Some q) (place n low high) at) in
-          asks_none rule denial (subst Asks (sym one) a)
+          asks_none rule denial (subst IsRequiresRule (sym one) a)
 
       carries : Carries same exact p root old new
       carries = kept_carries same exact p root lawful old new e states.coding states.grows states.trail rest (λ n low high. subst (λ k. AddedClause same exact p root new k) (sym (place n low high)) right) none

@@ -6,7 +6,7 @@ use Rattle.resolvo_pool_core.specs.OnePass.{Literal}
 use Rattle.resolvo_pool_core.specs.RuleKeeping.{Packages, is_in}
 use Rattle.resolvo_store_core.specs.Lists.{has_candidates, candidates_in, items_or_none}
 use Rattle.resolvo_store_core.specs.declared.lists.Candidate.{Candidate}
-use Rattle.resolvo_sat.specs.Encoding.{Atom}
+use Rattle.resolvo_sat.specs.RuleClauses.{Atom}
 use Rattle.resolvo_sat.specs.First.{IsFirstPick}
 use Rattle.resolvo_sat.proofs.GrowLemmas.{first_pick_grows}
 use Rattle.resolvo_sat.proofs.Lists.{contains_none, contains_cases, contains_first, contains_later}

@@ -9,7 +9,7 @@ use Rattle.resolvo_pool_core.specs.Provider.{listed}
 use Rattle.resolvo_pool_core.specs.RuleKeeping.{Packages, Rules, IsLawful, is_in}
 use Rattle.resolvo_store_core.specs.AtMostOne.{digit}
 use Rattle.resolvo_store_core.specs.declared.lists.Candidate.{Candidate}
-use Rattle.resolvo_sat.specs.Encoding.{IsExact, Rule}
+use Rattle.resolvo_sat.specs.RuleClauses.{IsExact, Rule}
 use Rattle.resolvo_sat.proofs.Lists.{contains_none, contains_one, contains_only, contains_left, contains_right, contains_parts}
 use Rattle.resolvo_packages.specs.declared.package_source.Offered.{Offered}
 use Rattle.resolvo_state.specs.declared.atom.ProofAtom.{ProofAtom}
@@ -24,7 +24,7 @@ use Rattle.resolvo_state.proofs.Growth.{grows_same, trail_same, represents_grow,
 use Rattle.resolvo_state.proofs.Origins.{solvable_represents, represents_solvable}
 use Rattle.resolvo_state.proofs.Positions.{get_contains, prefix_same}
 use Rattle.resolvo_state.proofs.Rules.{rule_at_kind}
-use Rattle.resolvo_encoder.specs.Encoded.{IsCandidate, Asks, IsEncoding, IsWaiting, IsNamed}
+use Rattle.resolvo_encoder.specs.Encoded.{IsCandidate, IsRequiresRule, IsEncoding, IsWaiting, IsNamed}
 use Rattle.resolvo_encoder.specs.Encoded as E
 use Rattle.resolvo_encoder.specs.AtLeastOneClauses.{Admits, AreWaiting, PlacesAll, PlacesQueued, TracksAtLeastOne, CoversAll, CoversQueued}
 use Rattle.resolvo_encoder.specs.Steps.{IsBuilt, IsListed}
@@ -66,7 +66,7 @@ module _ {N S : Type 0} (same : S → S → Bool) (exact : IsExact same) (p : Pa
       none n q low high at a =
           let d = all.digits n low high in
           let is : Rule.has_digit d.solvable d.bit (digit d.place d.bit) ≡ q = some_one (Rule.has_digit d.solvable d.bit (digit d.place d.bit)) q (sym (rule_at_kind c.kinds.items n (Kind.Digit name d.solvable d.place d.bit) d.kinds) ∙ at) in
-          subst Asks (sym is) a
+          subst IsRequiresRule (sym is) a
 
       at_least_one : (n : N) (s : S) → Contains old.recorded.at_least_one.keys n → IsRegistered t c n s → E.rules_of (enrolled old t c) (Rule.is_there n s) ⊎ IsWaiting (enrolled old t c) n s
       at_least_one n s h a = elim (e.cases.at_least_one n s h (back n s a)) [

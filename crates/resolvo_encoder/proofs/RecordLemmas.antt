@@ -13,7 +13,7 @@ use Rattle.resolvo_store_core.specs.declared.lists.Candidate.{Candidate}
 use Rattle.resolvo_sat.specs.Entries.{literal_of, made_true, IsOnTrail}
 use Rattle.resolvo_sat.specs.State.{history}
 use Rattle.resolvo_sat.proofs.Trails.{known_from_level, level_from_entry}
-use Rattle.resolvo_sat.specs.Encoding.{IsExact, Atom, plus}
+use Rattle.resolvo_sat.specs.RuleClauses.{IsExact, Atom, plus}
 use Rattle.resolvo_sat.specs.Numbered.{meaning, known_of, AreCalledFor}
 use Rattle.resolvo_sat.proofs.Lists.{contains_one, contains_left, contains_parts}
 use Rattle.resolvo_sat.proofs.Members.{in_contained, contained_in}

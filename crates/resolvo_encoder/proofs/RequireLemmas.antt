@@ -23,7 +23,7 @@ use Rattle.resolvo_store_core.specs.declared.lists.Candidate.{Candidate}
 use Rattle.resolvo_store_core.specs.declared.lists.FixedLists.{FixedLists}
 use Rattle.resolvo_sat.specs.Known.{clause_at}
 use Rattle.resolvo_sat.specs.State.{clauses_of}
-use Rattle.resolvo_sat.specs.Encoding.{IsExact, Atom, Rule, plus, minus, IsRule, literals_of}
+use Rattle.resolvo_sat.specs.RuleClauses.{IsExact, Atom, Rule, plus, minus, IsRule, literals_of}
 use Rattle.resolvo_sat.specs.SearchEnd.{IsNeedEncoded, HasClause}
 use Rattle.resolvo_sat.specs.Numbered.{meaning, Means, Spells}
 use Rattle.resolvo_sat.proofs.Lists.{contains_none, contains_cases, contains_one, contains_map, map_contains}
@@ -41,7 +41,7 @@ use Rattle.resolvo_state.specs.ClauseKinds.{rule_of, kind_at, rule_at}
 use Rattle.resolvo_state.specs.SolverState.{IsCoding, Grows, SameTrail}
 use Rattle.resolvo_state.specs.Registered.{AreTied, IsTracked, IsQueued, IsRegistered, IsDigitClause, digit_literals}
 use Rattle.resolvo_encoder.specs.Cases.{case_of, IsDeferred}
-use Rattle.resolvo_encoder.specs.Encoded.{IsCandidate, AreCandidates, HasOrder, IsQueuedFor, Asks, IsGuarded, IsLimitEncoded, IsRecorded, IsCaseEncoded, IsParentEncoded, Registered, AreCased, IsEncoding, IsChosenFor}
+use Rattle.resolvo_encoder.specs.Encoded.{IsCandidate, AreCandidates, HasOrder, IsQueuedFor, IsRequiresRule, IsGuarded, IsLimitEncoded, IsRecorded, IsCaseEncoded, IsParentEncoded, Registered, AreCased, IsEncoding, IsChosenFor}
 use Rattle.resolvo_encoder.specs.Encoded as E
 use Rattle.resolvo_encoder.specs.Steps.{RegistersAll, KeepsLists, SameButCoding, Extends}
 use Rattle.resolvo_encoder.specs.declared.encoder.Deferred.{Deferred}
@@ -78,7 +78,7 @@ module _ {N S : Type 0} (same : S → S → Bool) (exact : IsExact same) (p : Pa
     pub offered : (r : Requirement) (s : S) → has_candidates new.lists r ≡ true → meets same p r s ≡ true → (c : Candidate N) × Contains (candidates_in new.lists r) c × IsCandidate new (p.package_of s) s c
     pub fixed : (r : Requirement) → HasClause same p (E.rules_of new) r → has_candidates new.lists r ≡ true
     pub queued : (q : NeedClause) → Contains new.queue q → IsQueuedFor same p new.lists new.coding.atoms.keys (kind_at new.coding.kinds.items q.clause.0) q
-    pub asked : (n : ℕ) (r : Rule N S) → rule_at new.coding.kinds.items n ≡ Some r → Asks r → (q : NeedClause) × Contains new.queue q × (q.clause.0 ≡ n)
+    pub asked : (n : ℕ) (r : Rule N S) → rule_at new.coding.kinds.items n ≡ Some r → IsRequiresRule r → (q : NeedClause) × Contains new.queue q × (q.clause.0 ≡ n)
     pub gates : (r : Requirement) (v : VariableId) → slot_of new.gates r ≡ Some v → Represents new.coding.atoms.keys v (Gate r) × E.rules_of new (Rule.shared r)
     pub within : new.encoded ≤ length new.parents.keys
     pub forbid : (r : Requirement) → HasClause same p (E.rules_of new) r → IsGuarded same p (E.rules_of new) r
@@ -274,7 +274,7 @@ module _ {N S : Type 0} (same : S → S → Bool) (exact : IsExact same) (p : Pa
 
   -- no added clause is a requires clause
   abbrev pub NoneAsks : Encoder N S → Encoder N S → Type 0
-  NoneAsks old new = (n : ℕ) (r : Rule N S) → length old.coding.search.clauses ≤ n → n < length new.coding.search.clauses → rule_at new.coding.kinds.items n ≡ Some r → Asks r → ⊥
+  NoneAsks old new = (n : ℕ) (r : Rule N S) → length old.coding.search.clauses ≤ n → n < length new.coding.search.clauses → rule_at new.coding.kinds.items n ≡ Some r → IsRequiresRule r → ⊥
 
   pub fixed_keeps : (old new : Encoder N S) → IsEncoding same p root old → IsCoding new.coding → Grows old.coding new.coding → ((r : Requirement) → has_candidates old.lists r ≡ true → has_candidates new.lists r ≡ true) → NoneAsks old new
       → (r : Requirement) → HasClause same p (E.rules_of new) r → has_candidates new.lists r ≡ true
@@ -288,7 +288,7 @@ module _ {N S : Type 0} (same : S → S → Bool) (exact : IsExact same) (p : Pa
   ]
 
   pub asked_keeps : (old new : Encoder N S) → IsEncoding same p root old → IsCoding new.coding → Grows old.coding new.coding → new.queue ≡ old.queue → NoneAsks old new
-      → (n : ℕ) (r : Rule N S) → rule_at new.coding.kinds.items n ≡ Some r → Asks r → (q : NeedClause) × Contains new.queue q × (q.clause.0 ≡ n)
+      → (n : ℕ) (r : Rule N S) → rule_at new.coding.kinds.items n ≡ Some r → IsRequiresRule r → (q : NeedClause) × Contains new.queue q × (q.clause.0 ≡ n)
   asked_keeps old new e coding grows queue none n r at a = elim (rule_split old.coding new.coding e.coding coding grows n r at) [
     | inl b ↦ let (q, c, d) = e.asked n r b a in (q, subst (λ qs. Contains qs q) (sym queue) c, d)
     | inr (low, high) ↦ absurd (none n r low high at a)

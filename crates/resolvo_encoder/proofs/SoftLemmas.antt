@@ -12,7 +12,7 @@ use Rattle.resolvo_sat.specs.Analysis.{IsRefuted}
 use Rattle.resolvo_sat.specs.Entries.{made_true}
 use Rattle.resolvo_sat.specs.Known.{IsUndecided}
 use Rattle.resolvo_sat.specs.State.{history}
-use Rattle.resolvo_sat.specs.Encoding.{IsExact, Atom}
+use Rattle.resolvo_sat.specs.RuleClauses.{IsExact, Atom}
 use Rattle.resolvo_sat.specs.Numbered.{meaning}
 use Rattle.resolvo_sat.proofs.Members.{contained_in}
 use Rattle.resolvo_state.specs.Atoms.{origin}

@@ -12,7 +12,7 @@ use Rattle.resolvo_store_core.specs.Clauses.{yes}
 use Rattle.resolvo_store_core.specs.Lists.{has_candidates, candidates_in}
 use Rattle.resolvo_store_core.specs.declared.decide_queue.NeedClause.{NeedClause}
 use Rattle.resolvo_sat.specs.declared.propagate_and_learn.StepResult.{StepResult}
-use Rattle.resolvo_sat.specs.declared.state.SatClause.{SatClause}
+use Rattle.resolvo_sat.specs.declared.clause.SatClause.{SatClause}
 use Rattle.resolvo_sat.specs.declared.state.SatState.{SatState}
 use Rattle.resolvo_sat.specs.declared.state.VariableKind.{VariableKind}
 use Rattle.resolvo_sat.specs.declared.watch_lists.WatchLists.{WatchLists}
@@ -25,7 +25,7 @@ use Rattle.resolvo_sat.proofs.Clauses.{length-lists}
 use Rattle.resolvo_sat.proofs.ImproveLemmas.{extends_heavier, extends_earlier, choice_heavier, choice_earlier, undo_earlier, weight_falls}
 use Rattle.resolvo_sat.proofs.StepLemmas.{lists-append, clause_at_end}
 use Rattle.resolvo_decide.specs.declared.undecided_clauses.UndecidedClauses.{UndecidedClauses}
-use Rattle.resolvo_sat.specs.Encoding.{IsExact, Atom, Rule, plus}
+use Rattle.resolvo_sat.specs.RuleClauses.{IsExact, Atom, Rule, plus}
 use Rattle.resolvo_sat.specs.SearchEnd.{HasClause}
 use Rattle.resolvo_sat.specs.Numbered.{meaning, Means, known_of, AreCalledFor}
 use Rattle.resolvo_state.specs.declared.atom.ProofAtom.{ProofAtom}
@@ -35,7 +35,7 @@ use Rattle.resolvo_state.specs.declared.registry.Registry.{Registry}
 use Rattle.resolvo_state.specs.declared.clause_kind.ClauseKind.{ClauseKind}
 use Rattle.resolvo_state.specs.declared.clause_kind.ClauseKind.TheVariants as Kind
 use Rattle.resolvo_state.specs.Atoms.{origin, Represents}
-use Rattle.resolvo_state.specs.SolverState.{IsCoding, Advances, KeepsCode, learnt_by, AddsDenial}
+use Rattle.resolvo_state.specs.SolverState.{IsCoding, Advances, KeepsClauses, learnt_by, AddsDenial}
 use Rattle.resolvo_state.specs.Registered.{AreTied, IsTracked, IsRegistered}
 use Rattle.resolvo_state.specs.Spelled.{AreRegistered}
 use Rattle.resolvo_state.specs.ClauseKinds.{kind_at, rule_at}
@@ -187,7 +187,7 @@ module _ {N S : Type 0} (old : Encoder N S) (c : SolverState N S) where
       h.from l (subst (λ (ls : List Signed). has ls l ≡ true) here present)
 
   -- where clauses, variables, origins and kinds are unchanged
-  pub kept_goes : KeepsCode old.coding c → c.search.base_level ≡ old.coding.search.base_level → KeepsUpTo (old.coding.search.base_level - 1) old.coding.search c.search → GoesOn old went
+  pub kept_goes : KeepsClauses old.coding c → c.search.base_level ≡ old.coding.search.base_level → KeepsUpTo (old.coding.search.base_level - 1) old.coding.search c.search → GoesOn old went
   kept_goes kept base_level earlier = record {
     rest = step_rest;
     coding = kept.coding;
@@ -230,11 +230,11 @@ module _ {N S : Type 0} (old : Encoder N S) (c : SolverState N S) where
       let here : clause_at (clauses_of c.search) n ≡ forbids.clause.literals.items = ap (λ (cs : List (List Signed)). clause_at cs n) added ∙ ap (λ (k : ℕ). clause_at (lists old.coding.search.clauses ++ forbids.clause.literals.items ∷ []) k) place ∙ clause_at_end (lists old.coding.search.clauses) forbids.clause.literals.items in
       from l (subst (λ (ls : List Signed). has ls l ≡ true) (here ∙ forbids.literals) present)
 
-  pub choice_goes : (v : VariableId) (clause : ClauseId) → Chooses v clause old.coding.search c.search → KeepsCode old.coding c → GoesOn old went
+  pub choice_goes : (v : VariableId) (clause : ClauseId) → Chooses v clause old.coding.search c.search → KeepsClauses old.coding c → GoesOn old went
   choice_goes v clause chosen kept = kept_goes kept chosen.same.base_level (λ base low ends. choice_earlier old.coding.search c.search v clause base chosen ends)
 
   -- undoing the turn's entries keeps the trail before it
-  pub undo_goes : (level : ℕ) → old.coding.search.base_level - 1 ≤ level → Undoes level old.coding.search c.search → KeepsCode old.coding c → GoesOn old went
+  pub undo_goes : (level : ℕ) → old.coding.search.base_level - 1 ≤ level → Undoes level old.coding.search c.search → KeepsClauses old.coding c → GoesOn old went
   undo_goes level low undoes kept = kept_goes kept undoes.same.base_level (λ base under ends. undo_earlier old.coding.search c.search level base undoes (omega arith) ends)
 
   module _ (same : S → S → Bool) (exact : IsExact same) (p : Packages N S) (root : Rules) (lawful : IsLawful p) where
@@ -252,7 +252,7 @@ module _ {N S : Type 0} (old : Encoder N S) (c : SolverState N S) where
         (called_grows_trail (IsChosenFor same p old) (IsChosenFor same p went) (chosen_grows old went goes.grows (λ r h. refl) refl same p) old.coding c e.coding goes.grows forbids.trail e.called)
 
     -- so does a justified decision
-    pub choice_keeps : (v : VariableId) (clause : ClauseId) → Chooses v clause old.coding.search c.search → KeepsCode old.coding c
+    pub choice_keeps : (v : VariableId) (clause : ClauseId) → Chooses v clause old.coding.search c.search → KeepsClauses old.coding c
         → IsChosenFor same p old (known_of (origin old.coding.atoms.keys) (history old.coding.search)) (meaning (origin old.coding.atoms.keys) (yes v)) → IsEncoding same p root old → IsEncoding same p root went
     choice_keeps v clause chosen kept now e =
         let goes = choice_goes v clause chosen kept in
@@ -261,7 +261,7 @@ module _ {N S : Type 0} (old : Encoder N S) (c : SolverState N S) where
         (called_chooses (IsChosenFor same p old) (IsChosenFor same p went) (chosen_grows old went goes.grows (λ r h. refl) refl same p) old.coding c v clause chosen kept now e.called)
 
     -- so does undoing entries
-    pub undo_keeps : (level : ℕ) → old.coding.search.base_level - 1 ≤ level → Undoes level old.coding.search c.search → KeepsCode old.coding c → IsEncoding same p root old → IsEncoding same p root went
+    pub undo_keeps : (level : ℕ) → old.coding.search.base_level - 1 ≤ level → Undoes level old.coding.search c.search → KeepsClauses old.coding c → IsEncoding same p root old → IsEncoding same p root went
     undo_keeps level low undoes kept e =
         let goes = undo_goes level low undoes kept in
         stays same exact p root lawful old went e goes

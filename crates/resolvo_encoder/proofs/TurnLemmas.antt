@@ -28,7 +28,7 @@ use Rattle.resolvo_sat.specs.Propagation.{IsQuiet}
 use Rattle.resolvo_sat.specs.State.{history, count_of, clauses_of}
 use Rattle.resolvo_sat.proofs.Trails.{consistent, known_in_range, level_steps, root_known}
 use Rattle.resolvo_sat.proofs.Literals.{negation-negation}
-use Rattle.resolvo_sat.specs.Encoding.{IsExact, Atom, Rule, plus, minus, case_holds, parent_literals, case_literals, candidate_literals, literals_of, AgreeWith}
+use Rattle.resolvo_sat.specs.RuleClauses.{IsExact, Atom, Rule, plus, minus, case_holds, parent_literals, case_literals, candidate_literals, literals_of, AgreeWith}
 use Rattle.resolvo_sat.specs.SearchEnd as Ending
 use Rattle.resolvo_sat.specs.First.{ArePreferred, IsFirstPick}
 use Rattle.resolvo_sat.specs.Numbered.{meaning, Means, known_of, IsTurnEnd}
@@ -49,7 +49,7 @@ use Rattle.resolvo_state.proofs.Origins.{count_is, coding_once, means_atom, mean
 use Rattle.resolvo_state.proofs.Growth.{represents_once, represents_in_range, coding_coded}
 use Rattle.resolvo_state.proofs.RegisterLemmas.{by_digits}
 use Rattle.resolvo_state.specs.Registered.{IsRegistered}
-use Rattle.resolvo_encoder.specs.Encoded.{IsParentVariable, IsCandidate, AreOrdered, IsCondition, IsQueuedFor, Asks, IsParentEncoded, IsEncoding, Registered, IsChosenFor, HasOrder}
+use Rattle.resolvo_encoder.specs.Encoded.{IsParentVariable, IsCandidate, AreOrdered, IsCondition, IsQueuedFor, IsRequiresRule, IsParentEncoded, IsEncoding, Registered, IsChosenFor, HasOrder}
 use Rattle.resolvo_encoder.specs.Cases.{IsDeferred}
 use Rattle.resolvo_encoder.specs.Conditions.{AreSpent}
 use Rattle.resolvo_encoder.specs.Encoded as E
@@ -228,7 +228,7 @@ module _ {N S : Type 0} (same : S → S → Bool) (exact : IsExact same) (p : Pa
   rule_encoded r (inl k) = k.present
   rule_encoded r (inr k) = k.present
 
-  rule_asks : (r : Requirement) (k : Ending.IsAsked same p (E.rules_of e) (known_of (origin e.coding.atoms.keys) (history e.coding.search)) r) → Asks (Ending.asking same p (E.rules_of e) (known_of (origin e.coding.atoms.keys) (history e.coding.search)) r k)
+  rule_asks : (r : Requirement) (k : Ending.IsAsked same p (E.rules_of e) (known_of (origin e.coding.atoms.keys) (history e.coding.search)) r) → IsRequiresRule (Ending.asking same p (E.rules_of e) (known_of (origin e.coding.atoms.keys) (history e.coding.search)) r k)
   rule_asks r (inl k) = tt
   rule_asks r (inr k) = tt
 

@@ -8,7 +8,7 @@ use Rattle.resolvo_store_core.specs.Signed.{Signed}
 use Rattle.resolvo_sat.specs.State.{count_of}
 use Rattle.resolvo_sat.specs.Steps.{AreInRange}
 use Rattle.resolvo_packages.specs.declared.package_source.Offered.{Offered}
-use Rattle.resolvo_sat.specs.Encoding.{Rule, case_literals}
+use Rattle.resolvo_sat.specs.RuleClauses.{Rule, case_literals}
 use Rattle.resolvo_sat.specs.Numbered.{Spells}
 use Rattle.resolvo_state.specs.declared.atom.ProofAtom.TheVariants.{Solvable}
 use Rattle.resolvo_state.specs.Atoms.{origin, Represents}

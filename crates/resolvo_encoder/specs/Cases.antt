@@ -6,7 +6,7 @@ use Rattle.resolvo_pool_core.specs.declared.requirement.ConditionalRequirement.{
 use Rattle.resolvo_pool_core.specs.RuleKeeping.{Packages, Rules, is_in, is_match, rules_for}
 use Rattle.resolvo_store_core.specs.declared.conditions.DeferredConjunct.{DeferredConjunct}
 use Rattle.resolvo_store_core.specs.Deferred.{version_set_of, candidates_of}
-use Rattle.resolvo_sat.specs.Encoding.{cases_for}
+use Rattle.resolvo_sat.specs.RuleClauses.{cases_for}
 use Rattle.resolvo_packages.specs.PackageSource.{AreOutside}
 use Rattle.resolvo_encoder.specs.declared.encoder.Deferred.{Deferred}
 use Rattle.resolvo_encoder.specs.declared.encoder.Encoder.{Encoder}

@@ -4,11 +4,11 @@ use Rattle.resolvo_pool_core.specs.declared.id.ClauseId.{ClauseId}
 use Rattle.resolvo_pool_core.specs.declared.id.VersionSetId.{VersionSetId}
 use Rattle.resolvo_packages.specs.declared.package_source.ForbiddenSolvable.{ForbiddenSolvable}
 use Rattle.resolvo_packages.specs.declared.package_source.Offered.{Offered}
-use Rattle.resolvo_packages.specs.declared.package_source.Why.{Why}
-use Rattle.resolvo_packages.specs.declared.package_source.Why.TheVariants.{Locked, Excluded}
+use Rattle.resolvo_packages.specs.declared.package_source.ForbiddenBy.{ForbiddenBy}
+use Rattle.resolvo_packages.specs.declared.package_source.ForbiddenBy.TheVariants.{Locked, Excluded}
 use Rattle.resolvo_pool_core.specs.RuleKeeping.{Packages, Rules, IsLawful}
 use Rattle.resolvo_store_core.specs.Signed.{Signed}
-use Rattle.resolvo_sat.specs.Encoding.{Rule, ForbidReason, IsRule}
+use Rattle.resolvo_sat.specs.RuleClauses.{Rule, ForbidReason, IsRule}
 use Rattle.resolvo_state.specs.declared.clause_kind.ClauseKind.{ClauseKind}
 use Rattle.resolvo_state.specs.SolverState.{AddsRule}
 use Rattle.resolvo_encoder.specs.declared.encoder.Encoder.{Encoder}
@@ -50,7 +50,7 @@ pub record EncodesRules {N S : Type 0} (same : S → S → Bool) (rules : List (
   pub encoding : (p : Packages N S) (root : Rules) → IsLawful p → IsEncoding same p root old → ((r : Rule N S) → Contains rules r → IsRule same p root r) → IsEncoding same p root new × ((r : Rule N S) → Contains rules r → rules_of new r)
 
 -- the reason for which a solvable is forbidden, as a rule gives it
-abbrev pub reason_of : {S : Type 0} → Why S → ForbidReason S
+abbrev pub reason_of : {S : Type 0} → ForbiddenBy S → ForbidReason S
 reason_of (Locked locked) = ForbidReason.lock locked
 reason_of (Excluded reason) = ForbidReason.word reason
 

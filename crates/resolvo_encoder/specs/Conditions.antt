@@ -9,7 +9,7 @@ use Rattle.resolvo_store_core.specs.Clauses.{yes}
 use Rattle.resolvo_store_core.specs.Signed.{has}
 use Rattle.resolvo_sat.specs.Entries.{made_true}
 use Rattle.resolvo_sat.specs.State.{history}
-use Rattle.resolvo_sat.specs.Encoding.{case_holds}
+use Rattle.resolvo_sat.specs.RuleClauses.{case_holds}
 use Rattle.resolvo_state.specs.declared.atom.ProofAtom.TheVariants.{Solvable}
 use Rattle.resolvo_state.specs.Atoms.{Represents}
 use Rattle.resolvo_state.specs.Chosen.{AreChosen}

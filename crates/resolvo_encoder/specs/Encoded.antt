@@ -20,7 +20,7 @@ use Rattle.resolvo_store_core.specs.Lists.{has_candidates, candidates_in, condit
 use Rattle.resolvo_sat.specs.State.{history}
 use Rattle.resolvo_sat.specs.Steps.{AreInRange}
 use Rattle.resolvo_pool_core.specs.OnePass.{Literal}
-use Rattle.resolvo_sat.specs.Encoding.{Atom, Rule, case_literals, cases_for, IsRule, IsForbiddenIn, IsForbidden}
+use Rattle.resolvo_sat.specs.RuleClauses.{Atom, Rule, case_literals, cases_for, IsRule, IsForbiddenIn, IsForbidden}
 use Rattle.resolvo_sat.specs.SearchEnd.{IsNeedEncoded, HasClause, IsSoftChoice}
 use Rattle.resolvo_sat.specs.First.{IsFirstPick}
 use Rattle.resolvo_sat.specs.Numbered.{Spells, AreCalledFor}
@@ -110,16 +110,16 @@ module _ {N S : Type 0} (same : S → S → Bool) (p : Packages N S) (lists : Fi
   IsQueuedFor atoms (Some Kind.Learnt) q = ⊥
 
 -- the rule's clause is a requires clause
-abbrev pub Asks : {N S : Type 0} → Rule N S → Type 0
-Asks (Rule.needs parent need case) = Unit {0}
-Asks (Rule.gated s r) = ⊥
-Asks (Rule.shared r) = Unit {0}
-Asks (Rule.limits parent v s) = ⊥
-Asks (Rule.limits_outside parent v) = ⊥
-Asks (Rule.is_out v s) = ⊥
-Asks (Rule.forbids w s) = ⊥
-Asks (Rule.has_digit s bit b) = ⊥
-Asks (Rule.is_there n s) = ⊥
+abbrev pub IsRequiresRule : {N S : Type 0} → Rule N S → Type 0
+IsRequiresRule (Rule.needs parent need case) = Unit {0}
+IsRequiresRule (Rule.gated s r) = ⊥
+IsRequiresRule (Rule.shared r) = Unit {0}
+IsRequiresRule (Rule.limits parent v s) = ⊥
+IsRequiresRule (Rule.limits_outside parent v) = ⊥
+IsRequiresRule (Rule.is_out v s) = ⊥
+IsRequiresRule (Rule.forbids w s) = ⊥
+IsRequiresRule (Rule.has_digit s bit b) = ⊥
+IsRequiresRule (Rule.is_there n s) = ⊥
 
 module _ {N S : Type 0} (same : S → S → Bool) (p : Packages N S) (rules : Rule N S → Type 0) where
   -- clauses encode the locks and exclusions of the requirement's packages
@@ -187,7 +187,7 @@ module _ {N S : Type 0} (same : S → S → Bool) (p : Packages N S) (root : Rul
     -- queue
     pub fixed : (r : Requirement) → HasClause same p (rules_of e) r → has_candidates e.lists r ≡ true
     pub queued : (q : NeedClause) → Contains e.queue q → IsQueuedFor same p e.lists e.coding.atoms.keys (kind_at e.coding.kinds.items q.clause.0) q
-    pub asked : (n : ℕ) (r : Rule N S) → rule_at e.coding.kinds.items n ≡ Some r → Asks r → (q : NeedClause) × Contains e.queue q × (q.clause.0 ≡ n)
+    pub asked : (n : ℕ) (r : Rule N S) → rule_at e.coding.kinds.items n ≡ Some r → IsRequiresRule r → (q : NeedClause) × Contains e.queue q × (q.clause.0 ≡ n)
     -- each gate has its clause
     pub gates : (r : Requirement) (v : VariableId) → slot_of e.gates r ≡ Some v → Represents e.coding.atoms.keys v (Gate r) × rules_of e (Rule.shared r)
     -- the locks and exclusions of candidates of requires clauses are encoded, and so is all that is

@@ -22,10 +22,10 @@ use Rattle.resolvo_pool_core.specs.declared.id.VersionSetId.{VersionSetId}
 use Rattle.resolvo_pool_core.specs.declared.requirement.ConditionalRequirement.{ConditionalRequirement}
 use Rattle.resolvo_decide.specs.Needs.{literals_in, Fits, AddsNeed}
 use Rattle.resolvo_decide.specs.Tallies.{HasNoTally}
-use Rattle.resolvo_sat.specs.Encoding.{Rule, cases_for, IsRule}
+use Rattle.resolvo_sat.specs.RuleClauses.{Rule, cases_for, IsRule}
 use Rattle.resolvo_sat.specs.Known.{clause_at}
 use Rattle.resolvo_sat.specs.State.{lists}
-use Rattle.resolvo_sat.specs.declared.state.SatClause.{SatClause}
+use Rattle.resolvo_sat.specs.declared.clause.SatClause.{SatClause}
 use Rattle.resolvo_state.specs.declared.atom.ProofAtom.{ProofAtom}
 use Rattle.resolvo_state.specs.declared.atom.ProofAtom.TheVariants.{Solvable, Gate}
 use Rattle.resolvo_state.specs.declared.clause_kind.ClauseKind.TheVariants as Kind

@@ -3,7 +3,7 @@
 ghost use Rattle.std.specs.Prelude.{◌≡◌, ◌<◌, ◌∷◌, [], OnOk, IfOk, IsErrOf, IsOkUnless};
 ghost use Rattle.resolvo_pool_core.specs.declared.want.Want.TheVariants.{Memory, Ids};
 ghost use Rattle.resolvo_store_core.specs.Clauses.{no, candidate_literals};
-ghost use Rattle.resolvo_sat.specs.Encoding.{Rule};
+ghost use Rattle.resolvo_sat.specs.RuleClauses.{Rule};
 ghost use Rattle.resolvo_state.specs.SolverState.{LacksNumber};
 ghost use Rattle.resolvo_encoder.specs.Steps.{IsBuilt};
 ghost use Rattle.resolvo_encoder.specs.ClauseRules.{EncodesRules};

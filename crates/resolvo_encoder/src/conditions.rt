@@ -7,7 +7,7 @@ ghost use Rattle.resolvo_pool_core.specs.RuleKeeping.{Packages, Rules, IsLawful,
 ghost use Rattle.resolvo_store_core.specs.Deferred.{candidates_of};
 ghost use Rattle.resolvo_store_core.specs.declared.conditions.DeferredConjunct.{DeferredConjunct};
 ghost use Rattle.resolvo_packages.specs.PackageSource.{AreOffered, offered_solvables};
-ghost use Rattle.resolvo_sat.specs.Encoding.{cases_for};
+ghost use Rattle.resolvo_sat.specs.RuleClauses.{cases_for};
 ghost use Rattle.resolvo_sat.specs.SearchEnd.{IsNeedEncoded};
 ghost use Rattle.resolvo_encoder.specs.Encoded.{rules_of, IsGuarded, IsEncoding};
 ghost use Rattle.resolvo_encoder.specs.Steps.{IsBuilt, Extends, AddsCandidates, LacksNumberFor};

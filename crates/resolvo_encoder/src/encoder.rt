@@ -12,7 +12,7 @@ ghost use Rattle.resolvo_store_core.specs.Lists.{has_candidates, candidates_in, 
 ghost use Rattle.resolvo_sat.specs.State.{count_of};
 ghost use Rattle.resolvo_sat.specs.Steps.{AreInRange};
 ghost use Rattle.resolvo_packages.specs.PackageSource.{AreOffered};
-ghost use Rattle.resolvo_sat.specs.Encoding.{Rule, IsRule};
+ghost use Rattle.resolvo_sat.specs.RuleClauses.{Rule, IsRule};
 ghost use Rattle.resolvo_sat.specs.SearchEnd.{IsNeedEncoded};
 ghost use Rattle.resolvo_state.specs.declared.atom.ProofAtom.TheVariants.{Gate};
 ghost use Rattle.resolvo_state.specs.Atoms.{Represents};
@@ -314,7 +314,7 @@ impl<N: Copy + Exact + Hash + Debug + Drop, S: Copy + Exact + Hash + Debug> Enco
         ensures ids { IsErrOf result Ids → LacksNumber self.new.coding }
     {
         let literals = self.literals_of(alloc, variable, condition, requirement)?;
-        let clause = self.coding.state(kind, literals)?;
+        let clause = self.coding.add_clause(kind, literals)?;
         self.queue.register_clause(NeedClause {
             parent: variable,
             requirement,
@@ -381,7 +381,7 @@ impl<N: Copy + Exact + Hash + Debug + Drop, S: Copy + Exact + Hash + Debug> Enco
             solvable,
             requirement,
         };
-        self.coding.state(kind, literals)?;
+        self.coding.add_clause(kind, literals)?;
         Ok(())
     }
 

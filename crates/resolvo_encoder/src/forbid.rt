@@ -8,7 +8,7 @@ ghost use Rattle.resolvo_store_core.specs.Clauses.{no, root as root_variable};
 ghost use Rattle.resolvo_sat.specs.State.{count_of};
 ghost use Rattle.resolvo_packages.specs.PackageSource.{AreOutside};
 ghost use Rattle.resolvo_packages.specs.Forbidden.{AreForbidden};
-ghost use Rattle.resolvo_sat.specs.Encoding.{Rule, ForbidReason, IsForbiddenIn, IsForbidden};
+ghost use Rattle.resolvo_sat.specs.RuleClauses.{Rule, ForbidReason, IsForbiddenIn, IsForbidden};
 ghost use Rattle.resolvo_state.specs.Atoms.{Represents};
 ghost use Rattle.resolvo_state.specs.SolverState.{IsCoding, LacksNumber};
 ghost use Rattle.resolvo_state.specs.ClauseKinds.{rule_of};
@@ -17,7 +17,7 @@ ghost use Rattle.resolvo_encoder.specs.Steps.{IsBuilt, Extends};
 ghost use Rattle.resolvo_encoder.specs.ClauseRules.{IsPair, EncodesPair, EncodesRules, reason_of, forbid_rules, limit_rules, out_rules};
 
 use crate::encoder::{Encoder, GATED, add_key};
-use resolvo_packages::package_source::{ForbiddenSolvable, Offered, Why};
+use resolvo_packages::package_source::{ForbiddenBy, ForbiddenSolvable, Offered};
 use resolvo_pool_core::id::{Exact, StringId, VariableId, VersionSetId};
 use resolvo_pool_core::want::R;
 use resolvo_state::atom::ProofAtom;
@@ -322,7 +322,7 @@ impl<N: Copy + Exact + Hash + Debug + Drop, S: Copy + Exact + Hash + Debug> Enco
         ensures ids { IsErrOf result Ids → LacksNumber self.new.coding }
     {
         let literals = pair_of(alloc, first, second)?;
-        self.coding.state(kind, literals)?;
+        self.coding.add_clause(kind, literals)?;
         Ok(())
     }
 }
@@ -359,11 +359,11 @@ fn forbid_kind<N, S: Copy>(barred: ForbiddenSolvable<S>) -> ClauseKind<N, S>
     ensures { rule_of result ≡ Some (Rule.forbids (reason_of barred.why) barred.solvable) }
 {
     match barred.why {
-        Why::Locked { locked } => ClauseKind::Locked {
+        ForbiddenBy::Locked { locked } => ClauseKind::Locked {
             locked,
             barred: barred.solvable,
         },
-        Why::Excluded { reason } => ClauseKind::Excluded {
+        ForbiddenBy::Excluded { reason } => ClauseKind::Excluded {
             solvable: barred.solvable,
             reason,
         },

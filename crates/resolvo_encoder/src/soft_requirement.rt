@@ -31,7 +31,7 @@ impl<N: Copy + Exact + Hash + Debug + Drop, S: Copy + Exact + Hash + Debug> Enco
         ensures built { IsBuilt self.new }
     {
         let level = self.coding.search.top_level() + 1;
-        self.coding.set_floor(level);
+        self.coding.set_base_level(level);
     }
 
     /// Decides a soft requirement at the first level of its turn, unless it is true. Where it is

@@ -92,7 +92,7 @@ impl<N: Copy + Exact + Hash + Debug + Drop, S: Copy + Exact + Hash + Debug> Enco
         let level = self.coding.search.base_level.saturating_sub(1);
         self.coding.undo_until(level.max(1));
         let kept = self.coding.search.tracker.stack().len();
-        self.needs.look_back(kept);
+        self.needs.truncate(kept);
     }
 
     /// Propagates; then learns from a falsified clause, or decides where there is none.
@@ -112,7 +112,7 @@ impl<N: Copy + Exact + Hash + Debug + Drop, S: Copy + Exact + Hash + Debug> Enco
             StepResult::Learnt(clause) => {
                 // The last entry is the asserted literal's; those before it were there.
                 let entries = self.coding.search.tracker.stack().len();
-                self.needs.look_back(entries.saturating_sub(1));
+                self.needs.truncate(entries.saturating_sub(1));
                 Ok(Step::Learnt(clause))
             }
             StepResult::Complete => {

@@ -17,8 +17,8 @@ ghost use Rattle.resolvo_graph.specs.Tree.{siblings, is_missing, candidates_at, 
 
 use crate::graph::{ConflictGraph, ConflictNode, Edge, NodeIndex};
 use crate::indenter::{ChildOrder, Indenter};
+use crate::installability::has_some;
 use crate::merge::MergedConflictNode;
-use crate::outlook::has_some;
 use crate::runs::{Run, runs};
 use crate::sink::Sink;
 use crate::wording::{MessageLine, Outlook, Sentence, Verdict, Versions};

@@ -12,19 +12,19 @@ use std::collections::BTreeMap;
 const FEW: usize = 16;
 
 /// The places of a line's alternatives, by their packages.
-type Places = BTreeMap<String, Vec<usize>>;
+type PlacesByPackage = BTreeMap<String, Vec<usize>>;
 
 /// The tables of the long lines that give an entry its reason.
 #[derive(Drop)]
 pub struct Alternatives {
-    catalogue: BTreeMap<u32, Places>,
-    request: BTreeMap<u32, Places>,
+    catalogue: BTreeMap<u32, PlacesByPackage>,
+    request: BTreeMap<u32, PlacesByPackage>,
 }
 
 /// Adds a place of a package.
 fn add_place(
     alloc: Global,
-    places: &mut Places,
+    places: &mut PlacesByPackage,
     name: &String,
     place: usize,
 ) -> Result<(), AllocError> {
@@ -38,7 +38,7 @@ fn add_place(
     Ok(())
 }
 
-fn places_of(alloc: Global, alternatives: &[Spec]) -> Result<Places, AllocError> {
+fn places_of(alloc: Global, alternatives: &[Spec]) -> Result<PlacesByPackage, AllocError> {
     let mut places = BTreeMap::new(alloc);
     for place in 0..alternatives.len() {
         add_place(alloc, &mut places, &alternatives[place].name, place)?;
@@ -61,7 +61,7 @@ fn first_match(places: &[usize], alternatives: &[Spec], version: &Version) -> Op
 /// The place of an alternative that matches the version, by the line's table.
 fn place_in(
     alloc: Global,
-    tables: &mut BTreeMap<u32, Places>,
+    tables: &mut BTreeMap<u32, PlacesByPackage>,
     line: u32,
     alternatives: &[Spec],
     version: &Version,

@@ -5,11 +5,11 @@ use Rattle.resolvo_pool_core.specs.declared.id.StringId.{StringId}
 use Rattle.resolvo_pool_core.specs.Provider.{Listing, listed, listing_or_empty}
 use Rattle.resolvo_pool_core.specs.RuleKeeping.{Packages, is_in, is_forbidden}
 use Rattle.resolvo_packages.specs.declared.package_source.ForbiddenSolvable.{ForbiddenSolvable}
-use Rattle.resolvo_packages.specs.declared.package_source.Why.{Why}
-use Rattle.resolvo_packages.specs.declared.package_source.Why.TheVariants.{Locked, Excluded}
+use Rattle.resolvo_packages.specs.declared.package_source.ForbiddenBy.{ForbiddenBy}
+use Rattle.resolvo_packages.specs.declared.package_source.ForbiddenBy.TheVariants.{Locked, Excluded}
 
 -- the package's listing keeps the solvable out, for this: it is a candidate and another one is locked, or it is excluded
-abbrev pub KeepsOut : {S : Type 0} → (S → S → Bool) → Listing S → S → Why S → Type 0
+abbrev pub KeepsOut : {S : Type 0} → (S → S → Bool) → Listing S → S → ForbiddenBy S → Type 0
 KeepsOut same l s (Locked locked) = (l.locked ≡ Some locked) × (same locked s ≡ false) × Contains l.candidates s
 KeepsOut same l s (Excluded reason) = Contains l.excluded (s, reason)
 

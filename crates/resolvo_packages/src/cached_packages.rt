@@ -5,14 +5,14 @@ ghost use Rattle.resolvo_pool_core.specs.Provider.{listing, needs_of};
 ghost use Rattle.resolvo_packages.specs.PackageSource.{packages_by, orders_by, offer_by};
 ghost use Rattle.resolvo_packages.specs.Forbidden.{excluded_by, locked_out, kept_out};
 
-use crate::package_source::{ForbiddenSolvable, Offered, PackageSource, Why};
+use crate::package_source::{ForbiddenBy, ForbiddenSolvable, Offered, PackageSource};
 use resolvo_pool::cache::{CacheFault, SolverCache};
 use resolvo_pool_core::id::{ConditionId, Exact, StringId, VersionSetId};
 use resolvo_pool_core::provider::{
     Candidates, Dependencies, DependencyProvider, KnownDependencies,
 };
 use resolvo_pool_core::requirement::Requirement;
-use resolvo_pool_core::want::{R, Want};
+use resolvo_pool_core::want::R;
 use resolvo_store_core::conditions::convert_conditions_to_dnf;
 use std::alloc::Global;
 use std::fmt::Debug;
@@ -146,11 +146,7 @@ impl<D: DependencyProvider> PackageSource for CachedPackages<D> {
     }
 
     fn cases(&self, condition: ConditionId) -> R<Vec<Vec<VersionSetId>>> {
-        match convert_conditions_to_dnf(self.alloc, condition, self.cache.provider()) {
-            Ok(cases) => Ok(cases),
-            // It allocates, and issues no ids.
-            Err(_) => Err(Want::Memory),
-        }
+        convert_conditions_to_dnf(self.alloc, condition, self.cache.provider())
     }
 
     fn forbidden(
@@ -221,7 +217,7 @@ fn forbidden_by_lock<S: Copy + Exact + Hash + Debug>(
         if locked != *solvable {
             forbidden.push(ForbiddenSolvable {
                 solvable: *solvable,
-                why: Why::Locked { locked },
+                why: ForbiddenBy::Locked { locked },
             })?;
         }
     }
@@ -240,7 +236,7 @@ fn add_excluded<S: Copy + Exact + Hash + Debug>(
     for one in excluded {
         forbidden.push(ForbiddenSolvable {
             solvable: one.0,
-            why: Why::Excluded { reason: one.1 },
+            why: ForbiddenBy::Excluded { reason: one.1 },
         })?;
     }
     Ok(())

@@ -28,7 +28,7 @@ pub struct Offered<N, S> {
 
 /// Why a solvable is forbidden.
 #[derive(Clone, Copy, Debug)]
-pub enum Why<S> {
+pub enum ForbiddenBy<S> {
     /// Another solvable of its package is locked.
     Locked { locked: S },
     /// It is excluded, for this reason.
@@ -39,7 +39,7 @@ pub enum Why<S> {
 #[derive(Clone, Copy, Debug)]
 pub struct ForbiddenSolvable<S> {
     pub solvable: S,
-    pub why: Why<S>,
+    pub why: ForbiddenBy<S>,
 }
 
 /// Answers to a solver's queries about packages. Each query has the same answer whenever it is

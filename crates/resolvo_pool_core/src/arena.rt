@@ -1,13 +1,13 @@
 //! Values, each under a new id; no value is ever removed alone.
 //! Its model is the list of values, in which a value's position is the index of its id. The solver
 //! keeps its clauses and learnt lists in arenas.
-ghost use Rattle.std.specs.Prelude.{◌≡◌, ◌<◌, ◌≤◌, ◌+◌, ◌++◌, ◌∷◌, [], IfOk, OnOk, OnErr, IsErrOf, OnSome, IfSome, length, slice_get, Some};
+ghost use Rattle.std.specs.Prelude.{◌≡◌, ◌<◌, ◌≤◌, ◌+◌, ◌++◌, ◌∷◌, [], IfOk, OnOk, OnErr, IsErrOf, IsOkUnless, OnSome, IfSome, length, slice_get, Some};
 ghost use Rattle.std.specs.Borrow.{sem};
 ghost use Rattle.std.specs.Iterator.{YieldsFirstBy, item_count, at_most};
 ghost use Rattle.std.specs.Slice.Iter.{iter_mut_rest, iter_mut_steps};
 ghost use Rattle.std.specs.Option.{option_map};
 ghost use Rattle.std.specs.List.{enumerate_from};
-ghost use Rattle.resolvo_pool_core.specs.declared.want.Want.TheVariants.{Ids};
+ghost use Rattle.resolvo_pool_core.specs.declared.want.Want.TheVariants.{Memory, Ids};
 
 use crate::id::{DenseIndex, next_index};
 use crate::want::R;
@@ -46,7 +46,8 @@ impl<TId: DenseIndex, TValue> Arena<TId, TValue> {
 
     /// An empty arena with room for `capacity` values.
     pub fn with_capacity(alloc: Global, capacity: usize) -> R<Arena<TId, TValue>>
-        ensures { IfOk result (λ a. a ≡ []) }
+        ensures empty { IfOk result (λ a. a ≡ []) }
+        ensures refusal { IsOkUnless result Memory }
     {
         Ok(Arena {
             items: Vec::with_capacity(alloc, capacity)?,

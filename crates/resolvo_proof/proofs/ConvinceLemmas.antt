@@ -9,8 +9,8 @@ use Rattle.resolvo_pool_core.specs.OnePass.{Literal, clause_true}
 use Rattle.resolvo_pool_core.specs.RuleKeeping.{Packages, Rules, IsRuleKeeping}
 use Rattle.resolvo_pool_core.proofs.PassSound.{one_pass_true}
 use Rattle.resolvo_store_core.specs.AtMostOne.{digit}
-use Rattle.resolvo_sat.specs.Encoding as Encoder
-use Rattle.resolvo_sat.specs.Encoding.{Atom, IsExact, IsRule, AgreeWith, value, shown}
+use Rattle.resolvo_sat.specs.RuleClauses as Encoder
+use Rattle.resolvo_sat.specs.RuleClauses.{Atom, IsExact, IsRule, AgreeWith, value, shown}
 use Rattle.resolvo_sat.proofs.Lists.{contained_all, map_contains}
 use Rattle.resolvo_sat.proofs.Sound.{rules_sound}
 use Rattle.resolvo_state.proofs.Positions.{get_below, get_last}

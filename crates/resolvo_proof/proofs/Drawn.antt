@@ -13,7 +13,7 @@ use Rattle.resolvo_sat.specs.Analysis.{IsRefusal}
 use Rattle.resolvo_sat.specs.Steps.{AreInRange}
 use Rattle.resolvo_sat.proofs.Literals.{has_later}
 use Rattle.resolvo_sat.proofs.Apart.{false_apart}
-use Rattle.resolvo_sat.specs.Encoding.{Atom}
+use Rattle.resolvo_sat.specs.RuleClauses.{Atom}
 use Rattle.resolvo_sat.specs.Numbered.{meaning, meanings, IsOnce}
 use Rattle.resolvo_sat.proofs.Lists.{contains_none, contains_map}
 use Rattle.resolvo_sat.proofs.Meanings.{meaning_from, clause_in_range as place_in_range}

@@ -13,7 +13,7 @@ use Rattle.resolvo_sat.specs.AnalyzeFinal.{rup_literal, rup_clause, Refutes}
 use Rattle.resolvo_sat.specs.State.{named, AllBelow, AreApart}
 use Rattle.resolvo_sat.proofs.Literals.{has-cons, has_here, has_later}
 use Rattle.resolvo_sat.proofs.PendingLemmas.{has_contained, contained_has}
-use Rattle.resolvo_sat.specs.Encoding.{IsExact, Atom}
+use Rattle.resolvo_sat.specs.RuleClauses.{IsExact, Atom}
 use Rattle.resolvo_sat.specs.Numbered.{meaning, meanings, Means, IsOnce, Spells}
 use Rattle.resolvo_sat.proofs.Lists.{contains_none, contains_cases, contains_map, map_contains, any_contained, contained_any}
 use Rattle.resolvo_sat.proofs.Meanings.{meaning_in, meaning_from, one_literal}

@@ -8,12 +8,12 @@ use Rattle.resolvo_pool_core.specs.declared.id.ClauseId.{ClauseId}
 use Rattle.resolvo_pool_core.specs.OnePass.{Literal}
 use Rattle.std.specs.List.{AllZip}
 use Rattle.resolvo_store_core.specs.Signed.{Signed, has}
-use Rattle.resolvo_sat.specs.declared.state.SatClause.{SatClause}
+use Rattle.resolvo_sat.specs.declared.clause.SatClause.{SatClause}
 use Rattle.resolvo_sat.specs.State.{count_of}
 use Rattle.resolvo_sat.specs.Steps.{AreInRange}
 use Rattle.resolvo_sat.proofs.Clauses.{literals_at}
 use Rattle.resolvo_sat.proofs.Literals.{has_here, has_later}
-use Rattle.resolvo_sat.specs.Encoding.{Atom}
+use Rattle.resolvo_sat.specs.RuleClauses.{Atom}
 use Rattle.resolvo_sat.specs.Numbered.{meaning, meanings}
 use Rattle.resolvo_state.specs.declared.atom.ProofAtom.{ProofAtom}
 use Rattle.resolvo_state.specs.declared.solver_state.SolverState.{SolverState}

@@ -4,7 +4,7 @@ use Rattle.std.specs.Prelude.{not, Contains, ◌||◌}
 use Rattle.std.specs.List.{AllZip, list_any}
 use Rattle.std.proofs.lemmas.Bool.{cases_Bool, both_ways}
 use Rattle.resolvo_pool_core.specs.OnePass.{Literal, negate, assign, deny, nothing, is_broken, reading, learn, refutes, one_pass}
-use Rattle.resolvo_sat.specs.Encoding.{IsExact}
+use Rattle.resolvo_sat.specs.RuleClauses.{IsExact}
 use Rattle.resolvo_sat.proofs.Lists.{contains_none, contains_cases, contains_first, contains_later, any_contained, none_contained}
 use Rattle.resolvo_proof.specs.Members.{SameMembers, HaveOneSign}
 use Rattle.resolvo_proof.proofs.PassSets.{Spelt, Agree, read_alike}

@@ -9,7 +9,7 @@ use Rattle.resolvo_pool_core.specs.OnePass.{Literal, one_pass, deny, nothing}
 use Rattle.resolvo_pool_core.specs.RuleKeeping.{Packages, Rules}
 use Rattle.resolvo_store_core.specs.Signed.{Signed, negation, has}
 use Rattle.resolvo_store_core.specs.Clauses.{yes, no, root as root_variable}
-use Rattle.resolvo_sat.specs.declared.state.SatClause.{SatClause}
+use Rattle.resolvo_sat.specs.declared.clause.SatClause.{SatClause}
 use Rattle.resolvo_sat.specs.declared.state.SatState.{SatState}
 use Rattle.resolvo_sat.specs.Known.{clause_at}
 use Rattle.resolvo_sat.specs.AnalyzeFinal.{Refutes}
@@ -21,8 +21,8 @@ use Rattle.resolvo_sat.proofs.Clauses.{literals_at, length-lists}
 use Rattle.resolvo_sat.proofs.Literals.{has_here, has_later}
 use Rattle.resolvo_sat.proofs.Trails.{known_in_range, known_from_level, level_from_entry}
 use Rattle.resolvo_sat.proofs.Apart.{false_apart}
-use Rattle.resolvo_sat.specs.Encoding as Encoder
-use Rattle.resolvo_sat.specs.Encoding.{Atom, IsExact, IsRule, literals_of}
+use Rattle.resolvo_sat.specs.RuleClauses as Encoder
+use Rattle.resolvo_sat.specs.RuleClauses.{Atom, IsExact, IsRule, literals_of}
 use Rattle.resolvo_sat.specs.Numbered.{meaning, meanings, Spells}
 use Rattle.resolvo_sat.proofs.Meanings.{meaning_in, meaning_from, root_or_other}
 use Rattle.resolvo_state.specs.declared.solver_state.SolverState.{SolverState}

@@ -10,7 +10,7 @@ use Rattle.indexmap.specs.IndexSet.{insert_key, insert_all}
 use Rattle.resolvo_pool_core.specs.declared.requirement.Requirement.{Requirement}
 use Rattle.resolvo_proof.specs.declared.step.ProofRule.{ProofRule}
 use Rattle.resolvo_proof.specs.declared.step.ProofStep.{ProofStep}
-use Rattle.resolvo_sat.specs.Encoding.{same_requirement}
+use Rattle.resolvo_sat.specs.RuleClauses.{same_requirement}
 use Rattle.resolvo_proof.specs.Order.{rule_in, rules_at, named_by, requirements_in}
 
 abbrev pub with_named : Option Requirement → List Requirement → List Requirement

@@ -6,7 +6,7 @@ use Rattle.std.proofs.lemmas.List.{length-append}
 use Rattle.std.proofs.lemmas.Option.{slice_get_within}
 use Rattle.resolvo_pool_core.specs.OnePass.{Literal, one_pass}
 use Rattle.resolvo_pool_core.specs.RuleKeeping.{Packages, Rules}
-use Rattle.resolvo_sat.specs.Encoding.{Atom}
+use Rattle.resolvo_sat.specs.RuleClauses.{Atom}
 use Rattle.resolvo_sat.proofs.Lists.{contains_none, contains_cases, contains_first, contains_later}
 use Rattle.resolvo_state.proofs.Positions.{get_below, get_last}
 use Rattle.resolvo_proof.specs.declared.step.ProofStep.{ProofStep}

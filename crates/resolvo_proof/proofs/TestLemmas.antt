@@ -7,7 +7,7 @@ use Rattle.resolvo_pool_core.specs.declared.requirement.Requirement.TheVariants.
 use Rattle.resolvo_pool_core.specs.contracts.requirement.RequirementPartialEq.TheImpl as Requirements
 use Rattle.resolvo_graph.specs.declared.graph.ConflictNode.{ConflictNode}
 use Rattle.resolvo_graph.specs.declared.graph.ConflictNode.TheVariants.{Root, Solvable, UnresolvedDependency, Excluded}
-use Rattle.resolvo_sat.specs.Encoding.{same_requirement}
+use Rattle.resolvo_sat.specs.RuleClauses.{same_requirement}
 use Rattle.resolvo_proof.specs.Tests.{same_node}
 
 pub requirement_test : Requirements.eq-value.it ≡ same_requirement

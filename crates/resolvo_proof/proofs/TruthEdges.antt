@@ -10,7 +10,7 @@ use Rattle.std.proofs.lemmas.Option.{same_Some, slice_get-get_or, slice_get_with
 use Rattle.resolvo_pool_core.specs.declared.id.ConditionId.{ConditionId}
 use Rattle.resolvo_pool_core.specs.declared.requirement.Requirement.{Requirement}
 use Rattle.resolvo_pool_core.specs.RuleKeeping.{Packages, Rules}
-use Rattle.resolvo_sat.specs.Encoding.{Atom, IsExact, IsRule, same_requirement}
+use Rattle.resolvo_sat.specs.RuleClauses.{Atom, IsExact, IsRule, same_requirement}
 use Rattle.resolvo_sat.proofs.Lists.{any_contained, contains_none, contains_cases, contains_first, contains_later}
 use Rattle.resolvo_sat.proofs.Members.{same_requirement_true, same_requirement-self}
 use Rattle.resolvo_graph.specs.declared.graph.NodeIndex.{NodeIndex}

@@ -11,8 +11,8 @@ use Rattle.resolvo_pool_core.specs.declared.id.VersionSetId.{VersionSetId}
 use Rattle.resolvo_pool_core.specs.declared.requirement.ConditionalRequirement.{ConditionalRequirement}
 use Rattle.resolvo_pool_core.specs.declared.requirement.Requirement.{Requirement}
 use Rattle.resolvo_pool_core.specs.RuleKeeping.{Packages, Rules, rules_of, is_in, is_outside, meets, rules_for}
-use Rattle.resolvo_sat.specs.Encoding as Encoder
-use Rattle.resolvo_sat.specs.Encoding.{IsExact, IsRule, KeepsOut, asks, has_condition, same_requirement}
+use Rattle.resolvo_sat.specs.RuleClauses as Encoder
+use Rattle.resolvo_sat.specs.RuleClauses.{IsExact, IsRule, KeepsOut, has_plain_need, has_condition, same_requirement}
 use Rattle.resolvo_graph.specs.Tree.{same_set}
 use Rattle.resolvo_proof.proofs.ShareLemmas.{one_requirement, one_set}
 use Rattle.resolvo_proof.specs.declared.step.ProofRule.{ProofRule}
@@ -50,7 +50,7 @@ all_picked P Q test part xs h so =
     let both : All (λ x. P x × (test x ≡ true)) (filter test xs) = λ k d l. (All-filter test P xs h k d l, filter_passes test xs k d l) in
     All-map Q part (filter test xs) (All-weaker (λ x. P x × (test x ≡ true)) (λ x. Q (part x)) (λ x k. so x k.0 k.1) (filter test xs) both)
 
-asked_need : (list : List ConditionalRequirement) (q : Requirement) → asks list q ≡ true → (need : ConditionalRequirement) × Contains list need × (need.requirement ≡ q)
+asked_need : (list : List ConditionalRequirement) (q : Requirement) → has_plain_need list q ≡ true → (need : ConditionalRequirement) × Contains list need × (need.requirement ≡ q)
 asked_need list q h =
     let any = Any-from_list_any (λ (need : ConditionalRequirement). not (has_condition need.condition) && same_requirement q need.requirement) list h in
     (any.1, (any.0, any.2, any.3), sym (one_requirement q any.1.requirement (and_parts (not (has_condition any.1.condition)) (same_requirement q any.1.requirement) any.4).1))

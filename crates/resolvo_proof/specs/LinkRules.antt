@@ -9,7 +9,7 @@ use Rattle.resolvo_proof.specs.declared.step.ProofRule.TheVariants.{Needs, GateO
 use Rattle.resolvo_proof.specs.declared.link.Link.{Link}
 use Rattle.resolvo_proof.specs.declared.link.Link.TheVariants as Links
 use Rattle.resolvo_graph.specs.Tree.{same_set}
-use Rattle.resolvo_sat.specs.Encoding.{same_requirement}
+use Rattle.resolvo_sat.specs.RuleClauses.{same_requirement}
 use Rattle.resolvo_proof.specs.Tests.{same_limited}
 
 -- the parent that opens the gate of a requirement

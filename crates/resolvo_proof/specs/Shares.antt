@@ -5,7 +5,7 @@ use Rattle.resolvo_pool_core.specs.declared.requirement.Requirement.{Requirement
 use Rattle.resolvo_pool_core.specs.contracts.requirement.RequirementPartialEq.TheImpl as Requirements
 use Rattle.resolvo_graph.specs.Tree.{same_set}
 use Rattle.resolvo_proof.specs.ByKey.{listed}
-use Rattle.resolvo_proof.specs.declared.shares.Shares.{Shares}
+use Rattle.resolvo_proof.specs.declared.shared_rules.Shares.{Shares}
 
 -- the parents that open the gate of a requirement
 abbrev pub parents_in : {S : Type 0} → Shares S → Requirement → List S

@@ -4,8 +4,8 @@ use Rattle.resolvo_pool_core.specs.declared.id.ConditionId.{ConditionId}
 use Rattle.resolvo_pool_core.specs.OnePass.{Literal}
 use Rattle.resolvo_pool_core.specs.RuleKeeping.{Packages}
 use Rattle.resolvo_store_core.specs.AtMostOne.{digit}
-use Rattle.resolvo_sat.specs.Encoding as Encoder
-use Rattle.resolvo_sat.specs.Encoding.{Atom, literals_of}
+use Rattle.resolvo_sat.specs.RuleClauses as Encoder
+use Rattle.resolvo_sat.specs.RuleClauses.{Atom, literals_of}
 use Rattle.resolvo_state.specs.Atoms.{atom_of}
 use Rattle.resolvo_proof.specs.declared.step.ProofRule.{ProofRule}
 use Rattle.resolvo_proof.specs.declared.step.ProofRule.TheVariants.{Needs, GateOf, Shared, Limit, Outside, Locked, Excluded, Digit, AtLeastOne}

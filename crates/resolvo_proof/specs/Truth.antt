@@ -4,8 +4,8 @@ use Rattle.resolvo_pool_core.specs.declared.id.StringId.{StringId}
 use Rattle.resolvo_pool_core.specs.declared.requirement.ConditionalRequirement.{ConditionalRequirement}
 use Rattle.resolvo_pool_core.specs.declared.requirement.Requirement.{Requirement}
 use Rattle.resolvo_pool_core.specs.RuleKeeping.{Packages, Rules, is_in, is_outside, meets, rules_for}
-use Rattle.resolvo_sat.specs.Encoding as Encoder
-use Rattle.resolvo_sat.specs.Encoding.{Atom, KeepsOut}
+use Rattle.resolvo_sat.specs.RuleClauses as Encoder
+use Rattle.resolvo_sat.specs.RuleClauses.{Atom, KeepsOut}
 use Rattle.resolvo_graph.specs.declared.graph.ConflictNode.{ConflictNode}
 use Rattle.resolvo_graph.specs.declared.graph.ConflictNode.TheVariants as Nodes
 use Rattle.resolvo_graph.specs.declared.graph.ConflictCause.TheVariants as Causes

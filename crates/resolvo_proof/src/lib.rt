@@ -3,14 +3,14 @@
 //! `learnt_why` in `src/solver/mod.rs`.
 #![tactic(auto)]
 
-mod by_key;
 pub mod graph;
 pub mod link;
 mod link_rules;
+mod lists_by_key;
 pub mod offers;
 pub mod proof;
 pub mod rules;
-mod shares;
+mod shared_rules;
 pub mod step;
 pub mod trim;
 mod write;

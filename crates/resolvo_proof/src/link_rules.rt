@@ -14,7 +14,7 @@ ghost use Rattle.resolvo_proof.specs.Shares.{parents_in, limiters_in, outsiders_
 use crate::link::Link;
 use crate::offers::Offers;
 use crate::rules::rule_at;
-use crate::shares::{Shares, shares_of};
+use crate::shared_rules::{Shares, shares_of};
 use crate::step::{ProofRule, ProofStep};
 use indexmap::IndexSet;
 use resolvo_pool_core::id::{Exact, VersionSetId};

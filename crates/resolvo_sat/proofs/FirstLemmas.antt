@@ -9,7 +9,7 @@ use Rattle.resolvo_pool_core.specs.OnePass.{Literal, is_true_at, clause_true}
 use Rattle.resolvo_pool_core.specs.Provider.{listed}
 use Rattle.resolvo_pool_core.specs.Text.{alternatives_of}
 use Rattle.resolvo_pool_core.specs.RuleKeeping.{Packages, Rules, IsLawful, is_in, is_match, meets, is_member, IsSingle}
-use Rattle.resolvo_sat.specs.Encoding.{IsExact, Atom, Rule, plus, minus, literals_of, IsRule, value, shown, AgreeWith}
+use Rattle.resolvo_sat.specs.RuleClauses.{IsExact, Atom, Rule, plus, minus, literals_of, IsRule, value, shown, AgreeWith}
 use Rattle.resolvo_sat.specs.SearchEnd.{IsCalledFor, IsTrail, IsEnd}
 use Rattle.resolvo_sat.specs.First.{IsFirst, IsTriedBefore, TriesMatches, order, AreTriedBy, HoldsFirst, IsFirstChoices, IsFirstPick, IsUnbeaten, IsReachedOnce, ArePreferred}
 use Rattle.resolvo_sat.proofs.Lists.{contains_none, contains_first, contains_right}

@@ -9,7 +9,7 @@ use Rattle.resolvo_pool_core.specs.RuleKeeping.{Packages}
 use Rattle.resolvo_store_core.specs.Signed.{Signed, has}
 use Rattle.resolvo_store_core.specs.Clauses.{yes, root as root_variable}
 use Rattle.resolvo_store_core.specs.declared.decision.Entry.{Entry}
-use Rattle.resolvo_sat.specs.declared.state.SatClause.{SatClause}
+use Rattle.resolvo_sat.specs.declared.clause.SatClause.{SatClause}
 use Rattle.resolvo_sat.specs.Known.{clause_at}
 use Rattle.resolvo_sat.specs.Entries.{literal_of, made_true, IsOnTrail, IsTrail}
 use Rattle.resolvo_sat.specs.State.{lists, AreDerived}
@@ -19,7 +19,7 @@ use Rattle.resolvo_sat.proofs.Literals.{has-cons, has_here, has_later}
 use Rattle.resolvo_sat.proofs.Trails.{known_in_range}
 use Rattle.resolvo_sat.proofs.Clauses.{length-lists}
 use Rattle.resolvo_sat.proofs.StepLemmas.{lists-append}
-use Rattle.resolvo_sat.specs.Encoding.{Atom, Rule, plus, literals_of}
+use Rattle.resolvo_sat.specs.RuleClauses.{Atom, Rule, plus, literals_of}
 use Rattle.resolvo_sat.specs.SearchEnd.{IsAsked}
 use Rattle.resolvo_sat.specs.First.{IsFirstPick}
 use Rattle.resolvo_sat.specs.Numbered.{meaning, Means, meanings, known_of, IsOnce, Spells, AreCalledFor, IsAccounted, AreCoded}

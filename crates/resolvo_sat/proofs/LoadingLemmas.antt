@@ -4,7 +4,7 @@ use Rattle.std.proofs.lemmas.Bool.{both_ways}
 use Rattle.resolvo_pool_core.specs.declared.id.VersionSetId.{VersionSetId}
 use Rattle.resolvo_pool_core.specs.declared.requirement.ConditionalRequirement.{ConditionalRequirement}
 use Rattle.resolvo_pool_core.specs.RuleKeeping.{Packages, Rules, is_member}
-use Rattle.resolvo_sat.specs.Encoding.{Rule}
+use Rattle.resolvo_sat.specs.RuleClauses.{Rule}
 use Rattle.resolvo_sat.specs.SearchEnd.{IsNeedEncoded, AreEncoded}
 use Rattle.resolvo_sat.specs.Loads.{Deferred, IsParentEncoded, NoneFires}
 

@@ -11,7 +11,7 @@ use Rattle.resolvo_store_core.specs.Signed.{Signed, negation, has, same_literal}
 use Rattle.resolvo_store_core.specs.SignLaws.{same_literal-self}
 use Rattle.resolvo_store_core.specs.Clauses.{yes, no, root as root_variable}
 use Rattle.resolvo_store_core.specs.declared.decision.Entry.{Entry}
-use Rattle.resolvo_sat.specs.declared.state.SatClause.{SatClause}
+use Rattle.resolvo_sat.specs.declared.clause.SatClause.{SatClause}
 use Rattle.resolvo_sat.specs.Known.{clause_at, holds, Satisfies, SatisfiesAll, IsForced as IsForcedBy}
 use Rattle.resolvo_sat.specs.Entries.{literal_of, reason_of, made_true, IsTrail, IsRooted}
 use Rattle.resolvo_sat.specs.Propagation.{IsQuiet}
@@ -19,7 +19,7 @@ use Rattle.resolvo_sat.specs.State.{lists, named, AllBelow, IsDerived, AreDerive
 use Rattle.resolvo_sat.proofs.Literals.{has-cons, has_here, has_later}
 use Rattle.resolvo_sat.proofs.Trails.{consistent, known_in_range, root_known}
 use Rattle.resolvo_sat.proofs.Refutations.{refuted_holds}
-use Rattle.resolvo_sat.specs.Encoding.{Atom, Rule, plus, literals_of, IsImplied}
+use Rattle.resolvo_sat.specs.RuleClauses.{Atom, Rule, plus, literals_of, IsImplied}
 use Rattle.resolvo_sat.specs.SearchEnd as Ending
 use Rattle.resolvo_sat.specs.Numbered.{meaning, Means, meanings, known_of, IsOnce, values_by, Spells, AreCalledFor, IsAccounted, AreCoded}
 use Rattle.resolvo_sat.proofs.Lists.{contains_none, contains_cases, contains_first, contains_later, contains_left, contains_right}

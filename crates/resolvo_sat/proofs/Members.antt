@@ -19,7 +19,7 @@ use Rattle.resolvo_pool_core.specs.Provider.{Listing, listed, AreOf}
 use Rattle.resolvo_pool_core.specs.RuleKeeping.{Packages, IsLawful, truth_of, is_in, is_match, is_outside, is_met, listing_for, locks_out, is_forbidden, is_unknown, holds_within, binds_under, binds}
 use Rattle.resolvo_store_core.specs.Cases.{truth_within}
 use Rattle.resolvo_store_core.proofs.CaseLaws.{exact_cases}
-use Rattle.resolvo_sat.specs.Encoding.{IsExact, Atom, plus, minus, solvables, has_condition, same_requirement, asks, cases_under, cases_for, case_holds, case_literals, candidate_literals, ForbidReason, KeepsOut}
+use Rattle.resolvo_sat.specs.RuleClauses.{IsExact, Atom, plus, minus, solvables, has_condition, same_requirement, has_plain_need, cases_under, cases_for, case_holds, case_literals, candidate_literals, ForbidReason, KeepsOut}
 use Rattle.resolvo_sat.proofs.Lists.{contains_first, contains_later, contains_none, contains_cases, contains_left, contains_right, contains_parts, contains_map, map_contains, contains_filter, filter_contains, any_contained, contained_any, none_contained}
 
 -- a solvable that is kept out is forbidden, or its dependencies are unknown
@@ -194,7 +194,7 @@ module _ {N S : Type 0} (same : S → S → Bool) (exact : IsExact same) (p : Pa
   plain_binds chosen (Some c) h = absurd (both_ways false refl h)
 
   -- who asks for a requirement has it without condition
-  pub asked : (chosen : List S) (list : List ConditionalRequirement) (r : Requirement) → asks list r ≡ true → (need : ConditionalRequirement) × Contains list need × (binds same p chosen need ≡ true) × (r ≡ need.requirement)
+  pub asked : (chosen : List S) (list : List ConditionalRequirement) (r : Requirement) → has_plain_need list r ≡ true → (need : ConditionalRequirement) × Contains list need × (binds same p chosen need ≡ true) × (r ≡ need.requirement)
   asked chosen list r h =
       let (need, a, t) = any_contained (λ (n : ConditionalRequirement). not (has_condition n.condition) && same_requirement r n.requirement) list h in
       let parts = and_parts (not (has_condition need.condition)) (same_requirement r need.requirement) t in

@@ -2,7 +2,7 @@
 use Rattle.std.proofs.Common.{◌≡◌, ℕ, zero, suc, ◌/◌, ◌^◌, ◌<◌, ◌⊎◌, inl, inr, Bool, true, false, not, refl, sym, ◌∙◌, ap, subst, arith}
 use Rattle.resolvo_store_core.specs.AtMostOne.{digit}
 use Rattle.resolvo_store_core.proofs.Digits.{same_digits}
-use Rattle.resolvo_sat.specs.Encoding.{Rule}
+use Rattle.resolvo_sat.specs.RuleClauses.{Rule}
 use Rattle.resolvo_sat.specs.SearchEnd.{DifferInDigit}
 use Rattle.resolvo_sat.proofs.Members.{twice}
 

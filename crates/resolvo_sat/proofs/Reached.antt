@@ -9,7 +9,7 @@ use Rattle.resolvo_pool_core.specs.OnePass.{Literal, negate, is_true_at, clause_
 use Rattle.resolvo_pool_core.specs.Provider.{listed}
 use Rattle.resolvo_pool_core.specs.Text.{alternatives_of}
 use Rattle.resolvo_pool_core.specs.RuleKeeping.{Packages, Rules, rules_of, is_in, is_match, is_met, meets, binds, rules_for, is_member, Obeys, IsClosed}
-use Rattle.resolvo_sat.specs.Encoding.{IsExact, Atom, Rule, plus, minus, case_holds, case_literals, candidate_literals, parent_literals, literals_of, asks, IsRule, value}
+use Rattle.resolvo_sat.specs.RuleClauses.{IsExact, Atom, Rule, plus, minus, case_holds, case_literals, candidate_literals, parent_literals, literals_of, has_plain_need, IsRule, value}
 use Rattle.resolvo_sat.specs.SearchEnd.{IsTrueParent, HasClause, IsAsked, asking, IsCalledFor, IsForced, IsTrail, AreRegistered}
 use Rattle.resolvo_sat.proofs.Lists.{contains_none, contains_cases, contains_one, contains_parts, contains_first, contains_later, all_contained, contained_all}
 use Rattle.resolvo_sat.proofs.Members.{plus_true, true_plus, true_minus, made_by, not_both, negate-negate, any_in, in_any, any_in_case, outside_in_case, candidate_from, binds_case, case_binds, asked}
@@ -67,7 +67,7 @@ module _ {N S : Type 0} (same : S → S → Bool) (exact : IsExact same) (p : Pa
         chosen None t = refl
         chosen (Some s) t = true_plus _ (ih (plus (Atom.solvable s)) t)
     asked_binds digits part known r rule ih (inr k) =
-        let (s, c, a) = any_in same exact p (λ n. asks (rules_of (p.dependencies_of n)).requirements r) part (true_plus _ (ih (plus (Atom.gate r)) k.opened)) in
+        let (s, c, a) = any_in same exact p (λ n. has_plain_need (rules_of (p.dependencies_of n)).requirements r) part (true_plus _ (ih (plus (Atom.gate r)) k.opened)) in
         let (need, n, b, is) = asked same exact p part (rules_of (p.dependencies_of s)).requirements r a in
         (Some s, need, c, n, b, is)
 

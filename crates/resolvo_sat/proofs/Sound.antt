@@ -8,7 +8,7 @@ use Rattle.resolvo_pool_core.specs.OnePass.{Literal, is_true_at, clause_true}
 use Rattle.resolvo_pool_core.specs.Provider.{listed}
 use Rattle.resolvo_pool_core.specs.Text.{alternatives_of}
 use Rattle.resolvo_pool_core.specs.RuleKeeping.{Packages, Rules, rules_of, is_unknown, is_forbidden, is_in, is_match, is_outside, is_met, meets, is_member, IsSingle, Obeys, IsRuleKeeping}
-use Rattle.resolvo_sat.specs.Encoding.{IsExact, Atom, Rule, plus, minus, parent_literals, asks, case_holds, case_literals, candidate_literals, literals_of, is_asked, value, Fits, shown, IsRule, AgreeWith}
+use Rattle.resolvo_sat.specs.RuleClauses.{IsExact, Atom, Rule, plus, minus, parent_literals, has_plain_need, case_holds, case_literals, candidate_literals, literals_of, is_asked, value, Fits, shown, IsRule, AgreeWith}
 use Rattle.resolvo_sat.proofs.Lists.{contains_first, contains_later, contains_only, contains_second, all_fails}
 use Rattle.resolvo_sat.proofs.Members.{plus_true, minus_true, makes, made_left, made_right, any_in, in_any, none_in, candidate_in, any_in_case, outside_in_case, case_binds, asked, kept_out}
 
@@ -73,11 +73,11 @@ module _ {N S : Type 0} (same : S → S → Bool) (exact : IsExact same) (p : Pa
                 made_right v denial (condition ++ candidates) (made_right v condition candidates (makes v candidates (plus (Atom.solvable s)) (candidate_in same exact p (alternatives_of p.members_of need.requirement) s t) (plus_true _ i)))
           ]
         ]
-    clause_holds rules digits chosen (Rule.gated s r) o h f present = pair_true digits chosen s (plus (Atom.gate r)) (λ e. plus_true _ (in_any same exact p (λ n. asks (rules_of (p.dependencies_of n)).requirements r) s chosen e h))
+    clause_holds rules digits chosen (Rule.gated s r) o h f present = pair_true digits chosen s (plus (Atom.gate r)) (λ e. plus_true _ (in_any same exact p (λ n. has_plain_need (rules_of (p.dependencies_of n)).requirements r) s chosen e h))
     clause_holds rules digits chosen (Rule.shared r) o h f present =
         elim (cases_Bool (is_asked same p chosen r)) [
           | inl e ↦
-              let (parent, c, a) = any_in same exact p (λ n. asks (rules_of (p.dependencies_of n)).requirements r) chosen e in
+              let (parent, c, a) = any_in same exact p (λ n. has_plain_need (rules_of (p.dependencies_of n)).requirements r) chosen e in
               let (need, n, b, is) = asked same exact p chosen (rules_of (p.dependencies_of parent)).requirements r a in
               let (s, i, t) = o.requirements_met (Some parent) need c n b in
               makes (value same p digits chosen) (literals_of same p (Rule.shared r)) (plus (Atom.solvable s)) (contains_later (plus (Atom.solvable s)) (minus (Atom.gate r)) (candidate_literals same p (alternatives_of p.members_of r)) (candidate_in same exact p (alternatives_of p.members_of r) s (subst (λ x. meets same p x s ≡ true) (sym is) t))) (plus_true _ i)

@@ -11,7 +11,7 @@ use Rattle.resolvo_store_core.specs.declared.decision_tracker.Set.{Set}
 use Rattle.resolvo_store_core.specs.AddPairs.{set_for, with_entry}
 use Rattle.resolvo_store_core.specs.Trail as Store
 use Rattle.resolvo_store_core.proofs.Trails as StoreTrails
-use Rattle.resolvo_sat.specs.declared.state.SatClause.{SatClause}
+use Rattle.resolvo_sat.specs.declared.clause.SatClause.{SatClause}
 use Rattle.resolvo_sat.specs.declared.state.SatState.{SatState}
 use Rattle.resolvo_sat.specs.Known.{IsUndecided, Forces, clause_at}
 use Rattle.resolvo_sat.specs.Entries.{made_true, top_level, Follows, IsTrail, IsUndone, IsRooted}

@@ -9,12 +9,12 @@ use Rattle.resolvo_pool_core.specs.RuleKeeping.{Packages, Rules, is_in, meets, I
 use Rattle.resolvo_store_core.specs.Signed.{Signed, has}
 use Rattle.resolvo_store_core.specs.Clauses.{yes, root as root_variable}
 use Rattle.resolvo_store_core.specs.declared.decision.Entry.{Entry}
-use Rattle.resolvo_sat.specs.declared.state.SatClause.{SatClause}
+use Rattle.resolvo_sat.specs.declared.clause.SatClause.{SatClause}
 use Rattle.resolvo_sat.specs.Known.{clause_at}
 use Rattle.resolvo_sat.specs.Entries.{made_true, IsTrail, IsRooted}
 use Rattle.resolvo_sat.specs.State.{lists, IsDerived}
 use Rattle.resolvo_sat.proofs.Trails.{consistent, root_known}
-use Rattle.resolvo_sat.specs.Encoding.{IsExact, Atom, Rule, plus, literals_of, IsRule, AgreeWith}
+use Rattle.resolvo_sat.specs.RuleClauses.{IsExact, Atom, Rule, plus, literals_of, IsRule, AgreeWith}
 use Rattle.resolvo_sat.specs.SearchEnd as Ending
 use Rattle.resolvo_sat.specs.First.{IsFirstPick, ArePreferred}
 use Rattle.resolvo_sat.specs.Numbered.{meaning, meanings, known_of, Spells, AreCalledFor, AreCoded, IsTurnEnd, Denies}

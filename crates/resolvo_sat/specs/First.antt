@@ -7,7 +7,7 @@ use Rattle.resolvo_pool_core.specs.declared.requirement.Requirement.{Requirement
 use Rattle.resolvo_pool_core.specs.OnePass.{Literal}
 use Rattle.resolvo_pool_core.specs.Text.{alternatives_of}
 use Rattle.resolvo_pool_core.specs.RuleKeeping.{Packages, Rules, is_in, is_match, meets, binds, rules_for, is_member, IsRuleKeeping, IsReached}
-use Rattle.resolvo_sat.specs.Encoding.{Atom, Rule, plus, minus}
+use Rattle.resolvo_sat.specs.RuleClauses.{Atom, Rule, plus, minus}
 use Rattle.resolvo_sat.specs.SearchEnd.{IsAsked}
 
 -- the solvable is the first

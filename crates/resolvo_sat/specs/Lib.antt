@@ -10,7 +10,7 @@ pub mod AddClause
 pub mod UnitsDone
 pub mod Begin
 pub mod PropagateAndLearn
-pub mod Encoding
+pub mod RuleClauses
 pub mod SearchEnd
 pub mod Numbered
 pub mod Loads

@@ -3,7 +3,7 @@ use Rattle.std.specs.Prelude.{◌≡◌, ◌⊎◌, Bool, true, false, List, Opt
 use Rattle.resolvo_pool_core.specs.declared.id.VersionSetId.{VersionSetId}
 use Rattle.resolvo_pool_core.specs.declared.requirement.ConditionalRequirement.{ConditionalRequirement}
 use Rattle.resolvo_pool_core.specs.RuleKeeping.{Packages, Rules, is_unknown, is_outside, rules_for}
-use Rattle.resolvo_sat.specs.Encoding.{Rule, cases_for, case_holds, IsForbiddenIn, IsForbidden}
+use Rattle.resolvo_sat.specs.RuleClauses.{Rule, cases_for, case_holds, IsForbiddenIn, IsForbidden}
 use Rattle.resolvo_sat.specs.SearchEnd.{IsNeedEncoded}
 
 -- a case of a parent's need that has no clause until it holds

@@ -6,12 +6,12 @@ use Rattle.resolvo_pool_core.specs.RuleKeeping.{Packages, Rules, IsLawful, is_in
 use Rattle.resolvo_store_core.specs.Signed.{Signed, has}
 use Rattle.resolvo_store_core.specs.Clauses.{yes, no, root as root_variable}
 use Rattle.resolvo_store_core.specs.declared.decision.Entry.{Entry}
-use Rattle.resolvo_sat.specs.declared.state.SatClause.{SatClause}
+use Rattle.resolvo_sat.specs.declared.clause.SatClause.{SatClause}
 use Rattle.resolvo_sat.specs.Known.{clause_at}
 use Rattle.resolvo_sat.specs.Entries.{literal_of, made_true, IsChoice, IsOnTrail, IsTrail, IsRooted}
 use Rattle.resolvo_sat.specs.Propagation.{IsQuiet}
 use Rattle.resolvo_sat.specs.State.{lists, AreDerived}
-use Rattle.resolvo_sat.specs.Encoding.{Atom, Rule, plus, minus, literals_of}
+use Rattle.resolvo_sat.specs.RuleClauses.{Atom, Rule, plus, minus, literals_of}
 use Rattle.resolvo_sat.specs.SearchEnd as Ending
 
 -- `origin` gives the atom that each variable represents; the root's variable, number 0, has none

@@ -9,7 +9,7 @@ use Rattle.resolvo_pool_core.specs.OnePass.{Literal, negate}
 use Rattle.resolvo_pool_core.specs.Provider.{listed}
 use Rattle.resolvo_pool_core.specs.Text.{alternatives_of}
 use Rattle.resolvo_pool_core.specs.RuleKeeping.{Packages, Rules, IsLawful, is_unknown, is_in, is_outside, meets, binds, rules_for, is_member, IsExemptKeeping, IsReached}
-use Rattle.resolvo_sat.specs.Encoding.{Atom, Rule, plus, minus, cases_for, case_holds, case_literals, literals_of, IsImplied, IsRule, IsForbiddenIn, IsForbidden}
+use Rattle.resolvo_sat.specs.RuleClauses.{Atom, Rule, plus, minus, cases_for, case_holds, case_literals, literals_of, IsImplied, IsRule, IsForbiddenIn, IsForbidden}
 
 -- each of the literals is false by the known ones
 abbrev pub AreFalse : {A : Type 0} → List (Literal A) → List (Literal A) → Type 0

@@ -7,7 +7,8 @@ ghost use Rattle.resolvo_sat.specs.Steps.{AreInRange};
 ghost use Rattle.resolvo_sat.specs.Propagation.{IsReady, AreCovered};
 ghost use Rattle.resolvo_sat.specs.AddClause.{HasAnother, with_last, Begins, AddsPending};
 
-use crate::state::{SatClause, SatState};
+use crate::clause::SatClause;
+use crate::state::SatState;
 use crate::watch_lists::{UnitClause, WatchLists};
 use resolvo_pool_core::id::ClauseId;
 use resolvo_pool_core::want::R;

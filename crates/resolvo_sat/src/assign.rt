@@ -8,7 +8,8 @@ ghost use Rattle.resolvo_sat.specs.Entries.{made_true};
 ghost use Rattle.resolvo_sat.specs.State.{IsState, IsDerived, history, clauses_of, count_of};
 ghost use Rattle.resolvo_sat.specs.Steps.{AreInRange, Sets, Chooses, Undoes, Adds};
 
-use crate::state::{SatClause, SatState};
+use crate::clause::SatClause;
+use crate::state::SatState;
 use resolvo_pool_core::id::{ClauseId, VariableId};
 use resolvo_pool_core::want::R;
 use resolvo_store_core::decision::Decision;

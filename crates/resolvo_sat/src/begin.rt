@@ -5,7 +5,8 @@ ghost use Rattle.resolvo_sat.specs.State.{IsState, count_of, history};
 ghost use Rattle.resolvo_sat.specs.Propagation.{IsReady, AreCovered};
 ghost use Rattle.resolvo_sat.specs.Begin.{Begun, AddsVariable, IsRootClause};
 
-use crate::state::{SatClause, SatState, VariableKind};
+use crate::clause::SatClause;
+use crate::state::{SatState, VariableKind};
 use crate::watch_lists::WatchLists;
 use resolvo_pool_core::arena::Arena;
 use resolvo_pool_core::id::{ClauseId, VariableId};

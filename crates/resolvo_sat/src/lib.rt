@@ -10,6 +10,7 @@ pub mod assign;
 pub mod attach;
 pub mod backjump;
 pub mod begin;
+pub mod clause;
 pub mod guard;
 pub mod propagate;
 pub mod propagate_and_learn;

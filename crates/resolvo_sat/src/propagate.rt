@@ -154,7 +154,7 @@ impl SatState {
     }
 
     /// The same, where this many of the first ones are true.
-    fn assign_later(&mut self, units: &[UnitClause], done: usize) -> R<Option<ClauseId>>
+    fn assign_units_from(&mut self, units: &[UnitClause], done: usize) -> R<Option<ClauseId>>
         requires state { IsState self.old }
         requires alone { AreUnits (clauses_of self.old) units.now }
         requires within { done ≤ length units.now }
@@ -169,7 +169,7 @@ impl SatState {
     }
 
     /// The literal that the entry at the propagation head makes false; none after the last entry.
-    fn next_fallen(&self) -> Option<Literal>
+    fn next_falsified(&self) -> Option<Literal>
         requires state { IsState self.now }
         ensures { IsNextFallen self.now result }
     {
@@ -181,7 +181,7 @@ impl SatState {
     }
 
     /// Advances the propagation head past its entry, which was propagated.
-    fn pass_entry(&mut self)
+    fn advance_qhead(&mut self)
         requires { self.old.qhead < usize.MAX }
         ensures { self.new ≡ record self.old { qhead = self.old.qhead + 1 } }
     {
@@ -199,7 +199,7 @@ impl SatState {
         ensures refusal { IsOkUnless result Memory }
     {
         let done = watching.last_done(self.qhead);
-        match self.propagate_behind(watching, done)? {
+        match self.propagate_from(watching, done)? {
             Some(clause) => Ok(Some(clause)),
             None => {
                 watching.note_done(self.qhead, done)?;
@@ -209,11 +209,7 @@ impl SatState {
     }
 
     /// Assigns what the clauses force, where the first unit clauses are true already.
-    fn propagate_behind(
-        &mut self,
-        watching: &mut WatchLists,
-        done: UnitsDone,
-    ) -> R<Option<ClauseId>>
+    fn propagate_from(&mut self, watching: &mut WatchLists, done: UnitsDone) -> R<Option<ClauseId>>
         requires ready { IsReady self.old watching.old }
         requires covered { AreCovered self.old watching.old }
         requires within { AreWithin self.old.qhead watching.old }
@@ -223,20 +219,23 @@ impl SatState {
         // After a refusal.
         ensures refusal { IsOkUnless result Memory }
     {
-        if let Some(clause) = self.assign_later(watching.assertions.as_slice(), done.assertions)? {
+        if let Some(clause) = self.assign_units_from(
+            watching.assertions.as_slice(),
+            done.assertions,
+        )? {
             return Ok(Some(clause));
         }
-        if let Some(clause) = self.assign_later(watching.learnt.as_slice(), done.learnt)? {
+        if let Some(clause) = self.assign_units_from(watching.learnt.as_slice(), done.learnt)? {
             return Ok(Some(clause));
         }
         if let Some(clause) = self.attach_pending(watching)? {
             return Ok(Some(clause));
         }
-        while let Some(literal) = self.next_fallen() {
+        while let Some(literal) = self.next_falsified() {
             if let Some(clause) = self.propagate_literal(watching, literal)? {
                 return Ok(Some(clause));
             }
-            self.pass_entry();
+            self.advance_qhead();
         }
         Ok(None)
     }

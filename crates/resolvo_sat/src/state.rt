@@ -1,4 +1,4 @@
-//! State of the SAT core: variables, clauses with their antecedents, and the trail.
+//! State of the SAT core: variables, clauses, and the trail.
 ghost use Rattle.std.specs.Prelude.{◌≡◌, ◌<◌, ◌≤◌, ◌+◌, ◌∷◌, length};
 ghost use Rattle.std.specs.Bool.{Decides};
 ghost use Rattle.resolvo_sat.specs.Entries.{before, top_level};
@@ -6,6 +6,7 @@ ghost use Rattle.resolvo_sat.specs.State.{IsState, history, clauses_of};
 ghost use Rattle.resolvo_sat.specs.Known.{clause_at};
 ghost use Rattle.resolvo_sat.specs.Analysis.{IsSolvable};
 
+use crate::clause::SatClause;
 use resolvo_pool_core::arena::Arena;
 use resolvo_pool_core::id::{ClauseId, DenseIndex, VariableId};
 use resolvo_store_core::decision::Entry;
@@ -21,14 +22,6 @@ pub enum VariableKind {
     Solvable,
     /// A helper of the encoding.
     Helper,
-}
-
-/// A clause: one of its literals is true. A rule has no antecedents; a learnt clause has those from
-/// which it follows, in the order of a RUP check.
-#[derive(Debug, Drop)]
-pub struct SatClause {
-    pub literals: Vec<Literal>,
-    pub causes: Vec<ClauseId>,
 }
 
 /// The variables by their numbers, the clauses, the trail, and the first level of the turn, below

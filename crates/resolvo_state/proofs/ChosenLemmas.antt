@@ -9,7 +9,7 @@ use Rattle.resolvo_store_core.specs.Signed.{Signed}
 use Rattle.resolvo_store_core.specs.declared.decision.Entry.{Entry}
 use Rattle.resolvo_sat.specs.Entries.{literal_of, made_true}
 use Rattle.resolvo_sat.proofs.Literals.{has-cons, has_here, has_later}
-use Rattle.resolvo_sat.specs.Encoding.{Atom, plus}
+use Rattle.resolvo_sat.specs.RuleClauses.{Atom, plus}
 use Rattle.resolvo_sat.specs.Numbered.{Means}
 use Rattle.resolvo_sat.proofs.Lists.{contains_none, contains_one, contains_parts, contains_left, contains_right, contains_only}
 use Rattle.resolvo_state.specs.declared.atom.ProofAtom.{ProofAtom}

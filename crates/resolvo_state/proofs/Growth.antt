@@ -11,7 +11,7 @@ use Rattle.resolvo_store_core.specs.Trail.{Tracked}
 use Rattle.resolvo_store_core.specs.Signed.{Signed, has}
 use Rattle.resolvo_store_core.specs.Clauses.{yes, root as root_variable}
 use Rattle.resolvo_store_core.specs.declared.decision.Entry.{Entry}
-use Rattle.resolvo_sat.specs.declared.state.SatClause.{SatClause}
+use Rattle.resolvo_sat.specs.declared.clause.SatClause.{SatClause}
 use Rattle.resolvo_sat.specs.declared.propagate_and_learn.StepResult.{StepResult}
 use Rattle.resolvo_sat.specs.Known.{clause_at}
 use Rattle.resolvo_sat.specs.Entries.{literal_of}
@@ -21,7 +21,7 @@ use Rattle.resolvo_sat.specs.PropagateAndLearn.{IsProgress}
 use Rattle.resolvo_sat.proofs.JumpLemmas.{undone_on}
 use Rattle.resolvo_sat.proofs.Clauses.{length-lists, literals_at}
 use Rattle.resolvo_sat.proofs.StepLemmas.{lists-append, reverse_push}
-use Rattle.resolvo_sat.specs.Encoding.{Atom, Rule, plus, literals_of, IsForbidden}
+use Rattle.resolvo_sat.specs.RuleClauses.{Atom, Rule, plus, literals_of, IsForbidden}
 use Rattle.resolvo_sat.specs.Numbered.{meaning, Means, known_of, Spells, AreCalledFor, IsAccounted, AreCoded}
 use Rattle.resolvo_sat.proofs.GrowLemmas.{clause_stays, called_kept, called_choice, called_grows, spells_agree}
 use Rattle.resolvo_sat.proofs.Meanings.{clause_in_range}
@@ -31,7 +31,7 @@ use Rattle.resolvo_state.specs.declared.clause_kind.ClauseKind.TheVariants.{Root
 use Rattle.resolvo_state.specs.declared.solver_state.SolverState.{SolverState}
 use Rattle.resolvo_state.specs.Atoms.{origin, Represents}
 use Rattle.resolvo_state.specs.ClauseKinds.{rule_of, kind_at, rule_at, rules_in}
-use Rattle.resolvo_state.specs.SolverState.{IsCoding, Grows, SameTrail, Advances, KeepsCode}
+use Rattle.resolvo_state.specs.SolverState.{IsCoding, Grows, SameTrail, Advances, KeepsClauses}
 use Rattle.resolvo_state.specs.Spelled.{Spelled, AreRegistered}
 use Rattle.resolvo_state.proofs.Positions.{prefix_get, get_old, get_below, contains_get, prefix_same, prefix_then}
 use Rattle.resolvo_state.proofs.Origins.{count_is, coding_once, represents_below, represents_more, origin_prefix, one_variable}
@@ -169,11 +169,11 @@ module _ {N S : Type 0} (choice wider : List (Literal (Atom N S)) → Literal (A
       keeps (StepResult.Refused r) h = h.2.choices
 
   -- entries that are undone leave the other choices called for
-  pub called_undoes : (level : ℕ) → Undoes level old.search new.search → KeepsCode old new → AreCalledFor (origin old.atoms.keys) choice (history old.search) → AreCalledFor (origin new.atoms.keys) wider (history new.search)
+  pub called_undoes : (level : ℕ) → Undoes level old.search new.search → KeepsClauses old new → AreCalledFor (origin old.atoms.keys) choice (history old.search) → AreCalledFor (origin new.atoms.keys) wider (history new.search)
   called_undoes level undoes kept called = called_loses kept.atoms (λ e older present is. undone_on level (history old.search) (history new.search) e older undoes.undone present) called
 
   -- one choice more, which is called for
-  pub called_chooses : (v : VariableId) (clause : ClauseId) → Chooses v clause old.search new.search → KeepsCode old new
+  pub called_chooses : (v : VariableId) (clause : ClauseId) → Chooses v clause old.search new.search → KeepsClauses old new
       → choice (known_of (origin old.atoms.keys) (history old.search)) (meaning (origin old.atoms.keys) (yes v)) → AreCalledFor (origin old.atoms.keys) choice (history old.search) → AreCalledFor (origin new.atoms.keys) wider (history new.search)
   called_chooses v clause chooses kept now called =
       subst (λ (a : HashSet (ProofAtom N S) (BuildHasherDefault FoldHasher)). AreCalledFor (origin a.keys) wider (history new.search)) (sym kept.atoms)

@@ -4,7 +4,7 @@ use Rattle.std.specs.Prelude.{slice_get}
 use Rattle.resolvo_pool_core.specs.declared.id.ClauseId.{ClauseId}
 use Rattle.resolvo_pool_core.specs.declared.id.VariableId.{VariableId}
 use Rattle.resolvo_store_core.specs.Signed.{has}
-use Rattle.resolvo_sat.specs.declared.state.SatClause.{SatClause}
+use Rattle.resolvo_sat.specs.declared.clause.SatClause.{SatClause}
 use Rattle.resolvo_sat.specs.declared.state.SatState.{SatState}
 use Rattle.resolvo_sat.specs.declared.state.VariableKind.{VariableKind}
 use Rattle.resolvo_sat.specs.Known.{clause_at}
@@ -14,10 +14,10 @@ use Rattle.resolvo_sat.specs.Propagation.{IsReady}
 use Rattle.resolvo_sat.proofs.Readiness.{ready_undone, covered_same}
 use Rattle.resolvo_sat.proofs.ChooseLemmas.{choice_ready}
 use Rattle.resolvo_state.specs.declared.solver_state.SolverState.{SolverState}
-use Rattle.resolvo_state.specs.SolverState.{IsCoding, KeepsCode}
+use Rattle.resolvo_state.specs.SolverState.{IsCoding, KeepsClauses}
 
 -- the trail alone changed
-code_kept : {N S : Type 0} (c : SolverState N S) (s : SatState) → IsCoding c → IsReady s c.watching → SameBut c.search s → KeepsCode c (record c { search = s })
+code_kept : {N S : Type 0} (c : SolverState N S) (s : SatState) → IsCoding c → IsReady s c.watching → SameBut c.search s → KeepsClauses c (record c { search = s })
 code_kept {N} {S} c s coding ready same = record {
   coding = record {
     ready = ready;
@@ -40,8 +40,8 @@ code_kept {N} {S} c s coding ready same = record {
   clauses = same.clauses;
 }
 
-pub choice_kept : {N S : Type 0} (c : SolverState N S) (s : SatState) (v : VariableId) (clause : ClauseId) → IsCoding c → Chooses v clause c.search s → KeepsCode c (record c { search = s })
+pub choice_kept : {N S : Type 0} (c : SolverState N S) (s : SatState) (v : VariableId) (clause : ClauseId) → IsCoding c → Chooses v clause c.search s → KeepsClauses c (record c { search = s })
 choice_kept c s v clause coding chosen = code_kept c s coding (choice_ready c.search s c.watching v clause chosen coding.ready) chosen.same
 
-pub undo_kept : {N S : Type 0} (c : SolverState N S) (s : SatState) (level : ℕ) → IsCoding c → Undoes level c.search s → KeepsCode c (record c { search = s })
+pub undo_kept : {N S : Type 0} (c : SolverState N S) (s : SatState) (level : ℕ) → IsCoding c → Undoes level c.search s → KeepsClauses c (record c { search = s })
 undo_kept c s level coding undoes = code_kept c s coding (ready_undone c.search s c.watching level undoes coding.ready) undoes.same

@@ -12,7 +12,7 @@ use Rattle.resolvo_store_core.specs.Signed.{Signed, has}
 use Rattle.resolvo_sat.specs.Known.{clause_at}
 use Rattle.resolvo_sat.specs.State.{clauses_of}
 use Rattle.resolvo_sat.proofs.Literals.{has-cons, has_here, has_later}
-use Rattle.resolvo_sat.specs.Encoding.{Atom, Rule, plus, minus, literals_of}
+use Rattle.resolvo_sat.specs.RuleClauses.{Atom, Rule, plus, minus, literals_of}
 use Rattle.resolvo_sat.specs.SearchEnd.{DifferInDigit}
 use Rattle.resolvo_sat.specs.Numbered.{meaning, Means, Spells}
 use Rattle.resolvo_sat.proofs.Lists.{contains_none, contains_one, contains_cases, contains_first, contains_later}

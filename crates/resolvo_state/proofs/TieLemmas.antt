@@ -9,13 +9,13 @@ use Rattle.resolvo_pool_core.specs.declared.id.VariableId.{VariableId}
 use Rattle.resolvo_store_core.specs.Signed.{Signed}
 use Rattle.resolvo_store_core.specs.AtMostOne.{digit}
 use Rattle.resolvo_store_core.specs.Clauses.{no}
-use Rattle.resolvo_sat.specs.declared.state.SatClause.{SatClause}
+use Rattle.resolvo_sat.specs.declared.clause.SatClause.{SatClause}
 use Rattle.resolvo_sat.specs.Known.{clause_at}
 use Rattle.resolvo_sat.specs.State.{lists, clauses_of}
 use Rattle.resolvo_sat.proofs.Literals.{not_not}
 use Rattle.resolvo_sat.proofs.Clauses.{length-lists}
 use Rattle.resolvo_sat.proofs.StepLemmas.{lists-append, clause_at_end}
-use Rattle.resolvo_sat.specs.Encoding.{Rule}
+use Rattle.resolvo_sat.specs.RuleClauses.{Rule}
 use Rattle.resolvo_state.specs.declared.atom.ProofAtom.TheVariants.{Solvable, Bit}
 use Rattle.resolvo_state.specs.declared.clause_kind.ClauseKind.{ClauseKind}
 use Rattle.resolvo_state.specs.declared.clause_kind.ClauseKind.TheVariants.{Digit}

@@ -11,7 +11,7 @@ use Rattle.resolvo_pool_core.specs.declared.id.VariableId.{VariableId}
 use Rattle.resolvo_store_core.specs.AtMostOne.{Tracking, digit, ties, tie_all, among, needs_helper, tracked, new_ties}
 use Rattle.resolvo_store_core.proofs.Digits.{digit_below, digit_power}
 use Rattle.resolvo_sat.specs.State.{count_of}
-use Rattle.resolvo_sat.specs.Encoding.{Rule}
+use Rattle.resolvo_sat.specs.RuleClauses.{Rule}
 use Rattle.resolvo_sat.proofs.Lists.{contains_one, contains_parts, contains_left, contains_right, contains_only, contains_first, contains_later, contains_map, any_contained, contained_any}
 use Rattle.resolvo_state.specs.declared.atom.ProofAtom.TheVariants.{Solvable, Bit}
 use Rattle.resolvo_state.specs.declared.solver_state.SolverState.{SolverState}

@@ -4,7 +4,7 @@ use Rattle.resolvo_pool_core.specs.declared.id.VariableId.{VariableId}
 use Rattle.resolvo_pool_core.specs.declared.requirement.Requirement.TheVariants.{Single}
 use Rattle.resolvo_sat.specs.declared.state.VariableKind.{VariableKind}
 use Rattle.resolvo_sat.specs.declared.state.VariableKind.TheVariants as Kinds
-use Rattle.resolvo_sat.specs.Encoding.{Atom}
+use Rattle.resolvo_sat.specs.RuleClauses.{Atom}
 use Rattle.resolvo_state.specs.declared.atom.ProofAtom.{ProofAtom}
 use Rattle.resolvo_state.specs.declared.atom.ProofAtom.TheVariants.{Solvable, AtLeastOne, Gate, Outside, Bit}
 

@@ -3,7 +3,7 @@ use Rattle.std.specs.Prelude.{◌≡◌, true, cond, List, Option, None, Contain
 use Rattle.std.specs.List.{filter_map}
 use Rattle.resolvo_store_core.specs.Signed.{Signed, has}
 use Rattle.resolvo_store_core.specs.declared.decision.Entry.{Entry}
-use Rattle.resolvo_sat.specs.Encoding.{Atom, plus}
+use Rattle.resolvo_sat.specs.RuleClauses.{Atom, plus}
 use Rattle.resolvo_sat.specs.Numbered.{Means}
 use Rattle.resolvo_state.specs.declared.atom.ProofAtom.{ProofAtom}
 use Rattle.resolvo_state.specs.Atoms.{origin, solvable_of}

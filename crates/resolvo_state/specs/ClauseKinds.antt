@@ -1,7 +1,7 @@
 -- The rules that clauses encode.
 use Rattle.std.specs.Prelude.{◌≡◌, ℕ, zero, suc, List, [], ◌∷◌, Option, Some, None, slice_get}
 use Rattle.resolvo_store_core.specs.AtMostOne.{digit}
-use Rattle.resolvo_sat.specs.Encoding.{Rule, ForbidReason}
+use Rattle.resolvo_sat.specs.RuleClauses.{Rule, ForbidReason}
 use Rattle.resolvo_state.specs.declared.clause_kind.ClauseKind.{ClauseKind}
 use Rattle.resolvo_state.specs.declared.clause_kind.ClauseKind.TheVariants.{Root, Needs, Gated, Shared, Limits, LimitsOutside, IsOut, Locked, Excluded, Digit, IsThere, Learnt}
 

@@ -7,7 +7,7 @@ use Rattle.resolvo_store_core.specs.Signed.{Signed}
 use Rattle.resolvo_store_core.specs.AtMostOne.{Tracking, IsPrefixOf, digit}
 use Rattle.resolvo_sat.specs.Known.{clause_at}
 use Rattle.resolvo_sat.specs.State.{clauses_of}
-use Rattle.resolvo_sat.specs.Encoding.{Atom, Rule, minus}
+use Rattle.resolvo_sat.specs.RuleClauses.{Atom, Rule, minus}
 use Rattle.resolvo_sat.specs.Numbered.{Spells}
 use Rattle.resolvo_state.specs.declared.atom.ProofAtom.{ProofAtom}
 use Rattle.resolvo_state.specs.declared.atom.ProofAtom.TheVariants.{Solvable, Bit}

@@ -4,7 +4,7 @@ use Rattle.resolvo_pool_core.specs.declared.id.ClauseId.{ClauseId}
 use Rattle.resolvo_pool_core.specs.declared.id.VariableId.{VariableId}
 use Rattle.resolvo_store_core.specs.Signed.{Signed, has}
 use Rattle.resolvo_store_core.specs.AtMostOne.{IsPrefixOf}
-use Rattle.resolvo_sat.specs.declared.state.SatClause.{SatClause}
+use Rattle.resolvo_sat.specs.declared.clause.SatClause.{SatClause}
 use Rattle.resolvo_sat.specs.declared.state.SatState.{SatState}
 use Rattle.resolvo_sat.specs.declared.state.VariableKind.TheVariants as Kinds
 use Rattle.resolvo_sat.specs.declared.propagate_and_learn.StepResult.{StepResult}
@@ -115,7 +115,7 @@ pub record Advances {N S : Type 0} (old new : SolverState N S) (p : StepResult) 
   pub grows : Grows old new
 
 -- variables with their atoms, and clauses with their rules, are unchanged
-pub record KeepsCode {N S : Type 0} (old new : SolverState N S) : Type 0 where
+pub record KeepsClauses {N S : Type 0} (old new : SolverState N S) : Type 0 where
   pub coding : IsCoding new
   pub atoms : new.atoms ≡ old.atoms
   pub kinds : new.kinds ≡ old.kinds
@@ -123,7 +123,7 @@ pub record KeepsCode {N S : Type 0} (old new : SolverState N S) : Type 0 where
   pub clauses : new.search.clauses ≡ old.search.clauses
 
 -- no jump goes below the level
-pub record SetsFloor (level : ℕ) (old new : SatState) : Type 0 where
+pub record SetsBaseLevel (level : ℕ) (old new : SatState) : Type 0 where
   pub state : IsState new
   pub variables : new.variables ≡ old.variables
   pub clauses : new.clauses ≡ old.clauses

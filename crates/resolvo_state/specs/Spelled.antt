@@ -4,7 +4,7 @@ use Rattle.resolvo_pool_core.specs.RuleKeeping.{Packages}
 use Rattle.resolvo_store_core.specs.Signed.{Signed, has}
 use Rattle.resolvo_sat.specs.Known.{clause_at}
 use Rattle.resolvo_sat.specs.State.{clauses_of}
-use Rattle.resolvo_sat.specs.Encoding.{Atom, Rule, plus, literals_of}
+use Rattle.resolvo_sat.specs.RuleClauses.{Atom, Rule, plus, literals_of}
 use Rattle.resolvo_sat.specs.Numbered.{Means, Spells}
 use Rattle.resolvo_state.specs.declared.solver_state.SolverState.{SolverState}
 use Rattle.resolvo_state.specs.Atoms.{origin}

@@ -12,14 +12,14 @@ use crate::solver_state::SolverState;
 use resolvo_pool_core::id::{ClauseId, Exact};
 use resolvo_pool_core::want::R;
 use resolvo_sat::analyze::FinalConflict;
-use resolvo_sat::state::SatClause;
+use resolvo_sat::clause::SatClause;
 use resolvo_store_core::literal::Literal;
 use std::fmt::Debug;
 use std::hash::Hash;
 
 impl<N: Copy + Exact + Hash + Debug, S: Copy + Exact + Hash + Debug> SolverState<N, S> {
     /// Adds a clause that encodes a rule.
-    pub fn state(&mut self, kind: ClauseKind<N, S>, literals: Vec<Literal>) -> R<ClauseId>
+    pub fn add_clause(&mut self, kind: ClauseKind<N, S>, literals: Vec<Literal>) -> R<ClauseId>
         requires coding { IsCoding self.old }
         requires rule { IsSome (rule_of kind) }
         requires some { 0 < length literals.items }

@@ -7,7 +7,7 @@ ghost use Rattle.resolvo_sat.specs.Known.{IsUndecided};
 ghost use Rattle.resolvo_sat.specs.Entries.{made_true};
 ghost use Rattle.resolvo_sat.specs.State.{count_of, history};
 ghost use Rattle.resolvo_sat.specs.Steps.{Chooses, Undoes};
-ghost use Rattle.resolvo_state.specs.SolverState.{IsCoding, Advances, KeepsCode, SetsFloor, LacksNumber};
+ghost use Rattle.resolvo_state.specs.SolverState.{IsCoding, Advances, KeepsClauses, SetsBaseLevel, LacksNumber};
 
 use crate::clause_kind::ClauseKind;
 use crate::solver_state::SolverState;
@@ -44,7 +44,7 @@ impl<N: Copy + Exact + Hash + Debug, S: Copy + Exact + Hash + Debug> SolverState
         requires undecided { IsUndecided (made_true (history self.old.search)) (yes variable) }
         // After an answer.
         ensures chosen { OnOk result (Chooses variable clause self.old.search self.new.search) }
-        ensures kept { OnOk result (KeepsCode self.old self.new) }
+        ensures kept { OnOk result (KeepsClauses self.old self.new) }
         // After a refusal.
         ensures refusal { IsOkUnless result Memory }
     {
@@ -56,19 +56,19 @@ impl<N: Copy + Exact + Hash + Debug, S: Copy + Exact + Hash + Debug> SolverState
         requires coding { IsCoding self.old }
         requires one { 1 ≤ level }
         ensures undone { Undoes level self.old.search self.new.search }
-        ensures kept { KeepsCode self.old self.new }
+        ensures kept { KeepsClauses self.old self.new }
     {
         self.search.undo_until(level);
     }
 
     /// Begins a turn at a level: no jump goes below it.
-    pub fn set_floor(&mut self, level: u32)
+    pub fn set_base_level(&mut self, level: u32)
         requires coding { IsCoding self.old }
         requires one { 1 ≤ level }
-        ensures set { SetsFloor level self.old.search self.new.search }
+        ensures set { SetsBaseLevel level self.old.search self.new.search }
         ensures is { self.new
             ≡ record self.old { search = record self.old.search { base_level = level } } }
-        ensures kept { KeepsCode self.old self.new }
+        ensures kept { KeepsClauses self.old self.new }
     {
         self.search.base_level = level;
     }

@@ -285,6 +285,6 @@ fn add_tie<N: Copy + Exact + Hash + Debug, S: Copy + Exact + Hash + Debug>(
         place,
         bit,
     };
-    coding.state(kind, literals)?;
+    coding.add_clause(kind, literals)?;
     Ok(())
 }

@@ -1,7 +1,8 @@
 //! Conditions in disjunctive normal form, as lists of cases.
 //! A condition holds exactly if all version sets of some case are met. The solver encodes a
 //! conditional need as a clause for each case, and defers a case until it can be met.
-ghost use Rattle.std.specs.Prelude.{◌≡◌, ◌++◌, ◌∷◌, [], Bool, map, IfOk};
+ghost use Rattle.std.specs.Prelude.{◌≡◌, ◌++◌, ◌∷◌, [], Bool, map, IfOk, IsOkUnless};
+ghost use Rattle.resolvo_pool_core.specs.declared.want.Want.TheVariants.{Memory};
 ghost use Rattle.resolvo_pool_core.specs.declared.id.ConditionId.{ConditionId};
 ghost use Rattle.resolvo_pool_core.specs.declared.id.VersionSetId.{VersionSetId};
 ghost use Rattle.resolvo_store_core.specs.Cases.{cases, cases_of, pairs, condition_holds, some_case_met};
@@ -55,7 +56,9 @@ pub fn convert_conditions_to_dnf<I: Interner>(
     condition: ConditionId,
     interner: &I,
 ) -> R<Vec<Vec<VersionSetId>>>
-    ensures { IfOk result (λ v. cases_of v.items ≡ cases (I.condition_of interner.now) condition) }
+    ensures cases { IfOk result
+        (λ v. cases_of v.items ≡ cases (I.condition_of interner.now) condition) }
+    ensures refusal { IsOkUnless result Memory }
 {
     match interner.resolve_condition(condition) {
         Condition::Requirement(version_set) => one_case(alloc, version_set),
@@ -83,7 +86,8 @@ pub fn cases_are_exact<I: Interner>(interner: &I)
 
 /// The one case of a version set.
 fn one_case(alloc: Global, version_set: VersionSetId) -> R<Vec<Vec<VersionSetId>>>
-    ensures { IfOk result (λ v. cases_of v.items ≡ (version_set ∷ []) ∷ []) }
+    ensures cases { IfOk result (λ v. cases_of v.items ≡ (version_set ∷ []) ∷ []) }
+    ensures refusal { IsOkUnless result Memory }
 {
     let mut case = Vec::new(alloc);
     case.push(version_set)?;
@@ -94,7 +98,8 @@ fn one_case(alloc: Global, version_set: VersionSetId) -> R<Vec<Vec<VersionSetId>
 
 /// The conjunction of both cases.
 fn joined(alloc: Global, left: &[VersionSetId], right: &[VersionSetId]) -> R<Vec<VersionSetId>>
-    ensures { IfOk result (λ v. v.items ≡ left.now ++ right.now) }
+    ensures items { IfOk result (λ v. v.items ≡ left.now ++ right.now) }
+    ensures refusal { IsOkUnless result Memory }
 {
     let mut both = Vec::from_slice(alloc, left)?;
     both.extend_from_slice(right)?;
@@ -107,7 +112,9 @@ fn with_each(
     left: &[VersionSetId],
     right: &[Vec<VersionSetId>],
 ) -> R<Vec<Vec<VersionSetId>>>
-    ensures { IfOk result (λ v. cases_of v.items ≡ map (λ r. left.now ++ r) (cases_of right.now)) }
+    ensures cases { IfOk result
+        (λ v. cases_of v.items ≡ map (λ r. left.now ++ r) (cases_of right.now)) }
+    ensures refusal { IsOkUnless result Memory }
 {
     let mut all = Vec::new(alloc);
     for case in right {
@@ -122,7 +129,9 @@ fn pairs_of(
     left: &[Vec<VersionSetId>],
     right: &[Vec<VersionSetId>],
 ) -> R<Vec<Vec<VersionSetId>>>
-    ensures { IfOk result (λ v. cases_of v.items ≡ pairs (cases_of left.now) (cases_of right.now)) }
+    ensures cases { IfOk result
+        (λ v. cases_of v.items ≡ pairs (cases_of left.now) (cases_of right.now)) }
+    ensures refusal { IsOkUnless result Memory }
 {
     let mut all = Vec::new(alloc);
     for case in left {

@@ -15,7 +15,7 @@ use Rattle.resolvo_pool_core.specs.Provider.{Needs as Asked, needs_of}
 use Rattle.resolvo_pool_core.specs.RuleKeeping.{Packages, Rules, rules_of as rules_in, is_unknown}
 use Rattle.resolvo_sat.proofs.Lists.{contains_none, contains_one, contains_only, contains_parts, contains_left, contains_right, contains_map}
 use Rattle.resolvo_store_core.specs.Cases.{cases_of}
-use Rattle.resolvo_sat.specs.Encoding.{IsExact, Rule, ForbidReason, IsRule, IsForbidden}
+use Rattle.resolvo_sat.specs.RuleClauses.{IsExact, Rule, ForbidReason, IsRule, IsForbidden}
 use Rattle.resolvo_sat.specs.SearchEnd.{IsNeedEncoded}
 use Rattle.resolvo_state.proofs.Growth.{grows_same, grows_then}
 use Rattle.resolvo_state.proofs.Positions.{prefix_equal, prefix_get, prefix_same, prefix_then}

@@ -7,7 +7,7 @@ use Rattle.resolvo_pool_core.specs.declared.requirement.Requirement.{Requirement
 use Rattle.resolvo_pool_core.specs.declared.requirement.Requirement.TheVariants.{Single}
 use Rattle.resolvo_pool_core.specs.RuleKeeping.{Rules, rules_for}
 use Rattle.resolvo_packages.specs.declared.package_source.PackageSource as source
-use Rattle.resolvo_sat.specs.Encoding.{IsForbiddenIn, IsForbidden, cases_for}
+use Rattle.resolvo_sat.specs.RuleClauses.{IsForbiddenIn, IsForbidden, cases_for}
 use Rattle.resolvo_sat.specs.SearchEnd.{IsNeedEncoded}
 use Rattle.resolvo_encoder.specs.declared.conditions.ConditionSet.{ConditionSet}
 use Rattle.resolvo_encoder.specs.declared.encoder.Encoder.{Encoder}

@@ -11,7 +11,7 @@ use Rattle.resolvo_encoder.specs.declared.encoder.Encoder.{Encoder}
 use Rattle.resolvo_encoder.specs.Base.{KeepsTurns}
 use Rattle.resolvo_encoder.specs.Conditions.{IsDeferred}
 use Rattle.resolvo_encoder.specs.Encoded.{AreOrdered, IsCaseEncoded, IsEncoding}
-use Rattle.resolvo_sat.specs.Encoding.{cases_for}
+use Rattle.resolvo_sat.specs.RuleClauses.{cases_for}
 
 -- the root has these requirements and constraints
 abbrev pub IsRoot : List ConditionalRequirement → List VersionSetId → Rules → Type 0

@@ -2,12 +2,12 @@ use Rattle.std.proofs.Common.{◌≡◌, Bool, true, ◌&&◌, List, Ok, Err, re
 use Rattle.std.specs.Prelude.{◌==◌}
 use Rattle.std.proofs.lemmas.Bool.{and_parts, and_from, eqb-true, eq-eqb}
 use Rattle.resolvo_pool_core.specs.RuleKeeping.{Rules}
-use Rattle.resolvo_sat.specs.Encoding.{IsExact}
+use Rattle.resolvo_sat.specs.RuleClauses.{IsExact}
 use Rattle.resolvo_catalogue_core.specs.Grammar.{AreRequestLines}
 use Rattle.resolvo_catalogue.specs.Ids.{SolvableId, NameId}
 use Rattle.resolvo_catalogue.specs.Over.{IsOver, AreAsked}
 use Rattle.resolvo_catalogue.specs.Provider.{Provider, packages_of}
-use Rattle.resolvo_catalogue.specs.declared.impls.GivenUp.{GivenUp}
+use Rattle.resolvo_catalogue.specs.declared.dependency_provider.GivenUp.{GivenUp}
 use Rattle.resolvo.specs.Solver.{IsAnswer, IfEnded, Leaves, Kept, root_of as asked_of}
 use Rattle.resolvo.specs.declared.conflict.Conflict.{Conflict}
 use Rattle.resolvo.specs.declared.solver.UnsolvableOrCancelled.{UnsolvableOrCancelled}

@@ -1,5 +1,5 @@
 use Rattle.std.proofs.Common.{List, length, reverse, sym, ◌∙◌, ap}
-use Rattle.resolvo_sat.specs.Encoding.{IsExact}
+use Rattle.resolvo_sat.specs.RuleClauses.{IsExact}
 use Rattle.resolvo.specs.Turns.{accepted_of}
 use Rattle.resolvo.specs.declared.turns.Turn.{Turn}
 use Rattle.resolvo.proofs.Found.{later_denial, later_listed, no_reasons, root_right, turns_found}

@@ -12,4 +12,4 @@ pub returns-clause-provable : goal.returns-clause-provable
 returns-clause-provable g c = record { built = c.in_ok-found.ensures.built; denial = c.in_ok-found.ensures.denial }
 
 pub returns-clause-alone : goal.returns-clause-alone
-returns-clause-alone g c = λ ask. absurd (both_ways _ c.if-asks_nothing.false (c.asks_nothing.ensures.1 ask))
+returns-clause-alone g c = λ ask. absurd (both_ways _ c.if-is_empty_problem.false (c.is_empty_problem.ensures.1 ask))

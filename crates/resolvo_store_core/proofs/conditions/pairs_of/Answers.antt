@@ -13,7 +13,7 @@ loop-case-preserved c =
     let i = c.loop-case.case-index in
     let case = c.case-item.result in
     let item : c.deref.result.now ≡ (get_or left i case).items = c.deref.ensures.value ∙ ap (λ (v : Vec VersionSetId). v.items) c.case-item.is in
-    let paired : cases_of c.in_ok-paired.paired.items ≡ map (λ r. (get_or left i case).items ++ r) right = c.in_ok-paired.ensures ∙ ap (λ (l : List VersionSetId). map (λ r. l ++ r) right) item in
+    let paired : cases_of c.in_ok-paired.paired.items ≡ map (λ r. (get_or left i case).items ++ r) right = c.in_ok-paired.ensures.cases ∙ ap (λ (l : List VersionSetId). map (λ r. l ++ r) right) item in
     let more : cases_of (take (i + 1) left) ≡ cases_of (take i left) ++ (get_or left i case).items ∷ [] = map_more (λ (v : Vec VersionSetId). v.items) left i case c.loop-case-test.true in
     ap cases_of c.in_ok-append.ensures.items ∙ map-append (λ (v : Vec VersionSetId). v.items) c.loop-case.all.items c.in_ok-paired.paired.items
     ∙ ap (λ (cs : List (List VersionSetId)). cs ++ cases_of c.in_ok-paired.paired.items) c.loop-case.invariant

@@ -1,7 +1,7 @@
 use Rattle.std.proofs.Common.{List, sym, subst}
 use Rattle.resolvo_pool_core.specs.declared.id.VersionSetId.{VersionSetId}
 use Rattle.std.specs.Prelude.{Contains}
-use Rattle.resolvo_sat.specs.Encoding.{cases_for}
+use Rattle.resolvo_sat.specs.RuleClauses.{cases_for}
 use Rattle.resolvo_encoder.specs.Conditions.{IsDeferred}
 use Rattle.resolvo_turn.proofs.AddLemmas.{defers_in_order, defers_needs}
 use Rattle.resolvo_turn.proofs.defer_conditions.defer_case.Goals as goal

@@ -4,7 +4,7 @@ use Rattle.std.proofs.lemmas.List.{take_more, take_all}
 use Rattle.resolvo_pool_core.specs.declared.id.VersionSetId.{VersionSetId}
 use Rattle.resolvo_pool_core.specs.RuleKeeping.{Rules, rules_for}
 use Rattle.resolvo_store_core.specs.Cases.{cases_of}
-use Rattle.resolvo_sat.specs.Encoding.{cases_for}
+use Rattle.resolvo_sat.specs.RuleClauses.{cases_for}
 use Rattle.resolvo_sat.proofs.Lists.{contains_none}
 use Rattle.resolvo_encoder.specs.Conditions.{IsDeferred}
 use Rattle.resolvo_turn.specs.Encoder.{IsInOrder, AreDeferred}

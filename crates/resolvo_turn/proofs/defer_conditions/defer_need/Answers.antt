@@ -2,7 +2,7 @@ use Rattle.std.proofs.Common.{◌≡◌, List, sym, ◌∙◌, ap, subst}
 use Rattle.std.specs.Prelude.{Contains}
 use Rattle.resolvo_pool_core.specs.declared.id.VersionSetId.{VersionSetId}
 use Rattle.resolvo_store_core.specs.Cases.{cases_of, cases}
-use Rattle.resolvo_sat.specs.Encoding.{cases_for, cases_under}
+use Rattle.resolvo_sat.specs.RuleClauses.{cases_for, cases_under}
 use Rattle.resolvo_turn.specs.Encoder.{AreDeferred}
 use Rattle.resolvo_turn.proofs.defer_conditions.defer_need.Goals as goal
 

@@ -2,7 +2,7 @@ use Rattle.std.proofs.Common.{subst, rules}
 use Rattle.std.specs.Prelude.{Contains}
 use Rattle.resolvo_pool_core.specs.declared.requirement.Requirement.TheVariants.{Single}
 use Rattle.resolvo_pool_core.specs.RuleKeeping.{Rules, rules_for}
-use Rattle.resolvo_sat.specs.Encoding.{IsExact}
+use Rattle.resolvo_sat.specs.RuleClauses.{IsExact}
 use Rattle.resolvo_encoder.specs.Encoded.{IsLimitEncoded, rules_of}
 use Rattle.resolvo_encoder.proofs.RequireLemmas.{guard_grows}
 use Rattle.resolvo_turn.specs.Encoder.{IsInOrder}

@@ -3,7 +3,7 @@ use Rattle.std.specs.Prelude.{Contains}
 use Rattle.resolvo_pool_core.specs.declared.id.ConditionId.{ConditionId}
 use Rattle.resolvo_pool_core.specs.declared.id.VersionSetId.{VersionSetId}
 use Rattle.resolvo_pool_core.specs.RuleKeeping.{Rules}
-use Rattle.resolvo_sat.specs.Encoding.{IsExact, cases_under}
+use Rattle.resolvo_sat.specs.RuleClauses.{IsExact, cases_under}
 use Rattle.resolvo_sat.specs.SearchEnd.{IsNeedEncoded}
 use Rattle.resolvo_sat.proofs.Lists.{contains_one}
 use Rattle.resolvo_encoder.specs.Encoded.{rules_of}

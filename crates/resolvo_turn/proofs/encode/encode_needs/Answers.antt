@@ -6,7 +6,7 @@ use Rattle.resolvo_pool_core.specs.declared.requirement.ConditionalRequirement.{
 use Rattle.resolvo_pool_core.specs.declared.requirement.Requirement.TheVariants.{Single}
 use Rattle.resolvo_pool_core.specs.RuleKeeping.{Rules, rules_for}
 use Rattle.resolvo_sat.proofs.Lists.{contains_none}
-use Rattle.resolvo_sat.specs.Encoding.{IsExact}
+use Rattle.resolvo_sat.specs.RuleClauses.{IsExact}
 use Rattle.resolvo_turn.specs.Encoder.{IsInOrder, IsConditionalEncoded}
 use Rattle.resolvo_turn.proofs.AddLemmas.{needs_none, needs_then, more_encoded}
 use Rattle.resolvo_turn.specs.LacksIds.{StopsOne}

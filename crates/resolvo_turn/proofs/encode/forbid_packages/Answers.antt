@@ -3,7 +3,7 @@ use Rattle.std.specs.Prelude.{Contains}
 use Rattle.std.proofs.lemmas.List.{take_more, take_all}
 use Rattle.resolvo_pool_core.specs.RuleKeeping.{Rules}
 use Rattle.resolvo_sat.proofs.Lists.{contains_none, contains_parts, contains_one}
-use Rattle.resolvo_sat.specs.Encoding.{IsForbiddenIn, IsForbidden}
+use Rattle.resolvo_sat.specs.RuleClauses.{IsForbiddenIn, IsForbidden}
 use Rattle.resolvo_state.proofs.Growth.{forbid_grows}
 use Rattle.resolvo_encoder.specs.Encoded.{rules_of}
 use Rattle.resolvo_turn.specs.Encoder.{IsInOrder}

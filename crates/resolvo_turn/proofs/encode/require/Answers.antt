@@ -1,7 +1,7 @@
 use Rattle.std.proofs.Common.{List, [], subst, sym, rules}
 use Rattle.resolvo_packages.specs.declared.package_source.Offered.{Offered}
 use Rattle.resolvo_packages.specs.PackageSource.{AreOffered, offered_solvables}
-use Rattle.resolvo_sat.specs.Encoding.{IsExact}
+use Rattle.resolvo_sat.specs.RuleClauses.{IsExact}
 use Rattle.resolvo_encoder.proofs.BuildLemmas.{built_parents}
 use Rattle.resolvo_encoder.proofs.PickLemmas.{ordered_adds}
 use Rattle.resolvo_turn.proofs.AddLemmas.{parents_in_order, needs_then, extends_needs, parents_needs, need_stays}

@@ -2,7 +2,7 @@ use Rattle.std.proofs.Common.{◌≡◌, List, ◌∙◌, sym, subst, rules}
 use Rattle.std.specs.Prelude.{Contains}
 use Rattle.resolvo_pool_core.specs.declared.id.VersionSetId.{VersionSetId}
 use Rattle.resolvo_pool_core.specs.RuleKeeping.{Rules, rules_for}
-use Rattle.resolvo_sat.specs.Encoding.{IsExact, cases_for}
+use Rattle.resolvo_sat.specs.RuleClauses.{IsExact, cases_for}
 use Rattle.resolvo_sat.specs.SearchEnd.{IsNeedEncoded}
 use Rattle.resolvo_encoder.specs.declared.conditions.ConditionSet.{ConditionSet}
 use Rattle.resolvo_encoder.specs.Conditions.{AreSets, sets_case}

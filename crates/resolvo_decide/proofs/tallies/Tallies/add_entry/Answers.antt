@@ -1,11 +1,11 @@
 use Rattle.std.proofs.Common.{subst}
-use Rattle.resolvo_decide.specs.declared.tally.Change.TheVariants.{Met, Fell}
+use Rattle.resolvo_decide.specs.declared.tally.Change.TheVariants.{MadeTrue, MadeFalse}
 use Rattle.resolvo_decide.specs.Tallies.{Changes}
 use Rattle.resolvo_decide.proofs.TallyLemmas.{tallies_add}
 use Rattle.resolvo_decide.proofs.tallies.Tallies.add_entry.Goals as goal
 
 pub returns : goal.returns
 returns c = record {
-  kept = tallies_add c.args.entry c.args.self.now c.change.new.self c.change-2.new.self (subst (λ i. Changes Met i c.args.self.now c.change.new.self) c.index_made_true.ensures c.change.ensures)
-      (subst (λ i. Changes Fell i c.change.new.self c.change-2.new.self) c.index_made_false.ensures c.change-2.ensures);
+  kept = tallies_add c.args.entry c.args.self.now c.change.new.self c.change-2.new.self (subst (λ i. Changes MadeTrue i c.args.self.now c.change.new.self) c.index_made_true.ensures c.change.ensures)
+      (subst (λ i. Changes MadeFalse i c.change.new.self c.change-2.new.self) c.index_made_false.ensures c.change-2.ensures);
 }

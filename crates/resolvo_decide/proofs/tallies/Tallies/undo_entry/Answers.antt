@@ -1,11 +1,11 @@
 use Rattle.std.proofs.Common.{subst}
-use Rattle.resolvo_decide.specs.declared.tally.Change.TheVariants.{Unmet, Rose}
+use Rattle.resolvo_decide.specs.declared.tally.Change.TheVariants.{UndoneTrue, UndoneFalse}
 use Rattle.resolvo_decide.specs.Tallies.{Changes}
 use Rattle.resolvo_decide.proofs.TallyLemmas.{tallies_undo}
 use Rattle.resolvo_decide.proofs.tallies.Tallies.undo_entry.Goals as goal
 
 pub returns : goal.returns
 returns c = record {
-  kept = tallies_undo c.args.entry c.args.self.now c.change.new.self c.change-2.new.self (subst (λ i. Changes Unmet i c.args.self.now c.change.new.self) c.index_made_true.ensures c.change.ensures)
-      (subst (λ i. Changes Rose i c.change.new.self c.change-2.new.self) c.index_made_false.ensures c.change-2.ensures);
+  kept = tallies_undo c.args.entry c.args.self.now c.change.new.self c.change-2.new.self (subst (λ i. Changes UndoneTrue i c.args.self.now c.change.new.self) c.index_made_true.ensures c.change.ensures)
+      (subst (λ i. Changes UndoneFalse i c.change.new.self c.change-2.new.self) c.index_made_false.ensures c.change-2.ensures);
 }

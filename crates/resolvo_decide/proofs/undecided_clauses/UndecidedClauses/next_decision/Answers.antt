@@ -7,7 +7,7 @@ use Rattle.resolvo_decide.proofs.undecided_clauses.UndecidedClauses.next_decisio
 
 pub pick-next-requires-clause-fits : goal.pick-next-requires-clause-fits
 pick-next-requires-clause-fits g c =
-    subst (λ (qs : List NeedClause). Fits (literals_in c.args.lists.now) c.see_rest.new.self qs) (sym c.registered-needs.ensures) (c.in_ok-see_rest.ensures.fits (literals_in c.args.lists.now) c.args.queue.now c.requires.fits)
+    subst (λ (qs : List NeedClause). Fits (literals_in c.args.lists.now) c.sync.new.self qs) (sym c.registered-needs.ensures) (c.in_ok-sync.ensures.fits (literals_in c.args.lists.now) c.args.queue.now c.requires.fits)
 
 pub returns-clause-picked : goal.returns-clause-picked
 returns-clause-picked g c = record {
@@ -17,4 +17,4 @@ returns-clause-picked g c = record {
 }
 
 pub returns-clause-seen : goal.returns-clause-seen
-returns-clause-seen g c = ap (λ es. es.items) c.in_ok-note_count.ensures.seen ∙ ap (λ es. es.items) c.pick-next.ensures.seen ∙ c.in_ok-see_rest.ensures.seen ∙ c.stack.ensures.trail
+returns-clause-seen g c = ap (λ es. es.items) c.in_ok-note_count.ensures.seen ∙ ap (λ es. es.items) c.pick-next.ensures.seen ∙ c.in_ok-sync.ensures.seen ∙ c.stack.ensures.trail

@@ -1,5 +1,5 @@
 use Rattle.std.proofs.Common.{refl, sym, ◌∙◌}
-use Rattle.resolvo_sat.specs.Encoding.{IsExact}
+use Rattle.resolvo_sat.specs.RuleClauses.{IsExact}
 use Rattle.resolvo_encoder.proofs.CaseLiterals.{adds_known, adds_encoded}
 use Rattle.resolvo_encoder.proofs.Parents.{any_is_in}
 use Rattle.resolvo_encoder.proofs.encoder.Encoder.add_at_least_one.Goals as goal

@@ -1,7 +1,7 @@
 use Rattle.std.proofs.Common.{◌≡◌, ◌+◌, ◌∷◌, ◌++◌, [], ◌∙◌, List, take, subst, sym, ap}
 use Rattle.std.proofs.lemmas.List.{take_more, take_all}
 use Rattle.resolvo_store_core.specs.Signed.{Signed}
-use Rattle.resolvo_sat.specs.Encoding.{IsExact}
+use Rattle.resolvo_sat.specs.RuleClauses.{IsExact}
 use Rattle.resolvo_encoder.specs.declared.conditions.ConditionSet.{ConditionSet}
 use Rattle.resolvo_encoder.specs.AtLeastOneClauses.{CaseLiterals}
 use Rattle.resolvo_encoder.proofs.CaseLiterals.{case_literals_none, case_literals_more}

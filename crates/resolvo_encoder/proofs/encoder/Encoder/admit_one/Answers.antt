@@ -1,5 +1,5 @@
 use Rattle.std.proofs.Common.{sym, ◌∙◌}
-use Rattle.resolvo_sat.specs.Encoding.{IsExact}
+use Rattle.resolvo_sat.specs.RuleClauses.{IsExact}
 use Rattle.resolvo_encoder.proofs.FireLemmas.{not_contained}
 use Rattle.resolvo_encoder.proofs.CaseLiterals.{admits_other}
 use Rattle.resolvo_encoder.proofs.encoder.Encoder.admit_one.Goals as goal

@@ -1,4 +1,4 @@
-use Rattle.resolvo_sat.specs.Encoding.{IsExact}
+use Rattle.resolvo_sat.specs.RuleClauses.{IsExact}
 use Rattle.resolvo_encoder.proofs.NeedLemmas.{begun_encodes}
 use Rattle.resolvo_encoder.proofs.BuildLemmas.{built_begun}
 use Rattle.resolvo_encoder.proofs.encoder.Encoder.begin.Goals as goal

@@ -12,10 +12,10 @@ overflow_add-level g c = omega (arith, level_bounded c.args.self.now.coding.sear
 
 pub returns-clause-stays : goal.returns-clause-stays
 returns-clause-stays g c = λ p root lawful e.
-    subst (λ (x : SolverState _ _). IsEncoding g.S.PartialEq.eq p root (record c.args.self.now { coding = x })) (sym c.set_floor.ensures.is)
-    (floor_keeps g.S.PartialEq.eq p root c.args.self.now (c.top_level-level.result + 1) (subst (λ (x : SolverState _ _). IsCoding x) c.set_floor.ensures.is c.set_floor.ensures.kept.coding) e)
+    subst (λ (x : SolverState _ _). IsEncoding g.S.PartialEq.eq p root (record c.args.self.now { coding = x })) (sym c.set_base_level.ensures.is)
+    (floor_keeps g.S.PartialEq.eq p root c.args.self.now (c.top_level-level.result + 1) (subst (λ (x : SolverState _ _). IsCoding x) c.set_base_level.ensures.is c.set_base_level.ensures.kept.coding) e)
 
 pub returns-clause-built : goal.returns-clause-built
 returns-clause-built g c =
-    subst (λ (x : SolverState _ _). IsBuilt (record c.args.self.now { coding = x })) (sym c.set_floor.ensures.is)
-    (floor_built c.args.self.now (c.top_level-level.result + 1) (subst (λ (x : SolverState _ _). IsCoding x) c.set_floor.ensures.is c.set_floor.ensures.kept.coding) c.requires)
+    subst (λ (x : SolverState _ _). IsBuilt (record c.args.self.now { coding = x })) (sym c.set_base_level.ensures.is)
+    (floor_built c.args.self.now (c.top_level-level.result + 1) (subst (λ (x : SolverState _ _). IsCoding x) c.set_base_level.ensures.is c.set_base_level.ensures.kept.coding) c.requires)

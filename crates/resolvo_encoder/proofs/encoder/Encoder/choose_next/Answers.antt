@@ -1,7 +1,7 @@
 use Rattle.std.proofs.Common.{[], ◌∷◌, ◌<◌, ◌∙◌, sym, subst, ap, refl, inr}
 use Rattle.resolvo_store_core.specs.Lists.{named_by}
 use Rattle.resolvo_sat.specs.PropagateAndLearn.{weight_left}
-use Rattle.resolvo_sat.specs.Encoding.{IsExact}
+use Rattle.resolvo_sat.specs.RuleClauses.{IsExact}
 use Rattle.resolvo_encoder.specs.Base.{KeepsFirst}
 use Rattle.resolvo_encoder.specs.Progress.{AreQuiet}
 use Rattle.resolvo_encoder.specs.declared.encoder.Encoder.{Encoder}

@@ -2,7 +2,7 @@ use Rattle.std.proofs.Common.{◌∷◌, ◌∙◌, List, ap, subst}
 use Rattle.resolvo_packages.specs.declared.package_source.Offered.{Offered}
 use Rattle.resolvo_store_core.specs.Clauses.{no, candidate_literals}
 use Rattle.resolvo_store_core.specs.declared.lists.Candidate.{Candidate}
-use Rattle.resolvo_sat.specs.Encoding.{IsExact}
+use Rattle.resolvo_sat.specs.RuleClauses.{IsExact}
 use Rattle.resolvo_encoder.specs.Steps.{Enrols}
 use Rattle.resolvo_encoder.proofs.CaseLiterals.{set_literals}
 use Rattle.resolvo_encoder.proofs.encoder.Encoder.conjunct_literals.Goals as goal

@@ -1,6 +1,6 @@
 use Rattle.std.proofs.Common.{◌≡◌, ◌+◌, ◌∷◌, ◌++◌, [], ◌∙◌, List, take, subst, sym, ap}
 use Rattle.std.proofs.lemmas.List.{take_more, take_all}
-use Rattle.resolvo_sat.specs.Encoding.{IsExact}
+use Rattle.resolvo_sat.specs.RuleClauses.{IsExact}
 use Rattle.resolvo_encoder.specs.AtLeastOneClauses.{CoversAll}
 use Rattle.resolvo_encoder.proofs.PlaceLemmas.{covers_none, covers_more}
 use Rattle.resolvo_encoder.proofs.encoder.Encoder.cover_each.Goals as goal

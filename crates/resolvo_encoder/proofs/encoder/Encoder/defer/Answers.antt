@@ -1,5 +1,5 @@
 use Rattle.std.proofs.Common.{length, refl}
-use Rattle.resolvo_sat.specs.Encoding.{IsExact}
+use Rattle.resolvo_sat.specs.RuleClauses.{IsExact}
 use Rattle.resolvo_encoder.specs.declared.encoder.Deferred.{Deferred}
 use Rattle.resolvo_encoder.proofs.FireLemmas.{defer_keeps, deferred_last}
 use Rattle.resolvo_encoder.proofs.encoder.Encoder.defer.Goals as goal

@@ -1,7 +1,7 @@
 use Rattle.std.proofs.Common.{[], ◌∷◌, subst}
 use Rattle.resolvo_store_core.specs.Signed.{Signed}
 use Rattle.resolvo_store_core.specs.Clauses.{no}
-use Rattle.resolvo_sat.specs.Encoding.{IsExact, Rule}
+use Rattle.resolvo_sat.specs.RuleClauses.{IsExact, Rule}
 use Rattle.resolvo_encoder.specs.ClauseRules.{EncodesPair}
 use Rattle.resolvo_encoder.proofs.EncodesLemmas.{encodes_then, forbid_encodes}
 use Rattle.resolvo_encoder.proofs.encoder.Encoder.deny.Goals as goal

@@ -1,5 +1,5 @@
 use Rattle.std.proofs.Common.{arith}
-use Rattle.resolvo_sat.specs.Encoding.{IsExact}
+use Rattle.resolvo_sat.specs.RuleClauses.{IsExact}
 use Rattle.resolvo_encoder.proofs.RecordLemmas.{soft_taken}
 use Rattle.resolvo_encoder.proofs.encoder.Encoder.drop_soft.Goals as goal
 

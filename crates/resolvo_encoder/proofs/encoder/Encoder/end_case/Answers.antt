@@ -1,5 +1,5 @@
 use Rattle.std.proofs.Common.{◌≡◌, ◌==◌, refl, sym, ◌∙◌, ap, eqb-true, length, arith}
-use Rattle.resolvo_sat.specs.Encoding.{IsExact}
+use Rattle.resolvo_sat.specs.RuleClauses.{IsExact}
 use Rattle.resolvo_encoder.proofs.FireLemmas.{fire_keeps}
 use Rattle.resolvo_encoder.proofs.Parents.{inserted_long}
 use Rattle.resolvo_encoder.proofs.encoder.Encoder.end_case.Goals as goal

@@ -1,5 +1,5 @@
 use Rattle.std.proofs.Common.{refl}
-use Rattle.resolvo_sat.specs.Encoding.{ForbidReason}
+use Rattle.resolvo_sat.specs.RuleClauses.{ForbidReason}
 use Rattle.resolvo_encoder.proofs.encoder.Encoder.exclude.Goals as goal
 
 pub returns-clause-encodes : goal.returns-clause-encodes

@@ -1,5 +1,5 @@
 use Rattle.std.proofs.Common.{refl}
-use Rattle.resolvo_sat.specs.Encoding.{IsExact}
+use Rattle.resolvo_sat.specs.RuleClauses.{IsExact}
 use Rattle.resolvo_encoder.specs.Encoded.{rules_of}
 use Rattle.resolvo_encoder.proofs.EncodesLemmas.{forbids_are_rules, forbids_encoded, package_recorded}
 use Rattle.resolvo_encoder.proofs.encoder.Encoder.forbid.Goals as goal

@@ -1,7 +1,7 @@
 use Rattle.std.proofs.Common.{None, refl, sym, ◌∙◌, ap, rules}
 use Rattle.resolvo_sat.specs.State.{count_of}
 use Rattle.std.specs.Prelude.{option_copied}
-use Rattle.resolvo_sat.specs.Encoding.{IsExact, Rule}
+use Rattle.resolvo_sat.specs.RuleClauses.{IsExact, Rule}
 use Rattle.resolvo_state.specs.declared.atom.ProofAtom.TheVariants.{Gate}
 use Rattle.resolvo_state.specs.declared.clause_kind.ClauseKind.TheVariants as Kind
 use Rattle.resolvo_encoder.specs.declared.encoder.Encoder.{Encoder}

@@ -1,4 +1,4 @@
-use Rattle.resolvo_sat.specs.Encoding.{IsExact}
+use Rattle.resolvo_sat.specs.RuleClauses.{IsExact}
 use Rattle.resolvo_encoder.proofs.EncodesLemmas.{gives_encodes}
 use Rattle.resolvo_encoder.proofs.encoder.Encoder.give.Goals as goal
 

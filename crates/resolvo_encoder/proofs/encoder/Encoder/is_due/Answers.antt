@@ -2,7 +2,7 @@ use Rattle.std.proofs.Common.{◌==◌, List, refl, sym, ◌∙◌, subst, inl, 
 use Rattle.std.specs.Prelude.{Contains}
 use Rattle.std.proofs.lemmas.Option.{slice_get_within}
 use Rattle.resolvo_store_core.specs.declared.conditions.DeferredConjunct.{DeferredConjunct}
-use Rattle.resolvo_sat.specs.Encoding.{IsExact}
+use Rattle.resolvo_sat.specs.RuleClauses.{IsExact}
 use Rattle.resolvo_encoder.proofs.FireLemmas.{looked_up, not_contained, unmet_spent}
 use Rattle.resolvo_encoder.proofs.Parents.{any_is_in}
 use Rattle.resolvo_encoder.proofs.encoder.Encoder.is_due.Goals as goal

@@ -1,5 +1,5 @@
 use Rattle.std.proofs.Common.{refl}
-use Rattle.resolvo_sat.specs.Encoding.{IsExact}
+use Rattle.resolvo_sat.specs.RuleClauses.{IsExact}
 use Rattle.resolvo_encoder.proofs.BuildLemmas.{built_rest, trail_on}
 use Rattle.resolvo_encoder.proofs.StayLemmas.{digits_kept, refusal_goes, refusal_keeps}
 use Rattle.resolvo_encoder.proofs.Bases.{same_turns}

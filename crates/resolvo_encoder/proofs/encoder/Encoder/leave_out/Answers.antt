@@ -1,5 +1,5 @@
 use Rattle.std.proofs.Common.{refl}
-use Rattle.resolvo_sat.specs.Encoding.{IsExact, Rule}
+use Rattle.resolvo_sat.specs.RuleClauses.{IsExact, Rule}
 use Rattle.resolvo_encoder.specs.Encoded.{rules_of}
 use Rattle.resolvo_encoder.proofs.EncodesLemmas.{outs_are_rules, outside_encoded, set_recorded}
 use Rattle.resolvo_encoder.proofs.encoder.Encoder.leave_out.Goals as goal

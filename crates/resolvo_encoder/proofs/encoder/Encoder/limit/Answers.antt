@@ -1,5 +1,5 @@
 use Rattle.std.proofs.Common.{inl, inr, sym, subst}
-use Rattle.resolvo_sat.specs.Encoding.{IsExact, Rule, IsRule}
+use Rattle.resolvo_sat.specs.RuleClauses.{IsExact, Rule, IsRule}
 use Rattle.resolvo_sat.proofs.Lists.{contains_one, contains_only}
 use Rattle.resolvo_state.proofs.Growth.{rules_grow}
 use Rattle.resolvo_encoder.specs.Encoded.{rules_of}

@@ -1,6 +1,6 @@
 use Rattle.std.proofs.Common.{◌≡◌, ◌+◌, ◌∷◌, ◌++◌, [], ◌∙◌, List, take, subst, sym, ap}
 use Rattle.std.proofs.lemmas.List.{take_more, take_all}
-use Rattle.resolvo_sat.specs.Encoding.{IsExact, Rule}
+use Rattle.resolvo_sat.specs.RuleClauses.{IsExact, Rule}
 use Rattle.resolvo_packages.specs.declared.package_source.Offered.{Offered}
 use Rattle.resolvo_encoder.specs.ClauseRules.{EncodesRules, limit_rules}
 use Rattle.resolvo_encoder.proofs.EncodesLemmas.{encodes_none, encodes_more}

@@ -1,5 +1,5 @@
 use Rattle.std.proofs.Common.{refl, sym, ◌∙◌}
-use Rattle.resolvo_sat.specs.Encoding.{IsExact}
+use Rattle.resolvo_sat.specs.RuleClauses.{IsExact}
 use Rattle.resolvo_encoder.proofs.CaseLiterals.{named_known, package_named}
 use Rattle.resolvo_encoder.proofs.Parents.{any_is_in}
 use Rattle.resolvo_encoder.proofs.encoder.Encoder.name_package.Goals as goal

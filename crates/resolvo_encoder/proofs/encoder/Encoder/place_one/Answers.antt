@@ -1,4 +1,4 @@
-use Rattle.resolvo_sat.specs.Encoding.{IsExact}
+use Rattle.resolvo_sat.specs.RuleClauses.{IsExact}
 use Rattle.resolvo_encoder.proofs.PlaceLemmas.{built_places, places_one}
 use Rattle.resolvo_encoder.proofs.encoder.Encoder.place_one.Goals as goal
 

@@ -1,6 +1,6 @@
 use Rattle.std.proofs.Common.{ap, is_ok}
 use Rattle.std.proofs.ResultArms.{chosen}
-use Rattle.resolvo_sat.specs.Encoding.{IsExact}
+use Rattle.resolvo_sat.specs.RuleClauses.{IsExact}
 use Rattle.resolvo_encoder.proofs.RecordLemmas.{soft_recorded}
 use Rattle.resolvo_encoder.proofs.encoder.Encoder.record_soft.Goals as goal
 

@@ -1,4 +1,4 @@
-use Rattle.resolvo_sat.specs.Encoding.{IsExact}
+use Rattle.resolvo_sat.specs.RuleClauses.{IsExact}
 use Rattle.resolvo_encoder.proofs.EnrollLemmas.{enrols}
 use Rattle.resolvo_encoder.proofs.encoder.Encoder.register.Goals as goal
 

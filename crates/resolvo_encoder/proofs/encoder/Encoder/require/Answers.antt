@@ -1,6 +1,6 @@
 use Rattle.std.proofs.Common.{◌≡◌, inl, Option, Some, None, [], sym, ap, subst, rules}
 use Rattle.resolvo_pool_core.specs.declared.id.VariableId.{VariableId}
-use Rattle.resolvo_sat.specs.Encoding.{IsExact}
+use Rattle.resolvo_sat.specs.RuleClauses.{IsExact}
 use Rattle.resolvo_state.specs.declared.clause_kind.ClauseKind.TheVariants as Kind
 use Rattle.resolvo_encoder.specs.Encoded.{rules_of}
 use Rattle.resolvo_store_core.specs.Clauses.{root as root_variable}

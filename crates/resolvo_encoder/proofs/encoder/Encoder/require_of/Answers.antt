@@ -1,6 +1,6 @@
 use Rattle.std.proofs.Common.{inl, inr, Some, None, refl, ap, rules}
 use Rattle.resolvo_encoder.specs.declared.encoder.EncodedOnce.{EncodedOnce}
-use Rattle.resolvo_sat.specs.Encoding.{IsExact, Rule}
+use Rattle.resolvo_sat.specs.RuleClauses.{IsExact, Rule}
 use Rattle.resolvo_state.specs.declared.atom.ProofAtom.TheVariants.{Solvable, Gate}
 use Rattle.resolvo_state.specs.declared.clause_kind.ClauseKind.TheVariants as Kind
 use Rattle.resolvo_encoder.specs.declared.encoder.Encoder.{Encoder}

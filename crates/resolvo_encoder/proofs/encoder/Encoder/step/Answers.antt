@@ -3,7 +3,7 @@ use Rattle.resolvo_store_core.specs.AtMostOne.{IsPrefixOf}
 use Rattle.resolvo_store_core.specs.declared.decision.Entry.{Entry}
 use Rattle.resolvo_sat.specs.declared.propagate_and_learn.StepResult.{StepResult}
 use Rattle.resolvo_sat.specs.PropagateAndLearn.{weight_left}
-use Rattle.resolvo_sat.specs.Encoding.{IsExact}
+use Rattle.resolvo_sat.specs.RuleClauses.{IsExact}
 use Rattle.resolvo_state.specs.SolverState.{Advances}
 use Rattle.resolvo_encoder.specs.declared.encoder.Encoder.{Encoder}
 use Rattle.resolvo_encoder.specs.Progress.{IsChoice}
@@ -31,7 +31,7 @@ returns-in-Refused-clause-stays g c = λ p root lawful e.
 pub returns-in-Learnt-clause-stays : goal.returns-in-Learnt-clause-stays
 returns-in-Learnt-clause-stays g c = λ p root lawful e.
     let exact : IsExact g.S.PartialEq.eq = record { one = g.met.S.Exact.exact; own = g.met.S.Eq.laws.refl } in
-    needs_keep (record c.args.self.now { coding = c.propagate_and_learn.new.self }) c.look_back.new.self g.S.PartialEq.eq exact p root lawful (step_keeps c.args.self.now c.propagate_and_learn.new.self g.S.PartialEq.eq exact p root lawful c.in_ok-refusal.field-0 c.in_ok-refusal.ensures.advanced e)
+    needs_keep (record c.args.self.now { coding = c.propagate_and_learn.new.self }) c.truncate.new.self g.S.PartialEq.eq exact p root lawful (step_keeps c.args.self.now c.propagate_and_learn.new.self g.S.PartialEq.eq exact p root lawful c.in_ok-refusal.field-0 c.in_ok-refusal.ensures.advanced e)
 
 pub returns-in-Refused-clause-goes_on : goal.returns-in-Refused-clause-goes_on
 returns-in-Refused-clause-goes_on g c =
@@ -41,7 +41,7 @@ pub returns-in-Learnt-clause-goes_on : goal.returns-in-Learnt-clause-goes_on
 returns-in-Learnt-clause-goes_on g c =
     let went : Encoder _ _ = record c.args.self.now { coding = c.propagate_and_learn.new.self } in
     let goes = step_goes c.args.self.now c.propagate_and_learn.new.self c.in_ok-refusal.field-0 c.requires.coding c.in_ok-refusal.ensures.advanced in
-    goes_then c.args.self.now went (record went { needs = c.look_back.new.self }) goes (needs_go went c.look_back.new.self goes.coding)
+    goes_then c.args.self.now went (record went { needs = c.truncate.new.self }) goes (needs_go went c.truncate.new.self goes.coding)
 
 pub returns-in-Learnt-clause-step : goal.returns-in-Learnt-clause-step
 returns-in-Learnt-clause-step g c =
@@ -91,8 +91,8 @@ returns-in-Learnt-clause-built g c =
     let goes = step_goes c.args.self.now c.propagate_and_learn.new.self c.in_ok-refusal.field-0 c.requires.coding c.in_ok-refusal.ensures.advanced in
     let trail = c.propagate_and_learn.new.self.search.tracker.trail in
     let long : c.saturating_sub.result ≡ length trail - 1 = c.saturating_sub.ensures ∙ ap (λ (n : ℕ). n - 1) (ap length c.stack-entries.ensures.trail) in
-    built_back c.args.self.now c.propagate_and_learn.new.self c.look_back.new.self c.requires goes.coding goes.grows (digits_kept c.args.self.now (record c.args.self.now { coding = c.propagate_and_learn.new.self }) c.requires.coding goes) c.look_back.ensures.fits
-    (subst (λ (es : List Entry). IsPrefixOf es trail) (sym c.look_back.ensures.seen)
+    built_back c.args.self.now c.propagate_and_learn.new.self c.truncate.new.self c.requires goes.coding goes.grows (digits_kept c.args.self.now (record c.args.self.now { coding = c.propagate_and_learn.new.self }) c.requires.coding goes) c.truncate.ensures.fits
+    (subst (λ (es : List Entry). IsPrefixOf es trail) (sym c.truncate.ensures.seen)
     (seen_left c.args.self.now.needs.seen.items c.args.self.now.coding.search.tracker.trail trail c.saturating_sub.result c.requires.seen (kept_from_one c.args.self.now.coding.search.tracker.trail trail c.saturating_sub.result (λ k some low within. step.progress.kept k (omega arith) within))))
 
 pub returns-in-Refused-clause-first : goal.returns-in-Refused-clause-first

@@ -1,7 +1,7 @@
 use Rattle.std.proofs.Common.{List, refl, sym, subst, ◌∙◌}
 use Rattle.resolvo_packages.specs.declared.package_source.Offered.{Offered}
 use Rattle.resolvo_encoder.specs.AtLeastOneClauses.{AddsAtLeastOne}
-use Rattle.resolvo_sat.specs.Encoding.{IsExact}
+use Rattle.resolvo_sat.specs.RuleClauses.{IsExact}
 use Rattle.resolvo_encoder.proofs.CaseLiterals.{package_known, package_tracked}
 use Rattle.resolvo_encoder.proofs.Parents.{any_is_in, prefix_contains}
 use Rattle.resolvo_encoder.proofs.encoder.Encoder.track_at_least_one.Goals as goal

@@ -1,5 +1,5 @@
 use Rattle.std.proofs.Common.{refl}
-use Rattle.resolvo_sat.specs.declared.state.SatClause.{SatClause}
+use Rattle.resolvo_sat.specs.declared.clause.SatClause.{SatClause}
 use Rattle.resolvo_sat.proofs.Readiness.{ready_undone}
 use Rattle.resolvo_sat.proofs.ChooseLemmas.{undo_covered}
 use Rattle.resolvo_sat.proofs.JumpLemmas.{added_forces, learns}
