@@ -9,8 +9,8 @@ use crate::variable_map::{VariableMap, VariableOrigin};
 use resolvo_pool_core::id::{DisjunctionId, StringId, VariableId, VersionSetId};
 use resolvo_pool_core::provider::Interner;
 use resolvo_pool_core::requirement::{DisplayRequirement, Requirement};
-use resolvo_store_core::store_clause::Clause;
 use resolvo_store_core::literal::Literal;
+use resolvo_store_core::store_clause::Clause;
 use std::fmt;
 
 /// A clause, to be written: its kind, and its arguments in brackets. A condition's case and a

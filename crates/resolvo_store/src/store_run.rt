@@ -14,10 +14,10 @@ use resolvo_pool_core::id::VariableId;
 use resolvo_pool_core::requirement::Requirement;
 use resolvo_pool_core::solver_id::SolverId;
 use resolvo_pool_core::want::R;
-use resolvo_store_core::store_clause::Clause;
 use resolvo_store_core::decide_queue::NeedClause;
 use resolvo_store_core::decision::Decision;
 use resolvo_store_core::literal::Literal;
+use resolvo_store_core::store_clause::Clause;
 use resolvo_store_core::watched_literals::WatchedLiterals;
 use std::alloc::Global;
 
