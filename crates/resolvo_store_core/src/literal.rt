@@ -11,20 +11,24 @@ use crate::decision_map::DecisionMap;
 use resolvo_pool_core::id::{DenseIndex, VariableId};
 use std::marker::Model;
 
-/// A variable, or its negation, as one number: twice the variable's, and one more for a negation.
+/// A variable, or its negation.
 #[derive(Clone, Copy, Debug, PartialEq, Eq, PartialOrd, Ord, Hash)]
 pub struct Literal {
-    code: u32,
+    variable: VariableId,
+    positive: bool,
 }
 
 impl Model for Literal {
-    ghost use Rattle.resolvo_store_core.specs.Signed.{Signed, literal_at, index_in};
+    ghost use Rattle.std.specs.Prelude.{◌<◌};
+    ghost use Rattle.resolvo_store_core.specs.Signed.{Signed};
 
     ghost Value = { Signed };
 
-    ghost view = { λ l. literal_at l.code };
+    ghost view = { λ l. record { variable = l.variable; positive = l.positive } };
 
-    ghost inverse = { λ l. record { code = index_in l } };
+    ghost invariant = { λ l. l.variable.0 < 2147483648 };
+
+    ghost inverse = { λ l. record { variable = l.variable; positive = l.positive } };
 }
 
 impl Literal {
@@ -33,9 +37,9 @@ impl Literal {
         requires { variable.0 < 2147483648 }
         ensures { result ≡ record { variable = variable; positive = not negate } }
     {
-        let double = variable.0 * 2;
         Literal {
-            code: if negate { double + 1 } else { double },
+            variable,
+            positive: !negate,
         }
     }
 
@@ -44,11 +48,8 @@ impl Literal {
         ensures { result ≡ negation self }
     {
         Literal {
-            code: if self.code % 2 == 0 {
-                self.code + 1
-            } else {
-                self.code - 1
-            },
+            variable: self.variable,
+            positive: !self.positive,
         }
     }
 
@@ -57,14 +58,14 @@ impl Literal {
         ensures variable { result ≡ self.variable }
         ensures in_range { result.0 < 2147483648 }
     {
-        VariableId(self.code / 2)
+        self.variable
     }
 
     /// The value of the variable that makes this literal true.
     pub fn satisfying_value(self) -> bool
         ensures { result ≡ self.positive }
     {
-        self.code % 2 == 0
+        self.positive
     }
 }
 
@@ -74,8 +75,8 @@ impl Literal {
         ensures { result ≡ value_under (value_at values.now) self }
     {
         values
-            .value(self.variable())
-            .map(|value| value == self.satisfying_value())
+            .value(self.variable)
+            .map(|value| value == self.positive)
     }
 }
 
@@ -122,11 +123,15 @@ impl DenseIndex for Literal {
     ghost eq_by_index = { λ x y. same_is_index x y };
 
     fn from_index(index: usize) -> Literal {
-        Literal { code: index as u32 }
+        Literal {
+            variable: VariableId((index / 2) as u32),
+            positive: index % 2 == 0,
+        }
     }
 
     fn to_index(self) -> usize {
-        self.code as usize
+        let double = self.variable.0 as usize * 2;
+        if self.positive { double } else { double + 1 }
     }
 }
 
