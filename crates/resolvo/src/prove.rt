@@ -147,6 +147,7 @@ fn solve_in<A: PackageSource, C: ScoreMap<A::NameId> + Drop>(
         softs,
     ) {
         Ok(found) => {
+            // `?` converts the error
             let solved = prove(alloc, encoding, found)?;
             Ok(solved)
         }

@@ -89,6 +89,7 @@ fn run_others<A: PackageSource, C: ScoreMap<A::NameId>>(
     let conflict = run_soft_requirements(
         alloc, answers, encoding, scores, input, softs, &mut turns,
     )?;
+    // `?` converts the error
     let found = found_in(alloc, turns, conflict)?;
     Ok(found)
 }
@@ -119,6 +120,7 @@ fn run_turns<A: PackageSource, C: ScoreMap<A::NameId>>(
     if let Some(refusal) = turn {
         return Ok(SearchResult::Unsat(refusal));
     }
+    // split for the prover: the call's error and its answer are goals of their own
     let found = run_others(alloc, answers, encoding, scores, input, softs)?;
     Ok(found)
 }
@@ -188,6 +190,7 @@ pub fn search<A: PackageSource, C: ScoreMap<A::NameId> + Drop>(
     ensures cancelled { IfErr result (IsCancelledBy (A.may_cancel answers.old)) }
 {
     if is_empty_problem(requirements, constraints, softs) {
+        // split for the prover: the call's error and its answer are goals of their own
         let nothing = find_nothing(alloc, answers, encoding)?;
         return Ok(nothing);
     }
@@ -197,6 +200,7 @@ pub fn search<A: PackageSource, C: ScoreMap<A::NameId> + Drop>(
         constraints,
     };
     let mut scores = Scores::<A::NameId, C>::new(alloc);
+    // split for the prover: the call's error and its answer are goals of their own
     let found = run_turns(alloc, answers, encoding, &mut scores, &input, softs)?;
     Ok(found)
 }

@@ -80,6 +80,7 @@ fn run_open<A: PackageSource, C: ScoreMap<A::NameId>>(
 {
     encoding.begin_turn();
     encoding.add_parent(soft)?;
+    // split for the prover: the call's error and its answer are goals of their own
     let refusal = run_turn(alloc, answers, encoding, scores, input, Some(variable))?;
     Ok(refusal)
 }
@@ -169,6 +170,7 @@ pub fn run_soft_requirement<A: PackageSource, C: ScoreMap<A::NameId>>(
         return Ok(SoftOutcome::AlreadyChosen);
     }
     let turn = run_open(alloc, answers, encoding, scores, input, soft, variable)?;
+    // `?` converts the error
     let status = close_turn(encoding, turn)?;
     Ok(status)
 }

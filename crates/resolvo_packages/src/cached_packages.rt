@@ -115,6 +115,7 @@ impl<D: DependencyProvider> PackageSource for CachedPackages<D> {
         solvable: D::SolvableId,
     ) -> Result<Dependencies, CacheFault<D::Cancel>> {
         self.cache.cache_dependencies(solvable)?;
+        // `?` converts the error
         let found = copy_of(self.alloc, self.cache.dependencies(solvable))?;
         Ok(found)
     }
@@ -124,6 +125,7 @@ impl<D: DependencyProvider> PackageSource for CachedPackages<D> {
         requirement: Requirement,
     ) -> Result<Vec<Offered<D::NameId, D::SolvableId>>, CacheFault<D::Cancel>> {
         self.cache.cache_sorted_candidates(requirement)?;
+        // `?` converts the error
         let offered = self.offered(self.cache.sorted_candidates(requirement))?;
         Ok(offered)
     }
@@ -154,6 +156,7 @@ impl<D: DependencyProvider> PackageSource for CachedPackages<D> {
         name: D::NameId,
     ) -> Result<Vec<ForbiddenSolvable<D::SolvableId>>, CacheFault<D::Cancel>> {
         self.cache.cache_candidates(name)?;
+        // `?` converts the error
         let forbidden = forbidden_candidates(self.alloc, self.cache.candidates(name))?;
         Ok(forbidden)
     }
@@ -163,6 +166,7 @@ impl<D: DependencyProvider> PackageSource for CachedPackages<D> {
         version_set: VersionSetId,
     ) -> Result<Vec<Offered<D::NameId, D::SolvableId>>, CacheFault<D::Cancel>> {
         self.cache.cache_non_matching_candidates(version_set)?;
+        // `?` converts the error
         let outside = self.offered(self.cache.non_matching_candidates(version_set))?;
         Ok(outside)
     }

@@ -74,6 +74,7 @@ fn record_instance<I: Interner>(
 {
     if let ProofRule::Digit { solvable, .. } = rule {
         let name = interner.solvable_name(*solvable);
+        // `?` converts the error
         let before = instances.insert(name, *solvable)?;
         Ok(before)
     } else {

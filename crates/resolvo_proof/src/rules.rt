@@ -87,6 +87,7 @@ pub fn requirements_of<N: Copy + Exact + Hash + Debug, S: Copy + Exact + Hash + 
             named.insert_full(requirement)?;
         }
     }
+    // `?` converts the error
     let requirements = Vec::from_slice(alloc, named.as_slice())?;
     Ok(requirements)
 }
