@@ -40,7 +40,9 @@ impl<N: Copy + Exact + Hash + Debug + Drop, S: Copy + Exact + Hash + Debug> Enco
     /// The at-least-one clause: a chosen solvable makes its package's at-least-one variable true.
     fn encode_at_least_one(&mut self, alloc: Global, one: Offered<N, S>) -> R<()>
         requires { IsBuilt self.old }
-        ensures encodes { OnOk result (EncodesRules S.eq (Rule.is_there one.name one.solvable ∷ []) self.old self.new) }
+        ensures encodes { OnOk result
+            (EncodesRules S.eq (Rule.is_there one.name one.solvable ∷ [])
+            self.old self.new) }
         ensures ids { IsErrOf result Ids → LacksNumber self.new.coding }
     {
         let first = self.give(ProofAtom::Solvable(one.solvable))?;

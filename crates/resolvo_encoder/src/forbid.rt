@@ -67,7 +67,9 @@ impl<N: Copy + Exact + Hash + Debug + Drop, S: Copy + Exact + Hash + Debug> Enco
     /// Forbids a solvable, since its dependencies are unknown.
     pub fn exclude(&mut self, alloc: Global, solvable: S, reason: StringId) -> R<()>
         requires { IsBuilt self.old }
-        ensures encodes { OnOk result (EncodesRules S.eq (Rule.forbids (ForbidReason.word reason) solvable ∷ []) self.old self.new) }
+        ensures encodes { OnOk result
+            (EncodesRules S.eq (Rule.forbids (ForbidReason.word reason) solvable ∷ [])
+            self.old self.new) }
         ensures ids { IsErrOf result Ids → LacksNumber self.new.coding }
     {
         self.deny(alloc, solvable, ClauseKind::Excluded { solvable, reason })?;
@@ -163,7 +165,9 @@ impl<N: Copy + Exact + Hash + Debug + Drop, S: Copy + Exact + Hash + Debug> Enco
         outside: &[Offered<N, S>],
     ) -> R<()>
         requires { IsBuilt self.old }
-        ensures encodes { OnOk result (EncodesRules S.eq (limit_rules parent version_set outside.now) self.old self.new) }
+        ensures encodes { OnOk result
+            (EncodesRules S.eq (limit_rules parent version_set outside.now)
+            self.old self.new) }
         ensures ids { IsErrOf result Ids → LacksNumber self.new.coding }
     {
         for one in outside {
@@ -214,7 +218,9 @@ impl<N: Copy + Exact + Hash + Debug + Drop, S: Copy + Exact + Hash + Debug> Enco
         barred: S,
     ) -> R<()>
         requires { IsBuilt self.old }
-        ensures encodes { OnOk result (EncodesRules S.eq (Rule.limits parent version_set barred ∷ []) self.old self.new) }
+        ensures encodes { OnOk result
+            (EncodesRules S.eq (Rule.limits parent version_set barred ∷ [])
+            self.old self.new) }
         ensures ids { IsErrOf result Ids → LacksNumber self.new.coding }
     {
         let first = self.parent_variable(parent)?;
@@ -238,7 +244,9 @@ impl<N: Copy + Exact + Hash + Debug + Drop, S: Copy + Exact + Hash + Debug> Enco
     ) -> R<()>
         requires { IsBuilt self.old }
         // After an answer.
-        ensures encodes { OnOk result (EncodesRules S.eq (Rule.limits_outside parent version_set ∷ []) self.old self.new) }
+        ensures encodes { OnOk result
+            (EncodesRules S.eq (Rule.limits_outside parent version_set ∷ [])
+            self.old self.new) }
         ensures encoded { OnOk result
             ((p : Packages N S) (root : Rules)
             → IsLawful p
@@ -263,7 +271,9 @@ impl<N: Copy + Exact + Hash + Debug + Drop, S: Copy + Exact + Hash + Debug> Enco
     /// Encodes that a solvable is outside a version set.
     fn encode_out(&mut self, alloc: Global, version_set: VersionSetId, solvable: S) -> R<()>
         requires { IsBuilt self.old }
-        ensures encodes { OnOk result (EncodesRules S.eq (Rule.is_out version_set solvable ∷ []) self.old self.new) }
+        ensures encodes { OnOk result
+            (EncodesRules S.eq (Rule.is_out version_set solvable ∷ [])
+            self.old self.new) }
         ensures ids { IsErrOf result Ids → LacksNumber self.new.coding }
     {
         let first = self.give(ProofAtom::Solvable(solvable))?;

@@ -132,8 +132,15 @@ impl<D: DependencyProvider> SolverCache<D> {
     #[tactic(auto, using(crate::proofs::HintedLemmas::hinted_none))]
     pub fn new(alloc: Global, provider: D) -> SolverCache<D>
         ensures { result
-            ≡ record
-            { provider = provider; names = []; matching = []; non_matching = []; sorted = []; unions = []; solvables = [] } }
+            ≡ record {
+              provider = provider;
+              names = [];
+              matching = [];
+              non_matching = [];
+              sorted = [];
+              unions = [];
+              solvables = [];
+            } }
     {
         SolverCache {
             provider,

@@ -1,4 +1,5 @@
-//! A solver's answer as lines: what is chosen, left out and deferred, the questions of its provider, and the message of a conflict.
+//! A solver's answer as lines: what is chosen, left out and deferred, the questions of its
+//! provider, and the message of a conflict.
 
 use crate::solve::{Asked, solved};
 use resolvo::{Conflict, Solver, Turn, UnsolvableOrCancelled};
@@ -236,7 +237,8 @@ fn write_answer<P: DependencyProvider<Cancel = u32>>(
     write_found(alloc, solver, &found, text, why)
 }
 
-/// Writes a line where a solver has clauses, deferred cases, turns or a proof before a search, or after one that was stopped.
+/// Writes a line where a solver has clauses, deferred cases, turns or a proof before a search, or
+/// after one that was stopped.
 fn write_rest<P: DependencyProvider>(text: &mut String, solver: &Solver<P>) -> R<()> {
     let counts = (solver.clause_count(), solver.deferred_requirements_count());
     if counts != (0, 0) || !solver.turns().is_empty() || !solver.proof().is_empty() {

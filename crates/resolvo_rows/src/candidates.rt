@@ -21,7 +21,8 @@ fn write_found<C: Drop>(text: &mut String, found: Result<&[SolvableId], CacheFau
     }
 }
 
-/// Writes the candidates of the first need, in the order in which they are tried, and those of the first limit's package that it leaves out.
+/// Writes the candidates of the first need, in the order in which they are tried. Then writes those
+/// of the first limit's package that it leaves out.
 fn write_order<P: DependencyProvider<SolvableId = SolvableId, Cancel = GivenUp>>(
     cache: &mut SolverCache<P>,
     root: &RequestIds,

@@ -297,7 +297,8 @@ fn compare_pair(alloc: Global, seed: u32, tally: &mut Tally) -> R<bool> {
     }
 }
 
-/// Compares so many generated pairs with all sets. More than a quarter have a solution, and more than a quarter have none.
+/// Compares so many generated pairs with all sets. More than a quarter have a solution, and more
+/// than a quarter have none.
 pub fn compare_pairs(alloc: Global, count: u32, tally: &mut Tally) -> R<()> {
     tally.pairs = tally.pairs.saturating_add(count);
     let mut kept = 0u32;
