@@ -1,7 +1,7 @@
 use Rattle.std.proofs.Common.{rules, refl}
 use Rattle.resolvo_state.specs.SolverState.{LacksNumber}
 use Rattle.resolvo_state.proofs.Clauses.{adds_rule_is}
-use Rattle.resolvo_state.proofs.solver_state.SolverState.state.Goals as goal
+use Rattle.resolvo_state.proofs.solver_state.SolverState.add_clause.Goals as goal
 
 pub returns-clause-added_rule : goal.returns-clause-added_rule
 returns-clause-added_rule g c = adds_rule_is c.args.self.now _ c.args.kind _ c.in_ok-clause.clause c.requires.coding c.requires.rule c.in_ok-clause.ensures.added c.new-causes.ensures.items refl c.in_ok-push.ensures.items
