@@ -21,7 +21,7 @@ use Rattle.resolvo_pool_core.specs.Provider as pool
 use Rattle.resolvo_pool_core.specs.RuleKeeping.{Packages, rules_of, rules_for, is_in, is_outside}
 use Rattle.resolvo_pool_core.specs.Text.{alternatives_of}
 use Rattle.resolvo_store_core.specs.AtMostOne.{digit}
-use Rattle.resolvo_sat.specs.RuleClauses.{Atom, IsExact, ForbidReason, plus, minus, solvables, IsRule, asks, has_condition, same_requirement, cases_under, parent_literals, case_literals, candidate_literals, literals_of}
+use Rattle.resolvo_sat.specs.RuleClauses.{Atom, IsExact, ForbidReason, plus, minus, solvables, IsRule, has_plain_need, has_condition, same_requirement, cases_under, parent_literals, case_literals, candidate_literals, literals_of}
 use Rattle.resolvo_sat.proofs.Lists.{contains_none, contains_cases, contains_first, contains_later, contains_parts, map_contains, filter_contains, any_contained, contains_map}
 use Rattle.resolvo_state.specs.declared.atom.ProofAtom.{ProofAtom}
 use Rattle.resolvo_state.specs.declared.atom.ProofAtom.TheVariants as atom
@@ -160,7 +160,7 @@ module _ (catalogue : List Line) (source : ReadRequest) (provider : Provider) (o
       let w = known_version catalogue provider over same exact s (λ e. contains_none v (subst (λ (t : VersionDependencies). Contains t.constrains v) e c)) in
       (λ t e. subst (λ (x : SolvableId). IsVersion catalogue provider.ids x) (one_some e) w, limits_known s v c)
 
-  gate_known : (s : SolvableId) (r : Requirement) → asks (rules_of (dependencies_of provider s)).requirements r ≡ true → IsVersion catalogue provider.ids s × IsSpelledRequirement catalogue provider.ids r
+  gate_known : (s : SolvableId) (r : Requirement) → has_plain_need (rules_of (dependencies_of provider s)).requirements r ≡ true → IsVersion catalogue provider.ids s × IsSpelledRequirement catalogue provider.ids r
   gate_known s r h =
       let x = any_contained (λ (n : ConditionalRequirement). not (has_condition n.condition) && same_requirement r n.requirement) _ h in
       let is : r ≡ x.0.requirement = one_requirement r x.0.requirement (and_parts (not (has_condition x.0.condition)) _ x.2).1 in

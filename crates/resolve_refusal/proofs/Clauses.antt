@@ -23,7 +23,7 @@ use Rattle.resolvo_pool_core.specs.RuleKeeping.{rules_of, rules_for}
 use Rattle.resolvo_pool_core.specs.RuleKeeping as pool_rules
 use Rattle.resolvo_pool_core.specs.Text.{alternatives_of}
 use Rattle.resolvo_store_core.specs.AtMostOne.{digit}
-use Rattle.resolvo_sat.specs.RuleClauses.{Atom, Rule, IsExact, plus, minus, solvables, parent_literals, case_literals, candidate_literals, same_requirement, asks, has_condition, literals_of}
+use Rattle.resolvo_sat.specs.RuleClauses.{Atom, Rule, IsExact, plus, minus, solvables, parent_literals, case_literals, candidate_literals, same_requirement, has_plain_need, has_condition, literals_of}
 use Rattle.resolvo_sat.proofs.Lists.{contains_none, contains_cases, contains_first, contains_later, contains_left, contains_right, contains_parts, contains_map, map_contains, contains_filter, filter_contains, any_contained, contained_all}
 use Rattle.resolvo_state.specs.declared.atom.ProofAtom.{ProofAtom}
 use Rattle.resolvo_state.specs.declared.atom.ProofAtom.TheVariants as atom
@@ -241,7 +241,7 @@ module _ (catalogue : List Line) (provider : Provider) (over : IsOver catalogue 
         let (v, r) = needed s need h in
         ((λ t e. (let at : s ≡ t = one_some e in subst (λ (x : SolvableId). IsVersion catalogue provider.ids x) at v)), r)
 
-    pub gate_asked : (s : SolvableId) (r : Requirement) → asks (rules_of (dependencies_of provider s)).requirements r ≡ true → IsVersion catalogue provider.ids s × IsRequirement catalogue provider.ids r
+    pub gate_asked : (s : SolvableId) (r : Requirement) → has_plain_need (rules_of (dependencies_of provider s)).requirements r ≡ true → IsVersion catalogue provider.ids s × IsRequirement catalogue provider.ids r
     gate_asked s r h =
         let (need, a, t) = any_contained (λ (n : ConditionalRequirement). not (has_condition n.condition) && same_requirement r n.requirement) _ h in
         let is : r ≡ need.requirement = same_requirement_is r need.requirement (and_parts (not (has_condition need.condition)) _ t).1 in

@@ -28,7 +28,7 @@ use Rattle.resolvo_sat.specs.Entries.{IsOnTrail}
 use Rattle.resolvo_sat.specs.Begin.{IsRootClause, root_entry}
 use Rattle.resolvo_sat.proofs.Literals.{has-cons, has-append, has_here, has_later}
 use Rattle.resolvo_sat.proofs.Clauses.{literals_at}
-use Rattle.resolvo_sat.specs.RuleClauses.{IsExact, Atom, Rule, plus, minus, IsRule, literals_of, parent_literals, case_literals, candidate_literals, cases_under, cases_for, asks, has_condition, same_requirement}
+use Rattle.resolvo_sat.specs.RuleClauses.{IsExact, Atom, Rule, plus, minus, IsRule, literals_of, parent_literals, case_literals, candidate_literals, cases_under, cases_for, has_plain_need, has_condition, same_requirement}
 use Rattle.resolvo_sat.specs.SearchEnd.{HasClause}
 use Rattle.resolvo_sat.specs.Numbered.{meaning, Means, Spells}
 use Rattle.resolvo_sat.proofs.Lists.{contains_none, contains_cases, contains_first, contains_later, contains_left, contains_right, contains_one, contains_only, contains_parts, contained_any}
@@ -475,7 +475,7 @@ module _ {N S : Type 0} (same : S → S → Bool) (exact : IsExact same) (p : Pa
           (digits_more x old.coding new.coding states.kinds (not_digit x rule encodes_rule denial))
 
   -- a requirement that some solvable has without condition may have a gate
-  pub needed_asks : (s : S) (need : ConditionalRequirement) → Contains (rules_for same p root (Some s)).requirements need → need.condition ≡ None → asks (rules_of (p.dependencies_of s)).requirements need.requirement ≡ true
+  pub needed_asks : (s : S) (need : ConditionalRequirement) → Contains (rules_for same p root (Some s)).requirements need → need.condition ≡ None → has_plain_need (rules_of (p.dependencies_of s)).requirements need.requirement ≡ true
   needed_asks s need listed free =
       contained_any (λ (n : ConditionalRequirement). not (has_condition n.condition) && same_requirement need.requirement n.requirement) need (rules_of (p.dependencies_of s)).requirements listed
       (ap (λ c. not (has_condition c) && same_requirement need.requirement need.requirement) free ∙ same_requirement-self need.requirement)
