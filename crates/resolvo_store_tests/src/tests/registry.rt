@@ -143,7 +143,7 @@ fn need_one(
         need,
         case: Vec::new(alloc),
     };
-    coding.state(kinds, literals)?;
+    coding.add_clause(kinds, literals)?;
     Ok(())
 }
 
@@ -164,7 +164,7 @@ fn exclude(
         solvable,
         reason: StringId(0),
     };
-    coding.state(kinds, literals)?;
+    coding.add_clause(kinds, literals)?;
     Ok(())
 }
 

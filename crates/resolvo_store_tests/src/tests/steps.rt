@@ -53,7 +53,7 @@ fn state(
     if literals.is_empty() {
         return Ok(());
     }
-    coding.state(kind, literals)?;
+    coding.add_clause(kind, literals)?;
     Ok(())
 }
 
