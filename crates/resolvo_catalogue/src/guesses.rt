@@ -7,6 +7,9 @@ use std::alloc::{AllocError, Global};
 /// How many guesses there is room for at first.
 const FEW: usize = 16;
 
+/// There is room for at least so many guesses a number, so that few numbers share a place.
+const ROOM: usize = 4;
+
 /// The number that was noted last for each place that a hash may have.
 #[derive(Drop)]
 pub struct Guesses {
@@ -25,12 +28,14 @@ impl Guesses {
         self.numbers.get(self.place(hash)).copied()
     }
 
-    /// Notes a number. There is room for as many guesses as numbers, so these are forgotten where
-    /// that is doubled.
+    /// Notes a number. Where the room is doubled, its second half repeats the first one: the new bit of
+    /// a hash is either, so each guess stays.
     pub fn note(&mut self, alloc: Global, hash: usize, number: u32) -> Result<(), AllocError> {
         let count = self.numbers.len();
-        if number as usize >= count {
-            self.numbers = vec![in alloc; number; count.saturating_mul(2).max(FEW)]?;
+        if count == 0 {
+            self.numbers = vec![in alloc; number; FEW]?;
+        } else if number as usize >= count / ROOM {
+            self.numbers.extend_from_within(..)?;
         }
         let place = self.place(hash);
         if let Some(noted) = self.numbers.get_mut(place) {
