@@ -1,14 +1,11 @@
 -- The count of a message's bytes.
-use Rattle.std.proofs.Common.{◌≡◌, ℕ, zero, suc, ◌-◌, ◌+◌, ◌<◌, ◌≤◌, true, List, [], ◌∷◌, ◌++◌, length, refl, sym, ap, ◌∙◌, arith}
-use Rattle.std.specs.Prelude.{◌==◌, Option, Some, None, IfSome}
+use Rattle.std.proofs.Common.{◌≡◌, ℕ, zero, suc, ◌-◌, ◌+◌, ◌<◌, ◌≤◌, List, [], ◌∷◌, ◌++◌, length, refl, ap, ◌∙◌, arith}
+use Rattle.std.specs.Prelude.{Option, Some, None, IfSome}
 use Rattle.std.specs.Fmt.{WritesInCalls}
 use Rattle.std.specs.List.{FoldsTo, concat}
-use Rattle.std.proofs.lemmas.Bool.{eqb-true}
 use Rattle.std.proofs.lemmas.List.{length-append}
-use Rattle.std.proofs.lemmas.List.Concat.{flat_map-append}
-use Rattle.resolvo_graph.specs.declared.wording.MessageLine.{MessageLine}
 use Rattle.resolvo_graph.specs.Message.{text_of}
-use Rattle.resolvo_graph.specs.Words.{Meaning, line_text}
+use Rattle.resolvo_graph.specs.Words.{Meaning}
 
 -- of a text that is known
 pub if_text : (o : Option (List ℕ)) {P Q : List ℕ → Type 0} → ((text : List ℕ) → P text → Q text) → IfSome o P → IfSome o Q
@@ -27,20 +24,6 @@ module _ {W : Type 0} (took : W → List ℕ → W → Type 0) (room : W → ℕ
 
   pub room_after : (w : W) (text : List ℕ) (v : W) → WritesInCalls took w text v → room v ≡ room w - length text
   room_after w text v p = room_after_calls w p.parts v p.calls ∙ ap (λ (l : List ℕ). room w - length l) p.whole
-
--- some lines more are counted
-pub counted : {X N S : Type 0} (m : X → Meaning N S) (x y z : X) (before lines page : List (MessageLine S)) (room left now : ℕ) → y ≡ x → z ≡ y → left ≡ room - length (text_of (m x) before) → page ≡ lines → now ≡ left - length (text_of (m z) page) → now ≡ room - length (text_of (m x) (before ++ lines))
-counted m x y z before lines page room left now same as_before was is takes =
-    let here : length (text_of (m z) page) ≡ length (text_of (m x) lines) = ap (λ w. length (text_of (m w) page)) (as_before ∙ same) ∙ ap (λ ls. length (text_of (m x) ls)) is in
-    let both : length (text_of (m x) (before ++ lines)) ≡ length (text_of (m x) before) + length (text_of (m x) lines) = ap length (flat_map-append (line_text (m x)) before lines) ∙ length-append (text_of (m x) before) (text_of (m x) lines) in
-    omega arith
-
--- where nothing is left, whichever lines come next
-pub full : {N S : Type 0} (m : Meaning N S) (before lines : List (MessageLine S)) (room left : ℕ) → (left == 0) ≡ true → left ≡ room - length (text_of m before) → left ≡ room - length (text_of m (before ++ lines))
-full m before lines room left none was =
-    let zero_left : left ≡ 0 = eqb-true left 0 none in
-    let both : length (text_of m (before ++ lines)) ≡ length (text_of m before) + length (text_of m lines) = ap length (flat_map-append (line_text m) before lines) ∙ length-append (text_of m before) (text_of m lines) in
-    omega arith
 
 -- no line, and no byte
 pub no_byte : {N S : Type 0} (m : Meaning N S) (left : ℕ) → left ≡ left - length (text_of m [])

@@ -41,17 +41,17 @@ headed took start pushed tree own conflicts l u v w z none put is same first sec
     adds_both took u v z (heading ∷ []) (tree ++ conflicts) (adds_same took u v pushed (heading ∷ []) top first) (adds_both took v w z tree conflicts second (adds_same took w z own conflicts same third))
 
 -- the parts, up to equal nodes
-pub parts_along : {S : Type 0} (g : Graph S) (same : S → S → Bool) (merged : S → Option (List S)) (can installable miss missing : List NodeIndex) (lines : List (MessageLine S)) → can ≡ installable → miss ≡ missing → AreParts (record { graph = g; same = same; installable = can; merged = merged }) miss (edges_of g (record { 0 = 0 })) lines → AreParts (record { graph = g; same = same; installable = installable; merged = merged }) missing (edges_of g (record { 0 = 0 })) lines
+parts_along : {S : Type 0} (g : Graph S) (same : S → S → Bool) (merged : S → Option (List S)) (can installable miss missing : List NodeIndex) (lines : List (MessageLine S)) → can ≡ installable → miss ≡ missing → AreParts (record { graph = g; same = same; installable = can; merged = merged }) miss (edges_of g (record { 0 = 0 })) lines → AreParts (record { graph = g; same = same; installable = installable; merged = merged }) missing (edges_of g (record { 0 = 0 })) lines
 parts_along g same merged can installable miss missing lines a b holds =
     subst (λ ns. AreParts (record { graph = g; same = same; installable = installable; merged = merged }) ns (edges_of g (record { 0 = 0 })) lines) b (subst (λ ns. AreParts (record { graph = g; same = same; installable = ns; merged = merged }) miss (edges_of g (record { 0 = 0 })) lines) a holds)
 
--- the message along a walk, up to an equal order
-pub message : {N S : Type 0} (same_name : N → N → Bool) (same : S → S → Bool) (name_of : S → N) (g : Graph S) (order along : List NodeIndex) (merged : S → Option (List S)) (lines : List (MessageLine S)) → along ≡ order → IsPostOrder g order → IsMerged same_name same g name_of merged → AreParts (record { graph = g; same = same; installable = installable_in g along; merged = merged }) (missing_in g along) (edges_of g (record { 0 = 0 })) lines → IsMessage same_name same name_of g lines
-message same_name same name_of g order along merged lines is walked as_one holds =
+-- the message along a walk, up to equal nodes
+pub message : {N S : Type 0} (same_name : N → N → Bool) (same : S → S → Bool) (name_of : S → N) (g : Graph S) (order : List NodeIndex) (merged : S → Option (List S)) (can miss : List NodeIndex) (lines : List (MessageLine S)) → IsPostOrder g order → IsMerged same_name same g name_of merged → can ≡ installable_in g order → miss ≡ missing_in g order → AreParts (record { graph = g; same = same; installable = can; merged = merged }) miss (edges_of g (record { 0 = 0 })) lines → IsMessage same_name same name_of g lines
+message same_name same name_of g order merged can miss lines walked as_one a b holds =
     record {
       order = order;
       merged = merged;
       walked = walked;
       are_merged = as_one;
-      parts = parts_along g same merged (installable_in g along) (installable_in g order) (missing_in g along) (missing_in g order) lines (ap (installable_in g) is) (ap (missing_in g) is) holds;
+      parts = parts_along g same merged can (installable_in g order) miss (missing_in g order) lines a b holds;
     }

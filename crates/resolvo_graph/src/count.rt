@@ -1,10 +1,11 @@
 //! The bytes of lines, counted down from a bound. No byte is kept, and no line for longer than
 //! it takes to count it.
-ghost use Rattle.std.specs.Prelude.{◌≡◌, ◌-◌, length, IfOk, IfSome};
+ghost use Rattle.std.specs.Prelude.{◌≡◌, ◌-◌, length, IfOk, IfSome, IsOkUnless};
+ghost use Rattle.resolvo_pool_core.specs.declared.want.Want.TheVariants.{Memory};
 ghost use Rattle.resolvo_graph.specs.Message.{text_of};
 
 use crate::display_unsat::DisplayUnsat;
-use crate::sink::Sink;
+use crate::sink::LineSink;
 use crate::wording::MessageLine;
 use resolvo_pool_core::provider::Interner;
 use resolvo_pool_core::want::{R, Want};
@@ -34,7 +35,7 @@ pub(crate) struct Count<'a, I: Interner> {
     pub(crate) left: u64,
 }
 
-impl<I: Interner> Sink<I::SolvableId> for Count<'_, I> {
+impl<I: Interner> LineSink<I::SolvableId> for Count<'_, I> {
     ghost took = { λ start lines end.
         (end.page.interner.now ≡ start.page.interner.now)
         × (end.left
@@ -64,8 +65,9 @@ impl<I: Interner> Sink<I::SolvableId> for Count<'_, I> {
 
 /// How many bytes more there may be after the text of a value.
 fn left_after<D: fmt::Display>(left: u64, value: &D) -> R<u64>
-    ensures { IfOk result
+    ensures left { IfOk result
         (λ n. IfSome (D.output value.now) (λ text. n ≡ left - length text)) }
+    ensures refusal { IsOkUnless result Memory }
 {
     let mut room = Room { left };
     match room.write(value) {

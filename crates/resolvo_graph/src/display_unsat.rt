@@ -1,20 +1,19 @@
 //! The whole message: requirements without candidates, incompatible packages, and the conflicts of
 //! the root. Its lines are built by `new`, so that writing them takes no memory. `length_below`
 //! counts their bytes first, and keeps none of them.
-ghost use Rattle.std.specs.Prelude.{◌≡◌, ◌++◌, List, IfOk, OnOk, Some, filter};
+ghost use Rattle.std.specs.Prelude.{◌≡◌, ◌++◌, List, IfOk, OnOk, Some, filter, IsOkUnless};
+ghost use Rattle.resolvo_pool_core.specs.declared.want.Want.TheVariants.{Memory};
 ghost use Rattle.resolvo_graph.specs.declared.wording.MessageLine.{MessageLine};
 ghost use Rattle.resolvo_graph.specs.Graph.{edges_of};
 ghost use Rattle.resolvo_graph.specs.Message.{IsMessage, IsLengthBelow, AreParts, IsSecondPart, conflict_line, conflict_lines, misses, fits, text_of};
 ghost use Rattle.resolvo_graph.specs.Kept.{findings};
-ghost use Rattle.resolvo_graph.specs.Outlook.{installable_in, missing_in};
 ghost use Rattle.resolvo_graph.specs.Sink.{Adds};
 
 use crate::count::Count;
 use crate::graph::{ConflictCause, ConflictEdge, ConflictGraph, Edge, NodeIndex};
 use crate::indenter::Indenter;
 use crate::installability::{installable, missing};
-use crate::merge::MergedConflictNode;
-use crate::sink::Sink;
+use crate::sink::LineSink;
 use crate::tree::{Findings, order_before};
 use crate::walk::post_order;
 use crate::wording::{DisplayLine, MessageLine, Sentence, Verdict, Versions};
@@ -24,11 +23,9 @@ use resolvo_pool_core::provider::Interner;
 use resolvo_pool_core::solver_id::SolverId;
 use resolvo_pool_core::want::R;
 use std::alloc::Global;
-use std::collections::HashMap;
 use std::fmt;
 use std::fmt::Debug;
 use std::hash::Hash;
-use std::rc::Rc;
 
 /// The message of a conflict graph.
 #[derive(Drop)]
@@ -49,6 +46,7 @@ impl<'a, I: Interner> DisplayUnsat<'a, I> {
             IsMessage I.NameId.eq I.SolvableId.eq (I.name_of_solvable interner.now) graph.now
             d.lines.items) }
         ensures interner { IfOk result (λ d. d.interner.now ≡ interner.now) }
+        ensures refusal { IsOkUnless result Memory }
     {
         let mut lines = Vec::new(alloc);
         write_lines(alloc, graph, interner, &mut lines)?;
@@ -63,7 +61,7 @@ impl<'a, I: Interner> DisplayUnsat<'a, I> {
         interner: &'a I,
         bound: u64,
     ) -> R<Option<u64>>
-        ensures { IfOk result
+        ensures length { IfOk result
             (IsLengthBelow
             (IsMessage I.NameId.eq I.SolvableId.eq (I.name_of_solvable interner.now) graph.now)
             (record {
@@ -75,6 +73,7 @@ impl<'a, I: Interner> DisplayUnsat<'a, I> {
               word_text = I.string_text interner.now;
             })
             bound) }
+        ensures refusal { IsOkUnless result Memory }
     {
         let page = DisplayUnsat {
             interner,
@@ -116,95 +115,66 @@ impl<I: Interner> fmt::Display for DisplayUnsat<'_, I> {
 }
 
 /// Writes the lines of the message of a graph.
-fn write_lines<S: SolverId, I: Interner<SolvableId = S>, L: Sink<S>>(
+fn write_lines<S: SolverId, I: Interner<SolvableId = S>, L: LineSink<S>>(
     alloc: Global,
     graph: &ConflictGraph<S>,
     interner: &I,
     sink: &mut L,
 ) -> R<()>
-    ensures { OnOk result
+    ensures lines { OnOk result
         ((lines : List (MessageLine S))
         × IsMessage I.NameId.eq S.eq (I.name_of_solvable interner.now) graph.now lines
         × Adds L.took sink.old lines sink.new) }
+    ensures refusal { IsOkUnless result Memory }
 {
     let order = post_order(alloc, graph)?;
-    let merged = graph.simplify(alloc, interner)?;
-    write_along(alloc, graph, &order, merged, sink)
-}
-
-/// Writes the lines of the message, for this post-order and these merged versions.
-fn write_along<S: Copy + Exact + Hash + Debug, L: Sink<S>>(
-    alloc: Global,
-    graph: &ConflictGraph<S>,
-    order: &[NodeIndex],
-    merged: HashMap<S, Rc<MergedConflictNode<S>>>,
-    sink: &mut L,
-) -> R<()>
-    ensures { OnOk result
-        ((lines : List (MessageLine S))
-        × AreParts (findings S.eq graph.now (installable_in graph.now order.now) merged)
-        (missing_in graph.now order.now) (edges_of graph.now (record { 0 = 0 })) lines
-        × Adds L.took sink.old lines sink.new) }
-{
+    let missing = missing(alloc, graph, &order)?;
     let findings = Findings {
         graph,
-        installable: installable(alloc, graph, order)?,
-        merged,
+        installable: installable(alloc, graph, &order)?,
+        merged: graph.simplify(alloc, interner)?,
     };
-    findings.message_along(alloc, order, sink)
+    findings.message(alloc, &missing, sink)
 }
 
 impl<S: Copy + Exact + Hash + Debug> Findings<'_, S> {
-    /// Writes the lines of the message, for this post-order.
-    fn message_along<L: Sink<S>>(&self, alloc: Global, order: &[NodeIndex], sink: &mut L) -> R<()>
-        ensures { OnOk result
-            ((lines : List (MessageLine S))
-            × AreParts
-            (findings S.eq self.now.graph.now self.now.installable.keys self.now.merged)
-            (missing_in self.now.graph.now order.now)
-            (edges_of self.now.graph.now (record { 0 = 0 })) lines
-            × Adds L.took sink.old lines sink.new) }
-    {
-        let missing = missing(alloc, self.graph, order)?;
-        self.message(alloc, &missing, sink)
-    }
-
     /// Writes the lines of the message, where these nodes miss a candidate.
-    fn message<L: Sink<S>>(
+    fn message<L: LineSink<S>>(
         &self,
         alloc: Global,
         missing: &IndexSet<NodeIndex>,
         sink: &mut L,
     ) -> R<()>
-        ensures { OnOk result
+        ensures lines { OnOk result
             ((lines : List (MessageLine S))
             × AreParts
             (findings S.eq self.now.graph.now self.now.installable.keys self.now.merged)
             missing.now.keys (edges_of self.now.graph.now (record { 0 = 0 })) lines
             × Adds L.took sink.old lines sink.new) }
+        ensures refusal { IsOkUnless result Memory }
     {
         let edges = self.graph.edges(alloc, self.graph.root_node())?;
-        let without = missing_edges(alloc, &edges, missing)?;
-        let others = other_edges(alloc, &edges, missing)?;
+        let (without, others) = partition(alloc, &edges, missing)?;
         self.tree(alloc, &without, false, sink)?;
         self.second_part(alloc, &others, &edges, sink)
     }
 
     /// Writes the second part of the message: the tree of these edges of the root, and the
     /// conflicts among all its edges.
-    fn second_part<L: Sink<S>>(
+    fn second_part<L: LineSink<S>>(
         &self,
         alloc: Global,
         others: &[Edge<S>],
         edges: &[Edge<S>],
         sink: &mut L,
     ) -> R<()>
-        ensures { OnOk result
+        ensures lines { OnOk result
             ((lines : List (MessageLine S))
             × IsSecondPart
             (findings S.eq self.now.graph.now self.now.installable.keys self.now.merged)
             others.now edges.now lines
             × Adds L.took sink.old lines sink.new) }
+        ensures refusal { IsOkUnless result Memory }
     {
         if others.is_empty() {
             return Ok(());
@@ -221,38 +191,26 @@ impl<S: Copy + Exact + Hash + Debug> Findings<'_, S> {
     }
 }
 
-/// The edges whose targets miss a candidate.
-fn missing_edges<S: Copy + Exact + Hash + Debug>(
+/// The edges whose targets miss a candidate, and the others.
+fn partition<S: Copy + Exact + Hash + Debug>(
     alloc: Global,
     edges: &[Edge<S>],
     missing: &IndexSet<NodeIndex>,
-) -> R<Vec<Edge<S>>>
-    ensures { IfOk result (λ v. v.items ≡ filter (misses missing.now.keys) edges.now) }
+) -> R<(Vec<Edge<S>>, Vec<Edge<S>>)>
+    ensures missing { IfOk result (λ p. p.0.items ≡ filter (misses missing.now.keys) edges.now) }
+    ensures others { IfOk result (λ p. p.1.items ≡ filter (fits missing.now.keys) edges.now) }
+    ensures refusal { IsOkUnless result Memory }
 {
-    let mut found = Vec::new(alloc);
+    let mut without = Vec::new(alloc);
+    let mut others = Vec::new(alloc);
     for edge in edges {
         if missing.contains(&edge.target) {
-            found.push(*edge)?;
+            without.push(*edge)?;
+        } else {
+            others.push(*edge)?;
         }
     }
-    Ok(found)
-}
-
-/// The edges whose targets don't miss a candidate.
-fn other_edges<S: Copy + Exact + Hash + Debug>(
-    alloc: Global,
-    edges: &[Edge<S>],
-    missing: &IndexSet<NodeIndex>,
-) -> R<Vec<Edge<S>>>
-    ensures { IfOk result (λ v. v.items ≡ filter (fits missing.now.keys) edges.now) }
-{
-    let mut found = Vec::new(alloc);
-    for edge in edges {
-        if !missing.contains(&edge.target) {
-            found.push(*edge)?;
-        }
-    }
-    Ok(found)
+    Ok((without, others))
 }
 
 /// The lines of the root's own conflicts.
@@ -260,7 +218,8 @@ fn conflict_lines<S: Copy + Exact + Hash + Debug>(
     alloc: Global,
     edges: &[Edge<S>],
 ) -> R<Vec<MessageLine<S>>>
-    ensures { IfOk result (λ v. v.items ≡ conflict_lines edges.now) }
+    ensures lines { IfOk result (λ v. v.items ≡ conflict_lines edges.now) }
+    ensures refusal { IsOkUnless result Memory }
 {
     let mut lines = Vec::new(alloc);
     let mut rest = edges;
@@ -280,7 +239,8 @@ fn write_conflict<S: Copy + Exact + Hash + Debug>(
     indenter: Indenter,
     lines: &mut Vec<MessageLine<S>>,
 ) -> R<()>
-    ensures { OnOk result (lines.new.items ≡ lines.old.items ++ conflict_line weight indenter) }
+    ensures line { OnOk result (lines.new.items ≡ lines.old.items ++ conflict_line weight indenter) }
+    ensures refusal { IsOkUnless result Memory }
 {
     match weight {
         ConflictEdge::Conflict(ConflictCause::Locked(version)) => {

@@ -18,5 +18,6 @@ pub use display_unsat::DisplayUnsat;
 pub use graph::{
     ConflictCause, ConflictEdge, ConflictGraph, ConflictNode, Edge, EdgeIndex, NodeIndex,
 };
+pub use indenter::{ChildOrder, Indenter};
 pub use merge::MergedConflictNode;
 pub use wording::MessageLine;

@@ -1,7 +1,8 @@
 //! Merged versions: versions of one package with the same neighbours on both sides.
 //! `simplify` numbers the likenesses of versions: the package, and the sorted lists of neighbours,
 //! each with its requirement. Versions of one number are merged.
-ghost use Rattle.std.specs.Prelude.{◌≡◌, ℕ, ◌<◌, ◌==◌, ◌++◌, ◌∷◌, [], IfOk, OnOk, Some, cond, length, map, nat_lt, ◌&&◌, vec_len};
+ghost use Rattle.std.specs.Prelude.{◌≡◌, ℕ, ◌<◌, ◌==◌, ◌++◌, ◌∷◌, [], IfOk, OnOk, Some, cond, length, map, nat_lt, ◌&&◌, vec_len, IsOkUnless};
+ghost use Rattle.resolvo_pool_core.specs.declared.want.Want.TheVariants.{Memory};
 ghost use Rattle.resolvo_graph.specs.Merge.{before, after, IsInOrder, IsProfile, AreProfiles, AreMembers, numbered, group_among, solvable_of, IsMerged};
 ghost use Rattle.resolvo_graph.specs.Graph.{requirement_of};
 ghost use Rattle.resolvo_graph.specs.Kept.{merged_with, ids_at};
@@ -83,10 +84,11 @@ impl<S: SolverId> ConflictGraph<S> {
         alloc: Global,
         interner: &I,
     ) -> R<HashMap<S, Rc<MergedConflictNode<S>>>>
-        ensures { IfOk result
+        ensures merged { IfOk result
             (λ m.
             IsMerged I.NameId.eq S.eq self.now (I.name_of_solvable interner.now)
             (merged_with S.eq m)) }
+        ensures refusal { IsOkUnless result Memory }
     {
         let members = members(alloc, profiles(alloc, self, interner)?)?;
         let groups = shared(alloc, groups(alloc, &members)?)?;
@@ -99,7 +101,8 @@ fn members<N: Copy + Exact + Hash + Debug, S: Copy + Exact + Hash + Debug>(
     alloc: Global,
     profiles: Vec<Profile<N, S>>,
 ) -> R<Vec<Member<S>>>
-    ensures { IfOk result (λ v. AreMembers N.eq profiles.items v.items) }
+    ensures members { IfOk result (λ v. AreMembers N.eq profiles.items v.items) }
+    ensures refusal { IsOkUnless result Memory }
 {
     let mut likenesses = IndexSet::new(alloc);
     let mut members = Vec::new(alloc);
@@ -115,7 +118,8 @@ fn number<N: Copy + Exact + Hash + Debug, S: Copy + Exact + Hash + Debug>(
 ) -> R<()>
     requires likenesses { likenesses.old.keys ≡ [] }
     requires members { members.old.items ≡ [] }
-    ensures { OnOk result (AreMembers N.eq profiles.items members.new.items) }
+    ensures members { OnOk result (AreMembers N.eq profiles.items members.new.items) }
+    ensures refusal { IsOkUnless result Memory }
 {
     for profile in profiles {
         let Profile { solvable, likeness } = profile;
@@ -130,7 +134,8 @@ fn groups<S: Copy + Exact + Hash + Debug>(
     alloc: Global,
     members: &[Member<S>],
 ) -> R<Vec<MergedConflictNode<S>>>
-    ensures { IfOk result (λ v. (g : ℕ) → ids_at v.items g ≡ numbered members.now g) }
+    ensures groups { IfOk result (λ v. (g : ℕ) → ids_at v.items g ≡ numbered members.now g) }
+    ensures refusal { IsOkUnless result Memory }
 {
     let mut groups = Vec::new(alloc);
     for member in members {
@@ -146,10 +151,11 @@ fn add<S: Copy + Exact + Hash + Debug>(
     member: Member<S>,
 ) -> R<()>
     requires { member.group < vec_len groups.old }
-    ensures { OnOk result
+    ensures ids { OnOk result
         ((g : ℕ)
         → ids_at groups.new.items g
         ≡ ids_at groups.old.items g ++ cond (member.group == g) (member.solvable ∷ []) []) }
+    ensures refusal { IsOkUnless result Memory }
 {
     groups[member.group].ids.push(member.solvable)?;
     Ok(())
@@ -163,6 +169,7 @@ fn cover<S: Copy + Exact + Hash + Debug>(
 ) -> R<()>
     ensures same { (g : ℕ) → ids_at groups.new.items g ≡ ids_at groups.old.items g }
     ensures covered { OnOk result (number < vec_len groups.new) }
+    ensures refusal { IsOkUnless result Memory }
 {
     while groups.len() <= number {
         groups.push(MergedConflictNode {
@@ -177,7 +184,8 @@ fn shared<S: Copy + Exact + Hash + Debug>(
     alloc: Global,
     groups: Vec<MergedConflictNode<S>>,
 ) -> R<Vec<Rc<MergedConflictNode<S>>>>
-    ensures { IfOk result (λ v. map (λ r. r.value) v.items ≡ groups.items) }
+    ensures groups { IfOk result (λ v. map (λ r. r.value) v.items ≡ groups.items) }
+    ensures refusal { IsOkUnless result Memory }
 {
     let mut shared = Vec::new(alloc);
     for group in groups {
@@ -192,11 +200,12 @@ fn merged<S: Copy + Exact + Hash + Debug>(
     members: &[Member<S>],
     groups: &[Rc<MergedConflictNode<S>>],
 ) -> R<HashMap<S, Rc<MergedConflictNode<S>>>>
-    ensures { IfOk result
+    ensures merged { IfOk result
         (λ m.
         (s : S)
         → merged_with S.eq m s
         ≡ group_among S.eq (ids_at (map (λ r. r.value) groups.now)) members.now s) }
+    ensures refusal { IsOkUnless result Memory }
 {
     let mut merged = HashMap::new(alloc);
     for member in members {
@@ -213,11 +222,12 @@ fn keep<S: Copy + Exact + Hash + Debug>(
     solvable: S,
     group: &Rc<MergedConflictNode<S>>,
 ) -> R<()>
-    ensures { OnOk result
+    ensures kept { OnOk result
         ((s : S)
         → merged_with S.eq merged.new s
         ≡ cond (S.eq solvable s && nat_lt 1 (length group.now.value.ids.items))
         (Some group.now.value.ids.items) (merged_with S.eq merged.old s)) }
+    ensures refusal { IsOkUnless result Memory }
 {
     if group.ids.len() > 1 {
         merged.insert(solvable, group.clone()?)?;
@@ -231,7 +241,8 @@ fn profiles<S: SolverId, I: Interner<SolvableId = S>>(
     graph: &ConflictGraph<S>,
     interner: &I,
 ) -> R<Vec<Profile<I::NameId, S>>>
-    ensures { IfOk result (λ v. AreProfiles graph.now (I.name_of_solvable interner.now) v.items) }
+    ensures profiles { IfOk result (λ v. AreProfiles graph.now (I.name_of_solvable interner.now) v.items) }
+    ensures refusal { IsOkUnless result Memory }
 {
     let mut found = Vec::new(alloc);
     for (index, node) in graph.nodes().iter().enumerate() {
@@ -250,7 +261,8 @@ fn profile_of<S: SolverId, I: Interner<SolvableId = S>>(
     node: NodeIndex,
     solvable: S,
 ) -> R<Profile<I::NameId, S>>
-    ensures { IfOk result (IsProfile graph.now (I.name_of_solvable interner.now) (node, solvable)) }
+    ensures profile { IfOk result (IsProfile graph.now (I.name_of_solvable interner.now) (node, solvable)) }
+    ensures refusal { IsOkUnless result Memory }
 {
     Ok(Profile {
         solvable,
@@ -268,7 +280,8 @@ fn neighbours_before<S: Copy + Exact + Hash>(
     graph: &ConflictGraph<S>,
     node: NodeIndex,
 ) -> R<Vec<(Option<Requirement>, NodeIndex)>>
-    ensures { IfOk result (λ v. IsInOrder (before graph.now node) v.items) }
+    ensures order { IfOk result (λ v. IsInOrder (before graph.now node) v.items) }
+    ensures refusal { IsOkUnless result Memory }
 {
     let edges = graph.edges_to(alloc, node)?;
     in_order(alloc, sources(alloc, &edges)?)
@@ -280,7 +293,8 @@ fn neighbours_after<S: Copy + Exact + Hash>(
     graph: &ConflictGraph<S>,
     node: NodeIndex,
 ) -> R<Vec<(Option<Requirement>, NodeIndex)>>
-    ensures { IfOk result (λ v. IsInOrder (after graph.now node) v.items) }
+    ensures order { IfOk result (λ v. IsInOrder (after graph.now node) v.items) }
+    ensures refusal { IsOkUnless result Memory }
 {
     let edges = graph.edges(alloc, node)?;
     in_order(alloc, targets(alloc, &edges)?)
@@ -288,8 +302,9 @@ fn neighbours_after<S: Copy + Exact + Hash>(
 
 /// The sources of some edges, each with its requirement.
 fn sources<S: Copy>(alloc: Global, edges: &[Edge<S>]) -> R<Vec<(Option<Requirement>, NodeIndex)>>
-    ensures { IfOk result (λ v. v.items ≡ map (λ e. (requirement_of e.weight, e.source))
+    ensures ends { IfOk result (λ v. v.items ≡ map (λ e. (requirement_of e.weight, e.source))
         edges.now) }
+    ensures refusal { IsOkUnless result Memory }
 {
     let mut found = Vec::new(alloc);
     for edge in edges {
@@ -300,8 +315,9 @@ fn sources<S: Copy>(alloc: Global, edges: &[Edge<S>]) -> R<Vec<(Option<Requireme
 
 /// The targets of some edges, each with its requirement.
 fn targets<S: Copy>(alloc: Global, edges: &[Edge<S>]) -> R<Vec<(Option<Requirement>, NodeIndex)>>
-    ensures { IfOk result (λ v. v.items ≡ map (λ e. (requirement_of e.weight, e.target))
+    ensures ends { IfOk result (λ v. v.items ≡ map (λ e. (requirement_of e.weight, e.target))
         edges.now) }
+    ensures refusal { IsOkUnless result Memory }
 {
     let mut found = Vec::new(alloc);
     for edge in edges {
@@ -315,7 +331,8 @@ fn in_order(
     alloc: Global,
     neighbours: Vec<(Option<Requirement>, NodeIndex)>,
 ) -> R<Vec<(Option<Requirement>, NodeIndex)>>
-    ensures { IfOk result (λ v. IsInOrder neighbours.items v.items) }
+    ensures order { IfOk result (λ v. IsInOrder neighbours.items v.items) }
+    ensures refusal { IsOkUnless result Memory }
 {
     let sorted = neighbours.into_iter().sorted(alloc)?;
     Ok(sorted.collect_vec(alloc)?)

@@ -1,5 +1,6 @@
 //! What takes the lines of a message: a list keeps them, and a `Count` adds up their bytes.
-ghost use Rattle.std.specs.Prelude.{◌≡◌, ◌++◌, [], true, OnOk};
+ghost use Rattle.std.specs.Prelude.{◌≡◌, ◌++◌, [], true, OnOk, IsOkUnless};
+ghost use Rattle.resolvo_pool_core.specs.declared.want.Want.TheVariants.{Memory};
 ghost use Rattle.resolvo_graph.specs.Sink.{Adds, Stays};
 
 use crate::wording::MessageLine;
@@ -7,7 +8,7 @@ use resolvo_pool_core::want::R;
 use std::vec::Vec;
 
 /// What takes lines, some at a time.
-pub(crate) trait Sink<S: Copy> {
+pub(crate) trait LineSink<S: Copy> {
     ghost use Rattle.std.specs.Prelude.{List};
     ghost use Rattle.resolvo_graph.specs.declared.wording.MessageLine.{MessageLine};
 
@@ -17,14 +18,15 @@ pub(crate) trait Sink<S: Copy> {
     /// Takes these lines, and leaves none.
     fn take(&mut self, lines: &mut Vec<MessageLine<S>>) -> R<()>
         ensures took { OnOk result (Adds took self.old lines.old.items self.new) }
-        ensures left { OnOk result (lines.new.items ≡ []) };
+        ensures left { OnOk result (lines.new.items ≡ []) }
+        ensures refusal { IsOkUnless result Memory };
 
     /// Whether no further line changes it.
     fn is_full(&self) -> bool
         ensures { result ≡ true → Stays took self.now };
 }
 
-impl<S: Copy> Sink<S> for Vec<MessageLine<S>> {
+impl<S: Copy> LineSink<S> for Vec<MessageLine<S>> {
     ghost took = { λ start lines end. end.items ≡ start.items ++ lines };
 
     fn take(&mut self, lines: &mut Vec<MessageLine<S>>) -> R<()> {

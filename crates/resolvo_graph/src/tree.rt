@@ -2,8 +2,9 @@
 //! requirements. The entries that are left to write are a stack; an entry pushes those one level
 //! below it. An entry has the versions above it, and a version below itself is skipped, so a tree
 //! ends on graphs with cycles.
-ghost use Rattle.std.specs.Prelude.{◌≡◌, ◌++◌, ◌∷◌, [], List, IfOk, OnOk, cond, filter, reverse, unwrap_or, slice_get};
+ghost use Rattle.std.specs.Prelude.{◌≡◌, ◌++◌, ◌∷◌, [], List, IfOk, OnOk, cond, filter, reverse, unwrap_or, slice_get, IsOkUnless};
 ghost use Rattle.std.specs.List.{list_any, dedup};
+ghost use Rattle.resolvo_pool_core.specs.declared.want.Want.TheVariants.{Memory};
 ghost use Rattle.resolvo_graph.specs.declared.wording.Sentence.TheVariants as Sentences;
 ghost use Rattle.resolvo_graph.specs.declared.wording.MessageLine.{MessageLine};
 ghost use Rattle.resolvo_graph.specs.declared.tree.DisplayOp.{DisplayOp};
@@ -20,7 +21,7 @@ use crate::indenter::{ChildOrder, Indenter};
 use crate::installability::has_some;
 use crate::merge::MergedConflictNode;
 use crate::runs::{Run, runs};
-use crate::sink::Sink;
+use crate::sink::LineSink;
 use crate::wording::{MessageLine, Outlook, Sentence, Verdict, Versions};
 use indexmap::IndexSet;
 use resolvo_pool_core::id::{Exact, SolvableId, StringId, VersionSetId};
@@ -79,18 +80,19 @@ struct TreeWriter<S: Copy + Exact + Hash + Debug> {
 
 impl<S: Copy + Exact + Hash + Debug> Findings<'_, S> {
     /// Writes the tree of the runs of some edges.
-    pub(crate) fn tree<L: Sink<S>>(
+    pub(crate) fn tree<L: LineSink<S>>(
         &self,
         alloc: Global,
         edges: &[Edge<S>],
         top_level_indent: bool,
         sink: &mut L,
     ) -> R<()>
-        ensures { OnOk result
+        ensures lines { OnOk result
             ((lines : List (MessageLine S))
             × IsTree (findings S.eq self.now.graph.now self.now.installable.keys self.now.merged)
             top_level_indent (runs_of edges.now) lines
             × Adds L.took sink.old lines sink.new) }
+        ensures refusal { IsOkUnless result Memory }
     {
         let mut writer = TreeWriter {
             covered: IndexSet::new(alloc),
@@ -116,7 +118,7 @@ impl<S: Copy + Exact + Hash + Debug> Findings<'_, S> {
         top_level_indent: bool,
         stack: &mut Vec<Entry<S>>,
     ) -> R<()>
-        ensures { OnOk result
+        ensures stack { OnOk result
             (stack.new.items
             ≡ stack.old.items ++ reverse
             (siblings (record { levels = []; top_level_indent = top_level_indent }) []
@@ -125,6 +127,7 @@ impl<S: Copy + Exact + Hash + Debug> Findings<'_, S> {
             (findings S.eq self.now.graph.now self.now.installable.keys
             self.now.merged)
             (runs_of edges.now))))) }
+        ensures refusal { IsOkUnless result Memory }
     {
         let ops = self.in_rank(alloc, runs(alloc, edges)?)?;
         place(
@@ -154,6 +157,7 @@ impl<S: Copy + Exact + Hash + Debug> Findings<'_, S> {
             ≡ writer.old.lines.items ++ lines_at
             (findings S.eq self.now.graph.now self.now.installable.keys self.now.merged)
             writer.old.covered.keys entry.op entry.indent entry.above) }
+        ensures refusal { IsOkUnless result Memory }
     {
         let Entry {
             op,
@@ -213,6 +217,7 @@ impl<S: Copy + Exact + Hash + Debug> Findings<'_, S> {
             ≡ writer.old.lines.items ++ lines_at
             (findings S.eq self.now.graph.now self.now.installable.keys self.now.merged) []
             (DisplayOp.Requirement run.now) indenter above.now) }
+        ensures refusal { IsOkUnless result Memory }
     {
         let outlook = self.outlook(run);
         let options = self.options(alloc, run, outlook)?;
@@ -257,6 +262,7 @@ impl<S: Copy + Exact + Hash + Debug> Findings<'_, S> {
             ≡ writer.old.lines.items ++ version_lines
             (findings S.eq self.now.graph.now self.now.installable.keys self.now.merged) node
             version indenter) }
+        ensures refusal { IsOkUnless result Memory }
     {
         let edges = self.graph.edges(alloc, node)?;
         self.place_needs(alloc, node, &edges, &indenter, above, &mut writer.stack)?;
@@ -274,7 +280,7 @@ impl<S: Copy + Exact + Hash + Debug> Findings<'_, S> {
         above: Vec<NodeIndex>,
         stack: &mut Vec<Entry<S>>,
     ) -> R<()>
-        ensures { OnOk result
+        ensures stack { OnOk result
             (stack.new.items
             ≡ stack.old.items ++ reverse
             (siblings indenter.now (above.items ++ node ∷ [])
@@ -284,6 +290,7 @@ impl<S: Copy + Exact + Hash + Debug> Findings<'_, S> {
             self.now.merged)
             (verdict_for (reason_in self.now.graph.now edges.now) edges.now)
             edges.now)))) }
+        ensures refusal { IsOkUnless result Memory }
     {
         let mut above = above;
         above.push(node)?;
@@ -300,7 +307,7 @@ impl<S: Copy + Exact + Hash + Debug> Findings<'_, S> {
         indenter: Indenter,
         lines: &mut Vec<MessageLine<S>>,
     ) -> R<()>
-        ensures { OnOk result
+        ensures lines { OnOk result
             (lines.new.items
             ≡ lines.old.items ++ record {
               indenter = indenter;
@@ -309,6 +316,7 @@ impl<S: Copy + Exact + Hash + Debug> Findings<'_, S> {
             }
             ∷ further_lines (verdict_for (reason_in self.now.graph.now edges.now) edges.now)
             indenter edges.now) }
+        ensures refusal { IsOkUnless result Memory }
     {
         let verdict = self.verdict(edges);
         let mut further = further_lines(alloc, verdict, &indenter, edges)?;
@@ -347,7 +355,7 @@ impl<S: Copy + Exact + Hash + Debug> Findings<'_, S> {
 
     /// The versions below a run.
     fn options(&self, alloc: Global, run: &Run, outlook: Outlook) -> R<Vec<DisplayOp<S>>>
-        ensures { IfOk result
+        ensures options { IfOk result
             (λ v.
             v.items
             ≡ firsts_after
@@ -355,6 +363,7 @@ impl<S: Copy + Exact + Hash + Debug> Findings<'_, S> {
             (shown_of
             (findings S.eq self.now.graph.now self.now.installable.keys self.now.merged)
             outlook run.now)) }
+        ensures refusal { IsOkUnless result Memory }
     {
         match outlook {
             Outlook::Missing => Ok(Vec::new(alloc)),
@@ -368,8 +377,9 @@ impl<S: Copy + Exact + Hash + Debug> Findings<'_, S> {
 
     /// The targets of a run that can be installed.
     fn installable_targets(&self, alloc: Global, run: &Run) -> R<Vec<NodeIndex>>
-        ensures { IfOk result (λ v. v.items ≡ filter (is_among self.now.installable.keys)
+        ensures targets { IfOk result (λ v. v.items ≡ filter (is_among self.now.installable.keys)
             run.now.targets) }
+        ensures refusal { IsOkUnless result Memory }
     {
         let mut found = Vec::new(alloc);
         for target in run.targets() {
@@ -382,7 +392,8 @@ impl<S: Copy + Exact + Hash + Debug> Findings<'_, S> {
 
     /// The versions among some nodes.
     fn candidates(&self, alloc: Global, nodes: &[NodeIndex]) -> R<Vec<(NodeIndex, S)>>
-        ensures { IfOk result (λ v. v.items ≡ candidates_at self.now.graph.now nodes.now) }
+        ensures versions { IfOk result (λ v. v.items ≡ candidates_at self.now.graph.now nodes.now) }
+        ensures refusal { IsOkUnless result Memory }
     {
         let mut found = Vec::new(alloc);
         for node in nodes {
@@ -405,12 +416,13 @@ impl<S: Copy + Exact + Hash + Debug> Findings<'_, S> {
 
     /// The versions, of merged ones only the first.
     fn firsts(&self, alloc: Global, candidates: &[(NodeIndex, S)]) -> R<Vec<DisplayOp<S>>>
-        ensures { IfOk result
+        ensures firsts { IfOk result
             (λ v.
             v.items
             ≡ firsts_after
             (findings S.eq self.now.graph.now self.now.installable.keys self.now.merged) []
             candidates.now) }
+        ensures refusal { IsOkUnless result Memory }
     {
         let mut covered = IndexSet::new(alloc);
         let mut found = Vec::new(alloc);
@@ -445,6 +457,7 @@ impl<S: Copy + Exact + Hash + Debug> Findings<'_, S> {
             (findings S.eq self.now.graph.now self.now.installable.keys self.now.merged)
             covered.old.keys version)
             [] (DisplayOp.Candidate node version ∷ [])) }
+        ensures refusal { IsOkUnless result Memory }
     {
         if !covered.contains(&version) {
             self.mark(version, covered)?;
@@ -455,11 +468,12 @@ impl<S: Copy + Exact + Hash + Debug> Findings<'_, S> {
 
     /// Marks the versions that are merged with one as covered.
     fn mark(&self, version: S, covered: &mut IndexSet<S>) -> R<()>
-        ensures { OnOk result
+        ensures covered { OnOk result
             (covered.new.keys
             ≡ covered_with
             (findings S.eq self.now.graph.now self.now.installable.keys self.now.merged)
             covered.old.keys version) }
+        ensures refusal { IsOkUnless result Memory }
     {
         if let Some(group) = self.merged.get(&version) {
             for id in &group.ids {
@@ -471,8 +485,9 @@ impl<S: Copy + Exact + Hash + Debug> Findings<'_, S> {
 
     /// The versions that are merged with one, or that one alone.
     fn merged_versions(&self, alloc: Global, version: S) -> R<Versions<S>>
-        ensures { IfOk result (λ v. v ≡ unwrap_or (merged_with S.eq self.now.merged version)
+        ensures versions { IfOk result (λ v. v ≡ unwrap_or (merged_with S.eq self.now.merged version)
             (version ∷ [])) }
+        ensures refusal { IsOkUnless result Memory }
     {
         if let Some(group) = self.merged.get(&version) {
             return Ok(Versions::new(Vec::from_slice(alloc, group.ids.as_slice())?));
@@ -515,12 +530,13 @@ impl<S: Copy + Exact + Hash + Debug> Findings<'_, S> {
 
     /// The runs below a version with this verdict and these edges.
     fn needs(&self, alloc: Global, verdict: Verdict, edges: &[Edge<S>]) -> R<Vec<DisplayOp<S>>>
-        ensures { IfOk result
+        ensures needs { IfOk result
             (λ v.
             v.items
             ≡ needs_of
             (findings S.eq self.now.graph.now self.now.installable.keys self.now.merged)
             verdict edges.now) }
+        ensures refusal { IsOkUnless result Memory }
     {
         match verdict {
             Verdict::Requires => self.in_rank(alloc, runs(alloc, edges)?),
@@ -530,12 +546,13 @@ impl<S: Copy + Exact + Hash + Debug> Findings<'_, S> {
 
     /// The runs, those with an installable target last.
     fn in_rank(&self, alloc: Global, runs: Vec<Run>) -> R<Vec<DisplayOp<S>>>
-        ensures { IfOk result
+        ensures rank { IfOk result
             (λ v.
             v.items
             ≡ in_rank
             (findings S.eq self.now.graph.now self.now.installable.keys self.now.merged)
             runs.items) }
+        ensures refusal { IsOkUnless result Memory }
     {
         let mut ranked = Vec::new(alloc);
         let mut installable = Vec::new(alloc);
@@ -559,9 +576,10 @@ fn place<S: Copy + Exact + Hash + Debug>(
     above: &[NodeIndex],
     stack: &mut Vec<Entry<S>>,
 ) -> R<()>
-    ensures { OnOk result
+    ensures stack { OnOk result
         (stack.new.items
         ≡ stack.old.items ++ reverse (siblings indenter.now above.now (reverse ops.items))) }
+    ensures refusal { IsOkUnless result Memory }
 {
     let mut order = ChildOrder::Last;
     for op in ops {
@@ -579,8 +597,9 @@ fn sibling<S: Copy + Exact + Hash + Debug>(
     order: ChildOrder,
     above: &[NodeIndex],
 ) -> R<Entry<S>>
-    ensures { IfOk result
+    ensures entry { IfOk result
         (λ e. e ≡ record { op = op; indent = level_below indenter.now order; above = above.now }) }
+    ensures refusal { IsOkUnless result Memory }
 {
     Ok(Entry {
         op,
@@ -596,7 +615,8 @@ fn further_lines<S: Copy + Exact + Hash + Debug>(
     indenter: &Indenter,
     edges: &[Edge<S>],
 ) -> R<Vec<MessageLine<S>>>
-    ensures { IfOk result (λ v. v.items ≡ further_lines verdict indenter.now edges.now) }
+    ensures lines { IfOk result (λ v. v.items ≡ further_lines verdict indenter.now edges.now) }
+    ensures refusal { IsOkUnless result Memory }
 {
     match verdict {
         Verdict::Constrains => admitted_lines(alloc, indenter, &admitted(alloc, edges)?),
@@ -623,7 +643,8 @@ fn admitted<S: Copy + Exact + Hash + Debug>(
     alloc: Global,
     edges: &[Edge<S>],
 ) -> R<Vec<VersionSetId>>
-    ensures { IfOk result (λ v. v.items ≡ dedup same_set (admitted_in edges.now)) }
+    ensures version_sets { IfOk result (λ v. v.items ≡ dedup same_set (admitted_in edges.now)) }
+    ensures refusal { IsOkUnless result Memory }
 {
     let mut found = all_admitted(alloc, edges)?;
     found.dedup();
@@ -635,7 +656,8 @@ fn all_admitted<S: Copy + Exact + Hash + Debug>(
     alloc: Global,
     edges: &[Edge<S>],
 ) -> R<Vec<VersionSetId>>
-    ensures { IfOk result (λ v. v.items ≡ admitted_in edges.now) }
+    ensures version_sets { IfOk result (λ v. v.items ≡ admitted_in edges.now) }
+    ensures refusal { IsOkUnless result Memory }
 {
     let mut found = Vec::new(alloc);
     for edge in edges {
@@ -652,7 +674,8 @@ fn admitted_lines<S: Copy + Exact + Hash + Debug>(
     indenter: &Indenter,
     version_sets: &[VersionSetId],
 ) -> R<Vec<MessageLine<S>>>
-    ensures { IfOk result (λ v. v.items ≡ admitted_lines indenter.now version_sets.now) }
+    ensures lines { IfOk result (λ v. v.items ≡ admitted_lines indenter.now version_sets.now) }
+    ensures refusal { IsOkUnless result Memory }
 {
     let mut lines = Vec::new(alloc);
     let mut rest = version_sets;

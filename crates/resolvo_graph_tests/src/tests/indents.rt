@@ -1,6 +1,6 @@
 //! The signs of a few levels.
 
-use resolvo_graph::indenter::{ChildOrder, Indenter};
+use resolvo_graph::{ChildOrder, Indenter};
 use resolvo_pool::R;
 use std::alloc::Global;
 use std::test::Fail;

@@ -7,8 +7,8 @@ use Rattle.itertools.proofs.SortedLemmas.{IsPermutation-sorted}
 use Rattle.resolvo_graph.specs.Merge.{neighbour_cmp}
 use Rattle.resolvo_graph.proofs.merge.in_order.Goals as goal
 
-pub returns : goal.returns
-returns c =
+pub returns-clause-order : goal.returns-clause-order
+returns-clause-order c =
     let run = c.in_ok-sorted.ensures.sorted in
     let kept = c.in_ok-collect_vec.ensures.runs in
     let same = sym (map-id kept.0.items) ∙ items_from_whole_run (YieldsList-from_vec {s = c.in_ok-sorted.sorted} (into_iter_items c.in_ok-sorted.sorted) refl c.in_ok-sorted.ensures.len) kept.0 kept.1 kept.2 in

@@ -24,7 +24,7 @@ loop-member-preserved g c = λ s.
       | in-Some+in_ok-keep w ↦
           let found : ids m.group ≡ w.in-Some.group.now.value.ids.items = ids_found (λ r. r.value) c.args.groups.now m.group w.in-Some.group.now w.in-Some.ensures.lookup.3.0 w.in-Some.ensures.lookup.1 in
           kept_one _ (among (drop (i + 1) ms)) old (merged_with eq c.match-get.merged s) (eq m.solvable s && nat_lt 1 (length (ids m.group))) (ids m.group) from
-          (ap (λ n. merged_with eq n s) w.merged-is ∙ w.in_ok-keep.ensures s ∙ ap (λ xs. cond (eq m.solvable s && nat_lt 1 (length xs)) (Some xs) old) (sym found))
+          (ap (λ n. merged_with eq n s) w.merged-is ∙ w.in_ok-keep.ensures.kept s ∙ ap (λ xs. cond (eq m.solvable s && nat_lt 1 (length xs)) (Some xs) old) (sym found))
       | in_default w ↦
           let none : ids m.group ≡ [] = ids_past (λ r. r.value) c.args.groups.now m.group w.in_default.ensures.lookup.3 in
           let alone : (eq m.solvable s && nat_lt 1 (length (ids m.group))) ≡ false = ap (λ xs. eq m.solvable s && nat_lt 1 (length xs)) none ∙ and_false (eq m.solvable s) in

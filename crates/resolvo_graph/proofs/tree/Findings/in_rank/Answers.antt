@@ -10,8 +10,8 @@ use Rattle.resolvo_graph.proofs.ListLemmas.{takes, leaves_out}
 use Rattle.resolvo_graph.proofs.TreeLemmas.{all_yielded}
 use Rattle.resolvo_graph.proofs.tree.Findings.in_rank.Goals as goal
 
-pub returns : goal.returns
-returns g c =
+pub returns-clause-rank : goal.returns-clause-rank
+returns-clause-rank g c =
     let given = c.into_iter-run-iterator.ensures.into_iter_gives in
     let ended = YieldsList-end (YieldsList-from_vec {s = c.into_iter-run-iterator.result} c.args.runs.items given.0 (given.1 ∙ c.args.runs.ok.0)) c.loop-run.yielded c.loop-run.run-iterator c.loop-run.yielded_by c.next.result c.next.new.self c.in-None.is c.next.ensures.steps in
     let all : c.loop-run.yielded ≡ c.args.runs.items = all_yielded c.loop-run.yielded c.args.runs.items ended.0 in

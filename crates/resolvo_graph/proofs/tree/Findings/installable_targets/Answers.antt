@@ -15,5 +15,5 @@ loop-target-preserved g c =
       | else-contains w ↦ filter_same ns i d (get_or ns i d) c.loop-target-test.true refl (is_among c.args.self.now.installable.keys) c.loop-target.found.items c.if-contains.found.items c.loop-target.invariant (sym c.contains.ensures ∙ w.if-contains.false) (ap (λ v. v.items) w.found-is)
     ]
 
-pub returns : goal.returns
-returns g c = whole (filter (is_among c.args.self.now.installable.keys)) c.targets-target-items.result.now c.args.run.now.targets c.loop-target.target-index c.loop-target.found.items c.loop-target-test.false c.targets-target-items.ensures c.loop-target.invariant
+pub returns-clause-targets : goal.returns-clause-targets
+returns-clause-targets g c = whole (filter (is_among c.args.self.now.installable.keys)) c.targets-target-items.result.now c.args.run.now.targets c.loop-target.target-index c.loop-target.found.items c.loop-target-test.false c.targets-target-items.ensures c.loop-target.invariant

@@ -7,15 +7,15 @@ use Rattle.resolvo_graph.proofs.ResultLemmas.{on_ok}
 use Rattle.resolvo_graph.proofs.SinkLemmas.{adds_none}
 use Rattle.resolvo_graph.proofs.tree.Findings.second_part.Goals as goal
 
-pub returns-then-is_empty : goal.returns-then-is_empty
-returns-then-is_empty g c = ([], no_second_part (findings g.S.PartialEq.eq c.args.self.now.graph.now c.args.self.now.installable.keys c.args.self.now.merged) c.args.others.now c.args.edges.now [] (sym c.is_empty.ensures ∙ c.if-is_empty.true) refl, adds_none g.L.Sink.took c.args.sink.now)
+pub returns-then-is_empty-clause-lines : goal.returns-then-is_empty-clause-lines
+returns-then-is_empty-clause-lines g c = ([], no_second_part (findings g.S.PartialEq.eq c.args.self.now.graph.now c.args.self.now.installable.keys c.args.self.now.merged) c.args.others.now c.args.edges.now [] (sym c.is_empty.ensures ∙ c.if-is_empty.true) refl, adds_none g.L.LineSink.took c.args.sink.now)
 
-pub returns : goal.returns
-returns g c =
+pub returns-clause-lines : goal.returns-clause-lines
+returns-clause-lines g c =
     let f = findings g.S.PartialEq.eq c.args.self.now.graph.now c.args.self.now.installable.keys c.args.self.now.merged in
-    let (tree, is_tree, grown) = c.in_ok-tree.ensures in
+    let (tree, is_tree, grown) = c.in_ok-tree.ensures.lines in
     on_ok c.take-2.result (λ more. (
       heading ∷ tree ++ conflict_lines c.args.edges.now,
       second_part f c.args.others.now c.args.edges.now tree (heading ∷ tree ++ conflict_lines c.args.edges.now) (sym c.is_empty.ensures ∙ c.if-is_empty.false) is_tree refl,
-      headed g.L.Sink.took c.new-lines.result.items c.push.new.self.items tree c.in_ok-conflicts.conflicts.items (conflict_lines c.args.edges.now) (record { indenter = c.new.result; sentence = Sentences.Incompatible }) c.args.sink.now c.take.new.self c.tree.new.sink c.take-2.new.self c.new-lines.ensures.items c.in_ok-push.ensures.items (ap (λ i. record { indenter = i; sentence = Sentences.Incompatible }) c.new.ensures) c.in_ok-conflicts.ensures c.in_ok-take.ensures.took grown more,
+      headed g.L.LineSink.took c.new-lines.result.items c.push.new.self.items tree c.in_ok-conflicts.conflicts.items (conflict_lines c.args.edges.now) (record { indenter = c.new.result; sentence = Sentences.Incompatible }) c.args.sink.now c.take.new.self c.tree.new.sink c.take-2.new.self c.new-lines.ensures.items c.in_ok-push.ensures.items (ap (λ i. record { indenter = i; sentence = Sentences.Incompatible }) c.new.ensures) c.in_ok-conflicts.ensures.lines c.in_ok-take.ensures.took grown more,
     )) c.take-2.ensures.took

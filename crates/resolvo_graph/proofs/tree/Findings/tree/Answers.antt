@@ -12,11 +12,11 @@ loop-entry-init g c =
     let f = findings g.S.PartialEq.eq c.args.self.now.graph.now c.args.self.now.installable.keys c.args.self.now.merged in
     let es = c.args.edges.now in
     let put : c.place_top.new.stack.items ≡ [] ++ reverse (siblings (record { levels = []; top_level_indent = c.args.top_level_indent }) [] (reverse (in_rank f (runs_of es)))) =
-    c.in_ok-place_top.ensures ∙ ap (λ xs. xs ++ reverse (siblings (record { levels = []; top_level_indent = c.args.top_level_indent }) [] (reverse (in_rank f (runs_of es))))) c.new-2.ensures.items in
+    c.in_ok-place_top.ensures.stack ∙ ap (λ xs. xs ++ reverse (siblings (record { levels = []; top_level_indent = c.args.top_level_indent }) [] (reverse (in_rank f (runs_of es))))) c.new-2.ensures.items in
     record {
       known = known_start f (reached c.args.self.now.graph.now es) (record { levels = []; top_level_indent = c.args.top_level_indent }) c.place_top.new.stack.items es (reached_own c.args.self.now.graph.now es) put;
       none = c.new-3.ensures.items;
-      follows = begins f g.L.Sink.took (siblings (record { levels = []; top_level_indent = c.args.top_level_indent }) [] (reverse (in_rank f (runs_of es)))) c.place_top.new.stack.items c.new.result.keys c.args.sink.now put c.new.ensures.empty;
+      follows = begins f g.L.LineSink.took (siblings (record { levels = []; top_level_indent = c.args.top_level_indent }) [] (reverse (in_rank f (runs_of es)))) c.place_top.new.stack.items c.new.result.keys c.args.sink.now put c.new.ensures.empty;
     }
 
 pub loop-entry-smaller : goal.loop-entry-smaller
@@ -39,16 +39,16 @@ loop-entry-preserved g c =
     record {
       known = known_next f us (reached_edges c.args.self.now.graph.now es) below c.write_entry.new.writer.stack.items c.loop-entry.writer.covered.keys e parts.0 parts.1 c.in_ok-write_entry.ensures.stack;
       none = c.in_ok-take.ensures.left;
-      follows = follows f g.L.Sink.took (siblings (record { levels = []; top_level_indent = c.args.top_level_indent }) [] (reverse (in_rank f (runs_of es)))) c.loop-entry.writer.stack.items below c.write_entry.new.writer.stack.items c.loop-entry.writer.covered.keys c.write_entry.new.writer.covered.keys c.loop-entry.writer.lines.items c.write_entry.new.writer.lines.items c.args.sink.now c.loop-entry.sink c.take.new.self e c.loop-entry.invariant.follows c.in-Some.ensures.items c.in_ok-write_entry.ensures.stack c.in_ok-write_entry.ensures.covered c.loop-entry.invariant.none c.in_ok-write_entry.ensures.lines c.in_ok-take.ensures.took;
+      follows = follows f g.L.LineSink.took (siblings (record { levels = []; top_level_indent = c.args.top_level_indent }) [] (reverse (in_rank f (runs_of es)))) c.loop-entry.writer.stack.items below c.write_entry.new.writer.stack.items c.loop-entry.writer.covered.keys c.write_entry.new.writer.covered.keys c.loop-entry.writer.lines.items c.write_entry.new.writer.lines.items c.args.sink.now c.loop-entry.sink c.take.new.self e c.loop-entry.invariant.follows c.in-Some.ensures.items c.in_ok-write_entry.ensures.stack c.in_ok-write_entry.ensures.covered c.loop-entry.invariant.none c.in_ok-write_entry.ensures.lines c.in_ok-take.ensures.took;
     }
 
-pub returns-then-is_full : goal.returns-then-is_full
-returns-then-is_full g c =
+pub returns-then-is_full-clause-lines : goal.returns-then-is_full-clause-lines
+returns-then-is_full-clause-lines g c =
     let f = findings g.S.PartialEq.eq c.args.self.now.graph.now c.args.self.now.installable.keys c.args.self.now.merged in
     let es = c.args.edges.now in
-    filled f (reached c.args.self.now.graph.now es) g.L.Sink.took (reached_edges c.args.self.now.graph.now es) (siblings (record { levels = []; top_level_indent = c.args.top_level_indent }) [] (reverse (in_rank f (runs_of es)))) c.loop-entry.writer.stack.items c.loop-entry.writer.covered.keys c.args.sink.now c.loop-entry.sink c.loop-entry.invariant.known c.loop-entry.invariant.follows (c.is_full.ensures c.if-is_full.true)
+    filled f (reached c.args.self.now.graph.now es) g.L.LineSink.took (reached_edges c.args.self.now.graph.now es) (siblings (record { levels = []; top_level_indent = c.args.top_level_indent }) [] (reverse (in_rank f (runs_of es)))) c.loop-entry.writer.stack.items c.loop-entry.writer.covered.keys c.args.sink.now c.loop-entry.sink c.loop-entry.invariant.known c.loop-entry.invariant.follows (c.is_full.ensures c.if-is_full.true)
 
-pub returns : goal.returns
-returns g c =
+pub returns-clause-lines : goal.returns-clause-lines
+returns-clause-lines g c =
     let f = findings g.S.PartialEq.eq c.args.self.now.graph.now c.args.self.now.installable.keys c.args.self.now.merged in
-    taken f g.L.Sink.took (siblings (record { levels = []; top_level_indent = c.args.top_level_indent }) [] (reverse (in_rank f (runs_of c.args.edges.now)))) c.loop-entry.writer.stack.items c.loop-entry.writer.covered.keys c.args.sink.now c.loop-entry.sink c.loop-entry.invariant.follows (nil_from_length c.loop-entry.writer.stack.items (omega (arith, c.loop-entry.writer.stack.ok, c.in_default.ensures.cases)))
+    taken f g.L.LineSink.took (siblings (record { levels = []; top_level_indent = c.args.top_level_indent }) [] (reverse (in_rank f (runs_of c.args.edges.now)))) c.loop-entry.writer.stack.items c.loop-entry.writer.covered.keys c.args.sink.now c.loop-entry.sink c.loop-entry.invariant.follows (nil_from_length c.loop-entry.writer.stack.items (omega (arith, c.loop-entry.writer.stack.ok, c.in_default.ensures.cases)))
