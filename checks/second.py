@@ -23,11 +23,13 @@ from typing import Callable, Iterable, Iterator, Optional
 
 HERE = Path(__file__).resolve().parent
 sys.path.insert(0, str(HERE.parent))
+sys.path.append(str(HERE.parent / "bench"))
 
-from bench.solving import Problem, any_of, pairs, pigeons
 from judging import Prover, some_texts
 from lrat_checker import Refused, check
 from plain_judge import obeys
+from problem import Problem, any_of
+from shapes import pairs, pigeons
 from tools.cnf import Cnf, Ladder, clean
 from tools.lrat import Export, export
 from tools.texts import Atom, BitAtom, Catalogue, Install, LeftOut, Report, Request, Step, Version
@@ -186,7 +188,7 @@ def broken_chain(length: int) -> Problem:
     """Packages that need one another in turn, and the last of them one that isn't listed."""
     problem = Problem()
     for k in range(length):
-        problem.version(f"p{k}", 1, [[any_of(f"p{k + 1}")]])
+        problem.version(f"p{k}", 1, [any_of(f"p{k + 1}")])
     problem.ask(any_of("p0"))
     return problem
 
@@ -196,8 +198,8 @@ def halves(versions: int) -> Problem:
     problem, half = Problem(), versions // 2
     for number in range(versions):
         problem.version("x", number)
-    problem.version("old", 1, [[("x", 0, half)]])
-    problem.version("new", 1, [[("x", half, versions)]])
+    problem.version("old", 1, [("x", 0, half)])
+    problem.version("new", 1, [("x", half, versions)])
     problem.ask(any_of("old"))
     problem.ask(any_of("new"))
     return problem
@@ -219,8 +221,8 @@ LARGE = {
     "chain": (10, 1000), "pairs": (10, 500), "pigeons": (2, 4, 6, 8), "halves": (10, 64, 66, 300), "limits": (20, 300)
 }
 FAMILIES: dict[str, Callable[[int], Problem]] = {
-    "chain": broken_chain, "pairs": partial(pairs, first_needs_too=True), "pigeons": pigeons, "halves": halves,
-    "limits": limits,
+    "chain": broken_chain, "pairs": partial(pairs(first_needs_too=True), _seed=1), "pigeons": partial(pigeons, _seed=1),
+    "halves": halves, "limits": limits,
 }
 
 
@@ -228,7 +230,8 @@ def families(sizes: dict[str, tuple[int, ...]], prover: Callable[[tuple[bytes, b
     """Refused problems of these sizes."""
     for family, of_family in sizes.items():
         for size in of_family:
-            texts = tuple(text.encode() for text in FAMILIES[family](size).texts())
+            problem = FAMILIES[family](size)
+            texts = problem.catalogue().encode(), problem.request().encode()
             yield read_texts(f"{family} of {size}", *texts, prover(texts))
 
 
