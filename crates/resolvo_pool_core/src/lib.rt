@@ -5,6 +5,7 @@
 
 pub mod arena;
 pub mod condition;
+pub mod display_name;
 pub mod id;
 pub mod id_map;
 pub mod indexed_set;

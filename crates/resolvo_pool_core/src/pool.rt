@@ -11,6 +11,7 @@ ghost use Rattle.resolvo_pool_core.specs.Provider.{OperandsBelow};
 
 use crate::arena::{Arena, ArenaIter};
 use crate::condition::Condition;
+use crate::display_name::PackageNames;
 use crate::id::{
     ConditionId, DenseIndex, NameId, SolvableId, StringId, VersionSetId, VersionSetUnionId,
     next_index,
@@ -18,7 +19,6 @@ use crate::id::{
 use crate::want::R;
 use indexmap::IndexSet;
 use std::alloc::Global;
-use std::fmt;
 use std::hash::Hash;
 use std::marker::Model;
 
@@ -382,31 +382,12 @@ where
     Ok(index)
 }
 
-impl NameId {
-    /// Writes the name, as it is written in `pool`.
-    pub fn display<VS: VersionSet, N: PackageName + fmt::Display>(
-        self,
-        pool: &Pool<VS, N>,
-    ) -> DisplayName<'_, N>
-        requires { self.raw < length pool.now.names }
-        ensures { slice_get pool.now.names self.raw ≡ Some result.name.now }
-    {
-        DisplayName {
-            name: pool.resolve_package_name(self),
-        }
-    }
-}
+impl<VS: VersionSet, N: PackageName> PackageNames for Pool<VS, N> {
+    type Name = N;
 
-/// A package's name, to be written.
-#[derive(Drop)]
-pub struct DisplayName<'a, N> {
-    pub name: &'a N,
-}
+    ghost names_in = { λ p. p.names };
 
-impl<N: fmt::Display> fmt::Display for DisplayName<'_, N> {
-    ghost output = { λ d. N.output d.name.now };
-
-    fn fmt<W: fmt::Write>(&self, f: &mut fmt::Formatter<W>) -> fmt::Result {
-        self.name.fmt(f)
+    fn name_of(&self, id: NameId) -> &N {
+        self.resolve_package_name(id)
     }
 }
