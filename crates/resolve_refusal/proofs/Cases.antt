@@ -10,7 +10,7 @@ use Rattle.resolvo_pool_core.specs.declared.id.VersionSetId.{VersionSetId}
 use Rattle.resolvo_pool_core.specs.declared.condition.Condition.{Condition}
 use Rattle.resolvo_pool_core.specs.declared.condition.Condition.TheVariants.{Binary, Requirement}
 use Rattle.resolvo_pool_core.specs.declared.condition.LogicalOperator.TheVariants as joins
-use Rattle.resolvo_pool_core.specs.Intern.{AreBelow}
+use Rattle.resolvo_intern.specs.Intern.{AreBelow}
 use Rattle.resolvo_store_core.specs.Cases.{cases_by, cases_within}
 use Rattle.resolvo_sat.specs.RuleClauses.{cases_under}
 use Rattle.resolvo_sat.proofs.Lists.{contains_one, contains_parts, map_contains}

@@ -11,13 +11,13 @@ use Rattle.resolvo_text.specs.Matches as lines
 use Rattle.resolvo_text.specs.Matches.{Set}
 use Rattle.resolvo_pool_core.specs.declared.id.VersionSetId.{VersionSetId}
 use Rattle.resolvo_pool_core.specs.declared.id.ConditionId.{ConditionId}
-use Rattle.resolvo_pool_core.specs.declared.pool.Solvable.{Solvable}
+use Rattle.resolvo_intern.specs.declared.pool.Solvable.{Solvable}
 use Rattle.resolvo_pool_core.specs.declared.condition.Condition.{Condition}
 use Rattle.resolvo_pool_core.specs.declared.condition.Condition.TheVariants.{Binary, Requirement}
 use Rattle.resolvo_pool_core.specs.declared.requirement.Requirement as needs
 use Rattle.resolvo_pool_core.specs.declared.requirement.Requirement.TheVariants.{Single, Union}
 use Rattle.resolvo_pool_core.specs.declared.requirement.ConditionalRequirement.{ConditionalRequirement}
-use Rattle.resolvo_pool_core.specs.Intern.{AreBelow}
+use Rattle.resolvo_intern.specs.Intern.{AreBelow}
 use Rattle.resolvo_pool_core.specs.Provider as pool
 use Rattle.resolvo_pool_core.specs.RuleKeeping.{IsLawful, is_in, is_match, is_outside, is_met, meets, holds, binds, binds_under}
 use Rattle.resolvo_pool_core.proofs.Conditions.{holds_by_cases}

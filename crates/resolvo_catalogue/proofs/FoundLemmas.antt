@@ -25,7 +25,7 @@ use Rattle.resolvo_pool_core.specs.declared.condition.Condition.TheVariants.{Bin
 use Rattle.resolvo_pool_core.specs.declared.condition.LogicalOperator.{LogicalOperator}
 use Rattle.resolvo_pool_core.specs.declared.condition.LogicalOperator.TheVariants.{And, Or}
 use Rattle.resolvo_pool_core.specs.Provider.{OperandsBelow}
-use Rattle.resolvo_pool_core.specs.Intern.{AreBelow}
+use Rattle.resolvo_intern.specs.Intern.{AreBelow}
 use Rattle.resolvo_catalogue_core.proofs.Pushed.{get_new, get_kept, get_push}
 use Rattle.resolvo_catalogue.specs.declared.id_table.Numbers.{Numbers}
 use Rattle.resolvo_catalogue.specs.Ids.{NameId, Extends, AreOnce, IsPlaced}

@@ -17,7 +17,7 @@ use Rattle.resolvo_catalogue_core.specs.Sets as texts_sets
 use Rattle.resolvo_catalogue_core.proofs.CatalogueFacts.{keeps_rule}
 use Rattle.resolvo_catalogue_core.proofs.TableLemmas.{listed_from}
 use Rattle.resolvo_catalogue_core.proofs.PlaceLemmas.{at_from_contains, contains_from_line}
-use Rattle.resolvo_pool_core.specs.declared.pool.Solvable.{Solvable}
+use Rattle.resolvo_intern.specs.declared.pool.Solvable.{Solvable}
 use Rattle.resolvo_pool_core.specs.declared.id.StringId.{StringId}
 use Rattle.resolvo_pool_core.specs.declared.id.VersionSetId.{VersionSetId}
 use Rattle.resolvo_pool_core.specs.declared.requirement.ConditionalRequirement.{ConditionalRequirement}

@@ -2,7 +2,7 @@
 use Rattle.std.proofs.Common.{◌≡◌, inl, inr, ◌==◌, if◌then◌else◌, ◌+◌, ℕ, Bool, true, false, List, [], ◌∷◌, ◌++◌, map, length, sym, ap, ◌∙◌, arith}
 use Rattle.std.proofs.lemmas.List.{map-append, append-nil}
 use Rattle.resolvo_text.specs.Line.{Version}
-use Rattle.resolvo_pool_core.specs.declared.pool.Solvable.{Solvable}
+use Rattle.resolvo_intern.specs.declared.pool.Solvable.{Solvable}
 use Rattle.resolvo_catalogue.specs.Ids.{Ids, SolvableId, solvable_id, AreEach, IsSolvable, IsPlaced, Grows, places_from, solvables_of}
 use Rattle.resolvo_catalogue.proofs.GrowLemmas.{each_as}
 use Rattle.resolvo_catalogue.proofs.Places.{places_push}

@@ -15,7 +15,7 @@ use Rattle.resolvo_catalogue_core.specs.Listed.{listed}
 use Rattle.resolvo_catalogue_core.proofs.PlaceLemmas.{at_from_contains}
 use Rattle.resolvo_catalogue_core.proofs.TableLemmas.{listed_from}
 use Rattle.resolvo_pool_core.specs.declared.id.VersionSetId.{VersionSetId}
-use Rattle.resolvo_pool_core.specs.declared.pool.Solvable.{Solvable}
+use Rattle.resolvo_intern.specs.declared.pool.Solvable.{Solvable}
 use Rattle.resolvo_pool_core.specs.Provider.{favoured_first, tried_first, IsTriedFor}
 use Rattle.resolvo_catalogue.specs.Ids.{NameId, SolvableId, solvable_id, solvables_of, places_from, IsSolvable, IsSpec}
 use Rattle.resolvo_catalogue.specs.Known.{solvable_at, set_at}

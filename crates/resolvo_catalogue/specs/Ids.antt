@@ -7,7 +7,7 @@ use Rattle.resolvo_pool_core.specs.declared.id.SolvableTag.{SolvableTag}
 use Rattle.resolvo_pool_core.specs.declared.id.StringId.{StringId}
 use Rattle.resolvo_pool_core.specs.declared.id.VersionSetId.{VersionSetId}
 use Rattle.resolvo_pool_core.specs.declared.id.ConditionId.{ConditionId}
-use Rattle.resolvo_pool_core.specs.declared.pool.Solvable.{Solvable}
+use Rattle.resolvo_intern.specs.declared.pool.Solvable.{Solvable}
 use Rattle.resolvo_pool_core.specs.declared.condition.Condition.{Condition}
 use Rattle.resolvo_pool_core.specs.declared.condition.Condition.TheVariants.{Binary, Requirement}
 use Rattle.resolvo_pool_core.specs.declared.condition.LogicalOperator.TheVariants as joins
@@ -15,7 +15,7 @@ use Rattle.resolvo_pool_core.specs.declared.requirement.Requirement as needs
 use Rattle.resolvo_pool_core.specs.declared.requirement.Requirement.TheVariants.{Single, Union}
 use Rattle.resolvo_pool_core.specs.declared.requirement.ConditionalRequirement.{ConditionalRequirement}
 use Rattle.resolvo_catalogue.specs.declared.id_table.Numbers.{Numbers}
-use Rattle.resolvo_pool_core.specs.Intern.{AreBelow}
+use Rattle.resolvo_intern.specs.Intern.{AreBelow}
 use Rattle.std.specs.Global.{Vec}
 
 abbrev pub NameId : Type 0

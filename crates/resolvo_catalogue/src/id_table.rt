@@ -16,12 +16,12 @@ ghost use Rattle.resolvo_catalogue.specs.Found.{Key, key_eq, number_in, list_num
 use crate::guesses::{Guesses, mixed};
 use crate::text_ids::TextIds;
 use resolvo_catalogue_core::{Cond, Span, Spec};
+use resolvo_intern::pool::{Solvable, VersionSet};
 use resolvo_pool_core::condition::{Condition, LogicalOperator};
 use resolvo_pool_core::id::{
     ConditionId, DenseIndex, NameId, SolvableId, StringId, VersionSetId, VersionSetUnionId,
     next_index,
 };
-use resolvo_pool_core::pool::{Solvable, VersionSet};
 use resolvo_pool_core::requirement::{ConditionalRequirement, Requirement};
 use resolvo_pool_core::want::R;
 use std::alloc::{AllocError, Global};

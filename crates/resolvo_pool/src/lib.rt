@@ -7,6 +7,7 @@ mod hinted;
 
 pub use cache::{CacheFault, SolverCache};
 pub use frozen_copy_map::FrozenCopyMap;
+pub use resolvo_intern::pool::{IntoPackageName, PackageName, Pool, Solvable, VersionSet};
 pub use resolvo_pool_core::arena::{Arena, ArenaIter, ArenaIterMut};
 pub use resolvo_pool_core::condition::{Condition, LogicalOperator};
 pub use resolvo_pool_core::display_name::{DisplayName, PackageNames};
@@ -18,7 +19,6 @@ pub use resolvo_pool_core::id::{
 pub use resolvo_pool_core::id_map::{IdMap, IdSet, OneDefault, OptionalNumber, ScoreMap};
 pub use resolvo_pool_core::indexed_set::IndexedSet;
 pub use resolvo_pool_core::mapping::{Mapping, MappingIter};
-pub use resolvo_pool_core::pool::{IntoPackageName, PackageName, Pool, Solvable, VersionSet};
 pub use resolvo_pool_core::provider::{
     Candidates, Dependencies, DependencyProvider, HintDependenciesAvailable, Interner,
     KnownDependencies,

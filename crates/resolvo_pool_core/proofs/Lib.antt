@@ -1,5 +1,4 @@
 pub mod Conditions
-pub mod Interned
 pub mod PassLearns
 pub mod PassNamed
 pub mod PassSound

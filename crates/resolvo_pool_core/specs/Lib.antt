@@ -1,6 +1,5 @@
 pub mod ByRequirement
 pub mod Ids
-pub mod Intern
 pub mod Lends
 pub mod OnePass
 pub mod Provider

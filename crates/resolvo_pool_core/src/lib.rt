@@ -10,7 +10,6 @@ pub mod id;
 pub mod id_map;
 pub mod indexed_set;
 pub mod mapping;
-pub mod pool;
 pub mod provider;
 pub mod requirement;
 pub mod solver_id;

@@ -9,15 +9,15 @@ ghost use Rattle.indexmap.specs.IndexSet.{insert_key};
 ghost use Rattle.resolvo_pool_core.specs.declared.want.Want.TheVariants.{Ids, Memory};
 ghost use Rattle.resolvo_pool_core.specs.Provider.{OperandsBelow};
 
-use crate::arena::{Arena, ArenaIter};
-use crate::condition::Condition;
-use crate::display_name::PackageNames;
-use crate::id::{
+use indexmap::IndexSet;
+use resolvo_pool_core::arena::{Arena, ArenaIter};
+use resolvo_pool_core::condition::Condition;
+use resolvo_pool_core::display_name::PackageNames;
+use resolvo_pool_core::id::{
     ConditionId, DenseIndex, NameId, SolvableId, StringId, VersionSetId, VersionSetUnionId,
     next_index,
 };
-use crate::want::R;
-use indexmap::IndexSet;
+use resolvo_pool_core::want::R;
 use std::alloc::Global;
 use std::hash::Hash;
 use std::marker::Model;
@@ -82,7 +82,7 @@ pub struct Pool<VS: VersionSet, N: PackageName = String> {
 impl<VS: VersionSet, N: PackageName> Model for Pool<VS, N> {
     ghost use Rattle.std.specs.Prelude.{◌≤◌, length, map};
     ghost use Rattle.std.specs.String.{string_bytes};
-    ghost use Rattle.resolvo_pool_core.specs.Intern.{Interned, AreBelow};
+    ghost use Rattle.resolvo_intern.specs.Intern.{Interned, AreBelow};
 
     ghost Value = { Interned VS.V VS N };
 

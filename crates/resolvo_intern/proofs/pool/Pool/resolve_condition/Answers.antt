@@ -1,6 +1,6 @@
 use Rattle.std.proofs.Common.{◌≡◌, ◌∙◌, sym, ap, slice_get, Some}
 use Rattle.std.specs.Option.{option_copied}
-use Rattle.resolvo_pool_core.proofs.pool.Pool.resolve_condition.Goals as goal
+use Rattle.resolvo_intern.proofs.pool.Pool.resolve_condition.Goals as goal
 
 -- the conditions of a pool are above their operands
 pub returns-clause-below : goal.returns-clause-below
