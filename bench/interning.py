@@ -1,7 +1,7 @@
 #!/usr/bin/env python3
 """Interns 10^6 names in a `Pool` and looks each up, beside Python's `dict`, in one run: median of five.
 
-Usage: bench/interning.py   (proves and builds the program below over a copy of crates/resolvo_pool_core: some minutes)
+Usage: bench/interning.py   (proves and builds the program below over copies of crates/resolvo_pool_core and crates/resolvo_intern: some minutes)
 """
 import resource
 import statistics
@@ -12,16 +12,17 @@ import tempfile
 import program
 
 CRATES = """\
-resolvo_pool_core: indexmap thiserror
-interning: resolvo_pool_core
+resolvo_pool_core: thiserror
+resolvo_intern: resolvo_pool_core indexmap
+interning: resolvo_pool_core resolvo_intern
 """
 
 PROGRAM = """\
 //! Interns a million names, and looks each up.
 #![tactic(auto)]
 
+use resolvo_intern::pool::{Pool, VersionSet};
 use resolvo_pool_core::id::{DenseIndex, NameId};
-use resolvo_pool_core::pool::{Pool, VersionSet};
 use resolvo_pool_core::want::R;
 use std::alloc::Global;
 use std::process::ExitCode;
