@@ -1,25 +1,15 @@
 //! Runs the cases on standard input: requests over small catalogues, and what a solver answers.
 #![tactic(auto)]
 
-mod answer;
-mod candidates;
-mod case;
-mod cases;
-mod compare;
-mod ids;
-mod pairs;
 mod solve;
-mod solver_under_test;
-mod tally;
-mod texts;
 mod tried_solver;
 mod write;
 
-use cases::run_cases;
+use resolvo_cases::cases::run_cases;
+use resolvo_cases::tally::Tally;
 use resolvo_pool::R;
 use std::io;
 use std::process::ExitCode;
-use tally::Tally;
 use tried_solver::TriedSolver;
 
 /// Prints the answers that differ, and last how many cases and pairs were run.

@@ -1,7 +1,7 @@
 //! The solver's answers.
 
-use crate::solver_under_test::Asked;
 use resolvo::{Problem, Solver, UnsolvableOrCancelled};
+use resolvo_cases::solver_under_test::Asked;
 use resolvo_pool::{ConditionalRequirement, DependencyProvider, R, VersionSetId, Want};
 use std::alloc::Global;
 

@@ -1,10 +1,10 @@
 //! The solver that the cases ask.
 
-use crate::answer::{Answer, Recorder};
 use crate::solve::chosen_by;
-use crate::solver_under_test::{Asked, SolverUnderTest};
 use crate::write::fill_answer_by;
 use resolvo::Solver;
+use resolvo_cases::answer::{Answer, Recorder};
+use resolvo_cases::solver_under_test::{Asked, SolverUnderTest};
 use resolvo_pool::{DependencyProvider, R};
 use std::alloc::Global;
 

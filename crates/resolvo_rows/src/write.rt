@@ -1,11 +1,11 @@
 //! A solver's answer as lines.
 
-use crate::answer::{
+use crate::solve::solved;
+use resolvo::{Conflict, Solver, Turn, UnsolvableOrCancelled};
+use resolvo_cases::answer::{
     Answer, NO_MEMORY, Recorder, write_shown, write_version, write_versions, write_waiting,
 };
-use crate::solve::solved;
-use crate::solver_under_test::Asked;
-use resolvo::{Conflict, Solver, Turn, UnsolvableOrCancelled};
+use resolvo_cases::solver_under_test::Asked;
 use resolvo_pool::{DependencyProvider, Interner, R};
 use std::alloc::Global;
 
