@@ -1,42 +1,16 @@
 //! Runs the cases on standard input: requests over small catalogues, and what a solver answers.
 #![tactic(auto)]
 
-mod answer;
-mod candidates;
-mod case;
-mod compare;
-mod ids;
-mod pairs;
 mod solve;
-mod tally;
+mod tried_solver;
+mod write;
 
-use answer::Answer;
-use case::{number_in, section};
-use compare::compare_case;
-use ids::compare_ids;
-use pairs::compare_pairs;
+use resolvo_cases::cases::run_cases;
+use resolvo_cases::tally::Tally;
 use resolvo_pool::R;
-use std::alloc::Global;
 use std::io;
 use std::process::ExitCode;
-use tally::Tally;
-
-fn run_case(alloc: Global, case: &str, answer: &mut Answer, tally: &mut Tally) -> R<()> {
-    if let Some(count) = section(case, "== pairs\n") {
-        return compare_pairs(alloc, number_in(count), tally);
-    }
-    if section(case, "== ids\n").is_some() {
-        return compare_ids(alloc, tally);
-    }
-    compare_case(alloc, case, answer, tally)
-}
-
-fn run_all(alloc: Global, text: &str, answer: &mut Answer, tally: &mut Tally) -> R<()> {
-    for case in text.split("# ").skip(1) {
-        run_case(alloc, case, answer, tally)?;
-    }
-    Ok(())
-}
+use tried_solver::TriedSolver;
 
 /// Prints the answers that differ, and last how many cases and pairs were run.
 fn print(rt: &HostRuntime, ended: R<()>, tally: &Tally) -> io::Result<ExitCode> {
@@ -60,7 +34,6 @@ fn print(rt: &HostRuntime, ended: R<()>, tally: &Tally) -> io::Result<ExitCode> 
 fn main(rt: HostRuntime) -> io::Result<ExitCode> {
     let text = io::read_to_string(rt.alloc(), rt.stdin())?;
     let mut tally = Tally::new(rt.alloc());
-    let mut answer = Answer::new(rt.alloc());
-    let ended = run_all(rt.alloc(), &text, &mut answer, &mut tally);
+    let ended = run_cases(rt.alloc(), &TriedSolver, &text, &mut tally);
     print(&rt, ended, &tally)
 }

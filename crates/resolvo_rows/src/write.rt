@@ -1,93 +1,13 @@
-//! A solver's answer as lines: what is chosen, left out and deferred, the questions of its
-//! provider, and the message of a conflict.
+//! A solver's answer as lines.
 
-use crate::solve::{Asked, solved};
+use crate::solve::solved;
 use resolvo::{Conflict, Solver, Turn, UnsolvableOrCancelled};
-use resolvo_pool::{DependencyProvider, Interner, R, SolvableIdOrRoot, SparseId};
-use resolvo_test_providers::test_provider::{Question, TestProvider};
+use resolvo_cases::answer::{
+    Answer, NO_MEMORY, Recorder, write_shown, write_version, write_versions, write_waiting,
+};
+use resolvo_cases::solver_under_test::Asked;
+use resolvo_pool::{DependencyProvider, Interner, R};
 use std::alloc::Global;
-use std::fmt;
-
-/// A solver's answer to a case: at first, and where it was stopped, when it is asked again; its
-/// provider's questions; and why it refuses.
-pub struct Answer {
-    pub first: String,
-    pub again: String,
-    pub asked: String,
-    pub why: String,
-}
-
-impl Drop for Answer {
-    fn drop(self) {
-        let Answer {
-            first: _,
-            again: _,
-            asked: _,
-            why: _,
-        } = self;
-    }
-}
-
-impl Answer {
-    pub fn new(alloc: Global) -> Answer {
-        Answer {
-            first: String::new(alloc),
-            again: String::new(alloc),
-            asked: String::new(alloc),
-            why: String::new(alloc),
-        }
-    }
-
-    pub fn clear(&mut self) {
-        self.first.clear();
-        self.again.clear();
-        self.asked.clear();
-        self.why.clear();
-    }
-
-    /// Whether the solver lacked memory.
-    pub fn lacks_memory(&self) -> bool {
-        self.first.as_str() == NO_MEMORY || self.again.as_str() == NO_MEMORY
-    }
-}
-
-/// The answer of a solver that lacks memory.
-pub const NO_MEMORY: &str = "no memory\n";
-
-/// A package, to be written.
-#[derive(Drop)]
-struct Package<'a, I: Interner> {
-    interner: &'a I,
-    name: I::NameId,
-}
-
-impl<I: Interner> fmt::Display for Package<'_, I> {
-    fn fmt<W: fmt::Write>(&self, f: &mut fmt::Formatter<W>) -> fmt::Result {
-        self.interner.display_name(self.name, f)
-    }
-}
-
-fn write_shown<D: fmt::Display>(text: &mut String, shown: &D) -> R<()> {
-    Ok(write!(text, "{shown}")?)
-}
-
-fn write_line<D: fmt::Display>(text: &mut String, front: &str, shown: &D) -> R<()> {
-    Ok(writeln!(text, "{front}{shown}")?)
-}
-
-fn write_name<I: Interner>(text: &mut String, interner: &I, name: I::NameId) -> R<()> {
-    write_line(text, "", &Package { interner, name })
-}
-
-fn write_version<I: Interner>(
-    text: &mut String,
-    interner: &I,
-    front: &str,
-    version: I::SolvableId,
-) -> R<()> {
-    let shown = SolvableIdOrRoot::from(version).display(interner);
-    write_line(text, front, &shown)
-}
 
 /// The wishes that the last search left out.
 fn write_left_out<I: Interner>(
@@ -103,26 +23,6 @@ fn write_left_out<I: Interner>(
     Ok(())
 }
 
-fn write_versions<I: Interner>(
-    text: &mut String,
-    interner: &I,
-    versions: &[I::SolvableId],
-) -> R<()> {
-    for version in versions {
-        write_version(text, interner, "", *version)?;
-    }
-    Ok(())
-}
-
-/// How many cases of conditions wait.
-fn write_waiting(text: &mut String, count: usize) -> R<()> {
-    match count {
-        0 => Ok(()),
-        1 => Ok(text.push_str("1 waits\n")?),
-        count => Ok(writeln!(text, "{count} wait")?),
-    }
-}
-
 /// The message of a conflict, which the solver must hold.
 fn write_why<P: DependencyProvider>(
     alloc: Global,
@@ -136,45 +36,6 @@ fn write_why<P: DependencyProvider>(
     match conflict.display_user_friendly(alloc, solver) {
         Ok(message) => write_shown(why, &message),
         Err(want) => Err(want),
-    }
-}
-
-/// A provider that records its questions.
-pub trait Recorder {
-    /// Writes its questions so far.
-    fn write_asked(&self, text: &mut String) -> R<()>;
-}
-
-fn write_question<I: Interner>(
-    text: &mut String,
-    source: &TestProvider<I>,
-    question: &Question<I::NameId, I::SolvableId>,
-) -> R<()> {
-    match question {
-        Question::Candidates(name) => write_name(text, source, SparseId::from_raw(*name)),
-        Question::Dependencies(solvable) => {
-            write_version(text, source, "", SparseId::from_raw(*solvable))
-        }
-    }
-}
-
-fn write_questions<I: Interner>(
-    text: &mut String,
-    source: &TestProvider<I>,
-    asked: &[Question<I::NameId, I::SolvableId>],
-) -> R<()> {
-    for question in asked {
-        write_question(text, source, question)?;
-    }
-    Ok(())
-}
-
-impl<I: Interner> Recorder for TestProvider<I> {
-    fn write_asked(&self, text: &mut String) -> R<()> {
-        match self.asked.try_borrow() {
-            Ok(asked) => write_questions(text, self, asked.as_slice()),
-            Err(_) => Ok(()),
-        }
     }
 }
 
@@ -275,7 +136,7 @@ fn write_twice<P: DependencyProvider<Cancel = u32>>(
 }
 
 /// Fills in a solver's answer, with the questions of its provider.
-pub fn fill_answer<P: DependencyProvider<Cancel = u32> + Recorder>(
+pub fn fill_answer_by<P: DependencyProvider<Cancel = u32> + Recorder>(
     alloc: Global,
     solver: &mut Solver<P>,
     asked: Asked<'_, P::SolvableId>,

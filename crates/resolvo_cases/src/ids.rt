@@ -1,7 +1,7 @@
 //! A request over a small catalogue: which SPECs have one id, and how requirements are written.
 
-use crate::solve::{catalogue_in, request_in};
 use crate::tally::Tally;
+use crate::texts::{catalogue_in, request_in};
 use resolvo_catalogue::{Catalogue, CatalogueProvider, Hint, Request, RequestIds, Span, Spec};
 use resolvo_pool::{Interner, R, Requirement};
 use std::alloc::Global;

@@ -1,6 +1,6 @@
 //! The order in which candidates are tried, and those that a limit leaves out.
 
-use crate::solve::Texts;
+use crate::texts::Texts;
 use resolvo_catalogue::{CatalogueProvider, GivenUp, Hint, RequestIds};
 use resolvo_pool::{CacheFault, DependencyProvider, R, SolvableId, SolverCache, Want};
 use std::alloc::Global;

@@ -1,13 +1,11 @@
 //! Generated catalogues and requests with lines of all forms. The solver's choices keep all lines,
 //! with one version of a package at most, and it refuses only where no set does.
 
-use crate::solve::{Asked, catalogue_in, request_in, solved};
+use crate::solver_under_test::{Asked, SolverUnderTest};
 use crate::tally::Tally;
-use resolvo::{Solver, UnsolvableOrCancelled};
-use resolvo_catalogue::{
-    Catalogue, CatalogueProvider, GivenUp, Hint, Request, RequestIds, VersionNo,
-};
-use resolvo_pool::{R, SolvableId, Want};
+use crate::texts::{catalogue_in, request_in};
+use resolvo_catalogue::{Catalogue, CatalogueProvider, Hint, Request, RequestIds, VersionNo};
+use resolvo_pool::{R, SolvableId};
 use std::alloc::Global;
 
 /// Whether the set keeps the rules, by the lines.
@@ -145,13 +143,9 @@ fn is_right(catalogue: &Catalogue, request: &Request, set: &[VersionNo]) -> bool
 }
 
 /// Adds the versions of these solvables.
-fn fill_chosen(
-    set: &mut Vec<VersionNo>,
-    provider: &CatalogueProvider,
-    chosen: &[SolvableId],
-) -> R<()> {
+fn fill_chosen(set: &mut Vec<VersionNo>, chosen: &[SolvableId]) -> R<()> {
     for one in chosen {
-        set.push(provider.version_of(*one))?;
+        set.push(VersionNo(one.into_raw()))?;
     }
     Ok(())
 }
@@ -167,46 +161,27 @@ fn wishes_of(alloc: Global, catalogue: &Catalogue, root: &RequestIds) -> R<Vec<S
     Ok(wishes)
 }
 
-/// The chosen versions fill the set. Whether there are any.
-fn fill_found(
-    set: &mut Vec<VersionNo>,
-    provider: &CatalogueProvider,
-    found: &Result<Vec<SolvableId>, UnsolvableOrCancelled<GivenUp>>,
-) -> R<bool> {
-    match found {
-        Ok(chosen) => {
-            fill_chosen(set, provider, chosen.as_slice())?;
-            Ok(true)
-        }
-        Err(UnsolvableOrCancelled::Unsolvable(_)) => Ok(false),
-        Err(UnsolvableOrCancelled::Memory) => Err(Want::Memory),
-        Err(_) => Err(Want::Ids),
-    }
-}
-
-/// The chosen versions fill the set. Whether there are any that keep the rules, by the solver.
-fn is_chosen(
+/// The versions that a solver chooses fill the set. Whether there are any.
+fn is_root_chosen<S: SolverUnderTest>(
     alloc: Global,
-    solver: &mut Solver<CatalogueProvider>,
-    asked: Asked<'_, SolvableId>,
-    set: &mut Vec<VersionNo>,
-) -> R<bool> {
-    let found = solved(alloc, solver, asked);
-    fill_found(set, solver.provider(), &found)
-}
-
-fn is_root_chosen(
-    alloc: Global,
+    solver: &S,
     provider: CatalogueProvider,
     asked: Asked<'_, SolvableId>,
     set: &mut Vec<VersionNo>,
 ) -> R<bool> {
-    let mut solver = Solver::new(alloc, provider);
-    is_chosen(alloc, &mut solver, asked, set)
+    match solver.chosen(alloc, provider, asked) {
+        Ok(Some(chosen)) => {
+            fill_chosen(set, chosen.as_slice())?;
+            Ok(true)
+        }
+        Ok(None) => Ok(false),
+        Err(want) => Err(want),
+    }
 }
 
-fn is_asked_chosen(
+fn is_asked_chosen<S: SolverUnderTest>(
     alloc: Global,
+    solver: &S,
     catalogue: &Catalogue,
     provider: CatalogueProvider,
     root: &RequestIds,
@@ -219,14 +194,15 @@ fn is_asked_chosen(
                 limits: root.constraints.as_slice(),
                 wishes: wishes.as_slice(),
             };
-            is_root_chosen(alloc, provider, asked, set)
+            is_root_chosen(alloc, solver, provider, asked, set)
         }
         Err(want) => Err(want),
     }
 }
 
-fn is_request_chosen(
+fn is_request_chosen<S: SolverUnderTest>(
     alloc: Global,
+    solver: &S,
     catalogue: &Catalogue,
     request: &Request,
     hint: Hint,
@@ -234,19 +210,20 @@ fn is_request_chosen(
 ) -> R<bool> {
     let mut provider = CatalogueProvider::new(alloc, catalogue, hint)?;
     match provider.intern_request(request) {
-        Ok(root) => is_asked_chosen(alloc, catalogue, provider, &root, set),
+        Ok(root) => is_asked_chosen(alloc, solver, catalogue, provider, &root, set),
         Err(want) => Err(want),
     }
 }
 
-fn compare_sets(
+fn compare_sets<S: SolverUnderTest>(
     alloc: Global,
+    solver: &S,
     catalogue: &Catalogue,
     request: &Request,
     hint: Hint,
     set: &mut Vec<VersionNo>,
 ) -> R<Option<bool>> {
-    if is_request_chosen(alloc, catalogue, request, hint, set)? {
+    if is_request_chosen(alloc, solver, catalogue, request, hint, set)? {
         return Ok(if is_right(catalogue, request, set.as_slice()) {
             Some(true)
         } else {
@@ -272,22 +249,39 @@ fn generated_request(alloc: Global, seed: u32, catalogue: &Catalogue) -> R<Reque
     request_in(alloc, text.as_str(), catalogue)
 }
 
-fn compare_request(alloc: Global, catalogue: &Catalogue, seed: u32) -> R<Option<bool>> {
+fn compare_request<S: SolverUnderTest>(
+    alloc: Global,
+    solver: &S,
+    catalogue: &Catalogue,
+    seed: u32,
+) -> R<Option<bool>> {
     let request = generated_request(alloc, seed, catalogue)?;
     let hint = if seed % 2 == 0 { Hint::All } else { Hint::None };
-    compare_sets(alloc, catalogue, &request, hint, &mut Vec::new(alloc))
+    compare_sets(
+        alloc,
+        solver,
+        catalogue,
+        &request,
+        hint,
+        &mut Vec::new(alloc),
+    )
 }
 
 /// Whether the generated request can be solved over the generated catalogue, as the solver and all
 /// sets answer; none where they differ. A wish that a lock or an exclusion forbids isn't asked for.
-fn solved_pair(alloc: Global, seed: u32) -> R<Option<bool>> {
+fn solved_pair<S: SolverUnderTest>(alloc: Global, solver: &S, seed: u32) -> R<Option<bool>> {
     let catalogue = generated_catalogue(alloc, seed)?;
-    compare_request(alloc, &catalogue, seed)
+    compare_request(alloc, solver, &catalogue, seed)
 }
 
 /// Compares the pair of a seed with all sets. Whether it has a solution.
-fn compare_pair(alloc: Global, seed: u32, tally: &mut Tally) -> R<bool> {
-    match solved_pair(alloc, seed)? {
+fn compare_pair<S: SolverUnderTest>(
+    alloc: Global,
+    solver: &S,
+    seed: u32,
+    tally: &mut Tally,
+) -> R<bool> {
+    match solved_pair(alloc, solver, seed)? {
         Some(solved) => Ok(solved),
         None => {
             tally.differ();
@@ -299,11 +293,16 @@ fn compare_pair(alloc: Global, seed: u32, tally: &mut Tally) -> R<bool> {
 
 /// Compares so many generated pairs with all sets. More than a quarter have a solution, and more
 /// than a quarter have none.
-pub fn compare_pairs(alloc: Global, count: u32, tally: &mut Tally) -> R<()> {
+pub fn compare_pairs<S: SolverUnderTest>(
+    alloc: Global,
+    solver: &S,
+    count: u32,
+    tally: &mut Tally,
+) -> R<()> {
     tally.pairs = tally.pairs.saturating_add(count);
     let mut kept = 0u32;
     for seed in 0..count {
-        if compare_pair(alloc, seed, tally)? {
+        if compare_pair(alloc, solver, seed, tally)? {
             kept = kept.saturating_add(1);
         }
     }

@@ -3,8 +3,9 @@
 use crate::answer::{Answer, NO_MEMORY};
 use crate::candidates::write_candidates;
 use crate::case::{section, title};
-use crate::solve::{Texts, answer_to, catalogue_in, request_in};
+use crate::solver_under_test::SolverUnderTest;
 use crate::tally::Tally;
+use crate::texts::{Texts, answer_to, catalogue_in, request_in};
 use resolvo_catalogue::{Catalogue, Hint};
 use resolvo_pool::{R, Want};
 use std::alloc::Global;
@@ -79,8 +80,9 @@ fn compare_stopped(
 }
 
 /// Cancels at each test of the provider in turn.
-fn cancel_each(
+fn cancel_each<S: SolverUnderTest>(
     alloc: Global,
+    solver: &S,
     case: &str,
     texts: Texts<'_>,
     wanted: &str,
@@ -89,7 +91,7 @@ fn cancel_each(
 ) -> R<()> {
     let mut tests = 0;
     for passed in 0..1000u32 {
-        answer_to(alloc, texts, Hint::All, passed, answer)?;
+        answer_to(alloc, solver, texts, Hint::All, passed, answer)?;
         if !compare_stopped(alloc, case, wanted, passed, answer, tally)? {
             break;
         }
@@ -102,8 +104,9 @@ fn cancel_each(
 }
 
 /// Compares the answer with dependencies at hand, at first, and after each cancelled search.
-fn compare_searches(
+fn compare_searches<S: SolverUnderTest>(
     alloc: Global,
+    solver: &S,
     case: &str,
     texts: Texts<'_>,
     answer: &mut Answer,
@@ -111,24 +114,25 @@ fn compare_searches(
 ) -> R<()> {
     match section(case, "== answer\n") {
         Some(wanted) => {
-            answer_to(alloc, texts, Hint::All, u32::MAX, answer)?;
+            answer_to(alloc, solver, texts, Hint::All, u32::MAX, answer)?;
             compare_answer(case, answer, tally)?;
-            cancel_each(alloc, case, texts, wanted, answer, tally)
+            cancel_each(alloc, solver, case, texts, wanted, answer, tally)
         }
         None => Ok(()),
     }
 }
 
 /// Compares the questions of a provider by which no dependencies are at hand.
-fn compare_unhinted(
+fn compare_unhinted<S: SolverUnderTest>(
     alloc: Global,
+    solver: &S,
     case: &str,
     texts: Texts<'_>,
     answer: &mut Answer,
     tally: &mut Tally,
 ) -> R<()> {
     if section(case, "== asked without hint\n").is_some() {
-        answer_to(alloc, texts, Hint::None, u32::MAX, answer)?;
+        answer_to(alloc, solver, texts, Hint::None, u32::MAX, answer)?;
         compare_part(
             case,
             "== asked without hint\n",
@@ -156,20 +160,22 @@ fn compare_candidates(
     Ok(())
 }
 
-fn compare_texts(
+fn compare_texts<S: SolverUnderTest>(
     alloc: Global,
+    solver: &S,
     case: &str,
     texts: Texts<'_>,
     answer: &mut Answer,
     tally: &mut Tally,
 ) -> R<()> {
-    compare_searches(alloc, case, texts, answer, tally)?;
-    compare_unhinted(alloc, case, texts, answer, tally)?;
+    compare_searches(alloc, solver, case, texts, answer, tally)?;
+    compare_unhinted(alloc, solver, case, texts, answer, tally)?;
     compare_candidates(alloc, case, texts, answer, tally)
 }
 
-fn compare_request(
+fn compare_request<S: SolverUnderTest>(
     alloc: Global,
+    solver: &S,
     case: &str,
     catalogue: &Catalogue,
     answer: &mut Answer,
@@ -181,13 +187,19 @@ fn compare_request(
         catalogue,
         request: &request,
     };
-    compare_texts(alloc, case, texts, answer, tally)
+    compare_texts(alloc, solver, case, texts, answer, tally)
 }
 
 /// Compares the solver's answers with those of a case.
-pub fn compare_case(alloc: Global, case: &str, answer: &mut Answer, tally: &mut Tally) -> R<()> {
+pub fn compare_case<S: SolverUnderTest>(
+    alloc: Global,
+    solver: &S,
+    case: &str,
+    answer: &mut Answer,
+    tally: &mut Tally,
+) -> R<()> {
     tally.cases = tally.cases.saturating_add(1);
     let lines = section(case, "== catalogue\n").unwrap_or("");
     let catalogue = catalogue_in(alloc, lines)?;
-    compare_request(alloc, case, &catalogue, answer, tally)
+    compare_request(alloc, solver, case, &catalogue, answer, tally)
 }
