@@ -5,7 +5,7 @@ use Rattle.std.specs.Prelude.{◌||◌, not, ◌≢◌, unwrap_or, Contains, sli
 use Rattle.std.specs.Bool.{Decides}
 use Rattle.std.specs.List.{list_any, find, flat_map}
 use Rattle.std.specs.Cmp.Lexicographic.{bytes_decides}
-use Rattle.std.proofs.lemmas.Bool.{cases_Bool, false≢true, eq-eqb, eqb-true, and_parts, or_cases}
+use Rattle.std.proofs.lemmas.Bool.{cases_Bool, false≢true, eq-eqb, eqb-true, or_cases}
 use Rattle.resolvo_text.specs.Line.{Version, Line, Skipped, Listed, Needs, Limits, Unknown, Lock, Favour, Exclude, Wish}
 use Rattle.resolvo_text.specs.Matches.{same_package}
 use Rattle.resolvo_catalogue_core.specs.Grammar.{line_at, owner_of}

@@ -13,3 +13,4 @@ pub mod RuleLines
 pub mod Grammar
 pub mod FitLemmas
 pub mod InstallLemmas
+pub mod NumberLemmas

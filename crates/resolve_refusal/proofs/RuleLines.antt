@@ -1,7 +1,7 @@
 -- The lines that the steps of a proof's rules name.
 use Rattle.std.proofs.lemmas.Bool.Decides.{nat_tests}
 use Rattle.std.proofs.Common.{◌≡◌, ◌+◌, ◌<◌, ◌≤◌, inl, inr, ℕ, zero, suc, Bool, true, false, List, [], ◌∷◌, map, length, Option, Some, None, refl, sym, ◌∙◌, ap, subst, arith, Vec, Global, not, ◌&&◌}
-use Rattle.std.specs.Prelude.{◌↔◌, ◌||◌, IfSome, option_map, nat_lt, Contains, slice_get, slice_index_or, unwrap_or, option_to_list, if◌then◌else◌}
+use Rattle.std.specs.Prelude.{◌↔◌, IfSome, option_map, nat_lt, Contains, slice_get, slice_index_or, unwrap_or, option_to_list, if◌then◌else◌}
 use Rattle.std.specs.List.{AllZip, flat_map}
 use Rattle.std.proofs.lemmas.Option.{get_or_from_slice_get, slice_get_within}
 use Rattle.std.proofs.lemmas.Bool.{and_parts, false≢true, eqb-true}
@@ -18,7 +18,7 @@ use Rattle.resolvo_pool_core.specs.declared.id.StringId.{StringId}
 use Rattle.resolvo_pool_core.specs.declared.id.VersionSetId.{VersionSetId}
 use Rattle.resolvo_pool_core.specs.declared.requirement.Requirement.{Requirement}
 use Rattle.resolvo_pool_core.specs.declared.requirement.ConditionalRequirement.{ConditionalRequirement}
-use Rattle.resolvo_pool_core.specs.RuleKeeping.{rules_of, rules_for, is_forbidden, is_unknown}
+use Rattle.resolvo_pool_core.specs.RuleKeeping.{rules_of, rules_for}
 use Rattle.resolvo_sat.specs.RuleClauses.{ForbidReason, KeepsOut, has_condition, same_requirement, cases_under}
 use Rattle.resolvo_sat.proofs.Lists.{contains_first, contains_later, any_contained}
 use Rattle.resolvo_proof.specs.declared.step.ProofStep.{ProofStep}
@@ -45,7 +45,7 @@ use Rattle.resolve_refusal.specs.declared.lines.WordLine.{WordLine}
 use Rattle.resolve_refusal.specs.declared.lines.WordLine.TheVariants as with_word
 use Rattle.resolve_refusal.specs.Lines.{ForbidsAs, IsLeast, IsLineOf, IsLockLine, IsWordLine, IsLineAt, NeedsIn, IsNeedLine}
 use Rattle.resolve_refusal.specs.StepRules.{version_no, word_step, IsFirstLine, IsNeedLineOf, NamesLock, NamesNeed, NamesWord, NamesRule}
-use Rattle.resolve_refusal.specs.Refusal.{IsVersion, IsPlaceLine, IsForbiddenAs, IsFirst, IsFirstNeed, IsLockStep, IsWrittenAs, IsProofOver}
+use Rattle.resolve_refusal.specs.Refusal.{IsPlaceLine, IsForbiddenAs, IsFirst, IsFirstNeed, IsLockStep, IsWrittenAs, IsProofOver}
 use Rattle.resolve_refusal.proofs.Cases.{case_specs}
 use Rattle.resolve_refusal.proofs.RenameLemmas.{version_is, specs_are}
 use Rattle.resolve_refusal.proofs.Clauses.{limits_known}

@@ -1,11 +1,8 @@
 -- The rules of a proof, taken apart.
-use Rattle.std.proofs.Common.{◌≡◌, inl, inr, Bool, true}
-use Rattle.std.proofs.lemmas.Bool.{or_cases, or_left, or_right}
-use Rattle.std.specs.Prelude.{◌||◌}
+use Rattle.std.proofs.Common.{◌≡◌, Bool, true}
 use Rattle.resolvo_pool_core.specs.declared.id.VersionSetId.{VersionSetId}
-use Rattle.resolvo_pool_core.specs.RuleKeeping.{Packages, Rules, is_outside, is_forbidden, is_unknown}
-use Rattle.resolvo_sat.specs.RuleClauses.{IsExact, Rule, ForbidReason, IsRule}
-use Rattle.resolvo_sat.proofs.Members.{kept_out}
+use Rattle.resolvo_pool_core.specs.RuleKeeping.{Packages, Rules, is_outside}
+use Rattle.resolvo_sat.specs.RuleClauses.{Rule, IsRule}
 
 module _ {N S : Type 0} (same : S → S → Bool) (p : Packages N S) (root : Rules) where
   -- the solvable is outside the version set

@@ -5,3 +5,4 @@ pub mod Refusal
 pub mod Parts
 pub mod StepRules
 pub mod InstallSteps
+pub mod LacksNumbers

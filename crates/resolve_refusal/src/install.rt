@@ -1,10 +1,12 @@
 //! Steps of an install report: those of a proof by which wishes are left out, and the step that
 //! forbids a wish without a search.
 
-ghost use Rattle.std.specs.Prelude.{IfOk};
+ghost use Rattle.std.specs.Prelude.{IfOk, IsErrOf, IsOkUnless, length};
 ghost use Rattle.std.specs.Option.{option_map};
+ghost use Rattle.resolvo_pool_core.specs.declared.want.Want.TheVariants.{Ids, Memory};
 ghost use Rattle.resolvo_report.specs.View.{step_of, steps_of};
 ghost use Rattle.resolve_refusal.specs.Refusal.{IsProofOver};
+ghost use Rattle.resolve_refusal.specs.LacksNumbers.{LacksNumbers};
 ghost use Rattle.resolve_refusal.specs.InstallSteps.{AreInstallSteps, IsForbidStepOf};
 
 use crate::lines::{ForbidLine, Texts, forbid_line};
@@ -29,11 +31,13 @@ pub fn install_steps(
     provider: &CatalogueProvider,
     steps: &[ProofStep<NameId, SolvableId>],
 ) -> R<Vec<Step>>
-    ensures { IfOk result
+    ensures steps { IfOk result
         (λ v.
         IsProofOver catalogue.now request.now provider.now steps.now
         → AreInstallSteps catalogue.now request.now.lines provider.now.ids steps.now
         (steps_of v.items)) }
+    ensures ids { IsErrOf result Ids
+        → LacksNumbers catalogue.now request.now.lines (length steps.now) }
 {
     if steps.len() > MOST_STEPS {
         return Err(Want::Ids);
@@ -49,8 +53,9 @@ pub fn install_steps(
 /// The step that forbids a version before a search: the lock of another version of its package,
 /// else its exclusion. None where there is neither.
 pub fn forbid_step(alloc: Global, catalogue: &Catalogue, version: VersionNo) -> R<Option<Step>>
-    ensures { IfOk result (λ found. IsForbidStepOf catalogue.now version.0
+    ensures step { IfOk result (λ found. IsForbidStepOf catalogue.now version.0
         (option_map step_of found)) }
+    ensures refusal { IsOkUnless result Memory }
 {
     // Facts of each catalogue: its versions have texts, and its lines are counted in 32 bits.
     catalogue.lines_are_in_place();

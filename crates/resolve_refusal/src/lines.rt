@@ -1,13 +1,15 @@
 //! The first line of a rule in a text. The lines of a place, the request or a version, are searched
 //! in order. Where several have the rule, the first one is found.
 
-ghost use Rattle.std.specs.Prelude.{◌≡◌, ◌<◌, ℕ, List, IfOk, IfSome, IfNone, Option, Some, None, false, slice_get};
+ghost use Rattle.std.specs.Prelude.{◌≡◌, ◌<◌, ℕ, List, IfOk, IfSome, IfNone, IsErrOf, Option, Some, None, false, length, slice_get};
 ghost use Rattle.std.specs.Bool.{Decides};
 ghost use Rattle.resolvo_text.specs.Line as content;
 ghost use Rattle.resolvo_text.specs.View.{spec_of, specs_of, cases_of};
 ghost use Rattle.resolvo_catalogue_core.specs.Grammar.{line_at};
 ghost use Rattle.resolvo_catalogue_core.specs.Listed.{listed, AreDistinct};
-ghost use Rattle.resolvo_catalogue_core.specs.Questions.{IsRuleLine, is_rule};
+ghost use Rattle.resolvo_catalogue_core.specs.Questions.{IsRuleLine, is_rule, cases_of_line};
+ghost use Rattle.resolvo_pool_core.specs.declared.want.Want.TheVariants.{Ids};
+ghost use Rattle.resolve_refusal.specs.LacksNumbers.{HasTooManyCases};
 ghost use Rattle.resolve_refusal.specs.Lines.{count_of, number_at, AreLines, IsLeast, text_of, IsLineOf, IsLineAt, IsCaseOf, IsCaseAt, IsNeedLine, locks, ExcludesAt, MarksUnknownAt, IsWordLine, IsLockLine, IsForbidLineOf};
 
 use resolvo_catalogue_core::{Catalogue, Request, Rule, Spec, VersionNo};
@@ -147,10 +149,13 @@ impl<'a> Texts<'a> {
         alternatives: &[Spec],
         case: &[Spec],
     ) -> R<Option<NeedLine>>
-        ensures { IfOk result
+        ensures line { IfOk result
             (IsNeedLine (IsLineOf self.entry.catalogue.now self.entry.request.now.lines place)
             (text_of self.entry.catalogue.now self.entry.request.now.lines place)
             (specs_of alternatives.now) (specs_of case.now)) }
+        ensures ids { IsErrOf result Ids
+            → HasTooManyCases
+            (text_of self.entry.catalogue.now self.entry.request.now.lines place) }
     {
         let lines = self.lines_of(place);
         for at in 0..lines.count() {
@@ -172,9 +177,12 @@ impl<'a> Texts<'a> {
         alternatives: &[Spec],
         case: &[Spec],
     ) -> R<Option<u32>>
-        ensures { IfOk result
+        ensures case { IfOk result
             (IsCaseAt (text_of self.entry.catalogue.now self.entry.request.now.lines place)
             (specs_of alternatives.now) (specs_of case.now) line) }
+        ensures ids { IsErrOf result Ids
+            → HasTooManyCases
+            (text_of self.entry.catalogue.now self.entry.request.now.lines place) }
     {
         match self.rule(place, line) {
             Some(rule) => need_case(alloc, rule, alternatives, case),
@@ -374,11 +382,15 @@ fn is_lock(catalogue: &Catalogue, line: u32) -> bool
 /// The number of the first case of a need, from 1, that equals this one, if the need has these
 /// alternatives. `Ids` where there are more cases than numbers.
 fn need_case(alloc: Global, rule: &Rule, alternatives: &[Spec], case: &[Spec]) -> R<Option<u32>>
-    ensures { IfOk result
+    ensures case { IfOk result
         (λ found.
         (versions : List content.Version) (owner : Option content.Version) (line : content.Line)
         → IsRuleLine versions rule.now owner line
         → IsCaseOf (specs_of alternatives.now) (specs_of case.now) line found) }
+    ensures ids { IsErrOf result Ids
+        → (versions : List content.Version) (owner : Option content.Version) (line : content.Line)
+        → IsRuleLine versions rule.now owner line
+        → 4294967295 < length (cases_of_line (Some line)) }
 {
     if !needs(rule, alternatives) {
         return Ok(None);

@@ -1,7 +1,8 @@
 //! Atoms by their texts, and the literals of a derived clause as they are in a report: in the order
 //! of their texts, each once.
 
-ghost use Rattle.std.specs.Prelude.{◌≡◌, IfOk, IsTrue, map};
+ghost use Rattle.std.specs.Prelude.{◌≡◌, IfOk, IsOkUnless, IsTrue, map};
+ghost use Rattle.resolvo_pool_core.specs.declared.want.Want.TheVariants.{Memory};
 ghost use Rattle.resolvo_text.specs.View.{version_of};
 ghost use Rattle.resolvo_report.specs.View.{atom_of, literals_of};
 ghost use Rattle.resolvo_report.specs.Text.{are_rising, literal_text};
@@ -31,6 +32,7 @@ pub(crate) fn sorted_literals(
         → AreLiterals catalogue.now provider.now.ids literals.now (literals_of v.items)) }
     ensures rising { IfOk result (λ v. IsTrue (are_rising
         (map literal_text (literals_of v.items)))) }
+    ensures refusal { IsOkUnless result Memory }
 {
     let mut by_text: BTreeMap<String, Literal> = BTreeMap::new(alloc);
     for literal in literals {
@@ -55,7 +57,8 @@ fn atom_of(
     provider: &CatalogueProvider,
     atom: ProofAtom<NameId, SolvableId>,
 ) -> R<Atom>
-    ensures { IfOk result (λ a. atom_of a ≡ atom_at catalogue.now provider.now.ids atom) }
+    ensures atom { IfOk result (λ a. atom_of a ≡ atom_at catalogue.now provider.now.ids atom) }
+    ensures refusal { IsOkUnless result Memory }
 {
     match atom {
         ProofAtom::Solvable(solvable) => {
@@ -79,7 +82,8 @@ fn atom_of(
 
 /// The version of a solvable; one without a name where the catalogue lists none.
 pub(crate) fn version_of(alloc: Global, catalogue: &Catalogue, solvable: SolvableId) -> R<Version>
-    ensures { IfOk result (λ v. version_of v ≡ version_at catalogue.now solvable) }
+    ensures version { IfOk result (λ v. version_of v ≡ version_at catalogue.now solvable) }
+    ensures refusal { IsOkUnless result Memory }
 {
     match catalogue.versions().get(solvable.into_raw() as usize) {
         Some((name, number)) => Ok(Version {

@@ -1,6 +1,7 @@
 //! The lines that steps cite.
 
-ghost use Rattle.std.specs.Prelude.{◌≡◌, ◌<◌, ◌⊎◌, ℕ, IfOk, length, suc};
+ghost use Rattle.std.specs.Prelude.{◌≡◌, ◌<◌, ◌⊎◌, ℕ, IfOk, IsOkUnless, length, suc};
+ghost use Rattle.resolvo_pool_core.specs.declared.want.Want.TheVariants.{Memory};
 ghost use Rattle.resolvo_catalogue_core.specs.Questions.{AreAll};
 ghost use Rattle.resolvo_report.specs.View.{place_of, step_of, steps_of};
 ghost use Rattle.resolve_refusal.specs.Named.{line_of, in_catalogue, line_in, IsFlagged, IsFlaggedLine, AreFlagged, IsNamedBy};
@@ -18,7 +19,8 @@ pub(crate) enum Text {
 
 /// The lines that the steps cite, of a text with `count` lines: each once, in rising order.
 pub(crate) fn named_lines(alloc: Global, text: Text, count: u32, steps: &[Step]) -> R<Vec<u32>>
-    ensures { IfOk result (λ v. AreAll v.items (IsNamedBy text count (steps_of steps.now))) }
+    ensures lines { IfOk result (λ v. AreAll v.items (IsNamedBy text count (steps_of steps.now))) }
+    ensures refusal { IsOkUnless result Memory }
 {
     let flags = flag_lines(alloc, text, count, steps)?;
     // split for the prover: the call's error and its answer are goals of their own
@@ -28,7 +30,8 @@ pub(crate) fn named_lines(alloc: Global, text: Text, count: u32, steps: &[Step])
 
 /// A flag for each line of a text, set where a step cites the line.
 fn flag_lines(alloc: Global, text: Text, count: u32, steps: &[Step]) -> R<Vec<bool>>
-    ensures { IfOk result (λ v. AreFlagged text count (steps_of steps.now) v.items) }
+    ensures flags { IfOk result (λ v. AreFlagged text count (steps_of steps.now) v.items) }
+    ensures refusal { IsOkUnless result Memory }
 {
     let mut flags = Vec::new(alloc);
     flags.resize(count as usize, false)?;
@@ -59,7 +62,8 @@ fn flag(flags: &mut Vec<bool>, line: u32)
 /// The numbers of the lines whose flags are set, in rising order.
 fn flagged(alloc: Global, flags: &[bool]) -> R<Vec<u32>>
     requires { length flags.now < 4294967296 }
-    ensures { IfOk result (λ v. AreAll v.items (IsFlaggedLine flags.now (length flags.now))) }
+    ensures lines { IfOk result (λ v. AreAll v.items (IsFlaggedLine flags.now (length flags.now))) }
+    ensures refusal { IsOkUnless result Memory }
 {
     let mut lines = Vec::new(alloc);
     for (index, flag) in flags.iter().enumerate() {

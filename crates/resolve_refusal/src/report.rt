@@ -1,8 +1,10 @@
 //! A refusal: the steps one by one, and the lines that they cite. With its message it is a report.
 
-ghost use Rattle.std.specs.Prelude.{◌≡◌, IfOk};
+ghost use Rattle.std.specs.Prelude.{◌≡◌, IfOk, IsErrOf, length};
 ghost use Rattle.std.specs.List.{AllZip};
+ghost use Rattle.resolvo_pool_core.specs.declared.want.Want.TheVariants.{Ids};
 ghost use Rattle.resolvo_report.specs.View.{messages_of, report_of, steps_of};
+ghost use Rattle.resolve_refusal.specs.LacksNumbers.{LacksCaseNumbers, LacksNumbers};
 ghost use Rattle.resolve_refusal.specs.RefusedReport.{IsWritten};
 ghost use Rattle.resolve_refusal.specs.StepRules.{NamesRule};
 ghost use Rattle.resolve_refusal.specs.Refusal.{Refutes};
@@ -58,6 +60,8 @@ pub fn refusal_of(
         → IsRefusalOf catalogue.now request.now.lines provider.now.ids steps.now r) }
     ensures refused { IfOk result
         (λ r. IsRefusedBy catalogue.now request.now.lines provider.now.ids steps.now r) }
+    ensures ids { IsErrOf result Ids
+        → LacksNumbers catalogue.now request.now.lines (length steps.now) }
 {
     if steps.len() > MOST_STEPS {
         return Err(Want::Ids);
@@ -98,6 +102,8 @@ pub(crate) fn write_steps(
         (λ v.
         AllZip (IsWritten texts.entry.catalogue.now provider.now.ids) steps.now
         (steps_of v.items)) }
+    ensures ids { IsErrOf result Ids
+        → LacksCaseNumbers texts.entry.catalogue.now texts.entry.request.now.lines }
 {
     let writing = Writing {
         alloc,

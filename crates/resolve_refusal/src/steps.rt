@@ -1,7 +1,8 @@
 //! Writes the steps of a proof as those of a report.
 
-ghost use Rattle.std.specs.Prelude.{◌≡◌, ℕ, [], Some, None, IfOk, map};
+ghost use Rattle.std.specs.Prelude.{◌≡◌, ℕ, [], Some, None, IfOk, IsErrOf, IsOkUnless, map};
 ghost use Rattle.std.specs.Option.{option_map};
+ghost use Rattle.resolvo_pool_core.specs.declared.want.Want.TheVariants.{Ids, Memory};
 ghost use Rattle.resolvo_text.specs.Line as content;
 ghost use Rattle.resolvo_text.specs.View.{version_of, specs_of};
 ghost use Rattle.resolvo_report.specs.Value as in_report;
@@ -9,6 +10,7 @@ ghost use Rattle.resolvo_report.specs.View.{step_of, place_of};
 ghost use Rattle.resolvo_proof.specs.declared.step.ProofStep.TheVariants.{Rule as RuleStep};
 ghost use Rattle.resolvo_proof.specs.declared.step.ProofRule.TheVariants.{Limit};
 ghost use Rattle.resolvo_catalogue.specs.Known.{spec_at, alternatives_at};
+ghost use Rattle.resolve_refusal.specs.LacksNumbers.{LacksCaseNumbers};
 ghost use Rattle.resolve_refusal.specs.RefusedReport.{version_at, place_at, number_of, HasWord, IsWritten};
 ghost use Rattle.resolve_refusal.specs.Lines.{IsLeast, text_of, IsLineOf, IsLineAt};
 ghost use Rattle.resolve_refusal.specs.StepRules.{version_no, IsFirstLine, IsNeedLineOf, NamesNeed, NamesLock, NamesWord, NamesRule};
@@ -47,6 +49,9 @@ impl Writing<'_> {
             (λ w.
             IsWritten self.entry.texts.catalogue.now self.entry.provider.now.ids step.now
             (step_of w)) }
+        ensures ids { IsErrOf result Ids
+            → LacksCaseNumbers self.entry.texts.catalogue.now
+            self.entry.texts.request.now.lines }
     {
         match step {
             ProofStep::Rule(rule) => self.rule(rule),
@@ -72,6 +77,9 @@ impl Writing<'_> {
             (λ w.
             IsWritten self.entry.texts.catalogue.now self.entry.provider.now.ids
             (RuleStep rule.now) (step_of w)) }
+        ensures ids { IsErrOf result Ids
+            → LacksCaseNumbers self.entry.texts.catalogue.now
+            self.entry.texts.request.now.lines }
     {
         match rule {
             ProofRule::Needs {
@@ -131,6 +139,9 @@ impl Writing<'_> {
             (line k : ℕ)
             × (step_of w
             ≡ in_report.Need (place_at self.entry.texts.catalogue.now parent) line k)) }
+        ensures ids { IsErrOf result Ids
+            → LacksCaseNumbers self.entry.texts.catalogue.now
+            self.entry.texts.request.now.lines }
     {
         let found = if case.is_empty() {
             self.plain_need(parent, requirement)?
@@ -147,9 +158,10 @@ impl Writing<'_> {
 
     /// The first line of a parent that needs the requirement without a condition, and its one case.
     fn plain_need(self, parent: Option<SolvableId>, requirement: Requirement) -> R<Option<NeedLine>>
-        ensures { IfOk result
+        ensures line { IfOk result
             (IsNeedLineOf self.entry.texts.catalogue.now self.entry.texts.request.now.lines
             self.entry.provider.now.ids parent requirement []) }
+        ensures refusal { IsOkUnless result Memory }
     {
         let Some(line) = self.plain_line(parent, requirement)? else {
             return Ok(None);
@@ -165,9 +177,12 @@ impl Writing<'_> {
         requirement: Requirement,
         case: &[VersionSetId],
     ) -> R<Option<NeedLine>>
-        ensures { IfOk result
+        ensures line { IfOk result
             (IsNeedLineOf self.entry.texts.catalogue.now self.entry.texts.request.now.lines
             self.entry.provider.now.ids parent requirement case.now) }
+        ensures ids { IsErrOf result Ids
+            → LacksCaseNumbers self.entry.texts.catalogue.now
+            self.entry.texts.request.now.lines }
     {
         let alternatives = self.provider.alternatives_of(requirement)?;
         let case = self.specs(case)?;
@@ -177,7 +192,7 @@ impl Writing<'_> {
 
     /// The first line of a parent that needs the requirement without a condition.
     fn plain_line(self, parent: Option<SolvableId>, requirement: Requirement) -> R<Option<u32>>
-        ensures { IfOk result
+        ensures line { IfOk result
             (λ found.
             IsLeast found
             (λ n.
@@ -189,6 +204,7 @@ impl Writing<'_> {
             (content.Needs (alternatives_at self.entry.provider.now.ids requirement)
             None)
             n)) }
+        ensures refusal { IsOkUnless result Memory }
     {
         let alternatives = self.provider.alternatives_of(requirement)?;
         let place = self.place_number(parent);
@@ -197,7 +213,7 @@ impl Writing<'_> {
 
     /// The step of a gate, by the first line of the need without condition.
     fn gate(self, parent: SolvableId, requirement: Requirement) -> R<Step>
-        ensures { IfOk result
+        ensures gate { IfOk result
             (λ w.
             (line : ℕ)
             × (step_of w ≡ in_report.Gate (version_at self.entry.texts.catalogue.now parent) line)
@@ -205,6 +221,7 @@ impl Writing<'_> {
             (Some (version_no parent))
             (content.Needs (alternatives_at self.entry.provider.now.ids requirement) None)
             line) }
+        ensures refusal { IsOkUnless result Memory }
     {
         let line = self.plain_line(Some(parent), requirement)?.unwrap_or(0);
         Ok(Step::Gate {
@@ -229,6 +246,7 @@ impl Writing<'_> {
             (λ w.
             IsWritten self.entry.texts.catalogue.now self.entry.provider.now.ids
             (RuleStep (Limit parent version_set barred)) (step_of w)) }
+        ensures refusal { IsOkUnless result Memory }
     {
         let line = self.limit_line(parent, version_set)?;
         let place = self.place(parent)?;
@@ -244,11 +262,12 @@ impl Writing<'_> {
 
     /// The first line of a parent that limits its set to the version set's SPEC.
     fn limit_line(self, parent: Option<SolvableId>, version_set: VersionSetId) -> R<u32>
-        ensures { IfOk result
+        ensures line { IfOk result
             (λ line.
             IsFirstLine self.entry.texts.catalogue.now self.entry.texts.request.now.lines
             (option_map version_no parent)
             (content.Limits (spec_at self.entry.provider.now.ids version_set)) line) }
+        ensures refusal { IsOkUnless result Memory }
     {
         let spec = self.provider.spec_of(version_set)?;
         let place = self.place_number(parent);
@@ -264,6 +283,7 @@ impl Writing<'_> {
             (line : ℕ)
             × (step_of w
             ≡ in_report.Lock line (version_at self.entry.texts.catalogue.now solvable))) }
+        ensures refusal { IsOkUnless result Memory }
     {
         let version = self.version(solvable)?;
         let number = self.provider.version_of(solvable);
@@ -297,7 +317,9 @@ impl Writing<'_> {
 
     /// The place of a parent, in the words of a report.
     fn place(self, parent: Option<SolvableId>) -> R<Place>
-        ensures { IfOk result (λ p. place_of p ≡ place_at self.entry.texts.catalogue.now parent) }
+        ensures place { IfOk result
+            (λ p. place_of p ≡ place_at self.entry.texts.catalogue.now parent) }
+        ensures refusal { IsOkUnless result Memory }
     {
         match parent {
             None => Ok(Place::Request),
@@ -306,16 +328,18 @@ impl Writing<'_> {
     }
 
     fn version(self, solvable: SolvableId) -> R<Version>
-        ensures { IfOk result (λ v. version_of v ≡ version_at self.entry.texts.catalogue.now
+        ensures version { IfOk result (λ v. version_of v ≡ version_at self.entry.texts.catalogue.now
             solvable) }
+        ensures refusal { IsOkUnless result Memory }
     {
         version_of(self.alloc, self.texts.catalogue, solvable)
     }
 
     /// The SPECs of version sets, in order.
     fn specs(self, version_sets: &[VersionSetId]) -> R<Vec<Spec>>
-        ensures { IfOk result
+        ensures specs { IfOk result
             (λ v. specs_of v.items ≡ map (spec_at self.entry.provider.now.ids) version_sets.now) }
+        ensures refusal { IsOkUnless result Memory }
     {
         let mut specs = Vec::new(self.alloc);
         for version_set in version_sets {
@@ -327,7 +351,8 @@ impl Writing<'_> {
 
 /// The numbers of the steps that are causes, by their indexes.
 fn numbers_of(alloc: Global, causes: &[usize]) -> R<Vec<u32>>
-    ensures { IfOk result (λ v. v.items ≡ map number_of causes.now) }
+    ensures numbers { IfOk result (λ v. v.items ≡ map number_of causes.now) }
+    ensures refusal { IsOkUnless result Memory }
 {
     let mut numbers = Vec::new(alloc);
     for cause in causes {

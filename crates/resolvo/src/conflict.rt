@@ -1,6 +1,7 @@
 //! The conflict of a search without a solution: its clauses, and its graph and message for people.
-ghost use Rattle.std.specs.Prelude.{◌≡◌, length, map, None, IfOk, IfErr, IfSome};
+ghost use Rattle.std.specs.Prelude.{◌≡◌, length, map, None, IfOk, IfErr, IfSome, IsOkUnless};
 ghost use Rattle.resolvo_pool.specs.Cached.{IsCancelledBy};
+ghost use Rattle.resolvo_pool_core.specs.declared.want.Want.TheVariants.{Memory};
 ghost use Rattle.resolvo_graph.specs.Message.{IsLengthBelow};
 ghost use Rattle.resolvo.specs.Conflicts.{clause_of_step, conflict_clauses};
 ghost use Rattle.resolvo.specs.Solver.{HoldsConflict, IsGraphOf, IsTrueOf, IsConflictMessage};
@@ -52,6 +53,7 @@ impl Conflict {
             solver.now g) }
         ensures truth { IfOk result
             (λ g. IsTrueOf D.SolvableId.eq (D.name_of_solvable solver.now.provider) solver.now g) }
+        ensures refusal { IsOkUnless result Memory }
     {
         conflict_graph(alloc, solver.provider(), solver.offers(), solver.proof())
     }
@@ -68,6 +70,7 @@ impl Conflict {
             IsConflictMessage D.NameId.eq D.SolvableId.eq (D.name_of_solvable solver.now.provider)
             solver.now d.lines.items) }
         ensures interner { IfOk result (λ d. d.interner.now ≡ solver.now.provider) }
+        ensures refusal { IsOkUnless result Memory }
     {
         let graph = self.graph(alloc, solver)?;
         message_of_graph(alloc, &graph, solver)
@@ -104,9 +107,13 @@ impl Conflict {
               word_text = D.string_text solver.now.provider;
             })
             bound None) }
+        ensures refusal { IsOkUnless result Memory }
     {
         let graph = self.graph(alloc, solver)?;
-        message_below(alloc, &graph, solver, bound)
+        match DisplayUnsat::length_below(alloc, &graph, solver.provider(), bound)? {
+            Some(_) => Ok(Some(message_of_graph(alloc, &graph, solver)?)),
+            None => Ok(None),
+        }
     }
 }
 
@@ -123,48 +130,9 @@ fn message_of_graph<'a, D: DependencyProvider>(
         IsConflictMessage D.NameId.eq D.SolvableId.eq (D.name_of_solvable solver.now.provider)
         solver.now d.lines.items) }
     ensures interner { IfOk result (λ d. d.interner.now ≡ solver.now.provider) }
+    ensures refusal { IsOkUnless result Memory }
 {
     DisplayUnsat::new(alloc, graph, solver.provider())
-}
-
-/// The message of a graph of the conflict that the solver keeps, if its text has fewer bytes than a
-/// bound.
-fn message_below<'a, D: DependencyProvider>(
-    alloc: Global,
-    graph: &ConflictGraph<D::SolvableId>,
-    solver: &'a Solver<D>,
-    bound: u64,
-) -> R<Option<DisplayUnsat<'a, D>>>
-    requires { IsGraphOf D.NameId.eq D.SolvableId.eq (D.name_of_solvable solver.now.provider)
-        solver.now graph.now }
-    ensures lines { IfOk result
-        (λ o.
-        IfSome o
-        (λ d.
-        IsConflictMessage D.NameId.eq D.SolvableId.eq (D.name_of_solvable solver.now.provider)
-        solver.now d.lines.items)) }
-    ensures interner { IfOk result
-        (λ o. IfSome o (λ d. d.interner.now ≡ solver.now.provider)) }
-    ensures long { IfOk result
-        (λ o.
-        o ≡ None
-        → IsLengthBelow
-        (IsConflictMessage D.NameId.eq D.SolvableId.eq (D.name_of_solvable solver.now.provider)
-        solver.now)
-        (record {
-          name_of = D.name_of_version_set solver.now.provider;
-          members_of = D.members_of solver.now.provider;
-          name_text = D.name_text solver.now.provider;
-          version_set_text = D.version_set_text solver.now.provider;
-          versions_text = D.merged_text solver.now.provider;
-          word_text = D.string_text solver.now.provider;
-        })
-        bound None) }
-{
-    match DisplayUnsat::length_below(alloc, graph, solver.provider(), bound)? {
-        Some(_) => Ok(Some(message_of_graph(alloc, graph, solver)?)),
-        None => Ok(None),
-    }
 }
 
 /// A solver's record of a conflict: its clauses, and the offered candidates for the requirements of

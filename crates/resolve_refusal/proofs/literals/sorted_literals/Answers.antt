@@ -11,7 +11,7 @@ use Rattle.resolve_refusal.proofs.literals.sorted_literals.Goals as goal
 
 pub loop-literal-preserved : goal.loop-literal-preserved
 loop-literal-preserved c =
-    by_text_step c.args.catalogue.now c.args.provider.now.ids c.args.literals.now c.loop-literal.literal-index _ c.loop-literal.by_text.entries c.insert.new.self.entries c.in_ok-text.text c.in_ok-atom_of.field-0 c.loop-literal-test.true c.in_ok-atom_of.ensures c.in_ok-text.ensures.ok c.in_ok-insert.ensures.entries c.loop-literal.invariant
+    by_text_step c.args.catalogue.now c.args.provider.now.ids c.args.literals.now c.loop-literal.literal-index _ c.loop-literal.by_text.entries c.insert.new.self.entries c.in_ok-text.text c.in_ok-atom_of.field-0 c.loop-literal-test.true c.in_ok-atom_of.ensures.atom c.in_ok-text.ensures.ok c.in_ok-insert.ensures.entries c.loop-literal.invariant
 
 pub returns-clause-same : goal.returns-clause-same
 returns-clause-same c =

@@ -5,7 +5,7 @@ use Rattle.resolve_refusal.specs.Named.{IsFlaggedLine}
 use Rattle.resolve_refusal.proofs.NameLemmas.{flagged_named}
 use Rattle.resolve_refusal.proofs.named.named_lines.Goals as goal
 
-pub returns : goal.returns
-returns c =
-    flagged_named c.args.text c.args.count (steps_of c.args.steps.now) c.in_ok-flags.flags.items c.in_ok-lines.lines.items c.in_ok-flags.ensures
-    (subst (λ (flags : List Bool). AreAll c.in_ok-lines.lines.items (IsFlaggedLine flags (length flags))) c.as_slice.ensures.value c.in_ok-lines.ensures)
+pub returns-clause-lines : goal.returns-clause-lines
+returns-clause-lines c =
+    flagged_named c.args.text c.args.count (steps_of c.args.steps.now) c.in_ok-flags.flags.items c.in_ok-lines.lines.items c.in_ok-flags.ensures.flags
+    (subst (λ (flags : List Bool). AreAll c.in_ok-lines.lines.items (IsFlaggedLine flags (length flags))) c.as_slice.ensures.value c.in_ok-lines.ensures.lines)

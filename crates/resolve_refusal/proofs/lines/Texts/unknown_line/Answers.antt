@@ -1,6 +1,6 @@
 use Rattle.std.proofs.Common.{◌≡◌, ◌<◌, ◌≤◌, ℕ, Some, sym, subst, arith}
 use Rattle.resolvo_text.specs.Line.{Unknown}
-use Rattle.resolve_refusal.specs.Lines.{IsLineOf, IsLineAt, count_of, number_at}
+use Rattle.resolve_refusal.specs.Lines.{IsLineOf, IsLineAt, count_of}
 use Rattle.resolve_refusal.proofs.FindLemmas.{none_at_all, none_smaller}
 use Rattle.resolve_refusal.proofs.lines.Texts.unknown_line.Goals as goal
 

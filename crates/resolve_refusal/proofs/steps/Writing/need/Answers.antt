@@ -6,4 +6,4 @@ pub returns-clause-written : goal.returns-clause-written
 returns-clause-written c =
     let line = c.unwrap_or-line.result.line in
     let case = c.unwrap_or-line.result.case in
-    (line, case, ap (λ p. in_report.Need p line case) c.in_ok-place.ensures)
+    (line, case, ap (λ p. in_report.Need p line case) c.in_ok-place.ensures.place)

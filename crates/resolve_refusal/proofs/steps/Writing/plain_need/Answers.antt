@@ -7,20 +7,20 @@ use Rattle.resolve_refusal.specs.StepRules.{version_no}
 use Rattle.resolve_refusal.proofs.Cases.{plain_first, plain_none}
 use Rattle.resolve_refusal.proofs.steps.Writing.plain_need.Goals as goal
 
-pub returns-in_default : goal.returns-in_default
-returns-in_default c =
+pub returns-in_default-clause-line : goal.returns-in_default-clause-line
+returns-in_default-clause-line c =
     let catalogue = c.args.self.texts.catalogue.now in
     let request = c.args.self.texts.request.now.lines in
     let place = option_map version_no c.args.parent in
     let alternatives = alternatives_at c.args.self.provider.now.ids c.args.requirement in
     plain_none (IsLineOf catalogue request place) (text_of catalogue request place) alternatives
-    (subst (λ (o : Option ℕ). IsLeast o (λ n. IsLineOf catalogue request place n × IsLineAt (text_of catalogue request place) (Needs alternatives None) n)) c.in_default.is c.in_ok-line.ensures)
+    (subst (λ (o : Option ℕ). IsLeast o (λ n. IsLineOf catalogue request place n × IsLineAt (text_of catalogue request place) (Needs alternatives None) n)) c.in_default.is c.in_ok-line.ensures.line)
 
-pub returns : goal.returns
-returns c =
+pub returns-clause-line : goal.returns-clause-line
+returns-clause-line c =
     let catalogue = c.args.self.texts.catalogue.now in
     let request = c.args.self.texts.request.now.lines in
     let place = option_map version_no c.args.parent in
     let alternatives = alternatives_at c.args.self.provider.now.ids c.args.requirement in
     plain_first (IsLineOf catalogue request place) (text_of catalogue request place) alternatives c.in-Some.line
-    (subst (λ (o : Option ℕ). IsLeast o (λ n. IsLineOf catalogue request place n × IsLineAt (text_of catalogue request place) (Needs alternatives None) n)) c.in-Some.is c.in_ok-line.ensures)
+    (subst (λ (o : Option ℕ). IsLeast o (λ n. IsLineOf catalogue request place n × IsLineAt (text_of catalogue request place) (Needs alternatives None) n)) c.in-Some.is c.in_ok-line.ensures.line)

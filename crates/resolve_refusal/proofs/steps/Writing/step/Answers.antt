@@ -12,7 +12,7 @@ returns-in_ok-numbers_of-in-Derived-clause-names_rule c =
     let catalogue = c.args.self.texts.catalogue.now in
     let ids = c.args.self.provider.now.ids in
     let written = literals_of c.in_ok-sorted_literals-in-Derived.field-0.items in
-    let numbers = c.in_ok-numbers_of-in-Derived.ensures ∙ ap (map number_of) c.as_slice-in-Derived.ensures.value in
+    let numbers = c.in_ok-numbers_of-in-Derived.ensures.numbers ∙ ap (map number_of) c.as_slice-in-Derived.ensures.value in
     rw c.in-Derived.is (
       written,
       ap (λ (ns : List ℕ). in_report.Derive written ns) numbers,
