@@ -45,7 +45,7 @@ struct Numbered<T: Drop> {
     ids: BTreeMap<Key, u32>,
 }
 
-// split for the prover: an owner of several calls this drop for each
+// split for the prover: one drop for each
 impl<T: Drop> Drop for Numbered<T> {
     fn drop(self) {
         let Numbered { values: _, ids: _ } = self;
@@ -58,7 +58,7 @@ struct Unions {
     ids: BTreeMap<Vec<u32>, u32>,
 }
 
-// split for the prover: an owner of several calls this drop for each
+// split for the prover: one drop for each
 impl Drop for Unions {
     fn drop(self) {
         let Unions { values: _, ids: _ } = self;
@@ -78,7 +78,7 @@ pub struct IdTable {
     alloc: Global,
 }
 
-// split for the prover: an owner calls this drop, and doesn't drop each field at each exit
+// split for the prover: one drop
 impl Drop for IdTable {
     fn drop(self) {
         let IdTable {

@@ -41,7 +41,7 @@ pub struct CatalogueProvider {
     alloc: Global,
 }
 
-// split for the prover: an owner calls this drop, and doesn't drop each field at each exit
+// split for the prover: one drop
 impl Drop for CatalogueProvider {
     fn drop(self) {
         let CatalogueProvider {
