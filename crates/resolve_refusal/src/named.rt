@@ -23,7 +23,7 @@ pub(crate) fn named_lines(alloc: Global, text: Text, count: u32, steps: &[Step])
     ensures refusal { IsOkUnless result Memory }
 {
     let flags = flag_lines(alloc, text, count, steps)?;
-    // split for the prover: the call's error and its answer are goals of their own
+    // split for the prover: error and answer
     let lines = flagged(alloc, flags.as_slice())?;
     Ok(lines)
 }

@@ -120,7 +120,7 @@ fn run_turns<A: PackageSource, C: ScoreMap<A::NameId>>(
     if let Some(refusal) = turn {
         return Ok(SearchResult::Unsat(refusal));
     }
-    // split for the prover: the call's error and its answer are goals of their own
+    // split for the prover: error and answer
     let found = run_others(alloc, answers, encoding, scores, input, softs)?;
     Ok(found)
 }
@@ -190,7 +190,7 @@ pub fn search<A: PackageSource, C: ScoreMap<A::NameId> + Drop>(
     ensures cancelled { IfErr result (IsCancelledBy (A.may_cancel answers.old)) }
 {
     if is_empty_problem(requirements, constraints, softs) {
-        // split for the prover: the call's error and its answer are goals of their own
+        // split for the prover: error and answer
         let nothing = find_nothing(alloc, answers, encoding)?;
         return Ok(nothing);
     }
@@ -200,7 +200,7 @@ pub fn search<A: PackageSource, C: ScoreMap<A::NameId> + Drop>(
         constraints,
     };
     let mut scores = Scores::<A::NameId, C>::new(alloc);
-    // split for the prover: the call's error and its answer are goals of their own
+    // split for the prover: error and answer
     let found = run_turns(alloc, answers, encoding, &mut scores, &input, softs)?;
     Ok(found)
 }

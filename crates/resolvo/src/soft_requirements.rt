@@ -80,7 +80,7 @@ fn run_open<A: PackageSource, C: ScoreMap<A::NameId>>(
 {
     encoding.begin_turn();
     encoding.add_parent(soft)?;
-    // split for the prover: the call's error and its answer are goals of their own
+    // split for the prover: error and answer
     let refusal = run_turn(alloc, answers, encoding, scores, input, Some(variable))?;
     Ok(refusal)
 }

@@ -91,7 +91,8 @@ impl VersionDependencies {
         catalogue: &Catalogue,
         lines: &[u32],
     ) -> R<VersionDependencies>
-        ensures as_ids { IfOk result (λ deps. AreDependenciesOf ids.new (lines_at catalogue.now lines.now) (deps_of deps)) }
+        ensures as_ids { IfOk result
+            (λ deps. AreDependenciesOf ids.new (lines_at catalogue.now lines.now) (deps_of deps)) }
         ensures interns { Interns ids.old ids.new }
         ensures ids { IsErrOf result Ids → LacksNumber ids.new }
     {

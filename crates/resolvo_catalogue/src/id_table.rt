@@ -45,7 +45,7 @@ struct Numbered<T: Drop> {
     ids: BTreeMap<Key, u32>,
 }
 
-// split for the prover: an owner of several calls this drop for each
+// split for the prover: one drop for each
 impl<T: Drop> Drop for Numbered<T> {
     fn drop(self) {
         let Numbered { values: _, ids: _ } = self;
@@ -58,7 +58,7 @@ struct Unions {
     ids: BTreeMap<Vec<u32>, u32>,
 }
 
-// split for the prover: an owner of several calls this drop for each
+// split for the prover: one drop for each
 impl Drop for Unions {
     fn drop(self) {
         let Unions { values: _, ids: _ } = self;
@@ -78,7 +78,7 @@ pub struct IdTable {
     alloc: Global,
 }
 
-// split for the prover: an owner calls this drop, and doesn't drop each field at each exit
+// split for the prover: one drop
 impl Drop for IdTable {
     fn drop(self) {
         let IdTable {
@@ -322,7 +322,8 @@ impl IdTable {
     ) -> R<ConditionId>
         requires left { left.0 < length self.old.conditions }
         requires right { right.0 < length self.old.conditions }
-        ensures joined { IfOk result (λ c. slice_get self.new.conditions c.0 ≡ Some (Binary operator left right)) }
+        ensures joined { IfOk result
+            (λ c. slice_get self.new.conditions c.0 ≡ Some (Binary operator left right)) }
         ensures interns { Interns self.old self.new }
         ensures ids { IsErrOf result Ids → LacksNumber self.new }
     {
@@ -474,7 +475,8 @@ impl<T: Drop> Numbered<T> {
         ensures key { OnOk result
             ((other : Key)
             → number_in self.new.ids.entries other
-            ≡ (if key_eq key other then Some (length self.old.values.items) else number_in self.old.ids.entries other)) }
+            ≡ (if key_eq key other then Some (length self.old.values.items)
+            else number_in self.old.ids.entries other)) }
         // After a refusal.
         ensures kept { OnErr result (self.new.values.items ≡ self.old.values.items) }
         ensures keys { OnErr result (self.new.ids.entries ≡ self.old.ids.entries) }
@@ -515,7 +517,8 @@ impl Unions {
         ensures key { OnOk result
             ((other : List ℕ)
             → list_number_in self.new.ids.entries other
-            ≡ (if bytes_eq key.items other then Some (length self.old.values.items) else list_number_in self.old.ids.entries other)) }
+            ≡ (if bytes_eq key.items other then Some (length self.old.values.items)
+            else list_number_in self.old.ids.entries other)) }
         // After a refusal.
         ensures kept { OnErr result (self.new.values.items ≡ self.old.values.items) }
         ensures keys { OnErr result (self.new.ids.entries ≡ self.old.ids.entries) }

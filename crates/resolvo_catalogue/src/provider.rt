@@ -41,7 +41,7 @@ pub struct CatalogueProvider {
     alloc: Global,
 }
 
-// split for the prover: an owner calls this drop, and doesn't drop each field at each exit
+// split for the prover: one drop
 impl Drop for CatalogueProvider {
     fn drop(self) {
         let CatalogueProvider {
@@ -65,8 +65,13 @@ impl Model for CatalogueProvider {
     ghost Value = { Provider };
 
     ghost view = { λ p.
-        record
-        { ids = p.ids; deps = map deps_of p.deps.items; marks = p.marks.items; hint = p.hint; has_budget = is_some p.budget } };
+        record {
+          ids = p.ids;
+          deps = map deps_of p.deps.items;
+          marks = p.marks.items;
+          hint = p.hint;
+          has_budget = is_some p.budget;
+        } };
 
     ghost invariant = { λ p. AreByPackage p.ids p.packages.items };
 }
@@ -267,8 +272,13 @@ fn tables_of(alloc: Global, ids: &mut IdTable, catalogue: &Catalogue) -> R<Table
         (λ t.
         (hint : Hint) (has_budget : Bool)
         → IsOver catalogue.now
-        (record
-        { ids = ids.new; deps = map deps_of t.deps.items; marks = t.marks.items; hint = hint; has_budget = has_budget })) }
+        (record {
+          ids = ids.new;
+          deps = map deps_of t.deps.items;
+          marks = t.marks.items;
+          hint = hint;
+          has_budget = has_budget;
+        })) }
     ensures packages { IfOk result (λ t. AreByPackage ids.new t.packages.items) }
 {
     catalogue.lines_are_in_place();

@@ -19,7 +19,7 @@ pub struct TextIds {
     guesses: Guesses,
 }
 
-// split for the prover: an owner of several calls this drop for each
+// split for the prover: one drop for each
 impl Drop for TextIds {
     fn drop(self) {
         let TextIds {

@@ -20,7 +20,7 @@ pub struct Catalogue {
     table: Table,
 }
 
-// split for the prover: an owner calls this drop, and doesn't drop each field at each exit
+// split for the prover: one drop
 impl Drop for Catalogue {
     fn drop(self) {
         let Catalogue { table: _ } = self;

@@ -32,7 +32,7 @@ pub fn is_match(spec: &Spec, versions: &[(String, u32)], number: VersionNo) -> b
     }
 }
 
-// split for the prover: this contract is about the list, the caller's about the set
+// split for the prover: list and set
 fn any_matches(spec: &Spec, versions: &[(String, u32)], set: &[VersionNo]) -> bool
     ensures { result
         ≡ list_any (λ n. is_match (pair_versions versions.now) (spec_of spec.now) n.0) set.now }
@@ -67,7 +67,7 @@ fn condition_holds(condition: Option<&Cond>, versions: &[(String, u32)], set: &[
     }
 }
 
-// split for the prover: this contract is about the list, the caller's about the set
+// split for the prover: list and set
 fn any_is_met(alternatives: &[Spec], versions: &[(String, u32)], set: &[VersionNo]) -> bool
     ensures { result
         ≡ list_any (λ s. is_met (spec_of s) (members (pair_versions versions.now) set.now))
@@ -119,7 +119,7 @@ fn is_within_at(spec: &Spec, versions: &[(String, u32)], number: VersionNo) -> b
     }
 }
 
-// split for the prover: this contract is about the list, the caller's about the set
+// split for the prover: list and set
 fn all_are_within(spec: &Spec, versions: &[(String, u32)], set: &[VersionNo]) -> bool
     ensures { result
         ≡ list_all
@@ -166,7 +166,7 @@ fn keeps_lock_at(locked: &(String, u32), versions: &[(String, u32)], number: Ver
     }
 }
 
-// split for the prover: this contract is about the list, the caller's about the set
+// split for the prover: list and set
 fn all_keep_lock(locked: &(String, u32), versions: &[(String, u32)], set: &[VersionNo]) -> bool
     ensures { result
         ≡ list_all

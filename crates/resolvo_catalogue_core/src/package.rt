@@ -216,7 +216,7 @@ impl Package {
         match self.by_number.take() {
             Some(map) => Ok(map),
             None => {
-                // split for the prover: the call's error and its answer are goals of their own
+                // split for the prover: error and answer
                 let map = map_of(*self.numbers.allocator(), &self.numbers, &self.versions)?;
                 Ok(map)
             }

@@ -15,7 +15,7 @@ pub struct Request {
     asks: RequestLines,
 }
 
-// split for the prover: an owner calls this drop, and doesn't drop each field at each exit
+// split for the prover: one drop
 impl Drop for Request {
     fn drop(self) {
         let Request { asks: _ } = self;

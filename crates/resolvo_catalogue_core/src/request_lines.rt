@@ -32,7 +32,7 @@ pub struct RequestLines {
     pub wished: BTreeMap<u32, u32>,
 }
 
-// split for the prover: an owner calls this drop, and doesn't drop each field at each exit
+// split for the prover: one drop
 impl Drop for RequestLines {
     fn drop(self) {
         let RequestLines {

@@ -43,7 +43,7 @@ pub struct Table {
     pub favours: Vec<(u32, VersionNo)>,
 }
 
-// split for the prover: an owner calls this drop, and doesn't drop each field at each exit
+// split for the prover: one drop
 impl Drop for Table {
     fn drop(self) {
         let Table {

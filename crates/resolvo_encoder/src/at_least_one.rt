@@ -122,7 +122,7 @@ impl<N: Copy + Exact + Hash + Debug + Drop, S: Copy + Exact + Hash + Debug> Enco
         self.name_package(set.name)?;
         let any = self.give(ProofAtom::AtLeastOne(set.name))?;
         let candidates = self.register(alloc, set.outside.as_slice())?;
-        // split for the prover: the call's error and its answer are goals of their own
+        // split for the prover: error and answer
         let literals = none_or_outside(alloc, any, candidates.as_slice())?;
         Ok(literals)
     }

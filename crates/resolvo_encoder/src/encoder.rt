@@ -62,7 +62,7 @@ pub struct EncodedOnce<N: Copy + Eq + Hash, S: Copy + Eq + Hash> {
     pub softs: Vec<S>,
 }
 
-// split for the prover: what owns one calls this drop, and doesn't drop each field at each exit
+// split for the prover: one drop
 impl<N: Copy + Eq + Hash, S: Copy + Eq + Hash> Drop for EncodedOnce<N, S> {
     fn drop(self) {
         let EncodedOnce {
@@ -107,7 +107,7 @@ pub struct Encoder<N: Copy + Eq + Hash, S: Copy + Eq + Hash> {
     pub fired: IndexSet<usize>,
 }
 
-// split for the prover: what owns one calls this drop, and doesn't drop each field at each exit
+// split for the prover: one drop
 impl<N: Copy + Eq + Hash, S: Copy + Eq + Hash> Drop for Encoder<N, S> {
     fn drop(self) {
         let Encoder {

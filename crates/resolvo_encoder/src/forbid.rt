@@ -296,7 +296,7 @@ impl<N: Copy + Exact + Hash + Debug + Drop, S: Copy + Exact + Hash + Debug> Enco
         match parent {
             None => Ok(VariableId::root()),
             Some(solvable) => {
-                // split for the prover: the call's error and its answer are goals of their own
+                // split for the prover: error and answer
                 let variable = self.give(ProofAtom::Solvable(solvable))?;
                 Ok(variable)
             }
@@ -310,7 +310,7 @@ impl<N: Copy + Exact + Hash + Debug + Drop, S: Copy + Exact + Hash + Debug> Enco
         ensures present { IfOk result (λ v. Represents self.new.coding.atoms.keys v atom) }
         ensures ids { IsErrOf result Ids → LacksNumber self.new.coding }
     {
-        // split for the prover: the call's error and its answer are goals of their own
+        // split for the prover: error and answer
         let variable = self.coding.variable(atom)?;
         Ok(variable)
     }

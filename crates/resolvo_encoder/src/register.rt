@@ -30,7 +30,7 @@ impl<N: Copy + Exact + Hash + Debug + Drop, S: Copy + Exact + Hash + Debug> Enco
         ensures enrolled { IfOk result (λ v. Enrols S.eq offered.now v.items self.old self.new) }
         ensures ids { IsErrOf result Ids → LacksNumber self.new.coding }
     {
-        // split for the prover: the call's error and its answer are goals of their own
+        // split for the prover: error and answer
         let given = register_all(alloc, &mut self.registry, &mut self.coding, offered)?;
         Ok(given)
     }
@@ -41,7 +41,7 @@ impl<N: Copy + Exact + Hash + Debug + Drop, S: Copy + Exact + Hash + Debug> Enco
         ensures registered { IfOk result (λ v. RegistersSoft S.eq soft v self.old self.new) }
         ensures ids { IsErrOf result Ids → LacksNumber self.new.coding }
     {
-        // split for the prover: the call's error and its answer are goals of their own
+        // split for the prover: error and answer
         let variable = self
             .registry
             .register(&mut self.coding, soft.name, soft.solvable)?;

@@ -52,7 +52,7 @@ impl<N: Copy + Exact + Hash + Debug + Drop, S: Copy + Exact + Hash + Debug> Enco
             return Ok(None);
         }
         self.undo_turn();
-        // split for the prover: the call's error and its answer are goals of their own
+        // split for the prover: error and answer
         let refusal = self.choose_or_refute(alloc, variable)?;
         Ok(refusal)
     }
@@ -96,7 +96,7 @@ impl<N: Copy + Exact + Hash + Debug + Drop, S: Copy + Exact + Hash + Debug> Enco
         // After a refusal.
         ensures ids { IsErrOf result Ids → LacksNumber self.new.coding }
     {
-        // split for the prover: the call's error and its answer are goals of their own
+        // split for the prover: error and answer
         let clause = self.coding.forbid(refusal)?;
         Ok(clause)
     }

@@ -50,7 +50,7 @@ impl<N: Copy + Exact + Hash + Debug + Drop, S: Copy + Exact + Hash + Debug> Enco
         ensures refusal { IsOkUnless result Memory }
     {
         let trail = &self.coding.search.tracker;
-        // split for the prover: the call's error and its answer are goals of their own
+        // split for the prover: error and answer
         let next = self
             .needs
             .next_decision(&self.queue, &self.lists, trail, scores, FEWEST)?;

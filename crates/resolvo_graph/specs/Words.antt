@@ -3,6 +3,7 @@ use Rattle.std.specs.Prelude.{ℕ, ◌==◌, ◌++◌, Bool, true, false, List, 
 use Rattle.resolvo_pool_core.specs.declared.id.StringId.{StringId}
 use Rattle.resolvo_pool_core.specs.declared.id.VersionSetId.{VersionSetId}
 use Rattle.resolvo_pool_core.specs.declared.id.VersionSetUnionId.{VersionSetUnionId}
+use Rattle.resolvo_pool_core.specs.declared.provider.Interner as interner
 use Rattle.resolvo_pool_core.specs.declared.requirement.Requirement.{Requirement}
 use Rattle.resolvo_pool_core.specs.Text.{set_text, requirement_text}
 use Rattle.resolvo_graph.specs.declared.wording.Outlook.{Outlook}
@@ -22,6 +23,17 @@ pub record Meaning (N S : Type 0) : Type 0 where
   pub version_set_text : VersionSetId → List ℕ
   pub versions_text : List S → List ℕ
   pub word_text : StringId → List ℕ
+
+-- the meaning by an interner's members; the last six types are those of its ids' maps and sets
+abbrev pub meaning_by : {A N S B C D E F G : Type 0} → interner.Ghosts A N S B C D E F G → A → Meaning N S
+meaning_by g i = record {
+  name_of = g.name_of_version_set i;
+  members_of = g.members_of i;
+  name_text = g.name_text i;
+  version_set_text = g.version_set_text i;
+  versions_text = g.merged_text i;
+  word_text = g.string_text i;
+}
 
 -- before a requirement, at the top and below
 unfoldable pub words_before : Bool → Outlook → List ℕ

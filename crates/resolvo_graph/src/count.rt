@@ -3,6 +3,7 @@
 ghost use Rattle.std.specs.Prelude.{◌≡◌, ◌-◌, length, IfOk, IfSome, IsOkUnless};
 ghost use Rattle.resolvo_pool_core.specs.declared.want.Want.TheVariants.{Memory};
 ghost use Rattle.resolvo_graph.specs.Message.{text_of};
+ghost use Rattle.resolvo_graph.specs.Words.{meaning_by};
 
 use crate::display_unsat::DisplayUnsat;
 use crate::sink::LineSink;
@@ -41,14 +42,7 @@ impl<I: Interner> LineSink<I::SolvableId> for Count<'_, I> {
         × (end.left
         ≡ start.left - length
         (text_of
-        (record {
-          name_of = I.name_of_version_set start.page.interner.now;
-          members_of = I.members_of start.page.interner.now;
-          name_text = I.name_text start.page.interner.now;
-          version_set_text = I.version_set_text start.page.interner.now;
-          versions_text = I.merged_text start.page.interner.now;
-          word_text = I.string_text start.page.interner.now;
-        })
+        (meaning_by I.Interner start.page.interner.now)
         lines)) };
 
     fn take(&mut self, lines: &mut Vec<MessageLine<I::SolvableId>>) -> R<()> {

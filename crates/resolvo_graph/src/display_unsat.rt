@@ -8,6 +8,7 @@ ghost use Rattle.resolvo_graph.specs.Graph.{edges_of};
 ghost use Rattle.resolvo_graph.specs.Message.{IsMessage, IsLengthBelow, AreParts, IsSecondPart, conflict_line, conflict_lines, misses, fits, text_of};
 ghost use Rattle.resolvo_graph.specs.Kept.{findings};
 ghost use Rattle.resolvo_graph.specs.Sink.{Adds};
+ghost use Rattle.resolvo_graph.specs.Words.{meaning_by};
 
 use crate::count::Count;
 use crate::graph::{ConflictCause, ConflictEdge, ConflictGraph, Edge, NodeIndex};
@@ -64,14 +65,7 @@ impl<'a, I: Interner> DisplayUnsat<'a, I> {
         ensures length { IfOk result
             (IsLengthBelow
             (IsMessage I.NameId.eq I.SolvableId.eq (I.name_of_solvable interner.now) graph.now)
-            (record {
-              name_of = I.name_of_version_set interner.now;
-              members_of = I.members_of interner.now;
-              name_text = I.name_text interner.now;
-              version_set_text = I.version_set_text interner.now;
-              versions_text = I.merged_text interner.now;
-              word_text = I.string_text interner.now;
-            })
+            (meaning_by I.Interner interner.now)
             bound) }
         ensures refusal { IsOkUnless result Memory }
     {
@@ -92,14 +86,7 @@ impl<I: Interner> fmt::Display for DisplayUnsat<'_, I> {
     ghost output = { λ d.
         Some
         (text_of
-        (record {
-          name_of = I.name_of_version_set d.interner.now;
-          members_of = I.members_of d.interner.now;
-          name_text = I.name_text d.interner.now;
-          version_set_text = I.version_set_text d.interner.now;
-          versions_text = I.merged_text d.interner.now;
-          word_text = I.string_text d.interner.now;
-        })
+        (meaning_by I.Interner d.interner.now)
         d.lines.items) };
 
     fn fmt<W: fmt::Write>(&self, f: &mut fmt::Formatter<W>) -> fmt::Result {

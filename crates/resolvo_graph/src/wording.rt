@@ -2,7 +2,7 @@
 //! on a constraint. docs/MESSAGES.md explains the sentences to those who read them.
 ghost use Rattle.std.specs.Prelude.{◌≡◌, ◌==◌, Some, length};
 ghost use Rattle.std.specs.Fmt.{WritesOnOk};
-ghost use Rattle.resolvo_graph.specs.Words.{line_text, sentence_words, requirement_words, versions_words, set_words, admitted_words, constraint_words, words_before, words_behind, words_of};
+ghost use Rattle.resolvo_graph.specs.Words.{meaning_by, line_text, sentence_words, requirement_words, versions_words, set_words, admitted_words, constraint_words, words_before, words_behind, words_of};
 
 use crate::indenter::Indenter;
 use resolvo_pool_core::id::{SolvableId, StringId, VersionSetId};
@@ -153,14 +153,7 @@ impl<I: Interner> fmt::Display for DisplayLine<'_, I> {
     ghost output = { λ d.
         Some
         (line_text
-        (record {
-          name_of = I.name_of_version_set d.interner.now;
-          members_of = I.members_of d.interner.now;
-          name_text = I.name_text d.interner.now;
-          version_set_text = I.version_set_text d.interner.now;
-          versions_text = I.merged_text d.interner.now;
-          word_text = I.string_text d.interner.now;
-        })
+        (meaning_by I.Interner d.interner.now)
         d.line.now) };
 
     fn fmt<W: fmt::Write>(&self, f: &mut fmt::Formatter<W>) -> fmt::Result {
@@ -176,14 +169,7 @@ impl<I: Interner> DisplayLine<'_, I> {
     fn write_sentence<W: fmt::Write>(&self, f: &mut fmt::Formatter<W>) -> fmt::Result
         ensures { WritesOnOk W.write_str_gives f.old result
             (sentence_words
-            (record {
-              name_of = I.name_of_version_set self.now.interner.now;
-              members_of = I.members_of self.now.interner.now;
-              name_text = I.name_text self.now.interner.now;
-              version_set_text = I.version_set_text self.now.interner.now;
-              versions_text = I.merged_text self.now.interner.now;
-              word_text = I.string_text self.now.interner.now;
-            })
+            (meaning_by I.Interner self.now.interner.now)
             (length self.now.line.now.indenter.levels == 1) self.now.line.now.sentence)
             f.new }
     {
@@ -206,14 +192,7 @@ impl<I: Interner> DisplayLine<'_, I> {
     ) -> fmt::Result
         ensures { WritesOnOk W.write_str_gives f.old result
             (admitted_words
-            (record {
-              name_of = I.name_of_version_set self.now.interner.now;
-              members_of = I.members_of self.now.interner.now;
-              name_text = I.name_text self.now.interner.now;
-              version_set_text = I.version_set_text self.now.interner.now;
-              versions_text = I.merged_text self.now.interner.now;
-              word_text = I.string_text self.now.interner.now;
-            })
+            (meaning_by I.Interner self.now.interner.now)
             version_set)
             f.new }
     {
@@ -229,14 +208,7 @@ impl<I: Interner> DisplayLine<'_, I> {
     ) -> fmt::Result
         ensures { WritesOnOk W.write_str_gives f.old result
             (constraint_words
-            (record {
-              name_of = I.name_of_version_set self.now.interner.now;
-              members_of = I.members_of self.now.interner.now;
-              name_text = I.name_text self.now.interner.now;
-              version_set_text = I.version_set_text self.now.interner.now;
-              versions_text = I.merged_text self.now.interner.now;
-              word_text = I.string_text self.now.interner.now;
-            })
+            (meaning_by I.Interner self.now.interner.now)
             version_set)
             f.new }
     {
@@ -254,14 +226,7 @@ impl<I: Interner> DisplayLine<'_, I> {
     ) -> fmt::Result
         ensures { WritesOnOk W.write_str_gives f.old result
             (requirement_words
-            (record {
-              name_of = I.name_of_version_set self.now.interner.now;
-              members_of = I.members_of self.now.interner.now;
-              name_text = I.name_text self.now.interner.now;
-              version_set_text = I.version_set_text self.now.interner.now;
-              versions_text = I.merged_text self.now.interner.now;
-              word_text = I.string_text self.now.interner.now;
-            })
+            (meaning_by I.Interner self.now.interner.now)
             (length self.now.line.now.indenter.levels == 1) requirement outlook)
             f.new }
     {
@@ -284,14 +249,7 @@ impl<I: Interner> DisplayLine<'_, I> {
     ) -> fmt::Result
         ensures { WritesOnOk W.write_str_gives f.old result
             (versions_words
-            (record {
-              name_of = I.name_of_version_set self.now.interner.now;
-              members_of = I.members_of self.now.interner.now;
-              name_text = I.name_text self.now.interner.now;
-              version_set_text = I.version_set_text self.now.interner.now;
-              versions_text = I.merged_text self.now.interner.now;
-              word_text = I.string_text self.now.interner.now;
-            })
+            (meaning_by I.Interner self.now.interner.now)
             versions.now verdict)
             f.new }
     {
@@ -311,14 +269,7 @@ impl<I: Interner> DisplayLine<'_, I> {
     ) -> fmt::Result
         ensures { WritesOnOk W.write_str_gives f.old result
             (set_words
-            (record {
-              name_of = I.name_of_version_set self.now.interner.now;
-              members_of = I.members_of self.now.interner.now;
-              name_text = I.name_text self.now.interner.now;
-              version_set_text = I.version_set_text self.now.interner.now;
-              versions_text = I.merged_text self.now.interner.now;
-              word_text = I.string_text self.now.interner.now;
-            })
+            (meaning_by I.Interner self.now.interner.now)
             version_set)
             f.new }
     {

@@ -250,8 +250,10 @@ impl<VS: VersionSet, N: PackageName> Pool<VS, N> {
             self.old.version_sets) }
         ensures put { OnOk result
             (self.new
-            ≡ record self.old
-            { version_sets = insert_key ⟦<(NameId, VS) as PartialEq>⟧.eq self.old.version_sets (name, version_set) }) }
+            ≡ record self.old {
+              version_sets = insert_key ⟦<(NameId, VS) as PartialEq>⟧.eq self.old.version_sets
+                  (name, version_set);
+            }) }
         ensures err { OnErr result (self.new ≡ self.old) }
         ensures ids { IsErrOf result Ids → length self.old.version_sets ≡ 4294967295 }
     {

@@ -98,7 +98,7 @@ fn put_node<S: Copy + Exact + Hash + Debug>(
         → ⟦<ConflictNode<S> as PartialEq>⟧.eq m n ≡ same_node S.eq m n }
     ensures refusal { IsOkUnless result Memory }
 {
-    // split for the prover: the call's error and its answer are goals of their own
+    // split for the prover: error and answer
     let index = graph.add_node(node)?;
     Ok(index)
 }

@@ -38,7 +38,7 @@ pub(crate) fn write_step<N: Copy + Exact + Hash + Debug, S: Copy + Exact + Hash 
         None => {
             let clause = &coding.search.clauses.iter().rest[number];
             let literals = clause.literals.as_slice();
-            // split for the prover: the call's error and its answer are goals of their own
+            // split for the prover: error and answer
             let step = write_derived(alloc, coding, literals, clause.causes.as_slice())?;
             Ok(step)
         }

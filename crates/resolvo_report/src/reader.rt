@@ -67,7 +67,7 @@ pub struct ReportReader {
     ghost few: { number + lines.room ≤ 1073741824 },
 }
 
-// split for the prover: an owner calls this drop, and doesn't drop each field at each exit
+// split for the prover: one drop
 impl Drop for ReportReader {
     fn drop(self) {
         let ReportReader {

@@ -95,7 +95,7 @@ impl SatState {
         ensures ids { IsErrOf result Ids → length self.old.clauses ≡ 4294967295 }
         ensures full { IsErrOf result Ids → length self.new.clauses ≡ 4294967295 }
     {
-        // split for the prover: the call's error and its answer are goals of their own
+        // split for the prover: error and answer
         let id = self.clauses.alloc(clause)?;
         Ok(id)
     }

@@ -27,7 +27,7 @@ impl SatState {
         if let Some(clause) = self.visit_pending(watching)? {
             return Ok(Some(clause));
         }
-        // split for the prover: the call's error and its answer are goals of their own
+        // split for the prover: error and answer
         let falsified = self.attach_each(watching)?;
         Ok(falsified)
     }
@@ -40,7 +40,7 @@ impl SatState {
         ensures refusal { IsOkUnless result Memory }
     {
         watching.reverse_pending();
-        // split for the prover: the call's error and its answer are goals of their own
+        // split for the prover: error and answer
         let falsified = self.attach_from_last(watching)?;
         Ok(falsified)
     }

@@ -164,7 +164,7 @@ impl SatState {
         // After a refusal.
         ensures refusal { IsOkUnless result Memory }
     {
-        // split for the prover: the call's error and its answer are goals of their own
+        // split for the prover: error and answer
         let falsified = self.assign_units(&units[done..])?;
         Ok(falsified)
     }

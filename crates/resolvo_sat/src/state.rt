@@ -36,7 +36,7 @@ pub struct SatState {
     pub guard_level: u32,
 }
 
-// split for the prover: what owns one calls this drop, and doesn't drop each field at each exit
+// split for the prover: one drop
 impl Drop for SatState {
     fn drop(self) {
         let SatState {

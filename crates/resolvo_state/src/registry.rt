@@ -50,7 +50,7 @@ pub struct Registry<N: Copy + Eq + Hash> {
     tied: usize,
 }
 
-// split for the prover: what owns one calls this drop, and doesn't drop each field at each exit
+// split for the prover: one drop
 impl<N: Copy + Eq + Hash> Drop for Registry<N> {
     fn drop(self) {
         let Registry {

@@ -28,7 +28,7 @@ pub struct SolverState<N: Copy + Eq + Hash, S: Copy + Eq + Hash> {
     pub kinds: Vec<ClauseKind<N, S>>,
 }
 
-// split for the prover: what owns one calls this drop, and doesn't drop each field at each exit
+// split for the prover: one drop
 impl<N: Copy + Eq + Hash, S: Copy + Eq + Hash> Drop for SolverState<N, S> {
     fn drop(self) {
         let SolverState {

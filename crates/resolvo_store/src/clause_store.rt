@@ -47,7 +47,7 @@ pub struct ClauseStore<N: SolverId> {
     alloc: Global,
 }
 
-// split for the prover: what owns one calls this drop, and doesn't drop each field at each exit
+// split for the prover: one drop
 impl<N: SolverId> Drop for ClauseStore<N> {
     fn drop(self) {
         let ClauseStore {

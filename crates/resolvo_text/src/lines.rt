@@ -115,9 +115,13 @@ impl LineReader {
     /// reader can't be used any more.
     pub fn next_line<S: Source>(&mut self, source: &mut S) -> Result<bool, ReadFault>
         // After an answer.
-        ensures taken { IfOk result (λ more. IsTrue more → TakesLine (left self.old (S.left source.old)) self.old.room
+        ensures taken { IfOk result
+            (λ more. IsTrue more
+            → TakesLine (left self.old (S.left source.old)) self.old.room
             self.new.line.items (left self.new (S.left source.new)) self.new.room) }
-        ensures ending { IfOk result (λ more. IsTrue more → EndsLine self.new.whole (left self.old (S.left source.old)) self.old.room
+        ensures ending { IfOk result
+            (λ more. IsTrue more
+            → EndsLine self.new.whole (left self.old (S.left source.old)) self.old.room
             self.new.line.items (left self.new (S.left source.new)) self.new.room) }
         // Whatever the answer.
         ensures less { self.new.room ≤ self.old.room }
@@ -126,8 +130,11 @@ impl LineReader {
         ensures end { IfOk result (λ more. more ≡ false → IsAtEnd (left self.old (S.left source.old))) }
         ensures failures { OnOk result (S.failures source.new ≡ S.failures source.old) }
         // After a refusal.
-        ensures fault { IfErr result (λ e. IsReadFault e (left self.old (S.left source.old)) (S.left source.new)
-            self.old.room (DeviceFailed (S.failures source.old) (S.failures source.new) (S.interruptions source.new))) }
+        ensures fault { IfErr result
+            (λ e.
+            IsReadFault e (left self.old (S.left source.old)) (S.left source.new) self.old.room
+            (DeviceFailed (S.failures source.old) (S.failures source.new)
+            (S.interruptions source.new))) }
     {
         self.line.clear();
         loop {
@@ -185,8 +192,11 @@ impl LineReader {
         ensures line { self.new.line ≡ self.old.line }
         ensures failures { OnOk result (S.failures source.new ≡ S.failures source.old) }
         // After a refusal.
-        ensures fault { IfErr result (λ e. IsReadFault e (left self.old (S.left source.old)) (S.left source.new)
-            self.old.room (DeviceFailed (S.failures source.old) (S.failures source.new) (S.interruptions source.new))) }
+        ensures fault { IfErr result
+            (λ e.
+            IsReadFault e (left self.old (S.left source.old)) (S.left source.new) self.old.room
+            (DeviceFailed (S.failures source.old) (S.failures source.new)
+            (S.interruptions source.new))) }
     {
         self.refill(source)?;
         if self.at == self.end {
@@ -213,8 +223,11 @@ impl LineReader {
         // After an answer.
         ensures failures { OnOk result (S.failures source.new ≡ S.failures source.old) }
         // After a refusal.
-        ensures fault { IfErr result (λ e. IsReadFault e (left self.old (S.left source.old)) (S.left source.new)
-            self.old.room (DeviceFailed (S.failures source.old) (S.failures source.new) (S.interruptions source.new))) }
+        ensures fault { IfErr result
+            (λ e.
+            IsReadFault e (left self.old (S.left source.old)) (S.left source.new) self.old.room
+            (DeviceFailed (S.failures source.old) (S.failures source.new)
+            (S.interruptions source.new))) }
     {
         if self.at == self.end {
             self.fill(source)?;
@@ -232,8 +245,11 @@ impl LineReader {
         ensures room { self.new.room ≡ self.old.room }
         ensures failures { OnOk result (S.failures source.new ≡ S.failures source.old) }
         // After a refusal.
-        ensures fault { IfErr result (λ e. IsReadFault e (left self.old (S.left source.old)) (S.left source.new)
-            self.old.room (DeviceFailed (S.failures source.old) (S.failures source.new) (S.interruptions source.new))) }
+        ensures fault { IfErr result
+            (λ e.
+            IsReadFault e (left self.old (S.left source.old)) (S.left source.new) self.old.room
+            (DeviceFailed (S.failures source.old) (S.failures source.new)
+            (S.interruptions source.new))) }
     {
         for _try in 0..MOST_INTERRUPTIONS + 1 {
             match source.read(&mut self.piece) {

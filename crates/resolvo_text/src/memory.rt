@@ -48,7 +48,8 @@ impl Turns {
     /// Whether the next call moves bytes.
     fn next(&mut self) -> Result<(), IoFault>
         ensures failures { CountsFailures self.old.tally.failures self.new.tally.failures result }
-        ensures interruptions { CountsInterruptions self.old.tally.interruptions self.new.tally.interruptions result }
+        ensures interruptions { CountsInterruptions self.old.tally.interruptions
+            self.new.tally.interruptions result }
     {
         if self.tally.is_full() {
             return Err(self.tally.failed());

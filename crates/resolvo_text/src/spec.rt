@@ -70,7 +70,7 @@ pub fn matches(spec: &Spec, version: &Version) -> bool
     version.name == spec.name && is_in_span(spec.span, version.number)
 }
 
-// split for the prover: this contract is about the list, the caller's about the set
+// split for the prover: list and set
 fn any_matches(spec: &Spec, set: &[Version]) -> bool
     ensures { result ≡ list_any (λ v. matches (spec_of spec.now) (version_of v)) set.now }
 {
@@ -84,7 +84,7 @@ pub fn is_met(spec: &Spec, set: &[Version]) -> bool
     any_matches(spec, set)
 }
 
-// split for the prover: this contract is about the list, the caller's about the set
+// split for the prover: list and set
 fn any_is_met(alternatives: &[Spec], set: &[Version]) -> bool
     ensures { result ≡ list_any (λ s. is_met (spec_of s) (set_of set.now)) alternatives.now }
 {
@@ -104,7 +104,7 @@ fn same_version(one: &Version, other: &Version) -> bool
     one.name == other.name && one.number == other.number
 }
 
-// split for the prover: this contract is about the list, the caller's about the set
+// split for the prover: list and set
 fn any_is(version: &Version, set: &[Version]) -> bool
     ensures { result ≡ list_any (λ w. same_version (version_of version.now) (version_of w)) set.now }
 {

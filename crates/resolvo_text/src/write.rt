@@ -21,7 +21,8 @@ pub fn write_all<S: Sink>(sink: &mut S, bytes: &[u8]) -> Result<(), WriteFault>
     ensures prefix { OnErr result (TakesPrefix (S.contents sink.old) (S.contents sink.new) bytes.now) }
     ensures failures { OnOk result (S.failures sink.new ≡ S.failures sink.old) }
     ensures empty { OnOk result (S.empty_writes sink.new ≡ S.empty_writes sink.old) }
-    ensures fault { OnErr result (WriterFailed (S.failures sink.old) (S.failures sink.new) (S.interruptions sink.new)
+    ensures fault { OnErr result
+        (WriterFailed (S.failures sink.old) (S.failures sink.new) (S.interruptions sink.new)
         (S.empty_writes sink.old) (S.empty_writes sink.new)) }
 {
     let mut rest = bytes;
@@ -38,13 +39,15 @@ fn write_some<S: Sink>(sink: &mut S, bytes: &[u8]) -> Result<usize, WriteFault>
     ensures within { IfOk result (λ n. n ≤ length bytes.now) }
     ensures some { IfOk result (λ n. 0 < n) }
     // Whatever the answer.
-    ensures bytes { MatchResult result (λ n. Appends (S.contents sink.old) (S.contents sink.new) (take n bytes.now))
+    ensures bytes { MatchResult result
+        (λ n. Appends (S.contents sink.old) (S.contents sink.new) (take n bytes.now))
         (λ _. Keeps (S.contents sink.old) (S.contents sink.new)) }
     // After an answer.
     ensures failures { OnOk result (S.failures sink.new ≡ S.failures sink.old) }
     ensures empty { OnOk result (S.empty_writes sink.new ≡ S.empty_writes sink.old) }
     // After a refusal.
-    ensures fault { OnErr result (WriterFailed (S.failures sink.old) (S.failures sink.new) (S.interruptions sink.new)
+    ensures fault { OnErr result
+        (WriterFailed (S.failures sink.old) (S.failures sink.new) (S.interruptions sink.new)
         (S.empty_writes sink.old) (S.empty_writes sink.new)) }
 {
     for _try in 0..MOST_INTERRUPTIONS + 1 {

@@ -68,7 +68,7 @@ pub fn chosen_in_turn<N: Copy + Exact + Hash + Debug, S: Copy + Exact + Hash + D
 {
     let place = first_place(&encoding.coding.search);
     let entries = encoding.coding.search.tracker.stack();
-    // split for the prover: the call's error and its answer are goals of their own
+    // split for the prover: error and answer
     let chosen = choices_of(alloc, &encoding.coding, &entries[place..])?;
     Ok(chosen)
 }

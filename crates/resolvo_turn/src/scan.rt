@@ -29,7 +29,7 @@ pub struct Scan<N: Copy + Eq + Hash> {
     is_begun: bool,
 }
 
-// split for the prover: what owns one calls this drop, and doesn't drop each field at each exit
+// split for the prover: one drop
 impl<N: Copy + Eq + Hash> Drop for Scan<N> {
     fn drop(self) {
         let Scan {

@@ -199,7 +199,7 @@ fn choose_and_decide<A: PackageSource, C: ScoreMap<A::NameId>>(
         return Ok(Some(refusal));
     }
     scan.go_back(encoding);
-    // split for the prover: the call's error and its answer are goals of their own
+    // split for the prover: error and answer
     let refusal = run_cdcl(alloc, answers, encoding, scores, activity, scan)?;
     Ok(refusal)
 }
@@ -242,7 +242,7 @@ fn encode_and_decide<A: PackageSource, C: ScoreMap<A::NameId>>(
         scan,
     )?;
     let activity = input.activity;
-    // split for the prover: the call's error and its answer are goals of their own
+    // split for the prover: error and answer
     let refusal = choose_and_decide(alloc, answers, encoding, scores, activity, soft, scan)?;
     Ok(refusal)
 }
@@ -331,7 +331,7 @@ fn scan_new<A: PackageSource>(
     if encoding.next_parent().is_some() {
         return Ok(true);
     }
-    // split for the prover: the call's error and its answer are goals of their own
+    // split for the prover: error and answer
     let has_fired = fire_touched(alloc, answers, encoding, scan)?;
     Ok(has_fired)
 }
@@ -365,7 +365,7 @@ fn scan_all<A: PackageSource>(
     if encoding.next_parent().is_some() {
         return Ok(true);
     }
-    // split for the prover: the call's error and its answer are goals of their own
+    // split for the prover: error and answer
     let has_fired = fire(alloc, answers, encoding, scan)?;
     Ok(has_fired)
 }
