@@ -15,7 +15,7 @@ use Rattle.resolvo_graph.specs.declared.links.Side.{Side}
 use Rattle.resolvo_graph.specs.declared.links.Side.TheVariants.{Leaving, Entering}
 use Rattle.resolvo_graph.specs.declared.links.Links.{Links}
 use Rattle.resolvo_graph.specs.declared.links.LinkedEdge.{LinkedEdge}
-use Rattle.resolvo_graph.specs.Links.{end_on, is_at, link_on, no_links, links_of, edges_in, holds_at, newest_of, up_to, AreLinked}
+use Rattle.resolvo_graph.specs.Links.{end_on, is_at, link_on, no_links, links_of, edges_in, holds_at, newest_of, up_to, IsOn, AreLinked}
 use Rattle.resolvo_graph.specs.Removal.{touches}
 
 there : {X : Type 0} (xs : List X) (n : ℕ) → n < length xs → (x : X) × (slice_get xs n ≡ Some x)
@@ -38,12 +38,7 @@ or_one : (a b : Bool) → (a || (b || false)) ≡ (a || b)
 or_one a b = ap (λ c. a || c) (or_false b)
 
 module _ {S : Type 0} (p : Edge S → Bool) (es : List (Edge S)) where
-  -- the edge of this index, if there is one, is before n, and p holds of it
-  abbrev pub IsOn : Option EdgeIndex → ℕ → Type 0
-  IsOn None n = Unit {0}
-  IsOn (Some i) n = (i.0 < n) × (holds_at p es i.0 ≡ true)
-
-  on_more : (o : Option EdgeIndex) (n : ℕ) → IsOn o n → IsOn o (suc n)
+  on_more : (o : Option EdgeIndex) (n : ℕ) → IsOn p es o n → IsOn p es o (suc n)
   on_more None n h = tt
   on_more (Some i) n h =
       let less : i.0 < n = h.0 in
@@ -56,20 +51,20 @@ module _ {S : Type 0} (p : Edge S → Bool) (es : List (Edge S)) where
   filter-one_more n e at = ap (filter p) (take-one_more es n e at) ∙ filter-append p (take n es) (e ∷ [])
 
   -- the edges among the first n of which p holds end with the newest of them
-  as_far_as_newest : (n : ℕ) → n ≤ length es → (filter p (take n es) ≡ filter p (up_to (newest_of p es n) es)) × IsOn (newest_of p es n) n
+  as_far_as_newest : (n : ℕ) → n ≤ length es → (filter p (take n es) ≡ filter p (up_to (newest_of p es n) es)) × IsOn p es (newest_of p es n) n
   as_far_as_newest zero h = (refl, tt)
   as_far_as_newest (suc n) h = go (holds_at p es n) refl (as_far_as_newest n (omega arith)) (there es n (omega arith))
     where
-      go : (b : Bool) → holds_at p es n ≡ b → (filter p (take n es) ≡ filter p (up_to (newest_of p es n) es)) × IsOn (newest_of p es n) n → (e : Edge S) × (slice_get es n ≡ Some e) → (filter p (take (suc n) es) ≡ filter p (up_to (cond b (Some (record { 0 = n })) (newest_of p es n)) es)) × IsOn (cond b (Some (record { 0 = n })) (newest_of p es n)) (suc n)
+      go : (b : Bool) → holds_at p es n ≡ b → (filter p (take n es) ≡ filter p (up_to (newest_of p es n) es)) × IsOn p es (newest_of p es n) n → (e : Edge S) × (slice_get es n ≡ Some e) → (filter p (take (suc n) es) ≡ filter p (up_to (cond b (Some (record { 0 = n })) (newest_of p es n)) es)) × IsOn p es (cond b (Some (record { 0 = n })) (newest_of p es n)) (suc n)
       go true is so at = (ap (λ k. filter p (take k es)) (sym (add-one n)), (omega arith, is))
       go false is so at =
           let same : filter p (take (suc n) es) ≡ filter p (take n es) = ap (λ k. filter p (take k es)) (sym (add-one n)) ∙ filter-one_more n at.0 at.1 ∙ ap (λ b. filter p (take n es) ++ cond b (at.0 ∷ []) []) (sym (holds_of n at.0 at.1) ∙ is) ∙ append-nil (filter p (take n es)) in
           (same ∙ so.0, on_more (newest_of p es n) n so.1)
 
-  pub from_newest : (o : Option EdgeIndex) → o ≡ newest_of p es (length es) → (filter p es ≡ filter p (up_to o es)) × IsOn o (length es)
+  pub from_newest : (o : Option EdgeIndex) → o ≡ newest_of p es (length es) → (filter p es ≡ filter p (up_to o es)) × IsOn p es o (length es)
   from_newest o is =
       let all = as_far_as_newest (length es) (omega arith) in
-      subst (λ q. (filter p es ≡ filter p (up_to q es)) × IsOn q (length es)) (sym is) (ap (filter p) (sym (take_all (length es) es (omega arith))) ∙ all.0, all.1)
+      subst (λ q. (filter p es ≡ filter p (up_to q es)) × IsOn p es q (length es)) (sym is) (ap (filter p) (sym (take_all (length es) es (omega arith))) ∙ all.0, all.1)
 
   -- p holds of some edge exactly if there is a newest one
   pub some_newest : (n : ℕ) → n ≤ length es → is_some (newest_of p es n) ≡ list_any p (take n es)
@@ -148,11 +143,6 @@ module _ {S : Type 0} (newest : List Links) (edges : List (LinkedEdge S)) (side 
         go (Some j) h =
             let lower : j.0 < i.0 = h.0 in
             omega arith
-
-    pub walk_more : (all found now : List (Edge S)) → all ≡ found ++ reverse (filter (is_at side node) (up_to next (edges_in edges))) → now ≡ found ++ l.edge ∷ [] → all ≡ now ++ reverse (filter (is_at side node) (up_to o (edges_in edges)))
-    walk_more all found now so put =
-        so ∙ ap (λ xs. found ++ reverse xs) met ∙ ap (λ xs. found ++ xs) (reverse-append (filter (is_at side node) (up_to o (edges_in edges))) (l.edge ∷ []))
-        ∙ sym (append_assoc found (l.edge ∷ []) (reverse (filter (is_at side node) (up_to o (edges_in edges))))) ∙ ap (λ xs. xs ++ reverse (filter (is_at side node) (up_to o (edges_in edges)))) (sym put)
 
     pub any_more : (r : Edge S → Bool) → list_any r (filter (is_at side node) (up_to next (edges_in edges))) ≡ (list_any r (filter (is_at side node) (up_to o (edges_in edges))) || r l.edge)
     any_more r = ap (list_any r) met ∙ list_any-append r (filter (is_at side node) (up_to o (edges_in edges))) (l.edge ∷ []) ∙ or_one (list_any r (filter (is_at side node) (up_to o (edges_in edges)))) (r l.edge)

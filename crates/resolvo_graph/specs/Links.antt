@@ -1,5 +1,5 @@
 -- Linked lists of the edges at a node: each edge is linked to the one before it on the same side.
-use Rattle.std.specs.Prelude.{◌≡◌, ℕ, zero, suc, ◌+◌, ◌==◌, Bool, false, cond, List, [], Option, None, Some, length, map, slice_get, slice_index_or, take}
+use Rattle.std.specs.Prelude.{◌≡◌, ℕ, zero, suc, ◌+◌, ◌<◌, ◌==◌, Bool, true, false, cond, List, [], Option, None, Some, length, map, slice_get, slice_index_or, take}
 use Rattle.std.specs.Option.{option_map_or}
 use Rattle.resolvo_graph.specs.declared.graph.NodeIndex.{NodeIndex}
 use Rattle.resolvo_graph.specs.declared.graph.EdgeIndex.{EdgeIndex}
@@ -59,3 +59,9 @@ linked_with_ends_moved last place l = record { edge = with_ends_moved last place
 -- the index n after a swap of a and b
 abbrev pub exchanged : ℕ → ℕ → ℕ → ℕ
 exchanged a b n = cond (n == a) b (cond (n == b) a n)
+
+module _ {S : Type 0} (p : Edge S → Bool) (es : List (Edge S)) where
+  -- the edge of this index, if there is one, is before n, and p holds of it
+  abbrev pub IsOn : Option EdgeIndex → ℕ → Type 0
+  IsOn None n = Unit {0}
+  IsOn (Some i) n = (i.0 < n) × (holds_at p es i.0 ≡ true)

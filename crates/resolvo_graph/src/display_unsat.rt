@@ -140,7 +140,7 @@ impl<S: Copy + Exact + Hash + Debug> Findings<'_, S> {
             × Adds L.took sink.old lines sink.new) }
         ensures refusal { IsOkUnless result Memory }
     {
-        let edges = self.graph.edges(alloc, self.graph.root_node())?;
+        let edges = self.graph.list_edges(alloc, self.graph.root_node())?;
         let (without, others) = partition(alloc, &edges, missing)?;
         self.tree(alloc, &without, false, sink)?;
         self.second_part(alloc, &others, &edges, sink)

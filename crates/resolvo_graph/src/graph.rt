@@ -8,7 +8,8 @@ ghost use Rattle.indexmap.specs.IndexSet.{insert_key};
 ghost use Rattle.resolvo_pool_core.specs.declared.want.Want.TheVariants.{Memory};
 ghost use Rattle.resolvo_graph.specs.declared.graph.ConflictNode.TheVariants.{Root};
 ghost use Rattle.resolvo_graph.specs.Removal.{has_edge_at, moved, with_ends_moved, without_unused_unresolved};
-ghost use Rattle.resolvo_graph.specs.Links.{is_at, newest_of, linked_with_ends_moved};
+ghost use Rattle.std.specs.Iterator.{YieldsFirst, item_count};
+ghost use Rattle.resolvo_graph.specs.Links.{is_at, newest_of, up_to, IsOn, linked_with_ends_moved};
 ghost use Rattle.resolvo_graph.specs.Graph.{edges_of, edges_to, requirement_of, is_conflict, is_exclusion, is_forbidden, admitted_by, is_unresolved, is_unresolved_at, unresolved_of, is_excluding};
 
 use crate::links::{
@@ -276,37 +277,56 @@ impl<S: Copy + Exact + Hash> ConflictGraph<S> {
     }
 
     /// The edges that leave a node, the newest first.
-    pub fn edges(&self, alloc: Global, node: NodeIndex) -> R<Vec<Edge<S>>>
+    pub fn edges(&self, node: NodeIndex) -> Edges<'_, S>
+        ensures { result ≡ edges_of self.now node }
+    {
+        self.edges_at(node, Side::Leaving)
+    }
+
+    /// The edges that leave a node, the newest first, as a list.
+    pub(crate) fn list_edges(&self, alloc: Global, node: NodeIndex) -> R<Vec<Edge<S>>>
         ensures edges { IfOk result (λ v. v.items ≡ edges_of self.now node) }
         ensures refusal { IsOkUnless result Memory }
     {
-        self.edges_at(alloc, node, Side::Leaving)
+        listed(alloc, self.edges(node))
     }
 
-    /// The edges that enter a node, the oldest first.
-    pub fn edges_to(&self, alloc: Global, node: NodeIndex) -> R<Vec<Edge<S>>>
+    /// The edges that enter a node, the oldest first, as a list.
+    pub(crate) fn list_edges_to(&self, alloc: Global, node: NodeIndex) -> R<Vec<Edge<S>>>
         ensures edges { IfOk result (λ v. v.items ≡ edges_to self.now node) }
         ensures refusal { IsOkUnless result Memory }
     {
-        let mut found = self.edges_at(alloc, node, Side::Entering)?;
+        let mut found = listed(alloc, self.edges_at(node, Side::Entering))?;
         found.reverse();
         Ok(found)
     }
 
     /// The edges at a node on one side, the newest first.
-    fn edges_at(&self, alloc: Global, node: NodeIndex, side: Side) -> R<Vec<Edge<S>>>
-        ensures edges { IfOk result (λ v. v.items ≡ reverse
-            (filter (is_at side node) self.now.edges)) }
-        ensures refusal { IsOkUnless result Memory }
+    fn edges_at(&self, node: NodeIndex, side: Side) -> Edges<'_, S>
+        ensures { result ≡ reverse (filter (is_at side node) self.now.edges) }
     {
-        let mut found = Vec::new(alloc);
-        let mut next = self.newest_at(node, side);
-        while let Some(EdgeIndex(place)) = next {
-            let linked = &self.edges[place];
-            found.push(linked.edge)?;
-            next = linked.older.on(side);
+        Edges {
+            graph: self,
+            node,
+            side,
+            next: self.newest_at(node, side),
         }
-        Ok(found)
+    }
+
+    /// An edge at a node on one side, and the one before it there.
+    fn edge_and_older(
+        &self,
+        node: NodeIndex,
+        side: Side,
+        place: EdgeIndex,
+    ) -> (Edge<S>, Option<EdgeIndex>)
+        requires at { IsOn (is_at side node) self.now.edges (Some place) (length self.now.edges) }
+        ensures edge { filter (is_at side node) (up_to (Some place) self.now.edges)
+            ≡ filter (is_at side node) (up_to result.1 self.now.edges) ++ result.0 ∷ [] }
+        ensures older { IsOn (is_at side node) self.now.edges result.1 (length self.now.edges) }
+    {
+        let linked = &self.edges[place.0];
+        (linked.edge, linked.older.on(side))
     }
 
     /// The newest edge at a node on one side.
@@ -376,6 +396,55 @@ impl<S: Copy + Exact + Hash> ConflictGraph<S> {
             edges: Vec::from_slice(alloc, self.edges.as_slice())?,
         })
     }
+}
+
+/// Iterates over the edges at a node on one side, the newest first. Its model is the list of those
+/// that are left.
+#[derive(Drop)]
+pub struct Edges<'a, S: Eq + Hash = SolvableId> {
+    graph: &'a ConflictGraph<S>,
+    node: NodeIndex,
+    side: Side,
+    next: Option<EdgeIndex>,
+}
+
+impl<'a, S: Eq + Hash> Model for Edges<'a, S> {
+    ghost use Rattle.std.specs.Prelude.{List, length, filter, reverse};
+    ghost use Rattle.resolvo_graph.specs.declared.graph.Edge.{Edge};
+    ghost use Rattle.resolvo_graph.specs.Links.{is_at, up_to, IsOn};
+
+    ghost Value = { List (Edge S) };
+
+    ghost view = { λ e. reverse (filter (is_at e.side e.node) (up_to e.next e.graph.now.edges)) };
+
+    ghost invariant = { λ e.
+        IsOn (is_at e.side e.node) e.graph.now.edges e.next (length e.graph.now.edges) };
+}
+
+impl<'a, S: Copy + Exact + Hash> Iterator for Edges<'a, S> {
+    type Item = Edge<S>;
+
+    ghost next_gives = { YieldsFirst (λ s. s) };
+
+    ghost remaining = { item_count (λ s. s) };
+
+    fn next(&mut self) -> Option<Edge<S>> {
+        let (edge, older) = self.graph.edge_and_older(self.node, self.side, self.next?);
+        self.next = older;
+        Some(edge)
+    }
+}
+
+/// The edges of an iterator as a list.
+fn listed<S: Copy + Exact + Hash>(alloc: Global, edges: Edges<'_, S>) -> R<Vec<Edge<S>>>
+    ensures edges { IfOk result (λ v. v.items ≡ edges.entry) }
+    ensures refusal { IsOkUnless result Memory }
+{
+    let mut found = Vec::new(alloc);
+    for edge in edges {
+        found.push(edge)?;
+    }
+    Ok(found)
 }
 
 /// Moves the ends of edges from the index `last` to the index `place`.

@@ -61,7 +61,7 @@ fn can_install<S: Copy + Exact + Hash>(
     if graph.is_unresolved(node) || graph.is_excluding(node) {
         return Ok(false);
     }
-    let edges = graph.edges(alloc, node)?;
+    let edges = graph.list_edges(alloc, node)?;
     if has_conflict(&edges) {
         return Ok(false);
     }
@@ -124,7 +124,7 @@ fn does_miss<S: Copy + Exact + Hash>(
     ensures answer { IfOk result (λ b. b ≡ misses_one graph.now marked.now.keys node) }
     ensures refusal { IsOkUnless result Memory }
 {
-    let edges = graph.edges(alloc, node)?;
+    let edges = graph.list_edges(alloc, node)?;
     if has_conflict(&edges) {
         return Ok(false);
     }

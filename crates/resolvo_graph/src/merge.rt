@@ -283,7 +283,7 @@ fn neighbours_before<S: Copy + Exact + Hash>(
     ensures order { IfOk result (λ v. IsInOrder (before graph.now node) v.items) }
     ensures refusal { IsOkUnless result Memory }
 {
-    let edges = graph.edges_to(alloc, node)?;
+    let edges = graph.list_edges_to(alloc, node)?;
     in_order(alloc, sources(alloc, &edges)?)
 }
 
@@ -296,7 +296,7 @@ fn neighbours_after<S: Copy + Exact + Hash>(
     ensures order { IfOk result (λ v. IsInOrder (after graph.now node) v.items) }
     ensures refusal { IsOkUnless result Memory }
 {
-    let edges = graph.edges(alloc, node)?;
+    let edges = graph.list_edges(alloc, node)?;
     in_order(alloc, targets(alloc, &edges)?)
 }
 

@@ -264,7 +264,7 @@ impl<S: Copy + Exact + Hash + Debug> Findings<'_, S> {
             version indenter) }
         ensures refusal { IsOkUnless result Memory }
     {
-        let edges = self.graph.edges(alloc, node)?;
+        let edges = self.graph.list_edges(alloc, node)?;
         self.place_needs(alloc, node, &edges, &indenter, above, &mut writer.stack)?;
         self.mark(version, &mut writer.covered)?;
         self.add_lines(alloc, version, &edges, indenter, &mut writer.lines)

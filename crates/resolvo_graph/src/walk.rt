@@ -105,7 +105,7 @@ fn enter_neighbours<S: Copy + Exact + Hash>(
         (stack.new.items ≡ stack.old.items ++ map (λ e. Enter e.target) (edges_of graph.now node)) }
     ensures refusal { IsOkUnless result Memory }
 {
-    let edges = graph.edges(alloc, node)?;
+    let edges = graph.list_edges(alloc, node)?;
     enter_targets(&edges, stack)
 }
 

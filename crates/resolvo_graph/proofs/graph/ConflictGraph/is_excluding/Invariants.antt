@@ -2,8 +2,7 @@ use Rattle.std.proofs.Common.{◌≡◌, ◌+◌, filter, length}
 use Rattle.std.specs.List.{list_any}
 use Rattle.std.specs.Option.{option_map_or}
 use Rattle.resolvo_graph.specs.Graph.{is_exclusion, enters}
-use Rattle.resolvo_graph.specs.Links.{edges_in, up_to}
-use Rattle.resolvo_graph.proofs.LinkLemmas.{IsOn}
+use Rattle.resolvo_graph.specs.Links.{edges_in, up_to, IsOn}
 use Rattle.resolvo_graph.proofs.graph.ConflictGraph.is_excluding.Given as goal
 
 -- an exclusion is among those from the next one on, if there is one
