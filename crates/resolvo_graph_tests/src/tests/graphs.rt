@@ -21,12 +21,16 @@ fn copied_message(alloc: Global, links: &[Link]) -> R<String> {
     message_of_copy(alloc, &drawn(alloc, links)?)
 }
 
+/// The drawing's copy has this message.
+fn copy_has(rt: &impl Abort, alloc: Global, links: &[Link], message: &str) -> Result<(), Fail> {
+    let copied = copied_message(alloc, links)?;
+    assert_eq!(rt; copied.as_str(), message);
+    Ok(())
+}
+
 /// The drawing and its copy have one message.
 fn copies_are_equal(rt: &impl Abort, alloc: Global, links: &[Link]) -> Result<(), Fail> {
-    let first = message_of(alloc, links)?;
-    let second = copied_message(alloc, links)?;
-    assert_eq!(rt; first.as_str(), second.as_str());
-    Ok(())
+    copy_has(rt, alloc, links, message_of(alloc, links)?.as_str())
 }
 
 #[test]

@@ -243,9 +243,20 @@ pub fn drawn(alloc: Global, links: &[Link]) -> R<ConflictGraph> {
     Ok(graph)
 }
 
-fn message_by(alloc: Global, graph: &ConflictGraph, sample: &Sample) -> R<String> {
-    let shown = DisplayUnsat::new(alloc, graph, sample)?;
+/// A value as text.
+pub fn text_of<D: fmt::Display>(alloc: Global, shown: &D) -> R<String> {
     Ok(format!(in alloc; "{shown}")?)
+}
+
+fn message_by<I: Interner>(
+    alloc: Global,
+    graph: &ConflictGraph<I::SolvableId>,
+    interner: &I,
+) -> R<String> {
+    match DisplayUnsat::new(alloc, graph, interner) {
+        Ok(shown) => text_of(alloc, &shown),
+        Err(want) => Err(want),
+    }
 }
 
 fn make_sample(alloc: Global) -> Result<Sample, AllocError> {
