@@ -3,17 +3,17 @@ use Rattle.std.proofs.Common.{Ordering, ◌≡◌, ℕ, zero, suc, Bool, true, f
 use Rattle.std.specs.Prelude.{slice_get, slice_index_or, nat_lt, IfSome}
 use Rattle.std.specs.Option.{option_map_or}
 use Rattle.std.specs.Global.{Global, Vec}
-use Rattle.std.specs.String.{string_bytes, string_cmp}
+use Rattle.std.specs.String.{string_bytes}
 use Rattle.std.specs.declared.string.String.{String}
 use Rattle.std.specs.Map.{lookup, KeepsOthers, IsKeyTest, AreApart}
 use Rattle.std.specs.Str.{bytes_eq}
-use Rattle.std.specs.BTreeMap.{BTreeMap, Updates, UpdatesBy, get_by_text, is_at}
+use Rattle.std.specs.BTreeMap.{BTreeMap, UpdatesBy, is_at}
 use Rattle.std.specs.Cmp.{eq_by_cmp_equiv, first_so, second_so, tied_then, tied_itself, nat_cmp_total, unsigned_Decides, unsigned_ties}
 use Rattle.std.specs.Cmp.Lexicographic.{slice_cmp, bytes_decides, nat_list_cmp_total, nat_list_eq_equiv}
 use Rattle.std.specs.Ordering.{nat_cmp, is_eq, eq_by_cmp, ordering_then}
 use Rattle.std.proofs.lemmas.Bool.{cases_Bool, cond-true, cond-false}
 use Rattle.std.proofs.lemmas.Bool.Decides.{nat_tests}
-use Rattle.std.proofs.lemmas.Map.Text.{btree_map_updates_text, is_eq-slice_cmp}
+use Rattle.std.proofs.lemmas.Map.Text.{is_eq-slice_cmp}
 use Rattle.std.proofs.lemmas.Option.{none-some, same_Some, slice_get_within}
 use Rattle.std.proofs.lemmas.List.{length-append, length-map, map_push}
 use Rattle.resolvo_text.specs.declared.spec.Span.{Span}
@@ -30,7 +30,7 @@ use Rattle.resolvo_catalogue_core.proofs.Pushed.{get_new, get_kept, get_push}
 use Rattle.resolvo_catalogue.specs.declared.id_table.Numbers.{Numbers}
 use Rattle.resolvo_catalogue.specs.Ids.{NameId, Extends, AreOnce, IsPlaced}
 use Rattle.resolvo_catalogue.specs.Known.{sound}
-use Rattle.resolvo_catalogue.specs.Found.{AreFound, AreKept, Key, key_eq, number_in, list_number_in, span_key, set_key, union_key, condition_key}
+use Rattle.resolvo_catalogue.specs.Found.{AreFound, AreKept, Key, key_eq, number_in, list_number_in, bytes_hash, text_key, pair_key, text_number_in, span_key, set_key, union_key, condition_key}
 
 -- ---- any values
 
@@ -101,14 +101,6 @@ module _ {V : Type 0} (vs news : List V) (v : V) (more : news ≡ vs ++ v ∷ []
 
 -- ---- texts
 
--- the texts after a new one
-pub texts_more : (old new : BTreeMap (String Global) ℕ) (texts : List (String Global)) (kept key : String Global) (text : List ℕ) → AreFound (λ t. get_by_text old t) (map string_bytes texts) → ((i : ℕ) → slice_get (map string_bytes texts) i ≡ Some text → ⊥)
-    → string_bytes kept ≡ text → string_bytes key ≡ text → Updates string_cmp old new key (Some (length texts)) → AreFound (λ t. get_by_text new t) (map string_bytes (texts ++ kept ∷ []))
-texts_more old new texts kept key text h nowhere is_kept is_key set =
-    let count : length (map string_bytes texts) ≡ length texts = length-map texts string_bytes in
-    let put : (w : List ℕ) → get_by_text new w ≡ cond (bytes_eq text w) (Some (length (map string_bytes texts))) (get_by_text old w) = λ w. rw (count, ← is_key) (btree_map_updates_text (string_bytes key) old new (Some (length texts)) set w) in
-    rw (map_push string_bytes texts kept, is_kept) (found_more bytes_eq (λ x y e. (bytes_decides x y).0 e) (λ x. (bytes_decides x x).1 refl) (λ t. get_by_text old t) (λ t. get_by_text new t) (map string_bytes texts) text h (none_found (λ t. get_by_text old t) (map string_bytes texts) h text nowhere) put)
-
 module _ (texts news : List (String Global)) (kept : String Global) (text : List ℕ) (is_kept : string_bytes kept ≡ text) (more : news ≡ texts ++ kept ∷ []) where
   pub text_there : (index : ℕ) → index ≡ length texts → slice_get (map string_bytes news) index ≡ Some text
   text_there index is =
@@ -150,6 +142,23 @@ module _ {K : Type 0} (items : K → List ℕ) where
 pub list_number_put : (m n : BTreeMap (Vec ℕ) ℕ) (key : List ℕ) (w : Option ℕ) → UpdatesBy (λ x y. slice_cmp nat_cmp x.items y.items) (λ k. slice_cmp nat_cmp key k.items) m n w
     → (other : List ℕ) → list_number_in n.entries other ≡ cond (bytes_eq key other) w (list_number_in m.entries other)
 list_number_put m n key w h other = put_at (λ k. k.items) m n key w h other
+
+-- the number of any text, after a number is put at a text that has its hash beside it
+pub text_number_put : (m n : BTreeMap (ℕ × String Global) ℕ) (key : ℕ × String Global) (w : Option ℕ) → UpdatesBy (λ x y. slice_cmp nat_cmp (pair_key x) (pair_key y)) (λ k. slice_cmp nat_cmp (pair_key key) (pair_key k)) m n w
+    → pair_key key ≡ text_key (string_bytes key.1) → (other : List ℕ) → text_number_in n.entries other ≡ cond (bytes_eq (text_key (string_bytes key.1)) (text_key other)) w (text_number_in m.entries other)
+text_number_put m n key w h is other = subst (λ (k : List ℕ). text_number_in n.entries other ≡ cond (bytes_eq k (text_key other)) w (text_number_in m.entries other)) is (put_at pair_key m n (pair_key key) w h (text_key other))
+
+texts_exact : (x y : List ℕ) → text_key x ≡ text_key y → x ≡ y
+texts_exact x y e = cc
+
+-- the texts after a new one
+pub texts_more : (old new : BTreeMap (ℕ × String Global) ℕ) (texts : List (String Global)) (kept : String Global) (key : ℕ × String Global) (text : List ℕ) → AreFound (text_number_in old.entries) (map string_bytes texts) → text_number_in old.entries text ≡ None
+    → string_bytes kept ≡ text → string_bytes key.1 ≡ text → key.0 ≡ bytes_hash text → UpdatesBy (λ x y. slice_cmp nat_cmp (pair_key x) (pair_key y)) (λ k. slice_cmp nat_cmp (pair_key key) (pair_key k)) old new (Some (length texts)) → AreFound (text_number_in new.entries) (map string_bytes (texts ++ kept ∷ []))
+texts_more old new texts kept key text h none is_kept is_key is_hash set =
+    let count : length (map string_bytes texts) ≡ length texts = length-map texts string_bytes in
+    let pair : pair_key key ≡ text_key (string_bytes key.1) = ap (λ (n : ℕ). n ∷ string_bytes key.1) (is_hash ∙ ap bytes_hash (sym is_key)) in
+    let put : (w : List ℕ) → text_number_in new.entries w ≡ cond (bytes_eq (text_key text) (text_key w)) (Some (length (map string_bytes texts))) (text_number_in old.entries w) = λ w. rw (count, ← is_key) (text_number_put old new key (Some (length texts)) set pair w) in
+    rw (map_push string_bytes texts kept, is_kept) (found_more (λ x y. bytes_eq (text_key x) (text_key y)) (λ x y e. texts_exact x y ((bytes_decides (text_key x) (text_key y)).0 e)) (λ x. (bytes_decides (text_key x) (text_key x)).1 refl) (text_number_in old.entries) (text_number_in new.entries) (map string_bytes texts) text h none put)
 
 -- keys of four numbers are equal when they compare so
 same_number : (x y : ℕ) → is_eq (nat_cmp x y) ≡ true → x ≡ y

@@ -1,6 +1,9 @@
--- Values that are each found at their places, by keys that are four numbers or lists of numbers.
-use Rattle.std.specs.Prelude.{◌≡◌, ℕ, Bool, List, map, Option, Some, slice_get}
-use Rattle.std.specs.Global.{Vec}
+-- Values that are each found at their places, by keys that are four numbers, lists of numbers, or texts behind their hashes.
+use Rattle.std.specs.Prelude.{◌≡◌, ◌*◌, ◌/◌, ◌%◌, ◌^◌, ◌∷◌, ℕ, Bool, List, map, Option, Some, slice_get, bit_xor}
+use Rattle.std.specs.Global.{Global, Vec}
+use Rattle.std.specs.List.{fold}
+use Rattle.std.specs.String.{string_bytes}
+use Rattle.std.specs.declared.string.String.{String}
 use Rattle.std.specs.Map.{lookup}
 use Rattle.std.specs.declared.cmp.Ordering.{Ordering}
 use Rattle.std.specs.Ordering.{is_eq, nat_cmp, ordering_then}
@@ -37,6 +40,32 @@ number_in entries key = lookup (key_eq key) entries
 -- the same where the keys are vectors
 abbrev pub list_number_in : List (Vec ℕ × ℕ) → List ℕ → Option ℕ
 list_number_in entries key = lookup (λ k. is_eq (slice_cmp nat_cmp key k.items)) entries
+
+-- ---- texts, by a hash and by themselves
+
+-- the product that a hash is mixed by
+abbrev pub product : ℕ → ℕ → ℕ
+product hash number = (bit_xor hash number * 0x9E37_79B9_7F4A_7C15) % 2 ^ 64
+
+-- the hash of what a hash is of, and one number more
+abbrev pub mix : ℕ → ℕ → ℕ
+mix hash number = bit_xor (product hash number) (product hash number / 2 ^ 32)
+
+-- the hash of bytes
+unfoldable pub bytes_hash : List ℕ → ℕ
+bytes_hash bytes = fold mix 0 bytes
+
+-- the bytes of a text behind their hash
+abbrev pub text_key : List ℕ → List ℕ
+text_key text = bytes_hash text ∷ text
+
+-- the same of a key of the map
+abbrev pub pair_key : ℕ × String Global → List ℕ
+pair_key k = k.0 ∷ string_bytes k.1
+
+-- the number of a text among the entries of a map that is sorted so
+abbrev pub text_number_in : List ((ℕ × String Global) × ℕ) → List ℕ → Option ℕ
+text_number_in entries text = lookup (λ k. is_eq (slice_cmp nat_cmp (text_key text) (pair_key k))) entries
 
 -- ---- keys
 

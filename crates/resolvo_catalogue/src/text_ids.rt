@@ -1,10 +1,13 @@
 //! Texts, each numbered once, in the order in which they are added. The model is the list of them.
-//! A text is found through a sorted map, so no choice of texts makes that slow. Used by `id_table`.
+//! A text is found through a map that is sorted by hashes, and by texts where these are the same. So
+//! no choice of texts makes that slow. Used by `id_table`.
 
 ghost use Rattle.std.specs.Prelude.{◌≡◌, ◌≤◌, [], IfOk, IfSome, IsErrOf, ℕ, length, slice_get, Some, None};
 ghost use Rattle.resolvo_pool_core.specs.declared.want.Want.TheVariants.{Ids};
 ghost use Rattle.std.specs.Option.{option_map};
+ghost use Rattle.std.specs.String.{string_bytes};
 ghost use Rattle.resolvo_catalogue.specs.Ids.{Extends, IsPlaced, AreOnce};
+ghost use Rattle.resolvo_catalogue.specs.Found.{bytes_hash};
 
 use crate::guesses::{Guesses, hash_of};
 use resolvo_pool_core::id::next_index;
@@ -15,7 +18,8 @@ use std::marker::Model;
 
 pub struct TextIds {
     texts: Vec<String>,
-    ids: BTreeMap<String, u32>,
+    /// The number of each text, by its hash and itself: numbers are compared faster than texts.
+    ids: BTreeMap<(usize, String), u32>,
     guesses: Guesses,
 }
 
@@ -33,14 +37,13 @@ impl Drop for TextIds {
 impl Model for TextIds {
     ghost use Rattle.std.specs.Prelude.{List, ℕ, map};
     ghost use Rattle.std.specs.String.{string_bytes};
-    ghost use Rattle.std.specs.BTreeMap.{get_by_text};
-    ghost use Rattle.resolvo_catalogue.specs.Found.{AreFound};
+    ghost use Rattle.resolvo_catalogue.specs.Found.{AreFound, text_number_in};
 
     ghost Value = { List (List ℕ) };
 
     ghost view = { λ t. map string_bytes t.texts.items };
 
-    ghost invariant = { λ t. AreFound (λ text. get_by_text t.ids text) (map string_bytes t.texts.items) };
+    ghost invariant = { λ t. AreFound (text_number_in t.ids.entries) (map string_bytes t.texts.items) };
 }
 
 impl TextIds {
@@ -65,17 +68,23 @@ impl TextIds {
         }
     }
 
-    /// The number of a text, if it has one.
-    fn find(&self, text: &str) -> Option<u32>
-        ensures found { IfSome result (λ i. slice_get self.now i ≡ Some text.now) }
-        ensures absent { result ≡ None → (i : ℕ) → slice_get self.now i ≡ Some text.now → ⊥ }
+    /// The number of a key's text, if it has one.
+    fn find(&self, key: &(usize, String)) -> Option<u32>
+        requires { key.now.0 ≡ bytes_hash (string_bytes key.now.1) }
+        ensures found { IfSome result (λ i. slice_get self.now i ≡ Some (string_bytes key.now.1)) }
+        ensures absent { result ≡ None
+            → (i : ℕ)
+            → slice_get self.now i ≡ Some (string_bytes key.now.1)
+            → ⊥ }
     {
-        self.ids.get(text).copied()
+        self.ids.get(key).copied()
     }
 
-    /// Numbers a text that has no number.
-    fn add(&mut self, alloc: Global, text: &str) -> R<u32>
-        requires { (i : ℕ) → slice_get self.old i ≡ Some text.now → ⊥ }
+    /// Numbers a text that has no number, by its key.
+    fn add(&mut self, alloc: Global, key: (usize, String), text: &str) -> R<u32>
+        requires hash { key.0 ≡ bytes_hash text.now }
+        requires text { string_bytes key.1 ≡ text.now }
+        requires absent { (i : ℕ) → slice_get self.old i ≡ Some text.now → ⊥ }
         ensures text { IfOk result (λ i. slice_get self.new i ≡ Some text.now) }
         ensures place { IfOk result (λ i. IsPlaced self.old self.new i) }
         ensures extends { Extends self.old self.new }
@@ -83,7 +92,6 @@ impl TextIds {
     {
         let index = next_index(self.texts.len())?;
         let kept = String::from_str(alloc, text)?;
-        let key = String::from_str(alloc, text)?;
         self.texts.reserve(1)?;
         self.ids.insert(key, index as u32)?;
         self.texts.push_reserved(kept);
@@ -101,9 +109,10 @@ impl TextIds {
         if let Some(id) = self.guessed(hash, text) {
             return Ok(id);
         }
-        let id = match self.find(text) {
+        let key = (hash, String::from_str(alloc, text)?);
+        let id = match self.find(&key) {
             Some(id) => id,
-            None => self.add(alloc, text)?,
+            None => self.add(alloc, key, text)?,
         };
         self.guesses.note(alloc, hash, id)?;
         Ok(id)
