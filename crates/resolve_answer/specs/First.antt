@@ -1,11 +1,11 @@
 -- Which versions are chosen: for each need the first match; and of flat texts the newest versions that fit.
 use Rattle.std.specs.Prelude.{◌≡◌, ◌↔◌, ◌⊎◌, ℕ, ◌≤◌, IsTrue, Bool, true, false, not, ◌&&◌, ◌||◌, is_some, List, [], ◌∷◌, Option, Some, None, Contains}
-use Rattle.resolvo_text.specs.Line.{Version, Spec, Cond, Line, Listed, Needs, Favour}
+use Rattle.resolvo_text.specs.Line.{Version, Spec, Cond, Line, Listed, Needs, Favour, Many}
 use Rattle.resolvo_text.specs.Matches.{Set, matches, condition_holds}
 use Rattle.resolvo_catalogue_core.specs.Grammar.{line_at, owner_of}
 use Rattle.resolvo_catalogue_core.specs.Questions.{is_rule}
 use Rattle.resolvo_catalogue_core.specs.Rules.{binds}
-use Rattle.resolvo_catalogue_core.specs.Sets.{IsRuleKeeping}
+use Rattle.resolvo_catalogue_core.specs.Sets.{IsRuleKeeping, is_many}
 use Rattle.resolvo_pool_core.specs.declared.requirement.Requirement.{Requirement}
 use Rattle.resolvo_pool_core.specs.Provider.{IsTriedFor, tried_first}
 use Rattle.resolvo_pool_core.specs.Text.{alternatives_of}
@@ -58,8 +58,10 @@ pub record IsNeeded (catalogue request : List Line) (set : Set) (alternatives : 
 abbrev pub HoldsFirst : List Line → List Line → Set → Type 0
 HoldsFirst catalogue request set = (alternatives : List Spec) (v : Version) → IsNeeded catalogue request set alternatives → IsFirstMatchOf catalogue alternatives v → Contains set v
 
--- The first choices: the least such set. It keeps the rules, and none of its lines has alternatives.
+-- The first choices: the least such set, where no package is marked `many`. It keeps the rules, and none of its
+-- lines has alternatives.
 pub record IsFirstChoices (catalogue request : List Line) (first : Set) : Type 0 where
+  pub unmarked : (name : List ℕ) → is_many catalogue name ≡ false
   pub holds : HoldsFirst catalogue request first
   pub least : (set : Set) → HoldsFirst catalogue request set → (v : Version) → Contains first v → Contains set v
   pub keeping : IsRuleKeeping catalogue request first
@@ -76,9 +78,13 @@ abbrev pub favours_nothing : Line → Bool
 favours_nothing (Favour v) = false
 favours_nothing _ = true
 
--- The line is no rule and favours no version.
+abbrev pub marks_nothing : Line → Bool
+marks_nothing (Many name) = false
+marks_nothing _ = true
+
+-- The line is no rule, favours no version and marks no package.
 abbrev pub is_flat_listing : Line → Bool
-is_flat_listing line = not (is_rule line) && favours_nothing line
+is_flat_listing line = not (is_rule line) && (favours_nothing line && marks_nothing line)
 
 -- The line is no rule but a need of one SPEC under no condition, and wishes no version.
 abbrev pub is_flat_need : Line → Bool

@@ -1,11 +1,14 @@
 -- The state of the lister: the chosen versions by their packages, the lines in their order, and
 -- those left to look at.
-use Rattle.std.specs.Prelude.{◌≡◌, ℕ, zero, suc, ◌<◌, ◌≤◌, IsTrue, Bool, true, false, not, ⊤, ◌⊎◌, List, [], ◌∷◌, ◌++◌, length, map, reverse, drop, Option, Some, None, Contains, slice_get}
-use Rattle.std.specs.Option.{option_map_or}
-use Rattle.std.specs.BTreeMap.{get_by_text}
+use Rattle.std.specs.Prelude.{◌≡◌, ℕ, zero, suc, ◌<◌, ◌↔◌, ◌≤◌, IsTrue, Bool, true, false, not, ⊤, ◌⊎◌, List, [], ◌∷◌, ◌++◌, length, map, reverse, drop, Option, Some, None, Contains, slice_get}
+use Rattle.std.specs.Option.{option_map_or, option_and_then}
+use Rattle.std.specs.BTreeMap.{get, get_by_text}
+use Rattle.std.specs.Ordering.{nat_cmp}
+use Rattle.std.specs.BTreeMap.{BTreeMap}
 use Rattle.std.specs.List.{list_any, sum_by}
-use Rattle.resolvo_text.specs.Line.{Version, Spec, Cond, Line, Needs}
-use Rattle.resolvo_text.specs.Matches.{Set, is_member, matches, condition_holds}
+use Rattle.resolvo_text.specs.Line.{Version, Spec, Cond, Line, Needs, Favour}
+use Rattle.resolvo_text.specs.declared.spec.Span.{Span}
+use Rattle.resolvo_text.specs.Matches.{Set, is_member, is_in_span, matches, condition_holds}
 use Rattle.resolvo_catalogue_core.specs.Answers as answers
 use Rattle.resolvo_catalogue_core.specs.Answers.{entries_of, IsNeededBy}
 use Rattle.resolvo_catalogue_core.specs.Listed.{listed, AreDistinct}
@@ -13,7 +16,7 @@ use Rattle.resolvo_catalogue_core.specs.Questions.{IsRuleLine, is_rule}
 use Rattle.resolvo_catalogue_core.specs.Table.{nth}
 use Rattle.resolvo_catalogue_core.specs.declared.rule.VersionNo.{VersionNo}
 use Rattle.resolvo_catalogue_core.specs.declared.rule.Rule.{Rule}
-use Rattle.resolve_order.specs.Order.{line_named, IsAsked, Precedes, IsOfFirst, IsNext, IsComplete, AreInOrder, Turn, IsOneTurn}
+use Rattle.resolve_order.specs.Order.{line_named, IsAsked, Precedes, IsSorted, IsOfFirst, IsNext, IsComplete, AreInOrder, Turn, IsOneTurn}
 use Rattle.resolve_order.specs.View.{reason_of, answers_of, AreNumbered}
 use Rattle.resolve_order.specs.declared.chosen.Chosen.{Chosen}
 use Rattle.resolve_order.specs.declared.chosen.LineState.{LineState}
@@ -26,15 +29,24 @@ use Rattle.resolve_order.specs.declared.open_lines.OpenLines.{OpenLines}
 
 -- ---- chosen versions
 
--- at most one of a package
-abbrev pub AreOneEach : Set → Type 0
-AreOneEach set = (v w : Version) → Contains set v → Contains set w → v.name ≡ w.name → v ≡ w
+-- the versions of a package by their numbers
+abbrev pub number_at : Option (BTreeMap ℕ VersionNo) → ℕ → Option VersionNo
+number_at numbers n = option_and_then (λ m. get nat_cmp m n) numbers
 
--- It is the only version of the package in the set, or there is none.
-abbrev pub IsPick : List Version → Set → List ℕ → Option VersionNo → Type 0
-IsPick versions set name None = (v : Version) → Contains set v → v.name ≡ name → ⊥
-IsPick versions set name (Some n) = (v : Version) × (slice_get versions n.0 ≡ Some v) × (v.name ≡ name) × Contains set v
-    × ((w : Version) → Contains set w → w.name ≡ name → w ≡ v)
+-- These are the versions of the package in the set.
+abbrev pub AreNumbersOf : List Version → (Version → Type 0) → List ℕ → Option (BTreeMap ℕ VersionNo) → Type 0
+AreNumbersOf versions P name numbers = (number : ℕ) (k : VersionNo) → (number_at numbers number ≡ Some k)
+    ↔ ((v : Version) × (slice_get versions k.0 ≡ Some v) × (v.name ≡ name) × (v.number ≡ number) × P v)
+
+-- a chosen version that is no entry
+abbrev pub IsLeftOver : Set → Set → Version → Type 0
+IsLeftOver chosen entries v = Contains chosen v × (Contains entries v → ⊥)
+
+-- It is the favoured version of the package, the only one, or there is none.
+abbrev pub IsFavouredOf : List Line → List ℕ → Option VersionNo → Type 0
+IsFavouredOf catalogue name None = (v : Version) → Contains catalogue (Favour v) → v.name ≡ name → ⊥
+IsFavouredOf catalogue name (Some k) = (v : Version) × (slice_get (listed catalogue) k.0 ≡ Some v) × (v.name ≡ name) × Contains catalogue (Favour v)
+    × ((w : Version) → Contains catalogue (Favour w) → w.name ≡ name → w ≡ v)
 
 -- version n is in the catalogue, and is no entry
 abbrev pub is_unlisted : List Bool → ℕ → Bool
@@ -52,31 +64,41 @@ unlisted flags = sum_by weight flags
 abbrev pub IsIn : List Version → List VersionNo → Version → Type 0
 IsIn versions numbers v = (n : VersionNo) × Contains numbers n × (slice_get versions n.0 ≡ Some v)
 
--- These are the chosen versions, and these of them are entries. Chosen versions that are none are
--- among those left.
-pub record Holds (versions : List Version) (kept : Chosen) (chosen entries : Set) : Type 0 where
-  pub picks : (name : List ℕ) → IsPick versions chosen name (get_by_text kept.picks name)
-  pub flags : (n : ℕ) (v : Version) → slice_get versions n ≡ Some v → slice_get kept.listed.items n ≡ Some (is_member v entries)
-  pub distinct : AreDistinct versions
+-- These are the chosen versions, each of the catalogue, and these of them are entries. Chosen versions that are none
+-- are among those left.
+pub record Holds (catalogue : List Line) (kept : Chosen) (chosen entries : Set) : Type 0 where
+  pub unlisted : (name : List ℕ) → AreNumbersOf (listed catalogue) (IsLeftOver chosen entries) name (get_by_text kept.unlisted name)
+  pub entered : (name : List ℕ) → AreNumbersOf (listed catalogue) (Contains entries) name (get_by_text kept.entries name)
+  pub favoured : (name : List ℕ) → IsFavouredOf catalogue name (get_by_text kept.favoured name)
+  pub flags : (n : ℕ) (v : Version) → slice_get (listed catalogue) n ≡ Some v → slice_get kept.listed.items n ≡ Some (is_member v entries)
+  pub distinct : AreDistinct (listed catalogue)
   pub among : (v : Version) → Contains entries v → Contains chosen v
-  pub left : (v : Version) → Contains chosen v → Contains entries v ⊎ IsIn versions kept.left.items v
+  pub known : (v : Version) → Contains chosen v → (n : VersionNo) × (slice_get (listed catalogue) n.0 ≡ Some v)
+  pub left : (v : Version) → Contains chosen v → Contains entries v ⊎ IsIn (listed catalogue) kept.left.items v
 
--- the only match among the chosen versions, or there is none
-abbrev pub IsChosenMatch : List Version → Set → Spec → Option VersionNo → Type 0
-IsChosenMatch versions chosen s None = (w : Version) → Contains chosen w → IsTrue (matches s w) → ⊥
-IsChosenMatch versions chosen s (Some n) = (v : Version) × (slice_get versions n.0 ≡ Some v) × IsTrue (matches s v) × Contains chosen v
-    × ((w : Version) → Contains chosen w → IsTrue (matches s w) → w ≡ v)
+-- It has the highest number in the span, or none is in it.
+abbrev pub IsNewestIn : (ℕ → Option VersionNo) → Span → Option VersionNo → Type 0
+IsNewestIn numbers span None = (n : ℕ) (k : VersionNo) → numbers n ≡ Some k → IsTrue (is_in_span span n) → ⊥
+IsNewestIn numbers span (Some k) = (n : ℕ) × (numbers n ≡ Some k) × IsTrue (is_in_span span n)
+    × ((m : ℕ) (j : VersionNo) → numbers m ≡ Some j → IsTrue (is_in_span span m) → m ≤ n)
 
--- a match among the chosen versions that is no entry, or there is none
-abbrev pub IsUnlistedMatch : List Version → Set → Set → Spec → Option VersionNo → Type 0
-IsUnlistedMatch versions chosen entries s None = (w : Version) → Contains chosen w → IsTrue (matches s w) → Contains entries w
-IsUnlistedMatch versions chosen entries s (Some n) = (v : Version) × (slice_get versions n.0 ≡ Some v) × IsTrue (matches s v) × Contains chosen v × (Contains entries v → ⊥)
+-- It is favoured, a match, chosen and no entry; or no version is all of these.
+abbrev pub IsFavouredMatch : List Line → Set → Set → Spec → Option VersionNo → Type 0
+IsFavouredMatch catalogue chosen entries s None = (w : Version) → Contains catalogue (Favour w) → IsTrue (matches s w) → IsLeftOver chosen entries w → ⊥
+IsFavouredMatch catalogue chosen entries s (Some n) = (v : Version) × (slice_get (listed catalogue) n.0 ≡ Some v) × Contains catalogue (Favour v) × IsTrue (matches s v) × IsLeftOver chosen entries v
+
+-- Of the matches among the chosen versions that are no entries it is the first, or there is none.
+abbrev pub IsUnlistedMatch : List Line → Set → Set → Spec → Option VersionNo → Type 0
+IsUnlistedMatch catalogue chosen entries s None = (w : Version) → Contains chosen w → IsTrue (matches s w) → Contains entries w
+IsUnlistedMatch catalogue chosen entries s (Some n) = (v : Version) × (slice_get (listed catalogue) n.0 ≡ Some v) × IsTrue (matches s v) × IsLeftOver chosen entries v
+    × ((w : Version) → IsTrue (matches s w) → IsLeftOver chosen entries w → (w ≡ v) ⊎ IsSorted catalogue v w)
 
 -- such a match of the first alternative that has one
-abbrev pub IsFirstMatch : List Version → Set → Set → List Spec → Option VersionNo → Type 0
-IsFirstMatch versions chosen entries alternatives None = (t : Spec) (w : Version) → Contains alternatives t → IsTrue (matches t w) → Contains chosen w → Contains entries w
-IsFirstMatch versions chosen entries alternatives (Some n) = (v : Version) × (slice_get versions n.0 ≡ Some v) × Contains chosen v × (Contains entries v → ⊥)
+abbrev pub IsFirstMatch : List Line → Set → Set → List Spec → Option VersionNo → Type 0
+IsFirstMatch catalogue chosen entries alternatives None = (t : Spec) (w : Version) → Contains alternatives t → IsTrue (matches t w) → Contains chosen w → Contains entries w
+IsFirstMatch catalogue chosen entries alternatives (Some n) = (v : Version) × (slice_get (listed catalogue) n.0 ≡ Some v) × IsLeftOver chosen entries v
     × ((above : List Spec) × (s : Spec) × (below : List Spec) × (alternatives ≡ above ++ s ∷ below) × IsTrue (matches s v)
+    × ((w : Version) → IsTrue (matches s w) → IsLeftOver chosen entries w → (w ≡ v) ⊎ IsSorted catalogue v w)
     × ((t : Spec) (w : Version) → Contains above t → IsTrue (matches t w) → Contains chosen w → Contains entries w))
 
 -- ---- one line
@@ -95,11 +117,11 @@ IsSpent chosen entries line = (alternatives : List Spec) (condition : Option Con
 abbrev pub IsWaiting : Set → Option Line → Type 0
 IsWaiting entries line = (alternatives : List Spec) (condition : Option Cond) → line ≡ Some (Needs alternatives condition) → condition_holds condition entries ≡ false
 
-abbrev pub IsLineState : List Version → Set → Set → Option Line → LineState → Type 0
-IsLineState versions chosen entries line state.Spent = IsSpent chosen entries line
-IsLineState versions chosen entries line state.Waiting = IsWaiting entries line
-IsLineState versions chosen entries line (state.Gives n) = (v : Version) × (slice_get versions n.0 ≡ Some v) × Contains chosen v × (Contains entries v → ⊥)
-    × IsNeededBy entries line v × IsOfFirst chosen entries line v
+abbrev pub IsLineState : List Line → Set → Set → Option Line → LineState → Type 0
+IsLineState catalogue chosen entries line state.Spent = IsSpent chosen entries line
+IsLineState catalogue chosen entries line state.Waiting = IsWaiting entries line
+IsLineState catalogue chosen entries line (state.Gives n) = (v : Version) × (slice_get (listed catalogue) n.0 ≡ Some v) × Contains chosen v × (Contains entries v → ⊥)
+    × IsNeededBy entries line v × IsOfFirst catalogue chosen entries line v
 
 abbrev pub IfGives : LineState → (VersionNo → Type 0) → Type 0
 IfGives state.Spent P = ⊤
@@ -127,7 +149,7 @@ abbrev pub entries_in : List Line → InstallOrder → Set
 entries_in catalogue x = entries_of (answers_in catalogue x)
 
 pub record IsListing (catalogue request : List Line) (x : InstallOrder) (chosen : Set) : Type 0 where
-  pub holds : Holds (listed catalogue) x.chosen chosen (entries_in catalogue x)
+  pub holds : Holds catalogue x.chosen chosen (entries_in catalogue x)
   pub lines : AreLines catalogue request (entries_in catalogue x) x.lines.items
   pub numbered : AreNumbered (listed catalogue) x.answers.items
 

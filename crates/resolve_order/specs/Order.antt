@@ -1,7 +1,7 @@
 -- The order in which chosen versions are listed, each with the line that asked for it.
 use Rattle.std.specs.Prelude.{◌≡◌, ℕ, ◌<◌, ◌⊎◌, IsTrue, ⊤, List, [], ◌∷◌, ◌++◌, Option, Some, None, Contains, if◌then◌else◌}
 use Rattle.std.specs.List.{flat_map}
-use Rattle.resolvo_text.specs.Line.{Version, Spec, Cond, Line, Needs}
+use Rattle.resolvo_text.specs.Line.{Version, Spec, Cond, Line, Needs, Favour}
 use Rattle.resolvo_text.specs.Matches.{Set, matches, is_member}
 use Rattle.resolvo_catalogue_core.specs.Grammar.{line_at, owner_of}
 use Rattle.resolvo_catalogue_core.specs.Answers.{Reason, ForRequest, ForVersion, Wished, Answer, Entry, LeftOut, entries_of, IsNeededBy}
@@ -45,17 +45,24 @@ Precedes entries other (Wished n) = ⊥
 
 -- ---- one entry
 
--- The version matches an alternative of the line, and no alternative before it has an unlisted match among the chosen.
-abbrev pub IsOfFirst : Set → Set → Option Line → Version → Type 0
-IsOfFirst chosen entries line v = (above : List Spec) × (s : Spec) × (below : List Spec) × (condition : Option Cond)
+-- Of two versions of a package the first is before the second: it is favoured, or it is newer and the other isn't.
+abbrev pub IsSorted : List Line → Version → Version → Type 0
+IsSorted catalogue v w = Contains catalogue (Favour v) ⊎ ((Contains catalogue (Favour w) → ⊥) × (w.number < v.number))
+
+-- The version matches an alternative of the line, and is the first of its unlisted matches among the chosen. No
+-- alternative before it has one.
+abbrev pub IsOfFirst : List Line → Set → Set → Option Line → Version → Type 0
+IsOfFirst catalogue chosen entries line v = (above : List Spec) × (s : Spec) × (below : List Spec) × (condition : Option Cond)
     × (line ≡ Some (Needs (above ++ s ∷ below) condition)) × IsTrue (matches s v)
+    × ((w : Version) → IsTrue (matches s w) → Contains chosen w → (Contains entries w → ⊥) → (w ≡ v) ⊎ IsSorted catalogue v w)
     × ((t : Spec) (w : Version) → Contains above t → IsTrue (matches t w) → Contains chosen w → Contains entries w)
 
--- The next entry: the line is the first that may give a version, and gives the match of the first alternative that has one.
+-- The next entry: the line is the first that may give a version, and gives the first match of the first alternative
+-- that has one.
 pub record IsNext (catalogue request : List Line) (chosen entries : Set) (reason : Reason) (v : Version) : Type 0 where
   pub gives : MayGive catalogue request chosen entries reason v
   pub first_line : (other : Reason) (w : Version) → MayGive catalogue request chosen entries other w → (reason ≡ other) ⊎ Precedes entries reason other
-  pub first_alternative : IsOfFirst chosen entries (line_named catalogue request reason) v
+  pub first_alternative : IsOfFirst catalogue chosen entries (line_named catalogue request reason) v
 
 -- Each is the next after those before it.
 abbrev pub AreInOrder : List Line → List Line → Set → Set → List Answer → Type 0

@@ -64,7 +64,7 @@ number_of (answer.LeftOut version line step) = version.0
 abbrev pub AreNumbered : List Version → List Answer → Type 0
 AreNumbered versions list = (i : ℕ) (a : Answer) → slice_get list i ≡ Some a → number_of a < length versions
 
--- At most one version of a package is chosen, and the wishes are those of the request.
+-- At most one version of a package that isn't marked `many` is chosen, and the wishes are those of the request.
 pub record AreTurnsOf (catalogue request : List Line) (turns : List Turn) : Type 0 where
   pub single : IsSingle catalogue (order.chosen_in (turns_of (listed catalogue) turns))
   pub wishes : AreWishesOf (listed catalogue) request [] turns

@@ -1,6 +1,6 @@
 -- The line of a need or a limit of a place, and the line that forbids a version.
 use Rattle.std.specs.Prelude.{◌≡◌, ◌⊎◌, ◌<◌, ◌≤◌, ◌+◌, ℕ, Bool, true, false, List, length, slice_index_or, slice_get, Option, None, Some, Contains}
-use Rattle.resolvo_text.specs.Line.{Version, Spec, Cond, Line, Skipped, Listed, Needs, Limits, Unknown, Lock, Favour, Exclude, Wish}
+use Rattle.resolvo_text.specs.Line.{Version, Spec, Cond, Line, Skipped, Listed, Needs, Limits, Unknown, Lock, Favour, Exclude, Many, Wish}
 use Rattle.resolvo_text.specs.Cases.{condition_cases}
 use Rattle.resolvo_catalogue_core.specs.Grammar.{line_at, owner_of}
 use Rattle.resolvo_catalogue_core.specs.Listed.{listed}
@@ -89,6 +89,7 @@ locks (Needs alternatives condition) = false
 locks (Limits s) = false
 locks (Unknown reason) = false
 locks (Favour v) = false
+locks (Many name) = false
 locks (Exclude v reason) = false
 locks (Wish v) = false
 

@@ -2,7 +2,7 @@
 use Rattle.std.specs.Prelude.{◌≡◌, ℕ, suc, ◌<◌, Bool, true, List, length, Option, Some, None, slice_get, Contains}
 use Rattle.resolvo_text.specs.Line.{Line}
 use Rattle.resolvo_catalogue_core.specs.Questions.{AreAll}
-use Rattle.resolvo_report.specs.Value.{Place, OfRequest, OfVersion, Step, Need, Gate, Shared, LimitBars, Limit, Outside, Lock, Exclude, Unknown, Digit, Any, Derive}
+use Rattle.resolvo_report.specs.Value.{Place, OfRequest, OfVersion, Step, Need, Gate, Shared, LimitBars, Limit, Outside, Matches, Lock, Exclude, Unknown, Digit, Any, Derive}
 use Rattle.resolve_refusal.specs.declared.named.Text.{Text}
 use Rattle.resolve_refusal.specs.declared.named.Text.TheVariants as text
 
@@ -26,6 +26,7 @@ line_in of (Shared alternatives) = None
 line_in of (LimitBars place line v) = line_of of place line
 line_in of (Limit place line) = line_of of place line
 line_in of (Outside s v) = None
+line_in of (Matches s v) = None
 line_in of (Lock line v) = in_catalogue of line
 line_in of (Exclude line) = in_catalogue of line
 line_in of (Unknown line) = in_catalogue of line

@@ -1,11 +1,12 @@
 -- The refusal of a proof over the provider of a catalogue.
-use Rattle.std.specs.Prelude.{◌≡◌, ◌↔◌, ◌⊎◌, ℕ, suc, Bool, ◌<◌, ⊤, IsTrue, List, map, None, Some, Contains, slice_get}
+use Rattle.std.specs.Prelude.{◌≡◌, ◌↔◌, ◌⊎◌, ℕ, suc, Bool, true, false, ◌<◌, ⊤, IsTrue, List, map, None, Some, Contains, slice_get}
 use Rattle.std.proofs.Common.{Vec, Global}
 use Rattle.resolvo_text.specs.Line.{Version, Spec, Line, Needs, Limits}
 use Rattle.resolvo_text.specs.Spelling.{is_name}
 use Rattle.resolvo_text.specs.Spelling as form
 use Rattle.resolvo_catalogue_core.specs.Listed.{listed}
 use Rattle.resolvo_catalogue_core.specs.Questions.{ReadRequest, LineIs, LocksAnother, Excludes, MarksUnknownOf}
+use Rattle.resolvo_catalogue_core.specs.Sets.{is_many}
 use Rattle.resolvo_pool_core.specs.declared.id.VersionSetId.{VersionSetId}
 use Rattle.resolvo_pool_core.specs.declared.requirement.Requirement.{Requirement}
 use Rattle.resolvo_sat.specs.RuleClauses.{Atom, IsExact}
@@ -14,7 +15,7 @@ use Rattle.resolvo_state.specs.declared.atom.ProofAtom.TheVariants as atom
 use Rattle.resolvo_proof.specs.declared.step.ProofLiteral.{ProofLiteral}
 use Rattle.resolvo_proof.specs.declared.step.ProofStep.{ProofStep}
 use Rattle.resolvo_proof.specs.declared.step.ProofStep.TheVariants.{Rule, Derived}
-use Rattle.resolvo_proof.specs.declared.step.ProofRule.TheVariants.{Needs as NeedsRule, GateOf, Shared, Limit, Outside, Locked, Excluded, Digit, AtLeastOne}
+use Rattle.resolvo_proof.specs.declared.step.ProofRule.TheVariants.{Needs as NeedsRule, GateOf, Shared, Limit, Outside, Locked, Excluded, Digit, AtLeastOne, Matches as MatchesRule}
 use Rattle.resolvo_proof.specs.Proof.{IsProof, EndsEmpty}
 use Rattle.resolvo_proof.specs.Steps.{literal_in}
 use Rattle.resolvo_proof.specs.Members.{HaveOneSign}
@@ -61,7 +62,8 @@ module _ (catalogue : List Line) (ids : Ids) where
   IsKnownAtom (atom.AtLeastOne n) = IsSpelledName n
   IsKnownAtom (atom.Gate r) = IsSpelledRequirement r
   IsKnownAtom (atom.Outside v) = IsSpelledSet v
-  IsKnownAtom (atom.Bit n bit) = IsSpelledName n × (bit < 32)
+  IsKnownAtom (atom.Matches v) = IsSpelledSet v × (is_many catalogue (spec_at ids v).name ≡ true)
+  IsKnownAtom (atom.Bit n bit) = IsSpelledName n × (bit < 32) × (is_many catalogue (name_text ids n) ≡ false)
 
   -- The step's SPEC can be spelled, and so can the atoms of its literals. The rules give the names
   -- of other steps.
@@ -75,6 +77,7 @@ module _ (catalogue : List Line) (ids : Ids) where
   IsKnownStep (Rule (Excluded s reason)) = ⊤
   IsKnownStep (Rule (Digit s place bit)) = ⊤
   IsKnownStep (Rule (AtLeastOne n s)) = ⊤
+  IsKnownStep (Rule (MatchesRule v s)) = IsSpelledSet v
   IsKnownStep (Derived literals causes) = (l : ProofLiteral NameId SolvableId) → Contains literals.items l → IsKnownAtom l.atom
 
 -- ---- how steps are written
@@ -127,6 +130,7 @@ module _ (catalogue : List Line) where
   NamesFirstLine request (in_report.LimitBars place line v) = (s : Spec) × IsFirst request place (Limits s) line
   NamesFirstLine request (in_report.Limit place line) = (s : Spec) × IsFirst request place (Limits s) line
   NamesFirstLine request (in_report.Outside s v) = ⊤
+  NamesFirstLine request (in_report.Matches s v) = ⊤
   NamesFirstLine request (in_report.Lock line v) = LineIs catalogue line (LocksAnother v)
   NamesFirstLine request (in_report.Exclude line) = (v : Version) × (word : List ℕ) × IsForbiddenAs catalogue v word (in_report.Exclude line)
   NamesFirstLine request (in_report.Unknown line) = (v : Version) × (word : List ℕ) × IsForbiddenAs catalogue v word (in_report.Unknown line)
@@ -141,6 +145,7 @@ module _ (catalogue : List Line) (ids : Ids) where
   atom_at (atom.AtLeastOne n) = in_report.AnyOf (name_text ids n)
   atom_at (atom.Gate r) = in_report.SharedBy (alternatives_at ids r)
   atom_at (atom.Outside v) = in_report.OutsideOf (spec_at ids v)
+  atom_at (atom.Matches v) = in_report.MatchesOf (spec_at ids v)
   atom_at (atom.Bit n bit) = in_report.BitOf bit (name_text ids n)
 
   abbrev pub literal_at : ProofLiteral NameId SolvableId → Literal
@@ -168,6 +173,7 @@ module _ (catalogue : List Line) (ids : Ids) where
   IsWrittenAs request (Rule (Excluded s reason)) step = IsForbiddenAs catalogue (version_at catalogue s) (word_text ids reason) step
   IsWrittenAs request (Rule (Digit s place bit)) step = step ≡ in_report.Digit (version_at catalogue s) place bit
   IsWrittenAs request (Rule (AtLeastOne n s)) step = step ≡ in_report.Any (version_at catalogue s)
+  IsWrittenAs request (Rule (MatchesRule v s)) step = step ≡ in_report.Matches (spec_at ids v) (version_at catalogue s)
   IsWrittenAs request (Derived literals causes) step = (written : List Literal) × (step ≡ in_report.Derive written (map suc causes.items)) × AreLiterals literals.items written
 
 -- ---- reports

@@ -6,7 +6,7 @@ use Rattle.resolvo_catalogue.specs.Ids.{Ids, NameId, SolvableId}
 use Rattle.resolvo_catalogue.specs.Known.{spec_at, alternatives_at}
 use Rattle.resolvo_proof.specs.declared.step.ProofStep.{ProofStep}
 use Rattle.resolvo_proof.specs.declared.step.ProofStep.TheVariants.{Rule, Derived}
-use Rattle.resolvo_proof.specs.declared.step.ProofRule.TheVariants.{Needs, GateOf, Shared, Limit, Outside, Locked, Excluded, Digit, AtLeastOne}
+use Rattle.resolvo_proof.specs.declared.step.ProofRule.TheVariants.{Needs, GateOf, Shared, Limit, Outside, Locked, Excluded, Digit, AtLeastOne, Matches}
 use Rattle.resolvo_report.specs.Value.{Place, OfRequest, OfVersion, Literal, Step}
 use Rattle.resolvo_report.specs.Value as in_report
 
@@ -39,4 +39,5 @@ IsWritten catalogue ids (Rule (Locked locked s)) step = (line : ℕ) × (step �
 IsWritten catalogue ids (Rule (Excluded s reason)) step = HasWord step
 IsWritten catalogue ids (Rule (Digit s place bit)) step = step ≡ in_report.Digit (version_at catalogue s) place bit
 IsWritten catalogue ids (Rule (AtLeastOne n s)) step = step ≡ in_report.Any (version_at catalogue s)
+IsWritten catalogue ids (Rule (Matches v s)) step = step ≡ in_report.Matches (spec_at ids v) (version_at catalogue s)
 IsWritten catalogue ids (Derived literals causes) step = (written : List Literal) × (step ≡ in_report.Derive written (map number_of causes.items))

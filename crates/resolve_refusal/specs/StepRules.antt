@@ -12,7 +12,7 @@ use Rattle.resolvo_pool_core.specs.declared.id.VersionSetId.{VersionSetId}
 use Rattle.resolvo_pool_core.specs.declared.requirement.Requirement.{Requirement}
 use Rattle.resolvo_proof.specs.declared.step.ProofStep.{ProofStep}
 use Rattle.resolvo_proof.specs.declared.step.ProofStep.TheVariants.{Rule, Derived}
-use Rattle.resolvo_proof.specs.declared.step.ProofRule.TheVariants.{Needs, GateOf, Shared, Limit, Outside, Locked, Excluded, Digit, AtLeastOne}
+use Rattle.resolvo_proof.specs.declared.step.ProofRule.TheVariants.{Needs, GateOf, Shared, Limit, Outside, Locked, Excluded, Digit, AtLeastOne, Matches}
 use Rattle.resolvo_catalogue.specs.Ids.{Ids, NameId, SolvableId}
 use Rattle.resolvo_catalogue.specs.Known.{spec_at, alternatives_at, word_text}
 use Rattle.resolvo_report.specs.Value.{Literal, Step}
@@ -70,4 +70,5 @@ NamesRule catalogue request ids (Rule (Locked locked s)) step = NamesLock catalo
 NamesRule catalogue request ids (Rule (Excluded s reason)) step = NamesWord catalogue ids s reason step
 NamesRule catalogue request ids (Rule (Digit s place bit)) step = IsNumber place
 NamesRule catalogue request ids (Rule (AtLeastOne n s)) step = ⊤
+NamesRule catalogue request ids (Rule (Matches v s)) step = ⊤
 NamesRule catalogue request ids (Derived literals causes) step = (written : List Literal) × (step ≡ in_report.Derive written (map number_of causes.items)) × (HaveForm catalogue ids literals.items → AreLiterals catalogue ids literals.items written) × IsTrue (are_rising (map literal_text written))

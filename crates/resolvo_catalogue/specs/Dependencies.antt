@@ -1,7 +1,7 @@
 -- The dependencies of lines, as ids.
 use Rattle.std.specs.Prelude.{◌≡◌, ℕ, List, [], ◌∷◌, Option, Some, None, Contains, option_to_list}
 use Rattle.std.specs.List.{flat_map}
-use Rattle.resolvo_text.specs.Line.{Spec, Cond, Line, Skipped, Listed, Needs, Limits, Unknown, Lock, Favour, Exclude, Wish}
+use Rattle.resolvo_text.specs.Line.{Spec, Cond, Line, Skipped, Listed, Needs, Limits, Unknown, Lock, Favour, Exclude, Many, Wish}
 use Rattle.resolvo_catalogue_core.specs.Grammar.{line_at}
 use Rattle.resolvo_pool_core.specs.declared.id.StringId.{StringId}
 use Rattle.resolvo_pool_core.specs.declared.id.VersionSetId.{VersionSetId}
@@ -28,6 +28,7 @@ need_in (Limits s) = []
 need_in (Unknown reason) = []
 need_in (Lock v) = []
 need_in (Favour v) = []
+need_in (Many name) = []
 need_in (Exclude v reason) = []
 need_in (Wish v) = []
 
@@ -39,6 +40,7 @@ limit_in (Needs alternatives condition) = []
 limit_in (Unknown reason) = []
 limit_in (Lock v) = []
 limit_in (Favour v) = []
+limit_in (Many name) = []
 limit_in (Exclude v reason) = []
 limit_in (Wish v) = []
 
@@ -50,6 +52,7 @@ reason_in (Needs alternatives condition) = []
 reason_in (Limits s) = []
 reason_in (Lock v) = []
 reason_in (Favour v) = []
+reason_in (Many name) = []
 reason_in (Exclude v reason) = []
 reason_in (Wish v) = []
 

@@ -1,7 +1,9 @@
 -- The marks of a version in lines: locked, favoured, excluded.
-use Rattle.std.specs.Prelude.{◌≡◌, ℕ, List, Option, Some, None, Contains, slice_get, length}
+use Rattle.std.specs.Prelude.{◌≡◌, ℕ, Bool, List, Option, Some, None, Contains, map, slice_get, length}
 use Rattle.std.specs.Bool.{Decides}
 use Rattle.resolvo_text.specs.Line.{Version, Line, Lock, Favour, Exclude}
+use Rattle.resolvo_catalogue_core.specs.Listed.{listed}
+use Rattle.resolvo_catalogue_core.specs.Sets.{is_many}
 use Rattle.resolvo_pool_core.specs.declared.id.StringId.{StringId}
 use Rattle.resolvo_catalogue.specs.Ids.{Ids, IsWord}
 use Rattle.resolvo_catalogue.specs.declared.candidate_flags.CandidateFlags.{CandidateFlags}
@@ -16,6 +18,10 @@ pub record IsMarked (ids : Ids) (lines favours : List Line) (v : Version) (m : C
   pub locked : Decides m.locked (Contains lines (Lock v))
   pub favored : Decides m.favored (Contains favours (Favour v))
   pub excluded : IsExclusion ids lines v m.excluded
+
+-- Of each listed version, whether its package is marked `many`.
+abbrev pub AreMany : List Line → List Bool → Type 0
+AreMany lines flags = flags ≡ map (λ v. is_many lines v.name) (listed lines)
 
 pub record AreMarked (ids : Ids) (lines favours : List Line) (versions : List Version) (marks : List CandidateFlags) : Type 0 where
   pub as_many : length marks ≡ length versions

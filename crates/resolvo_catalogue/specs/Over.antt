@@ -7,7 +7,7 @@ use Rattle.resolvo_catalogue_core.specs.Listed.{listed, AreDistinct}
 use Rattle.resolvo_catalogue_core.specs.Questions.{ReadRequest, AreAll, IsVersionLine, BelongsTo}
 use Rattle.resolvo_catalogue.specs.Ids.{Ids, Interns, AreSound, AreVersions, AreEach, IsNeed, IsSpec, solvable_id}
 use Rattle.resolvo_catalogue.specs.Dependencies.{VersionDependencies, AreDependenciesOf, lines_at, need_in, limit_in}
-use Rattle.resolvo_catalogue.specs.Marked.{AreMarked}
+use Rattle.resolvo_catalogue.specs.Marked.{AreMarked, AreMany}
 use Rattle.resolvo_catalogue.specs.Provider.{Provider}
 use Rattle.resolvo_catalogue.specs.declared.provider.RequestIds.{RequestIds}
 
@@ -26,6 +26,7 @@ pub record IsOver (lines : List Line) (p : Provider) : Type 0 where
   -- its requirements, constraints and marks are those of its lines
   pub deps : AreDependencies p.ids lines p.deps
   pub marks : AreMarked p.ids lines lines (listed lines) p.marks
+  pub many : AreMany lines p.many
   -- no value has two ids
   pub once : AreSound p.ids
   pub distinct : AreDistinct (listed lines)
@@ -42,5 +43,6 @@ pub record ChangesIds (old new : Provider) : Type 0 where
   pub interns : Interns old.ids new.ids
   pub deps : new.deps ≡ old.deps
   pub marks : new.marks ≡ old.marks
+  pub many : new.many ≡ old.many
   pub hint : new.hint ≡ old.hint
   pub budget : new.has_budget ≡ old.has_budget

@@ -14,11 +14,14 @@ use Rattle.resolvo_catalogue.specs.declared.candidate_flags.CandidateFlags.{Cand
 use Rattle.resolvo_catalogue.specs.declared.provider.Hint as hints
 use Rattle.resolvo_catalogue.specs.declared.provider.Hint.TheVariants as hint
 
--- The model of a provider: the interned values, the dependencies and marks of each version, and whether it may cancel.
+-- The model of a provider: the interned values, the dependencies and marks of each version and of its package, and
+-- whether it may cancel.
 pub record Provider : Type 0 where
   pub ids : Ids
   pub deps : List VersionDependencies
   pub marks : List CandidateFlags
+  -- of each version, whether its package is marked `many`
+  pub many : List Bool
   pub hint : hints.Hint
   pub has_budget : Bool
 
@@ -36,6 +39,14 @@ no_marks = record { locked = false; favored = false; excluded = None }
 abbrev pub marks_at : Provider → SolvableId → CandidateFlags
 marks_at p s = slice_index_or p.marks s.raw no_marks
 
+abbrev pub many_at : Provider → SolvableId → Bool
+many_at p s = slice_index_or p.many s.raw false
+
+-- whether the package of these candidates is marked: all of them are, or none
+abbrev pub are_many : Provider → List SolvableId → Bool
+are_many p [] = false
+are_many p (s ∷ candidates) = many_at p s
+
 abbrev pub hint_of : {S : Type 0} → hints.Hint → Hint S
 hint_of hint.None = none
 hint_of hint.All = all
@@ -51,6 +62,7 @@ listing_of p candidates = record {
   locked = find (λ s. (marks_at p s).locked) candidates;
   hint = hint_of p.hint;
   excluded = flat_map (exclusion_of p) candidates;
+  many = are_many p candidates;
 }
 
 -- There are no candidates of a package without a version.

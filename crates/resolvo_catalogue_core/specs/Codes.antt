@@ -7,7 +7,7 @@ use Rattle.resolvo_catalogue_core.specs.declared.rule.VersionNo.{VersionNo}
 use Rattle.resolvo_catalogue_core.specs.Questions.{ReadRequest}
 use Rattle.resolvo_text.specs.declared.spec.Span.{Span}
 use Rattle.resolvo_text.specs.declared.spec.Span.TheVariants.{Any, One, Range}
-use Rattle.resolvo_text.specs.Line.{Version, Spec, Cond, Is, And, Or, Line, Skipped, Listed, Needs, Limits, Unknown, Lock, Favour, Exclude, Wish}
+use Rattle.resolvo_text.specs.Line.{Version, Spec, Cond, Is, And, Or, Line, Skipped, Listed, Needs, Limits, Unknown, Lock, Favour, Exclude, Many, Wish}
 
 -- ---- versions, spans, SPECs
 
@@ -95,7 +95,8 @@ parts_of (Unknown reason) = inl (2, (none_such, reason))
 parts_of (Lock v) = inl (3, (v, []))
 parts_of (Favour v) = inl (4, (v, []))
 parts_of (Exclude v reason) = inl (5, (v, reason))
-parts_of (Wish v) = inl (6, (v, []))
+parts_of (Many name) = inl (6, (none_such, name))
+parts_of (Wish v) = inl (7, (v, []))
 parts_of (Limits s) = inr (inl s)
 parts_of (Needs alternatives condition) = inr (inr (alternatives, condition))
 
@@ -106,7 +107,8 @@ line_by (suc (suc zero)) p = Unknown p.1
 line_by (suc (suc (suc zero))) p = Lock p.0
 line_by (suc (suc (suc (suc zero)))) p = Favour p.0
 line_by (suc (suc (suc (suc (suc zero))))) p = Exclude p.0 p.1
-line_by (suc (suc (suc (suc (suc (suc k)))))) p = Wish p.0
+line_by (suc (suc (suc (suc (suc (suc zero)))))) p = Many p.1
+line_by (suc (suc (suc (suc (suc (suc (suc k))))))) p = Wish p.0
 
 abbrev line_from : Parts → Line
 line_from (inl p) = line_by p.0 p.1
@@ -120,6 +122,7 @@ line_back (Unknown reason) = refl
 line_back (Lock v) = refl
 line_back (Favour v) = refl
 line_back (Exclude v reason) = refl
+line_back (Many name) = refl
 line_back (Wish v) = refl
 line_back (Limits s) = refl
 line_back (Needs alternatives condition) = refl

@@ -1,6 +1,6 @@
 -- The grammar of a catalogue and of a request: which line may follow which lines.
 use Rattle.std.specs.Prelude.{◌≡◌, ℕ, zero, suc, ⊤, List, [], ◌∷◌, take, Option, Some, None, slice_get, Contains}
-use Rattle.resolvo_text.specs.Line.{Version, Line, Skipped, Listed, Needs, Limits, Unknown, Lock, Favour, Exclude, Wish}
+use Rattle.resolvo_text.specs.Line.{Version, Line, Skipped, Listed, Needs, Limits, Unknown, Lock, Favour, Exclude, Many, Wish}
 use Rattle.resolvo_text.specs.Spelling.{SpellsLine}
 
 -- ---- lines by their numbers, from 1
@@ -38,7 +38,8 @@ abbrev pub MarksUnknown : List Line → ℕ → Version → Type 0
 MarksUnknown lines n v = (reason : List ℕ) × (line_at lines n ≡ Some (Unknown reason)) × (owner_of lines n ≡ Some v)
 
 -- A `needs`, `limits` or `unknown` line has an owner. A version, its exclusion, its unknown mark, and a
--- package's lock and favour are given once. Locked, favoured and excluded versions are listed above.
+-- package's lock, favour and `many` line are given once. Locked, favoured and excluded versions are listed above.
+-- No version of a package is listed above its `many` line.
 abbrev pub MayFollow : List Line → Line → Type 0
 MayFollow before Skipped = ⊤
 MayFollow before (Listed v) = Contains before (Listed v) → ⊥
@@ -48,6 +49,7 @@ MayFollow before (Unknown reason) = (v : Version) × (owner_below before ≡ Som
 MayFollow before (Lock v) = Contains before (Listed v) × ((n : ℕ) → Contains before (Lock (record { name = v.name; number = n })) → ⊥)
 MayFollow before (Favour v) = Contains before (Listed v) × ((n : ℕ) → Contains before (Favour (record { name = v.name; number = n })) → ⊥)
 MayFollow before (Exclude v reason) = Contains before (Listed v) × ((other : List ℕ) → Contains before (Exclude v other) → ⊥)
+MayFollow before (Many name) = (Contains before (Many name) → ⊥) × ((n : ℕ) → Contains before (Listed (record { name = name; number = n })) → ⊥)
 MayFollow before (Wish v) = ⊥
 
 -- A wish is for a listed version, and given once.
@@ -61,6 +63,7 @@ MayFollowInRequest catalogue before (Unknown reason) = ⊥
 MayFollowInRequest catalogue before (Lock v) = ⊥
 MayFollowInRequest catalogue before (Favour v) = ⊥
 MayFollowInRequest catalogue before (Exclude v reason) = ⊥
+MayFollowInRequest catalogue before (Many name) = ⊥
 
 -- ---- the two grammars
 

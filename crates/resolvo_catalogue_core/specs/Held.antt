@@ -1,34 +1,42 @@
 -- The stored form of a catalogue's lines, the rules apart.
 use Rattle.std.specs.Prelude.{ℕ, zero, suc, nat_lt, Bool, true, List, map, Option, Some, None, slice_get}
 use Rattle.std.specs.List.{list_all}
+use Rattle.std.specs.Global.{Global}
+use Rattle.std.specs.declared.string.String.{String}
 use Rattle.resolvo_catalogue_core.specs.declared.rule.Rule.{Rule}
 use Rattle.resolvo_catalogue_core.specs.declared.line_table.LineKind.{LineKind}
 use Rattle.resolvo_catalogue_core.specs.declared.line_table.LineKind.TheVariants as line_kinds
 use Rattle.resolvo_catalogue_core.specs.declared.line_table.StoredLine.{StoredLine}
 
--- a rule's place is one of so many
-abbrev pub is_held : ℕ → StoredLine → Bool
-is_held count StoredLine.Nothing = true
-is_held count (StoredLine.Listed v) = true
-is_held count (StoredLine.Favour v) = true
-is_held count (StoredLine.Rule place) = nat_lt place count
+-- a rule's place is one of so many, and so is that of a marked package's name
+abbrev pub is_held : ℕ → ℕ → StoredLine → Bool
+is_held count marked StoredLine.Nothing = true
+is_held count marked (StoredLine.Listed v) = true
+is_held count marked (StoredLine.Favour v) = true
+is_held count marked (StoredLine.Many place) = nat_lt place marked
+is_held count marked (StoredLine.Rule place) = nat_lt place count
 
-abbrev pub are_held : ℕ → List StoredLine → Bool
-are_held count held = list_all (is_held count) held
+abbrev pub are_held : ℕ → ℕ → List StoredLine → Bool
+are_held count marked held = list_all (is_held count marked) held
 
 abbrev pub kind_of_rule : Option Rule → LineKind
 kind_of_rule None = line_kinds.Nothing
 kind_of_rule (Some r) = line_kinds.Rule r
 
--- the line in whose place this is kept
-abbrev pub kind_in : List Rule → StoredLine → LineKind
-kind_in rules StoredLine.Nothing = line_kinds.Nothing
-kind_in rules (StoredLine.Listed v) = line_kinds.Listed v
-kind_in rules (StoredLine.Favour v) = line_kinds.Favour v
-kind_in rules (StoredLine.Rule place) = kind_of_rule (slice_get rules place)
+abbrev pub kind_of_name : Option (String Global) → LineKind
+kind_of_name None = line_kinds.Nothing
+kind_of_name (Some name) = line_kinds.Many name
 
-abbrev pub kind_list : List Rule → List StoredLine → List LineKind
-kind_list rules held = map (kind_in rules) held
+-- the line in whose place this is kept
+abbrev pub kind_in : List Rule → List (String Global) → StoredLine → LineKind
+kind_in rules marked StoredLine.Nothing = line_kinds.Nothing
+kind_in rules marked (StoredLine.Listed v) = line_kinds.Listed v
+kind_in rules marked (StoredLine.Favour v) = line_kinds.Favour v
+kind_in rules marked (StoredLine.Many place) = kind_of_name (slice_get marked place)
+kind_in rules marked (StoredLine.Rule place) = kind_of_rule (slice_get rules place)
+
+abbrev pub kind_list : List Rule → List (String Global) → List StoredLine → List LineKind
+kind_list rules marked held = map (kind_in rules marked) held
 
 -- the stored form of line n, from 1
 abbrev pub held_at : List StoredLine → ℕ → Option StoredLine
@@ -45,3 +53,4 @@ rule_of (line_kinds.Rule r) = Some r
 rule_of line_kinds.Nothing = None
 rule_of (line_kinds.Listed v) = None
 rule_of (line_kinds.Favour v) = None
+rule_of (line_kinds.Many name) = None

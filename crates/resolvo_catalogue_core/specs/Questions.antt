@@ -2,7 +2,7 @@
 use Rattle.std.specs.Prelude.{◌≡◌, ◌≢◌, ◌↔◌, ◌⊎◌, ℕ, Bool, true, false, ⊤, List, [], Option, Some, None, Contains, slice_get}
 use Rattle.std.specs.List.Sorted.{IsStrictlyIncreasing}
 use Rattle.std.specs.String.{string_bytes}
-use Rattle.resolvo_text.specs.Line.{Version, Spec, Line, Skipped, Listed, Needs, Limits, Unknown, Lock, Favour, Exclude, Wish}
+use Rattle.resolvo_text.specs.Line.{Version, Spec, Line, Skipped, Listed, Needs, Limits, Unknown, Lock, Favour, Exclude, Many, Wish}
 use Rattle.resolvo_text.specs.Cases.{condition_cases}
 use Rattle.resolvo_text.specs.View.{spec_of, specs_of, condition_of}
 use Rattle.resolvo_catalogue_core.specs.Grammar.{line_at, owner_of}
@@ -72,6 +72,11 @@ abbrev pub IsWish : Option Version → Line → Type 0
 IsWish owner (Wish w) = ⊤
 IsWish owner _ = ⊥
 
+-- a line that marks the package `many`
+abbrev pub MarksMany : List ℕ → Option Version → Line → Type 0
+MarksMany name owner (Many marked) = marked ≡ name
+MarksMany name owner _ = ⊥
+
 -- a line of version k with this content
 abbrev pub IsVersionLine : List Version → List Line → ℕ → (Version → Option Version → Line → Type 0) → ℕ → Type 0
 IsVersionLine versions lines k Q n = (v : Version) × (slice_get versions k ≡ Some v) × LineIs lines n (Q v)
@@ -111,6 +116,7 @@ is_rule (Exclude w reason) = true
 is_rule Skipped = false
 is_rule (Listed w) = false
 is_rule (Favour w) = false
+is_rule (Many name) = false
 is_rule (Wish w) = false
 
 -- The owner by its number is this one, where there is one.

@@ -3,7 +3,7 @@ use Rattle.std.specs.Prelude.{ℕ, Bool, true, not, ◌||◌, ◌==◌, List, Op
 use Rattle.std.specs.List.{list_all}
 use Rattle.std.specs.Option.{option_map_or}
 use Rattle.std.specs.Str.{bytes_eq}
-use Rattle.resolvo_text.specs.Line.{Version, Line, Skipped, Listed, Needs, Limits, Unknown, Lock, Favour, Exclude, Wish}
+use Rattle.resolvo_text.specs.Line.{Version, Line, Skipped, Listed, Needs, Limits, Unknown, Lock, Favour, Exclude, Many, Wish}
 use Rattle.resolvo_text.specs.Matches.{Set, same_package, is_member, matches, is_met_by_one, condition_holds}
 use Rattle.resolvo_catalogue_core.specs.Grammar.{line_at, owner_of}
 
@@ -22,6 +22,7 @@ obeys owner (Unknown reason) set = not (binds owner set)
 obeys owner Skipped set = true
 obeys owner (Listed v) set = true
 obeys owner (Favour v) set = true
+obeys owner (Many name) set = true
 obeys owner (Wish v) set = true
 
 -- The set obeys line n of a catalogue, of a request. A line that isn't there asks nothing.

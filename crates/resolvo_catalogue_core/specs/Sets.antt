@@ -1,13 +1,24 @@
 -- Sets of versions that keep to a catalogue and a request, and lines that no such set obeys.
-use Rattle.std.specs.Prelude.{◌≡◌, ℕ, IsTrue, List, Contains}
-use Rattle.resolvo_text.specs.Line.{Version, Line, Listed}
+use Rattle.std.specs.Prelude.{◌≡◌, ℕ, Bool, false, IsTrue, List, Contains}
+use Rattle.std.specs.List.{list_any}
+use Rattle.std.specs.Str.{bytes_eq}
+use Rattle.resolvo_text.specs.Line.{Version, Line, Listed, Many}
 use Rattle.resolvo_text.specs.Matches.{Set}
 use Rattle.resolvo_catalogue_core.specs.Rules.{keeps, keeps_in_request}
 
--- listed versions only, at most one of a package
+-- the line marks the package `many`
+abbrev pub marks_many : List ℕ → Line → Bool
+marks_many name (Many marked) = bytes_eq marked name
+marks_many name _ = false
+
+-- a line marks the package `many`
+abbrev pub is_many : List Line → List ℕ → Bool
+is_many lines name = list_any (marks_many name) lines
+
+-- listed versions only, at most one of a package that isn't marked `many`
 pub record IsSingle (catalogue : List Line) (set : Set) : Type 0 where
   pub listed : (v : Version) → Contains set v → Contains catalogue (Listed v)
-  pub one_each : (v w : Version) → Contains set v → Contains set w → v.name ≡ w.name → v ≡ w
+  pub one_each : (v w : Version) → Contains set v → Contains set w → v.name ≡ w.name → is_many catalogue v.name ≡ false → v ≡ w
 
 -- a single set that obeys each line
 pub record IsRuleKeeping (catalogue request : List Line) (set : Set) : Type 0 where

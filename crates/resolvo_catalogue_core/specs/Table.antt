@@ -7,7 +7,7 @@ use Rattle.resolvo_text.specs.Line.{Version, Line}
 use Rattle.resolvo_text.specs.View.{spec_of, specs_of, condition_of}
 use Rattle.resolvo_catalogue_core.specs.Grammar.{owner_below}
 use Rattle.resolvo_catalogue_core.specs.Listed.{listed, pair_versions}
-use Rattle.resolvo_catalogue_core.specs.Questions.{IsOnly, AreAll, LineIs, BelongsTo, MarksUnknownOf, Locks, Favours, Excludes, IsFavour, IsOwner, IsOfPackage, IsVersionLine, FavoursAt, number_of}
+use Rattle.resolvo_catalogue_core.specs.Questions.{IsOnly, AreAll, LineIs, BelongsTo, MarksUnknownOf, Locks, Favours, MarksMany, Excludes, IsFavour, IsOwner, IsOfPackage, IsVersionLine, FavoursAt, number_of}
 use Rattle.resolvo_catalogue_core.specs.LinesByVersion.{kept_of}
 use Rattle.resolvo_catalogue_core.specs.declared.rule.VersionNo.{VersionNo}
 use Rattle.resolvo_catalogue_core.specs.declared.rule.Rule.{Rule}
@@ -39,13 +39,14 @@ abbrev pub line_of : List Version → LineKind → Line
 line_of versions line_kinds.Nothing = parsed.Skipped
 line_of versions (line_kinds.Listed v) = parsed.Listed (nth versions v)
 line_of versions (line_kinds.Favour v) = parsed.Favour (nth versions v)
+line_of versions (line_kinds.Many name) = parsed.Many (string_bytes name)
 line_of versions (line_kinds.Rule r) = rule_line versions r
 
 abbrev pub versions_in : Table → List Version
 versions_in t = pair_versions t.versions.items
 
 abbrev pub kinds_in : Table → List LineKind
-kinds_in t = kind_list t.line_kinds.rules.items t.line_kinds.held.items
+kinds_in t = kind_list t.line_kinds.rules.items t.line_kinds.marked.items t.line_kinds.held.items
 
 abbrev pub lines_in : Table → List Line
 lines_in t = map (line_of (versions_in t)) (kinds_in t)
@@ -64,6 +65,7 @@ abbrev pub IsKindOf : List Version → Option Version → LineKind → Type 0
 IsKindOf versions owner line_kinds.Nothing = ⊤
 IsKindOf versions owner (line_kinds.Listed v) = v.0 < length versions
 IsKindOf versions owner (line_kinds.Favour v) = v.0 < length versions
+IsKindOf versions owner (line_kinds.Many name) = ⊤
 IsKindOf versions owner (line_kinds.Rule r) = IsRuleOf versions owner r
 
 abbrev pub AreKindsOf : List Version → List Line → List LineKind → Type 0
@@ -111,6 +113,7 @@ pub record Keeps (t : Table) (versions : List Version) (lines : List Line) : Typ
   pub packages : (name : List ℕ) → IsPackage versions name (get_by_text t.packages name)
   pub locks : (name : List ℕ) → IsOnly (get_by_text t.locks name) (λ n. LineIs lines n (Locks name))
   pub favoured : (name : List ℕ) → IsOnly (get_by_text t.favoured name) (λ n. LineIs lines n (Favours name))
+  pub many : (name : List ℕ) → IsOnly (get_by_text t.many name) (λ n. LineIs lines n (MarksMany name))
   pub excluded : (k : ℕ) → IsOnly (get nat_cmp t.excluded k) (IsVersionLine versions lines k Excludes)
   pub unknown : (k : ℕ) → IsOnly (get nat_cmp t.unknown k) (IsVersionLine versions lines k MarksUnknownOf)
   pub owned : (k : ℕ) → AreAll (kept_of t.owned k) (IsVersionLine versions lines k BelongsTo)

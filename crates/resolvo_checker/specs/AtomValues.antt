@@ -6,8 +6,8 @@ use Rattle.std.specs.Str.{bytes_eq}
 use Rattle.resolvo_text.specs.declared.spec.Span.{Span}
 use Rattle.resolvo_text.specs.declared.spec.Span.TheVariants as span
 use Rattle.resolvo_text.specs.Line.{Version, Spec}
-use Rattle.resolvo_text.specs.Matches.{Set, is_member, is_met_by_one, same_version}
-use Rattle.resolvo_report.specs.Value.{Atom, Chosen, AnyOf, SharedBy, OutsideOf, BitOf}
+use Rattle.resolvo_text.specs.Matches.{Set, is_member, is_met, is_met_by_one, same_version}
+use Rattle.resolvo_report.specs.Value.{Atom, Chosen, AnyOf, SharedBy, OutsideOf, MatchesOf, BitOf}
 use Rattle.resolvo_checker.specs.StepClauses.{is_of, is_outside}
 
 -- The value of an atom over a set and a map that gives each version one place. A bit of a package is that of the
@@ -17,6 +17,7 @@ value_of set place (Chosen v) = is_member v set
 value_of set place (AnyOf name) = list_any (is_of name) set
 value_of set place (SharedBy alternatives) = is_met_by_one alternatives set
 value_of set place (OutsideOf s) = list_any (is_outside s) set
+value_of set place (MatchesOf s) = is_met s set
 value_of set place (BitOf bit name) = list_any (λ v. is_of name v && (bit_at (place v) bit == 1)) set
 
 abbrev pub same_span : Span → Span → Bool
@@ -38,5 +39,6 @@ same_atom (Chosen v) (Chosen w) = same_version v w
 same_atom (AnyOf m) (AnyOf n) = bytes_eq m n
 same_atom (SharedBy ss) (SharedBy ts) = same_specs ss ts
 same_atom (OutsideOf s) (OutsideOf t) = same_spec s t
+same_atom (MatchesOf s) (MatchesOf t) = same_spec s t
 same_atom (BitOf i m) (BitOf j n) = (i == j) && bytes_eq m n
 same_atom a b = false

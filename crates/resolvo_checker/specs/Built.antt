@@ -26,6 +26,7 @@ literal_of versions (atom.Version n) positive = member_of versions positive n.0
 literal_of versions (atom.Any name) positive = Some (literal (model.AnyOf (string_bytes name)) positive)
 literal_of versions (atom.Shared alternatives) positive = Some (literal (model.SharedBy (specs_of alternatives.items)) positive)
 literal_of versions (atom.Outside spec) positive = Some (literal (model.OutsideOf (spec_of spec)) positive)
+literal_of versions (atom.Matches spec) positive = Some (literal (model.MatchesOf (spec_of spec)) positive)
 literal_of versions (atom.Bit bit name) positive = Some (literal (model.BitOf bit (string_bytes name)) positive)
 
 abbrev pub literals_in : List Version → List Built → List (Option (pass.Literal model.Atom))

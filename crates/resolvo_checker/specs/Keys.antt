@@ -6,7 +6,7 @@ use Rattle.resolvo_text.specs.declared.spec.Span.{Span}
 use Rattle.resolvo_text.specs.declared.spec.Span.TheVariants as span
 use Rattle.resolvo_text.specs.Line.{Version, Spec}
 use Rattle.resolvo_pool_core.specs.OnePass.{AreNamed}
-use Rattle.resolvo_report.specs.Value.{Atom, Chosen, AnyOf, SharedBy, OutsideOf, BitOf}
+use Rattle.resolvo_report.specs.Value.{Atom, Chosen, AnyOf, SharedBy, OutsideOf, MatchesOf, BitOf}
 use Rattle.resolvo_checker.specs.declared.literal.Literal.{Literal}
 use Rattle.resolvo_checker.specs.Literals.{literals_of}
 use Rattle.resolvo_checker.specs.Numbers.{number_in, Keeps}
@@ -26,6 +26,7 @@ IsKey versions (Chosen v) key = (n : ℕ) × (slice_get versions n ≡ Some v) �
 IsKey versions (AnyOf name) key = key ≡ 1 ∷ name
 IsKey versions (SharedBy alternatives) key = key ≡ 2 ∷ flat_map spec_key alternatives
 IsKey versions (OutsideOf s) key = key ≡ 3 ∷ spec_key s
+IsKey versions (MatchesOf s) key = key ≡ 5 ∷ spec_key s
 IsKey versions (BitOf bit name) key = key ≡ 4 ∷ bit ∷ name
 
 -- The number is that of the atom's key.

@@ -7,7 +7,7 @@ use Rattle.resolvo_text.specs.Matches.{Set, same_version, is_member}
 use Rattle.resolvo_catalogue_core.specs.Rules.{keeps, keeps_in_request}
 use Rattle.resolvo_catalogue_core.specs.Sets.{IsRuleKeeping}
 use Rattle.resolvo_pool_core.specs.OnePass.{one_pass, clause_true}
-use Rattle.resolvo_report.specs.Value.{Place, OfRequest, OfVersion, Atom, Chosen, AnyOf, SharedBy, OutsideOf, BitOf, Step}
+use Rattle.resolvo_report.specs.Value.{Place, OfRequest, OfVersion, Atom, Chosen, AnyOf, SharedBy, OutsideOf, MatchesOf, BitOf, Step}
 use Rattle.resolvo_report.specs.Value as step
 use Rattle.resolvo_checker.specs.Rup.{is_earlier}
 use Rattle.resolvo_checker.specs.AtomValues.{same_atom, value_of}
@@ -28,6 +28,7 @@ rests_on_named catalogue_line request_line (step.Exclude line) = catalogue_line 
 rests_on_named catalogue_line request_line (step.Unknown line) = catalogue_line line
 rests_on_named catalogue_line request_line (step.Shared alternatives) = true
 rests_on_named catalogue_line request_line (step.Outside s v) = true
+rests_on_named catalogue_line request_line (step.Matches s v) = true
 rests_on_named catalogue_line request_line (step.Digit v place bit) = true
 rests_on_named catalogue_line request_line (step.Any v) = true
 rests_on_named catalogue_line request_line (step.Derive literals causes) = true

@@ -9,8 +9,9 @@ use Rattle.resolvo_text.specs.Matches.{same_package, same_version, is_member, ma
 use Rattle.resolvo_text.specs.Cases.{condition_cases}
 use Rattle.resolvo_catalogue_core.specs.Grammar.{line_at, owner_of}
 use Rattle.resolvo_catalogue_core.specs.Listed.{listed}
+use Rattle.resolvo_catalogue_core.specs.Sets.{is_many}
 use Rattle.resolvo_pool_core.specs.OnePass as pass
-use Rattle.resolvo_report.specs.Value.{Place, OfRequest, OfVersion, Atom, Chosen, AnyOf, SharedBy, OutsideOf, BitOf, Literal, Step}
+use Rattle.resolvo_report.specs.Value.{Place, OfRequest, OfVersion, Atom, Chosen, AnyOf, SharedBy, OutsideOf, MatchesOf, BitOf, Literal, Step}
 use Rattle.resolvo_report.specs.Value as step
 
 -- a clause: one of its literals is true
@@ -59,9 +60,14 @@ abbrev pub place_fails : Place → Clause
 place_fails OfRequest = []
 place_fails (OfVersion v) = not_in v ∷ []
 
--- for each SPEC of the case: none of its package, or one that doesn't match
+-- A SPEC of a case isn't met: no member matches, where its package is marked `many`. Else none of its package is
+-- there, or one that doesn't match.
+abbrev pub spec_fails : List Line → Spec → Clause
+spec_fails catalogue s = if is_many catalogue s.name then literal (MatchesOf s) false ∷ [] else literal (AnyOf s.name) false ∷ each_listed catalogue (is_outside s)
+
+-- for each SPEC of the case, that it isn't met
 abbrev pub case_fails : List Line → List Spec → Clause
-case_fails catalogue specs = flat_map (λ s. literal (AnyOf s.name) false ∷ each_listed catalogue (is_outside s)) specs
+case_fails catalogue specs = flat_map (spec_fails catalogue) specs
 
 -- each listed match of each alternative
 abbrev pub some_match : List Line → List Spec → Clause
@@ -122,21 +128,33 @@ shared_clause catalogue alternatives = literal (SharedBy alternatives) false ∷
 abbrev pub outside_clause : List Line → Spec → Version → Option Clause
 outside_clause catalogue s v = if is_listed catalogue v && is_outside s v then Some (not_in v ∷ literal (OutsideOf s) true ∷ []) else None
 
+-- of a version whose package is marked `many`
+abbrev pub matches_clause : List Line → Spec → Version → Option Clause
+matches_clause catalogue s v = if is_listed catalogue v && (matches s v && is_many catalogue s.name) then Some (not_in v ∷ literal (MatchesOf s) true ∷ []) else None
+
+-- Versions of a package that is marked `many` have no places.
 abbrev pub digit_clause : List Line → Version → ℕ → ℕ → Option Clause
-digit_clause catalogue v place bit = if is_listed catalogue v && nat_lt bit 32 then Some (not_in v ∷ literal (BitOf bit v.name) (bit_at place bit == 1) ∷ []) else None
+digit_clause catalogue v place bit = if is_listed catalogue v && (not (is_many catalogue v.name) && nat_lt bit 32) then Some (not_in v ∷ literal (BitOf bit v.name) (bit_at place bit == 1) ∷ []) else None
 
 abbrev pub any_clause : List Line → Version → Option Clause
 any_clause catalogue v = if is_listed catalogue v then Some (not_in v ∷ literal (AnyOf v.name) true ∷ []) else None
 
 -- ---- derived clauses
 
--- A version that is named must be listed.
+-- A package that is marked `many` has no bits; `matches` is for such a package.
+abbrev pub fits_mark : List Line → Atom → Bool
+fits_mark catalogue (MatchesOf s) = is_many catalogue s.name
+fits_mark catalogue (BitOf bit name) = not (is_many catalogue name)
+fits_mark catalogue a = true
+
+-- A version that is named must be listed, and an atom fits its package's mark.
 abbrev pub is_atom : List Line → Atom → Bool
 is_atom catalogue (Chosen v) = is_listed catalogue v
 is_atom catalogue (AnyOf name) = true
 is_atom catalogue (SharedBy alternatives) = true
 is_atom catalogue (OutsideOf s) = true
-is_atom catalogue (BitOf bit name) = true
+is_atom catalogue (MatchesOf s) = is_many catalogue s.name
+is_atom catalogue (BitOf bit name) = not (is_many catalogue name)
 
 abbrev pub literal_of : Literal → pass.Literal Atom
 literal_of l = record { atom = l.atom; positive = l.positive }
@@ -153,6 +171,7 @@ clause_of catalogue request (step.Shared alternatives) = Some (shared_clause cat
 clause_of catalogue request (step.LimitBars place line v) = limit_bars_clause catalogue place v (line_of catalogue request place line)
 clause_of catalogue request (step.Limit place line) = limit_clause place (line_of catalogue request place line)
 clause_of catalogue request (step.Outside s v) = outside_clause catalogue s v
+clause_of catalogue request (step.Matches s v) = matches_clause catalogue s v
 clause_of catalogue request (step.Lock line v) = lock_clause catalogue v (line_at catalogue line)
 clause_of catalogue request (step.Exclude line) = exclude_clause (line_at catalogue line)
 clause_of catalogue request (step.Unknown line) = unknown_clause (owner_of catalogue line) (line_at catalogue line)

@@ -3,26 +3,28 @@
 use Rattle.std.specs.Prelude.{◌≡◌, ◌⊎◌, Bool, true, List, Contains}
 use Rattle.resolvo_pool_core.specs.declared.id.VariableId.{VariableId}
 use Rattle.resolvo_pool_core.specs.declared.id.VersionSetId.{VersionSetId}
-use Rattle.resolvo_pool_core.specs.RuleKeeping.{Packages, Rules, IsLawful, is_outside}
+use Rattle.resolvo_pool_core.specs.declared.requirement.Requirement.TheVariants.{Single}
+use Rattle.resolvo_pool_core.specs.RuleKeeping.{Packages, Rules, IsLawful, is_many}
 use Rattle.resolvo_store_core.specs.Signed.{Signed}
 use Rattle.resolvo_sat.specs.State.{count_of}
 use Rattle.resolvo_sat.specs.Steps.{AreInRange}
 use Rattle.resolvo_packages.specs.declared.package_source.Offered.{Offered}
-use Rattle.resolvo_sat.specs.RuleClauses.{Rule, case_literals}
+use Rattle.resolvo_packages.specs.PackageSource.{AreOffered}
+use Rattle.resolvo_sat.specs.RuleClauses.{IsOfCase, Rule, case_literals}
 use Rattle.resolvo_sat.specs.Numbered.{Spells}
 use Rattle.resolvo_state.specs.declared.atom.ProofAtom.TheVariants.{Solvable}
 use Rattle.resolvo_state.specs.Atoms.{origin, Represents}
-use Rattle.resolvo_state.specs.Registered.{AreTied, IsInTracker, IsTracked, IsQueued, IsRegistered}
+use Rattle.resolvo_state.specs.Registered.{AreTied, IsInTracker, IsTracked, IsQueued, IsMany, IsRegistered}
 use Rattle.resolvo_encoder.specs.Cases.{sets_case, AreSets}
-use Rattle.resolvo_encoder.specs.Encoded.{rules_of, IsWaiting, IsNamed, IsEncoding}
+use Rattle.resolvo_encoder.specs.Encoded.{rules_of, IsWaiting, IsPending, IsNamed, IsSetEncoded, IsEncoding}
 use Rattle.resolvo_encoder.specs.Steps.{IsBuilt, Extends, IsListed}
 use Rattle.resolvo_encoder.specs.declared.conditions.ConditionSet.{ConditionSet}
 use Rattle.resolvo_encoder.specs.declared.encoder.Encoder.{Encoder}
 
 module _ {N S : Type 0} where
-  -- the registered solvables of the package, with it, but for those that wait
+  -- the registered solvables of the package, with it, but for those that wait, unless it is marked
   pub record AreThose (e : Encoder N S) (name : N) (list : List (Offered N S)) : Type 0 where
-    pub each : (s : S) → IsRegistered e.registry e.coding name s → Contains list (record { solvable = s; name = name }) ⊎ IsWaiting e name s
+    pub each : (s : S) → IsRegistered e.registry e.coding name s → Contains list (record { solvable = s; name = name }) ⊎ IsPending e name s
     pub all : (o : Offered N S) → Contains list o → (o.name ≡ name) × IsRegistered e.registry e.coding name o.solvable
 
   -- The solvables that wait, and no others.
@@ -68,14 +70,24 @@ module _ {N S : Type 0} where
       pub lists : new.lists ≡ old.lists
       pub registry : new.registry ≡ old.registry
       pub keeps : (n : N) → IsNamed old.recorded n → IsNamed new.recorded n
+      pub matches : (v : VersionSetId) → Contains old.recorded.matches.keys v → Contains new.recorded.matches.keys v
       pub named : IsNamed new.recorded name
       pub encoding : (p : Packages N S) (root : Rules) → IsLawful p → IsEncoding same p root old → IsEncoding same p root new
 
-    -- The case's packages are named, the candidates outside its version sets are registered, and
-    -- these are its literals.
+    -- The version set is recorded for its matches. These are clauses where its package is marked `many`.
+    pub record HoldsMatches (v : VersionSetId) (matching : List (Offered N S)) (old new : Encoder N S) : Type 0 where
+      pub built : IsBuilt new
+      pub extends : Extends old new
+      pub lists : new.lists ≡ old.lists
+      pub registry : new.registry ≡ old.registry
+      pub others : new.recorded ≡ record old.recorded { matches = new.recorded.matches }
+      pub keeps : (w : VersionSetId) → Contains old.recorded.matches.keys w → Contains new.recorded.matches.keys w
+      pub held : Contains new.recorded.matches.keys v
+      pub encoding : (p : Packages N S) (root : Rules) → IsLawful p → IsEncoding same p root old → AreOffered same p (Single v) matching → is_many p (p.set_package v) ≡ true → IsOfCase same p root v → IsEncoding same p root new
+
+    -- The version sets of the case are encoded, and these are its literals.
     pub record AreCaseLiterals (p : Packages N S) (e : Encoder N S) (case : List VersionSetId) (literals : List Signed) : Type 0 where
-      pub recorded : (v : VersionSetId) → Contains case v → IsNamed e.recorded (p.set_package v)
-      pub registered : (v : VersionSetId) (s : S) → Contains case v → is_outside same p v s ≡ true → IsRegistered e.registry e.coding (p.package_of s) s
+      pub sets : (v : VersionSetId) → Contains case v → IsSetEncoded same p e v
       pub spells : Spells (origin e.coding.atoms.keys) literals (case_literals same p case)
 
     -- The same for the case of these version sets, with these literals.
@@ -85,10 +97,12 @@ module _ {N S : Type 0} where
       pub lists : new.lists ≡ old.lists
       pub keeps : (n : N) → IsNamed old.recorded n → IsNamed new.recorded n
       pub tracked : (m : N) (u : VariableId) → IsTracked old.registry m u → IsTracked new.registry m u
+      pub matches : (v : VersionSetId) → Contains old.recorded.matches.keys v → Contains new.recorded.matches.keys v
       pub in_range : AreInRange (count_of new.coding.search) literals
-      pub encoding : (p : Packages N S) (root : Rules) → IsLawful p → IsEncoding same p root old → AreSets same p sets → IsEncoding same p root new × AreCaseLiterals p new (sets_case sets) literals
+      pub encoding : (p : Packages N S) (root : Rules) → IsLawful p → IsEncoding same p root old → AreSets same p sets → ((v : VersionSetId) → Contains (sets_case sets) v → IsOfCase same p root v) → IsEncoding same p root new × AreCaseLiterals p new (sets_case sets) literals
 
-    -- These solvables have their digits, and at-least-one clauses if their packages are recorded.
+    -- These solvables have their digits, unless their packages are marked, and at-least-one clauses if
+    -- their packages are recorded.
     pub record PlacesAll (list : List (Offered N S)) (old new : Encoder N S) : Type 0 where
       pub built : IsBuilt new
       pub extends : Extends old new
@@ -97,7 +111,8 @@ module _ {N S : Type 0} where
       pub waits : new.registry.tied ≡ old.registry.tied
       pub at_least_one : new.recorded.at_least_one ≡ old.recorded.at_least_one
       pub queued : new.recorded.queued ≡ old.recorded.queued
-      pub placed : (o : Offered N S) → Contains list o → (v : VariableId) × Represents new.coding.atoms.keys v (Solvable o.solvable) × IsInTracker new.registry o.name v
+      pub many : new.registry.many ≡ old.registry.many
+      pub placed : (o : Offered N S) → Contains list o → IsMany old.registry o.name ⊎ ((v : VariableId) × Represents new.coding.atoms.keys v (Solvable o.solvable) × IsInTracker new.registry o.name v)
       pub keeps : (m : N) (u : VariableId) → IsInTracker old.registry m u → IsInTracker new.registry m u
       pub encoding : (p : Packages N S) (root : Rules) → IsLawful p → IsEncoding same p root old
           → IsEncoding same p root new × ((o : Offered N S) → Contains list o → Contains old.recorded.at_least_one.keys o.name → rules_of new (Rule.is_there o.name o.solvable))
@@ -110,6 +125,7 @@ module _ {N S : Type 0} where
       pub lists : new.lists ≡ old.lists
       pub at_least_one : new.recorded.at_least_one ≡ old.recorded.at_least_one
       pub queued : new.recorded.queued ≡ old.recorded.queued
+      pub many : new.registry.many ≡ old.registry.many
       pub none : (n : N) (v : VariableId) → IsQueued new.registry n v → ⊥
       pub encoding : (p : Packages N S) (root : Rules) → IsLawful p → IsEncoding same p root old → IsEncoding same p root new
 

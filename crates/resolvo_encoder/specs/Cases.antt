@@ -1,13 +1,14 @@
 -- The cases of conditions, and how they are deferred until they are encoded.
-use Rattle.std.specs.Prelude.{◌≡◌, ℕ, Bool, List, map, slice_get, Option, Some, Contains}
+use Rattle.std.specs.Prelude.{◌≡◌, ℕ, Bool, true, false, List, map, slice_get, Option, Some, Contains}
 use Rattle.std.specs.List.{AllByRecursion}
 use Rattle.resolvo_pool_core.specs.declared.id.VersionSetId.{VersionSetId}
 use Rattle.resolvo_pool_core.specs.declared.requirement.ConditionalRequirement.{ConditionalRequirement}
-use Rattle.resolvo_pool_core.specs.RuleKeeping.{Packages, Rules, is_in, is_match, rules_for}
+use Rattle.resolvo_pool_core.specs.declared.requirement.Requirement.TheVariants.{Single}
+use Rattle.resolvo_pool_core.specs.RuleKeeping.{Packages, Rules, is_many, is_in, is_match, rules_for}
 use Rattle.resolvo_store_core.specs.declared.conditions.DeferredConjunct.{DeferredConjunct}
 use Rattle.resolvo_store_core.specs.Deferred.{version_set_of, candidates_of}
 use Rattle.resolvo_sat.specs.RuleClauses.{cases_for}
-use Rattle.resolvo_packages.specs.PackageSource.{AreOutside}
+use Rattle.resolvo_packages.specs.PackageSource.{AreOffered, AreOutside}
 use Rattle.resolvo_encoder.specs.declared.encoder.Deferred.{Deferred}
 use Rattle.resolvo_encoder.specs.declared.encoder.Encoder.{Encoder}
 use Rattle.resolvo_encoder.specs.declared.conditions.ConditionSet.{ConditionSet}
@@ -32,10 +33,13 @@ module _ {N S : Type 0} (same : S → S → Bool) (p : Packages N S) where
   abbrev pub AreConjuncts : List (DeferredConjunct S) → Type 0
   AreConjuncts conjuncts = AllByRecursion IsMatching conjuncts
 
-  -- the version set with its package, and the package's candidates outside it
+  -- The version set with its package, and the package's candidates outside it. Where the package is
+  -- marked `many`, those that match instead.
   pub record IsSet (c : ConditionSet N S) : Type 0 where
     pub named : c.name ≡ p.set_package c.version_set
-    pub outside : AreOutside same p c.version_set c.outside.items
+    pub mark : c.many ≡ is_many p c.name
+    pub outside : c.many ≡ false → AreOutside same p c.version_set c.outside.items
+    pub matching : c.many ≡ true → AreOffered same p (Single c.version_set) c.matching.items
 
   abbrev pub AreSets : List (ConditionSet N S) → Type 0
   AreSets sets = AllByRecursion IsSet sets

@@ -26,6 +26,7 @@ IsRestraint (Rule.is_out v s) = Unit {0}
 IsRestraint (Rule.forbids w s) = Unit {0}
 IsRestraint (Rule.has_digit s bit b) = ⊥
 IsRestraint (Rule.is_there n s) = Unit {0}
+IsRestraint (Rule.matches v s) = Unit {0}
 
 -- the clause has these two literals, or one where both are the same
 abbrev pub IsPair : Signed → Signed → List Signed → Type 0
@@ -65,3 +66,7 @@ limit_rules parent v list = map (λ o. Rule.limits parent v o.solvable) list
 -- the rules that each of these is outside a version set
 abbrev pub out_rules : {N S : Type 0} → VersionSetId → List (Offered N S) → List (Rule N S)
 out_rules v list = map (λ o. Rule.is_out v o.solvable) list
+
+-- the rules that each of these matches a version set
+abbrev pub match_rules : {N S : Type 0} → VersionSetId → List (Offered N S) → List (Rule N S)
+match_rules v list = map (λ o. Rule.matches v o.solvable) list

@@ -48,9 +48,9 @@ module _ {N S : Type 0} where
     pub need : w.need ≡ deferred.need
     pub case : w.case.items ≡ case_of deferred.conjuncts.items
 
-  -- the parent is a solvable outside one of these version sets
+  -- the parent is a solvable outside one of these version sets, whose package isn't marked `many`
   abbrev pub IsKeptOut : List (ConditionSet N S) → Option S → Type 0
-  IsKeptOut sets parent = (s : S) × (c : ConditionSet N S) × (parent ≡ Some s) × Contains sets c × Contains (offered_solvables c.outside.items) s
+  IsKeptOut sets parent = (s : S) × (c : ConditionSet N S) × (parent ≡ Some s) × Contains sets c × (c.many ≡ false) × Contains (offered_solvables c.outside.items) s
 
   -- the trail makes the solvable's variable true
   abbrev pub IsTrueNow : Encoder N S → S → Type 0

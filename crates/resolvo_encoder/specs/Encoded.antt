@@ -1,5 +1,5 @@
 -- The invariant of the encoder: its clauses, and the rules of packages that they encode.
-use Rattle.std.specs.Prelude.{◌≡◌, ℕ, suc, ◌<◌, ◌≤◌, ◌⊎◌, Bool, true, List, [], ◌∷◌, length, slice_get, Option, Some, None, Contains}
+use Rattle.std.specs.Prelude.{◌≡◌, ℕ, suc, ◌<◌, ◌≤◌, ◌⊎◌, Bool, true, false, List, [], ◌∷◌, length, slice_get, Option, Some, None, Contains}
 use Rattle.resolvo_pool_core.specs.declared.id.DenseId.{DenseId}
 use Rattle.resolvo_pool_core.specs.declared.id.DisjunctionTag.{DisjunctionTag}
 use Rattle.resolvo_pool_core.specs.declared.id.VariableId.{VariableId}
@@ -11,7 +11,7 @@ use Rattle.resolvo_pool_core.specs.declared.solver_id.SolvableIdOrRoot.{Solvable
 use Rattle.resolvo_pool_core.specs.ByRequirement.{slot_of}
 use Rattle.resolvo_pool_core.specs.Provider.{listed}
 use Rattle.resolvo_pool_core.specs.Text.{solvable_of, alternatives_of}
-use Rattle.resolvo_pool_core.specs.RuleKeeping.{Packages, Rules, IsLawful, is_in, meets, rules_for, is_outside, is_unknown}
+use Rattle.resolvo_pool_core.specs.RuleKeeping.{Packages, Rules, IsLawful, is_many, is_in, is_match, meets, rules_for, is_outside, is_unknown}
 use Rattle.resolvo_store_core.specs.Clauses.{root as root_variable}
 use Rattle.resolvo_store_core.specs.declared.decide_queue.NeedClause.{NeedClause}
 use Rattle.resolvo_store_core.specs.declared.lists.Candidate.{Candidate}
@@ -31,7 +31,7 @@ use Rattle.resolvo_state.specs.declared.clause_kind.ClauseKind.TheVariants as Ki
 use Rattle.resolvo_state.specs.Atoms.{origin, Represents}
 use Rattle.resolvo_state.specs.ClauseKinds.{kind_at, rule_at, rules_in}
 use Rattle.resolvo_state.specs.SolverState.{IsCoding}
-use Rattle.resolvo_state.specs.Registered.{AreTied, IsTracked, IsQueued, IsRegistered}
+use Rattle.resolvo_state.specs.Registered.{AreTied, IsTracked, IsQueued, IsMany, IsRegistered}
 use Rattle.resolvo_state.specs.Spelled.{Spelled, AreRegistered}
 use Rattle.resolvo_encoder.specs.declared.encoder.Deferred.{Deferred}
 use Rattle.resolvo_encoder.specs.declared.encoder.Encoder.{Encoder}
@@ -45,6 +45,10 @@ rules_of e = rules_in e.coding.kinds.items
 -- the solvable is registered as one of the package's, and waits for its digits
 abbrev pub IsWaiting : {N S : Type 0} → Encoder N S → N → S → Type 0
 IsWaiting e name s = (v : VariableId) × Represents e.coding.atoms.keys v (Solvable s) × IsQueued e.registry name v
+
+-- it waits, or its package is marked `many` and has neither digits nor at-least-one clauses
+abbrev pub IsPending : {N S : Type 0} → Encoder N S → N → S → Type 0
+IsPending e name s = IsWaiting e name s ⊎ IsMany e.registry name
 
 -- the package is one of an encoded case: its solvables have at-least-one clauses, or will
 abbrev pub IsNamed : {N S : Type 0} → EncodedOnce N S → N → Type 0
@@ -107,6 +111,7 @@ module _ {N S : Type 0} (same : S → S → Bool) (p : Packages N S) (lists : Fi
   IsQueuedFor atoms (Some (Kind.Excluded s why)) q = ⊥
   IsQueuedFor atoms (Some (Kind.Digit n s place bit)) q = ⊥
   IsQueuedFor atoms (Some (Kind.IsThere n s)) q = ⊥
+  IsQueuedFor atoms (Some (Kind.Matches v s)) q = ⊥
   IsQueuedFor atoms (Some Kind.Learnt) q = ⊥
 
 -- the rule's clause is a requires clause
@@ -120,6 +125,7 @@ IsRequiresRule (Rule.is_out v s) = ⊥
 IsRequiresRule (Rule.forbids w s) = ⊥
 IsRequiresRule (Rule.has_digit s bit b) = ⊥
 IsRequiresRule (Rule.is_there n s) = ⊥
+IsRequiresRule (Rule.matches v s) = ⊥
 
 module _ {N S : Type 0} (same : S → S → Bool) (p : Packages N S) (rules : Rule N S → Type 0) where
   -- clauses encode the locks and exclusions of the requirement's packages
@@ -130,13 +136,36 @@ module _ {N S : Type 0} (same : S → S → Bool) (p : Packages N S) (rules : Ru
   abbrev pub IsLimitEncoded : Option S → VersionSetId → Type 0
   IsLimitEncoded parent v = (s : S) → is_outside same p v s ≡ true → rules (Rule.limits parent v s) ⊎ (rules (Rule.limits_outside parent v) × rules (Rule.is_out v s))
 
-  -- Clauses encode the locks and exclusions of the recorded packages, and the candidates outside
-  -- the recorded version sets.
+  -- Clauses encode the locks and exclusions of the recorded packages, the candidates outside the
+  -- recorded version sets, and the matches of those that are recorded for their matches.
   pub record IsRecorded (recorded : EncodedOnce N S) : Type 0 where
     pub packages : (n : N) (s : S) → Contains recorded.packages.keys n → IsForbiddenIn same p n s → IsForbidden rules s
     pub version_sets : (v : VersionSetId) (s : S) → Contains recorded.version_sets.keys v → is_outside same p v s ≡ true → rules (Rule.is_out v s)
+    pub matches : (v : VersionSetId) (s : S) → Contains recorded.matches.keys v → is_match same p v s ≡ true → rules (Rule.matches v s)
 
 module _ {N S : Type 0} (same : S → S → Bool) (p : Packages N S) where
+  -- where the package is marked `many`, the registry knows it
+  abbrev pub IsMarkKnown : Encoder N S → N → Type 0
+  IsMarkKnown e n = is_many p n ≡ true → IsMany e.registry n
+
+  -- The requirement's candidates may be registered: its packages' locks and exclusions are clauses,
+  -- and their marks are known.
+  abbrev pub IsPrepared : Encoder N S → Requirement → Type 0
+  IsPrepared e r = IsGuarded same p (rules_of e) r × ((v : VersionSetId) → Contains (alternatives_of p.members_of r) v → IsMarkKnown e (p.set_package v))
+
+  -- The registry's marks are right, and it knows those of the packages of registered solvables and of
+  -- the recorded packages.
+  pub record AreMarked (e : Encoder N S) : Type 0 where
+    pub right : (n : N) → IsMany e.registry n → is_many p n ≡ true
+    pub registered : (n : N) (s : S) → IsRegistered e.registry e.coding n s → IsMarkKnown e n
+    pub recorded : (n : N) → Contains e.recorded.packages.keys n → IsMarkKnown e n
+
+  -- The version set of a case is encoded: its package is recorded, and the candidates outside it are
+  -- registered. Or its package is marked `many`, and it is recorded for its matches.
+  abbrev pub IsSetEncoded : Encoder N S → VersionSetId → Type 0
+  IsSetEncoded e v = ((is_many p (p.set_package v) ≡ false) × IsNamed e.recorded (p.set_package v) × ((s : S) → is_outside same p v s ≡ true → IsRegistered e.registry e.coding (p.package_of s) s))
+      ⊎ ((is_many p (p.set_package v) ≡ true) × Contains e.recorded.matches.keys v)
+
   -- the case of the parent's requirement is encoded, or deferred
   abbrev pub IsCaseEncoded : Encoder N S → Option S → ConditionalRequirement → List VersionSetId → Type 0
   IsCaseEncoded e parent need case = IsNeedEncoded same p (rules_of e) parent need case ⊎ IsDeferred e parent need case
@@ -160,12 +189,11 @@ module _ {N S : Type 0} (same : S → S → Bool) (p : Packages N S) (root : Rul
     pub waiting : (i : ℕ) (d : Deferred S) → slice_get e.deferred.items i ≡ Some d → IsCaseOf same p root d
     pub places : (i : ℕ) → Contains e.fired.keys i → i < length e.deferred.items
     pub fired : (i : ℕ) (d : Deferred S) → Contains e.fired.keys i → slice_get e.deferred.items i ≡ Some d → IsNeedEncoded same p (rules_of e) d.parent d.need (case_of d.conjuncts.items)
-    -- the packages of an encoded case are recorded, and the candidates outside its version sets are
-    -- registered
-    pub cased : (parent : Option S) (need : ConditionalRequirement) (case : List VersionSetId) (v : VersionSetId) → rules_of e (Rule.needs parent need case) → Contains case v
-        → IsNamed e.recorded (p.set_package v) × ((s : S) → is_outside same p v s ≡ true → Registered e s)
-    -- each registered solvable of a recorded package has its at-least-one clause, or waits
-    pub at_least_one : (n : N) (s : S) → Contains e.recorded.at_least_one.keys n → IsRegistered e.registry e.coding n s → rules_of e (Rule.is_there n s) ⊎ IsWaiting e n s
+    -- the version sets of an encoded case are encoded
+    pub cased : (parent : Option S) (need : ConditionalRequirement) (case : List VersionSetId) (v : VersionSetId) → rules_of e (Rule.needs parent need case) → Contains case v → IsSetEncoded same p e v
+    -- each registered solvable of a recorded package has its at-least-one clause, or waits, or its
+    -- package is marked
+    pub at_least_one : (n : N) (s : S) → Contains e.recorded.at_least_one.keys n → IsRegistered e.registry e.coding n s → rules_of e (Rule.is_there n s) ⊎ IsPending e n s
     pub there : (s : S) → Contains e.recorded.there.keys s → rules_of e (Rule.is_there (p.package_of s) s)
 
   -- The invariant of the encoding between its steps.
@@ -180,6 +208,7 @@ module _ {N S : Type 0} (same : S → S → Bool) (p : Packages N S) (root : Rul
     pub positive : AreRegistered (Registered e) e.coding
     pub named : (n : N) (s : S) → IsRegistered e.registry e.coding n s → n ≡ p.package_of s
     pub candidates : (s : S) → Registered e s → is_in same p (listed (p.candidates_of (p.package_of s))) s ≡ true
+    pub marks : AreMarked same p e
     -- the candidates of a requirement are the solvables that meet it
     pub listed : (r : Requirement) (c : Candidate N) → Contains (candidates_in e.lists r) c → (s : S) × IsCandidate e (p.package_of s) s c × (meets same p r s ≡ true)
     pub offered : (r : Requirement) (s : S) → has_candidates e.lists r ≡ true → meets same p r s ≡ true → (c : Candidate N) × Contains (candidates_in e.lists r) c × IsCandidate e (p.package_of s) s c

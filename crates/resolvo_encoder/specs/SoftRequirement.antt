@@ -1,7 +1,7 @@
 -- The begin of a soft requirement's turn, and the record of soft requirements.
 use Rattle.std.specs.Prelude.{◌++◌, ◌∷◌, [], List, Bool, ◌≡◌, ◌+◌, false, Contains}
 use Rattle.resolvo_pool_core.specs.declared.id.VariableId.{VariableId}
-use Rattle.resolvo_pool_core.specs.RuleKeeping.{Packages, Rules, IsLawful}
+use Rattle.resolvo_pool_core.specs.RuleKeeping.{Packages, Rules, IsLawful, is_many}
 use Rattle.resolvo_store_core.specs.Clauses.{yes}
 use Rattle.resolvo_store_core.specs.Signed.{has}
 use Rattle.resolvo_store_core.specs.declared.lists.Candidate.{Candidate}
@@ -34,8 +34,9 @@ pub record RegistersSoft {N S : Type 0} (same : S → S → Bool) (one : Offered
   pub present : Represents new.coding.atoms.keys v (Solvable one.solvable)
   pub tracked : IsTracked new.registry one.name v
 
--- The soft requirement is registered, with this variable, and recorded behind the others.
-pub record RecordsSoft {N S : Type 0} (same : S → S → Bool) (one : Offered N S) (v : VariableId) (old new : Encoder N S) : Type 0 where
+-- The soft requirement is registered, with this variable, and recorded behind the others. The mark
+-- of its package is known.
+pub record RecordsSoft {N S : Type 0} (same : S → S → Bool) (one : Offered N S) (many : Bool) (v : VariableId) (old new : Encoder N S) : Type 0 where
   pub built : IsBuilt new
   pub present : Represents new.coding.atoms.keys v (Solvable one.solvable)
   pub softs : new.recorded.softs.items ≡ old.recorded.softs.items ++ one.solvable ∷ []
@@ -46,7 +47,7 @@ pub record RecordsSoft {N S : Type 0} (same : S → S → Bool) (one : Offered N
   pub encoded : new.encoded ≡ old.encoded
   pub deferred : new.deferred ≡ old.deferred
   pub fired : new.fired ≡ old.fired
-  pub encoding : (p : Packages N S) (root : Rules) → IsLawful p → IsEncoding same p root old → IsListed same p one → IsEncoding same p root new
+  pub encoding : (p : Packages N S) (root : Rules) → IsLawful p → IsEncoding same p root old → IsListed same p one → many ≡ is_many p one.name → IsEncoding same p root new
 
 -- there is a last soft requirement, and it isn't chosen
 abbrev pub IsUntaken : {N S : Type 0} → Encoder N S → Type 0

@@ -17,12 +17,12 @@ use Rattle.resolvo_pool_core.specs.declared.solver_id.SolvableIdOrRoot.TheVarian
 use Rattle.resolvo_packages.specs.declared.package_source.Offered.{Offered}
 use Rattle.resolvo_packages.specs.PackageSource.{offered_solvables}
 use Rattle.resolvo_pool_core.specs.Provider.{listed}
-use Rattle.resolvo_pool_core.specs.RuleKeeping.{Packages, Rules, IsLawful, is_in, rules_for}
+use Rattle.resolvo_pool_core.specs.RuleKeeping.{Packages, Rules, IsLawful, is_in, rules_for, is_many}
 use Rattle.resolvo_pool_core.specs.declared.id.VersionSetId.{VersionSetId}
 use Rattle.resolvo_pool_core.specs.declared.requirement.ConditionalRequirement.{ConditionalRequirement}
 use Rattle.resolvo_decide.specs.Needs.{literals_in, Fits, AddsNeed}
 use Rattle.resolvo_decide.specs.Tallies.{HasNoTally}
-use Rattle.resolvo_sat.specs.RuleClauses.{Rule, cases_for, IsRule}
+use Rattle.resolvo_sat.specs.RuleClauses.{Rule, cases_for, AreMatched, IsRule}
 use Rattle.resolvo_sat.specs.Known.{clause_at}
 use Rattle.resolvo_sat.specs.State.{lists}
 use Rattle.resolvo_sat.specs.declared.clause.SatClause.{SatClause}
@@ -32,13 +32,13 @@ use Rattle.resolvo_state.specs.declared.clause_kind.ClauseKind.TheVariants as Ki
 use Rattle.resolvo_pool_core.specs.Text.{solvable_of}
 use Rattle.resolvo_pool_core.specs.declared.solver_id.SolvableIdOrRoot.{SolvableIdOrRoot}
 use Rattle.resolvo_store_core.specs.AtMostOne.{IsPrefixOf}
-use Rattle.resolvo_encoder.specs.Encoded.{IsParentVariable, IsCondition, IsParentEncoded, IsEncoding, AreCandidates}
+use Rattle.resolvo_encoder.specs.Encoded.{IsParentVariable, IsCondition, IsParentEncoded, IsMarkKnown, IsEncoding, AreCandidates}
 use Rattle.resolvo_state.specs.declared.clause_kind.ClauseKind.{ClauseKind}
 use Rattle.resolvo_state.specs.declared.solver_state.SolverState.{SolverState}
 use Rattle.resolvo_state.specs.declared.registry.Registry.{Registry}
 use Rattle.resolvo_state.specs.Atoms.{Represents}
 use Rattle.resolvo_state.specs.SolverState.{IsCoding, IsBegun, Grows, LacksNumber, SameTrail, AddsRule}
-use Rattle.resolvo_state.specs.Registered.{AreTied, IsTracked, IsQueued, IsNothing, Registers}
+use Rattle.resolvo_state.specs.Registered.{AreTied, IsTracked, IsQueued, IsMany, IsNothing, Registers}
 use Rattle.resolvo_encoder.specs.declared.encoder.Encoder.{Encoder}
 
 -- the need's clause exists, and has no literals but the denial of the parent, those of the
@@ -100,6 +100,7 @@ pub record RegistersAll {N S : Type 0} (offered : List (Offered N S)) (given : L
   pub keeps : (m : N) (u : VariableId) → IsTracked r m u → IsTracked t m u
   pub waits : (m : N) (u : VariableId) → IsQueued r m u → IsQueued t m u
   pub only : (m : N) (u : VariableId) → IsTracked t m u → IsTracked r m u ⊎ ((o : Offered N S) × Contains offered o × (m ≡ o.name) × Represents new.atoms.keys u (Solvable o.solvable) × IsQueued t m u)
+  pub many : t.many ≡ r.many
   pub clauses : new.search.clauses ≡ old.search.clauses
   pub kinds : new.kinds ≡ old.kinds
   pub each : (o : Offered N S) → Contains offered o → (c : Candidate N) × Contains given c × IsOfferedAs t new o c
@@ -120,17 +121,22 @@ AddsCandidates r offered old new = (q : Requirement) → has_candidates new.list
 abbrev pub IsListed : {N S : Type 0} → (S → S → Bool) → Packages N S → Offered N S → Type 0
 IsListed same p o = (o.name ≡ p.package_of o.solvable) × (is_in same p (listed (p.candidates_of o.name)) o.solvable ≡ true)
 
+-- the same, and the package's mark is known
+abbrev pub IsAddable : {N S : Type 0} → (S → S → Bool) → Packages N S → Encoder N S → Offered N S → Type 0
+IsAddable same p e o = IsListed same p o × IsMarkKnown same p e o.name
+
 -- The offered solvables are registered, and returned as candidates.
 pub record Enrols {N S : Type 0} (same : S → S → Bool) (offered : List (Offered N S)) (given : List (Candidate N)) (old new : Encoder N S) : Type 0 where
   pub built : IsBuilt new
   pub extends : Extends old new
   pub lists : new.lists ≡ old.lists
   pub recorded : new.recorded ≡ old.recorded
+  pub many : new.registry.many ≡ old.registry.many
   pub keeps : (m : N) (u : VariableId) → IsTracked old.registry m u → IsTracked new.registry m u
   pub each : (o : Offered N S) → Contains offered o → (c : Candidate N) × Contains given c × IsOfferedAs new.registry new.coding o c
   pub all : (c : Candidate N) → Contains given c → (o : Offered N S) × Contains offered o × IsOfferedAs new.registry new.coding o c
   pub ordered : AreCandidates new.coding.atoms.keys given (offered_solvables offered)
-  pub encoding : (p : Packages N S) (root : Rules) → IsLawful p → IsEncoding same p root old → ((o : Offered N S) → Contains offered o → IsListed same p o) → IsEncoding same p root new
+  pub encoding : (p : Packages N S) (root : Rules) → IsLawful p → IsEncoding same p root old → ((o : Offered N S) → Contains offered o → IsAddable same p old o) → IsEncoding same p root new
 
 -- the offered solvables are the requirement's candidates, unless it had some
 pub record Fixes {N S : Type 0} (same : S → S → Bool) (r : Requirement) (offered : List (Offered N S)) (old new : Encoder N S) : Type 0 where
@@ -157,7 +163,7 @@ pub record EncodesNeed {N S : Type 0} (kinds : ClauseKind N S) (v : VariableId) 
 -- has. The variable is the parent's or the gate's, the condition's literals are the case's.
 abbrev pub IsNeed : {N S : Type 0} → (S → S → Bool) → Packages N S → Rules → FixedLists N → List (ProofAtom N S) → ClauseKind N S → VariableId → Option (DenseId DisjunctionTag ℕ) → Requirement → Type 0
 IsNeed same p root lists atoms Kind.Root v condition r = ⊥
-IsNeed same p root lists atoms (Kind.Needs parent need case) v condition r = (need.requirement ≡ r) × IsParentVariable atoms parent v × IsCondition same p lists atoms condition case.items × Contains (rules_for same p root parent).requirements need × Contains (cases_for same p need) case.items
+IsNeed same p root lists atoms (Kind.Needs parent need case) v condition r = (need.requirement ≡ r) × IsParentVariable atoms parent v × IsCondition same p lists atoms condition case.items × Contains (rules_for same p root parent).requirements need × Contains (cases_for same p need) case.items × AreMatched same p case.items
 IsNeed same p root lists atoms (Kind.Gated s w) v condition r = ⊥
 IsNeed same p root lists atoms (Kind.Shared w) v condition r = (w ≡ r) × (condition ≡ None) × Represents atoms v (Gate w) × IsRule same p root (Rule.shared w)
 IsNeed same p root lists atoms (Kind.Limits parent w s) v condition r = ⊥
@@ -167,6 +173,7 @@ IsNeed same p root lists atoms (Kind.Locked locked s) v condition r = ⊥
 IsNeed same p root lists atoms (Kind.Excluded s why) v condition r = ⊥
 IsNeed same p root lists atoms (Kind.Digit n s place bit) v condition r = ⊥
 IsNeed same p root lists atoms (Kind.IsThere n s) v condition r = ⊥
+IsNeed same p root lists atoms (Kind.Matches w s) v condition r = ⊥
 IsNeed same p root lists atoms Kind.Learnt v condition r = ⊥
 
 -- only the clauses, the variables, their origins, and the states of requires clauses changed
@@ -211,6 +218,7 @@ pub record IsBegunEncoding {N S : Type 0} (e : Encoder N S) : Type 0 where
   pub gates : (r : Requirement) → slot_of e.gates r ≡ None
   pub packages : e.recorded.packages.keys ≡ []
   pub version_sets : e.recorded.version_sets.keys ≡ []
+  pub matches : e.recorded.matches.keys ≡ []
   pub at_least_one : e.recorded.at_least_one.keys ≡ []
   pub queued : e.recorded.queued.keys ≡ []
   pub there : e.recorded.there.keys ≡ []
@@ -219,6 +227,13 @@ pub record IsBegunEncoding {N S : Type 0} (e : Encoder N S) : Type 0 where
   pub encoded : e.encoded ≡ 0
   pub deferred : e.deferred.items ≡ []
   pub fired : e.fired.keys ≡ []
+
+-- The registry knows whether the package is marked `many`, and nothing else changed.
+pub record MarksPackage {N S : Type 0} (same : S → S → Bool) (name : N) (many : Bool) (old new : Encoder N S) : Type 0 where
+  pub built : IsBuilt new
+  pub rest : new ≡ record old { registry = record old.registry { many = new.registry.many } }
+  pub keeps : (n : N) → IsMany old.registry n → IsMany new.registry n
+  pub encoding : (p : Packages N S) (root : Rules) → IsLawful p → IsEncoding same p root old → many ≡ is_many p name → IsEncoding same p root new × IsMarkKnown same p new name
 
 -- parents were added behind the others, or none
 pub record AddsParent {N S : Type 0} (old new : Encoder N S) : Type 0 where

@@ -1,30 +1,28 @@
--- A set of versions as the judge keeps it: the number of the chosen version of each package.
-use Rattle.std.specs.Prelude.{◌≡◌, ℕ, ◌+◌, length, Bool, false, ⊤, if◌then◌else◌, List, [], ◌∷◌, Option, Some, None}
-use Rattle.std.specs.BTreeMap.{get_by_text}
-use Rattle.std.specs.List.{list_any}
-use Rattle.std.specs.Str.{bytes_eq}
+-- A set of versions as the judge keeps it: the numbers of the chosen versions of each package.
+use Rattle.std.specs.Prelude.{◌≡◌, ℕ, ◌+◌, length, false, ⊤, if◌then◌else◌, [], ◌∷◌, Option, Some, None}
+use Rattle.std.specs.Ordering.{nat_cmp}
+use Rattle.std.specs.Option.{option_and_then}
+use Rattle.std.specs.BTreeMap.{BTreeMap, get, get_by_text}
 use Rattle.resolvo_text.specs.Line.{Version}
-use Rattle.resolvo_text.specs.Matches.{Set, same_package}
+use Rattle.resolvo_text.specs.Matches.{Set, same_version, is_member}
 use Rattle.resolvo_judge.specs.declared.chosen.Chosen.{Chosen}
-use Rattle.resolvo_judge.specs.declared.chosen.Pick.{Pick}
 
--- the number of the first version of the package
-abbrev pub number_for : Set → List ℕ → Option ℕ
-number_for [] name = None
-number_for (v ∷ set) name = if bytes_eq v.name name then Some v.number else number_for set name
+-- the number of versions before this one, counted from i
+abbrev pub index_from : ℕ → Set → Version → Option ℕ
+index_from i [] v = None
+index_from i (w ∷ set) v = if same_version w v then Some i else index_from (i + 1) set v
 
--- the first version of the package, with the number of versions before it, counted from i
-abbrev pub pick_from : ℕ → Set → List ℕ → Option Pick
-pick_from i [] name = None
-pick_from i (v ∷ set) name = if bytes_eq v.name name then Some (record { number = v.number; index = i }) else pick_from (i + 1) set name
+-- the same, of the versions of one package by their numbers
+abbrev pub index_in : Option (BTreeMap ℕ ℕ) → ℕ → Option ℕ
+index_in numbers n = option_and_then (λ m. get nat_cmp m n) numbers
 
--- at most one version of each package
-abbrev pub AreOfOwnPackages : Set → Type 0
-AreOfOwnPackages [] = ⊤
-AreOfOwnPackages (v ∷ set) = (list_any (same_package v) set ≡ false) × AreOfOwnPackages set
+-- no version twice
+abbrev pub AreOnce : Set → Type 0
+AreOnce [] = ⊤
+AreOnce (v ∷ set) = (is_member v set ≡ false) × AreOnce set
 
 -- These are the chosen versions.
 pub record Holds (chosen : Chosen) (set : Set) : Type 0 where
-  pub picks : (name : List ℕ) → get_by_text chosen.picks name ≡ pick_from 0 set name
+  pub indexes : (v : Version) → index_in (get_by_text chosen.packages v.name) v.number ≡ index_from 0 set v
   pub count : chosen.count ≡ length set
-  pub own : AreOfOwnPackages set
+  pub once : AreOnce set

@@ -1,9 +1,10 @@
 -- Which entries and left-out wishes of an `install` report fit after those before them.
-use Rattle.std.specs.Prelude.{ℕ, Bool, true, false, not, ◌&&◌, nat_lt, List, [], ◌∷◌, Option, Some}
+use Rattle.std.specs.Prelude.{ℕ, Bool, true, false, not, ◌&&◌, nat_lt, if◌then◌else◌, List, [], ◌∷◌, Option, Some}
 use Rattle.std.specs.List.{list_any, list_all, flat_map}
 use Rattle.resolvo_text.specs.Line.{Version, Line, Needs, Wish}
 use Rattle.resolvo_text.specs.Matches.{Set, same_package, same_version, is_member, matches, condition_holds}
 use Rattle.resolvo_catalogue_core.specs.Grammar.{line_at}
+use Rattle.resolvo_catalogue_core.specs.Sets.{is_many}
 use Rattle.resolvo_report.specs.Value.{Place, OfRequest, OfVersion, AnswerLine, Entry, Wished, LeftOut}
 use Rattle.resolvo_checker.specs.StepClauses.{is_listed, line_of}
 
@@ -38,9 +39,13 @@ wish_lines lines = flat_map wish_line_of lines
 
 -- ---- one more line
 
--- The version is listed, and neither it nor another version of its package is an entry, and it isn't left out.
+-- The version is no entry. Nor is another version of its package, unless that is marked `many`.
+abbrev pub is_free : List Line → Set → Version → Bool
+is_free catalogue entries v = if is_many catalogue v.name then not (is_member v entries) else not (list_any (same_package v) entries)
+
+-- The version is listed and free, and it isn't left out.
 abbrev pub may_enter : List Line → List AnswerLine → Version → Bool
-may_enter catalogue before v = is_listed catalogue v && (not (list_any (same_package v) (entries_of before)) && not (is_member v (left_out before)))
+may_enter catalogue before v = is_listed catalogue v && (is_free catalogue (entries_of before) v && not (is_member v (left_out before)))
 
 -- the request, or an entry
 abbrev pub is_place_taken : Place → Set → Bool

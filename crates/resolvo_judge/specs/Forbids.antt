@@ -1,5 +1,5 @@
 -- Whether steps forbid the left-out wishes.
-use Rattle.std.specs.Prelude.{◌≡◌, ℕ, Bool, false, not, ◌&&◌, ◌||◌, List, [], ◌∷◌, ◌++◌, length, take, Option}
+use Rattle.std.specs.Prelude.{◌≡◌, Bool, false, not, ◌&&◌, ◌||◌, List, [], ◌∷◌, ◌++◌, length, take, Option}
 use Rattle.std.specs.List.{list_all}
 use Rattle.std.specs.Option.{option_map_or}
 use Rattle.resolvo_text.specs.Line.{Line, Version}

@@ -1,5 +1,5 @@
 -- Whether a report holds for the lines of a catalogue and a request, and where its text is refused.
-use Rattle.std.specs.Prelude.{◌≡◌, ℕ, ◌+◌, ◌<◌, ◌⊎◌, ⊤, true, IsTrue, List, [], ◌∷◌, ◌++◌, length, map, Option, Some, codes}
+use Rattle.std.specs.Prelude.{◌≡◌, ℕ, ◌+◌, ◌<◌, ◌⊎◌, ⊤, true, IsTrue, List, [], ◌++◌, length, map, Option, Some, codes}
 use Rattle.resolvo_text.specs.Device.{IfKnown, DeviceFailed}
 use Rattle.resolvo_text.specs.Line.{Line}
 use Rattle.resolvo_text.specs.Lines.{newlines}

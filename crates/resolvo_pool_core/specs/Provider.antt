@@ -32,13 +32,14 @@ pub record Listing (S : Type 0) : Type 0 where
   pub locked : Option S
   pub hint : Hint S
   pub excluded : List (S × StringId)
+  pub many : Bool
 
 abbrev pub listing : {S : Type 0} → Candidates S → Listing S
-listing c = record { candidates = c.candidates.items; favored = c.favored; locked = c.locked; hint = hint_of c.hint_dependencies_available; excluded = c.excluded.items }
+listing c = record { candidates = c.candidates.items; favored = c.favored; locked = c.locked; hint = hint_of c.hint_dependencies_available; excluded = c.excluded.items; many = c.many }
 
 -- a package without candidates
 abbrev pub empty_listing : {S : Type 0} → Listing S
-empty_listing = record { candidates = []; favored = None; locked = None; hint = none; excluded = [] }
+empty_listing = record { candidates = []; favored = None; locked = None; hint = none; excluded = []; many = false }
 
 -- the dependencies of a solvable, or the reason why they are unknown
 pub data Needs : Type 0 where

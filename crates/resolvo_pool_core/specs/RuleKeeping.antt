@@ -27,6 +27,10 @@ pub record IsLawful {N S : Type 0} (p : Packages N S) : Type 0 where
   pub below : (c : ConditionId) → OperandsBelow (p.condition_of c) c
   pub named : (n : N) → AreOf p.package_of n (p.candidates_of n)
 
+-- the provider marks the package `many`: its candidates may be chosen side by side
+abbrev pub is_many : {N S : Type 0} → Packages N S → N → Bool
+is_many p n = (listing_or_empty (p.candidates_of n)).many
+
 -- the rules of a problem's root
 pub record Rules : Type 0 where
   pub requirements : List ConditionalRequirement
@@ -97,10 +101,10 @@ module _ {N S : Type 0} (same : S → S → Bool) (p : Packages N S) where
   abbrev pub is_forbidden : S → Bool
   is_forbidden s = locks_out same (listing_for s).locked s || list_any (λ e. same e.0 s) (listing_for s).excluded
 
-  -- the set holds candidates, at most one a package
+  -- the set holds candidates, at most one of each package that isn't marked `many`
   pub record IsSingle (chosen : List S) : Type 0 where
     pub listed : (s : S) → is_in chosen s ≡ true → is_in (listing_for s).candidates s ≡ true
-    pub one : (s t : S) → is_in chosen s ≡ true → is_in chosen t ≡ true → p.package_of s ≡ p.package_of t → s ≡ t
+    pub one : (s t : S) → is_in chosen s ≡ true → is_in chosen t ≡ true → p.package_of s ≡ p.package_of t → is_many p (p.package_of s) ≡ false → s ≡ t
 
   module _ (root : Rules) where
     -- the rules of the root, or of a solvable

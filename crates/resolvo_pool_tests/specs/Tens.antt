@@ -15,7 +15,7 @@ tens_place n v = record { raw = n * 10 + v; tag = record {} }
 
 -- the versions 0 to 2 of the packages 0 to 2
 abbrev pub tens_listing : Option Place → DenseId NameTag ℕ → Option (Listing Place)
-tens_listing favored n = cond (nat_lt 2 n.raw) None (Some (record { candidates = tens_place n.raw 0 ∷ tens_place n.raw 1 ∷ tens_place n.raw 2 ∷ []; favored = favored; locked = None; hint = all; excluded = [] }))
+tens_listing favored n = cond (nat_lt 2 n.raw) None (Some (record { candidates = tens_place n.raw 0 ∷ tens_place n.raw 1 ∷ tens_place n.raw 2 ∷ []; favored = favored; locked = None; hint = all; excluded = []; many = false }))
 
 -- version 2 has unknown dependencies, the others need nothing
 abbrev pub tens_needs : Place → Needs
@@ -36,6 +36,6 @@ all_named n =
 pub tens_named : (favored : Option Place) (n : DenseId NameTag ℕ) → AreOf tens_name n (tens_listing favored n)
 tens_named favored n = go (nat_lt 2 n.raw)
   where
-    go : (b : Bool) → AreOf tens_name n (cond b None (Some (record { candidates = tens_place n.raw 0 ∷ tens_place n.raw 1 ∷ tens_place n.raw 2 ∷ []; favored = favored; locked = None; hint = all; excluded = [] })))
+    go : (b : Bool) → AreOf tens_name n (cond b None (Some (record { candidates = tens_place n.raw 0 ∷ tens_place n.raw 1 ∷ tens_place n.raw 2 ∷ []; favored = favored; locked = None; hint = all; excluded = []; many = false })))
     go true = tt
     go false = record { candidates = all_named n; locked = tt; excluded = All-nil (λ e. tens_name e.0 ≡ n) }

@@ -5,7 +5,7 @@ use Rattle.std.specs.Option.{option_or, option_and_then, option_to_list}
 use Rattle.resolvo_pool_core.specs.declared.id.VersionSetId.{VersionSetId}
 use Rattle.resolvo_pool_core.specs.declared.requirement.Requirement.{Requirement}
 use Rattle.resolvo_proof.specs.declared.step.ProofRule.{ProofRule}
-use Rattle.resolvo_proof.specs.declared.step.ProofRule.TheVariants.{Needs, GateOf, Shared, Limit, Outside, Locked, Excluded, Digit, AtLeastOne}
+use Rattle.resolvo_proof.specs.declared.step.ProofRule.TheVariants.{Needs, GateOf, Shared, Limit, Outside, Locked, Excluded, Digit, AtLeastOne, Matches}
 use Rattle.resolvo_proof.specs.declared.link.Link.{Link}
 use Rattle.resolvo_proof.specs.declared.link.Link.TheVariants as Links
 use Rattle.resolvo_graph.specs.Tree.{same_set}
@@ -23,6 +23,7 @@ gate_in (Locked locked s) = None
 gate_in (Excluded s why) = None
 gate_in (Digit s place bit) = None
 gate_in (AtLeastOne n s) = None
+gate_in (Matches v s) = None
 
 -- the parent and its version set, which keeps out the versions outside it
 abbrev pub limit_in : {N S : Type 0} → ProofRule N S → Option (VersionSetId × Option S)
@@ -36,6 +37,7 @@ limit_in (Locked locked s) = None
 limit_in (Excluded s why) = None
 limit_in (Digit s place bit) = None
 limit_in (AtLeastOne n s) = None
+limit_in (Matches v s) = None
 
 -- the solvable outside a version set
 abbrev pub outside_in : {N S : Type 0} → ProofRule N S → Option (VersionSetId × S)
@@ -48,6 +50,7 @@ outside_in (Locked locked s) = None
 outside_in (Excluded s why) = None
 outside_in (Digit s place bit) = None
 outside_in (AtLeastOne n s) = None
+outside_in (Matches v s) = None
 
 -- the version of a digit
 abbrev pub instance_in : {N S : Type 0} → ProofRule N S → Option S
@@ -60,6 +63,7 @@ instance_in (Locked locked s) = None
 instance_in (Excluded s why) = None
 instance_in (Digit s place bit) = Some s
 instance_in (AtLeastOne n s) = None
+instance_in (Matches v s) = None
 
 -- the parents that open the gate of the requirement
 abbrev pub requirers : {S : Type 0} → List (Requirement × S) → Requirement → List S
@@ -94,6 +98,7 @@ module _ {S : Type 0} (offered : Requirement → List S) (parents : Requirement 
   links_at before (Excluded s why) = Links.Excluded s why ∷ []
   links_at before (Digit s place bit) = Links.Instance before s ∷ []
   links_at before (AtLeastOne n s) = []
+  links_at before (Matches v s) = []
 
 module _ {N S : Type 0} (same_name : N → N → Bool) (package_of : S → N) where
   abbrev pub named : N → Option S → Option S

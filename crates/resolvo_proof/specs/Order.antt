@@ -4,7 +4,7 @@ use Rattle.std.specs.List.{flat_map, filter_map}
 use Rattle.indexmap.specs.IndexSet.{insert_all}
 use Rattle.resolvo_pool_core.specs.declared.requirement.Requirement.{Requirement}
 use Rattle.resolvo_proof.specs.declared.step.ProofRule.{ProofRule}
-use Rattle.resolvo_proof.specs.declared.step.ProofRule.TheVariants.{Needs, GateOf, Shared, Limit, Outside, Locked, Excluded, Digit, AtLeastOne}
+use Rattle.resolvo_proof.specs.declared.step.ProofRule.TheVariants.{Needs, GateOf, Shared, Limit, Outside, Locked, Excluded, Digit, AtLeastOne, Matches}
 use Rattle.resolvo_proof.specs.declared.step.ProofStep.{ProofStep}
 use Rattle.resolvo_proof.specs.declared.step.ProofStep.TheVariants.{Rule, Derived}
 use Rattle.resolvo_sat.specs.RuleClauses.{same_requirement}
@@ -58,6 +58,7 @@ named_by (Locked locked s) = None
 named_by (Excluded s why) = None
 named_by (Digit s place bit) = None
 named_by (AtLeastOne n s) = None
+named_by (Matches v s) = None
 
 -- the requirements that rules name, each once
 abbrev pub requirements_in : {N S : Type 0} → List (ProofRule N S) → List Requirement

@@ -8,7 +8,7 @@ use Rattle.resolvo_sat.specs.RuleClauses as Encoder
 use Rattle.resolvo_sat.specs.RuleClauses.{Atom, literals_of}
 use Rattle.resolvo_state.specs.Atoms.{atom_of}
 use Rattle.resolvo_proof.specs.declared.step.ProofRule.{ProofRule}
-use Rattle.resolvo_proof.specs.declared.step.ProofRule.TheVariants.{Needs, GateOf, Shared, Limit, Outside, Locked, Excluded, Digit, AtLeastOne}
+use Rattle.resolvo_proof.specs.declared.step.ProofRule.TheVariants.{Needs, GateOf, Shared, Limit, Outside, Locked, Excluded, Digit, AtLeastOne, Matches}
 use Rattle.resolvo_proof.specs.declared.step.ProofLiteral.{ProofLiteral}
 use Rattle.resolvo_proof.specs.declared.step.ProofStep.{ProofStep}
 use Rattle.resolvo_proof.specs.declared.step.ProofStep.TheVariants.{Rule, Derived}
@@ -29,6 +29,7 @@ rule_under condition (Locked locked s) = Encoder.Rule.forbids (Encoder.ForbidRea
 rule_under condition (Excluded s reason) = Encoder.Rule.forbids (Encoder.ForbidReason.word reason) s
 rule_under condition (Digit s place bit) = Encoder.Rule.has_digit s bit (digit place bit)
 rule_under condition (AtLeastOne n s) = Encoder.Rule.is_there n s
+rule_under condition (Matches v s) = Encoder.Rule.matches v s
 
 module _ {N S : Type 0} (same : S → S → Bool) (p : Packages N S) where
   -- the clause of a step; that of a need is the same under each condition

@@ -13,7 +13,7 @@ use Rattle.resolvo_state.specs.declared.clause_kind.ClauseKind.TheVariants as Ki
 use Rattle.resolvo_state.specs.Atoms.{origin}
 use Rattle.resolvo_state.specs.ClauseKinds.{kind_at}
 use Rattle.resolvo_proof.specs.declared.step.ProofRule.{ProofRule}
-use Rattle.resolvo_proof.specs.declared.step.ProofRule.TheVariants.{Needs, GateOf, Shared, Limit, Outside, Locked, Excluded, Digit, AtLeastOne}
+use Rattle.resolvo_proof.specs.declared.step.ProofRule.TheVariants.{Needs, GateOf, Shared, Limit, Outside, Locked, Excluded, Digit, AtLeastOne, Matches}
 use Rattle.resolvo_proof.specs.declared.step.ProofLiteral.{ProofLiteral}
 use Rattle.resolvo_proof.specs.declared.step.ProofStep.{ProofStep}
 use Rattle.resolvo_proof.specs.declared.step.ProofStep.TheVariants.{Rule, Derived}
@@ -47,6 +47,7 @@ forbid_rule (Kind.Locked locked s) = Some (Locked locked s)
 forbid_rule (Kind.Excluded s reason) = Some (Excluded s reason)
 forbid_rule (Kind.Digit n s place bit) = None
 forbid_rule (Kind.IsThere n s) = None
+forbid_rule (Kind.Matches v s) = None
 forbid_rule Kind.Learnt = None
 
 -- the rule that is written for a kind; the root's clause and a learnt one have none
@@ -62,6 +63,7 @@ IsRuleOf (Kind.Locked locked s) encoded = encoded ≡ Some (Locked locked s)
 IsRuleOf (Kind.Excluded s reason) encoded = encoded ≡ Some (Excluded s reason)
 IsRuleOf (Kind.Digit n s place bit) encoded = encoded ≡ Some (Digit s place bit)
 IsRuleOf (Kind.IsThere n s) encoded = encoded ≡ Some (AtLeastOne n s)
+IsRuleOf (Kind.Matches v s) encoded = encoded ≡ Some (Matches v s)
 IsRuleOf Kind.Learnt encoded = encoded ≡ None
 
 -- the step is derived, with the meanings of the literals and the places of the causes

@@ -5,7 +5,7 @@ use Rattle.std.specs.Str.{bytes_eq}
 use Rattle.resolvo_text.specs.Line.{Version, Spec}
 use Rattle.resolvo_text.specs.Spelling.{Words}
 use Rattle.resolvo_text.specs.Parse.{◌>>=◌, words_in, word_at, end_at, name_in, number_in, reason_at, spec_at, skip, alternatives_at, is_space}
-use Rattle.resolvo_report.specs.Value.{Place, OfRequest, OfVersion, Atom, Chosen, AnyOf, SharedBy, OutsideOf, BitOf, Literal, Step, Need, Gate, Shared, LimitBars, Limit, Outside, Lock, Exclude, Unknown, Digit, Any, Derive, Entry, Wished, LeftOut, ReportLine, InstallHead, RefusedHead, Answer, CatalogueLine, RequestLine, Numbered, Message}
+use Rattle.resolvo_report.specs.Value.{Place, OfRequest, OfVersion, Atom, Chosen, AnyOf, SharedBy, OutsideOf, MatchesOf, BitOf, Literal, Step, Need, Gate, Shared, LimitBars, Limit, Outside, Matches, Lock, Exclude, Unknown, Digit, Any, Derive, Entry, Wished, LeftOut, ReportLine, InstallHead, RefusedHead, Answer, CatalogueLine, RequestLine, Numbered, Message}
 pub use Rattle.resolvo_literal_order.specs.Order.{atom_part, are_in_order}
 
 -- a part of a line, and the words after it
@@ -69,6 +69,7 @@ atom_by k words =
     if bytes_eq k (codes "any") then whole reason_at (λ name. AnyOf name) words
     else if bytes_eq k (codes "shared") then whole specs_at (λ ss. SharedBy ss) words
     else if bytes_eq k (codes "outside") then whole spec_at (λ s. OutsideOf s) words
+    else if bytes_eq k (codes "matches") then whole spec_at (λ s. MatchesOf s) words
     else if bytes_eq k (codes "bit") then whole (pair_at bit_at (behind_at (codes "of") reason_at)) (λ x. BitOf x.0 x.1) words
     else (version_in k >>= λ v. end_at words >>= λ _. Some (Chosen v))
 
@@ -149,6 +150,9 @@ shared_in words = whole specs_at (λ ss. Shared ss) words
 unfoldable pub outside_in : Words → Option Step
 outside_in words = whole (pair_at spec_at (behind_at (codes "holds") version_at)) (λ x. Outside x.0 x.1) words
 
+unfoldable pub matches_in : Words → Option Step
+matches_in words = whole (pair_at spec_at (behind_at (codes "holds") version_at)) (λ x. Matches x.0 x.1) words
+
 unfoldable pub lock_in : Words → Option Step
 lock_in words = whole (pair_at line_at (behind_at (codes "bars") version_at)) (λ x. Lock x.0 x.1) words
 
@@ -169,6 +173,7 @@ step_by k words =
     else if bytes_eq k (codes "shared") then shared_in words
     else if bytes_eq k (codes "limit") then limit_in words
     else if bytes_eq k (codes "outside") then outside_in words
+    else if bytes_eq k (codes "matches") then matches_in words
     else if bytes_eq k (codes "lock") then lock_in words
     else if bytes_eq k (codes "exclude") then (line_in words >>= λ n. Some (Exclude n))
     else if bytes_eq k (codes "unknown") then (line_in words >>= λ n. Some (Unknown n))

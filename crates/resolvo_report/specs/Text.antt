@@ -9,7 +9,7 @@ use Rattle.resolvo_text.specs.Line.{Version, Spec}
 use Rattle.resolvo_text.specs.Lines.{is_newline}
 use Rattle.resolvo_text.specs.Spelling.{Words, is_name, spec_words, alternatives_words, IsNumber, IsVersion, IsSpec}
 pub use Rattle.resolvo_literal_order.specs.Order.{is_before, are_rising, are_once}
-use Rattle.resolvo_report.specs.Value.{Place, OfRequest, OfVersion, Atom, Chosen, AnyOf, SharedBy, OutsideOf, BitOf, Literal, Step, Need, Gate, Shared, LimitBars, Limit, Outside, Lock, Exclude, Unknown, Digit, Any, Derive, AnswerLine, Entry, Wished, LeftOut, Report, Install, Refused, ReportLine, InstallHead, RefusedHead, Answer, CatalogueLine, RequestLine, Numbered, Message}
+use Rattle.resolvo_report.specs.Value.{Place, OfRequest, OfVersion, Atom, Chosen, AnyOf, SharedBy, OutsideOf, MatchesOf, BitOf, Literal, Step, Need, Gate, Shared, LimitBars, Limit, Outside, Matches, Lock, Exclude, Unknown, Digit, Any, Derive, AnswerLine, Entry, Wished, LeftOut, Report, Install, Refused, ReportLine, InstallHead, RefusedHead, Answer, CatalogueLine, RequestLine, Numbered, Message}
 
 -- ---- places, atoms, literals
 
@@ -26,6 +26,7 @@ atom_words (Chosen v) = version_text v ∷ []
 atom_words (AnyOf name) = codes "any" ∷ name ∷ []
 atom_words (SharedBy alternatives) = codes "shared" ∷ alternatives_words alternatives
 atom_words (OutsideOf s) = codes "outside" ∷ spec_words s
+atom_words (MatchesOf s) = codes "matches" ∷ spec_words s
 atom_words (BitOf bit name) = codes "bit" ∷ decimal bit ∷ codes "of" ∷ name ∷ []
 
 abbrev pub signed : Bool → Words → Words
@@ -57,6 +58,7 @@ step_words (Shared alternatives) = codes "shared" ∷ alternatives_words alterna
 step_words (LimitBars place line v) = codes "limit" ∷ place_text place ∷ codes "line" ∷ decimal line ∷ codes "bars" ∷ version_text v ∷ []
 step_words (Limit place line) = codes "limit" ∷ place_text place ∷ codes "line" ∷ decimal line ∷ []
 step_words (Outside s v) = codes "outside" ∷ (spec_words s ++ codes "holds" ∷ version_text v ∷ [])
+step_words (Matches s v) = codes "matches" ∷ (spec_words s ++ codes "holds" ∷ version_text v ∷ [])
 step_words (Lock line v) = codes "lock" ∷ codes "line" ∷ decimal line ∷ codes "bars" ∷ version_text v ∷ []
 step_words (Exclude line) = codes "exclude" ∷ codes "line" ∷ decimal line ∷ []
 step_words (Unknown line) = codes "unknown" ∷ codes "line" ∷ decimal line ∷ []
@@ -107,6 +109,7 @@ IsAtom (Chosen v) = IsVersion v
 IsAtom (AnyOf name) = IsTrue (is_name name)
 IsAtom (SharedBy alternatives) = AreAlternatives alternatives
 IsAtom (OutsideOf s) = IsSpec s
+IsAtom (MatchesOf s) = IsSpec s
 IsAtom (BitOf bit name) = IsBit bit × IsTrue (is_name name)
 
 -- The literals are in byte order of their texts, each atom once.
@@ -125,6 +128,7 @@ IsStep (Shared alternatives) = AreAlternatives alternatives
 IsStep (LimitBars place line v) = IsPlace place × IsLineNumber line × IsVersion v
 IsStep (Limit place line) = IsPlace place × IsLineNumber line
 IsStep (Outside s v) = IsSpec s × IsVersion v
+IsStep (Matches s v) = IsSpec s × IsVersion v
 IsStep (Lock line v) = IsLineNumber line × IsVersion v
 IsStep (Exclude line) = IsLineNumber line
 IsStep (Unknown line) = IsLineNumber line

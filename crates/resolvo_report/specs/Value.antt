@@ -8,12 +8,14 @@ pub data Place : Type 0 where
   OfVersion : Version → Place
 
 -- A version is chosen, some version of a package is, one of these SPECs must be met, the versions that a SPEC
--- doesn't match are forbidden, or a binary digit of the place of a package's chosen version.
+-- doesn't match are forbidden, a version that a SPEC matches is chosen, or a binary digit of the place of a
+-- package's chosen version.
 pub data Atom : Type 0 where
   Chosen : Version → Atom
   AnyOf : List ℕ → Atom
   SharedBy : List Spec → Atom
   OutsideOf : Spec → Atom
+  MatchesOf : Spec → Atom
   BitOf : ℕ → List ℕ → Atom
 
 -- an atom, or its negation
@@ -30,6 +32,7 @@ pub data Step : Type 0 where
   LimitBars : Place → ℕ → Version → Step
   Limit : Place → ℕ → Step
   Outside : Spec → Version → Step
+  Matches : Spec → Version → Step
   Lock : ℕ → Version → Step
   Exclude : ℕ → Step
   Unknown : ℕ → Step

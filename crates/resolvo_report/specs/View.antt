@@ -27,6 +27,7 @@ atom_of (atom.Version v) = model.Chosen (version_of v)
 atom_of (atom.Any name) = model.AnyOf (string_bytes name)
 atom_of (atom.Shared alternatives) = model.SharedBy (specs_of alternatives.items)
 atom_of (atom.Outside spec) = model.OutsideOf (spec_of spec)
+atom_of (atom.Matches spec) = model.MatchesOf (spec_of spec)
 atom_of (atom.Bit bit name) = model.BitOf bit (string_bytes name)
 
 abbrev pub literal_of : Literal → model.Literal
@@ -42,6 +43,7 @@ step_of (step.Shared alternatives) = model.Shared (specs_of alternatives.items)
 step_of (step.LimitBars place line v) = model.LimitBars (place_of place) line (version_of v)
 step_of (step.Limit place line) = model.Limit (place_of place) line
 step_of (step.Outside spec v) = model.Outside (spec_of spec) (version_of v)
+step_of (step.Matches spec v) = model.Matches (spec_of spec) (version_of v)
 step_of (step.Lock line v) = model.Lock line (version_of v)
 step_of (step.Exclude line) = model.Exclude line
 step_of (step.Unknown line) = model.Unknown line

@@ -6,7 +6,7 @@ use Rattle.resolvo_pool_core.specs.declared.requirement.ConditionalRequirement.{
 use Rattle.resolvo_pool_core.specs.declared.requirement.Requirement.{Requirement}
 use Rattle.resolvo_pool_core.specs.OnePass.{Literal}
 use Rattle.resolvo_pool_core.specs.Text.{alternatives_of}
-use Rattle.resolvo_pool_core.specs.RuleKeeping.{Packages, Rules, is_in, is_match, meets, binds, rules_for, is_member, IsRuleKeeping, IsReached}
+use Rattle.resolvo_pool_core.specs.RuleKeeping.{Packages, Rules, is_in, is_match, is_many, meets, binds, rules_for, is_member, IsRuleKeeping, IsReached}
 use Rattle.resolvo_sat.specs.RuleClauses.{Atom, Rule, plus, minus}
 use Rattle.resolvo_sat.specs.SearchEnd.{IsAsked}
 
@@ -42,8 +42,10 @@ module _ {N S : Type 0} (same : S → S → Bool) (p : Packages N S) (tried : Ve
     abbrev pub HoldsFirst : List S → Type 0
     HoldsFirst list = (parent : Option S) (need : ConditionalRequirement) (s : S) → is_member same p root list parent ≡ true → Contains (rules_for same p root parent).requirements need → binds same p list need ≡ true → IsFirst (order need.requirement) s → is_in same p list s ≡ true
 
-    -- The first choices: the least such set. It keeps all rules, and no requirement that binds in it has alternatives.
+    -- The first choices: the least such set. It keeps all rules, no requirement that binds in it has alternatives, and no package is
+    -- marked `many`.
     pub record IsFirstChoices (first : List S) : Type 0 where
+      pub unmarked : (n : N) → is_many p n ≡ false
       pub holds : HoldsFirst first
       pub least : (list : List S) → HoldsFirst list → (s : S) → is_in same p first s ≡ true → is_in same p list s ≡ true
       pub keeping : IsRuleKeeping same p root first

@@ -1,5 +1,5 @@
 -- The clauses of a problem's rules, over atoms, and the values of atoms over a set of solvables.
-use Rattle.std.specs.Prelude.{◌≡◌, ℕ, ◌<◌, ◌⊎◌, ◌==◌, Bool, true, false, not, ◌&&◌, ◌||◌, List, [], ◌∷◌, ◌++◌, map, filter, Option, None, Some, Contains}
+use Rattle.std.specs.Prelude.{◌≡◌, ℕ, ◌<◌, ◌⊎◌, ◌==◌, Bool, true, false, not, ◌&&◌, ◌||◌, List, [], ◌∷◌, ◌++◌, map, filter, Option, None, Some, cond, Contains}
 use Rattle.std.specs.List.{list_any, list_all}
 use Rattle.resolvo_pool_core.specs.declared.id.VersionSetId.{VersionSetId}
 use Rattle.resolvo_pool_core.specs.declared.id.ConditionId.{ConditionId}
@@ -11,7 +11,7 @@ use Rattle.resolvo_pool_core.specs.declared.requirement.Requirement.TheVariants.
 use Rattle.resolvo_pool_core.specs.OnePass.{Literal, clause_true}
 use Rattle.resolvo_pool_core.specs.Provider.{listed, unknown}
 use Rattle.resolvo_pool_core.specs.Text.{alternatives_of}
-use Rattle.resolvo_pool_core.specs.RuleKeeping.{Packages, Rules, rules_of, is_in, is_outside, is_met, listing_for, is_forbidden, rules_for}
+use Rattle.resolvo_pool_core.specs.RuleKeeping.{Packages, Rules, is_many, rules_of, is_in, is_match, is_outside, is_met, listing_for, is_forbidden, rules_for}
 use Rattle.resolvo_store_core.specs.Cases.{cases}
 
 -- the test holds of each value with itself, and of no two different ones
@@ -20,13 +20,14 @@ pub record IsExact {X : Type 0} (same : X → X → Bool) : Type 0 where
   pub own : (x : X) → same x x ≡ true
 
 -- What a variable is made for: a solvable is chosen; a chosen one asks for the requirement without condition; a
--- chosen one is a candidate outside the version set; a candidate of the package is chosen; a binary digit of the
--- place of the package's chosen solvable.
+-- chosen one is a candidate outside the version set; a candidate of the package is chosen; a chosen one matches the
+-- version set, whose package is marked `many`; a binary digit of the place of the package's chosen solvable.
 pub data Atom (N S : Type 0) : Type 0 where
   solvable : S → Atom N S
   gate : Requirement → Atom N S
   outside : VersionSetId → Atom N S
   any_of : N → Atom N S
+  matches : VersionSetId → Atom N S
   digit : N → ℕ → Atom N S
 
 -- the atom is true
@@ -52,6 +53,7 @@ pub data ForbidReason (S : Type 0) : Type 0 where
 -- forbids: a lock, an exclusion or unknown dependencies forbid the solvable, for this reason
 -- has_digit: the digit of the solvable's place
 -- is_there: the solvable is a candidate of the package
+-- matches: the solvable matches the version set, whose package is marked `many`
 pub data Rule (N S : Type 0) : Type 0 where
   needs : Option S → ConditionalRequirement → List VersionSetId → Rule N S
   gated : S → Requirement → Rule N S
@@ -62,6 +64,7 @@ pub data Rule (N S : Type 0) : Type 0 where
   forbids : ForbidReason S → S → Rule N S
   has_digit : S → ℕ → Bool → Rule N S
   is_there : N → S → Rule N S
+  matches : VersionSetId → S → Rule N S
 
 -- these solvables are chosen
 abbrev pub solvables : {N S : Type 0} → List S → List (Literal (Atom N S))
@@ -100,10 +103,18 @@ module _ {N S : Type 0} (same : S → S → Bool) (p : Packages N S) where
   abbrev pub case_holds : List S → List VersionSetId → Bool
   case_holds chosen vs = list_all (is_met same p chosen) vs
 
-  -- some version set of the case has no chosen match: no candidate of its package is chosen, or one outside it is
+  -- no candidate of the version set's package is chosen, or one outside it is
+  abbrev pub outside_literals : VersionSetId → List (Literal (Atom N S))
+  outside_literals v = minus (Atom.any_of (p.set_package v)) ∷ solvables (filter (λ s. not (p.matches v s)) (listed (p.candidates_of (p.set_package v))))
+
+  -- The version set has no chosen match. Of a package that is marked `many` one outside it may be chosen beside a match.
+  abbrev pub set_literals : VersionSetId → List (Literal (Atom N S))
+  set_literals v = cond (is_many p (p.set_package v)) (minus (Atom.matches v) ∷ []) (outside_literals v)
+
+  -- some version set of the case has no chosen match
   abbrev pub case_literals : List VersionSetId → List (Literal (Atom N S))
   case_literals [] = []
-  case_literals (v ∷ vs) = minus (Atom.any_of (p.set_package v)) ∷ (solvables (filter (λ s. not (p.matches v s)) (listed (p.candidates_of (p.set_package v)))) ++ case_literals vs)
+  case_literals (v ∷ vs) = set_literals v ++ case_literals vs
 
   -- a match of some version set is chosen
   abbrev pub candidate_literals : List VersionSetId → List (Literal (Atom N S))
@@ -121,6 +132,7 @@ module _ {N S : Type 0} (same : S → S → Bool) (p : Packages N S) where
   literals_of (Rule.forbids w s) = minus (Atom.solvable s) ∷ []
   literals_of (Rule.has_digit s bit b) = minus (Atom.solvable s) ∷ (let l : Literal (Atom N S) = record { atom = Atom.digit (p.package_of s) bit; positive = b } in l) ∷ []
   literals_of (Rule.is_there n s) = minus (Atom.solvable s) ∷ plus (Atom.any_of n) ∷ []
+  literals_of (Rule.matches v s) = minus (Atom.solvable s) ∷ plus (Atom.matches v) ∷ []
 
   -- some member asks for the requirement without condition
   abbrev pub is_asked : List S → Requirement → Bool
@@ -132,6 +144,7 @@ module _ {N S : Type 0} (same : S → S → Bool) (p : Packages N S) where
   value digits chosen (Atom.gate r) = is_asked chosen r
   value digits chosen (Atom.outside v) = list_any (is_outside same p v) chosen
   value digits chosen (Atom.any_of n) = list_any (is_in same p (listed (p.candidates_of n))) chosen
+  value digits chosen (Atom.matches v) = is_met same p chosen v
   value digits chosen (Atom.digit n bit) = digits n bit
 
   -- Each valuation that makes the clauses of these rules true makes this clause true.
@@ -157,18 +170,28 @@ module _ {N S : Type 0} (same : S → S → Bool) (p : Packages N S) where
   KeepsOut (ForbidReason.lock l) s = ((listing_for same p s).locked ≡ Some l) × (same l s ≡ false) × (is_in same p (listing_for same p s).candidates s ≡ true)
   KeepsOut (ForbidReason.word why) s = Contains (listing_for same p s).excluded (s, why) ⊎ (p.dependencies_of s ≡ unknown why)
 
-  -- The rule is one of the provider's and the root's: some solvable asks for a shared requirement, some parent has a version set
-  -- that a solvable is outside of, and a digit is one of 32 of a candidate's place.
+  -- some solvable matches each version set of the case
+  abbrev pub AreMatched : List VersionSetId → Type 0
+  AreMatched vs = (v : VersionSetId) → Contains vs v → (s : S) × (is_match same p v s ≡ true)
+
+  -- the version set is one of a case of the root's or some solvable's need
+  abbrev pub IsOfCase : Rules → VersionSetId → Type 0
+  IsOfCase root v = (parent : Option S) × (need : ConditionalRequirement) × (case : List VersionSetId) × Contains (rules_for same p root parent).requirements need × Contains (cases_for need) case × Contains case v
+
+  -- The rule is one of the provider's and the root's: each version set of a need's case has a match, some solvable asks for a
+  -- shared requirement, some parent has a version set that a solvable is outside of, and a digit is one of 32 of a candidate's
+  -- place. A package that is marked `many` has no digits, and the rules of matches are of its version sets in cases.
   abbrev pub IsRule : Rules → Rule N S → Type 0
-  IsRule root (Rule.needs parent need vs) = Contains (rules_for same p root parent).requirements need × Contains (cases_for need) vs
+  IsRule root (Rule.needs parent need vs) = Contains (rules_for same p root parent).requirements need × Contains (cases_for need) vs × AreMatched vs
   IsRule root (Rule.gated s r) = has_plain_need (rules_of (p.dependencies_of s)).requirements r ≡ true
   IsRule root (Rule.shared r) = (s : S) × (has_plain_need (rules_of (p.dependencies_of s)).requirements r ≡ true)
   IsRule root (Rule.limits parent v s) = Contains (rules_for same p root parent).constraints v × (is_outside same p v s ≡ true)
   IsRule root (Rule.limits_outside parent v) = Contains (rules_for same p root parent).constraints v
   IsRule root (Rule.is_out v s) = (parent : Option S) × Contains (rules_for same p root parent).constraints v × (is_outside same p v s ≡ true)
   IsRule root (Rule.forbids w s) = KeepsOut w s
-  IsRule root (Rule.has_digit s bit b) = (is_in same p (listed (p.candidates_of (p.package_of s))) s ≡ true) × (bit < 32)
+  IsRule root (Rule.has_digit s bit b) = (is_in same p (listed (p.candidates_of (p.package_of s))) s ≡ true) × (bit < 32) × (is_many p (p.package_of s) ≡ false)
   IsRule root (Rule.is_there n s) = is_in same p (listed (p.candidates_of n)) s ≡ true
+  IsRule root (Rule.matches v s) = IsOfCase root v × (is_match same p v s ≡ true) × (is_many p (p.set_package v) ≡ true)
 
 -- some rule forbids the solvable
 abbrev pub IsForbidden : {N S : Type 0} → (Rule N S → Type 0) → S → Type 0

@@ -8,7 +8,7 @@ use Rattle.resolvo_pool_core.specs.declared.requirement.Requirement.{Requirement
 use Rattle.resolvo_pool_core.specs.OnePass.{Literal, negate}
 use Rattle.resolvo_pool_core.specs.Provider.{listed}
 use Rattle.resolvo_pool_core.specs.Text.{alternatives_of}
-use Rattle.resolvo_pool_core.specs.RuleKeeping.{Packages, Rules, IsLawful, is_unknown, is_in, is_outside, meets, binds, rules_for, is_member, IsExemptKeeping, IsReached}
+use Rattle.resolvo_pool_core.specs.RuleKeeping.{Packages, Rules, IsLawful, is_many, is_unknown, is_in, is_match, is_outside, meets, binds, rules_for, is_member, IsExemptKeeping, IsReached}
 use Rattle.resolvo_sat.specs.RuleClauses.{Atom, Rule, plus, minus, cases_for, case_holds, case_literals, literals_of, IsImplied, IsRule, IsForbiddenIn, IsForbidden}
 
 -- each of the literals is false by the known ones
@@ -101,25 +101,28 @@ module _ {N S : Type 0} (same : S → S → Bool) (p : Packages N S) (rules : Ru
     -- each rule is one of the problem
     pub rule : (r : Rule N S) → rules r → IsRule same p root r
     -- registered are soft requirements, candidates of requirements that have a clause, and
-    -- solvables outside a condition's version sets
+    -- solvables outside a condition's version sets whose packages aren't marked `many`
     pub soft : (s : S) → is_in same p softs s ≡ true → registered s
     pub candidate : (r : Requirement) (s : S) → HasClause r → meets same p r s ≡ true → registered s
-    pub out : (parent : Option S) (need : ConditionalRequirement) (case : List VersionSetId) (v : VersionSetId) (s : S) → rules (Rule.needs parent need case) → Contains case v → is_outside same p v s ≡ true → registered s
-    -- a registered solvable is a candidate, and differs in some digit from the others of its package
+    pub out : (parent : Option S) (need : ConditionalRequirement) (case : List VersionSetId) (v : VersionSetId) (s : S) → rules (Rule.needs parent need case) → Contains case v → is_many p (p.set_package v) ≡ false → is_outside same p v s ≡ true → registered s
+    -- a registered solvable is a candidate, and differs in some digit from the others of its package,
+    -- unless this is marked `many`
     pub candidates : (s : S) → registered s → is_in same p (listed (p.candidates_of (p.package_of s))) s ≡ true
-    pub by_digits : (s t : S) → registered s → registered t → p.package_of s ≡ p.package_of t → (s ≡ t) ⊎ DifferInDigit rules s t
-    -- where a condition names its package, an at-least-one clause holds it
-    pub there : (parent : Option S) (need : ConditionalRequirement) (case : List VersionSetId) (v : VersionSetId) (s : S) → rules (Rule.needs parent need case) → Contains case v → registered s → p.package_of s ≡ p.set_package v → rules (Rule.is_there (p.set_package v) s)
+    pub by_digits : (s t : S) → registered s → registered t → p.package_of s ≡ p.package_of t → is_many p (p.package_of s) ≡ false → (s ≡ t) ⊎ DifferInDigit rules s t
+    -- where a condition names its package, an at-least-one clause holds it; or, where the package is
+    -- marked `many`, each match of the version set is in a clause of matches
+    pub there : (parent : Option S) (need : ConditionalRequirement) (case : List VersionSetId) (v : VersionSetId) (s : S) → rules (Rule.needs parent need case) → Contains case v → registered s → p.package_of s ≡ p.set_package v → is_many p (p.set_package v) ≡ false → rules (Rule.is_there (p.set_package v) s)
+    pub held : (parent : Option S) (need : ConditionalRequirement) (case : List VersionSetId) (v : VersionSetId) (s : S) → rules (Rule.needs parent need case) → Contains case v → is_many p (p.set_package v) ≡ true → is_match same p v s ≡ true → rules (Rule.matches v s)
     -- the candidates of requirements that have a clause are forbidden by rules where a lock or an
     -- exclusion forbids them
     pub forbid : (r : Requirement) (v : VersionSetId) (s : S) → HasClause r → Contains (alternatives_of p.members_of r) v → IsForbiddenIn same p (p.set_package v) s → IsForbidden rules s
 
   -- The clauses for a case of a parent's need: its own; or, without a condition, those of a gate; or none, since a
-  -- version set of the case keeps the parent itself out.
+  -- version set of the case keeps the parent itself out, whose package isn't marked `many`.
   abbrev pub IsNeedEncoded : Option S → ConditionalRequirement → List VersionSetId → Type 0
   IsNeedEncoded parent need case = rules (Rule.needs parent need case)
       ⊎ (((s : S) × (parent ≡ Some s) × rules (Rule.gated s need.requirement) × rules (Rule.shared need.requirement))
-      ⊎ ((s : S) × (v : VersionSetId) × (parent ≡ Some s) × Contains case v × (is_outside same p v s ≡ true)))
+      ⊎ ((s : S) × (v : VersionSetId) × (parent ≡ Some s) × Contains case v × (is_outside same p v s ≡ true) × (is_many p (p.set_package v) ≡ false)))
 
   -- The rules of the root and of each member are clauses: each case that holds, each limit, and each rule that forbids the
   -- candidates that limits name, and members of unknown dependencies.
@@ -168,6 +171,7 @@ is_digit same_name n bit (Atom.solvable s) = false
 is_digit same_name n bit (Atom.gate r) = false
 is_digit same_name n bit (Atom.outside v) = false
 is_digit same_name n bit (Atom.any_of m) = false
+is_digit same_name n bit (Atom.matches v) = false
 is_digit same_name n bit (Atom.digit m other) = same_name n m && (bit == other)
 
 -- the digits that are known to be true

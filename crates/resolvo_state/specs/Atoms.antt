@@ -6,7 +6,7 @@ use Rattle.resolvo_sat.specs.declared.state.VariableKind.{VariableKind}
 use Rattle.resolvo_sat.specs.declared.state.VariableKind.TheVariants as Kinds
 use Rattle.resolvo_sat.specs.RuleClauses.{Atom}
 use Rattle.resolvo_state.specs.declared.atom.ProofAtom.{ProofAtom}
-use Rattle.resolvo_state.specs.declared.atom.ProofAtom.TheVariants.{Solvable, AtLeastOne, Gate, Outside, Bit}
+use Rattle.resolvo_state.specs.declared.atom.ProofAtom.TheVariants.{Solvable, AtLeastOne, Gate, Outside, Matches, Bit}
 
 -- the atom of the value
 abbrev pub atom_of : {N S : Type 0} → ProofAtom N S → Atom N S
@@ -14,6 +14,7 @@ atom_of (Solvable s) = Atom.solvable s
 atom_of (AtLeastOne n) = Atom.any_of n
 atom_of (Gate r) = Atom.gate r
 atom_of (Outside v) = Atom.outside v
+atom_of (Matches v) = Atom.matches v
 atom_of (Bit n bit) = Atom.digit n bit
 
 -- the variable's kind in the SAT core
@@ -22,6 +23,7 @@ kind_of (Solvable s) = Kinds.Solvable
 kind_of (AtLeastOne n) = Kinds.Helper
 kind_of (Gate r) = Kinds.Helper
 kind_of (Outside v) = Kinds.Helper
+kind_of (Matches v) = Kinds.Helper
 kind_of (Bit n bit) = Kinds.Helper
 
 -- an atom for variables without one
@@ -55,6 +57,7 @@ solvable_in (Some (Solvable s)) = Some s
 solvable_in (Some (AtLeastOne n)) = None
 solvable_in (Some (Gate r)) = None
 solvable_in (Some (Outside v)) = None
+solvable_in (Some (Matches v)) = None
 solvable_in (Some (Bit n bit)) = None
 
 -- the solvable that a variable represents
@@ -69,6 +72,7 @@ bit_in (Some (Solvable s)) = None
 bit_in (Some (AtLeastOne n)) = None
 bit_in (Some (Gate r)) = None
 bit_in (Some (Outside v)) = None
+bit_in (Some (Matches v)) = None
 bit_in (Some (Bit n bit)) = Some bit
 
 -- the place of the digit that a variable represents

@@ -3,7 +3,7 @@ use Rattle.std.specs.Prelude.{◌≡◌, ℕ, zero, suc, List, [], ◌∷◌, Op
 use Rattle.resolvo_store_core.specs.AtMostOne.{digit}
 use Rattle.resolvo_sat.specs.RuleClauses.{Rule, ForbidReason}
 use Rattle.resolvo_state.specs.declared.clause_kind.ClauseKind.{ClauseKind}
-use Rattle.resolvo_state.specs.declared.clause_kind.ClauseKind.TheVariants.{Root, Needs, Gated, Shared, Limits, LimitsOutside, IsOut, Locked, Excluded, Digit, IsThere, Learnt}
+use Rattle.resolvo_state.specs.declared.clause_kind.ClauseKind.TheVariants.{Root, Needs, Gated, Shared, Limits, LimitsOutside, IsOut, Locked, Excluded, Digit, IsThere, Matches, Learnt}
 
 -- the rule of a kind of clause; the root's clause and a learnt one encode none
 abbrev pub rule_of : {N S : Type 0} → ClauseKind N S → Option (Rule N S)
@@ -18,6 +18,7 @@ rule_of (Locked locked s) = Some (Rule.forbids (ForbidReason.lock locked) s)
 rule_of (Excluded s reason) = Some (Rule.forbids (ForbidReason.word reason) s)
 rule_of (Digit n s place bit) = Some (Rule.has_digit s bit (digit place bit))
 rule_of (IsThere n s) = Some (Rule.is_there n s)
+rule_of (Matches v s) = Some (Rule.matches v s)
 rule_of Learnt = None
 
 -- the kind of the clause of this number

@@ -67,8 +67,12 @@ IsTracked r name v = Contains r.members.keys (member name v)
 abbrev pub IsQueued : {N : Type 0} → Registry N → N → VariableId → Type 0
 IsQueued r name v = (k : ℕ) × (r.tied ≤ k) × (slice_get r.members.keys k ≡ Some (member name v))
 
+-- the package is marked `many`
+abbrev pub IsMany : {N : Type 0} → Registry N → N → Type 0
+IsMany r name = Contains r.many.keys name
+
 -- Each package has one tracker, and each is tied. A clause that encodes a digit of a place encodes
--- it of the solvable there. What is registered is in a tracker, or waits.
+-- it of the solvable there. What is registered is in a tracker, or waits, or its package is marked.
 pub record AreTied {N S : Type 0} (r : Registry N) (c : SolverState N S) : Type 0 where
   pub each : length r.names.keys ≡ length r.trackers.items
   pub once : AreOnce r.names.keys
@@ -77,7 +81,7 @@ pub record AreTied {N S : Type 0} (r : Registry N) (c : SolverState N S) : Type 
   pub within : r.tied ≤ length r.members.keys
   pub solvables : (name : N) (v : VariableId) → IsTracked r name v → (s : S) × Represents c.atoms.keys v (Solvable s)
   pub registered : (name : N) (v : VariableId) → IsInTracker r name v → IsTracked r name v
-  pub rest : (name : N) (v : VariableId) → IsTracked r name v → IsInTracker r name v ⊎ IsQueued r name v
+  pub rest : (name : N) (v : VariableId) → IsTracked r name v → IsInTracker r name v ⊎ (IsQueued r name v ⊎ IsMany r name)
 
 -- the solvable is registered as one of the package's
 abbrev pub IsRegistered : {N S : Type 0} → Registry N → SolverState N S → N → S → Type 0
@@ -89,6 +93,14 @@ pub record IsNothing {N : Type 0} (r : Registry N) : Type 0 where
   pub trackers : r.trackers.items ≡ []
   pub members : r.members.keys ≡ []
   pub tied : r.tied ≡ 0
+  pub many : r.many.keys ≡ []
+
+-- the package is marked, and nothing else changed
+pub record MarksMany {N : Type 0} (name : N) (r t : Registry N) : Type 0 where
+  pub keeps : (m : N) → IsMany r m → IsMany t m
+  pub marked : IsMany t name
+  pub only : (m : N) → IsMany t m → IsMany r m ⊎ (m ≡ name)
+  pub rest : t ≡ record r { many = t.many }
 
 -- the clause of this number ties a registered solvable of the package to a digit, one of 32
 pub record IsDigitClause {N S : Type 0} (r : Registry N) (c : SolverState N S) (name : N) (n : ℕ) : Type 0 where
@@ -114,6 +126,7 @@ pub record Registers {N S : Type 0} (name : N) (s : S) (v : VariableId) (r : Reg
   pub keeps : (m : N) (u : VariableId) → IsTracked r m u → IsTracked t m u
   pub waits : (m : N) (u : VariableId) → IsQueued r m u → IsQueued t m u
   pub only : (m : N) (u : VariableId) → IsTracked t m u → IsTracked r m u ⊎ ((m ≡ name) × (u ≡ v) × IsQueued t m u)
+  pub many : t.many ≡ r.many
 
 -- The registered solvable is in its package's tracker. Each new clause ties a solvable to a digit.
 -- Those that are registered are unchanged, and so are those that wait.
@@ -124,6 +137,7 @@ pub record Places {N S : Type 0} (name : N) (s : S) (r : Registry N) (old : Solv
   pub tied : AreTied t new
   pub members : t.members ≡ r.members
   pub waits : t.tied ≡ r.tied
+  pub many : t.many ≡ r.many
   pub variable : VariableId
   pub present : Represents new.atoms.keys variable (Solvable s)
   pub placed : IsInTracker t name variable
@@ -139,6 +153,7 @@ pub record PlacesName {N : Type 0} (name : N) (place : ℕ) (old new : Registry 
   pub once : AreOnce old.names.keys → AreOnce new.names.keys
   pub members : new.members ≡ old.members
   pub waits : new.tied ≡ old.tied
+  pub many : new.many ≡ old.many
   pub fresh : (k : ℕ) (t : Tracking VariableId) → length old.trackers.items ≤ k → slice_get new.trackers.items k ≡ Some t → (t.variables ≡ []) × (t.helpers ≡ [])
 
 -- the variable of the next digit of the package, where one is made

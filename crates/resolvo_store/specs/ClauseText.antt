@@ -13,7 +13,7 @@ use Rattle.resolvo_store_core.specs.Signed.{Signed}
 use Rattle.resolvo_store_core.specs.declared.store_clause.Clause.{Clause}
 use Rattle.resolvo_store_core.specs.declared.store_clause.Clause.TheVariants.{InstallRoot, Requires, ForbidMultipleInstances, Constrains, ConstrainsParent, ConstrainsExcluded, Lock, Learnt, Excluded, AnyOf}
 use Rattle.resolvo_store.specs.declared.variable_map.VariableOrigin.{VariableOrigin}
-use Rattle.resolvo_store.specs.declared.variable_map.VariableOrigin.TheVariants.{Root, Solvable, ForbidMultiple, AtLeastOne, ConstrainsViolation, RequiresGate}
+use Rattle.resolvo_store.specs.declared.variable_map.VariableOrigin.TheVariants.{Root, Solvable, ForbidMultiple, AtLeastOne, ConstrainsViolation, RequiresGate, Matches}
 
 -- the meaning of ids, and their texts
 pub record Meaning (N S : Type 0) : Type 0 where
@@ -46,6 +46,7 @@ module _ {N S : Type 0} (m : Meaning N S) where
   origin_words (Some (AtLeastOne n)) = codes "any-of(" ++ (m.name_text n ++ codes ")")
   origin_words (Some (ConstrainsViolation v)) = codes "constrains-violation(" ++ (set_words v ++ codes ")")
   origin_words (Some (RequiresGate r)) = codes "requires-gate(" ++ (requirement_words r ++ codes ")")
+  origin_words (Some (Matches v)) = codes "matches(" ++ (set_words v ++ codes ")")
 
   module _ (origins : List (VariableOrigin N S)) where
     -- the origin of the variable, and its number

@@ -5,7 +5,7 @@ use Rattle.resolvo_pool_core.specs.declared.id_map.OptionalNumber.{OptionalNumbe
 use Rattle.resolvo_pool_core.specs.declared.solver_id.SolvableIdOrRoot.{SolvableIdOrRoot}
 use Rattle.resolvo_pool_core.specs.declared.solver_id.SolvableIdOrRoot.TheVariants as Ids
 use Rattle.resolvo_store.specs.declared.variable_map.VariableOrigin.{VariableOrigin}
-use Rattle.resolvo_store.specs.declared.variable_map.VariableOrigin.TheVariants.{Root, Solvable, ForbidMultiple, AtLeastOne, ConstrainsViolation, RequiresGate}
+use Rattle.resolvo_store.specs.declared.variable_map.VariableOrigin.TheVariants.{Root, Solvable, ForbidMultiple, AtLeastOne, ConstrainsViolation, RequiresGate, Matches}
 
 module _ {N S : Type 0} (eq : S → S → Bool) where
   -- the origin is this solvable
@@ -16,6 +16,7 @@ module _ {N S : Type 0} (eq : S → S → Bool) where
   is_of s (AtLeastOne n) = false
   is_of s (ConstrainsViolation v) = false
   is_of s (RequiresGate r) = false
+  is_of s (Matches v) = false
 
   -- the first place of the solvable's variable, counted from i, if it has one
   abbrev pub place_from : ℕ → S → List (VariableOrigin N S) → Option ℕ

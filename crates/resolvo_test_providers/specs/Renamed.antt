@@ -11,4 +11,4 @@ renamed_hint id (some xs) = some (map id xs)
 
 -- a package's candidates under other ids
 abbrev pub renamed : {S T : Type 0} → (S → T) → Listing S → Listing T
-renamed id l = record { candidates = map id l.candidates; favored = option_map id l.favored; locked = option_map id l.locked; hint = renamed_hint id l.hint; excluded = map (λ e. (id e.0, e.1)) l.excluded }
+renamed id l = record { candidates = map id l.candidates; favored = option_map id l.favored; locked = option_map id l.locked; hint = renamed_hint id l.hint; excluded = map (λ e. (id e.0, e.1)) l.excluded; many = l.many }

@@ -18,7 +18,8 @@ pub data Cond : Type 0 where
   And : Cond → Cond → Cond
   Or : Cond → Cond → Cond
 
--- Listed is a line `version`. Unknown and Exclude end in a word of reason.
+-- Listed is a line `version`. Unknown and Exclude end in a word of reason. Many names a package, of which
+-- versions may be side by side.
 pub data Line : Type 0 where
   Skipped : Line
   Listed : Version → Line
@@ -28,4 +29,5 @@ pub data Line : Type 0 where
   Lock : Version → Line
   Favour : Version → Line
   Exclude : Version → List ℕ → Line
+  Many : List ℕ → Line
   Wish : Version → Line

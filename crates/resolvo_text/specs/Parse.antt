@@ -8,7 +8,7 @@ use Rattle.resolvo_text.specs.declared.spec.Span.{Span}
 use Rattle.resolvo_text.specs.declared.spec.Span.TheVariants.{Any, One, Range}
 use Rattle.resolvo_text.specs.declared.line.LineFault.{LineFault}
 use Rattle.resolvo_text.specs.declared.line.LineFault.TheVariants.{Fault, Memory}
-use Rattle.resolvo_text.specs.Line.{Version, Spec, Cond, Is, And, Or, Line, Skipped, Listed, Needs, Limits, Unknown, Lock, Favour, Exclude, Wish}
+use Rattle.resolvo_text.specs.Line.{Version, Spec, Cond, Is, And, Or, Line, Skipped, Listed, Needs, Limits, Unknown, Lock, Favour, Exclude, Many, Wish}
 use Rattle.resolvo_text.specs.declared.condition.Joint.{Joint}
 use Rattle.resolvo_text.specs.declared.condition.Joint.TheVariants as joint
 use Rattle.resolvo_text.specs.Spelling.{Words, is_name}
@@ -222,6 +222,7 @@ line_by keyword words =
     else if bytes_eq keyword (codes "lock") then (version_in words >>= λ v. Some (Lock v))
     else if bytes_eq keyword (codes "favour") then (version_in words >>= λ v. Some (Favour v))
     else if bytes_eq keyword (codes "exclude") then (version_at words >>= λ v. reason_in v.1 >>= λ reason. Some (Exclude v.0 reason))
+    else if bytes_eq keyword (codes "many") then (reason_in words >>= λ name. Some (Many name))
     else if bytes_eq keyword (codes "wish") then (version_in words >>= λ v. Some (Wish v))
     else None
 

@@ -6,7 +6,7 @@ use Rattle.std.specs.List.{join_with_byte, list_all, AllByRecursion}
 use Rattle.std.specs.Str.{bytes_eq}
 use Rattle.resolvo_text.specs.declared.spec.Span.{Span}
 use Rattle.resolvo_text.specs.declared.spec.Span.TheVariants.{Any, One, Range}
-use Rattle.resolvo_text.specs.Line.{Version, Spec, Cond, Is, And, Or, Line, Skipped, Listed, Needs, Limits, Unknown, Lock, Favour, Exclude, Wish}
+use Rattle.resolvo_text.specs.Line.{Version, Spec, Cond, Is, And, Or, Line, Skipped, Listed, Needs, Limits, Unknown, Lock, Favour, Exclude, Many, Wish}
 
 -- ---- names
 
@@ -149,6 +149,7 @@ AreWordsOf words (Unknown reason) = words ≡ codes "unknown" ∷ reason ∷ []
 AreWordsOf words (Lock v) = words ≡ codes "lock" ∷ version_words v
 AreWordsOf words (Favour v) = words ≡ codes "favour" ∷ version_words v
 AreWordsOf words (Exclude v reason) = words ≡ codes "exclude" ∷ (version_words v ++ reason ∷ [])
+AreWordsOf words (Many name) = words ≡ codes "many" ∷ name ∷ []
 AreWordsOf words (Wish v) = words ≡ codes "wish" ∷ version_words v
 
 -- The text is skipped, or the words of the line, separated by one space each.
@@ -167,6 +168,7 @@ HasForm (Unknown reason) = IsTrue (is_name reason)
 HasForm (Lock v) = IsVersion v
 HasForm (Favour v) = IsVersion v
 HasForm (Exclude v reason) = IsVersion v × IsTrue (is_name reason)
+HasForm (Many name) = IsTrue (is_name name)
 HasForm (Wish v) = IsVersion v
 
 -- The text spells the line.

@@ -7,39 +7,40 @@ use Rattle.resolvo_pool_core.specs.declared.requirement.Requirement.{Requirement
 use Rattle.resolvo_pool_core.specs.declared.requirement.Requirement.TheVariants.{Single}
 use Rattle.resolvo_pool_core.specs.RuleKeeping.{Rules, rules_for}
 use Rattle.resolvo_packages.specs.declared.package_source.PackageSource as source
-use Rattle.resolvo_sat.specs.RuleClauses.{IsForbiddenIn, IsForbidden, cases_for}
+use Rattle.resolvo_sat.specs.RuleClauses.{IsForbiddenIn, IsForbidden, cases_for, AreMatched}
 use Rattle.resolvo_sat.specs.SearchEnd.{IsNeedEncoded}
 use Rattle.resolvo_encoder.specs.declared.conditions.ConditionSet.{ConditionSet}
 use Rattle.resolvo_encoder.specs.declared.encoder.Encoder.{Encoder}
 use Rattle.resolvo_encoder.specs.Cases.{IsDeferred, AreSets, sets_case}
-use Rattle.resolvo_encoder.specs.Encoded.{IsGuarded, IsLimitEncoded, IsParentEncoded, rules_of}
+use Rattle.resolvo_encoder.specs.Encoded.{IsGuarded, IsMarkKnown, IsPrepared, IsLimitEncoded, IsParentEncoded, rules_of}
 use Rattle.resolvo_encoder.specs.Steps.{Needs}
 use Rattle.resolvo_turn.specs.Encoder.{IsRoot, AreRulesOf, IsInOrderBy, AreDeferred, IsConditionalEncoded}
 
 module _ {A N S C : Type 0} (same : S → S → Bool) (g : source.Ghosts A N S C) (a : A) where
-  -- ---- locks and exclusions
+  -- ---- locks, exclusions and marks
 
-  -- those of the package are clauses
+  -- those of the package are clauses, and its mark is known
   abbrev pub ForbidsPackage : N → Encoder N S → Encoder N S → Type 0
   ForbidsPackage name old new = (root : Rules) → IsInOrderBy same g a root old
-      → IsInOrderBy same g a root new × ((s : S) → IsForbiddenIn same (g.packages a) name s → IsForbidden (rules_of new) s)
+      → IsInOrderBy same g a root new × ((s : S) → IsForbiddenIn same (g.packages a) name s → IsForbidden (rules_of new) s) × IsMarkKnown same (g.packages a) new name
 
-  -- those of each of these packages are
+  -- those of each of these packages are, and their marks are known
   abbrev pub ForbidsPackages : List N → Encoder N S → Encoder N S → Type 0
   ForbidsPackages names old new = (root : Rules) → IsInOrderBy same g a root old
       → IsInOrderBy same g a root new × ((name : N) (s : S) → Contains names name → IsForbiddenIn same (g.packages a) name s → IsForbidden (rules_of new) s)
+      × ((name : N) → Contains names name → IsMarkKnown same (g.packages a) new name)
 
-  -- those of the requirement's packages are: it is guarded
+  -- those of the requirement's packages are: its candidates may be registered
   abbrev pub GuardsRequirement : Requirement → Encoder N S → Encoder N S → Type 0
   GuardsRequirement requirement old new = (root : Rules) → IsInOrderBy same g a root old
-      → IsInOrderBy same g a root new × IsGuarded same (g.packages a) (rules_of new) requirement
+      → IsInOrderBy same g a root new × IsPrepared same (g.packages a) new requirement
 
   -- ---- requirements of a parent
 
   -- one without a condition, which is guarded, is a clause
   abbrev pub RequiresGuarded : Option S → ConditionalRequirement → Encoder N S → Encoder N S → Type 0
   RequiresGuarded parent need old new = (root : Rules) → IsInOrderBy same g a root old
-      → IsGuarded same (g.packages a) (rules_of old) need.requirement → Needs same (g.packages a) root parent need
+      → IsPrepared same (g.packages a) old need.requirement → Needs same (g.packages a) root parent need
       → IsInOrderBy same g a root new × IsNeedEncoded same (g.packages a) (rules_of new) parent need []
 
   -- one without a condition is a clause
@@ -117,13 +118,14 @@ module _ {A N S C : Type 0} (same : S → S → Bool) (g : source.Ghosts A N S C
       → Contains (rules_for same (g.packages a) root parent).requirements need
       → IsInOrderBy same g a root new × AreDeferred new parent need (cases_for same (g.packages a) need)
 
-  -- the case of these version sets is a clause, where the requirement is guarded
+  -- the case of these version sets, which have matches, is a clause, where the requirement is guarded
   abbrev pub RequiresGuardedCase : Option S → ConditionalRequirement → List (ConditionSet N S) → Encoder N S → Encoder N S → Type 0
   RequiresGuardedCase parent need sets old new = (root : Rules) → IsInOrderBy same g a root old
-      → IsGuarded same (g.packages a) (rules_of old) need.requirement
+      → IsPrepared same (g.packages a) old need.requirement
       → AreSets same (g.packages a) sets
       → Contains (rules_for same (g.packages a) root parent).requirements need
       → Contains (cases_for same (g.packages a) need) (sets_case sets)
+      → AreMatched same (g.packages a) (sets_case sets)
       → IsInOrderBy same g a root new × IsNeedEncoded same (g.packages a) (rules_of new) parent need (sets_case sets)
 
   -- this one is a clause
@@ -131,4 +133,5 @@ module _ {A N S C : Type 0} (same : S → S → Bool) (g : source.Ghosts A N S C
   RequiresCase parent need case old new = (root : Rules) → IsInOrderBy same g a root old
       → Contains (rules_for same (g.packages a) root parent).requirements need
       → Contains (cases_for same (g.packages a) need) case
+      → AreMatched same (g.packages a) case
       → IsInOrderBy same g a root new × IsNeedEncoded same (g.packages a) (rules_of new) parent need case

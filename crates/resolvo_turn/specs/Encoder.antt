@@ -6,6 +6,7 @@ use Rattle.resolvo_pool_core.specs.declared.requirement.Requirement.{Requirement
 use Rattle.resolvo_pool_core.specs.RuleKeeping.{Packages, Rules, rules_for, is_unknown}
 use Rattle.resolvo_store_core.specs.AtMostOne.{IsPrefixOf}
 use Rattle.resolvo_packages.specs.declared.package_source.PackageSource as source
+use Rattle.resolvo_state.specs.Registered.{IsMany}
 use Rattle.resolvo_state.specs.SolverState.{Grows}
 use Rattle.resolvo_encoder.specs.declared.encoder.Encoder.{Encoder}
 use Rattle.resolvo_encoder.specs.Base.{KeepsTurns}
@@ -48,6 +49,10 @@ AreDeferred {N} {S} e parent need cases = (case : List VersionSetId) → Contain
 -- each case of the parent's requirement is a clause, or deferred
 abbrev pub IsConditionalEncoded : {N S : Type 0} → (S → S → Bool) → Packages N S → Encoder N S → Option S → ConditionalRequirement → Type 0
 IsConditionalEncoded {N} {S} same p e parent need = (case : List VersionSetId) → Contains (cases_for same p need) case → IsCaseEncoded same p e parent need case
+
+-- marked packages stay marked
+abbrev pub KeepsMarks : {N S : Type 0} → Encoder N S → Encoder N S → Type 0
+KeepsMarks {N} {S} old new = (name : N) → IsMany old.registry name → IsMany new.registry name
 
 -- Clauses, their kinds, parents, and deferred or fired cases may be added at the end. No more
 -- parents are encoded, no soft requirement is added, and the turn keeps the trail before it.
