@@ -7,7 +7,7 @@ use Rattle.std.proofs.lemmas.Option.{slice_get_within}
 use Rattle.resolvo_pool_core.specs.declared.id.ClauseId.{ClauseId}
 use Rattle.resolvo_pool_core.specs.declared.id.VariableId.{VariableId}
 use Rattle.resolvo_pool_core.specs.declared.requirement.Requirement.{Requirement}
-use Rattle.resolvo_pool_core.specs.RuleKeeping.{Packages, Rules, IsLawful}
+use Rattle.resolvo_pool_core.specs.RuleKeeping.{Packages, Rules, IsLawful, is_many}
 use Rattle.resolvo_store_core.specs.AtMostOne.{IsPrefixOf}
 use Rattle.resolvo_store_core.specs.Clauses.{yes}
 use Rattle.resolvo_store_core.specs.Signed.{Signed, has}
@@ -130,7 +130,7 @@ module _ {N S : Type 0} (a b : Encoder N S) (undone : Undoes (max (a.coding.sear
 
 -- ---- a soft requirement is recorded
 
-module _ {N S : Type 0} (same : S → S → Bool) (a b : Encoder N S) (one : Offered N S) (v : VariableId) (registered : RecordsSoft same one v a b) where
+module _ {N S : Type 0} (same : S → S → Bool) (a b : Encoder N S) (one : Offered N S) (many : Bool) (v : VariableId) (registered : RecordsSoft same one many v a b) where
   pub registered_same : history b.coding.search ≡ history a.coding.search
   registered_same = ap (λ t. reverse t.trail) registered.trail.tracker
 
@@ -154,8 +154,8 @@ module _ {N S : Type 0} (same : S → S → Bool) (a b : Encoder N S) (one : Off
       let encoded : b.encoded ≡ a.encoded = registered.encoded in
       record { atoms = registered.grows.atoms; clauses = registered.grows.clauses; kinds = registered.grows.kinds; ends = ([], registered_same); parents = registered_parents; encoded = omega arith; rooted = registered_rooted }
 
-  pub registered_in_order : (p : Packages N S) (orders : Requirement → List S → Type 0) (root : Rules) → IsLawful p → IsListed same p one → IsInOrder same p orders root a → IsInOrder same p orders root b
-  registered_in_order p orders root lawful listed e = record { encoding = registered.encoding p root lawful e.encoding listed; ordered = ordered_stays orders a b registered.grows registered.lists e.ordered }
+  pub registered_in_order : (p : Packages N S) (orders : Requirement → List S → Type 0) (root : Rules) → IsLawful p → IsListed same p one → many ≡ is_many p one.name → IsInOrder same p orders root a → IsInOrder same p orders root b
+  registered_in_order p orders root lawful listed is e = record { encoding = registered.encoding p root lawful e.encoding listed is; ordered = ordered_stays orders a b registered.grows registered.lists e.ordered }
 
   -- the soft requirement is true already
   pub registered_true : has (made_true (history b.coding.search)) (yes v) ≡ true → IsOutcome same one.solvable a b SoftOutcome.AlreadyChosen

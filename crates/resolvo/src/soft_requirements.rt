@@ -157,11 +157,13 @@ pub fn run_soft_requirement<A: PackageSource, C: ScoreMap<A::NameId>>(
     ensures cancelled { IfErr result (IsCancelledBy (A.may_cancel answers.old)) }
 {
     let name = answers.package(soft);
+    // its package's candidates are asked for, for the mark alone
+    let many = answers.is_many(name)?;
     let offered = Offered {
         solvable: soft,
         name,
     };
-    let variable = encoding.record_soft(offered)?;
+    let variable = encoding.record_soft(offered, many)?;
     if encoding
         .coding
         .search

@@ -39,6 +39,7 @@ use Rattle.resolvo_encoder.proofs.Digits.{digit_found, digits_agree}
 kind_solvable : {N S : Type 0} (a : ProofAtom N S) → kind_of a ≡ Kinds.Solvable → (s : S) × (a ≡ Solvable s)
 kind_solvable (Solvable s) h = (s, refl)
 kind_solvable (Atoms.AtLeastOne n) h = absurd cc
+kind_solvable (Atoms.Matches v) h = absurd cc
 kind_solvable (Atoms.Gate r) h = absurd cc
 kind_solvable (Atoms.Outside v) h = absurd cc
 kind_solvable (Atoms.Bit n bit) h = absurd cc

@@ -30,6 +30,7 @@ registers_none r c coding tied = record {
   keeps = λ m u h. h;
   waits = λ m u h. h;
   only = λ m u h. inl h;
+  many = refl;
   clauses = refl;
   kinds = refl;
   each = λ o h. absurd (contains_none o h);
@@ -57,6 +58,7 @@ registers_more {N} {S} xs given o candidate r s t a b c all one = record {
     ]
     | inr (e, f, queued) ↦ inr (o, contains_right o xs (o ∷ []) (contains_only o), e, subst (λ v. Represents c.atoms.keys v (Solvable o.solvable)) (sym f) step.present, queued)
   ];
+  many = step.many ∙ all.many;
   clauses = step.clauses ∙ all.clauses;
   kinds = step.kinds ∙ all.kinds;
   each = λ x h. elim (contains_parts x xs (o ∷ []) h) [

@@ -9,7 +9,7 @@ use Rattle.resolvo_pool_core.specs.declared.id.VariableId.{VariableId}
 use Rattle.resolvo_pool_core.specs.declared.id.VersionSetId.{VersionSetId}
 use Rattle.resolvo_pool_core.specs.OnePass.{Literal}
 use Rattle.resolvo_pool_core.specs.Provider.{listed}
-use Rattle.resolvo_pool_core.specs.RuleKeeping.{Packages, Rules, IsLawful, is_in, is_outside}
+use Rattle.resolvo_pool_core.specs.RuleKeeping.{Packages, Rules, IsLawful, is_in, is_outside, is_many}
 use Rattle.resolvo_store_core.specs.Signed.{Signed}
 use Rattle.resolvo_store_core.specs.Clauses.{no, candidate_literals as literals_in}
 use Rattle.resolvo_store_core.specs.declared.lists.Candidate.{Candidate}
@@ -22,7 +22,7 @@ use Rattle.resolvo_sat.specs.RuleClauses.{IsExact, Atom, Rule, plus, minus, case
 use Rattle.resolvo_sat.specs.Numbered.{meaning, Means, Spells}
 use Rattle.resolvo_sat.proofs.GrowLemmas.{spells_agree}
 use Rattle.resolvo_sat.proofs.Lists.{contains_none, contains_only, contains_one, contains_left, contains_right, contains_parts, contains_map, map_contains}
-use Rattle.resolvo_sat.proofs.Members.{in_contained, contained_in, candidate_named, in_case, any_in_case, outside_in_case}
+use Rattle.resolvo_sat.proofs.Members.{in_contained, contained_in, candidate_named, in_case, any_in_case, outside_in_case, matches_in_case, IsSetLiteral}
 use Rattle.resolvo_state.specs.declared.atom.ProofAtom.TheVariants.{Solvable, AtLeastOne}
 use Rattle.resolvo_state.specs.declared.solver_state.SolverState.{SolverState}
 use Rattle.resolvo_state.specs.declared.registry.Registry.{Registry}
@@ -35,17 +35,17 @@ use Rattle.resolvo_state.proofs.Growth.{origin_grows, rules_grow, represents_gro
 use Rattle.resolvo_state.proofs.Origins.{count_is, means_atom, solvable_means, solvable_represents, represents_solvable}
 use Rattle.resolvo_state.proofs.Positions.{prefix_long}
 use Rattle.resolvo_encoder.specs.Cases.{sets_case, IsSet}
-use Rattle.resolvo_encoder.specs.Encoded.{IsNamed, IsEncoding}
+use Rattle.resolvo_encoder.specs.Encoded.{IsNamed, IsEncoding, IsSetEncoded}
 use Rattle.resolvo_encoder.specs.Encoded as E
 use Rattle.resolvo_encoder.specs.AtLeastOneClauses.{AreThose, AddsAtLeastOne, Admits, TracksAtLeastOne, NamesPackage, AreCaseLiterals, CaseLiterals}
-use Rattle.resolvo_encoder.specs.Steps.{IsBuilt, Extends, IsOfferedAs, IsListed, Enrols}
+use Rattle.resolvo_encoder.specs.Steps.{IsBuilt, Extends, IsOfferedAs, IsListed, Enrols, IsAddable}
 use Rattle.resolvo_encoder.specs.ClauseRules.{EncodesRules}
 use Rattle.resolvo_encoder.specs.declared.conditions.ConditionSet.{ConditionSet}
 use Rattle.resolvo_encoder.specs.declared.encoder.Encoder.{Encoder}
 use Rattle.resolvo_encoder.specs.declared.encoder.EncodedOnce.{EncodedOnce}
 use Rattle.resolvo_encoder.proofs.ConditionLemmas.{spells_join}
 use Rattle.resolvo_encoder.proofs.NeedLemmas.{literal_in, in_literals}
-use Rattle.resolvo_encoder.proofs.RequireLemmas.{each_of, some_one, extends_then, extends_same, registered_before, registered_stays, waiting_stays}
+use Rattle.resolvo_encoder.proofs.RequireLemmas.{each_of, some_one, extends_then, extends_same, registered_before, pending_stays, set_stays}
 use Rattle.resolvo_encoder.proofs.EncodesLemmas.{built_recorded, at_least_one_recorded, queued_recorded, there_recorded}
 use Rattle.resolvo_encoder.proofs.Parents.{prefix_contains}
 
@@ -106,7 +106,8 @@ pub those_of : {N S : Type 0} (e : Encoder N S) (name : N) (variables : List Var
 those_of e name variables list tied tracked all h = record {
   each = λ s (v, present, there). elim (tied.rest name v there) [
     | inl placed ↦ inl (h.each v s (all v placed) (solvable_represents e.coding.atoms.keys v s present))
-    | inr queued ↦ inr (v, present, queued)
+    | inr (inl queued) ↦ inr (inl (v, present, queued))
+    | inr (inr marked) ↦ inr (inr marked)
   ];
   all = λ o a. (let (named, (v, present, at)) = h.all o a in (named, (v, represents_solvable e.coding.atoms.keys v o.solvable at, tied.registered name v (tracked v present))));
 }
@@ -217,7 +218,7 @@ module _ {N S : Type 0} (same : S → S → Bool) (exact : IsExact same) where
         at_least_one_recorded same exact p root middle x name holds only keeps others
         (λ s a. elim (those.each s (registered_before same exact p root lawful old middle e.tied adds.extends.grows adds.registry name s a)) [
           | inl there ↦ inl (rules (record { solvable = s; name = name }) there)
-          | inr waits ↦ inr (waiting_stays same exact p root lawful old middle adds.extends.grows adds.registry name s waits)
+          | inr waits ↦ inr (pending_stays same exact p root lawful old middle adds.extends.grows adds.registry name s waits)
         ]);
   }
     where
@@ -235,6 +236,7 @@ module _ {N S : Type 0} (same : S → S → Bool) (exact : IsExact same) where
     lists = refl;
     registry = refl;
     keeps = named;
+    matches = λ v h. subst (λ (y : EncodedOnce N S). Contains y.matches.keys v) (sym others) h;
     named = inr present;
     encoding = λ p root lawful e. queued_recorded same exact p root old x e named others;
   }
@@ -245,25 +247,29 @@ module _ {N S : Type 0} (same : S → S → Bool) (exact : IsExact same) where
 
   -- it was recorded before
   pub named_known : (name : N) (e : Encoder N S) → IsBuilt e → Contains e.recorded.at_least_one.keys name → NamesPackage same name e e
-  named_known name e built known = record { built = built; extends = extends_same e; lists = refl; registry = refl; keeps = λ n h. h; named = inl known; encoding = λ p root lawful holds. holds }
+  named_known name e built known = record { built = built; extends = extends_same e; lists = refl; registry = refl; keeps = λ n h. h; matches = λ v h. h; named = inl known; encoding = λ p root lawful holds. holds }
 
   -- ---- a version set of a case
 
-  module _ (p : Packages N S) (lawful : IsLawful p) (set : ConditionSet N S) (is_set : IsSet same p set) where
+  module _ (p : Packages N S) (lawful : IsLawful p) (set : ConditionSet N S) (is_set : IsSet same p set) (unmarked : set.many ≡ false) where
+    -- its package isn't marked
+    set_free : is_many p (p.set_package set.version_set) ≡ false
+    set_free = sym (is_set.mark ∙ ap (is_many p) is_set.named) ∙ unmarked
+
     outside_is : (o : Offered N S) → Contains set.outside.items o → is_outside same p set.version_set o.solvable ≡ true
-    outside_is o h = sym (is_set.outside.outside o.solvable) ∙ contained_in same exact p (offered_solvables set.outside.items) o.solvable (contains_map (λ (y : Offered N S). y.solvable) o set.outside.items h)
+    outside_is o h = sym ((is_set.outside unmarked).outside o.solvable) ∙ contained_in same exact p (offered_solvables set.outside.items) o.solvable (contains_map (λ (y : Offered N S). y.solvable) o set.outside.items h)
 
     outside_offered : (s : S) → is_outside same p set.version_set s ≡ true → (o : Offered N S) × Contains set.outside.items o × (s ≡ o.solvable)
-    outside_offered s h = map_contains (λ (y : Offered N S). y.solvable) s set.outside.items (in_contained same exact p (offered_solvables set.outside.items) s (is_set.outside.outside s ∙ h))
+    outside_offered s h = map_contains (λ (y : Offered N S). y.solvable) s set.outside.items (in_contained same exact p (offered_solvables set.outside.items) s ((is_set.outside unmarked).outside s ∙ h))
 
     outside_named : (o : Offered N S) → Contains set.outside.items o → o.name ≡ p.package_of o.solvable
-    outside_named o h = each_of (λ (y : Offered N S). y.name ≡ p.package_of y.solvable) set.outside.items o is_set.outside.named h
+    outside_named o h = each_of (λ (y : Offered N S). y.name ≡ p.package_of y.solvable) set.outside.items o (is_set.outside unmarked).named h
 
-    outside_listed : (o : Offered N S) → Contains set.outside.items o → IsListed same p o
-    outside_listed o h =
+    outside_listed : (e : Encoder N S) (o : Offered N S) → Contains set.outside.items o → IsAddable same p e o
+    outside_listed e o h =
         let there = (and_parts _ _ (outside_is o h)).0 in
         let own : o.name ≡ p.set_package set.version_set = outside_named o h ∙ candidate_named same exact p lawful (p.set_package set.version_set) o.solvable there in
-        (outside_named o h, subst (λ n. is_in same p (listed (p.candidates_of n)) o.solvable ≡ true) (sym own) there)
+        ((outside_named o h, subst (λ n. is_in same p (listed (p.candidates_of n)) o.solvable ≡ true) (sym own) there), λ marked. absurd (both_ways _ set_free (subst (λ (n : N). is_many p n ≡ true) own marked)))
 
     -- the literals that no version of its package is chosen, or that a candidate outside it is
     -- chosen
@@ -274,19 +280,20 @@ module _ {N S : Type 0} (same : S → S → Bool) (exact : IsExact same) where
     set_spells e any given present each all = record {
       only = λ l h. elim (has-cons (no any) (literals_in given) l h) [
         | inl is ↦ (let means = subst (λ (y : Signed). Means (origin e.coding.atoms.keys) y (minus (Atom.any_of (p.set_package set.version_set)))) is none in
-            inr (means.0, subst (Contains (case_literals same p (set.version_set ∷ []))) means.1 (any_in_case same exact p (set.version_set ∷ []) set.version_set (contains_only set.version_set))))
+            inr (means.0, subst (Contains (case_literals same p (set.version_set ∷ []))) means.1 (any_in_case same exact p (set.version_set ∷ []) set.version_set (contains_only set.version_set) set_free)))
         | inr a ↦
             let (c, there, is) = literal_in given l a in
             let (o, b, fits) = all c there in
             let means : Means (origin e.coding.atoms.keys) l (plus (Atom.solvable o.solvable)) = subst (λ (y : Signed). Means (origin e.coding.atoms.keys) y (plus (Atom.solvable o.solvable))) is (solvable_means e.coding.atoms.keys c.literal o.solvable fits.positive fits.present) in
-            inr (means.0, subst (Contains (case_literals same p (set.version_set ∷ []))) means.1 (outside_in_case same exact p (set.version_set ∷ []) set.version_set o.solvable (contains_only set.version_set) (outside_is o b)))
+            inr (means.0, subst (Contains (case_literals same p (set.version_set ∷ []))) means.1 (outside_in_case same exact p (set.version_set ∷ []) set.version_set o.solvable (contains_only set.version_set) set_free (outside_is o b)))
       ];
       each = λ m h.
           let (w, one, which) = in_case same exact p (set.version_set ∷ []) m h in
           let is_one : w ≡ set.version_set = contains_one w set.version_set one in
           elim which [
-            | inl is ↦ (no any, has_here (no any) (literals_in given) (no any) refl, subst (Means (origin e.coding.atoms.keys) (no any)) (sym (is ∙ ap (λ v. minus (Atom.any_of (p.set_package v))) is_one)) none)
-            | inr (s, is, out) ↦
+            | inl (marked, is) ↦ absurd (both_ways _ set_free (subst (λ v. is_many p (p.set_package v) ≡ true) is_one marked))
+            | inr (free, inl is) ↦ (no any, has_here (no any) (literals_in given) (no any) refl, subst (Means (origin e.coding.atoms.keys) (no any)) (sym (is ∙ ap (λ v. minus (Atom.any_of (p.set_package v))) is_one)) none)
+            | inr (free, inr (s, is, out)) ↦
                 let (o, there, same_one) = outside_offered s (subst (λ v. is_outside same p v s ≡ true) is_one out) in
                 let (c, given_has, fits) = each o there in
                 (c.literal, has_later (no any) (literals_in given) c.literal (in_literals given c given_has), subst (Means (origin e.coding.atoms.keys) c.literal) (sym (is ∙ ap (λ y. plus (Atom.solvable y)) same_one)) (solvable_means e.coding.atoms.keys c.literal o.solvable fits.positive fits.present))
@@ -296,22 +303,23 @@ module _ {N S : Type 0} (same : S → S → Bool) (exact : IsExact same) where
         none : Means (origin e.coding.atoms.keys) (no any) (minus (Atom.any_of (p.set_package set.version_set)))
         none = subst (λ n. Means (origin e.coding.atoms.keys) (no any) (minus (Atom.any_of n))) is_set.named (means_atom e.coding.atoms.keys (no any) (AtLeastOne set.name) present)
 
-  -- its package is recorded, the candidates outside it are registered, and its literals are
-  -- returned
-  pub set_literals : (set : ConditionSet N S) (any : VariableId) (given : List (Candidate N)) (literals : List Signed) (old a b c : Encoder N S) → NamesPackage same set.name old a → EncodesRules same [] a b → Represents b.coding.atoms.keys any (AtLeastOne set.name)
+  -- its package, which isn't marked, is recorded, the candidates outside it are registered, and its
+  -- literals are returned
+  pub set_literals : (set : ConditionSet N S) (any : VariableId) (given : List (Candidate N)) (literals : List Signed) (old a b c : Encoder N S) → set.many ≡ false → NamesPackage same set.name old a → EncodesRules same [] a b → Represents b.coding.atoms.keys any (AtLeastOne set.name)
       → Enrols same set.outside.items given b c → literals ≡ no any ∷ literals_in given → CaseLiterals same (set ∷ []) literals old c
-  set_literals set any given literals old a b c first_step encodes present enrols is = record {
+  set_literals set any given literals old a b c unmarked first_step encodes present enrols is = record {
     built = enrols.built;
     extends = extends_then old a c first_step.extends (extends_then a b c encodes.extends enrols.extends);
     lists = enrols.lists ∙ encodes.lists ∙ first_step.lists;
     keeps = λ n h. at_least_one_kept n (first_step.keeps n h);
     tracked = λ m u h. enrols.keeps m u (subst (λ (r : Registry N). IsTracked r m u) (sym (encodes.registry ∙ first_step.registry)) h);
+    matches = λ v h. subst (λ (y : EncodedOnce N S). Contains y.matches.keys v) (sym (enrols.recorded ∙ encodes.recorded)) (first_step.matches v h);
     in_range = subst (AreInRange (count_of c.coding.search)) (sym is) below;
-    encoding = λ p root lawful e sets.
+    encoding = λ p root lawful e sets of.
         let is_set : IsSet same p set = sets.0 in
         let first = first_step.encoding p root lawful e in
         let (second, none) = encodes.encoding p root lawful first (λ r h. absurd (contains_none r h)) in
-        (enrols.encoding p root lawful second (outside_listed p lawful set is_set), at_least_one p lawful is_set);
+        (enrols.encoding p root lawful second (outside_listed p lawful set is_set unmarked b), at_least_one p lawful is_set);
   }
     where
       at_least_one_kept : (n : N) → IsNamed a.recorded n → IsNamed c.recorded n
@@ -331,12 +339,15 @@ module _ {N S : Type 0} (same : S → S → Bool) (exact : IsExact same) where
 
       at_least_one : (p : Packages N S) → IsLawful p → IsSet same p set → AreCaseLiterals same p c (set.version_set ∷ []) literals
       at_least_one p lawful is_set = record {
-        recorded = λ v h. subst (λ w. IsNamed c.recorded (p.set_package w)) (sym (contains_one v set.version_set h)) (subst (λ n. IsNamed c.recorded n) is_set.named (at_least_one_kept set.name first_step.named));
-        registered = λ v s h out.
-            let (o, there, one) = outside_offered p lawful set is_set s (subst (λ w. is_outside same p w s ≡ true) (contains_one v set.version_set h) out) in
-            let (x, from, fits) = enrols.each o there in
-            subst (λ y. IsRegistered c.registry c.coding (p.package_of y) y) (sym one) (x.literal.variable, fits.present, subst (λ n. IsTracked c.registry n x.literal.variable) (outside_named p lawful set is_set o there) fits.tracked);
-        spells = subst (λ (ls : List Signed). Spells (origin c.coding.atoms.keys) ls (case_literals same p (set.version_set ∷ []))) (sym is) (set_spells p lawful set is_set c any given represents_last enrols.each enrols.all);
+        sets = λ v h. subst (λ w. IsSetEncoded same p c w) (sym (contains_one v set.version_set h)) (inl (
+          set_free p lawful set is_set unmarked,
+          subst (λ n. IsNamed c.recorded n) is_set.named (at_least_one_kept set.name first_step.named),
+          λ s out.
+              let (o, there, one) = outside_offered p lawful set is_set unmarked s out in
+              let (x, from, fits) = enrols.each o there in
+              subst (λ y. IsRegistered c.registry c.coding (p.package_of y) y) (sym one) (x.literal.variable, fits.present, subst (λ n. IsTracked c.registry n x.literal.variable) (outside_named p lawful set is_set unmarked o there) fits.tracked),
+        ));
+        spells = subst (λ (ls : List Signed). Spells (origin c.coding.atoms.keys) ls (case_literals same p (set.version_set ∷ []))) (sym is) (set_spells p lawful set is_set unmarked c any given represents_last enrols.each enrols.all);
       }
 
   -- ---- the version sets of a case
@@ -349,9 +360,10 @@ module _ {N S : Type 0} (same : S → S → Bool) (exact : IsExact same) where
         | inr k ↦ contains_right l (case_literals same p vs) (case_literals same p ws) (present p ws w l k which)
       ]
     where
-      present : (p : Packages N S) (vs : List VersionSetId) (w : VersionSetId) (l : Literal (Atom N S)) → Contains vs w → (l ≡ minus (Atom.any_of (p.set_package w))) ⊎ ((s : S) × (l ≡ plus (Atom.solvable s)) × (is_outside same p w s ≡ true)) → Contains (case_literals same p vs) l
-      present p vs w l k (inl is) = subst (Contains (case_literals same p vs)) (sym is) (any_in_case same exact p vs w k)
-      present p vs w l k (inr (s, is, out)) = subst (Contains (case_literals same p vs)) (sym is) (outside_in_case same exact p vs w s k out)
+      present : (p : Packages N S) (vs : List VersionSetId) (w : VersionSetId) (l : Literal (Atom N S)) → Contains vs w → IsSetLiteral same exact p w l → Contains (case_literals same p vs) l
+      present p vs w l k (inl (marked, is)) = subst (Contains (case_literals same p vs)) (sym is) (matches_in_case same exact p vs w k marked)
+      present p vs w l k (inr (free, inl is)) = subst (Contains (case_literals same p vs)) (sym is) (any_in_case same exact p vs w k free)
+      present p vs w l k (inr (free, inr (s, is, out))) = subst (Contains (case_literals same p vs)) (sym is) (outside_in_case same exact p vs w s k free out)
 
   append-case : (p : Packages N S) (vs ws : List VersionSetId) (l : Literal (Atom N S)) → Contains (case_literals same p vs ++ case_literals same p ws) l → Contains (case_literals same p (vs ++ ws)) l
   append-case p vs ws l h = elim (contains_parts l (case_literals same p vs) (case_literals same p ws) h) [
@@ -359,15 +371,15 @@ module _ {N S : Type 0} (same : S → S → Bool) (exact : IsExact same) where
     | inr k ↦ (let (w, there, which) = in_case same exact p ws l k in present w (contains_right w vs ws there) which)
   ]
     where
-      present : (w : VersionSetId) → Contains (vs ++ ws) w → (l ≡ minus (Atom.any_of (p.set_package w))) ⊎ ((s : S) × (l ≡ plus (Atom.solvable s)) × (is_outside same p w s ≡ true)) → Contains (case_literals same p (vs ++ ws)) l
-      present w k (inl is) = subst (Contains (case_literals same p (vs ++ ws))) (sym is) (any_in_case same exact p (vs ++ ws) w k)
-      present w k (inr (s, is, out)) = subst (Contains (case_literals same p (vs ++ ws))) (sym is) (outside_in_case same exact p (vs ++ ws) w s k out)
+      present : (w : VersionSetId) → Contains (vs ++ ws) w → IsSetLiteral same exact p w l → Contains (case_literals same p (vs ++ ws)) l
+      present w k (inl (marked, is)) = subst (Contains (case_literals same p (vs ++ ws))) (sym is) (matches_in_case same exact p (vs ++ ws) w k marked)
+      present w k (inr (free, inl is)) = subst (Contains (case_literals same p (vs ++ ws))) (sym is) (any_in_case same exact p (vs ++ ws) w k free)
+      present w k (inr (free, inr (s, is, out))) = subst (Contains (case_literals same p (vs ++ ws))) (sym is) (outside_in_case same exact p (vs ++ ws) w s k free out)
 
   -- the literals of two cases are those of both as one
   case_literals_join : (p : Packages N S) (e : Encoder N S) (vs ws : List VersionSetId) (ls ms : List Signed) → AreCaseLiterals same p e vs ls → AreCaseLiterals same p e ws ms → AreCaseLiterals same p e (vs ++ ws) (ls ++ ms)
   case_literals_join p e vs ws ls ms f g = record {
-    recorded = λ v h. elim (contains_parts v vs ws h) [ inl k ↦ f.recorded v k | inr k ↦ g.recorded v k ];
-    registered = λ v s h out. elim (contains_parts v vs ws h) [ inl k ↦ f.registered v s k out | inr k ↦ g.registered v s k out ];
+    sets = λ v h. elim (contains_parts v vs ws h) [ inl k ↦ f.sets v k | inr k ↦ g.sets v k ];
     spells = record {
       only = λ l h. elim (joined.only l h) [ inl z ↦ inl z | inr (other, c) ↦ inr (other, append-case p vs ws (meaning (origin e.coding.atoms.keys) l) c) ];
       each = λ m h. joined.each m (case-append p vs ws m h);
@@ -384,12 +396,12 @@ module _ {N S : Type 0} (same : S → S → Bool) (exact : IsExact same) where
     lists = refl;
     keeps = λ n h. h;
     tracked = λ m u h. h;
+    matches = λ v h. h;
     in_range = λ l h. absurd (both_ways false refl h);
-    encoding = λ p root lawful holds sets. (
+    encoding = λ p root lawful holds sets of. (
       holds,
       record {
-        recorded = λ v h. absurd (contains_none v h);
-        registered = λ v s h out. absurd (contains_none v h);
+        sets = λ v h. absurd (contains_none v h);
         spells = record { only = λ l h. absurd (both_ways false refl h); each = λ m h. absurd (contains_none m h) };
       },
     );
@@ -402,17 +414,20 @@ module _ {N S : Type 0} (same : S → S → Bool) (exact : IsExact same) where
     lists = g.lists ∙ f.lists;
     keeps = λ n h. g.keeps n (f.keeps n h);
     tracked = λ m u h. g.tracked m u (f.tracked m u h);
+    matches = λ v h. g.matches v (f.matches v h);
     in_range = λ l h. elim (has-append ls ms l h) [ inl k ↦ range_grows b.coding c.coding ls f.built.coding g.built.coding g.extends.grows f.in_range l k | inr k ↦ g.in_range l k ];
-    encoding = λ p root lawful e sets.
+    encoding = λ p root lawful e sets of.
         let (before, own) = all_parts (IsSet same p) xs (set ∷ []) sets in
-        let (middle, first) = f.encoding p root lawful e before in
-        let (last, second) = g.encoding p root lawful middle own in
+        let (middle, first) = f.encoding p root lawful e before (λ v h. of v (among v (contains_left v (sets_case xs) (set.version_set ∷ []) h))) in
+        let (last, second) = g.encoding p root lawful middle own (λ v h. of v (among v (contains_right v (sets_case xs) (set.version_set ∷ []) h))) in
         (last, subst (λ vs. AreCaseLiterals same p c vs (ls ++ ms)) (sym (map-append (λ (x : ConditionSet N S). x.version_set) xs (set ∷ []))) (case_literals_join p c (sets_case xs) (set.version_set ∷ []) ls ms (stays p root first) second));
   }
     where
+      among : (v : VersionSetId) → Contains (sets_case xs ++ set.version_set ∷ []) v → Contains (sets_case (xs ++ set ∷ [])) v
+      among v h = subst (λ vs. Contains vs v) (sym (map-append (λ (x : ConditionSet N S). x.version_set) xs (set ∷ []))) h
+
       stays : (p : Packages N S) (root : Rules) → AreCaseLiterals same p b (sets_case xs) ls → AreCaseLiterals same p c (sets_case xs) ls
       stays p root h = record {
-        recorded = λ v k. g.keeps (p.set_package v) (h.recorded v k);
-        registered = λ v s k out. registered_stays same exact p root b c (p.package_of s) s g.extends.grows g.tracked (h.registered v s k out);
+        sets = λ v k. set_stays same exact p root b c v g.extends.grows g.keeps g.matches g.tracked (h.sets v k);
         spells = spells_grow b.coding c.coding ls (case_literals same p (sets_case xs)) f.built.coding g.extends.grows f.in_range h.spells;
       }

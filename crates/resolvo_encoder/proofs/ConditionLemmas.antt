@@ -67,6 +67,7 @@ module _ {N S : Type 0} (same : S → S → Bool) (p : Packages N S) (lists more
   queued_grows (Some (Kind.Excluded s why)) q h = h
   queued_grows (Some (Kind.Digit n s place bit)) q h = h
   queued_grows (Some (Kind.IsThere n s)) q h = h
+  queued_grows (Some (Kind.Matches w s)) q h = h
   queued_grows (Some Kind.Learnt) q h = h
 
 -- ---- clauses in parts

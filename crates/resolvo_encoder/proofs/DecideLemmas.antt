@@ -318,6 +318,7 @@ module _ {N S : Type 0} (same : S → S → Bool) (p : Packages N S) (root : Rul
   queue_asks q (Some (Kind.Excluded s why)) at h t fell = absurd h
   queue_asks q (Some (Kind.Digit n s place bit)) at h t fell = absurd h
   queue_asks q (Some (Kind.IsThere n s)) at h t fell = absurd h
+  queue_asks q (Some (Kind.Matches w s)) at h t fell = absurd h
   queue_asks q (Some Kind.Learnt) at h t fell = absurd h
 
   -- a requirement of a chosen parent has a requires clause

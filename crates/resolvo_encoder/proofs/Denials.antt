@@ -25,6 +25,7 @@ is_choice_of (Atom.solvable s) b = b
 is_choice_of (Atom.gate r) b = false
 is_choice_of (Atom.outside v) b = false
 is_choice_of (Atom.any_of n) b = false
+is_choice_of (Atom.matches v) b = false
 is_choice_of (Atom.digit n bit) b = false
 
 abbrev is_choice : {N S : Type 0} → Literal (Atom N S) → Bool
@@ -42,6 +43,7 @@ module _ {N S : Type 0} where
   asks_none (Rule.forbids w s) d a = a
   asks_none (Rule.has_digit s bit b) d a = a
   asks_none (Rule.is_there n s) d a = a
+  asks_none (Rule.matches v s) d a = a
 
   -- its clause makes no solvable true
   pub makes_none : (same : S → S → Bool) (p : Packages N S) (r : Rule N S) → IsRestraint r → (t : S) → Contains (literals_of same p r) (plus (Atom.solvable t)) → ⊥
@@ -59,6 +61,7 @@ module _ {N S : Type 0} where
       none (Rule.forbids w s) d = refl
       none (Rule.has_digit s bit b) d = absurd d
       none (Rule.is_there n s) d = refl
+      none (Rule.matches v s) d = refl
 
   -- its kind has no digit
   pub not_digit : (x : ClauseKind N S) (r : Rule N S) → rule_of x ≡ Some r → IsRestraint r → (m : N) (t : S) (at bit : ℕ) → x ≡ Kind.Digit m t at bit → ⊥

@@ -24,6 +24,7 @@ digit_in same (Some (Rule.is_out v t)) s bit = None
 digit_in same (Some (Rule.forbids w t)) s bit = None
 digit_in same (Some (Rule.has_digit t k b)) s bit = cond (same t s && (k == bit)) (Some b) None
 digit_in same (Some (Rule.is_there n t)) s bit = None
+digit_in same (Some (Rule.matches w t)) s bit = None
 
 -- the digit of the solvable's place by the first clause that encodes it; false where none does
 abbrev pub digit_found : {N S : Type 0} → (S → S → Bool) → List (ClauseKind N S) → S → ℕ → Bool
@@ -65,6 +66,7 @@ module _ {N S : Type 0} (same : S → S → Bool) (exact : IsExact same) where
       go (Some (Rule.is_out v t)) e (m, i) = (suc m, i)
       go (Some (Rule.forbids w t)) e (m, i) = (suc m, i)
       go (Some (Rule.is_there name t)) e (m, i) = (suc m, i)
+      go (Some (Rule.matches w t)) e (m, i) = (suc m, i)
       go (Some (Rule.has_digit t k v)) e (m, i) = elim (cases_Bool (same t s && (k == bit))) [
         | inl y ↦
             let (one, bits) = and_parts (same t s) (k == bit) y in

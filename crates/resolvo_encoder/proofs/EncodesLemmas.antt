@@ -1,5 +1,5 @@
 -- Rules that forbid solvables are encoded as clauses, one after another.
-use Rattle.std.proofs.Common.{◌≡◌, ◌<◌, ◌⊎◌, inl, inr, Bool, true, List, [], ◌∷◌, ◌++◌, map, length, Option, Some, None, refl, sym, ◌∙◌, ap, subst, arith, ℕ}
+use Rattle.std.proofs.Common.{◌≡◌, ◌<◌, ◌⊎◌, inl, inr, Bool, true, false, ◌||◌, List, [], ◌∷◌, ◌++◌, map, length, Option, Some, None, refl, sym, ◌∙◌, ap, subst, arith, ℕ}
 use Rattle.resolvo_sat.specs.State.{history}
 use Rattle.resolvo_sat.specs.SearchEnd.{IsSoftChoice}
 use Rattle.resolvo_sat.specs.First.{IsFirstPick}
@@ -7,9 +7,10 @@ use Rattle.std.specs.Prelude.{Contains}
 use Rattle.std.proofs.lemmas.List.{map-append}
 use Rattle.resolvo_pool_core.specs.declared.id.VariableId.{VariableId}
 use Rattle.resolvo_pool_core.specs.declared.id.VersionSetId.{VersionSetId}
+use Rattle.resolvo_pool_core.specs.declared.requirement.Requirement.TheVariants.{Single}
 use Rattle.resolvo_pool_core.specs.Provider.{listing_or_empty}
 use Rattle.resolvo_pool_core.specs.Text.{solvable_of}
-use Rattle.resolvo_pool_core.specs.RuleKeeping.{Packages, Rules, rules_for, is_outside, listing_for}
+use Rattle.resolvo_pool_core.specs.RuleKeeping.{Packages, Rules, is_in, is_many, rules_for, is_match, is_outside, listing_for}
 use Rattle.resolvo_store_core.specs.Signed.{Signed}
 use Rattle.resolvo_store_core.specs.Clauses.{yes, no, root as root_variable}
 use Rattle.resolvo_sat.specs.Steps.{AreInRange}
@@ -17,15 +18,15 @@ use Rattle.resolvo_packages.specs.declared.package_source.ForbiddenSolvable.{For
 use Rattle.resolvo_packages.specs.declared.package_source.Offered.{Offered}
 use Rattle.resolvo_packages.specs.declared.package_source.ForbiddenBy.{ForbiddenBy}
 use Rattle.resolvo_packages.specs.declared.package_source.ForbiddenBy.TheVariants.{Locked, Excluded}
-use Rattle.resolvo_packages.specs.PackageSource.{offered_solvables, AreOutside}
+use Rattle.resolvo_packages.specs.PackageSource.{offered_solvables, AreOffered, AreOutside}
 use Rattle.resolvo_packages.specs.Forbidden.{KeepsOut, forbidden_solvables, AreForbidden}
 use Rattle.resolvo_sat.specs.RuleClauses as rules
-use Rattle.resolvo_sat.specs.RuleClauses.{IsExact, Atom, Rule, ForbidReason, plus, minus, IsRule, IsForbiddenIn, IsForbidden, literals_of, parent_literals}
+use Rattle.resolvo_sat.specs.RuleClauses.{IsExact, Atom, Rule, ForbidReason, plus, minus, IsOfCase, IsRule, IsForbiddenIn, IsForbidden, literals_of, parent_literals}
 use Rattle.resolvo_sat.specs.Numbered.{Spells, AreCalledFor}
 use Rattle.resolvo_sat.proofs.Lists.{contains_none, contains_only, contains_left, contains_right, contains_parts, contains_one, contains_map, map_contains}
 use Rattle.resolvo_sat.proofs.Members.{in_contained, contained_in}
 use Rattle.resolvo_state.specs.declared.atom.ProofAtom.{ProofAtom}
-use Rattle.resolvo_state.specs.declared.atom.ProofAtom.TheVariants.{Solvable, AtLeastOne, Outside}
+use Rattle.resolvo_state.specs.declared.atom.ProofAtom.TheVariants.{Solvable, AtLeastOne, Outside, Matches}
 use Rattle.resolvo_state.specs.declared.solver_state.SolverState.{SolverState}
 use Rattle.resolvo_state.specs.declared.clause_kind.ClauseKind.{ClauseKind}
 use Rattle.resolvo_state.specs.declared.clause_kind.ClauseKind.TheVariants as Kind
@@ -39,14 +40,14 @@ use Rattle.resolvo_state.proofs.Positions.{prefix_same}
 use Rattle.resolvo_state.proofs.RegisterLemmas.{digits_more}
 use Rattle.resolvo_encoder.specs.declared.encoder.Encoder.{Encoder}
 use Rattle.resolvo_encoder.specs.declared.encoder.EncodedOnce.{EncodedOnce}
-use Rattle.resolvo_encoder.specs.Encoded.{IsEncoding, IsRecorded, IsParentVariable, HasOrder}
+use Rattle.resolvo_encoder.specs.Encoded.{IsEncoding, IsMarkKnown, IsRecorded, IsParentVariable, HasOrder}
 use Rattle.resolvo_encoder.specs.Encoded as E
 use Rattle.resolvo_encoder.specs.Steps.{IsBuilt, Extends}
-use Rattle.resolvo_encoder.specs.ClauseRules.{reason_of, IsRestraint, IsPair, EncodesPair, EncodesRules, forbid_rules, limit_rules, out_rules}
+use Rattle.resolvo_encoder.specs.ClauseRules.{reason_of, IsRestraint, IsPair, EncodesPair, EncodesRules, forbid_rules, limit_rules, out_rules, match_rules}
 use Rattle.resolvo_encoder.proofs.BuildLemmas.{built_gives, built_rest, trail_on}
 use Rattle.resolvo_encoder.proofs.Denials.{Reads, pair_members, pair_spells, one_spells, not_digit}
 use Rattle.resolvo_encoder.proofs.NeedLemmas.{gives_keeps, clause_keeps}
-use Rattle.resolvo_encoder.proofs.RequireLemmas.{each_of, parent_grows, extends_same, extends_then}
+use Rattle.resolvo_encoder.proofs.RequireLemmas.{each_of, parent_grows, extends_same, extends_then, set_stays}
 
 -- the variables of a pair exist
 pub pair_in_range : (count : ℕ) (a b : Signed) (literals : List Signed) → IsPair a b literals → a.variable.0 < count → b.variable.0 < count → AreInRange count literals
@@ -68,6 +69,10 @@ parent_variable_grows old new (Some s) v h present = represents_grow old.coding 
 pub parent_reads : {N S : Type 0} (atoms : List (ProofAtom N S)) (parent : Option S) (v : VariableId) → IsParentVariable atoms parent v → Reads (origin atoms) (no v) (parent_literals parent)
 parent_reads atoms None v is = inl (ap no is, refl)
 parent_reads atoms (Some s) v present = inr (minus (Atom.solvable s), refl, means_atom atoms (no v) (Solvable s) present)
+
+or_false : (b : Bool) → (b || false) ≡ b
+or_false true = refl
+or_false false = refl
 
 module _ {N S : Type 0} (same : S → S → Bool) (exact : IsExact same) where
   -- ---- one after another
@@ -155,6 +160,13 @@ module _ {N S : Type 0} (same : S → S → Bool) (exact : IsExact same) where
       (λ p literals pair. pair_spells (origin old.coding.atoms.keys) (no first) (yes second) literals (minus (Atom.solvable s) ∷ []) (plus (Atom.any_of n) ∷ []) pair
       (inr (minus (Atom.solvable s), refl, means_atom old.coding.atoms.keys (no first) (Solvable s) is)) (inr (plus (Atom.any_of n), refl, means_atom old.coding.atoms.keys (yes second) (AtLeastOne n) present)))
 
+  -- a solvable matches a version set
+  pub match_encodes : (v : VersionSetId) (s : S) (first second : VariableId) (old new : Encoder N S) → IsBuilt old → Represents old.coding.atoms.keys first (Solvable s) → Represents old.coding.atoms.keys second (Matches v)
+      → EncodesPair (Kind.Matches v s) (no first) (yes second) old new → EncodesRules same (Rule.matches v s ∷ []) old new
+  match_encodes v s first second old new built is present = pair_encodes (Kind.Matches v s) (Rule.matches v s) (no first) (yes second) old new built refl tt
+      (λ p literals pair. pair_spells (origin old.coding.atoms.keys) (no first) (yes second) literals (minus (Atom.solvable s) ∷ []) (plus (Atom.matches v) ∷ []) pair
+      (inr (minus (Atom.solvable s), refl, means_atom old.coding.atoms.keys (no first) (Solvable s) is)) (inr (plus (Atom.matches v), refl, means_atom old.coding.atoms.keys (yes second) (Matches v) present)))
+
   -- a solvable is forbidden, beside the root or alone
   pub forbid_encodes : (x : ClauseKind N S) (w : ForbidReason S) (s : S) (first v : VariableId) (old new : Encoder N S) → IsBuilt old → rule_of x ≡ Some (Rule.forbids w s) → (first ≡ v) ⊎ (first ≡ root_variable) → Represents old.coding.atoms.keys v (Solvable s)
       → EncodesPair x (no first) (no v) old new → EncodesRules same (Rule.forbids w s ∷ []) old new
@@ -208,11 +220,30 @@ module _ {N S : Type 0} (same : S → S → Bool) (exact : IsExact same) where
         let (o, there, is) = map_contains (λ (x : Offered N S). x.solvable) s list (in_contained same exact p (offered_solvables list) s (outside.outside s ∙ h)) in
         subst (λ y. rules (rule y)) (sym is) (each (rule o.solvable) (contains_map (λ (x : Offered N S). rule x.solvable) o list there))
 
+    -- the solvables offered as matches of a version set are exactly those
+    offered_match : (v : VersionSetId) (list : List (Offered N S)) (s : S) → AreOffered same p (Single v) list → is_in same p (offered_solvables list) s ≡ is_match same p v s
+    offered_match v list s offered = offered.matches s ∙ or_false (is_match same p v s)
+
+    pub matches_are_rules : (v : VersionSetId) (list : List (Offered N S)) → AreOffered same p (Single v) list → is_many p (p.set_package v) ≡ true → IsOfCase same p root v → (r : Rule N S) → Contains (match_rules v list) r → IsRule same p root r
+    matches_are_rules v list offered marked of r h =
+        let (o, there, is) = map_contains (λ (x : Offered N S). Rule.matches v x.solvable) r list h in
+        subst (IsRule same p root) (sym is) (
+          of,
+          sym (offered_match v list o.solvable offered) ∙ contained_in same exact p (offered_solvables list) o.solvable (contains_map (λ (x : Offered N S). x.solvable) o list there),
+          marked,
+        )
+
+    pub matches_encoded : (v : VersionSetId) (list : List (Offered N S)) (rules : Rule N S → Type 0) → AreOffered same p (Single v) list → ((r : Rule N S) → Contains (match_rules v list) r → rules r) → (s : S) → is_match same p v s ≡ true → rules (Rule.matches v s)
+    matches_encoded v list rules offered each s h =
+        let (o, there, is) = map_contains (λ (x : Offered N S). x.solvable) s list (in_contained same exact p (offered_solvables list) s (offered_match v list s offered ∙ h)) in
+        subst (λ y. rules (Rule.matches v y)) (sym is) (each (Rule.matches v o.solvable) (contains_map (λ (x : Offered N S). Rule.matches v x.solvable) o list there))
+
     -- The encoded packages, version sets and solvables are recorded.
     pub recorded_keeps : (old : Encoder N S) (x : EncodedOnce N S) → IsEncoding same p root old → IsRecorded same p (E.rules_of old) x
-        → ((n : N) → E.IsNamed old.recorded n → E.IsNamed x n) → ((n : N) (s : S) → Contains x.at_least_one.keys n → IsRegistered old.registry old.coding n s → E.rules_of old (Rule.is_there n s) ⊎ E.IsWaiting old n s)
+        → ((n : N) → E.IsNamed old.recorded n → E.IsNamed x n) → ((v : VersionSetId) → Contains old.recorded.matches.keys v → Contains x.matches.keys v) → ((n : N) → Contains x.packages.keys n → IsMarkKnown same p old n)
+        → ((n : N) (s : S) → Contains x.at_least_one.keys n → IsRegistered old.registry old.coding n s → E.rules_of old (Rule.is_there n s) ⊎ E.IsPending old n s)
         → ((s : S) → Contains x.there.keys s → E.rules_of old (Rule.is_there (p.package_of s) s)) → x.softs.items ≡ old.recorded.softs.items → IsEncoding same p root (record old { recorded = x })
-    recorded_keeps old x e recorded keeps at_least_one there softs = record {
+    recorded_keeps old x e recorded keeps matches known at_least_one there softs = record {
       coding = e.coding;
       tied = e.tied;
       spelled = e.spelled;
@@ -227,12 +258,13 @@ module _ {N S : Type 0} (same : S → S → Bool) (exact : IsExact same) where
       asked = e.asked;
       gates = e.gates;
       forbid = e.forbid;
-      recorded = record { packages = recorded.packages; version_sets = recorded.version_sets };
+      recorded = record { packages = recorded.packages; version_sets = recorded.version_sets; matches = recorded.matches };
+      marks = record { right = e.marks.right; registered = e.marks.registered; recorded = known };
       cases = record {
         waiting = e.cases.waiting;
         places = e.cases.places;
         fired = e.cases.fired;
-        cased = λ parent need case v present h. (let (named, out) = e.cases.cased parent need case v present h in (keeps (p.set_package v) named, out));
+        cased = λ parent need case v present h. set_stays same exact p root old (record old { recorded = x }) v (grows_same old.coding) keeps matches (λ m u a. a) (e.cases.cased parent need case v present h);
         at_least_one = at_least_one;
         there = there;
       };
@@ -243,11 +275,12 @@ module _ {N S : Type 0} (same : S → S → Bool) (exact : IsExact same) where
     }
 
     pub package_recorded : (old : Encoder N S) (x : EncodedOnce N S) (n : N) → IsEncoding same p root old → ((m : N) → Contains x.packages.keys m → Contains old.recorded.packages.keys m ⊎ (m ≡ n)) → x ≡ record old.recorded { packages = x.packages }
-        → ((s : S) → IsForbiddenIn same p n s → IsForbidden (E.rules_of old) s) → IsEncoding same p root (record old { recorded = x })
-    package_recorded old x n e only others forbids = subst (λ (y : EncodedOnce N S). IsEncoding same p root (record old { recorded = y })) (sym others) (recorded_keeps old (record old.recorded { packages = x.packages }) e (record {
+        → IsMarkKnown same p old n → ((s : S) → IsForbiddenIn same p n s → IsForbidden (E.rules_of old) s) → IsEncoding same p root (record old { recorded = x })
+    package_recorded old x n e only others known forbids = subst (λ (y : EncodedOnce N S). IsEncoding same p root (record old { recorded = y })) (sym others) (recorded_keeps old (record old.recorded { packages = x.packages }) e (record {
       packages = λ m s h barred. elim (only m h) [ inl a ↦ e.recorded.packages m s a barred | inr is ↦ forbids s (subst (λ y. IsForbiddenIn same p y s) is barred) ];
       version_sets = e.recorded.version_sets;
-    }) (λ m h. h) e.cases.at_least_one e.cases.there refl)
+      matches = e.recorded.matches;
+    }) (λ m h. h) (λ v h. h) (λ m h. elim (only m h) [ inl a ↦ e.marks.recorded m a | inr is ↦ subst (λ y. IsMarkKnown same p old y) (sym is) known ]) e.cases.at_least_one e.cases.there refl)
 
     pub set_recorded : (old : Encoder N S) (x : EncodedOnce N S) (v : VersionSetId) → IsEncoding same p root old → ((w : VersionSetId) → Contains x.version_sets.keys w → Contains old.recorded.version_sets.keys w ⊎ (w ≡ v)) → x ≡ record old.recorded { version_sets = x.version_sets }
         → ((s : S) → is_outside same p v s ≡ true → E.rules_of old (Rule.is_out v s)) → IsEncoding same p root (record old { recorded = x })
@@ -257,23 +290,36 @@ module _ {N S : Type 0} (same : S → S → Bool) (exact : IsExact same) where
         | inl a ↦ e.recorded.version_sets w s a out
         | inr is ↦ subst (λ y. E.rules_of old (Rule.is_out y s)) (sym is) (outside s (subst (λ y. is_outside same p y s ≡ true) is out))
       ];
-    }) (λ m h. h) e.cases.at_least_one e.cases.there refl)
+      matches = e.recorded.matches;
+    }) (λ m h. h) (λ v h. h) e.marks.recorded e.cases.at_least_one e.cases.there refl)
+
+    -- a version set is recorded for its matches
+    pub matches_recorded : (old : Encoder N S) (x : EncodedOnce N S) (v : VersionSetId) → IsEncoding same p root old → ((w : VersionSetId) → Contains old.recorded.matches.keys w → Contains x.matches.keys w) → ((w : VersionSetId) → Contains x.matches.keys w → Contains old.recorded.matches.keys w ⊎ (w ≡ v))
+        → x ≡ record old.recorded { matches = x.matches } → ((s : S) → is_match same p v s ≡ true → E.rules_of old (Rule.matches v s)) → IsEncoding same p root (record old { recorded = x })
+    matches_recorded old x v e keeps only others matching = subst (λ (y : EncodedOnce N S). IsEncoding same p root (record old { recorded = y })) (sym others) (recorded_keeps old (record old.recorded { matches = x.matches }) e (record {
+      packages = e.recorded.packages;
+      version_sets = e.recorded.version_sets;
+      matches = λ w s h m. elim (only w h) [
+        | inl a ↦ e.recorded.matches w s a m
+        | inr is ↦ subst (λ y. E.rules_of old (Rule.matches y s)) (sym is) (matching s (subst (λ y. is_match same p y s ≡ true) is m))
+      ];
+    }) (λ m h. h) keeps e.marks.recorded e.cases.at_least_one e.cases.there refl)
 
     -- a package is recorded whose registered solvables have at-least-one clauses
     pub at_least_one_recorded : (old : Encoder N S) (x : EncodedOnce N S) (n : N) → IsEncoding same p root old → ((m : N) → Contains x.at_least_one.keys m → Contains old.recorded.at_least_one.keys m ⊎ (m ≡ n)) → ((m : N) → Contains old.recorded.at_least_one.keys m → Contains x.at_least_one.keys m) → x ≡ record old.recorded { at_least_one = x.at_least_one }
-        → ((s : S) → IsRegistered old.registry old.coding n s → E.rules_of old (Rule.is_there n s) ⊎ E.IsWaiting old n s) → IsEncoding same p root (record old { recorded = x })
-    at_least_one_recorded old x n e only keeps others there = subst (λ (y : EncodedOnce N S). IsEncoding same p root (record old { recorded = y })) (sym others) (recorded_keeps old (record old.recorded { at_least_one = x.at_least_one }) e (record { packages = e.recorded.packages; version_sets = e.recorded.version_sets }) (λ m h. elim h [ inl k ↦ inl (keeps m k) | inr k ↦ inr k ])
-        (λ m s h a. elim (only m h) [ inl b ↦ e.cases.at_least_one m s b a | inr is ↦ subst (λ y. E.rules_of old (Rule.is_there y s) ⊎ E.IsWaiting old y s) (sym is) (there s (subst (λ y. IsRegistered old.registry old.coding y s) is a)) ]) e.cases.there refl)
+        → ((s : S) → IsRegistered old.registry old.coding n s → E.rules_of old (Rule.is_there n s) ⊎ E.IsPending old n s) → IsEncoding same p root (record old { recorded = x })
+    at_least_one_recorded old x n e only keeps others there = subst (λ (y : EncodedOnce N S). IsEncoding same p root (record old { recorded = y })) (sym others) (recorded_keeps old (record old.recorded { at_least_one = x.at_least_one }) e (record { packages = e.recorded.packages; version_sets = e.recorded.version_sets; matches = e.recorded.matches }) (λ m h. elim h [ inl k ↦ inl (keeps m k) | inr k ↦ inr k ]) (λ v h. h) e.marks.recorded
+        (λ m s h a. elim (only m h) [ inl b ↦ e.cases.at_least_one m s b a | inr is ↦ subst (λ y. E.rules_of old (Rule.is_there y s) ⊎ E.IsPending old y s) (sym is) (there s (subst (λ y. IsRegistered old.registry old.coding y s) is a)) ]) e.cases.there refl)
 
     -- other packages are named: each that was is, or is recorded
     pub queued_recorded : (old : Encoder N S) (x : EncodedOnce N S) → IsEncoding same p root old → ((n : N) → E.IsNamed old.recorded n → E.IsNamed x n) → x ≡ record old.recorded { queued = x.queued } → IsEncoding same p root (record old { recorded = x })
     queued_recorded old x e named others = subst (λ (y : EncodedOnce N S). IsEncoding same p root (record old { recorded = y })) (sym others)
-        (recorded_keeps old (record old.recorded { queued = x.queued }) e (record { packages = e.recorded.packages; version_sets = e.recorded.version_sets }) (λ n h. subst (λ (y : EncodedOnce N S). E.IsNamed y n) others (named n h)) e.cases.at_least_one e.cases.there refl)
+        (recorded_keeps old (record old.recorded { queued = x.queued }) e (record { packages = e.recorded.packages; version_sets = e.recorded.version_sets; matches = e.recorded.matches }) (λ n h. subst (λ (y : EncodedOnce N S). E.IsNamed y n) others (named n h)) (λ v h. h) e.marks.recorded e.cases.at_least_one e.cases.there refl)
 
     -- a solvable is recorded that has an at-least-one clause
     pub there_recorded : (old : Encoder N S) (x : EncodedOnce N S) (s : S) → IsEncoding same p root old → ((t : S) → Contains x.there.keys t → Contains old.recorded.there.keys t ⊎ (t ≡ s)) → x ≡ record old.recorded { there = x.there }
         → E.rules_of old (Rule.is_there (p.package_of s) s) → IsEncoding same p root (record old { recorded = x })
-    there_recorded old x s e only others present = subst (λ (y : EncodedOnce N S). IsEncoding same p root (record old { recorded = y })) (sym others) (recorded_keeps old (record old.recorded { there = x.there }) e (record { packages = e.recorded.packages; version_sets = e.recorded.version_sets }) (λ m h. h) e.cases.at_least_one
+    there_recorded old x s e only others present = subst (λ (y : EncodedOnce N S). IsEncoding same p root (record old { recorded = y })) (sym others) (recorded_keeps old (record old.recorded { there = x.there }) e (record { packages = e.recorded.packages; version_sets = e.recorded.version_sets; matches = e.recorded.matches }) (λ m h. h) (λ v h. h) e.marks.recorded e.cases.at_least_one
         (λ t h. elim (only t h) [ inl b ↦ e.cases.there t b | inr is ↦ subst (λ y. E.rules_of old (Rule.is_there (p.package_of y) y)) (sym is) present ]) refl)
 
 pub built_recorded : {N S : Type 0} (e : Encoder N S) (x : EncodedOnce N S) → IsBuilt e → IsBuilt (record e { recorded = x })

@@ -1,11 +1,12 @@
 -- Offered solvables are registered, and become candidates.
 use Rattle.std.proofs.Common.{◌≡◌, ℕ, ◌<◌, ◌≤◌, ◌⊎◌, inl, inr, Bool, true, false, List, [], ◌∷◌, length, Some, refl, sym, ◌∙◌, ap, subst, arith, Vec, Global, is_some, Option, None}
 use Rattle.std.specs.Prelude.{Contains}
-use Rattle.std.proofs.lemmas.Bool.{both_ways}
+use Rattle.std.proofs.lemmas.Bool.{both_ways, and_parts}
 use Rattle.resolvo_pool_core.specs.declared.requirement.Requirement.{Requirement}
 use Rattle.resolvo_pool_core.specs.ByRequirement.{slot_of}
 use Rattle.resolvo_pool_core.specs.Provider.{listed}
-use Rattle.resolvo_pool_core.specs.RuleKeeping.{Packages, Rules, IsLawful, is_in, meets}
+use Rattle.resolvo_pool_core.specs.RuleKeeping.{Packages, Rules, IsLawful, is_in, meets, is_match}
+use Rattle.resolvo_pool_core.specs.Text.{alternatives_of}
 use Rattle.resolvo_store_core.specs.AtMostOne.{IsPrefixOf}
 use Rattle.resolvo_store_core.specs.Lists.{has_candidates, candidates_in, items_or_none, FixesCandidates, FixesDisjunction}
 use Rattle.resolvo_store_core.specs.declared.lists.Candidate.{Candidate}
@@ -26,14 +27,16 @@ use Rattle.resolvo_state.specs.SolverState.{Grows}
 use Rattle.resolvo_state.specs.Registered.{IsTracked, IsRegistered}
 use Rattle.resolvo_state.proofs.Growth.{grows_same, trail_same, represents_grow, rules_grow}
 use Rattle.resolvo_state.proofs.Positions.{prefix_same, prefix_equal}
-use Rattle.resolvo_encoder.specs.Encoded.{IsCandidate, AreCandidates, IsEncoding}
+use Rattle.resolvo_encoder.specs.Encoded.{IsCandidate, AreCandidates, IsEncoding, IsMarkKnown, IsPrepared}
 use Rattle.resolvo_encoder.specs.Encoded as E
-use Rattle.resolvo_encoder.specs.Steps.{IsBuilt, Extends, IsOfferedAs, RegistersAll, KeepsLists, AddsCandidates, IsListed, Enrols, Fixes}
+use Rattle.resolvo_encoder.specs.Steps.{IsBuilt, Extends, IsOfferedAs, RegistersAll, KeepsLists, AddsCandidates, Enrols, Fixes, IsAddable}
+use Rattle.resolvo_sat.proofs.Lists.{any_contained}
+use Rattle.resolvo_sat.proofs.Members.{candidate_named}
 use Rattle.resolvo_encoder.specs.declared.encoder.Encoder.{Encoder}
 use Rattle.resolvo_encoder.proofs.NeedClauses.{literals_widen, condition_widens}
 use Rattle.resolvo_encoder.proofs.BuildLemmas.{seen_same, clauses_grow}
 use Rattle.resolvo_encoder.proofs.PickLemmas.{candidates_grow}
-use Rattle.resolvo_encoder.proofs.RequireLemmas.{Carries, carried, candidate_grows, recorded_grows, cases_keep, fix_at, fix_other, offer_named, offer_meets, meets_offer, meets_listed, registered_split, queued_keeps, gates_keep, NoneAsks, fixed_keeps, asked_keeps, within_keeps, encoded_keeps, cased_keeps, guards_keep, extends_then, extends_same}
+use Rattle.resolvo_encoder.proofs.RequireLemmas.{Carries, carried, candidate_grows, recorded_grows, cases_keep, fix_at, fix_other, offer_named, offer_meets, meets_offer, meets_listed, registered_split, queued_keeps, gates_keep, NoneAsks, fixed_keeps, asked_keeps, within_keeps, encoded_keeps, cased_keeps, guards_keep, extends_then, extends_same, set_stays, marks_stay}
 
 no_slot : {X : Type 0} (o : Option X) → is_some o ≡ false → o ≡ None
 no_slot None h = refl
@@ -49,7 +52,7 @@ relisted old ls = record old { lists = ls }
 
 module _ {N S : Type 0} (same : S → S → Bool) (exact : IsExact same) (p : Packages N S) (root : Rules) (lawful : IsLawful p) where
   -- The offered solvables are registered.
-  pub registers_keep : (offered : List (Offered N S)) (given : List (Candidate N)) (old : Encoder N S) (t : Registry N) (c : SolverState N S) → IsEncoding same p root old → ((o : Offered N S) → Contains offered o → IsListed same p o)
+  pub registers_keep : (offered : List (Offered N S)) (given : List (Candidate N)) (old : Encoder N S) (t : Registry N) (c : SolverState N S) → IsEncoding same p root old → ((o : Offered N S) → Contains offered o → IsAddable same p old o)
       → RegistersAll offered given old.registry old.coding t c → IsEncoding same p root (enrolled old t c)
   registers_keep offered given old t c e fits all = carried same exact p root old (enrolled old t c) e carries
     where
@@ -57,7 +60,7 @@ module _ {N S : Type 0} (same : S → S → Bool) (exact : IsExact same) (p : Pa
       registered_new : (n : N) (s : S) → IsRegistered t c n s → (n ≡ p.package_of s) × (is_in same p (listed (p.candidates_of (p.package_of s))) s ≡ true)
       registered_new n s a = elim (registered_split same exact p root lawful offered given old.registry t old.coding c e.tied all n s a) [
         | inl b ↦ (let own = e.named n s b in (own, e.candidates s (subst (λ m. IsRegistered old.registry old.coding m s) own b)))
-        | inr (o, h, is, one, waits) ↦ (let (named, candidate) = fits o h in let own : n ≡ p.package_of s = is ∙ named ∙ ap p.package_of one in
+        | inr (o, h, is, one, waits) ↦ (let (named, candidate) = (fits o h).0 in let own : n ≡ p.package_of s = is ∙ named ∙ ap p.package_of one in
             (own, subst (λ m. is_in same p (listed (p.candidates_of m)) s ≡ true) (sym is ∙ own) (subst (λ x. is_in same p (listed (p.candidates_of o.name)) x ≡ true) one candidate)))
       ]
 
@@ -67,13 +70,20 @@ module _ {N S : Type 0} (same : S → S → Bool) (exact : IsExact same) (p : Pa
       none : NoneAsks same exact p root lawful old (enrolled old t c)
       none n q low high at a = no_clause n low high
 
-      at_least_one : (n : N) (s : S) → Contains old.recorded.at_least_one.keys n → IsRegistered t c n s → E.rules_of (enrolled old t c) (Rule.is_there n s) ⊎ E.IsWaiting (enrolled old t c) n s
+      at_least_one : (n : N) (s : S) → Contains old.recorded.at_least_one.keys n → IsRegistered t c n s → E.rules_of (enrolled old t c) (Rule.is_there n s) ⊎ E.IsPending (enrolled old t c) n s
       at_least_one n s h a = elim (registered_split same exact p root lawful offered given old.registry t old.coding c e.tied all n s a) [
         | inl b ↦ elim (e.cases.at_least_one n s h b) [
           | inl rule ↦ inl (rules_grow old.coding c all.grows (Rule.is_there n s) rule)
-          | inr (v, present, queued) ↦ inr (v, represents_grow old.coding c v (Solvable s) all.grows present, all.waits n v queued)
+          | inr (inl (v, present, queued)) ↦ inr (inl (v, represents_grow old.coding c v (Solvable s) all.grows present, all.waits n v queued))
+          | inr (inr marked) ↦ inr (inr (subst (λ ns. Contains ns.keys n) (sym all.many) marked))
         ]
-        | inr (o, present, is, one, waits) ↦ inr waits
+        | inr (o, present, is, one, waits) ↦ inr (inl waits)
+      ]
+
+      marked_new : (n : N) (s : S) → IsRegistered t c n s → IsRegistered old.registry old.coding n s ⊎ IsMarkKnown same p old n
+      marked_new n s a = elim (registered_split same exact p root lawful offered given old.registry t old.coding c e.tied all n s a) [
+        | inl b ↦ inl b
+        | inr (o, h, is, one, waits) ↦ inr (subst (λ (m : N). IsMarkKnown same p old m) (sym is) (fits o h).1)
       ]
 
       candidate : (n : N) (s : S) (x : Candidate N) → IsCandidate old n s x → IsCandidate (enrolled old t c) n s x
@@ -99,6 +109,7 @@ module _ {N S : Type 0} (same : S → S → Bool) (exact : IsExact same) (p : Pa
         recorded = recorded_grows same exact p root old (enrolled old t c) all.grows refl e.recorded;
         softs = refl;
         cases = cases_keep same exact p root old (enrolled old t c) e.cases all.grows refl refl refl (cased_keeps same exact p root lawful old (enrolled old t c) e all.coding all.grows refl all.keeps none) at_least_one;
+        marks = marks_stay same exact p root old (enrolled old t c) all.many (λ n a. a) marked_new e.marks;
         within = within_keeps same exact p root lawful old (enrolled old t c) e refl refl;
         encoded = encoded_keeps same exact p root lawful old (enrolled old t c) e all.grows refl refl refl;
       }
@@ -133,7 +144,8 @@ module _ {N S : Type 0} (same : S → S → Bool) (exact : IsExact same) (p : Pa
         forbid = e.forbid;
         recorded = recorded_grows same exact p root old (relisted old ls) (grows_same old.coding) refl e.recorded;
         softs = refl;
-        cases = cases_keep same exact p root old (relisted old ls) e.cases (grows_same old.coding) refl refl refl e.cases.cased e.cases.at_least_one;
+        cases = cases_keep same exact p root old (relisted old ls) e.cases (grows_same old.coding) refl refl refl (λ parent need case v present a. set_stays same exact p root old (relisted old ls) v (grows_same old.coding) (λ n b. b) (λ w b. b) (λ m u b. b) (e.cases.cased parent need case v present a)) e.cases.at_least_one;
+        marks = marks_stay same exact p root old (relisted old ls) refl (λ n a. a) (λ n s a. inl a) e.marks;
         within = e.within;
         encoded = encoded_keeps same exact p root lawful old (relisted old ls) e (grows_same old.coding) refl refl refl;
       }
@@ -187,8 +199,8 @@ module _ {N S : Type 0} (same : S → S → Bool) (exact : IsExact same) (p : Pa
       ]
 
   -- the offered solvables became the requirement's candidates
-  pub fixes_keep : (r : Requirement) (offered : List (Offered N S)) (old new : Encoder N S) → IsEncoding same p root old → AreOffered same p r offered → Fixes same r offered old new → IsEncoding same p root new × (has_candidates new.lists r ≡ true)
-  fixes_keep r offered old new e h f = elim f.fixed [
+  pub fixes_keep : (r : Requirement) (offered : List (Offered N S)) (old new : Encoder N S) → IsEncoding same p root old → AreOffered same p r offered → IsPrepared same p old r → Fixes same r offered old new → IsEncoding same p root new × (has_candidates new.lists r ≡ true)
+  fixes_keep r offered old new e h ready f = elim f.fixed [
     | inl (has, is) ↦ (subst (λ (x : Encoder N S). IsEncoding same p root x) (sym is) e, subst (λ (x : Encoder N S). has_candidates x.lists r ≡ true) (sym is) has)
     | inr (fresh, middle, given, enrols, fixes, is) ↦
         let before = enrols.encoding p root lawful e fits in
@@ -196,10 +208,15 @@ module _ {N S : Type 0} (same : S → S → Bool) (exact : IsExact same) (p : Pa
         (subst (λ (x : Encoder N S). IsEncoding same p root x) (sym is) keeps, has)
   ]
     where
-      fits : (o : Offered N S) → Contains offered o → IsListed same p o
+      fits : (o : Offered N S) → Contains offered o → IsAddable same p old o
       fits o a =
           let named = offer_named same exact p root lawful r offered o h a in
-          (named, subst (λ n. is_in same p (listed (p.candidates_of n)) o.solvable ≡ true) (sym named) (meets_listed same exact p root lawful r o.solvable (offer_meets same exact p root lawful r offered o h a)))
+          let meeting = offer_meets same exact p root lawful r offered o h a in
+          let (v, there, is) = any_contained (λ x. is_match same p x o.solvable) (alternatives_of p.members_of r) meeting in
+          let own : p.package_of o.solvable ≡ p.set_package v = candidate_named same exact p lawful (p.set_package v) o.solvable (and_parts (is_in same p (listed (p.candidates_of (p.set_package v))) o.solvable) (p.matches v o.solvable) is).0 in (
+            (named, subst (λ n. is_in same p (listed (p.candidates_of n)) o.solvable ≡ true) (sym named) (meets_listed same exact p root lawful r o.solvable meeting)),
+            subst (λ (n : N). IsMarkKnown same p old n) (sym (named ∙ own)) (ready.1 v there),
+          )
 
 module _ {N S : Type 0} (same : S → S → Bool) where
   built_enrolls : (offered : List (Offered N S)) (given : List (Candidate N)) (old : Encoder N S) (t : Registry N) (c : SolverState N S) → IsBuilt old → RegistersAll offered given old.registry old.coding t c → IsBuilt (enrolled old t c)
@@ -221,6 +238,7 @@ module _ {N S : Type 0} (same : S → S → Bool) where
     extends = record { grows = all.grows; trail = all.trail; softs = refl; parents = refl; encoded = refl; deferred = refl; fired = refl };
     lists = refl;
     recorded = refl;
+    many = all.many;
     keeps = all.keeps;
     each = all.each;
     all = all.all;

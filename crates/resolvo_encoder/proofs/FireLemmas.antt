@@ -13,7 +13,7 @@ use Rattle.resolvo_pool_core.specs.declared.id.VersionSetId.{VersionSetId}
 use Rattle.resolvo_pool_core.specs.declared.requirement.ConditionalRequirement.{ConditionalRequirement}
 use Rattle.resolvo_pool_core.specs.declared.requirement.Requirement.{Requirement}
 use Rattle.resolvo_pool_core.specs.Text.{solvable_of}
-use Rattle.resolvo_pool_core.specs.RuleKeeping.{Packages, Rules, IsLawful, is_match, is_met, rules_for}
+use Rattle.resolvo_pool_core.specs.RuleKeeping.{Packages, Rules, IsLawful, is_match, is_met, rules_for, is_many}
 use Rattle.resolvo_store_core.specs.Signed.{Signed, has}
 use Rattle.resolvo_store_core.specs.Clauses.{yes, no, candidate_literals as literals_in}
 use Rattle.resolvo_store_core.specs.Deferred.{version_set_of, candidates_of}
@@ -26,7 +26,7 @@ use Rattle.resolvo_sat.specs.State.{history, count_of}
 use Rattle.resolvo_sat.specs.Steps.{AreInRange}
 use Rattle.resolvo_packages.specs.declared.package_source.Offered.{Offered}
 use Rattle.resolvo_packages.specs.PackageSource.{offered_solvables, AreOffered}
-use Rattle.resolvo_sat.specs.RuleClauses.{IsExact, Rule, case_holds, case_literals, cases_for}
+use Rattle.resolvo_sat.specs.RuleClauses.{IsExact, Rule, case_holds, case_literals, cases_for, AreMatched}
 use Rattle.resolvo_sat.specs.Numbered.{Spells}
 use Rattle.resolvo_sat.specs.SearchEnd.{IsNeedEncoded}
 use Rattle.resolvo_sat.proofs.Lists.{contains_none, contains_one, contains_parts, contained_any, all_contained, any_contained, contains_map}
@@ -41,7 +41,7 @@ use Rattle.resolvo_state.proofs.Origins.{count_is, means_solvable}
 use Rattle.resolvo_state.proofs.Positions.{prefix_same, prefix_long, get_last, get_old, get_push}
 use Rattle.resolvo_encoder.specs.Cases.{case_of, sets_case, IsMatching, IsSet, AreSets, IsCaseOf}
 use Rattle.resolvo_encoder.specs.Conditions.{IsOneChosen, IsSpent}
-use Rattle.resolvo_encoder.specs.Encoded.{IsParentVariable, IsCondition, IsGuarded, IsEncoding}
+use Rattle.resolvo_encoder.specs.Encoded.{IsParentVariable, IsCondition, IsGuarded, IsEncoding, IsPrepared}
 use Rattle.resolvo_encoder.specs.Encoded as E
 use Rattle.resolvo_encoder.specs.AtLeastOneClauses.{AreCaseLiterals, CaseLiterals}
 use Rattle.resolvo_encoder.specs.ClauseRules.{EncodesRules}
@@ -99,7 +99,8 @@ module _ {N S : Type 0} (same : S → S → Bool) (exact : IsExact same) (p : Pa
     asked = e.asked;
     gates = e.gates;
     forbid = e.forbid;
-    recorded = record { packages = e.recorded.packages; version_sets = e.recorded.version_sets };
+    recorded = record { packages = e.recorded.packages; version_sets = e.recorded.version_sets; matches = e.recorded.matches };
+    marks = record { right = e.marks.right; registered = e.marks.registered; recorded = e.marks.recorded };
     cases = record {
       waiting = λ i x at. elim (get_push old.deferred.items d x i (subst (λ (xs : List (Deferred S)). slice_get xs i ≡ Some x) is at)) [ inl a ↦ e.cases.waiting i x a | inr (k, same_one) ↦ subst (IsCaseOf same p root) (sym same_one) own ];
       places = λ i h. (let low : i < length old.deferred.items = e.cases.places i h in let long : length old.deferred.items ≤ length ds.items = prefix_long old.deferred.items ds.items (d ∷ [], is) in omega (arith, low, long));
@@ -132,7 +133,8 @@ module _ {N S : Type 0} (same : S → S → Bool) (exact : IsExact same) (p : Pa
     asked = e.asked;
     gates = e.gates;
     forbid = e.forbid;
-    recorded = record { packages = e.recorded.packages; version_sets = e.recorded.version_sets };
+    recorded = record { packages = e.recorded.packages; version_sets = e.recorded.version_sets; matches = e.recorded.matches };
+    marks = record { right = e.marks.right; registered = e.marks.registered; recorded = e.marks.recorded };
     cases = record {
       waiting = e.cases.waiting;
       places = λ i h. elim (only i h) [ inl a ↦ e.cases.places i a | inr one ↦ subst (λ n. n < length old.deferred.items) (sym one) below ];
@@ -150,12 +152,12 @@ module _ {N S : Type 0} (same : S → S → Bool) (exact : IsExact same) (p : Pa
   -- the clause of a case was added, whose packages are recorded
   pub case_keeps : IsLawful p → (parent : Option S) (need : ConditionalRequirement) (case : Vec VersionSetId Global) (v : VariableId) (id : DenseId DisjunctionTag ℕ) (given : Disjunction) (old : Encoder N S) (ls : FixedLists N) (new : Encoder N S) → IsEncoding same p root old
       → FixesDisjunction id.raw given old.lists ls → has_candidates old.lists need.requirement ≡ true → IsGuarded same p (E.rules_of old) need.requirement → IsParentVariable old.coding.atoms.keys parent v → Contains (rules_for same p root parent).requirements need
-      → Contains (cases_for same p need) case.items → AreInRange (count_of old.coding.search) given.literals.items → AreCaseLiterals same p old case.items given.literals.items → EncodesNeed (Kind.Needs parent need case) v (Some id) need.requirement (record old { lists = ls }) new
+      → Contains (cases_for same p need) case.items → AreMatched same p case.items → AreInRange (count_of old.coding.search) given.literals.items → AreCaseLiterals same p old case.items given.literals.items → EncodesNeed (Kind.Needs parent need case) v (Some id) need.requirement (record old { lists = ls }) new
       → IsEncoding same p root new × E.rules_of new (Rule.needs parent need case.items)
-  case_keeps lawful parent need case v id given old ls new e fixes has_list guarded present listed cased below at_least_one new_clause =
+  case_keeps lawful parent need case v id given old ls new e fixes has_list guarded present listed cased matched below at_least_one new_clause =
       let middle = disjunction_keeps same exact p root lawful id.raw given old ls e fixes in
       let has_still : has_candidates ls need.requirement ≡ true = ap (λ cs. is_some (slot_of cs need.requirement)) fixes.candidates ∙ has_list in
-      let (keeps, rules) = need_keeps same exact p root lawful (Kind.Needs parent need case) v (Some id) need.requirement (record old { lists = ls }) new middle has_still guarded (refl, present, conditioned, listed, cased) ready new_clause in
+      let (keeps, rules) = need_keeps same exact p root lawful (Kind.Needs parent need case) v (Some id) need.requirement (record old { lists = ls }) new middle has_still guarded (refl, present, conditioned, listed, cased, matched) ready new_clause in
       (keeps, rules (Rule.needs parent need case.items) refl)
     where
       literals : condition_in ls (Some id) ≡ given.literals.items
@@ -172,7 +174,7 @@ module _ {N S : Type 0} (same : S → S → Bool) (exact : IsExact same) (p : Pa
       ready who wanted vs w states h =
           let which : case.items ≡ vs = cc in
           let there = subst (λ (xs : List VersionSetId). Contains xs w) (sym which) h in
-          (at_least_one.recorded w there, λ s out. at_least_one.registered w s there out)
+          at_least_one.sets w there
 
 -- ---- whether a case holds
 
@@ -238,21 +240,21 @@ module _ {N S : Type 0} (same : S → S → Bool) (exact : IsExact same) (parent
   pub case_built : IsBuilt new
   case_built = built_encodes (Kind.Needs parent need h.case) h.variable (Some h.id) need.requirement (record h.at_least_one { lists = h.lists }) new (built_disjunction h.id.raw h.given h.at_least_one h.lists h.negates.built h.disjoins) (λ name s place bit is. absurd cc) h.states
 
-  pub case_encoded : (p : Packages N S) (root : Rules) → IsLawful p → IsEncoding same p root old → AreSets same p sets → AreOffered same p need.requirement offered → IsGuarded same p (E.rules_of old) need.requirement → Contains (rules_for same p root parent).requirements need
-      → Contains (cases_for same p need) (sets_case sets) → IsEncoding same p root new × E.rules_of new (Rule.needs parent need (sets_case sets))
-  case_encoded p root lawful e all_sets all_offered guarded listed cased =
-      let (first, has) = fixes_keep same exact p root lawful need.requirement offered old h.fixed e all_offered h.fixes in
+  pub case_encoded : (p : Packages N S) (root : Rules) → IsLawful p → IsEncoding same p root old → AreSets same p sets → AreOffered same p need.requirement offered → IsPrepared same p old need.requirement → Contains (rules_for same p root parent).requirements need
+      → Contains (cases_for same p need) (sets_case sets) → AreMatched same p (sets_case sets) → IsEncoding same p root new × E.rules_of new (Rule.needs parent need (sets_case sets))
+  case_encoded p root lawful e all_sets all_offered prepared listed cased matched =
+      let (first, has) = fixes_keep same exact p root lawful need.requirement offered old h.fixed e all_offered prepared h.fixes in
       let (second, none) = h.encodes.encoding p root lawful first (λ r k. absurd (contains_none r k)) in
-      let (third, at_least_one) = h.negates.encoding p root lawful second all_sets in
+      let (third, at_least_one) = h.negates.encoding p root lawful second all_sets (λ v k. (parent, need, sets_case sets, listed, cased, k)) in
       let grown : Extends old h.at_least_one = extends_then old h.fixed h.at_least_one (fixes_extend same need.requirement offered old h.fixed h.fixes) (extends_then h.fixed h.named h.at_least_one h.encodes.extends h.negates.extends) in
       let (last, rule) = case_keeps same exact p root lawful parent need h.case h.variable h.id h.given h.at_least_one h.lists new third h.disjoins (subst (λ ls. has_candidates ls need.requirement ≡ true) (sym (h.negates.lists ∙ h.encodes.lists)) has)
-      (guard_grows same exact p root old h.at_least_one need.requirement grown.grows guarded) (parent_variable_grows h.named h.at_least_one parent h.variable h.negates.extends h.present) listed (subst (λ vs. Contains (cases_for same p need) vs) (sym h.is_case) cased)
+      (guard_grows same exact p root old h.at_least_one need.requirement grown.grows prepared.0) (parent_variable_grows h.named h.at_least_one parent h.variable h.negates.extends h.present) listed (subst (λ vs. Contains (cases_for same p need) vs) (sym h.is_case) cased) (subst (λ vs. AreMatched same p vs) (sym h.is_case) matched)
       h.negates.in_range (subst (λ vs. AreCaseLiterals same p h.at_least_one vs h.given.literals.items) (sym h.is_case) at_least_one) h.states in
       (last, subst (λ vs. E.rules_of new (Rule.needs parent need vs)) h.is_case rule)
 
--- a case whose version set excludes the parent needs no clause
-pub case_left_out : {N S : Type 0} (same : S → S → Bool) → IsExact same → (p : Packages N S) (rules : Rule N S → Type 0) (parent : Option S) (need : ConditionalRequirement) (sets : List (ConditionSet N S)) (s : S) (c : ConditionSet N S) → AreSets same p sets → parent ≡ Some s → Contains sets c → Contains (offered_solvables c.outside.items) s
+-- a case whose version set excludes the parent, of a package that isn't marked, needs no clause
+pub case_left_out : {N S : Type 0} (same : S → S → Bool) → IsExact same → (p : Packages N S) (rules : Rule N S → Type 0) (parent : Option S) (need : ConditionalRequirement) (sets : List (ConditionSet N S)) (s : S) (c : ConditionSet N S) → AreSets same p sets → parent ≡ Some s → Contains sets c → c.many ≡ false → Contains (offered_solvables c.outside.items) s
     → IsNeedEncoded same p rules parent need (sets_case sets)
-case_left_out same exact p rules parent need sets s c all_sets who present there =
+case_left_out same exact p rules parent need sets s c all_sets who present unmarked there =
     let is_set = each_of (IsSet same p) sets c all_sets present in
-    inr (inr (s, c.version_set, who, contains_map (λ (x : ConditionSet _ _). x.version_set) c sets present, sym (is_set.outside.outside s) ∙ contained_in same exact p (offered_solvables c.outside.items) s there))
+    inr (inr (s, c.version_set, who, contains_map (λ (x : ConditionSet _ _). x.version_set) c sets present, sym ((is_set.outside unmarked).outside s) ∙ contained_in same exact p (offered_solvables c.outside.items) s there, sym (is_set.mark ∙ ap (is_many p) is_set.named) ∙ unmarked))

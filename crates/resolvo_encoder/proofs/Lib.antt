@@ -18,6 +18,7 @@ pub mod SoftLemmas
 pub mod Bases
 pub mod BlameLemmas
 pub mod CaseLiterals
+pub mod MatchLemmas
 pub mod PlaceLemmas
 pub mod FireLemmas
 pub mod RecordLemmas

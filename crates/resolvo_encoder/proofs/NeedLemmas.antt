@@ -12,7 +12,7 @@ use Rattle.resolvo_pool_core.specs.declared.requirement.Requirement.{Requirement
 use Rattle.resolvo_pool_core.specs.ByRequirement.{slot_of, PutsAt}
 use Rattle.resolvo_pool_core.specs.OnePass.{Literal}
 use Rattle.resolvo_pool_core.specs.Text.{alternatives_of}
-use Rattle.resolvo_pool_core.specs.RuleKeeping.{Packages, Rules, IsLawful, is_outside, rules_of, rules_for}
+use Rattle.resolvo_pool_core.specs.RuleKeeping.{Packages, Rules, IsLawful, is_outside, rules_of, rules_for, is_many}
 use Rattle.resolvo_store_core.specs.Signed.{Signed, has}
 use Rattle.resolvo_store_core.specs.Clauses.{yes, no, root as root_variable, candidate_literals as literals_in}
 use Rattle.resolvo_store_core.specs.AtMostOne.{IsPrefixOf}
@@ -32,12 +32,13 @@ use Rattle.resolvo_sat.specs.RuleClauses.{IsExact, Atom, Rule, plus, minus, IsRu
 use Rattle.resolvo_sat.specs.SearchEnd.{HasClause}
 use Rattle.resolvo_sat.specs.Numbered.{meaning, Means, Spells}
 use Rattle.resolvo_sat.proofs.Lists.{contains_none, contains_cases, contains_first, contains_later, contains_left, contains_right, contains_one, contains_only, contains_parts, contained_any}
-use Rattle.resolvo_sat.proofs.Members.{in_case, candidate_in, candidate_from, same_requirement-self}
+use Rattle.resolvo_sat.proofs.Members.{in_case, candidate_in, candidate_from, same_requirement-self, IsSetLiteral}
 use Rattle.resolvo_state.specs.declared.atom.ProofAtom.{ProofAtom}
 use Rattle.resolvo_state.specs.declared.atom.ProofAtom.TheVariants.{Solvable, Gate}
 use Rattle.resolvo_state.specs.declared.clause_kind.ClauseKind.{ClauseKind}
 use Rattle.resolvo_state.specs.declared.clause_kind.ClauseKind.TheVariants as Kind
 use Rattle.resolvo_state.specs.declared.solver_state.SolverState.{SolverState}
+use Rattle.resolvo_state.specs.declared.registry.Registry.{Registry}
 use Rattle.resolvo_state.specs.Atoms.{origin, Represents}
 use Rattle.resolvo_state.specs.ClauseKinds.{rule_of, kind_at, rule_at}
 use Rattle.resolvo_state.specs.SolverState.{IsCoding, AddsRule, Gives}
@@ -57,7 +58,7 @@ use Rattle.resolvo_state.proofs.Rules.{rule_at_kind}
 use Rattle.resolvo_state.proofs.Growth.{grows_same, rule_split, rules_split}
 use Rattle.resolvo_state.proofs.RegisterLemmas.{digits_same, digits_more, ties_grow, nothing_tied}
 use Rattle.resolvo_encoder.proofs.ConditionLemmas.{queued_grows, spells_join}
-use Rattle.resolvo_encoder.proofs.RequireLemmas.{AddedClause, Carries, carried, candidate_grows, registered_stays, cases_keep, cased_stays, at_least_one_keeps, registered_before, prefix_lists, queued_keeps, within_keeps, encoded_keeps, gates_keep, put_at, put_other, NoneAsks, kept_carries, guard_grows, recorded_grows, some_one}
+use Rattle.resolvo_encoder.proofs.RequireLemmas.{AddedClause, Carries, carried, candidate_grows, registered_stays, cases_keep, cased_stays, at_least_one_keeps, registered_before, prefix_lists, queued_keeps, within_keeps, encoded_keeps, gates_keep, put_at, put_other, NoneAsks, kept_carries, guard_grows, recorded_grows, some_one, set_stays, marks_stay}
 
 -- the requirement of a rule's requires clause
 abbrev requirement_in : {N S : Type 0} → Requirement → Rule N S → Requirement
@@ -70,6 +71,7 @@ requirement_in r (Rule.is_out v s) = r
 requirement_in r (Rule.forbids w s) = r
 requirement_in r (Rule.has_digit s bit b) = r
 requirement_in r (Rule.is_there n s) = r
+requirement_in r (Rule.matches w s) = r
 
 -- a literal of candidates is that of one candidate
 pub literal_in : {N : Type 0} (cs : List (Candidate N)) (l : Signed) → has (literals_in cs) l ≡ true → (c : Candidate N) × Contains cs c × (c.literal ≡ l)
@@ -142,10 +144,10 @@ module _ {N S : Type 0} (same : S → S → Bool) (exact : IsExact same) (p : Pa
   -- a requires clause encodes a rule, with its literals
   need_rule : (e : Encoder N S) → IsEncoding same p root e → (x : ClauseKind N S) (v : VariableId) (condition : Option (DenseId DisjunctionTag ℕ)) (r : Requirement) → has_candidates e.lists r ≡ true → IsNeed same p root e.lists e.coding.atoms.keys x v condition r → (q : Rule N S) → rule_of x ≡ Some q
       → IsRule same p root q × Spells (origin e.coding.atoms.keys) (need_literals e v condition r) (literals_of same p q)
-  need_rule e holds (Kind.Needs parent need case) v condition r has_list (is, present, conditioned, listed, cased) q one =
+  need_rule e holds (Kind.Needs parent need case) v condition r has_list (is, present, conditioned, listed, cased, matched) q one =
       let rule : Rule.needs parent need case.items ≡ q = some_one (Rule.needs parent need case.items) q one in
       subst (λ (y : Rule N S). IsRule same p root y × Spells (origin e.coding.atoms.keys) (need_literals e v condition r) (literals_of same p y)) rule (
-        (listed, cased),
+        (listed, cased, matched),
         subst (λ y. Spells (origin e.coding.atoms.keys) (need_literals e v condition r) (parent_literals parent ++ (case_literals same p case.items ++ candidate_literals same p (alternatives_of p.members_of y)))) (sym is)
             (spells_join (origin e.coding.atoms.keys) (no v ∷ []) (condition_in e.lists condition ++ literals_in (candidates_in e.lists r)) (parent_literals parent) (case_literals same p case.items ++ candidate_literals same p (alternatives_of p.members_of r))
             (parent_spells e.coding.atoms.keys parent v present)
@@ -169,11 +171,12 @@ module _ {N S : Type 0} (same : S → S → Bool) (exact : IsExact same) (p : Pa
   need_rule e holds (Kind.Excluded s why) v condition r has_list h q one = absurd h
   need_rule e holds (Kind.Digit n s place bit) v condition r has_list h q one = absurd h
   need_rule e holds (Kind.IsThere n s) v condition r has_list h q one = absurd h
+  need_rule e holds (Kind.Matches w s) v condition r has_list h q one = absurd h
   need_rule e holds Kind.Learnt v condition r has_list h q one = absurd h
 
   -- the entry of the decision queue for a requires clause
   need_queued : (ls : FixedLists N) (atoms : List (ProofAtom N S)) (x : ClauseKind N S) (v : VariableId) (condition : Option (DenseId DisjunctionTag ℕ)) (r : Requirement) (number : ClauseId) → IsNeed same p root ls atoms x v condition r → IsQueuedFor same p ls atoms (Some x) (record { parent = v; requirement = r; condition = condition; clause = number })
-  need_queued ls atoms (Kind.Needs parent need case) v condition r number (is, present, conditioned, listed, cased) = (sym is, conditioned, present)
+  need_queued ls atoms (Kind.Needs parent need case) v condition r number (is, present, conditioned, listed, cased, matched) = (sym is, conditioned, present)
   need_queued ls atoms (Kind.Shared w) v condition r number (is, free, present, asked) = (sym is, free, present)
   need_queued ls atoms Kind.Root v condition r number h = absurd h
   need_queued ls atoms (Kind.Gated s w) v condition r number h = absurd h
@@ -184,26 +187,25 @@ module _ {N S : Type 0} (same : S → S → Bool) (exact : IsExact same) (p : Pa
   need_queued ls atoms (Kind.Excluded s why) v condition r number h = absurd h
   need_queued ls atoms (Kind.Digit n s place bit) v condition r number h = absurd h
   need_queued ls atoms (Kind.IsThere n s) v condition r number h = absurd h
+  need_queued ls atoms (Kind.Matches w s) v condition r number h = absurd h
   need_queued ls atoms Kind.Learnt v condition r number h = absurd h
+
+  -- a positive literal of a version set of a case is that of a solvable outside it, and its package isn't marked
+  outside_set : (atoms : List (ProofAtom N S)) (w : VersionSetId) (l : Signed) (s : S) → IsSetLiteral same exact p w (meaning (origin atoms) l) → Means (origin atoms) l (plus (Atom.solvable s)) → (is_many p (p.set_package w) ≡ false) × (is_outside same p w s ≡ true)
+  outside_set atoms w l s (inl (marked, is_held)) m = absurd (both_ways false refl (ap (λ (y : Literal (Atom N S)). y.positive) (sym is_held) ∙ (means_solvable atoms l s m).0))
+  outside_set atoms w l s (inr (free, inl is_any)) m = absurd (both_ways false refl (ap (λ (y : Literal (Atom N S)). y.positive) (sym is_any) ∙ (means_solvable atoms l s m).0))
+  outside_set atoms w l s (inr (free, inr (t, one, out))) m = (free, subst (λ y. is_outside same p w y ≡ true) (one_solvable t s (ap (λ (y : Literal (Atom N S)). y.atom) (sym one ∙ sym m.1))) out)
 
   -- a positive literal of a condition is that of a solvable outside a version set of the case
   need_condition : (ls : FixedLists N) (atoms : List (ProofAtom N S)) (x : ClauseKind N S) (v : VariableId) (condition : Option (DenseId DisjunctionTag ℕ)) (r : Requirement) → IsNeed same p root ls atoms x v condition r
       → (l : Signed) (s : S) → has (condition_in ls condition) l ≡ true → Means (origin atoms) l (plus (Atom.solvable s))
-      → (parent : Option S) × (need : ConditionalRequirement) × (case : List VersionSetId) × (w : VersionSetId) × (rule_of x ≡ Some (Rule.needs parent need case)) × Contains case w × (is_outside same p w s ≡ true)
-  need_condition ls atoms (Kind.Needs parent need case) v condition r (is, present, conditioned, listed, cased) l s h m = elim (conditioned.spells.only l h) [
+      → (parent : Option S) × (need : ConditionalRequirement) × (case : List VersionSetId) × (w : VersionSetId) × (rule_of x ≡ Some (Rule.needs parent need case)) × Contains case w × (is_many p (p.set_package w) ≡ false) × (is_outside same p w s ≡ true)
+  need_condition ls atoms (Kind.Needs parent need case) v condition r (is, present, conditioned, listed, cased, matched) l s h m = elim (conditioned.spells.only l h) [
     | inl z ↦ absurd (both_ways false refl (ap (λ (y : Signed). y.positive) (sym z) ∙ (means_solvable atoms l s m).0))
-    | inr (other, c) ↦ (let (w, there, which) = in_case same exact p case.items (meaning (origin atoms) l) c in (
-      parent,
-      need,
-      case.items,
-      w,
-      refl,
-      there,
-      elim which [
-        | inl is_any ↦ absurd (both_ways false refl (ap (λ (y : Literal (Atom N S)). y.positive) (sym is_any) ∙ (means_solvable atoms l s m).0))
-        | inr (t, one, out) ↦ subst (λ y. is_outside same p w y ≡ true) (one_solvable t s (ap (λ (y : Literal (Atom N S)). y.atom) (sym one ∙ sym m.1))) out
-      ],
-    ))
+    | inr (other, c) ↦
+        let (w, there, which) = in_case same exact p case.items (meaning (origin atoms) l) c in
+        let (free, out) = outside_set atoms w l s which m in
+        (parent, need, case.items, w, refl, there, free, out)
   ]
   need_condition ls atoms (Kind.Shared w) v condition r (is, free, present, asked) l s h m = absurd (both_ways false refl (subst (λ c. has (condition_in ls c) l ≡ true) free h))
   need_condition ls atoms Kind.Root v condition r need l s h m = absurd need
@@ -215,11 +217,12 @@ module _ {N S : Type 0} (same : S → S → Bool) (exact : IsExact same) (p : Pa
   need_condition ls atoms (Kind.Excluded t why) v condition r need l s h m = absurd need
   need_condition ls atoms (Kind.Digit n t place bit) v condition r need l s h m = absurd need
   need_condition ls atoms (Kind.IsThere n t) v condition r need l s h m = absurd need
+  need_condition ls atoms (Kind.Matches w t) v condition r need l s h m = absurd need
   need_condition ls atoms Kind.Learnt v condition r need l s h m = absurd need
 
   -- the requirement of a need's rule
   asks_need : (ls : FixedLists N) (atoms : List (ProofAtom N S)) (x : ClauseKind N S) (v : VariableId) (condition : Option (DenseId DisjunctionTag ℕ)) (r : Requirement) → IsNeed same p root ls atoms x v condition r → (q : Requirement) → HasClause same p (λ rule. rule_of x ≡ Some rule) q → q ≡ r
-  asks_need ls atoms (Kind.Needs parent need case) v condition r (is, present, conditioned, listed, cased) q (inl (other, wanted, vs, e, f)) = f ∙ sym (ap (requirement_in r) (some_one (Rule.needs parent need case.items) (Rule.needs other wanted vs) e)) ∙ is
+  asks_need ls atoms (Kind.Needs parent need case) v condition r (is, present, conditioned, listed, cased, matched) q (inl (other, wanted, vs, e, f)) = f ∙ sym (ap (requirement_in r) (some_one (Rule.needs parent need case.items) (Rule.needs other wanted vs) e)) ∙ is
   asks_need ls atoms (Kind.Needs parent need case) v condition r h q (inr e) = absurd cc
   asks_need ls atoms (Kind.Shared w) v condition r h q (inl (other, wanted, vs, e, f)) = absurd cc
   asks_need ls atoms (Kind.Shared w) v condition r (is, free, present, asked) q (inr e) = sym (ap (requirement_in r) (some_one (Rule.shared w) (Rule.shared q) e)) ∙ is
@@ -232,6 +235,7 @@ module _ {N S : Type 0} (same : S → S → Bool) (exact : IsExact same) (p : Pa
   asks_need ls atoms (Kind.Excluded s why) v condition r h q a = absurd h
   asks_need ls atoms (Kind.Digit n s place bit) v condition r h q a = absurd h
   asks_need ls atoms (Kind.IsThere n s) v condition r h q a = absurd h
+  asks_need ls atoms (Kind.Matches w s) v condition r h q a = absurd h
   asks_need ls atoms Kind.Learnt v condition r h q a = absurd h
 
   -- the place, the literals and the kind of an added clause
@@ -251,11 +255,15 @@ module _ {N S : Type 0} (same : S → S → Bool) (exact : IsExact same) (p : Pa
         subst (λ n. slice_get new.kinds.items n ≡ Some x) before.each
         (subst (λ (xs : List (ClauseKind N S)). slice_get xs (length old.kinds.items) ≡ Some x) (sym states.kinds) (get_last old.kinds.items x))
 
-  -- the precondition of a case's clause: its packages are recorded, and the candidates outside its
-  -- version sets are registered
+  -- the precondition of a case's clause: its version sets are encoded
   abbrev pub IsReady : Encoder N S → ClauseKind N S → Type 0
   IsReady e x = (parent : Option S) (need : ConditionalRequirement) (case : List VersionSetId) (w : VersionSetId) → rule_of x ≡ Some (Rule.needs parent need case) → Contains case w
-      → E.IsNamed e.recorded (p.set_package w) × ((s : S) → is_outside same p w s ≡ true → Registered same p root e s)
+      → E.IsSetEncoded same p e w
+
+  -- of a package that isn't marked, the candidates outside an encoded version set are registered
+  set_outside : (e : Encoder N S) (w : VersionSetId) → is_many p (p.set_package w) ≡ false → E.IsSetEncoded same p e w → (s : S) → is_outside same p w s ≡ true → Registered same p root e s
+  set_outside e w free (inl (unmarked, named, out)) s o = out s o
+  set_outside e w free (inr (marked, held)) s o = absurd (both_ways _ free marked)
 
   -- The clause of a requirement, or of a gate, was added.
   pub need_keeps : (x : ClauseKind N S) (v : VariableId) (condition : Option (DenseId DisjunctionTag ℕ)) (r : Requirement) (old new : Encoder N S) → IsEncoding same p root old → has_candidates old.lists r ≡ true → IsGuarded same p (E.rules_of old) r
@@ -290,8 +298,8 @@ module _ {N S : Type 0} (same : S → S → Bool) (exact : IsExact same) (p : Pa
       positive l s h m = elim (has-cons (no v) (condition_in old.lists condition ++ literals_in (candidates_in old.lists r)) l h) [
         | inl is ↦ absurd (both_ways false refl (ap (λ (y : Signed). y.positive) is ∙ (means_solvable new.coding.atoms.keys l s m).0))
         | inr a ↦ elim (has-append (condition_in old.lists condition) (literals_in (candidates_in old.lists r)) l a) [
-          | inl b ↦ (let (parent, wanted, case, w, states, there, out) = need_condition old.lists old.coding.atoms.keys x v condition r need l s b (subst (λ ks. Means (origin ks) l (plus (Atom.solvable s))) atoms m) in
-              registered_stays same exact p root old new (p.package_of s) s new_clause.states.grows tracked ((ready parent wanted case w states there).1 s out))
+          | inl b ↦ (let (parent, wanted, case, w, states, there, free, out) = need_condition old.lists old.coding.atoms.keys x v condition r need l s b (subst (λ ks. Means (origin ks) l (plus (Atom.solvable s))) atoms m) in
+              registered_stays same exact p root old new (p.package_of s) s new_clause.states.grows tracked (set_outside old w free (ready parent wanted case w states there) s out))
           | inr b ↦ chosen l s b m
         ]
       ]
@@ -359,11 +367,11 @@ module _ {N S : Type 0} (same : S → S → Bool) (exact : IsExact same) (p : Pa
       ]
 
       cased : (parent : Option S) (wanted : ConditionalRequirement) (case : List VersionSetId) (w : VersionSetId) → E.rules_of new (Rule.needs parent wanted case) → Contains case w
-          → E.IsNamed new.recorded (p.set_package w) × ((s : S) → is_outside same p w s ≡ true → Registered same p root new s)
+          → E.IsSetEncoded same p new w
       cased parent wanted case w present h = elim (rules_split old.coding new.coding e.coding new_clause.states.coding new_clause.states.grows (Rule.needs parent wanted case) present) [
         | inl a ↦ cased_stays same exact p root old new e.cases new_clause.states.grows new_clause.recorded tracked parent wanted case w a h
-        | inr (n, low, high, at) ↦ (let (named, out) = ready parent wanted case w (same_rule n (Rule.needs parent wanted case) low high at) h in
-            (subst (λ (y : EncodedOnce N S). E.IsNamed y (p.set_package w)) (sym new_clause.recorded) named, λ s o. registered_stays same exact p root old new (p.package_of s) s new_clause.states.grows tracked (out s o)))
+        | inr (n, low, high, at) ↦ set_stays same exact p root old new w new_clause.states.grows (λ m a. subst (λ (y : EncodedOnce N S). E.IsNamed y m) (sym new_clause.recorded) a) (λ v a. subst (λ (y : EncodedOnce N S). Contains y.matches.keys v) (sym new_clause.recorded) a)
+            tracked (ready parent wanted case w (same_rule n (Rule.needs parent wanted case) low high at) h)
       ]
 
       no_digit : (m : N) (t : S) (at bit : ℕ) → x ≡ Kind.Digit m t at bit → ⊥
@@ -392,6 +400,7 @@ module _ {N S : Type 0} (same : S → S → Bool) (exact : IsExact same) (p : Pa
         recorded = recorded_grows same exact p root old new new_clause.states.grows new_clause.recorded e.recorded;
         softs = ap (λ (x : EncodedOnce N S). x.softs.items) new_clause.recorded;
         cases = cases_keep same exact p root old new e.cases new_clause.states.grows new_clause.deferred new_clause.fired new_clause.recorded cased (at_least_one_keeps same exact p root lawful old new e.cases new_clause.states.grows new_clause.recorded new_clause.registry (registered_before same exact p root lawful old new e.tied new_clause.states.grows new_clause.registry));
+        marks = marks_stay same exact p root old new (ap (λ (t : Registry N). t.many) new_clause.registry) (λ n a. subst (λ (x : EncodedOnce N S). Contains x.packages.keys n) new_clause.recorded a) (λ n s a. inl (registered_before same exact p root lawful old new e.tied new_clause.states.grows new_clause.registry n s a)) e.marks;
         within = within_keeps same exact p root lawful old new e new_clause.parents new_clause.encoded;
         encoded = encoded_keeps same exact p root lawful old new e new_clause.states.grows new_clause.parents new_clause.encoded new_clause.deferred;
       }
@@ -409,6 +418,7 @@ module _ {N S : Type 0} (same : S → S → Bool) (exact : IsExact same) (p : Pa
     },
     needs.listed,
     subst (λ vs. Contains (cases_for same p need) vs) (sym none) (subst (λ c. Contains (cases_under p.condition_of c) []) (sym needs.free) (contains_only [])),
+    λ w h. absurd (contains_none w (subst (λ vs. Contains vs w) none h)),
   )
 
   -- the clause of a parent's requirement without condition was added
@@ -516,7 +526,8 @@ module _ {N S : Type 0} (same : S → S → Bool) (exact : IsExact same) (p : Pa
     queued = e.queued;
     asked = e.asked;
     forbid = e.forbid;
-    recorded = record { packages = e.recorded.packages; version_sets = e.recorded.version_sets };
+    recorded = record { packages = e.recorded.packages; version_sets = e.recorded.version_sets; matches = e.recorded.matches };
+    marks = record { right = e.marks.right; registered = e.marks.registered; recorded = e.marks.recorded };
     cases = cases_keep same exact p root old (record old { gates = new.gates }) e.cases (grows_same old.coding) refl refl refl e.cases.cased e.cases.at_least_one;
     gates = λ q u at. elim (put_other old.gates new.gates r q v puts) [
       | inl same_one ↦ (let one : v ≡ u = some_one v u (sym (ap (slot_of new.gates) same_one ∙ put_at old.gates new.gates r v puts) ∙ at) in
@@ -550,6 +561,12 @@ module _ {N S : Type 0} (same : S → S → Bool) (exact : IsExact same) (p : Pa
     recorded = record {
       packages = λ n s a barred. absurd (contains_none n (subst (λ (ks : List N). Contains ks n) b.packages a));
       version_sets = λ v s a outside. absurd (contains_none v (subst (λ (ks : List VersionSetId). Contains ks v) b.version_sets a));
+      matches = λ v s a matching. absurd (contains_none v (subst (λ (ks : List VersionSetId). Contains ks v) b.matches a));
+    };
+    marks = record {
+      right = λ n a. absurd (contains_none n (subst (λ (ks : List N). Contains ks n) b.registry.many a));
+      registered = λ n s (v, present, tracked) m. absurd (no_tracker v tracked);
+      recorded = λ n a m. absurd (contains_none n (subst (λ (ks : List N). Contains ks n) b.packages a));
     };
     cases = record {
       waiting = λ i d at. absurd (no_deferred i d at);

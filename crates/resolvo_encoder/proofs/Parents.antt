@@ -72,7 +72,8 @@ module _ {N S : Type 0} (same : S → S → Bool) (p : Packages N S) (root : Rul
     asked = e.asked;
     gates = e.gates;
     forbid = e.forbid;
-    recorded = record { packages = e.recorded.packages; version_sets = e.recorded.version_sets };
+    recorded = record { packages = e.recorded.packages; version_sets = e.recorded.version_sets; matches = e.recorded.matches };
+    marks = record { right = e.marks.right; registered = e.marks.registered; recorded = e.marks.recorded };
     cases = record { waiting = e.cases.waiting; places = e.cases.places; fired = e.cases.fired; cased = e.cases.cased; at_least_one = e.cases.at_least_one; there = e.cases.there };
     within = (let a : length old.parents.keys ≤ length new.parents.keys = prefix_long old.parents.keys new.parents.keys added.prefix in let b : old.encoded ≤ length old.parents.keys = e.within in omega arith);
     encoded = λ i parent below at. (let b : old.encoded ≤ length old.parents.keys = e.within in let (more, is) = added.prefix in
@@ -99,7 +100,8 @@ module _ {N S : Type 0} (same : S → S → Bool) (p : Packages N S) (root : Rul
     asked = e.asked;
     gates = e.gates;
     forbid = e.forbid;
-    recorded = record { packages = e.recorded.packages; version_sets = e.recorded.version_sets };
+    recorded = record { packages = e.recorded.packages; version_sets = e.recorded.version_sets; matches = e.recorded.matches };
+    marks = record { right = e.marks.right; registered = e.marks.registered; recorded = e.marks.recorded };
     cases = record { waiting = e.cases.waiting; places = e.cases.places; fired = e.cases.fired; cased = e.cases.cased; at_least_one = e.cases.at_least_one; there = e.cases.there };
     within = omega arith;
     encoded = λ i parent low at. elim (last_or_before i old.encoded low) [

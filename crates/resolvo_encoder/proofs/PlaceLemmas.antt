@@ -1,12 +1,13 @@
 -- What waits gets its clauses: digits, and at-least-one clauses.
-use Rattle.std.proofs.Common.{◌≡◌, ℕ, ◌<◌, ◌≤◌, ◌⊎◌, inl, inr, Bool, true, List, [], ◌∷◌, ◌++◌, length, Some, None, refl, sym, ◌∙◌, ap, subst, arith}
+use Rattle.std.proofs.Common.{◌≡◌, ℕ, ◌<◌, ◌≤◌, ◌⊎◌, inl, inr, Bool, true, List, [], ◌∷◌, ◌++◌, length, Some, None, refl, sym, ◌∙◌, ap, subst, arith, false}
 use Rattle.std.specs.Prelude.{Contains, slice_get}
+use Rattle.std.proofs.lemmas.Bool.{false_from_ne_true}
 use Rattle.std.specs.List.Sorted.{IsPermutation}
 use Rattle.std.proofs.lemmas.List.Sorted.{Contains-permutation, IsPermutation-sym}
 use Rattle.std.proofs.lemmas.Option.{slice_get_within}
 use Rattle.resolvo_pool_core.specs.declared.id.VariableId.{VariableId}
 use Rattle.resolvo_pool_core.specs.Provider.{listed}
-use Rattle.resolvo_pool_core.specs.RuleKeeping.{Packages, Rules, IsLawful, is_in}
+use Rattle.resolvo_pool_core.specs.RuleKeeping.{Packages, Rules, IsLawful, is_in, is_many}
 use Rattle.resolvo_store_core.specs.AtMostOne.{digit}
 use Rattle.resolvo_store_core.specs.declared.lists.Candidate.{Candidate}
 use Rattle.resolvo_sat.specs.RuleClauses.{IsExact, Rule}
@@ -19,12 +20,12 @@ use Rattle.resolvo_state.specs.declared.registry.Registry.{Registry}
 use Rattle.resolvo_state.specs.declared.registry.Member.{Member}
 use Rattle.resolvo_state.specs.declared.clause_kind.ClauseKind.TheVariants as Kind
 use Rattle.resolvo_state.specs.Atoms.{Represents, solvable_of}
-use Rattle.resolvo_state.specs.Registered.{AreTied, IsInTracker, IsTracked, IsQueued, IsRegistered, member, Places}
+use Rattle.resolvo_state.specs.Registered.{AreTied, IsInTracker, IsTracked, IsQueued, IsRegistered, member, Places, IsMany}
 use Rattle.resolvo_state.proofs.Growth.{grows_same, trail_same, represents_grow, represents_once, rules_grow}
 use Rattle.resolvo_state.proofs.Origins.{solvable_represents, represents_solvable}
 use Rattle.resolvo_state.proofs.Positions.{get_contains, prefix_same}
 use Rattle.resolvo_state.proofs.Rules.{rule_at_kind}
-use Rattle.resolvo_encoder.specs.Encoded.{IsCandidate, IsRequiresRule, IsEncoding, IsWaiting, IsNamed}
+use Rattle.resolvo_encoder.specs.Encoded.{IsCandidate, IsRequiresRule, IsEncoding, IsWaiting, IsNamed, IsPending}
 use Rattle.resolvo_encoder.specs.Encoded as E
 use Rattle.resolvo_encoder.specs.AtLeastOneClauses.{Admits, AreWaiting, PlacesAll, PlacesQueued, TracksAtLeastOne, CoversAll, CoversQueued}
 use Rattle.resolvo_encoder.specs.Steps.{IsBuilt, IsListed}
@@ -33,12 +34,12 @@ use Rattle.resolvo_encoder.specs.declared.encoder.EncodedOnce.{EncodedOnce}
 use Rattle.resolvo_encoder.proofs.BuildLemmas.{seen_same, clauses_grow}
 use Rattle.resolvo_encoder.proofs.EncodesLemmas.{built_recorded, queued_recorded}
 use Rattle.resolvo_encoder.proofs.EnrollLemmas.{enrolled}
-use Rattle.resolvo_encoder.proofs.RequireLemmas.{AddedClause, Carries, carried, candidate_grows, recorded_grows, cases_keep, some_one, queued_keeps, gates_keep, NoneAsks, fixed_keeps, asked_keeps, within_keeps, encoded_keeps, cased_keeps, guards_keep, digit_added, extends_then, extends_same}
+use Rattle.resolvo_encoder.proofs.RequireLemmas.{AddedClause, Carries, carried, candidate_grows, recorded_grows, cases_keep, some_one, queued_keeps, gates_keep, NoneAsks, fixed_keeps, asked_keeps, within_keeps, encoded_keeps, cased_keeps, guards_keep, digit_added, extends_then, extends_same, set_stays, marks_stay}
 
 module _ {N S : Type 0} (same : S → S → Bool) (exact : IsExact same) (p : Packages N S) (root : Rules) (lawful : IsLawful p) where
   -- A registered solvable is placed.
-  pub places_keep : (name : N) (one : S) (old : Encoder N S) (t : Registry N) (c : SolverState N S) → IsEncoding same p root old → Places name one old.registry old.coding t c → IsEncoding same p root (enrolled old t c)
-  places_keep name one old t c e all = carried same exact p root old (enrolled old t c) e carries
+  pub places_keep : (name : N) (one : S) (old : Encoder N S) (t : Registry N) (c : SolverState N S) → IsEncoding same p root old → is_many p name ≡ false → Places name one old.registry old.coding t c → IsEncoding same p root (enrolled old t c)
+  places_keep name one old t c e unmarked all = carried same exact p root old (enrolled old t c) e carries
     where
       keeps : (m : N) (u : VariableId) → IsTracked old.registry m u → IsTracked t m u
       keeps m u h = subst (λ ms. Contains ms.keys (member m u)) (sym all.members) h
@@ -60,7 +61,7 @@ module _ {N S : Type 0} (same : S → S → Bool) (exact : IsExact same) (p : Pa
       new_clause n low high =
           let d = all.digits n low high in
           let (own, candidate) = registered_new name d.solvable d.registered in
-          digit_added same exact p root lawful old (enrolled old t c) name n d own candidate
+          digit_added same exact p root lawful old (enrolled old t c) name n d own candidate unmarked
 
       none : NoneAsks same exact p root lawful old (enrolled old t c)
       none n q low high at a =
@@ -68,10 +69,11 @@ module _ {N S : Type 0} (same : S → S → Bool) (exact : IsExact same) (p : Pa
           let is : Rule.has_digit d.solvable d.bit (digit d.place d.bit) ≡ q = some_one (Rule.has_digit d.solvable d.bit (digit d.place d.bit)) q (sym (rule_at_kind c.kinds.items n (Kind.Digit name d.solvable d.place d.bit) d.kinds) ∙ at) in
           subst IsRequiresRule (sym is) a
 
-      at_least_one : (n : N) (s : S) → Contains old.recorded.at_least_one.keys n → IsRegistered t c n s → E.rules_of (enrolled old t c) (Rule.is_there n s) ⊎ IsWaiting (enrolled old t c) n s
+      at_least_one : (n : N) (s : S) → Contains old.recorded.at_least_one.keys n → IsRegistered t c n s → E.rules_of (enrolled old t c) (Rule.is_there n s) ⊎ IsPending (enrolled old t c) n s
       at_least_one n s h a = elim (e.cases.at_least_one n s h (back n s a)) [
         | inl rule ↦ inl (rules_grow old.coding c all.grows (Rule.is_there n s) rule)
-        | inr (v, present, (k, low, at)) ↦ inr (v, represents_grow old.coding c v (Solvable s) all.grows present, (k, subst (λ j. j ≤ k) (sym all.waits) low, subst (λ ms. slice_get ms.keys k ≡ Some (member n v)) (sym all.members) at))
+        | inr (inl (v, present, (k, low, at))) ↦ inr (inl (v, represents_grow old.coding c v (Solvable s) all.grows present, (k, subst (λ j. j ≤ k) (sym all.waits) low, subst (λ ms. slice_get ms.keys k ≡ Some (member n v)) (sym all.members) at)))
+        | inr (inr marked) ↦ inr (inr (subst (λ ns. Contains ns.keys n) (sym all.many) marked))
       ]
 
       candidate : (n : N) (s : S) (x : Candidate N) → IsCandidate old n s x → IsCandidate (enrolled old t c) n s x
@@ -97,13 +99,14 @@ module _ {N S : Type 0} (same : S → S → Bool) (exact : IsExact same) (p : Pa
         recorded = recorded_grows same exact p root old (enrolled old t c) all.grows refl e.recorded;
         softs = refl;
         cases = cases_keep same exact p root old (enrolled old t c) e.cases all.grows refl refl refl (cased_keeps same exact p root lawful old (enrolled old t c) e all.coding all.grows refl keeps none) at_least_one;
+        marks = marks_stay same exact p root old (enrolled old t c) all.many (λ n a. a) (λ n s a. inl (back n s a)) e.marks;
         within = within_keeps same exact p root lawful old (enrolled old t c) e refl refl;
         encoded = encoded_keeps same exact p root lawful old (enrolled old t c) e all.grows refl refl refl;
       }
 
   -- The wait ends: what waited is placed, and has its at-least-one clause if its package is recorded.
-  pub wait_ends : (old : Encoder N S) (t : Registry N) → IsEncoding same p root old → AreTied t old.coding → t.members ≡ old.registry.members → ((n : N) (s : S) → Contains old.recorded.at_least_one.keys n → IsWaiting old n s → E.rules_of old (Rule.is_there n s)) → IsEncoding same p root (enrolled old t old.coding)
-  wait_ends old t e tied members covered = carried same exact p root old (enrolled old t old.coding) e carries
+  pub wait_ends : (old : Encoder N S) (t : Registry N) → IsEncoding same p root old → AreTied t old.coding → t.members ≡ old.registry.members → t.many ≡ old.registry.many → ((n : N) (s : S) → Contains old.recorded.at_least_one.keys n → IsWaiting old n s → E.rules_of old (Rule.is_there n s)) → IsEncoding same p root (enrolled old t old.coding)
+  wait_ends old t e tied members many covered = carried same exact p root old (enrolled old t old.coding) e carries
     where
       keeps : (m : N) (u : VariableId) → IsTracked old.registry m u → IsTracked t m u
       keeps m u h = subst (λ ms. Contains ms.keys (member m u)) (sym members) h
@@ -134,8 +137,13 @@ module _ {N S : Type 0} (same : S → S → Bool) (exact : IsExact same) (p : Pa
         recorded = recorded_grows same exact p root old (enrolled old t old.coding) (grows_same old.coding) refl e.recorded;
         softs = refl;
         cases = cases_keep same exact p root old (enrolled old t old.coding) e.cases (grows_same old.coding) refl refl refl
-            (λ parent need case v present h. (let (named, out) = e.cases.cased parent need case v present h in (named, λ s o. (let (w, is, there) = out s o in (w, is, keeps (p.package_of s) w there)))))
-            (λ n s h a. elim (e.cases.at_least_one n s h (back n s a)) [ inl rule ↦ inl rule | inr waits ↦ inl (covered n s h waits) ]);
+            (λ parent need case v present h. set_stays same exact p root old (enrolled old t old.coding) v (grows_same old.coding) (λ n b. b) (λ w b. b) keeps (e.cases.cased parent need case v present h))
+            (λ n s h a. elim (e.cases.at_least_one n s h (back n s a)) [
+              | inl rule ↦ inl rule
+              | inr (inl waits) ↦ inl (covered n s h waits)
+              | inr (inr marked) ↦ inr (inr (subst (λ ns. Contains ns.keys n) (sym many) marked))
+            ]);
+        marks = marks_stay same exact p root old (enrolled old t old.coding) many (λ n a. a) (λ n s a. inl (back n s a)) e.marks;
         within = e.within;
         encoded = encoded_keeps same exact p root lawful old (enrolled old t old.coding) e (grows_same old.coding) refl refl refl;
       }
@@ -160,27 +168,48 @@ module _ {N S : Type 0} where
       (own, subst (λ n. is_in same p (listed (p.candidates_of n)) o.solvable ≡ true) (sym own) (holds.candidates o.solvable (subst (λ n. IsRegistered e.registry e.coding n o.solvable) own h)))
 
   module _ (same : S → S → Bool) (exact : IsExact same) where
-    -- one more is placed, and admitted
-    pub places_one : (one : Offered N S) (old : Encoder N S) (t : Registry N) (c : SolverState N S) (new : Encoder N S) → IsRegistered old.registry old.coding one.name one.solvable → Places one.name one.solvable old.registry old.coding t c → Admits same (one ∷ []) (enrolled old t c) new
+    -- one more is placed, whose package isn't marked, and admitted
+    pub places_one : (one : Offered N S) (old : Encoder N S) (t : Registry N) (c : SolverState N S) (new : Encoder N S) → IsRegistered old.registry old.coding one.name one.solvable → (IsMany old.registry one.name → ⊥) → Places one.name one.solvable old.registry old.coding t c → Admits same (one ∷ []) (enrolled old t c) new
         → PlacesAll same (one ∷ []) old new
-    places_one one old t c new registered all admits = record {
+    places_one one old t c new registered unmarked all admits = record {
       built = admits.adds.built;
       extends = extends_then old (enrolled old t c) new (record { grows = all.grows; trail = all.trail; softs = refl; parents = refl; encoded = refl; deferred = refl; fired = refl }) admits.adds.extends;
       lists = admits.adds.lists;
       members = ap (λ (r : Registry N). r.members) admits.adds.registry ∙ all.members;
       waits = ap (λ (r : Registry N). r.tied) admits.adds.registry ∙ all.waits;
+      many = ap (λ (r : Registry N). r.many) admits.adds.registry ∙ all.many;
       at_least_one = admits.adds.at_least_one;
       queued = admits.adds.queued;
-      placed = λ o h. (
+      placed = λ o h. inr (
         all.variable,
         subst (λ (y : Offered N S). Represents new.coding.atoms.keys all.variable (Solvable y.solvable)) (sym (contains_one o one h)) (represents_grow c new.coding all.variable (Solvable one.solvable) admits.adds.extends.grows all.present),
         subst (λ (r : Registry N). IsInTracker r o.name all.variable) (sym admits.adds.registry) (subst (λ (y : Offered N S). IsInTracker t y.name all.variable) (sym (contains_one o one h)) all.placed),
       );
       keeps = λ m u h. subst (λ (r : Registry N). IsInTracker r m u) (sym admits.adds.registry) (all.keeps m u h);
       encoding = λ p root lawful e.
-          let middle = places_keep same exact p root lawful one.name one.solvable old t c e all in
+          let free : is_many p one.name ≡ false = false_from_ne_true _ (λ marked. unmarked (e.marks.registered one.name one.solvable registered marked)) in
+          let middle = places_keep same exact p root lawful one.name one.solvable old t c e free all in
           let is_listed = registered_listed same p root old one e registered in
           let (last, rules) = admits.adds.encoding p root lawful middle (λ o h. subst (IsListed same p) (sym (contains_one o one (admits.only o h))) is_listed) in
+          (last, λ o h named. rules o (admits.each o h named));
+    }
+
+    -- one more is admitted, whose package is marked: it has no digits
+    pub places_marked : (one : Offered N S) (old new : Encoder N S) → IsRegistered old.registry old.coding one.name one.solvable → IsMany old.registry one.name → Admits same (one ∷ []) old new → PlacesAll same (one ∷ []) old new
+    places_marked one old new registered marked admits = record {
+      built = admits.adds.built;
+      extends = admits.adds.extends;
+      lists = admits.adds.lists;
+      members = ap (λ (r : Registry N). r.members) admits.adds.registry;
+      waits = ap (λ (r : Registry N). r.tied) admits.adds.registry;
+      many = ap (λ (r : Registry N). r.many) admits.adds.registry;
+      at_least_one = admits.adds.at_least_one;
+      queued = admits.adds.queued;
+      placed = λ o h. inl (subst (λ (y : Offered N S). IsMany old.registry y.name) (sym (contains_one o one h)) marked);
+      keeps = λ m u h. subst (λ (r : Registry N). IsInTracker r m u) (sym admits.adds.registry) h;
+      encoding = λ p root lawful e.
+          let is_listed = registered_listed same p root old one e registered in
+          let (last, rules) = admits.adds.encoding p root lawful e (λ o h. subst (IsListed same p) (sym (contains_one o one (admits.only o h))) is_listed) in
           (last, λ o h named. rules o (admits.each o h named));
     }
 
@@ -191,6 +220,7 @@ module _ {N S : Type 0} where
       lists = refl;
       members = refl;
       waits = refl;
+      many = refl;
       at_least_one = refl;
       queued = refl;
       placed = λ o h. absurd (contains_none o h);
@@ -205,11 +235,18 @@ module _ {N S : Type 0} where
       lists = g.lists ∙ f.lists;
       members = g.members ∙ f.members;
       waits = g.waits ∙ f.waits;
+      many = g.many ∙ f.many;
       at_least_one = g.at_least_one ∙ f.at_least_one;
       queued = g.queued ∙ f.queued;
       placed = λ o h. elim (contains_parts o xs ys h) [
-        | inl k ↦ let (v, present, there) = f.placed o k in (v, represents_grow b.coding c.coding v (Solvable o.solvable) g.extends.grows present, g.keeps o.name v there)
-        | inr k ↦ g.placed o k
+        | inl k ↦ elim (f.placed o k) [
+          | inl marked ↦ inl marked
+          | inr (v, present, there) ↦ inr (v, represents_grow b.coding c.coding v (Solvable o.solvable) g.extends.grows present, g.keeps o.name v there)
+        ]
+        | inr k ↦ elim (g.placed o k) [
+          | inl marked ↦ inl (subst (λ ns. Contains ns.keys o.name) f.many marked)
+          | inr there ↦ inr there
+        ]
       ];
       keeps = λ m u h. g.keeps m u (f.keeps m u h);
       encoding = λ p root lawful holds.
@@ -235,10 +272,11 @@ module _ {N S : Type 0} where
       lists = all.lists;
       at_least_one = all.at_least_one;
       queued = all.queued;
+      many = all.many;
       none = λ n v (k, low, at). (let within : k < length middle.registry.members.keys = slice_get_within middle.registry.members.keys k (member n v) at in absurd (omega arith));
       encoding = λ p root lawful e.
           let (holds, rules) = all.encoding p root lawful e in
-          wait_ends same exact p root lawful middle ended holds tied refl
+          wait_ends same exact p root lawful middle ended holds tied refl refl
           (λ n s named waits. rules (record { solvable = s; name = n }) (waiting.each n s (waited e.tied n s waits)) (subst (λ ks. Contains ks.keys n) all.at_least_one named));
     })
       where
@@ -253,11 +291,13 @@ module _ {N S : Type 0} where
             let one : x ≡ s = some_one x s (sym (solvable_represents middle.coding.atoms.keys v x (represents_grow old.coding middle.coding v (Solvable x) all.extends.grows first)) ∙ solvable_represents middle.coding.atoms.keys v s present) in
             (v, subst (λ y. Represents old.coding.atoms.keys v (Solvable y)) one first, (k, subst (λ j. j ≤ k) all.waits low, there))
 
-        placed : (n : N) (v : VariableId) → IsQueued middle.registry n v → IsInTracker middle.registry n v
+        placed : (n : N) (v : VariableId) → IsQueued middle.registry n v → IsInTracker middle.registry n v ⊎ IsMany middle.registry n
         placed n v (k, low, at) =
             let (s, present) = all.built.tied.solvables n v (get_contains middle.registry.members.keys k (member n v) at) in
-            let (w, means, there) = all.placed (record { solvable = s; name = n }) (waiting.each n s (waited waiting.tied n s (v, present, (k, low, at)))) in
-            subst (IsInTracker middle.registry n) (represents_once middle.coding w v (Solvable s) all.built.coding means present) there
+            elim (all.placed (record { solvable = s; name = n }) (waiting.each n s (waited waiting.tied n s (v, present, (k, low, at))))) [
+              | inl marked ↦ inr (subst (λ ns. Contains ns.keys n) (sym all.many) marked)
+              | inr (w, means, there) ↦ inl (subst (IsInTracker middle.registry n) (represents_once middle.coding w v (Solvable s) all.built.coding means present) there)
+            ]
 
         tied : AreTied ended middle.coding
         tied = record {
@@ -268,7 +308,11 @@ module _ {N S : Type 0} where
           within = omega arith;
           solvables = all.built.tied.solvables;
           registered = λ n v h. all.built.tied.registered n v (record { place = h.place; tracker = h.tracker; named = h.named; tracked = h.tracked; present = h.present });
-          rest = λ n v h. elim (all.built.tied.rest n v h) [ inl k ↦ inl (moved n v k) | inr k ↦ inl (moved n v (placed n v k)) ];
+          rest = λ n v h. elim (all.built.tied.rest n v h) [
+            | inl k ↦ inl (moved n v k)
+            | inr (inl k) ↦ elim (placed n v k) [ inl j ↦ inl (moved n v j) | inr j ↦ inr (inr j) ]
+            | inr (inr k) ↦ inr (inr k)
+          ];
         }
           where
             moved : (n : N) (v : VariableId) → IsInTracker middle.registry n v → IsInTracker ended n v

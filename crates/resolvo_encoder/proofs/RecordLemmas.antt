@@ -20,6 +20,7 @@ use Rattle.resolvo_sat.proofs.Members.{in_contained, contained_in}
 use Rattle.resolvo_packages.specs.declared.package_source.Offered.{Offered}
 use Rattle.resolvo_state.specs.declared.atom.ProofAtom.TheVariants.{Solvable}
 use Rattle.resolvo_state.specs.declared.solver_state.SolverState.{SolverState}
+use Rattle.resolvo_state.specs.SolverState.{Grows, SameTrail}
 use Rattle.resolvo_state.specs.declared.registry.Registry.{Registry}
 use Rattle.resolvo_state.specs.Atoms.{origin, Represents}
 use Rattle.resolvo_state.specs.Registered.{IsTracked, Registers}
@@ -29,7 +30,7 @@ use Rattle.resolvo_encoder.specs.Encoded.{IsChosenFor, IsEncoding, Registered}
 use Rattle.resolvo_encoder.proofs.CarryLemmas.{registers_none, registers_more}
 use Rattle.resolvo_encoder.proofs.EnrollLemmas.{enrolled, enrols}
 use Rattle.resolvo_encoder.proofs.EncodesLemmas.{built_recorded}
-use Rattle.resolvo_encoder.specs.Steps.{IsBuilt, IsListed}
+use Rattle.resolvo_encoder.specs.Steps.{IsBuilt, IsAddable, MarksPackage}
 use Rattle.resolvo_encoder.specs.SoftRequirement.{RegistersSoft, RecordsSoft, IsUntaken, TakesBack}
 
 -- the encoding with other soft requirements
@@ -75,7 +76,8 @@ module _ {N S : Type 0} (same : S → S → Bool) (exact : IsExact same) where
     asked = h.asked;
     gates = h.gates;
     forbid = h.forbid;
-    recorded = record { packages = h.recorded.packages; version_sets = h.recorded.version_sets };
+    recorded = record { packages = h.recorded.packages; version_sets = h.recorded.version_sets; matches = h.recorded.matches };
+    marks = record { right = h.marks.right; registered = h.marks.registered; recorded = h.marks.recorded };
     cases = record { waiting = h.cases.waiting; places = h.cases.places; fired = h.cases.fired; cased = h.cases.cased; at_least_one = h.cases.at_least_one; there = h.cases.there };
     within = h.within;
     encoded = λ i parent below at. (let k = h.encoded i parent below at in record { needs = k.needs; limits = k.limits; guarded = k.guarded; unknown = k.unknown });
@@ -106,22 +108,26 @@ module _ {N S : Type 0} (same : S → S → Bool) (exact : IsExact same) where
       called x older present choice other = wider (known_of (origin e.coding.atoms.keys) older) (meaning (origin e.coding.atoms.keys) (literal_of x)) (h.called x older present choice other)
 
   -- a soft requirement is registered, and recorded behind the others
-  pub soft_recorded : (one : Offered N S) (v : VariableId) (old middle : Encoder N S) (ws : Vec S Global) → RegistersSoft same one v old middle → ws.items ≡ middle.recorded.softs.items ++ one.solvable ∷ [] → RecordsSoft same one v old (with_softs middle ws)
-  soft_recorded one v old middle ws r more = record {
+  pub soft_recorded : (one : Offered N S) (many : Bool) (v : VariableId) (old marked middle : Encoder N S) (ws : Vec S Global) → MarksPackage same one.name many old marked → RegistersSoft same one v marked middle → ws.items ≡ middle.recorded.softs.items ++ one.solvable ∷ [] → RecordsSoft same one many v old (with_softs middle ws)
+  soft_recorded one many v old marked middle ws marks r more = record {
     built = built_recorded middle (record middle.recorded { softs = ws }) r.enrols.built;
     present = r.present;
-    softs = more ∙ ap (λ (xs : List S). xs ++ one.solvable ∷ []) r.enrols.extends.softs;
-    grows = r.enrols.extends.grows;
-    trail = record { tracker = r.enrols.extends.trail.tracker };
-    lists = r.enrols.lists;
-    parents = r.enrols.extends.parents;
-    encoded = r.enrols.extends.encoded;
-    deferred = r.enrols.extends.deferred;
-    fired = r.enrols.extends.fired;
-    encoding = λ p root lawful e listed.
+    softs = more ∙ ap (λ (xs : List S). xs ++ one.solvable ∷ []) (r.enrols.extends.softs ∙ ap (λ (x : Encoder N S). x.recorded.softs.items) marks.rest);
+    grows = subst (λ (c : SolverState N S). Grows c middle.coding) coding r.enrols.extends.grows;
+    trail = subst (λ (c : SolverState N S). SameTrail c middle.coding) coding (record { tracker = r.enrols.extends.trail.tracker });
+    lists = r.enrols.lists ∙ ap (λ (x : Encoder N S). x.lists) marks.rest;
+    parents = r.enrols.extends.parents ∙ ap (λ (x : Encoder N S). x.parents) marks.rest;
+    encoded = r.enrols.extends.encoded ∙ ap (λ (x : Encoder N S). x.encoded) marks.rest;
+    deferred = r.enrols.extends.deferred ∙ ap (λ (x : Encoder N S). x.deferred) marks.rest;
+    fired = r.enrols.extends.fired ∙ ap (λ (x : Encoder N S). x.fired) marks.rest;
+    encoding = λ p root lawful e listed is.
+        let (before, known) = marks.encoding p root lawful e is in
         soft_more p root middle ws one.solvable more (v, r.present, subst (λ (n : N). IsTracked middle.registry n v) listed.0 r.tracked)
-        (r.enrols.encoding p root lawful e (λ o h. subst (IsListed same p) (sym (contains_one o one h)) listed));
+        (r.enrols.encoding p root lawful before (λ o h. subst (IsAddable same p marked) (sym (contains_one o one h)) (listed, known)));
   }
+    where
+      coding : marked.coding ≡ old.coding
+      coding = ap (λ (x : Encoder N S). x.coding) marks.rest
 
   -- ---- the last soft requirement is removed
 

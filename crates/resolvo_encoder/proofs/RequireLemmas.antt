@@ -14,7 +14,7 @@ use Rattle.resolvo_pool_core.specs.Slots.{at}
 use Rattle.resolvo_pool_core.specs.OnePass.{Literal}
 use Rattle.resolvo_pool_core.specs.Provider.{listed}
 use Rattle.resolvo_pool_core.specs.Text.{solvable_of, alternatives_of}
-use Rattle.resolvo_pool_core.specs.RuleKeeping.{Packages, Rules, IsLawful, is_in, is_match, is_outside, meets}
+use Rattle.resolvo_pool_core.specs.RuleKeeping.{Packages, Rules, IsLawful, is_in, is_match, meets, is_many}
 use Rattle.resolvo_store_core.specs.AtMostOne.{IsPrefixOf, digit}
 use Rattle.resolvo_store_core.specs.Signed.{Signed, has}
 use Rattle.resolvo_store_core.specs.Lists.{has_candidates, candidates_in, FixesCandidates}
@@ -39,9 +39,9 @@ use Rattle.resolvo_state.specs.declared.registry.Registry.{Registry}
 use Rattle.resolvo_state.specs.Atoms.{origin, Represents}
 use Rattle.resolvo_state.specs.ClauseKinds.{rule_of, kind_at, rule_at}
 use Rattle.resolvo_state.specs.SolverState.{IsCoding, Grows, SameTrail}
-use Rattle.resolvo_state.specs.Registered.{AreTied, IsTracked, IsQueued, IsRegistered, IsDigitClause, digit_literals}
+use Rattle.resolvo_state.specs.Registered.{AreTied, IsTracked, IsQueued, IsMany, IsRegistered, IsDigitClause, digit_literals}
 use Rattle.resolvo_encoder.specs.Cases.{case_of, IsDeferred}
-use Rattle.resolvo_encoder.specs.Encoded.{IsCandidate, AreCandidates, HasOrder, IsQueuedFor, IsRequiresRule, IsGuarded, IsLimitEncoded, IsRecorded, IsCaseEncoded, IsParentEncoded, Registered, AreCased, IsEncoding, IsChosenFor}
+use Rattle.resolvo_encoder.specs.Encoded.{IsCandidate, AreCandidates, HasOrder, IsQueuedFor, IsRequiresRule, IsGuarded, IsLimitEncoded, IsRecorded, IsMarkKnown, AreMarked, IsSetEncoded, IsCaseEncoded, IsParentEncoded, Registered, AreCased, IsEncoding, IsChosenFor}
 use Rattle.resolvo_encoder.specs.Encoded as E
 use Rattle.resolvo_encoder.specs.Steps.{RegistersAll, KeepsLists, SameButCoding, Extends}
 use Rattle.resolvo_encoder.specs.declared.encoder.Deferred.{Deferred}
@@ -85,6 +85,7 @@ module _ {N S : Type 0} (same : S → S → Bool) (exact : IsExact same) (p : Pa
     pub recorded : IsRecorded same p (E.rules_of new) new.recorded
     pub softs : new.recorded.softs.items ≡ old.recorded.softs.items
     pub cases : AreCased same p root new
+    pub marks : AreMarked same p new
     pub encoded : (i : ℕ) (parent : SolvableIdOrRoot S) → i < new.encoded → slice_get new.parents.keys i ≡ Some parent → IsParentEncoded same p new root (solvable_of parent)
 
   pub carried : (old new : Encoder N S) → IsEncoding same p root old → Carries old new → IsEncoding same p root new
@@ -108,6 +109,7 @@ module _ {N S : Type 0} (same : S → S → Bool) (exact : IsExact same) (p : Pa
     forbid = h.forbid;
     recorded = h.recorded;
     cases = h.cases;
+    marks = h.marks;
     within = h.within;
     encoded = h.encoded;
     wished = λ s a. stays s (e.wished s (subst (λ (ws : List S). Contains ws s) h.softs a));
@@ -166,6 +168,17 @@ module _ {N S : Type 0} (same : S → S → Bool) (exact : IsExact same) (p : Pa
   recorded_grows old new grows recorded h = record {
     packages = λ n s a barred. forbid_grows old.coding new.coding grows s (h.packages n s (subst (λ (x : EncodedOnce N S). Contains x.packages.keys n) recorded a) barred);
     version_sets = λ v s a outside. rules_grow old.coding new.coding grows (Rule.is_out v s) (h.version_sets v s (subst (λ (x : EncodedOnce N S). Contains x.version_sets.keys v) recorded a) outside);
+    matches = λ v s a match_s. rules_grow old.coding new.coding grows (Rule.matches v s) (h.matches v s (subst (λ (x : EncodedOnce N S). Contains x.matches.keys v) recorded a) match_s);
+  }
+
+  -- the marks remain right where they are the same, and the solvables that are registered now were so, or
+  -- their packages' marks are known
+  pub marks_stay : (old new : Encoder N S) → new.registry.many ≡ old.registry.many → ((n : N) → Contains new.recorded.packages.keys n → Contains old.recorded.packages.keys n)
+      → ((n : N) (s : S) → IsRegistered new.registry new.coding n s → IsRegistered old.registry old.coding n s ⊎ IsMarkKnown same p old n) → AreMarked same p old → AreMarked same p new
+  marks_stay old new many packages registered h = record {
+    right = λ n a. h.right n (subst (λ ns. Contains ns.keys n) many a);
+    registered = λ n s a m. subst (λ ns. Contains ns.keys n) (sym many) (elim (registered n s a) [ inl b ↦ h.registered n s b m | inr k ↦ k m ]);
+    recorded = λ n a m. subst (λ ns. Contains ns.keys n) (sym many) (h.recorded n (packages n a) m);
   }
 
   -- a registered solvable remains registered
@@ -174,8 +187,8 @@ module _ {N S : Type 0} (same : S → S → Bool) (exact : IsExact same) (p : Pa
 
   -- The deferred cases and the fired ones are unchanged.
   pub cases_keep : (old new : Encoder N S) → AreCased same p root old → Grows old.coding new.coding → new.deferred ≡ old.deferred → new.fired ≡ old.fired → new.recorded ≡ old.recorded
-      → ((parent : Option S) (need : ConditionalRequirement) (case : List VersionSetId) (v : VersionSetId) → E.rules_of new (Rule.needs parent need case) → Contains case v → E.IsNamed new.recorded (p.set_package v) × ((s : S) → is_outside same p v s ≡ true → Registered same p root new s))
-      → ((n : N) (s : S) → Contains new.recorded.at_least_one.keys n → IsRegistered new.registry new.coding n s → E.rules_of new (Rule.is_there n s) ⊎ E.IsWaiting new n s) → AreCased same p root new
+      → ((parent : Option S) (need : ConditionalRequirement) (case : List VersionSetId) (v : VersionSetId) → E.rules_of new (Rule.needs parent need case) → Contains case v → IsSetEncoded same p new v)
+      → ((n : N) (s : S) → Contains new.recorded.at_least_one.keys n → IsRegistered new.registry new.coding n s → E.rules_of new (Rule.is_there n s) ⊎ E.IsPending new n s) → AreCased same p root new
   cases_keep old new e grows deferred fired recorded cased at_least_one = record {
     waiting = λ i d at. e.waiting i d (subst (λ (ds : Vec (Deferred S) Global). slice_get ds.items i ≡ Some d) deferred at);
     places = λ i h. subst (λ (ds : Vec (Deferred S) Global). i < length ds.items) (sym deferred) (e.places i (subst (λ ks. Contains ks.keys i) fired h));
@@ -185,13 +198,18 @@ module _ {N S : Type 0} (same : S → S → Bool) (exact : IsExact same) (p : Pa
     there = λ s h. rules_grow old.coding new.coding grows (Rule.is_there (p.package_of s) s) (e.there s (subst (λ (x : EncodedOnce N S). Contains x.there.keys s) recorded h));
   }
 
-  -- the packages of an encoded case remain recorded, and the candidates outside registered
+  -- an encoded version set of a case remains so
+  pub set_stays : (old new : Encoder N S) (v : VersionSetId) → Grows old.coding new.coding → ((n : N) → E.IsNamed old.recorded n → E.IsNamed new.recorded n) → ((w : VersionSetId) → Contains old.recorded.matches.keys w → Contains new.recorded.matches.keys w)
+      → ((m : N) (u : VariableId) → IsTracked old.registry m u → IsTracked new.registry m u) → IsSetEncoded same p old v → IsSetEncoded same p new v
+  set_stays old new v grows named matches keeps (inl (unmarked, name, out)) = inl (unmarked, named (p.set_package v) name, λ s o. registered_stays old new (p.package_of s) s grows keeps (out s o))
+  set_stays old new v grows named matches keeps (inr (marked, there)) = inr (marked, matches v there)
+
+  -- the version sets of an encoded case remain encoded
   pub cased_stays : (old new : Encoder N S) → AreCased same p root old → Grows old.coding new.coding → new.recorded ≡ old.recorded → ((m : N) (u : VariableId) → IsTracked old.registry m u → IsTracked new.registry m u)
       → (parent : Option S) (need : ConditionalRequirement) (case : List VersionSetId) (v : VersionSetId) → E.rules_of old (Rule.needs parent need case) → Contains case v
-      → E.IsNamed new.recorded (p.set_package v) × ((s : S) → is_outside same p v s ≡ true → Registered same p root new s)
-  cased_stays old new e grows recorded keeps parent need case v present h =
-      let (named, out) = e.cased parent need case v present h in
-      (subst (λ (x : EncodedOnce N S). E.IsNamed x (p.set_package v)) (sym recorded) named, λ s o. registered_stays old new (p.package_of s) s grows keeps (out s o))
+      → IsSetEncoded same p new v
+  cased_stays old new e grows recorded keeps parent need case v present h = set_stays old new v grows (λ n a. subst (λ (x : EncodedOnce N S). E.IsNamed x n) (sym recorded) a)
+      (λ w a. subst (λ (x : EncodedOnce N S). Contains x.matches.keys w) (sym recorded) a) keeps (e.cased parent need case v present h)
 
 -- the value of a map by requirement where it was put
 pub put_at : {V : Type 0} (m n : List (Option V) × List (Option V)) (r : Requirement) (x : V) → PutsAt m n r x → slot_of n r ≡ Some x
@@ -306,7 +324,7 @@ module _ {N S : Type 0} (same : S → S → Bool) (exact : IsExact same) (p : Pa
   -- no clause of a case was added
   pub cased_keeps : (old new : Encoder N S) → IsEncoding same p root old → IsCoding new.coding → Grows old.coding new.coding → new.recorded ≡ old.recorded → ((m : N) (u : VariableId) → IsTracked old.registry m u → IsTracked new.registry m u) → NoneAsks old new
       → (parent : Option S) (need : ConditionalRequirement) (case : List VersionSetId) (v : VersionSetId) → E.rules_of new (Rule.needs parent need case) → Contains case v
-      → E.IsNamed new.recorded (p.set_package v) × ((s : S) → is_outside same p v s ≡ true → Registered same p root new s)
+      → IsSetEncoded same p new v
   cased_keeps old new e coding grows recorded keeps none parent need case v present h = elim (rules_split old.coding new.coding e.coding coding grows (Rule.needs parent need case) present) [
     | inl a ↦ cased_stays same exact p root old new e.cases grows recorded keeps parent need case v a h
     | inr (n, low, high, at) ↦ absurd (none n (Rule.needs parent need case) low high at tt)
@@ -316,12 +334,16 @@ module _ {N S : Type 0} (same : S → S → Bool) (exact : IsExact same) (p : Pa
   pub waiting_stays : (old new : Encoder N S) → Grows old.coding new.coding → new.registry ≡ old.registry → (n : N) (s : S) → E.IsWaiting old n s → E.IsWaiting new n s
   waiting_stays old new grows registry n s (v, present, queued) = (v, represents_grow old.coding new.coding v (Solvable s) grows present, subst (λ (t : Registry N). IsQueued t n v) (sym registry) queued)
 
+  pub pending_stays : (old new : Encoder N S) → Grows old.coding new.coding → new.registry ≡ old.registry → (n : N) (s : S) → E.IsPending old n s → E.IsPending new n s
+  pending_stays old new grows registry n s (inl waits) = inl (waiting_stays old new grows registry n s waits)
+  pending_stays old new grows registry n s (inr marked) = inr (subst (λ (t : Registry N). IsMany t n) (sym registry) marked)
+
   -- no solvable was registered
   pub at_least_one_keeps : (old new : Encoder N S) → AreCased same p root old → Grows old.coding new.coding → new.recorded ≡ old.recorded → new.registry ≡ old.registry → ((n : N) (s : S) → IsRegistered new.registry new.coding n s → IsRegistered old.registry old.coding n s)
-      → (n : N) (s : S) → Contains new.recorded.at_least_one.keys n → IsRegistered new.registry new.coding n s → E.rules_of new (Rule.is_there n s) ⊎ E.IsWaiting new n s
+      → (n : N) (s : S) → Contains new.recorded.at_least_one.keys n → IsRegistered new.registry new.coding n s → E.rules_of new (Rule.is_there n s) ⊎ E.IsPending new n s
   at_least_one_keeps old new e grows recorded registry back n s h a = elim (e.at_least_one n s (subst (λ (x : EncodedOnce N S). Contains x.at_least_one.keys n) recorded h) (back n s a)) [
     | inl rule ↦ inl (rules_grow old.coding new.coding grows (Rule.is_there n s) rule)
-    | inr waits ↦ inr (waiting_stays old new grows registry n s waits)
+    | inr waits ↦ inr (pending_stays old new grows registry n s waits)
   ]
 
   -- registered solvables were so before, where the registry is unchanged
@@ -365,6 +387,7 @@ module _ {N S : Type 0} (same : S → S → Bool) (exact : IsExact same) (p : Pa
     recorded = recorded_grows same exact p root old new grows rest.recorded e.recorded;
     softs = ap (λ (x : EncodedOnce N S). x.softs.items) rest.recorded;
     cases = cases_keep same exact p root old new e.cases grows rest.deferred rest.fired rest.recorded (cased_keeps old new e coding grows rest.recorded tracked none) (at_least_one_keeps old new e.cases grows rest.recorded rest.registry back);
+    marks = marks_stay same exact p root old new (ap (λ (t : Registry N). t.many) rest.registry) (λ n a. subst (λ (x : EncodedOnce N S). Contains x.packages.keys n) rest.recorded a) (λ n s a. inl (back n s a)) e.marks;
     within = within_keeps old new e rest.parents rest.encoded;
     encoded = encoded_keeps old new e grows rest.parents rest.encoded rest.deferred;
   }
@@ -376,14 +399,14 @@ module _ {N S : Type 0} (same : S → S → Bool) (exact : IsExact same) (p : Pa
       back = registered_before old new e.tied grows rest.registry
 
   -- an added clause of a digit is right
-  pub digit_added : (old new : Encoder N S) (name : N) (n : ℕ) → (d : IsDigitClause new.registry new.coding name n) → name ≡ p.package_of d.solvable → is_in same p (listed (p.candidates_of (p.package_of d.solvable))) d.solvable ≡ true → AddedClause same exact p root new n
-  digit_added old new name n d e candidate = record {
+  pub digit_added : (old new : Encoder N S) (name : N) (n : ℕ) → (d : IsDigitClause new.registry new.coding name n) → name ≡ p.package_of d.solvable → is_in same p (listed (p.candidates_of (p.package_of d.solvable))) d.solvable ≡ true → is_many p name ≡ false → AddedClause same exact p root new n
+  digit_added old new name n d e candidate unmarked = record {
     kinds = Kind.Digit name d.solvable d.place d.bit;
     at = d.kinds;
     rule = λ r is.
         let one : Rule.has_digit d.solvable d.bit (digit d.place d.bit) ≡ r = some_one (Rule.has_digit d.solvable d.bit (digit d.place d.bit)) r is in
         subst (λ (x : Rule N S). IsRule same p root x × Spells (origin new.coding.atoms.keys) (clause_at (clauses_of new.coding.search) n) (literals_of same p x)) one
-        ((candidate, d.few), subst (λ m. Spells (origin new.coding.atoms.keys) (clause_at (clauses_of new.coding.search) n) (digit_literals m d.solvable d.bit (digit d.place d.bit))) e d.spells);
+        ((candidate, d.few, subst (λ m. is_many p m ≡ false) e unmarked), subst (λ m. Spells (origin new.coding.atoms.keys) (clause_at (clauses_of new.coding.search) n) (digit_literals m d.solvable d.bit (digit d.place d.bit))) e d.spells);
     positive = λ l s a (other, m). absurd (elim (d.spells.only l a) [
       | inl z ↦ (let same_variable : l.variable.0 ≡ 0 = ap (λ (x : Signed). x.variable.0) z in omega arith)
       | inr (z, c) ↦ elim (contains_cases (meaning (origin new.coding.atoms.keys) l) (minus (Atom.solvable d.solvable)) (digit_literal ∷ []) c) [

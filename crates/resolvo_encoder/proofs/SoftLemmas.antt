@@ -62,7 +62,8 @@ floor_keeps same p root e level coding h = record {
   asked = h.asked;
   gates = h.gates;
   forbid = h.forbid;
-  recorded = record { packages = h.recorded.packages; version_sets = h.recorded.version_sets };
+  recorded = record { packages = h.recorded.packages; version_sets = h.recorded.version_sets; matches = h.recorded.matches };
+  marks = record { right = h.marks.right; registered = h.marks.registered; recorded = h.marks.recorded };
   cases = record { waiting = h.cases.waiting; places = h.cases.places; fired = h.cases.fired; cased = h.cases.cased; at_least_one = h.cases.at_least_one; there = h.cases.there };
   within = h.within;
   encoded = λ i parent below at. (let k = h.encoded i parent below at in record { needs = k.needs; limits = k.limits; guarded = k.guarded; unknown = k.unknown });

@@ -51,7 +51,7 @@ use Rattle.resolvo_encoder.specs.Progress.{GoesOn}
 use Rattle.resolvo_encoder.specs.Steps.{SameButCoding}
 use Rattle.resolvo_encoder.proofs.CarryLemmas.{split_at}
 use Rattle.resolvo_encoder.proofs.PickLemmas.{chosen_grows}
-use Rattle.resolvo_encoder.proofs.RequireLemmas.{candidate_grows, cases_keep, cased_stays, at_least_one_keeps, prefix_lists, queued_keeps, gates_keep, within_keeps, encoded_keeps, guard_grows, recorded_grows}
+use Rattle.resolvo_encoder.proofs.RequireLemmas.{candidate_grows, cases_keep, cased_stays, at_least_one_keeps, prefix_lists, queued_keeps, gates_keep, within_keeps, encoded_keeps, guard_grows, recorded_grows, marks_stay}
 
 -- a learnt clause encodes no rule
 nothing_encoded : {N S : Type 0} (old new : Encoder N S) → GoesOn old new → (n : ℕ) (r : Rule N S) → length old.coding.search.clauses ≤ n → n < length new.coding.search.clauses → rule_at new.coding.kinds.items n ≡ Some r → ⊥
@@ -91,6 +91,7 @@ module _ {N S : Type 0} (same : S → S → Bool) (exact : IsExact same) (p : Pa
     cases = cases_keep same exact p root old new e.cases goes.grows goes.rest.deferred goes.rest.fired goes.rest.recorded
         (λ parent need case v present h. cased_stays same exact p root old new e.cases goes.grows goes.rest.recorded tracked parent need case v (rule_back (Rule.needs parent need case) present) h)
         (at_least_one_keeps same exact p root lawful old new e.cases goes.grows goes.rest.recorded goes.rest.registry registered_back);
+    marks = marks_stay same exact p root old new (ap (λ (t : Registry N). t.many) goes.rest.registry) (λ n a. subst (λ (x : EncodedOnce N S). Contains x.packages.keys n) goes.rest.recorded a) (λ n s a. inl (registered_back n s a)) e.marks;
     within = within_keeps same exact p root lawful old new e goes.rest.parents goes.rest.encoded;
     encoded = encoded_keeps same exact p root lawful old new e goes.grows goes.rest.parents goes.rest.encoded goes.rest.deferred;
     wished = λ s a. registered_still s (e.wished s (subst (λ (x : EncodedOnce N S). Contains x.softs.items s) goes.rest.recorded a));

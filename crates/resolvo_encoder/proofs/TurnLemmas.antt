@@ -10,7 +10,7 @@ use Rattle.resolvo_pool_core.specs.declared.id.VersionSetId.{VersionSetId}
 use Rattle.resolvo_pool_core.specs.declared.requirement.ConditionalRequirement.{ConditionalRequirement}
 use Rattle.resolvo_pool_core.specs.declared.requirement.Requirement.{Requirement}
 use Rattle.resolvo_pool_core.specs.declared.solver_id.SolvableIdOrRoot.TheVariants as Place
-use Rattle.resolvo_pool_core.specs.RuleKeeping.{Packages, Rules, IsLawful, is_in, is_member, meets, IsRuleKeeping, IsReached}
+use Rattle.resolvo_pool_core.specs.RuleKeeping.{Packages, Rules, IsLawful, is_in, is_member, meets, IsRuleKeeping, IsReached, is_many, is_outside}
 use Rattle.resolvo_pool_core.specs.OnePass.{Literal, negate}
 use Rattle.resolvo_pool_core.specs.Text.{alternatives_of}
 use Rattle.resolvo_pool_core.specs.declared.id.VariableId.{VariableId}
@@ -93,17 +93,31 @@ module _ {N S : Type 0} (same : S → S → Bool) (exact : IsExact same) (p : Pa
     rule = holds.rule;
     soft = λ s h. holds.wished s (in_contained same exact p e.recorded.softs.items s h);
     candidate = λ r s has fits. (let (c, present, is) = holds.offered r s (holds.fixed r has) fits in (c.literal.variable, is.present, is.tracked));
-    out = λ parent need case v s present h outside. (holds.cases.cased parent need case v present h).1 s outside;
+    out = λ parent need case v s present h unmarked outside. (of_unmarked v unmarked (holds.cases.cased parent need case v present h)).1 s outside;
     candidates = holds.candidates;
-    by_digits = λ s t a b named. by_digits e.registry e.coding (p.package_of s) s t holds.tied placed.solvables a (subst (λ (n : N). IsRegistered e.registry e.coding n t) (sym named) b);
-    there = λ parent need case v s present h registered named. there (p.set_package v) s (holds.cases.cased parent need case v present h).0 (subst (λ (n : N). IsRegistered e.registry e.coding n s) named registered);
+    by_digits = λ s t a b named free. by_digits e.registry e.coding (p.package_of s) s t holds.tied placed.solvables (λ m. both_ways _ free (holds.marks.right (p.package_of s) m)) a (subst (λ (n : N). IsRegistered e.registry e.coding n t) (sym named) b);
+    there = λ parent need case v s present h registered named unmarked. there (p.set_package v) s unmarked (of_unmarked v unmarked (holds.cases.cased parent need case v present h)).0 (subst (λ (n : N). IsRegistered e.registry e.coding n s) named registered);
+    held = λ parent need case v s present h marked matching. holds.recorded.matches v s (of_marked v marked (holds.cases.cased parent need case v present h)) matching;
     forbid = λ r v s has h barred. holds.forbid r has v s h barred;
   }
     where
+      -- an encoded version set of a package that isn't marked, and of one that is
+      of_unmarked : (v : VersionSetId) → is_many p (p.set_package v) ≡ false → E.IsSetEncoded same p e v → E.IsNamed e.recorded (p.set_package v) × ((s : S) → is_outside same p v s ≡ true → IsRegistered e.registry e.coding (p.package_of s) s)
+      of_unmarked v unmarked (inl (free, named, out)) = (named, out)
+      of_unmarked v unmarked (inr (marked, held)) = absurd (both_ways _ unmarked marked)
+
+      of_marked : (v : VersionSetId) → is_many p (p.set_package v) ≡ true → E.IsSetEncoded same p e v → Contains e.recorded.matches.keys v
+      of_marked v marked (inl (free, named, out)) = absurd (both_ways _ free marked)
+      of_marked v marked (inr (is, held)) = held
+
       -- where nothing waits, the registered solvables of the packages of cases have at-least-one clauses
-      there : (n : N) (s : S) → E.IsNamed e.recorded n → IsRegistered e.registry e.coding n s → E.rules_of e (Rule.is_there n s)
-      there n s (inl named) registered = elim (holds.cases.at_least_one n s named registered) [ inl rule ↦ rule | inr (v, present, queued) ↦ absurd (placed.solvables n v queued) ]
-      there n s (inr waits) registered = absurd (placed.packages n waits)
+      there : (n : N) (s : S) → is_many p n ≡ false → E.IsNamed e.recorded n → IsRegistered e.registry e.coding n s → E.rules_of e (Rule.is_there n s)
+      there n s unmarked (inl named) registered = elim (holds.cases.at_least_one n s named registered) [
+        | inl rule ↦ rule
+        | inr (inl (v, present, queued)) ↦ absurd (placed.solvables n v queued)
+        | inr (inr marked) ↦ absurd (both_ways _ unmarked (holds.marks.right n marked))
+      ]
+      there n s unmarked (inr waits) registered = absurd (placed.packages n waits)
 
   -- a clause that encodes a rule is one of the clauses
   rule_within : IsEncoding same p root e → (n : ℕ) (r : Rule N S) → rule_at e.coding.kinds.items n ≡ Some r → n < length e.coding.search.clauses
@@ -222,6 +236,7 @@ module _ {N S : Type 0} (same : S → S → Bool) (exact : IsExact same) (p : Pa
   queue_fits holds r k q (Kind.Excluded s why) h kind_is = absurd h
   queue_fits holds r k q (Kind.Digit n s place bit) h kind_is = absurd h
   queue_fits holds r k q (Kind.IsThere n s) h kind_is = absurd h
+  queue_fits holds r k q (Kind.Matches v s) h kind_is = absurd h
   queue_fits holds r k q Kind.Learnt h kind_is = absurd h
 
   rule_encoded : (r : Requirement) (k : Ending.IsAsked same p (E.rules_of e) (known_of (origin e.coding.atoms.keys) (history e.coding.search)) r) → E.rules_of e (Ending.asking same p (E.rules_of e) (known_of (origin e.coding.atoms.keys) (history e.coding.search)) r k)

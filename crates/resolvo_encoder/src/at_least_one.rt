@@ -113,12 +113,17 @@ impl<N: Copy + Exact + Hash + Debug + Drop, S: Copy + Exact + Hash + Debug> Enco
     }
 
     /// Names the package of a version set, registers the candidates outside it, and returns the
-    /// literals of "no match is chosen".
+    /// literals of "no match is chosen". Where the package is marked `many`, encodes the matches.
     fn conjunct_literals(&mut self, alloc: Global, set: &ConditionSet<N, S>) -> R<Vec<Literal>>
         requires { IsBuilt self.old }
         ensures at_least_one { IfOk result (λ v. CaseLiterals S.eq (set.now ∷ []) v.items self.old self.new) }
         ensures ids { IsErrOf result Ids → LacksNumber self.new.coding }
     {
+        if set.many {
+            // split for the prover: the call's error and its answer are goals of their own
+            let literals = self.matches_literals(alloc, set)?;
+            return Ok(literals);
+        }
         self.name_package(set.name)?;
         let any = self.give(ProofAtom::AtLeastOne(set.name))?;
         let candidates = self.register(alloc, set.outside.as_slice())?;

@@ -7,9 +7,9 @@ ghost use Rattle.resolvo_pool_core.specs.RuleKeeping.{Packages, Rules, IsLawful,
 ghost use Rattle.resolvo_store_core.specs.Deferred.{candidates_of};
 ghost use Rattle.resolvo_store_core.specs.declared.conditions.DeferredConjunct.{DeferredConjunct};
 ghost use Rattle.resolvo_packages.specs.PackageSource.{AreOffered, offered_solvables};
-ghost use Rattle.resolvo_sat.specs.RuleClauses.{cases_for};
+ghost use Rattle.resolvo_sat.specs.RuleClauses.{cases_for, AreMatched};
 ghost use Rattle.resolvo_sat.specs.SearchEnd.{IsNeedEncoded};
-ghost use Rattle.resolvo_encoder.specs.Encoded.{rules_of, IsGuarded, IsEncoding};
+ghost use Rattle.resolvo_encoder.specs.Encoded.{rules_of, IsPrepared, IsEncoding};
 ghost use Rattle.resolvo_encoder.specs.Steps.{IsBuilt, Extends, AddsCandidates, LacksNumberFor};
 ghost use Rattle.resolvo_encoder.specs.Conditions.{case_of, sets_case, IsDeferred, AreConjuncts, AreSets, Defers, Fires, waiting_count, IsWaiting, IsTrueNow, IsOneChosen, IsMetNow, IsSpent, IsKeptOut};
 ghost use Rattle.resolvo_encoder.specs.declared.encoder.Deferred.{Deferred as Kept};
@@ -28,12 +28,16 @@ use std::alloc::Global;
 use std::fmt::Debug;
 use std::hash::Hash;
 
-/// A version set of a case that fires: its package, and the package's candidates outside it.
+/// A version set of a case that fires: its package, and the package's candidates outside it. Where
+/// the package is marked `many`, those that match instead.
 #[derive(Drop)]
 pub struct ConditionSet<N, S> {
     pub version_set: VersionSetId,
     pub name: N,
+    /// Whether the package is marked `many`.
+    pub many: bool,
     pub outside: Vec<Offered<N, S>>,
+    pub matching: Vec<Offered<N, S>>,
 }
 
 /// A deferred case.
@@ -169,9 +173,10 @@ impl<N: Copy + Exact + Hash + Debug + Drop, S: Copy + Exact + Hash + Debug> Enco
             → IsEncoding S.eq p root self.old
             → AreSets S.eq p sets.now
             → AreOffered S.eq p need.requirement offered.now
-            → IsGuarded S.eq p (rules_of self.old) need.requirement
+            → IsPrepared S.eq p self.old need.requirement
             → Contains (rules_for S.eq p root parent).requirements need
             → Contains (cases_for S.eq p need) (sets_case sets.now)
+            → AreMatched S.eq p (sets_case sets.now)
             → IsEncoding S.eq p root self.new
             × IsNeedEncoded S.eq p (rules_of self.new) parent need (sets_case sets.now)) }
         ensures candidates { OnOk result (AddsCandidates need.requirement offered.now self.old self.new) }
@@ -220,7 +225,7 @@ impl<N: Copy + Exact + Hash + Debug + Drop, S: Copy + Exact + Hash + Debug> Enco
 }
 
 /// Whether the parent is a solvable outside one of these version sets: then the case can't hold
-/// beside it.
+/// beside it, unless the package is marked `many`.
 pub fn keeps_out<N, S: Copy + Exact + Hash + Debug>(
     sets: &[ConditionSet<N, S>],
     parent: Option<S>,
@@ -232,13 +237,28 @@ pub fn keeps_out<N, S: Copy + Exact + Hash + Debug>(
         None => false,
         Some(solvable) => {
             for set in sets {
-                if is_offered(set.outside.as_slice(), solvable) {
+                if excludes(set, solvable) {
                     return true;
                 }
             }
             false
         }
     }
+}
+
+/// Whether a solvable is outside the version set, and the package isn't marked `many`.
+fn excludes<N, S: Copy + Exact + Hash + Debug>(set: &ConditionSet<N, S>, solvable: S) -> bool
+    ensures out { result ≡ true
+        → (set.now.many ≡ false) × Contains (offered_solvables set.now.outside.items) solvable }
+    ensures within { result ≡ false
+        → set.now.many ≡ false
+        → Contains (offered_solvables set.now.outside.items) solvable
+        → ⊥ }
+{
+    if set.many {
+        return false;
+    }
+    is_offered(set.outside.as_slice(), solvable)
 }
 
 /// Whether a solvable is one of these.

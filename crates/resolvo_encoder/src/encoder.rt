@@ -16,7 +16,7 @@ ghost use Rattle.resolvo_sat.specs.RuleClauses.{Rule, IsRule};
 ghost use Rattle.resolvo_sat.specs.SearchEnd.{IsNeedEncoded};
 ghost use Rattle.resolvo_state.specs.declared.atom.ProofAtom.TheVariants.{Gate};
 ghost use Rattle.resolvo_state.specs.Atoms.{Represents};
-ghost use Rattle.resolvo_encoder.specs.Encoded.{rules_of, IsGuarded, IsEncoding};
+ghost use Rattle.resolvo_encoder.specs.Encoded.{rules_of, IsGuarded, IsPrepared, IsEncoding};
 ghost use Rattle.resolvo_state.specs.ClauseKinds.{rule_of};
 ghost use Rattle.resolvo_state.specs.SolverState.{IsBegun, IsCoding, LacksNumber};
 ghost use Rattle.resolvo_encoder.specs.Steps.{Fixes, EncodesNeed, IsBuilt, Needs, Extends, NeedsDirectly, Opens, AddsCandidates, IsBegunEncoding, AddsParent, IsNextEncoded, LacksNumberFor};
@@ -50,6 +50,9 @@ pub struct EncodedOnce<N: Copy + Eq + Hash, S: Copy + Eq + Hash> {
     pub packages: IndexSet<N>,
     /// The version sets for which clauses encode which candidates are outside.
     pub version_sets: IndexSet<VersionSetId>,
+    /// The version sets for which clauses encode which candidates match. Their packages are marked
+    /// `many`.
+    pub matches: IndexSet<VersionSetId>,
     /// The packages of encoded cases: each of their registered solvables has an at-least-one
     /// clause.
     pub at_least_one: IndexSet<N>,
@@ -68,6 +71,7 @@ impl<N: Copy + Eq + Hash, S: Copy + Eq + Hash> Drop for EncodedOnce<N, S> {
         let EncodedOnce {
             packages: _,
             version_sets: _,
+            matches: _,
             at_least_one: _,
             queued: _,
             there: _,
@@ -150,6 +154,7 @@ fn begun<N: Copy + Exact + Hash + Debug, S: Copy + Exact + Hash + Debug>(
         recorded: EncodedOnce {
             packages: IndexSet::new(alloc),
             version_sets: IndexSet::new(alloc),
+            matches: IndexSet::new(alloc),
             at_least_one: IndexSet::new(alloc),
             queued: IndexSet::new(alloc),
             there: IndexSet::new(alloc),
@@ -195,7 +200,7 @@ impl<N: Copy + Exact + Hash + Debug + Drop, S: Copy + Exact + Hash + Debug> Enco
             → IsLawful p
             → IsEncoding S.eq p root self.old
             → AreOffered S.eq p need.requirement offered.now
-            → IsGuarded S.eq p (rules_of self.old) need.requirement
+            → IsPrepared S.eq p self.old need.requirement
             → Needs S.eq p root parent need
             → IsEncoding S.eq p root self.new
             × IsNeedEncoded S.eq p (rules_of self.new) parent need []) }

@@ -12,7 +12,7 @@ ghost use Rattle.resolvo_sat.specs.RuleClauses.{Rule, ForbidReason, IsForbiddenI
 ghost use Rattle.resolvo_state.specs.Atoms.{Represents};
 ghost use Rattle.resolvo_state.specs.SolverState.{IsCoding, LacksNumber};
 ghost use Rattle.resolvo_state.specs.ClauseKinds.{rule_of};
-ghost use Rattle.resolvo_encoder.specs.Encoded.{rules_of, IsEncoding, IsParentVariable, IsLimitEncoded};
+ghost use Rattle.resolvo_encoder.specs.Encoded.{rules_of, IsMarkKnown, IsEncoding, IsParentVariable, IsLimitEncoded};
 ghost use Rattle.resolvo_encoder.specs.Steps.{IsBuilt, Extends};
 ghost use Rattle.resolvo_encoder.specs.ClauseRules.{IsPair, EncodesPair, EncodesRules, reason_of, forbid_rules, limit_rules, out_rules};
 
@@ -51,9 +51,11 @@ impl<N: Copy + Exact + Hash + Debug + Drop, S: Copy + Exact + Hash + Debug> Enco
             → IsLawful p
             → IsEncoding S.eq p root self.old
             → AreForbidden S.eq p name barred.now
+            → IsMarkKnown S.eq p self.old name
             → IsEncoding S.eq p root self.new
             × ((s : S) → IsForbiddenIn S.eq p name s → IsForbidden (rules_of self.new) s)) }
         ensures lists { OnOk result (self.new.lists ≡ self.old.lists) }
+        ensures registry { OnOk result (self.new.registry ≡ self.old.registry) }
         ensures kept { OnOk result (Extends self.old self.new) }
         ensures built { OnOk result (IsBuilt self.new) }
         // After a refusal.

@@ -6,6 +6,7 @@ pub mod at_least_one;
 pub mod conditions;
 pub mod encoder;
 pub mod forbid;
+pub mod matches;
 pub mod place;
 pub mod register;
 pub mod soft_requirement;

@@ -1,6 +1,6 @@
 //! The end of an encoding: what waits gets its clauses. Package by package each new solvable gets
-//! its digits, then its at-least-one clause, if its package is recorded. Then come those of the
-//! packages of new cases.
+//! its digits, unless the package is marked `many`, then its at-least-one clause, if its package is
+//! recorded. Then come those of the packages of new cases.
 ghost use Rattle.std.specs.Prelude.{◌≡◌, ◌∷◌, [], OnOk, IfOk, Contains, IsPermutation, IsErrOf, IsOkUnless};
 ghost use Rattle.resolvo_pool_core.specs.declared.want.Want.TheVariants.{Memory, Ids};
 ghost use Rattle.resolvo_packages.specs.declared.package_source.Offered.{Offered as One};
@@ -83,14 +83,18 @@ impl<N: Copy + Exact + Hash + Debug + Drop, S: Copy + Exact + Hash + Debug> Enco
         Ok(())
     }
 
-    /// Adds the digits of a registered solvable, and its at-least-one clause if its package is
-    /// recorded.
+    /// Adds the digits of a registered solvable, unless its package is marked `many`, and its
+    /// at-least-one clause if its package is recorded.
     fn place_one(&mut self, alloc: Global, one: Offered<N, S>) -> R<()>
         requires built { IsBuilt self.old }
         requires registered { IsRegistered self.old.registry self.old.coding one.name one.solvable }
         ensures placed { OnOk result (PlacesAll S.eq (one ∷ []) self.old self.new) }
         ensures ids { IsErrOf result Ids → LacksNumber self.new.coding }
     {
+        if self.registry.is_many(one.name) {
+            self.admit_one(alloc, one)?;
+            return Ok(());
+        }
         self.registry
             .place(&mut self.coding, one.name, one.solvable)?;
         self.admit_one(alloc, one)?;

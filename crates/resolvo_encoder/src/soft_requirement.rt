@@ -101,12 +101,14 @@ impl<N: Copy + Exact + Hash + Debug + Drop, S: Copy + Exact + Hash + Debug> Enco
         Ok(clause)
     }
 
-    /// Registers a soft requirement, records it as the last one, and returns its variable.
-    pub fn record_soft(&mut self, soft: Offered<N, S>) -> R<VariableId>
+    /// Registers a soft requirement, whose package is marked `many` or isn't, records it as the last
+    /// one, and returns its variable.
+    pub fn record_soft(&mut self, soft: Offered<N, S>, many: bool) -> R<VariableId>
         requires { IsBuilt self.old }
-        ensures recorded { IfOk result (λ v. RecordsSoft S.eq soft v self.old self.new) }
+        ensures recorded { IfOk result (λ v. RecordsSoft S.eq soft many v self.old self.new) }
         ensures ids { IsErrOf result Ids → LacksNumber self.new.coding }
     {
+        self.mark(soft.name, many)?;
         let variable = self.register_soft(soft)?;
         self.recorded.softs.push(soft.solvable)?;
         Ok(variable)

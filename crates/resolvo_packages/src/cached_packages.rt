@@ -151,6 +151,11 @@ impl<D: DependencyProvider> PackageSource for CachedPackages<D> {
         convert_conditions_to_dnf(self.alloc, condition, self.cache.provider())
     }
 
+    fn is_many(&mut self, name: D::NameId) -> Result<bool, CacheFault<D::Cancel>> {
+        self.cache.cache_candidates(name)?;
+        Ok(self.cache.candidates(name).many)
+    }
+
     fn forbidden(
         &mut self,
         name: D::NameId,

@@ -4,7 +4,7 @@ ghost use Rattle.resolvo_pool_core.specs.declared.want.Want.TheVariants.{Memory}
 ghost use Rattle.resolvo_pool_core.specs.Provider.{needs_of};
 ghost use Rattle.resolvo_pool.specs.Cached.{IsCancelledBy};
 ghost use Rattle.resolvo_pool.specs.declared.cache.CacheFault.TheVariants.{Ids};
-ghost use Rattle.resolvo_pool_core.specs.RuleKeeping.{Packages, IsLawful};
+ghost use Rattle.resolvo_pool_core.specs.RuleKeeping.{Packages, IsLawful, is_many};
 ghost use Rattle.resolvo_pool_core.specs.declared.requirement.Requirement.{Requirement};
 ghost use Rattle.resolvo_pool_core.specs.Text.{alternatives_of};
 ghost use Rattle.resolvo_store_core.specs.Cases.{cases, cases_of};
@@ -113,6 +113,13 @@ pub trait PackageSource {
         ensures cases { IfOk result
             (λ v. cases_of v.items ≡ cases (packages self.now).condition_of condition) }
         ensures refusal { IsOkUnless result Memory };
+
+    /// Whether a package is marked `many`: its solvables may be chosen side by side.
+    fn is_many(&mut self, name: Self::NameId) -> Result<bool, CacheFault<Self::Cancel>>
+        ensures same { self.new ≡ self.old }
+        ensures mark { IfOk result (λ b. b ≡ is_many (packages self.old) name) }
+        ensures cancelled { IfErr result (IsCancelledBy (may_cancel self.old)) }
+        ensures ids { IsErrOf result Ids → may_lack_ids self.old };
 
     /// The solvables of a package that locks and exclusions forbid.
     fn forbidden(

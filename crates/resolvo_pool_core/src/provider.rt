@@ -217,6 +217,8 @@ pub struct Candidates<S = SolvableId> {
     pub hint_dependencies_available: HintDependenciesAvailable<S>,
     /// Those that may not be chosen, with the reason.
     pub excluded: Vec<(S, StringId)>,
+    /// Whether several of them may be chosen side by side; else at most one is.
+    pub many: bool,
 }
 
 impl<S> Candidates<S> {
@@ -232,6 +234,7 @@ impl<S> Candidates<S> {
             locked: None,
             hint_dependencies_available: HintDependenciesAvailable::None,
             excluded: Vec::new(alloc),
+            many: false,
         }
     }
 }
@@ -250,6 +253,7 @@ impl<S: Copy> Candidates<S> {
             locked: self.locked,
             hint_dependencies_available: self.hint_dependencies_available.clone(alloc)?,
             excluded: Vec::from_slice(alloc, self.excluded.as_slice())?,
+            many: self.many,
         })
     }
 }

@@ -15,7 +15,7 @@ use Rattle.resolvo_sat.proofs.Lists.{contained_all, map_contains}
 use Rattle.resolvo_sat.proofs.Sound.{rules_sound}
 use Rattle.resolvo_state.proofs.Positions.{get_below, get_last}
 use Rattle.resolvo_proof.specs.declared.step.ProofRule.{ProofRule}
-use Rattle.resolvo_proof.specs.declared.step.ProofRule.TheVariants.{Needs, GateOf, Shared, Limit, Outside, Locked, Excluded, Digit, AtLeastOne}
+use Rattle.resolvo_proof.specs.declared.step.ProofRule.TheVariants.{Needs, GateOf, Shared, Limit, Outside, Locked, Excluded, Digit, AtLeastOne, Matches}
 use Rattle.resolvo_proof.specs.declared.step.ProofStep.{ProofStep}
 use Rattle.resolvo_proof.specs.declared.step.ProofStep.TheVariants.{Rule, Derived}
 use Rattle.resolvo_proof.specs.Steps.{literal_in, rule_under, clause_of, clause_at}
@@ -38,6 +38,7 @@ digit_rule condition (Digit t place low) s bit b h =
     let encoded : b ≡ digit place low = cc in
     (place, (λ i. Digit (sym one i) place (sym same i)), encoded ∙ ap (digit place) (sym same))
 digit_rule condition (AtLeastOne n t) s bit b h = absurd cc
+digit_rule condition (Matches v t) s bit b h = absurd cc
 
 module _ {N S : Type 0} (same_atom : Atom N S → Atom N S → Bool) (exact_atom : IsExact same_atom) (same : S → S → Bool) (exact : IsExact same) (same_name : N → N → Bool) (names : IsExact same_name) (p : Packages N S) (root : Rules)
     (steps : List (ProofStep N S)) (proof : IsProof same_atom same p root steps) (bits : S → ℕ → Bool) (digits : HaveDigits steps bits) (chosen : List S) (keeps : IsRuleKeeping same p root chosen) where

@@ -42,6 +42,7 @@ digit_kind (Kind.Digit name t l other) s k bit h =
     let same : other ≡ bit = cc in
     (name, λ i. Kind.Digit name (one i) (at i) (same i))
 digit_kind (Kind.IsThere n t) s k bit h = absurd cc
+digit_kind (Kind.Matches v t) s k bit h = absurd cc
 digit_kind Kind.Learnt s k bit h = absurd cc
 
 rule_same : {N S : Type 0} (x : ProofRule N S) (y : ProofRule N S) → Rule x ≡ Rule y → x ≡ y

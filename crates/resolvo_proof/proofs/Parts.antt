@@ -132,6 +132,7 @@ learnt_step {N} {S} c coding n x clause step behind kind_is at encoded d = recor
     go (Kind.Excluded s reason) e t = absurd cc
     go (Kind.Digit m s place bit) e t = absurd cc
     go (Kind.IsThere m s) e t = absurd cc
+    go (Kind.Matches v s) e t = absurd cc
     go Kind.Learnt e t = refl
 
 -- the steps of the first clauses, and the next one

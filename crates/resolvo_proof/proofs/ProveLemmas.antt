@@ -36,7 +36,7 @@ use Rattle.resolvo_state.proofs.Origins.{coding_once}
 use Rattle.resolvo_state.proofs.Positions.{get_in_prefix, get_push, get_below}
 use Rattle.resolvo_state.proofs.Rules.{rule_at_kind}
 use Rattle.resolvo_proof.specs.declared.step.ProofRule.{ProofRule}
-use Rattle.resolvo_proof.specs.declared.step.ProofRule.TheVariants.{Needs, GateOf, Shared, Limit, Outside, Locked, Excluded, Digit, AtLeastOne}
+use Rattle.resolvo_proof.specs.declared.step.ProofRule.TheVariants.{Needs, GateOf, Shared, Limit, Outside, Locked, Excluded, Digit, AtLeastOne, Matches}
 use Rattle.resolvo_proof.specs.declared.step.ProofStep.{ProofStep}
 use Rattle.resolvo_proof.specs.Steps.{literal_in, rule_under, clause_of, clause_at as step_at}
 use Rattle.resolvo_proof.specs.Proof.{IsRefuted, IsStep, EndsEmpty, DenyRoot, Proves}
@@ -129,6 +129,7 @@ rule_of_step (Kind.Locked locked s) r h = (None, sym (ap (λ y. Some (rule_under
 rule_of_step (Kind.Excluded s reason) r h = (None, sym (ap (λ y. Some (rule_under None y)) (some_is r (Excluded s reason) h)))
 rule_of_step (Kind.Digit n s place bit) r h = (None, sym (ap (λ y. Some (rule_under None y)) (some_is r (Digit s place bit) h)))
 rule_of_step (Kind.IsThere n s) r h = (None, sym (ap (λ y. Some (rule_under None y)) (some_is r (AtLeastOne n s) h)))
+rule_of_step (Kind.Matches v s) r h = (None, sym (ap (λ y. Some (rule_under None y)) (some_is r (Matches v s) h)))
 rule_of_step Kind.Learnt r h = absurd cc
 
 module _ {N S : Type 0} (same : S → S → Bool) (p : Packages N S) where
@@ -144,6 +145,7 @@ module _ {N S : Type 0} (same : S → S → Bool) (p : Packages N S) where
   under_any condition (Excluded s reason) = refl
   under_any condition (Digit s place bit) = refl
   under_any condition (AtLeastOne n s) = refl
+  under_any condition (Matches v s) = refl
 
   pub step_clause : (steps : List (ProofStep N S)) (place : ℕ) (step : ProofStep N S) → slice_get steps place ≡ Some step → step_at same p steps place ≡ clause_of same p step
   step_clause [] place step h = absurd cc

@@ -16,7 +16,7 @@ use Rattle.resolvo_sat.specs.RuleClauses.{IsExact, IsRule, KeepsOut, has_plain_n
 use Rattle.resolvo_graph.specs.Tree.{same_set}
 use Rattle.resolvo_proof.proofs.ShareLemmas.{one_requirement, one_set}
 use Rattle.resolvo_proof.specs.declared.step.ProofRule.{ProofRule}
-use Rattle.resolvo_proof.specs.declared.step.ProofRule.TheVariants.{Needs, GateOf, Shared, Limit, Outside, Locked, Excluded, Digit, AtLeastOne}
+use Rattle.resolvo_proof.specs.declared.step.ProofRule.TheVariants.{Needs, GateOf, Shared, Limit, Outside, Locked, Excluded, Digit, AtLeastOne, Matches}
 use Rattle.resolvo_proof.specs.declared.link.Link.{Link}
 use Rattle.resolvo_proof.specs.declared.link.Link.TheVariants as Links
 use Rattle.resolvo_proof.specs.LinkRules.{gate_in, limit_in, outside_in, instance_in, named, last_instance, before_in, requirers, under_set, needed, links_at, links_after, all_links, limited_in, is_new, once_after, each_limit_once}
@@ -114,6 +114,7 @@ module _ {N S : Type 0} (same_name : N → N → Bool) (names : IsExact same_nam
         by (Excluded s why) c g e = cc
         by (Digit s place bit) c g e = cc
         by (AtLeastOne n s) c g e = cc
+        by (Matches v s) c g e = cc
 
     limits_true : All (λ l. Contains (rules_for same p root l.1).constraints l.0) (filter_map limit_in rules)
     limits_true = all_filter_map (λ (l : VersionSetId × Option S). Contains (rules_for same p root l.1).constraints l.0) limit_in rules by
@@ -131,6 +132,7 @@ module _ {N S : Type 0} (same_name : N → N → Bool) (names : IsExact same_nam
         by (Excluded s why) c l e = cc
         by (Digit s place bit) c l e = cc
         by (AtLeastOne n s) c l e = cc
+        by (Matches v s) c l e = cc
 
     outsides_true : All (λ o. is_outside same p o.0 o.1 ≡ true) (filter_map outside_in rules)
     outsides_true = all_filter_map (λ (o : VersionSetId × S). is_outside same p o.0 o.1 ≡ true) outside_in rules by
@@ -147,6 +149,7 @@ module _ {N S : Type 0} (same_name : N → N → Bool) (names : IsExact same_nam
         by (Excluded s why) c o e = cc
         by (Digit s place bit) c o e = cc
         by (AtLeastOne n s) c o e = cc
+        by (Matches v s) c o e = cc
 
     alone : (l : Link S) → IsTrueLink l → All IsTrueLink (l ∷ [])
     alone l h = All-cons IsTrueLink l [] h (All-nil IsTrueLink)
@@ -173,6 +176,7 @@ module _ {N S : Type 0} (same_name : N → N → Bool) (names : IsExact same_nam
     rule_true earlier (Excluded s why) c = alone (Links.Excluded s why) (are_rules (Excluded s why) c).1
     rule_true earlier (Digit s place bit) c = alone (Links.Instance (last_instance same_name name_of earlier (name_of s)) s) (instance_true (last_instance same_name name_of earlier (name_of s)) s (last_named earlier (name_of s)))
     rule_true earlier (AtLeastOne n s) c = All-nil IsTrueLink
+    rule_true earlier (Matches v s) c = All-nil IsTrueLink
 
     after_true : (earlier rest : List (ProofRule N S)) → ((r : ProofRule N S) → Contains rest r → Contains rules r) → All IsTrueLink (links_after same_name name_of offered rules earlier rest)
     after_true earlier [] h = All-nil IsTrueLink

@@ -97,7 +97,7 @@ fn link<N: Copy + Exact + Hash + Debug, S: Copy + Exact + Hash + Debug>(
     ensures refusal { IsOkUnless result Memory }
 {
     match rule {
-        ProofRule::GateOf { .. } | ProofRule::AtLeastOne { .. } => {}
+        ProofRule::GateOf { .. } | ProofRule::AtLeastOne { .. } | ProofRule::Matches { .. } => {}
         ProofRule::Needs {
             parent,
             requirement,

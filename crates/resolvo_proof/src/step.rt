@@ -56,6 +56,11 @@ pub enum ProofRule<N, S> {
         name: N,
         solvable: S,
     },
+    /// The solvable matches the version set, whose package is marked `many`.
+    Matches {
+        version_set: VersionSetId,
+        solvable: S,
+    },
 }
 
 /// An atom, or its negation.

@@ -150,6 +150,13 @@ fn write_rule<N: Copy + Exact + Hash + Debug, S: Copy + Exact + Hash + Debug>(
             name: *name,
             solvable: *solvable,
         },
+        ClauseKind::Matches {
+            version_set,
+            solvable,
+        } => ProofRule::Matches {
+            version_set: *version_set,
+            solvable: *solvable,
+        },
         kind => return Ok(forbid_rule(kind)),
     };
     Ok(Some(rule))

@@ -8,7 +8,7 @@ use Rattle.resolvo_pool_core.specs.declared.requirement.Requirement.{Requirement
 use Rattle.resolvo_pool_core.specs.OnePass.{Literal, negate, is_true_at, clause_true}
 use Rattle.resolvo_pool_core.specs.Provider.{listed}
 use Rattle.resolvo_pool_core.specs.Text.{alternatives_of}
-use Rattle.resolvo_pool_core.specs.RuleKeeping.{Packages, Rules, is_in, is_match, is_outside, is_met, meets, binds, is_forbidden, rules_for, is_member, IsSingle, Obeys, IsRuleKeeping, IsNamed, IsExemptKeeping, IsClosed, IsReached}
+use Rattle.resolvo_pool_core.specs.RuleKeeping.{Packages, Rules, is_many, is_in, is_match, is_outside, is_met, meets, binds, is_forbidden, rules_for, is_member, IsSingle, Obeys, IsRuleKeeping, IsNamed, IsExemptKeeping, IsClosed, IsReached}
 use Rattle.resolvo_sat.specs.RuleClauses.{IsExact, Atom, Rule, plus, minus, parent_literals, case_holds, case_literals, candidate_literals, literals_of, IsRule, value, Fits, shown, IsImplied, IsForbiddenIn, IsForbidden, AgreeWith}
 use Rattle.resolvo_sat.specs.SearchEnd.{AreFalse, IsTrueParent, IsCalledFor, IsEnd, is_digit, digits_in, IsAccepted, Denies}
 use Rattle.resolvo_sat.proofs.Lists.{contains_cases, contains_none, contains_parts, all_contained, any_contained, contained_any, contains_filter, filter_contains}
@@ -32,10 +32,10 @@ module _ {N S : Type 0} (same : S → S → Bool) (exact : IsExact same) (same_n
   in_register : (s : S) → is_in same p members s ≡ true → registered s
   in_register s c = true_registered same exact p root rules registered softs known s end.register end.trail (end.true_on_trail s c)
 
-  -- another registered solvable of a member's package is false
-  others_false : (s t : S) → is_in same p members s ≡ true → registered t → p.package_of s ≡ p.package_of t → (s ≡ t) ⊎ Contains known (minus (Atom.solvable t))
-  others_false s t c r e =
-      elim (end.register.by_digits s t (in_register s c) r e) [
+  -- another registered solvable of a member's package is false, unless this is marked `many`
+  others_false : (s t : S) → is_in same p members s ≡ true → registered t → p.package_of s ≡ p.package_of t → is_many p (p.package_of s) ≡ false → (s ≡ t) ⊎ Contains known (minus (Atom.solvable t))
+  others_false s t c r e m =
+      elim (end.register.by_digits s t (in_register s c) r e m) [
         | inl is ↦ inl is
         | inr (bit, b, first, second) ↦
             let d : Literal (Atom N S) = record { atom = Atom.digit (p.package_of s) bit; positive = b } in
@@ -48,7 +48,7 @@ module _ {N S : Type 0} (same : S → S → Bool) (exact : IsExact same) (same_n
   pub is_single : IsSingle same p members
   is_single = record {
     listed = λ s c. end.register.candidates s (in_register s c);
-    one = λ s t c d e. elim (others_false s t c (in_register t d) e) [ inl is ↦ is | inr f ↦ absurd (clash (plus (Atom.solvable t)) (end.true_on_trail t d) f) ];
+    one = λ s t c d e m. elim (others_false s t c (in_register t d) e m) [ inl is ↦ is | inr f ↦ absurd (clash (plus (Atom.solvable t)) (end.true_on_trail t d) f) ];
   }
 
   true_parent : (parent : Option S) → is_member same p root members parent ≡ true → IsTrueParent known parent
@@ -74,23 +74,25 @@ module _ {N S : Type 0} (same : S → S → Bool) (exact : IsExact same) (same_n
       let parts_m = and_parts (is_in same p (listed (p.candidates_of (p.set_package v))) m) (p.matches v m) match_m in
       let of_m : p.package_of m ≡ p.set_package v = candidate_named same exact p end.lawful (p.set_package v) m parts_m.0 in
       elim d [
-        | inl q ↦ subst (λ x. Contains known (negate x)) (sym q) (quiet_second known (minus (Atom.solvable m)) (plus (Atom.any_of (p.set_package v))) (end.quiet _ (end.register.there parent need case v m r i (in_register m c) of_m)) (end.true_on_trail m c))
-        | inr (s, q, o) ↦
+        | inl (marked, q) ↦ subst (λ x. Contains known (negate x)) (sym q) (quiet_second known (minus (Atom.solvable m)) (plus (Atom.matches v)) (end.quiet _ (end.register.held parent need case v m r i marked match_m)) (end.true_on_trail m c))
+        | inr (unmarked, inl q) ↦ subst (λ x. Contains known (negate x)) (sym q) (quiet_second known (minus (Atom.solvable m)) (plus (Atom.any_of (p.set_package v))) (end.quiet _ (end.register.there parent need case v m r i (in_register m c) of_m unmarked)) (end.true_on_trail m c))
+        | inr (unmarked, inr (s, q, o)) ↦
             let parts_s = and_parts (is_in same p (listed (p.candidates_of (p.set_package v))) s) (not (p.matches v s)) o in
             let of_s : p.package_of s ≡ p.set_package v = candidate_named same exact p end.lawful (p.set_package v) s parts_s.0 in
-            elim (others_false m s c (end.register.out parent need case v s r i o) (of_m ∙ sym of_s)) [
+            elim (others_false m s c (end.register.out parent need case v s r i unmarked o) (of_m ∙ sym of_s) (subst (λ (n : N). is_many p n ≡ false) (sym of_m) unmarked)) [
               | inl is ↦ absurd (match_is v m s match_m o is)
               | inr f ↦ subst (λ x. Contains known (negate x)) (sym q) f
             ]
       ]
 
-  -- a case that holds is not one that keeps its own parent out
-  not_self : (s : S) (v : VersionSetId) (case : List VersionSetId) → is_in same p members s ≡ true → Contains case v → is_outside same p v s ≡ true → case_holds same p members case ≡ true → ⊥
-  not_self s v case here i o holds =
+  -- a case that holds is not one that keeps its own parent out, whose package isn't marked `many`
+  not_self : (s : S) (v : VersionSetId) (case : List VersionSetId) → is_in same p members s ≡ true → Contains case v → is_outside same p v s ≡ true → is_many p (p.set_package v) ≡ false → case_holds same p members case ≡ true → ⊥
+  not_self s v case here i o unmarked holds =
       let (t, d, match_t) = any_in same exact p (is_match same p v) members (all_contained (is_met same p members) v case holds i) in
       let parts_s = and_parts (is_in same p (listed (p.candidates_of (p.set_package v))) s) (not (p.matches v s)) o in
       let parts_t = and_parts (is_in same p (listed (p.candidates_of (p.set_package v))) t) (p.matches v t) match_t in
-      match_is v t s match_t o (is_single.one t s d here (candidate_named same exact p end.lawful _ t parts_t.0 ∙ sym (candidate_named same exact p end.lawful _ s parts_s.0)))
+      let of_t = candidate_named same exact p end.lawful (p.set_package v) t parts_t.0 in
+      match_is v t s match_t o (is_single.one t s d here (of_t ∙ sym (candidate_named same exact p end.lawful (p.set_package v) s parts_s.0)) (subst (λ (n : N). is_many p n ≡ false) (sym of_t) unmarked))
 
   -- no candidate: the literals of the candidates are false
   candidates_false : (r : Requirement) → ((s : S) → meets same p r s ≡ true → ⊥) → AreFalse known (candidate_literals same p (alternatives_of p.members_of r))
@@ -118,7 +120,7 @@ module _ {N S : Type 0} (same : S → S → Bool) (exact : IsExact same) (same_n
       elim (end.encoded.need parent need case m a c holds) [
         | inl r ↦ by_clause parent need case r m holds
         | inr (inl (s, is, g, r)) ↦ by_gate s need.requirement g r (subst (λ x. is_member same p root members x ≡ true) is m)
-        | inr (inr (s, v, is, i, o)) ↦ absurd (not_self s v case (subst (λ x. is_member same p root members x ≡ true) is m) i o holds)
+        | inr (inr (s, v, is, i, o, unmarked)) ↦ absurd (not_self s v case (subst (λ x. is_member same p root members x ≡ true) is m) i o unmarked holds)
       ]
 
   limits_are_kept : (parent : Option S) (v : VersionSetId) (s : S) → is_member same p root members parent ≡ true → Contains (rules_for same p root parent).constraints v → is_in same p members s ≡ true → is_outside same p v s ≡ false
@@ -142,6 +144,7 @@ module _ {N S : Type 0} (same : S → S → Bool) (exact : IsExact same) (same_n
   digit_atom n bit (Atom.gate s) h = absurd (both_ways false refl h)
   digit_atom n bit (Atom.outside s) h = absurd (both_ways false refl h)
   digit_atom n bit (Atom.any_of s) h = absurd (both_ways false refl h)
+  digit_atom n bit (Atom.matches s) h = absurd (both_ways false refl h)
   digit_atom n bit (Atom.digit m other) h =
       let parts = and_parts (same_name n m) (bit == other) h in
       let e : n ≡ m = names.one n m parts.0 in
@@ -187,7 +190,7 @@ module _ {N S : Type 0} (same : S → S → Bool) (exact : IsExact same) (same_n
       elim (end.encoded.need n.parent n.need case n.member n.is_rule c holds) [
         | inl r ↦ both_ways _ (forbidden_out s (end.register.forbid n.need.requirement n.version_set s (inl (n.parent, n.need, case, r, refl)) n.alternative forbidden)) i
         | inr (inl (q, is, g, r)) ↦ both_ways _ (forbidden_out s (end.register.forbid n.need.requirement n.version_set s (inr r) n.alternative forbidden)) i
-        | inr (inr (q, v, is, j, o)) ↦ not_self q v case (subst (λ x. is_member same p root members x ≡ true) is n.member) j o holds
+        | inr (inr (q, v, is, j, o, unmarked)) ↦ not_self q v case (subst (λ x. is_member same p root members x ≡ true) is n.member) j o unmarked holds
       ]
 
   -- the members but one

@@ -8,7 +8,7 @@ use Rattle.resolvo_pool_core.specs.declared.requirement.Requirement.{Requirement
 use Rattle.resolvo_pool_core.specs.OnePass.{Literal, is_true_at, clause_true}
 use Rattle.resolvo_pool_core.specs.Provider.{listed}
 use Rattle.resolvo_pool_core.specs.Text.{alternatives_of}
-use Rattle.resolvo_pool_core.specs.RuleKeeping.{Packages, Rules, IsLawful, is_in, is_match, meets, is_member, IsSingle}
+use Rattle.resolvo_pool_core.specs.RuleKeeping.{Packages, Rules, IsLawful, is_in, is_match, meets, is_member, IsSingle, is_many}
 use Rattle.resolvo_sat.specs.RuleClauses.{IsExact, Atom, Rule, plus, minus, literals_of, IsRule, value, shown, AgreeWith}
 use Rattle.resolvo_sat.specs.SearchEnd.{IsCalledFor, IsTrail, IsEnd}
 use Rattle.resolvo_sat.specs.First.{IsFirst, IsTriedBefore, TriesMatches, order, AreTriedBy, HoldsFirst, IsFirstChoices, IsFirstPick, IsUnbeaten, IsReachedOnce, ArePreferred}
@@ -58,8 +58,8 @@ module _ {N S : Type 0} (same : S → S → Bool) (exact : IsExact same) (p : Pa
   })
 
   -- two matches of the only alternative of a requirement, both members of a single set, are one
-  one_match : (first : List S) (vs : List VersionSetId) (v : VersionSetId) (s t : S) → IsLawful p → IsSingle same p first → vs ≡ v ∷ [] → list_any (λ x. is_match same p x s) vs ≡ true → list_any (λ x. is_match same p x t) vs ≡ true → is_in same p first s ≡ true → is_in same p first t ≡ true → s ≡ t
-  one_match first vs v s t law single e a b c d = single.one s t c d (name s a ∙ sym (name t b))
+  one_match : (first : List S) (vs : List VersionSetId) (v : VersionSetId) (s t : S) → IsLawful p → ((n : N) → is_many p n ≡ false) → IsSingle same p first → vs ≡ v ∷ [] → list_any (λ x. is_match same p x s) vs ≡ true → list_any (λ x. is_match same p x t) vs ≡ true → is_in same p first s ≡ true → is_in same p first t ≡ true → s ≡ t
+  one_match first vs v s t law unmarked single e a b c d = single.one s t c d (name s a ∙ sym (name t b)) (unmarked (p.package_of s))
     where
       name : (n : S) → list_any (λ x. is_match same p x n) vs ≡ true → p.package_of n ≡ p.set_package v
       name n h = elim (or_cases (is_match same p v n) false (subst (λ (xs : List VersionSetId). list_any (λ x. is_match same p x n) xs ≡ true) e h)) [
@@ -149,7 +149,7 @@ module _ {N S : Type 0} (same : S → S → Bool) (exact : IsExact same) (p : Pa
             let bound = binds_grows same exact p root first members need inside b in
             let (v, alone) = f.alone parent need up n bound in
             let meeting : meets same p need.requirement g ≡ true = sym (order_meets need.requirement g) ∙ first_in need.requirement g i in
-            let is : t ≡ g = one_match first (alternatives_of p.members_of need.requirement) v t g end.lawful f.keeping.single alone e meeting (inside t c) (f.holds parent need g up n bound i) in
+            let is : t ≡ g = one_match first (alternatives_of p.members_of need.requirement) v t g end.lawful f.unmarked f.keeping.single alone e meeting (inside t c) (f.holds parent need g up n bound i) in
             subst (λ x. is_in same p members x ≡ true) is c
 
         -- At the end of a turn without soft requirements the members are the first choices.

@@ -1,9 +1,9 @@
 -- Members of sets, literals of solvables, and truth under a valuation.
 use Rattle.std.proofs.Common.{◌≡◌, ℕ, zero, suc, ◌⊎◌, inl, inr, Bool, true, false, not, ◌&&◌, ◌||◌, List, [], ◌∷◌, ◌++◌, filter, Option, Some, None, refl, sym, ◌∙◌, ap, subst, eqb-true, eq-eqb}
-use Rattle.std.specs.Prelude.{Contains}
+use Rattle.std.specs.Prelude.{cond, Contains}
 use Rattle.std.specs.List.{list_any}
 use Rattle.std.specs.Bool.{beq}
-use Rattle.std.proofs.lemmas.Bool.{or_cases, or_left, or_right, and_parts, and_from, both_ways}
+use Rattle.std.proofs.lemmas.Bool.{or_cases, or_left, or_right, and_parts, and_from, both_ways, cases_Bool}
 use Rattle.std.proofs.lemmas.List.Elements.{All-contains}
 use Rattle.resolvo_pool_core.specs.declared.id.StringId.{StringId}
 use Rattle.resolvo_pool_core.specs.declared.id.VersionSetId.{VersionSetId}
@@ -16,11 +16,11 @@ use Rattle.resolvo_pool_core.specs.declared.requirement.Requirement.{Requirement
 use Rattle.resolvo_pool_core.specs.declared.requirement.Requirement.TheVariants.{Single, Union}
 use Rattle.resolvo_pool_core.specs.OnePass.{Literal, negate, is_true_at, clause_true}
 use Rattle.resolvo_pool_core.specs.Provider.{Listing, listed, AreOf}
-use Rattle.resolvo_pool_core.specs.RuleKeeping.{Packages, IsLawful, truth_of, is_in, is_match, is_outside, is_met, listing_for, locks_out, is_forbidden, is_unknown, holds_within, binds_under, binds}
+use Rattle.resolvo_pool_core.specs.RuleKeeping.{Packages, IsLawful, is_many, truth_of, is_in, is_match, is_outside, is_met, listing_for, locks_out, is_forbidden, is_unknown, holds_within, binds_under, binds}
 use Rattle.resolvo_store_core.specs.Cases.{truth_within}
 use Rattle.resolvo_store_core.proofs.CaseLaws.{exact_cases}
-use Rattle.resolvo_sat.specs.RuleClauses.{IsExact, Atom, plus, minus, solvables, has_condition, same_requirement, has_plain_need, cases_under, cases_for, case_holds, case_literals, candidate_literals, ForbidReason, KeepsOut}
-use Rattle.resolvo_sat.proofs.Lists.{contains_first, contains_later, contains_none, contains_cases, contains_left, contains_right, contains_parts, contains_map, map_contains, contains_filter, filter_contains, any_contained, contained_any, none_contained}
+use Rattle.resolvo_sat.specs.RuleClauses.{IsExact, Atom, plus, minus, solvables, has_condition, same_requirement, has_plain_need, cases_under, cases_for, case_holds, outside_literals, set_literals, case_literals, candidate_literals, ForbidReason, KeepsOut}
+use Rattle.resolvo_sat.proofs.Lists.{contains_first, contains_later, contains_none, contains_cases, contains_one, contains_only, contains_left, contains_right, contains_parts, contains_map, map_contains, contains_filter, filter_contains, any_contained, contained_any, none_contained}
 
 -- a solvable that is kept out is forbidden, or its dependencies are unknown
 pub kept_out : {N S : Type 0} (same : S → S → Bool) → IsExact same → (p : Packages N S) (w : ForbidReason S) (s : S) → KeepsOut same p w s → (is_forbidden same p s || is_unknown (p.dependencies_of s)) ≡ true
@@ -142,32 +142,60 @@ module _ {N S : Type 0} (same : S → S → Bool) (exact : IsExact same) (p : Pa
         | inr b ↦ let (s, q, c) = candidate_from vs l b in (s, q, or_right _ _ c)
       ]
 
-  -- the literals of a case: no candidate of a version set's package, or one outside it
-  pub any_in_case : (vs : List VersionSetId) (v : VersionSetId) → Contains vs v → Contains (case_literals same p vs) (minus (Atom.any_of (p.set_package v)))
-  any_in_case [] v a = absurd (contains_none v a)
-  any_in_case (w ∷ vs) v a = elim (contains_cases v w vs a) [
-    | inl e ↦ contains_first _ _ _ (ap (λ x. minus (Atom.any_of (p.set_package x))) (sym e))
-    | inr b ↦ contains_later _ _ _ (contains_right _ (solvables (filter (λ s. not (p.matches w s)) (listed (p.candidates_of (p.set_package w))))) _ (any_in_case vs v b))
+  -- the literals of a version set, of a package that isn't marked `many` and of one that is
+  set_unmarked : (v : VersionSetId) → is_many p (p.set_package v) ≡ false → set_literals same p v ≡ outside_literals same p v
+  set_unmarked v e = ap (λ (b : Bool). cond b (minus (Atom.matches v) ∷ []) (outside_literals same p v)) e
+
+  set_marked : (v : VersionSetId) → is_many p (p.set_package v) ≡ true → set_literals same p v ≡ minus (Atom.matches v) ∷ []
+  set_marked v e = ap (λ (b : Bool). cond b (minus (Atom.matches v) ∷ []) (outside_literals same p v)) e
+
+  -- a literal of a version set of a case is one of the case
+  set_in_case : (vs : List VersionSetId) (v : VersionSetId) (l : Literal (Atom N S)) → Contains vs v → Contains (set_literals same p v) l → Contains (case_literals same p vs) l
+  set_in_case [] v l a b = absurd (contains_none v a)
+  set_in_case (w ∷ vs) v l a b = elim (contains_cases v w vs a) [
+    | inl e ↦ contains_left l (set_literals same p w) (case_literals same p vs) (subst (λ (x : VersionSetId). Contains (set_literals same p x) l) e b)
+    | inr c ↦ contains_right l (set_literals same p w) (case_literals same p vs) (set_in_case vs v l c b)
   ]
 
-  pub outside_in_case : (vs : List VersionSetId) (v : VersionSetId) (s : S) → Contains vs v → is_outside same p v s ≡ true → Contains (case_literals same p vs) (plus (Atom.solvable s))
-  outside_in_case [] v s a o = absurd (contains_none v a)
-  outside_in_case (w ∷ vs) v s a o = elim (contains_cases v w vs a) [
-    | inl e ↦
-        let here : is_outside same p w s ≡ true = subst (λ x. is_outside same p x s ≡ true) e o in
-        let parts = and_parts (is_in same p (listed (p.candidates_of (p.set_package w))) s) (not (p.matches w s)) here in
-        contains_later _ _ _ (contains_left _ _ _ (solvable_listed (λ x. not (p.matches w x)) (listed (p.candidates_of (p.set_package w))) s parts.0 parts.1))
-    | inr b ↦ contains_later _ _ _ (contains_right _ (solvables (filter (λ x. not (p.matches w x)) (listed (p.candidates_of (p.set_package w))))) _ (outside_in_case vs v s b o))
+  -- the literals of a case: no candidate of a version set's package, or one outside it; or, of a
+  -- package that is marked `many`, no match
+  pub any_in_case : (vs : List VersionSetId) (v : VersionSetId) → Contains vs v → is_many p (p.set_package v) ≡ false → Contains (case_literals same p vs) (minus (Atom.any_of (p.set_package v)))
+  any_in_case vs v a e = set_in_case vs v (minus (Atom.any_of (p.set_package v))) a
+      (subst (λ (ls : List (Literal (Atom N S))). Contains ls (minus (Atom.any_of (p.set_package v)))) (sym (set_unmarked v e)) (contains_first _ _ _ refl))
+
+  pub outside_in_case : (vs : List VersionSetId) (v : VersionSetId) (s : S) → Contains vs v → is_many p (p.set_package v) ≡ false → is_outside same p v s ≡ true → Contains (case_literals same p vs) (plus (Atom.solvable s))
+  outside_in_case vs v s a e o =
+      let parts = and_parts (is_in same p (listed (p.candidates_of (p.set_package v))) s) (not (p.matches v s)) o in
+      set_in_case vs v (plus (Atom.solvable s)) a
+      (subst (λ (ls : List (Literal (Atom N S))). Contains ls (plus (Atom.solvable s))) (sym (set_unmarked v e))
+      (contains_later _ _ _ (solvable_listed (λ x. not (p.matches v x)) (listed (p.candidates_of (p.set_package v))) s parts.0 parts.1)))
+
+  pub matches_in_case : (vs : List VersionSetId) (v : VersionSetId) → Contains vs v → is_many p (p.set_package v) ≡ true → Contains (case_literals same p vs) (minus (Atom.matches v))
+  matches_in_case vs v a e = set_in_case vs v (minus (Atom.matches v)) a
+      (subst (λ (ls : List (Literal (Atom N S))). Contains ls (minus (Atom.matches v))) (sym (set_marked v e)) (contains_only (minus (Atom.matches v))))
+
+  -- the literal is one of the version set, whose package is marked `many` or isn't
+  abbrev pub IsSetLiteral : VersionSetId → Literal (Atom N S) → Type 0
+  IsSetLiteral v l = ((is_many p (p.set_package v) ≡ true) × (l ≡ minus (Atom.matches v)))
+      ⊎ ((is_many p (p.set_package v) ≡ false) × ((l ≡ minus (Atom.any_of (p.set_package v))) ⊎ ((s : S) × (l ≡ plus (Atom.solvable s)) × (is_outside same p v s ≡ true))))
+
+  in_outside : (v : VersionSetId) (l : Literal (Atom N S)) → Contains (outside_literals same p v) l → (l ≡ minus (Atom.any_of (p.set_package v))) ⊎ ((s : S) × (l ≡ plus (Atom.solvable s)) × (is_outside same p v s ≡ true))
+  in_outside v l a = elim (contains_cases l _ _ a) [
+    | inl e ↦ inl e
+    | inr b ↦ let (s, q, i, t) = listed_solvable (λ x. not (p.matches v x)) (listed (p.candidates_of (p.set_package v))) l b in inr (s, q, and_from _ _ i t)
   ]
 
-  pub in_case : (vs : List VersionSetId) (l : Literal (Atom N S)) → Contains (case_literals same p vs) l → (v : VersionSetId) × Contains vs v × ((l ≡ minus (Atom.any_of (p.set_package v))) ⊎ ((s : S) × (l ≡ plus (Atom.solvable s)) × (is_outside same p v s ≡ true)))
+  in_set : (v : VersionSetId) (l : Literal (Atom N S)) → Contains (set_literals same p v) l → IsSetLiteral v l
+  in_set v l a = elim (cases_Bool (is_many p (p.set_package v))) [
+    | inl e ↦ inl (e, contains_one l (minus (Atom.matches v)) (subst (λ (ls : List (Literal (Atom N S))). Contains ls l) (set_marked v e) a))
+    | inr e ↦ inr (e, in_outside v l (subst (λ (ls : List (Literal (Atom N S))). Contains ls l) (set_unmarked v e) a))
+  ]
+
+  pub in_case : (vs : List VersionSetId) (l : Literal (Atom N S)) → Contains (case_literals same p vs) l → (v : VersionSetId) × Contains vs v × IsSetLiteral v l
   in_case [] l a = absurd (contains_none l a)
-  in_case (w ∷ vs) l a = elim (contains_cases l _ _ a) [
-    | inl e ↦ (w, contains_first w w vs refl, inl e)
-    | inr b ↦ elim (contains_parts l (solvables (filter (λ s. not (p.matches w s)) (listed (p.candidates_of (p.set_package w))))) (case_literals same p vs) b) [
-      | inl c ↦ let (s, q, i, t) = listed_solvable (λ x. not (p.matches w x)) (listed (p.candidates_of (p.set_package w))) l c in (w, contains_first w w vs refl, inr (s, q, and_from _ _ i t))
-      | inr c ↦ let (v, i, d) = in_case vs l c in (v, contains_later v w vs i, d)
-    ]
+  in_case (w ∷ vs) l a = elim (contains_parts l (set_literals same p w) (case_literals same p vs) a) [
+    | inl b ↦ (w, contains_first w w vs refl, in_set w l b)
+    | inr b ↦ let (v, i, d) = in_case vs l b in (v, contains_later v w vs i, d)
   ]
 
   within_same : (n : ℕ) (chosen : List S) (c : ConditionId) → holds_within same p n chosen c ≡ truth_within (is_met same p chosen) p.condition_of n c

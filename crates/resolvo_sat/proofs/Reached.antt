@@ -8,11 +8,11 @@ use Rattle.resolvo_pool_core.specs.declared.requirement.Requirement.{Requirement
 use Rattle.resolvo_pool_core.specs.OnePass.{Literal, negate, is_true_at, clause_true}
 use Rattle.resolvo_pool_core.specs.Provider.{listed}
 use Rattle.resolvo_pool_core.specs.Text.{alternatives_of}
-use Rattle.resolvo_pool_core.specs.RuleKeeping.{Packages, Rules, rules_of, is_in, is_match, is_met, meets, binds, rules_for, is_member, Obeys, IsClosed}
+use Rattle.resolvo_pool_core.specs.RuleKeeping.{Packages, Rules, is_many, rules_of, is_in, is_match, is_met, meets, binds, rules_for, is_member, Obeys, IsClosed}
 use Rattle.resolvo_sat.specs.RuleClauses.{IsExact, Atom, Rule, plus, minus, case_holds, case_literals, candidate_literals, parent_literals, literals_of, has_plain_need, IsRule, value}
 use Rattle.resolvo_sat.specs.SearchEnd.{IsTrueParent, HasClause, IsAsked, asking, IsCalledFor, IsForced, IsTrail, AreRegistered}
 use Rattle.resolvo_sat.proofs.Lists.{contains_none, contains_cases, contains_one, contains_parts, contains_first, contains_later, all_contained, contained_all}
-use Rattle.resolvo_sat.proofs.Members.{plus_true, true_plus, true_minus, made_by, not_both, negate-negate, any_in, in_any, any_in_case, outside_in_case, candidate_from, binds_case, case_binds, asked}
+use Rattle.resolvo_sat.proofs.Members.{plus_true, true_plus, true_minus, made_by, not_both, negate-negate, any_in, in_any, any_in_case, outside_in_case, matches_in_case, candidate_from, binds_case, case_binds, asked}
 
 module _ {N S : Type 0} (same : S → S → Bool) (exact : IsExact same) (p : Packages N S) (root : Rules) where
   -- a member of the part is a member
@@ -45,13 +45,19 @@ module _ {N S : Type 0} (same : S → S → Bool) (exact : IsExact same) (p : Pa
   pub case_from_false : (digits : N → ℕ → Bool) (part : List S) (case : List VersionSetId) → ((l : Literal (Atom N S)) → Contains (case_literals same p case) l → is_true_at (value same p digits part) (negate l) ≡ true) → case_holds same p part case ≡ true
   case_from_false digits part case f = contained_all (is_met same p part) case holds
     where
-      holds : (v : VersionSetId) → Contains case v → is_met same p part v ≡ true
-      holds v a =
-          let (s, c, there) = any_in same exact p (is_in same p (listed (p.candidates_of (p.set_package v)))) part (true_plus _ (f (minus (Atom.any_of (p.set_package v))) (any_in_case same exact p case v a))) in
+      unmarked : (v : VersionSetId) → Contains case v → is_many p (p.set_package v) ≡ false → is_met same p part v ≡ true
+      unmarked v a m =
+          let (s, c, there) = any_in same exact p (is_in same p (listed (p.candidates_of (p.set_package v)))) part (true_plus _ (f (minus (Atom.any_of (p.set_package v))) (any_in_case same exact p case v a m))) in
           elim (cases_Bool (p.matches v s)) [
             | inl e ↦ in_any same exact p (is_match same p v) s part c (and_from _ _ there e)
-            | inr e ↦ absurd (both_ways _ (true_minus _ (f (plus (Atom.solvable s)) (outside_in_case same exact p case v s a (and_from _ _ there (not_from_false _ e))))) c)
+            | inr e ↦ absurd (both_ways _ (true_minus _ (f (plus (Atom.solvable s)) (outside_in_case same exact p case v s a m (and_from _ _ there (not_from_false _ e))))) c)
           ]
+
+      holds : (v : VersionSetId) → Contains case v → is_met same p part v ≡ true
+      holds v a = elim (cases_Bool (is_many p (p.set_package v))) [
+        | inl m ↦ true_plus _ (f (minus (Atom.matches v)) (matches_in_case same exact p case v a m))
+        | inr m ↦ unmarked v a m
+      ]
 
   module _ (rules : Rule N S → Type 0) where
     -- under the values of a part in which what is known is true, a requirement that is asked for is one of a member and binds
@@ -59,7 +65,7 @@ module _ {N S : Type 0} (same : S → S → Bool) (exact : IsExact same) (p : Pa
         → ((m : Literal (Atom N S)) → Contains known m → is_true_at (value same p digits part) m ≡ true) → IsAsked same p rules known r
         → (parent : Option S) × (need : ConditionalRequirement) × (is_member same p root part parent ≡ true) × Contains (rules_for same p root parent).requirements need × (binds same p part need ≡ true) × (r ≡ need.requirement)
     asked_binds digits part known r rule ih (inl k) =
-        let (n, c) = rule (Rule.needs k.parent k.need k.case) k.present in
+        let (n, c, matched) = rule (Rule.needs k.parent k.need k.case) k.present in
         let holds = case_from_false digits part k.case (λ m b. ih (negate m) (k.holds m b)) in
         (k.parent, k.need, chosen k.parent k.chosen, n, case_binds same exact p part k.need k.case c holds, k.asks)
       where
@@ -134,6 +140,7 @@ module _ {N S : Type 0} (same : S → S → Bool) (exact : IsExact same) (p : Pa
       solvable_of (Atom.gate n) = None
       solvable_of (Atom.outside n) = None
       solvable_of (Atom.any_of n) = None
+      solvable_of (Atom.matches v) = None
       solvable_of (Atom.digit n m) = None
 
       some_one : (s t : S) → Some s ≡ Some t → s ≡ t

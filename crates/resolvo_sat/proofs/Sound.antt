@@ -7,10 +7,10 @@ use Rattle.resolvo_pool_core.specs.declared.id.VersionSetId.{VersionSetId}
 use Rattle.resolvo_pool_core.specs.OnePass.{Literal, is_true_at, clause_true}
 use Rattle.resolvo_pool_core.specs.Provider.{listed}
 use Rattle.resolvo_pool_core.specs.Text.{alternatives_of}
-use Rattle.resolvo_pool_core.specs.RuleKeeping.{Packages, Rules, rules_of, is_unknown, is_forbidden, is_in, is_match, is_outside, is_met, meets, is_member, IsSingle, Obeys, IsRuleKeeping}
+use Rattle.resolvo_pool_core.specs.RuleKeeping.{Packages, Rules, is_many, rules_of, is_unknown, is_forbidden, is_in, is_match, is_outside, is_met, meets, is_member, IsSingle, Obeys, IsRuleKeeping}
 use Rattle.resolvo_sat.specs.RuleClauses.{IsExact, Atom, Rule, plus, minus, parent_literals, has_plain_need, case_holds, case_literals, candidate_literals, literals_of, is_asked, value, Fits, shown, IsRule, AgreeWith}
 use Rattle.resolvo_sat.proofs.Lists.{contains_first, contains_later, contains_only, contains_second, all_fails}
-use Rattle.resolvo_sat.proofs.Members.{plus_true, minus_true, makes, made_left, made_right, any_in, in_any, none_in, candidate_in, any_in_case, outside_in_case, case_binds, asked, kept_out}
+use Rattle.resolvo_sat.proofs.Members.{plus_true, minus_true, makes, made_left, made_right, any_in, in_any, none_in, candidate_in, any_in_case, outside_in_case, matches_in_case, case_binds, asked, kept_out}
 
 module _ {N S : Type 0} (same : S → S → Bool) (exact : IsExact same) (p : Packages N S) where
   -- the solvable's denial is true, or it is in the set
@@ -29,19 +29,25 @@ module _ {N S : Type 0} (same : S → S → Bool) (exact : IsExact same) (p : Pa
   pub case_cases : (digits : N → ℕ → Bool) (chosen : List S) (vs : List VersionSetId) → (clause_true (value same p digits chosen) (case_literals same p vs) ≡ true) ⊎ (case_holds same p chosen vs ≡ true)
   case_cases digits chosen vs = elim (cases_Bool (case_holds same p chosen vs)) [ inl e ↦ inr e | inr e ↦ inl (fails e) ]
     where
-      there : (v : VersionSetId) → Contains vs v → is_met same p chosen v ≡ false → list_any (is_in same p (listed (p.candidates_of (p.set_package v)))) chosen ≡ true → clause_true (value same p digits chosen) (case_literals same p vs) ≡ true
-      there v a f e =
+      there : (v : VersionSetId) → Contains vs v → is_many p (p.set_package v) ≡ false → is_met same p chosen v ≡ false → list_any (is_in same p (listed (p.candidates_of (p.set_package v)))) chosen ≡ true → clause_true (value same p digits chosen) (case_literals same p vs) ≡ true
+      there v a m f e =
           let (s, c, here) = any_in same exact p (is_in same p (listed (p.candidates_of (p.set_package v)))) chosen e in
           let no_match : is_match same p v s ≡ false = none_in same exact p (is_match same p v) s chosen c f in
           let fails : p.matches v s ≡ false = elim (and_cases (is_in same p (listed (p.candidates_of (p.set_package v))) s) (p.matches v s) no_match) [ inl x ↦ absurd (both_ways _ x here) | inr x ↦ x ] in
-          makes (value same p digits chosen) (case_literals same p vs) (plus (Atom.solvable s)) (outside_in_case same exact p vs v s a (and_from _ _ here (not_from_false _ fails))) (plus_true _ c)
+          makes (value same p digits chosen) (case_literals same p vs) (plus (Atom.solvable s)) (outside_in_case same exact p vs v s a m (and_from _ _ here (not_from_false _ fails))) (plus_true _ c)
+
+      unmarked : (v : VersionSetId) → Contains vs v → is_many p (p.set_package v) ≡ false → is_met same p chosen v ≡ false → clause_true (value same p digits chosen) (case_literals same p vs) ≡ true
+      unmarked v a m f = elim (cases_Bool (list_any (is_in same p (listed (p.candidates_of (p.set_package v)))) chosen)) [
+        | inl e ↦ there v a m f e
+        | inr e ↦ makes (value same p digits chosen) (case_literals same p vs) (minus (Atom.any_of (p.set_package v))) (any_in_case same exact p vs v a m) (minus_true _ e)
+      ]
 
       fails : case_holds same p chosen vs ≡ false → clause_true (value same p digits chosen) (case_literals same p vs) ≡ true
       fails h =
           let (v, a, f) = all_fails (is_met same p chosen) vs h in
-          elim (cases_Bool (list_any (is_in same p (listed (p.candidates_of (p.set_package v)))) chosen)) [
-            | inl e ↦ there v a f e
-            | inr e ↦ makes (value same p digits chosen) (case_literals same p vs) (minus (Atom.any_of (p.set_package v))) (any_in_case same exact p vs v a) (minus_true _ e)
+          elim (cases_Bool (is_many p (p.set_package v))) [
+            | inl m ↦ makes (value same p digits chosen) (case_literals same p vs) (minus (Atom.matches v)) (matches_in_case same exact p vs v a m) (minus_true _ f)
+            | inr m ↦ unmarked v a m f
           ]
 
   -- a clause of two literals, the first of which denies a solvable
@@ -59,7 +65,7 @@ module _ {N S : Type 0} (same : S → S → Bool) (exact : IsExact same) (p : Pa
     -- the clause of a rule is true under the values of a set that obeys the rules, whatever the digits of other packages are
     pub clause_holds : (rules : Rule N S → Type 0) (digits : N → ℕ → Bool) (chosen : List S) (r : Rule N S)
         → Obeys same p root chosen → IsRule same p root r → Fits same p rules digits chosen → rules r → clause_true (value same p digits chosen) (literals_of same p r) ≡ true
-    clause_holds rules digits chosen (Rule.needs parent need vs) o (n, c) f present =
+    clause_holds rules digits chosen (Rule.needs parent need vs) o (n, c, matched) f present =
         let denial : List (Literal (Atom N S)) = parent_literals parent in
         let condition = case_literals same p vs in
         let candidates = candidate_literals same p (alternatives_of p.members_of need.requirement) in
@@ -104,17 +110,18 @@ module _ {N S : Type 0} (same : S → S → Bool) (exact : IsExact same) (p : Pa
     clause_holds rules digits chosen (Rule.has_digit s bit true) o h f present = pair_true digits chosen s (plus (Atom.digit (p.package_of s) bit)) (λ e. plus_true _ (f.by_digits s bit true present e))
     clause_holds rules digits chosen (Rule.has_digit s bit false) o h f present = pair_true digits chosen s (minus (Atom.digit (p.package_of s) bit)) (λ e. minus_true _ (f.by_digits s bit false present e))
     clause_holds rules digits chosen (Rule.is_there n s) o h f present = pair_true digits chosen s (plus (Atom.any_of n)) (λ e. plus_true _ (in_any same exact p (is_in same p (listed (p.candidates_of n))) s chosen e h))
+    clause_holds rules digits chosen (Rule.matches v s) o (of, matching, marked) f present = pair_true digits chosen s (plus (Atom.matches v)) (λ e. plus_true _ (in_any same exact p (is_match same p v) s chosen e matching))
 
-    -- the member's place shows its digits
-    pub shows : (same_name : N → N → Bool) → IsExact same_name → (bits : S → ℕ → Bool) (chosen : List S) (s : S) (bit : ℕ) → IsSingle same p chosen → is_in same p chosen s ≡ true → shown same p same_name bits chosen (p.package_of s) bit ≡ bits s bit
-    shows same_name names bits chosen s bit single c = go (bits s bit) refl
+    -- the member's place shows its digits, unless its package is marked `many`
+    pub shows : (same_name : N → N → Bool) → IsExact same_name → (bits : S → ℕ → Bool) (chosen : List S) (s : S) (bit : ℕ) → IsSingle same p chosen → is_many p (p.package_of s) ≡ false → is_in same p chosen s ≡ true → shown same p same_name bits chosen (p.package_of s) bit ≡ bits s bit
+    shows same_name names bits chosen s bit single unmarked c = go (bits s bit) refl
       where
         go : (b : Bool) → bits s bit ≡ b → shown same p same_name bits chosen (p.package_of s) bit ≡ b
         go true e = in_any same exact p (λ t. same_name (p.package_of s) (p.package_of t) && bits t bit) s chosen c (and_from _ _ (names.own (p.package_of s)) e)
         go false e = false_from_ne_true _ (λ h.
             let (t, i, both) = any_in same exact p (λ t. same_name (p.package_of s) (p.package_of t) && bits t bit) chosen h in
             let parts = and_parts (same_name (p.package_of s) (p.package_of t)) (bits t bit) both in
-            let is : s ≡ t = single.one s t c i (names.one _ _ parts.0) in
+            let is : s ≡ t = single.one s t c i (names.one _ _ parts.0) unmarked in
             both_ways (bits t bit) (subst (λ n. bits n bit ≡ false) is e) parts.1)
 
     -- Soundness: the clauses of rules are true under each rule-keeping set, for each map of places
@@ -126,5 +133,5 @@ module _ {N S : Type 0} (same : S → S → Bool) (exact : IsExact same) (p : Pa
         fits : Fits same p rules (shown same p same_name bits chosen) chosen
         fits = record {
           allowed = λ w s b. false_from_ne_true _ (λ c. elim (or_cases (is_forbidden same p s) (is_unknown (p.dependencies_of s)) (kept_out same exact p w s (rule (Rule.forbids w s) b))) [ inl e ↦ both_ways _ (k.allowed s c) e | inr e ↦ both_ways _ (k.known s c) e ]);
-          by_digits = λ s bit b by_digits c. shows same_name names bits chosen s bit k.single c ∙ agree s bit b by_digits;
+          by_digits = λ s bit b by_digits c. (let (listed, few, unmarked) = rule (Rule.has_digit s bit b) by_digits in shows same_name names bits chosen s bit k.single unmarked c ∙ agree s bit b by_digits);
         }

@@ -27,7 +27,7 @@ use Rattle.resolvo_sat.proofs.GrowLemmas.{clause_stays, called_kept, called_choi
 use Rattle.resolvo_sat.proofs.Meanings.{clause_in_range}
 use Rattle.resolvo_state.specs.declared.atom.ProofAtom.{ProofAtom}
 use Rattle.resolvo_state.specs.declared.clause_kind.ClauseKind.{ClauseKind}
-use Rattle.resolvo_state.specs.declared.clause_kind.ClauseKind.TheVariants.{Root, Needs, Gated, Shared, Limits, LimitsOutside, IsOut, Locked, Excluded, Digit, IsThere, Learnt}
+use Rattle.resolvo_state.specs.declared.clause_kind.ClauseKind.TheVariants.{Root, Needs, Gated, Shared, Limits, LimitsOutside, IsOut, Locked, Excluded, Digit, IsThere, Matches, Learnt}
 use Rattle.resolvo_state.specs.declared.solver_state.SolverState.{SolverState}
 use Rattle.resolvo_state.specs.Atoms.{origin, Represents}
 use Rattle.resolvo_state.specs.ClauseKinds.{rule_of, kind_at, rule_at, rules_in}
@@ -197,6 +197,7 @@ no_rule (Locked locked s) h = absurd cc
 no_rule (Excluded s reason) h = absurd cc
 no_rule (Digit n s place bit) h = absurd cc
 no_rule (IsThere n s) h = absurd cc
+no_rule (Matches v s) h = absurd cc
 no_rule Learnt h = inr refl
 
 -- Each clause that encodes a rule has its literals, and makes registered solvables true alone: then

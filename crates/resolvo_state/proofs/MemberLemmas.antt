@@ -15,7 +15,7 @@ use Rattle.resolvo_state.specs.declared.registry.Member.{Member}
 use Rattle.resolvo_state.specs.Atoms.{Represents}
 use Rattle.resolvo_state.specs.SolverState.{Gives}
 use Rattle.resolvo_state.specs.Keys.{AreOnce, Includes}
-use Rattle.resolvo_state.specs.Registered.{AreTied, IsInTracker, IsTracked, IsQueued, member, Registers}
+use Rattle.resolvo_state.specs.Registered.{AreTied, IsInTracker, IsTracked, IsQueued, member, MarksMany, Registers}
 use Rattle.resolvo_state.proofs.Positions.{get_last, get_contains, contains_get, prefix_get, prefix_same}
 use Rattle.resolvo_state.proofs.RegisterLemmas.{digits_same, ties_grow}
 
@@ -44,7 +44,7 @@ prefix_longer : {X : Type 0} (xs ys : List X) → IsPrefixOf xs ys → length xs
 prefix_longer xs ys (more, is) = let long : length ys ≡ length xs + length more = ap length is ∙ length-append xs more in omega arith
 
 module _ {N S : Type 0} (name : N) (s : S) (v : VariableId) (r t : Registry N) (a b : SolverState N S) (tied : AreTied r a) (gives : Gives (Solvable s) v a b)
-    (includes : Includes r.members.keys t.members.keys (member name v)) (names : t.names ≡ r.names) (trackers : t.trackers ≡ r.trackers) (waits : t.tied ≡ r.tied) where
+    (includes : Includes r.members.keys t.members.keys (member name v)) (names : t.names ≡ r.names) (trackers : t.trackers ≡ r.trackers) (waits : t.tied ≡ r.tied) (many : t.many ≡ r.many) where
   before : AreTied r b
   before = ties_grow r a b gives.grows (digits_same a b gives.kinds) tied
 
@@ -104,8 +104,12 @@ module _ {N S : Type 0} (name : N) (s : S) (v : VariableId) (r t : Registry N) (
       present = h.present;
     }));
     rest = λ m u h. elim (only_this m u h) [
-      | inl k ↦ elim (before.rest m u k) [ inl j ↦ inl (keeps_placed m u j) | inr j ↦ inr (keeps_queued m u j) ]
-      | inr (is, one, queued) ↦ inr queued
+      | inl k ↦ elim (before.rest m u k) [
+        | inl j ↦ inl (keeps_placed m u j)
+        | inr (inl j) ↦ inr (inl (keeps_queued m u j))
+        | inr (inr j) ↦ inr (inr (subst (λ ns. Contains ns.keys m) (sym many) j))
+      ]
+      | inr (is, one, queued) ↦ inr (inl queued)
     ];
   }
 
@@ -122,7 +126,17 @@ module _ {N S : Type 0} (name : N) (s : S) (v : VariableId) (r t : Registry N) (
     keeps = keeps_tracked;
     waits = keeps_queued;
     only = only_this;
+    many = many;
   }
+
+-- a package more is marked
+pub marks_is : {N : Type 0} (name : N) (r t : Registry N) → Includes r.many.keys t.many.keys name → t ≡ record r { many = t.many } → MarksMany name r t
+marks_is name r t includes rest = record {
+  keeps = λ m h. prefix_has r.many.keys t.many.keys m includes.prefix h;
+  marked = includes.present;
+  only = λ m h. elim (includes.only m h) [ inl k ↦ inl k | inr (is, at) ↦ inr is ];
+  rest = rest;
+}
 
 -- an item behind the first ones is among the rest
 drop_has : {X : Type 0} (n k : ℕ) (xs : List X) (x : X) → n ≤ k → slice_get xs k ≡ Some x → Contains (drop n xs) x

@@ -20,13 +20,14 @@ place_found name place r each at = record {
   once = λ once. once;
   members = refl;
   waits = refl;
+  many = refl;
   fresh = λ k t past h. (let within : k < length r.trackers.items = slice_get_within r.trackers.items k t h in absurd (omega arith));
 }
 
 -- a package that is appended
 pub place_pushed : {N : Type 0} (name : N) (place : ℕ) (old new : Registry N) (t : Tracking VariableId) → length old.names.keys ≡ length old.trackers.items → IsPlace old.names.keys name None → place ≡ length old.trackers.items
-    → new.names.keys ≡ old.names.keys ++ name ∷ [] → new.trackers.items ≡ old.trackers.items ++ t ∷ [] → t.variables ≡ [] → t.helpers ≡ [] → new.members ≡ old.members → new.tied ≡ old.tied → PlacesName name place old new
-place_pushed {N} name place old new t each absent at names trackers none helpers members waits = record {
+    → new.names.keys ≡ old.names.keys ++ name ∷ [] → new.trackers.items ≡ old.trackers.items ++ t ∷ [] → t.variables ≡ [] → t.helpers ≡ [] → new.members ≡ old.members → new.tied ≡ old.tied → new.many ≡ old.many → PlacesName name place old new
+place_pushed {N} name place old new t each absent at names trackers none helpers members waits many = record {
   names = (name ∷ [], names);
   trackers = (t ∷ [], trackers);
   each =
@@ -37,6 +38,7 @@ place_pushed {N} name place old new t each absent at names trackers none helpers
   once = λ once. subst (λ (xs : List N). AreOnce xs) (sym names) (once_push old.names.keys name once absent);
   members = members;
   waits = waits;
+  many = many;
   fresh = λ k u past h. elim (get_push old.trackers.items t u k (subst (λ (xs : List (Tracking VariableId)). slice_get xs k ≡ Some u) trackers h)) [
     | inl a ↦ let within : k < length old.trackers.items = slice_get_within old.trackers.items k u a in absurd (omega arith)
     | inr (e, same) ↦ (ap (λ (x : Tracking VariableId). x.variables) same ∙ none, ap (λ (x : Tracking VariableId). x.helpers) same ∙ helpers)

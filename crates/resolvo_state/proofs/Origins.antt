@@ -11,7 +11,7 @@ use Rattle.resolvo_store_core.specs.Signed.{Signed}
 use Rattle.resolvo_sat.specs.RuleClauses.{Atom, plus}
 use Rattle.resolvo_sat.specs.Numbered.{Means, IsOnce}
 use Rattle.resolvo_state.specs.declared.atom.ProofAtom.{ProofAtom}
-use Rattle.resolvo_state.specs.declared.atom.ProofAtom.TheVariants.{Solvable, AtLeastOne, Gate, Outside, Bit}
+use Rattle.resolvo_state.specs.declared.atom.ProofAtom.TheVariants.{Solvable, AtLeastOne, Gate, Outside, Matches, Bit}
 use Rattle.resolvo_state.specs.declared.solver_state.SolverState.{SolverState}
 use Rattle.resolvo_state.specs.Atoms.{atom_of, atom_at, origin, kind_of, Represents, solvable_in, solvable_of, bit_in, bit_of}
 use Rattle.resolvo_state.specs.Keys.{AreOnce}
@@ -24,26 +24,37 @@ atom_of_one (Solvable s) (Solvable t) e = cc
 atom_of_one (Solvable s) (AtLeastOne n) e = absurd cc
 atom_of_one (Solvable s) (Gate r) e = absurd cc
 atom_of_one (Solvable s) (Outside v) e = absurd cc
+atom_of_one (Solvable s) (Matches v) e = absurd cc
 atom_of_one (Solvable s) (Bit n bit) e = absurd cc
 atom_of_one (AtLeastOne m) (Solvable t) e = absurd cc
 atom_of_one (AtLeastOne m) (AtLeastOne n) e = cc
 atom_of_one (AtLeastOne m) (Gate r) e = absurd cc
 atom_of_one (AtLeastOne m) (Outside v) e = absurd cc
+atom_of_one (AtLeastOne m) (Matches v) e = absurd cc
 atom_of_one (AtLeastOne m) (Bit n bit) e = absurd cc
 atom_of_one (Gate q) (Solvable t) e = absurd cc
 atom_of_one (Gate q) (AtLeastOne n) e = absurd cc
 atom_of_one (Gate q) (Gate r) e = cc
 atom_of_one (Gate q) (Outside v) e = absurd cc
+atom_of_one (Gate q) (Matches v) e = absurd cc
 atom_of_one (Gate q) (Bit n bit) e = absurd cc
 atom_of_one (Outside u) (Solvable t) e = absurd cc
 atom_of_one (Outside u) (AtLeastOne n) e = absurd cc
 atom_of_one (Outside u) (Gate r) e = absurd cc
 atom_of_one (Outside u) (Outside v) e = cc
+atom_of_one (Outside u) (Matches v) e = absurd cc
 atom_of_one (Outside u) (Bit n bit) e = absurd cc
+atom_of_one (Matches u) (Solvable t) e = absurd cc
+atom_of_one (Matches u) (AtLeastOne n) e = absurd cc
+atom_of_one (Matches u) (Gate r) e = absurd cc
+atom_of_one (Matches u) (Outside v) e = absurd cc
+atom_of_one (Matches u) (Matches v) e = cc
+atom_of_one (Matches u) (Bit n bit) e = absurd cc
 atom_of_one (Bit m low) (Solvable t) e = absurd cc
 atom_of_one (Bit m low) (AtLeastOne n) e = absurd cc
 atom_of_one (Bit m low) (Gate r) e = absurd cc
 atom_of_one (Bit m low) (Outside v) e = absurd cc
+atom_of_one (Bit m low) (Matches v) e = absurd cc
 atom_of_one (Bit m low) (Bit n bit) e = cc
 
 pub atom_at_place : {N S : Type 0} (atoms : List (ProofAtom N S)) (k : ℕ) (a : ProofAtom N S) → slice_get atoms k ≡ Some a → atom_at atoms k ≡ atom_of a
@@ -116,6 +127,7 @@ represents_solvable {N} {S} atoms v s h = go v.0 refl h
     inside (Some (AtLeastOne n)) e = absurd cc
     inside (Some (Gate r)) e = absurd cc
     inside (Some (Outside u)) e = absurd cc
+    inside (Some (Matches u)) e = absurd cc
     inside (Some (Bit n bit)) e = absurd cc
 
     go : (n : ℕ) → v.0 ≡ n → solvable_of atoms n ≡ Some s → Represents atoms v (Solvable s)

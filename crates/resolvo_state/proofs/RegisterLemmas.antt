@@ -28,7 +28,7 @@ use Rattle.resolvo_state.specs.Atoms.{origin, Represents}
 use Rattle.resolvo_state.specs.Keys.{AreOnce}
 use Rattle.resolvo_state.specs.ClauseKinds.{kind_at, rule_at, rules_in}
 use Rattle.resolvo_state.specs.SolverState.{IsCoding, Grows, Gives}
-use Rattle.resolvo_state.specs.Registered.{digit_literals, IsTied, IsPlaced, AreTied, IsInTracker, IsTracked, IsQueued, IsRegistered, member, IsNothing, IsDigitClause, Registers, Places, PlacesName, IsTieClause, Tracks}
+use Rattle.resolvo_state.specs.Registered.{digit_literals, IsTied, IsPlaced, AreTied, IsInTracker, IsTracked, IsQueued, IsMany, IsRegistered, member, IsNothing, IsDigitClause, Registers, Places, PlacesName, IsTieClause, Tracks}
 use Rattle.resolvo_state.proofs.Positions.{get_old, get_push, get_contains, contains_get, prefix_get, prefix_same, once_none}
 use Rattle.resolvo_state.proofs.Origins.{represents_same, one_variable, means_atom}
 use Rattle.resolvo_state.proofs.Growth.{grows_then, trail_then, represents_grow, represents_once, rules_grow, kind_split, below_or_not}
@@ -172,7 +172,8 @@ module _ {N S : Type 0} (name : N) (place : ℕ) (r r1 : Registry N) (a : Solver
         tracked = prefix_get r.trackers.items r1.trackers.items k.place k.tracker places.trackers k.tracked;
         present = k.present;
       })
-      | inr (k, low, at) ↦ inr (k, subst (λ j. j ≤ k) (sym places.waits) low, subst (λ ms. slice_get ms.keys k ≡ Some (member m v)) (sym places.members) at)
+      | inr (inl (k, low, at)) ↦ inr (inl (k, subst (λ j. j ≤ k) (sym places.waits) low, subst (λ ms. slice_get ms.keys k ≡ Some (member m v)) (sym places.members) at))
+      | inr (inr k) ↦ inr (inr (subst (λ ns. Contains ns.keys m) (sym places.many) k))
     ];
   }
 
@@ -225,7 +226,7 @@ same_or_other k n = elim (cases_Bool (k == n)) [ inl e ↦ inl (eqb-true k n e) 
 module _ {N S : Type 0} (name : N) (s : S) (v : VariableId) (place : ℕ) (r r1 r2 : Registry N) (t u : Tracking VariableId) (a b c : SolverState N S)
     (tied : AreTied r a) (places : PlacesName name place r r1) (gives : Gives (Solvable s) v a b) (tracks : Tracks name v t b u c) (there : slice_get r1.trackers.items place ≡ Some t)
     (names : r2.names ≡ r1.names) (here : slice_get r2.trackers.items place ≡ Some u) (others : (k : ℕ) → (k ≡ place → ⊥) → slice_get r2.trackers.items k ≡ slice_get r1.trackers.items k) (long : length r2.trackers.items ≡ length r1.trackers.items)
-    (members : r2.members ≡ r1.members) (waits : r2.tied ≡ r1.tied) (given : IsRegistered r a name s) where
+    (members : r2.members ≡ r1.members) (waits : r2.tied ≡ r1.tied) (many : r2.many ≡ r1.many) (given : IsRegistered r a name s) where
   named : (k : ℕ) (m : N) → slice_get r2.names.keys k ≡ Some m → slice_get r1.names.keys k ≡ Some m
   named k m h = subst (λ n. slice_get n.keys k ≡ Some m) names h
 
@@ -354,7 +355,8 @@ module _ {N S : Type 0} (name : N) (s : S) (v : VariableId) (place : ℕ) (r r1 
     ];
     rest = λ m w h. elim (tied.rest m w (registered_first m w h)) [
       | inl k ↦ inl (placed_keeps m w k)
-      | inr (k, low, at) ↦ inr (k, subst (λ j. j ≤ k) (sym (waits ∙ places.waits)) low, subst (λ ms. slice_get ms.keys k ≡ Some (member m w)) (sym (members ∙ places.members)) at)
+      | inr (inl (k, low, at)) ↦ inr (inl (k, subst (λ j. j ≤ k) (sym (waits ∙ places.waits)) low, subst (λ ms. slice_get ms.keys k ≡ Some (member m w)) (sym (members ∙ places.members)) at))
+      | inr (inr k) ↦ inr (inr (subst (λ ns. Contains ns.keys m) (sym (many ∙ places.many)) k))
     ];
   }
 
@@ -380,6 +382,7 @@ module _ {N S : Type 0} (name : N) (s : S) (v : VariableId) (place : ℕ) (r r1 
     tied = tied_after;
     members = members ∙ places.members;
     waits = waits ∙ places.waits;
+    many = many ∙ places.many;
     variable = v;
     present = represents_grow b c v (Solvable s) tracks.grows gives.present;
     placed = in_place v tracks.tracked;
@@ -391,15 +394,15 @@ module _ {N S : Type 0} (name : N) (s : S) (v : VariableId) (place : ℕ) (r r1 
 abbrev pub ArePlaced : {N : Type 0} → Registry N → Type 0
 ArePlaced {N} r = (name : N) (v : VariableId) → IsQueued r name v → ⊥
 
--- so one that is registered is in its package's tracker
-in_tracker : {N S : Type 0} (r : Registry N) (c : SolverState N S) (name : N) (v : VariableId) → AreTied r c → ArePlaced r → IsTracked r name v → IsInTracker r name v
-in_tracker r c name v tied placed h = elim (tied.rest name v h) [ inl k ↦ k | inr w ↦ absurd (placed name v w) ]
+-- so one that is registered is in its package's tracker, unless this is marked
+in_tracker : {N S : Type 0} (r : Registry N) (c : SolverState N S) (name : N) (v : VariableId) → AreTied r c → ArePlaced r → (IsMany r name → ⊥) → IsTracked r name v → IsInTracker r name v
+in_tracker r c name v tied placed unmarked h = elim (tied.rest name v h) [ inl k ↦ k | inr (inl w) ↦ absurd (placed name v w) | inr (inr m) ↦ absurd (unmarked m) ]
 
--- Two registered solvables of one package are the same, or differ in a digit.
-pub by_digits : {N S : Type 0} (r : Registry N) (c : SolverState N S) (name : N) (s t : S) → AreTied r c → ArePlaced r → IsRegistered r c name s → IsRegistered r c name t → (s ≡ t) ⊎ DifferInDigit (rules_in c.kinds.items) s t
-by_digits {N} {S} r c name s t tied placed (v, f, first) (w, g, second) =
-    let h = in_tracker r c name v tied placed first in
-    let k = in_tracker r c name w tied placed second in
+-- Two registered solvables of one package are the same, or differ in a digit, unless it is marked.
+pub by_digits : {N S : Type 0} (r : Registry N) (c : SolverState N S) (name : N) (s t : S) → AreTied r c → ArePlaced r → (IsMany r name → ⊥) → IsRegistered r c name s → IsRegistered r c name t → (s ≡ t) ⊎ DifferInDigit (rules_in c.kinds.items) s t
+by_digits {N} {S} r c name s t tied placed unmarked (v, f, first) (w, g, second) =
+    let h = in_tracker r c name v tied placed unmarked first in
+    let k = in_tracker r c name w tied placed unmarked second in
     let same : k.place ≡ h.place = tied.once k.place h.place name k.named h.named in
     let there : slice_get r.trackers.items h.place ≡ Some k.tracker = subst (λ j. slice_get r.trackers.items j ≡ Some k.tracker) same k.tracked in
     let here : slice_get r.trackers.items h.place ≡ Some h.tracker = h.tracked in

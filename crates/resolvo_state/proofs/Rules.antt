@@ -3,7 +3,7 @@ use Rattle.std.proofs.Common.{◌≡◌, ℕ, zero, suc, Bool, List, [], ◌∷�
 use Rattle.resolvo_store_core.specs.AtMostOne.{IsPrefixOf, digit}
 use Rattle.resolvo_sat.specs.RuleClauses.{Rule}
 use Rattle.resolvo_state.specs.declared.clause_kind.ClauseKind.{ClauseKind}
-use Rattle.resolvo_state.specs.declared.clause_kind.ClauseKind.TheVariants.{Root, Needs, Gated, Shared, Limits, LimitsOutside, IsOut, Locked, Excluded, Digit, IsThere, Learnt}
+use Rattle.resolvo_state.specs.declared.clause_kind.ClauseKind.TheVariants.{Root, Needs, Gated, Shared, Limits, LimitsOutside, IsOut, Locked, Excluded, Digit, IsThere, Matches, Learnt}
 use Rattle.resolvo_state.specs.ClauseKinds.{rule_of, kind_at, rule_at, rules_in}
 use Rattle.resolvo_state.proofs.Positions.{prefix_get}
 
@@ -45,4 +45,5 @@ digit_kind {N} {S} kinds n s bit b h = let (x, at, is) = kind_of_rule kinds n (R
         let by_digits : digit place k ≡ b = cc in
         (name, place, at ∙ (λ i. Some (Digit name (one i) place (same i))), sym by_digits ∙ ap (digit place) same)
     go (IsThere name t) at is = absurd cc
+    go (Matches v t) at is = absurd cc
     go Learnt at is = absurd cc

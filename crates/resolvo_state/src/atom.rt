@@ -20,6 +20,8 @@ pub enum ProofAtom<N, S> {
     Gate(Requirement),
     /// A candidate that is outside the version set is chosen.
     Outside(VersionSetId),
+    /// A candidate that matches the version set is chosen. Its package is marked `many`.
+    Matches(VersionSetId),
     /// A binary digit of the place of the package's chosen solvable, counted from the lowest.
     Bit(N, u32),
 }
@@ -44,10 +46,12 @@ impl<N: Exact, S: Exact> Exact for ProofAtom<N, S> {
         one_requirement (λ a b. Self.eq (Gate a) (Gate b)) (λ v w e. eqb-true v.0 w.0 e)
         (λ v w e. eqb-true v.0 w.0 e) (λ v w. (refl, refl)) q r h)
         (λ v w h. eqb-true v.0 w.0 h)
+        (λ v w h. eqb-true v.0 w.0 h)
         (λ m n a b h. (N.exact m n (and_parts _ _ h).0, eqb-true a b (and_parts _ _ h).1))
-        (λ s. (λ n. refl, λ r. refl, λ v. refl, λ n b. refl))
-        (λ m. (λ s. refl, λ r. refl, λ v. refl, λ n b. refl))
-        (λ q. (λ s. refl, λ n. refl, λ v. refl, λ n b. refl))
-        (λ u. (λ s. refl, λ n. refl, λ r. refl, λ n b. refl))
-        (λ m a. (λ s. refl, λ n. refl, λ r. refl, λ v. refl)) };
+        (λ s. (λ n. refl, λ r. refl, λ v. refl, λ v. refl, λ n b. refl))
+        (λ m. (λ s. refl, λ r. refl, λ v. refl, λ v. refl, λ n b. refl))
+        (λ q. (λ s. refl, λ n. refl, λ v. refl, λ v. refl, λ n b. refl))
+        (λ u. (λ s. refl, λ n. refl, λ r. refl, λ v. refl, λ n b. refl))
+        (λ u. (λ s. refl, λ n. refl, λ r. refl, λ v. refl, λ n b. refl))
+        (λ m a. (λ s. refl, λ n. refl, λ r. refl, λ v. refl, λ v. refl)) };
 }

@@ -61,6 +61,11 @@ pub enum ClauseKind<N, S> {
         name: N,
         solvable: S,
     },
+    /// The solvable matches the version set, whose package is marked `many`.
+    Matches {
+        version_set: VersionSetId,
+        solvable: S,
+    },
     /// No rule: the clause follows from its antecedents.
     Learnt,
 }

@@ -2,8 +2,10 @@
 //! Each package has a tracker of its solvables' variables. Their places are encoded in binary
 //! digits, each digit a variable of its own. For each solvable in a tracker and each digit of its
 //! package, a clause gives the value of the digit where the solvable is true. A solvable that is
-//! registered waits for them until it is placed.
+//! registered waits for them until it is placed. A package that is marked `many` has no tracker: its
+//! solvables may be true side by side.
 ghost use Rattle.std.proofs.lemmas.Bool.{and_parts, eqb-true};
+ghost use Rattle.std.specs.Bool.{Decides};
 ghost use Rattle.std.specs.Prelude.{◌≡◌, ℕ, ◌≤◌, ◌+◌, Bool, Some, min, length, slice_get, is_some, IfOk, OnOk, IsErrOf, IsOkUnless, Contains};
 ghost use Rattle.resolvo_pool_core.specs.declared.want.Want.TheVariants.{Memory, Ids};
 ghost use Rattle.resolvo_pool_core.specs.declared.id.VariableId.{VariableId};
@@ -13,7 +15,7 @@ ghost use Rattle.resolvo_state.specs.AtomLaws.{one_member};
 ghost use Rattle.resolvo_state.specs.Atoms.{Represents};
 ghost use Rattle.resolvo_state.specs.SolverState.{IsCoding, LacksNumber};
 ghost use Rattle.resolvo_state.specs.Keys.{AreOnce};
-ghost use Rattle.resolvo_state.specs.Registered.{same_variable, IsNothing, AreTied, IsInTracker, IsTracked, IsQueued, IsRegistered, member, Registers, Places, PlacesName, IsTied, Tracks, GivesDigit, IsTie, first_of, place_from, AddsTie, AddsTies};
+ghost use Rattle.resolvo_state.specs.Registered.{same_variable, IsNothing, AreTied, IsInTracker, IsTracked, IsQueued, IsRegistered, member, IsMany, MarksMany, Registers, Places, PlacesName, IsTied, Tracks, GivesDigit, IsTie, first_of, place_from, AddsTie, AddsTies};
 
 use crate::atom::ProofAtom;
 use crate::clause_kind::ClauseKind;
@@ -48,6 +50,8 @@ pub struct Registry<N: Copy + Eq + Hash> {
     members: IndexSet<Member<N>>,
     /// The number of those that don't wait for their digits: the first ones.
     tied: usize,
+    /// The packages that are marked `many`: their solvables have no digits.
+    many: IndexSet<N>,
 }
 
 // split for the prover: one drop
@@ -58,6 +62,7 @@ impl<N: Copy + Eq + Hash> Drop for Registry<N> {
             trackers: _,
             members: _,
             tied: _,
+            many: _,
         } = self;
     }
 }
@@ -76,7 +81,24 @@ impl<N: Copy + Exact + Hash + Debug> Registry<N> {
             trackers: Vec::new(alloc),
             members: IndexSet::new(alloc),
             tied: 0,
+            many: IndexSet::new(alloc),
         }
+    }
+
+    /// Marks a package `many`: those of its solvables that wait get no digits.
+    pub fn mark_many(&mut self, name: N) -> R<()>
+        ensures marked { OnOk result (MarksMany name self.old self.new) }
+        ensures refusal { IsOkUnless result Memory }
+    {
+        include(&mut self.many, name)?;
+        Ok(())
+    }
+
+    /// Whether a package is marked.
+    pub fn is_many(&self, name: N) -> bool
+        ensures { Decides result (IsMany self.now name) }
+    {
+        self.many.contains(&name)
     }
 
     /// Registers a solvable of a package, and returns its variable, which is created where there is

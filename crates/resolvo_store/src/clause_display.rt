@@ -304,6 +304,10 @@ impl<I: Interner> fmt::Display for OriginDisplay<'_, I> {
                 let requirement = requirement.display(interner);
                 write!(f, "requires-gate({requirement})")
             }
+            Some(VariableOrigin::Matches(version_set)) => {
+                let set = Requirement::Single(version_set).display(interner);
+                write!(f, "matches({set})")
+            }
         }
     }
 }

@@ -5,7 +5,7 @@ ghost use Rattle.std.specs.Prelude.{◌≡◌, ◌<◌, ◌++◌, ◌∷◌, [],
 ghost use Rattle.std.specs.Option.{option_map};
 ghost use Rattle.resolvo_pool_core.specs.declared.want.Want.TheVariants.{Ids};
 ghost use Rattle.resolvo_store.specs.Origins.{place_of, Interns, InternsOrRoot};
-ghost use Rattle.resolvo_store.specs.declared.variable_map.VariableOrigin.TheVariants.{Root, Solvable, ForbidMultiple, AtLeastOne, ConstrainsViolation, RequiresGate};
+ghost use Rattle.resolvo_store.specs.declared.variable_map.VariableOrigin.TheVariants.{Root, Solvable, ForbidMultiple, AtLeastOne, ConstrainsViolation, RequiresGate, Matches};
 
 use resolvo_pool_core::id::{VariableId, VersionSetId};
 use resolvo_pool_core::id_map::{IdMap, OptionalNumber};
@@ -33,6 +33,8 @@ pub enum VariableOrigin<N, S> {
     ConstrainsViolation(VersionSetId),
     /// The gate of a requirement that several parents share.
     RequiresGate(Requirement),
+    /// Some version that matches the version set is chosen.
+    Matches(VersionSetId),
 }
 
 /// The origin of each variable.
@@ -180,6 +182,16 @@ impl<N: Copy + Drop, S: SolverId> VariableMap<N, S> {
         ensures ids { IsErrOf result Ids → length self.old ≡ 2147483647 }
     {
         self.alloc(VariableOrigin::RequiresGate(requirement))
+    }
+
+    /// A new variable that is true where some version that matches a version set is chosen.
+    pub fn alloc_matches_variable(&mut self, version_set: VersionSetId) -> R<VariableId>
+        ensures new { IfOk result
+            (λ v. (v.0 ≡ length self.old) × (self.new ≡ self.old ++ Matches version_set ∷ [])) }
+        ensures err { OnErr result (self.new ≡ self.old) }
+        ensures ids { IsErrOf result Ids → length self.old ≡ 2147483647 }
+    {
+        self.alloc(VariableOrigin::Matches(version_set))
     }
 }
 

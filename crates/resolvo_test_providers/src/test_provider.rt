@@ -149,6 +149,7 @@ fn sparse_candidates<S: Copy>(
         locked: sparse_id(listed.locked),
         hint_dependencies_available: sparse_hint(alloc, &listed.hint_dependencies_available)?,
         excluded: sparse_pairs(alloc, listed.excluded.as_slice())?,
+        many: listed.many,
     })
 }
 

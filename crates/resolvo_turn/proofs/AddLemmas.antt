@@ -125,6 +125,18 @@ parents_needs {N} {S} a b f = record {
   fired = prefix_equal a.fired.keys b.fired.keys (ap (λ (x : Encoder N S). x.fired.keys) f.rest);
 }
 
+-- a package's mark is known
+pub marks_needs : {N S : Type 0} (a b : Encoder N S) → b ≡ record a { registry = record a.registry { many = b.registry.many } } → AddsNeeds a b
+marks_needs {N} {S} a b is = record {
+  grows = subst (λ (x : SolverState N S). Grows a.coding x) (sym (ap (λ (x : Encoder N S). x.coding) is)) (grows_same a.coding);
+  turn = coding_turns a b (ap (λ (x : Encoder N S). x.coding) is) (ap (λ (x : Encoder N S). x.recorded.softs.items) is);
+  softs = ap (λ (x : Encoder N S). x.recorded.softs.items) is;
+  parents = prefix_equal a.parents.keys b.parents.keys (ap (λ (x : Encoder N S). x.parents.keys) is);
+  encoded = ap (λ (x : Encoder N S). x.encoded) is;
+  deferred = prefix_equal a.deferred.items b.deferred.items (ap (λ (x : Encoder N S). x.deferred.items) is);
+  fired = prefix_equal a.fired.keys b.fired.keys (ap (λ (x : Encoder N S). x.fired.keys) is);
+}
+
 -- a deferred case is added after the others
 pub defers_needs : {N S : Type 0} (a b : Encoder N S) → Defers a b → AddsNeeds a b
 defers_needs {N} {S} a b f = record {

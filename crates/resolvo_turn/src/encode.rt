@@ -10,7 +10,7 @@ ghost use Rattle.resolvo_pool_core.specs.declared.requirement.Requirement.TheVar
 ghost use Rattle.resolvo_encoder.specs.Encoded.{IsWhole};
 ghost use Rattle.resolvo_encoder.specs.Base.{KeepsTurns};
 ghost use Rattle.resolvo_encoder.specs.Steps.{IsBuilt, AddsParent};
-ghost use Rattle.resolvo_turn.specs.Encoder.{AddsNeeds, AddsAll, StaysInOrderOf};
+ghost use Rattle.resolvo_turn.specs.Encoder.{KeepsMarks, AddsNeeds, AddsAll, StaysInOrderOf};
 ghost use Rattle.resolvo_turn.specs.Effects.{ForbidsPackage, ForbidsPackages, GuardsRequirement, RequiresGuarded, RequiresPlain, RequiresOne, RequiresAll, LimitsOne, LimitsGuarded, LimitsAll, EncodesKnown, EncodesParent};
 ghost use Rattle.resolvo_turn.specs.LacksIds.{StopsAnyhow, StopsNeed, StopsOne, StopsAll, StopsKnown, StopsInOrderOf};
 
@@ -43,7 +43,7 @@ pub fn add_available<A: PackageSource>(
     Ok(())
 }
 
-/// Encodes the locks and exclusions of a package, once.
+/// Encodes the locks and exclusions of a package, and records its mark, once.
 fn forbid_package<A: PackageSource>(
     alloc: Global,
     answers: &mut A,
@@ -57,6 +57,7 @@ fn forbid_package<A: PackageSource>(
     ensures encoded { OnOk result
         (ForbidsPackage A.SolvableId.eq A.PackageSource answers.old
         name encoding.old encoding.new) }
+    ensures marks { OnOk result (KeepsMarks encoding.old encoding.new) }
     ensures kept { OnOk result (AddsNeeds encoding.old encoding.new) }
     ensures fired { OnOk result (encoding.new.fired ≡ encoding.old.fired) }
     ensures built { OnOk result (IsBuilt encoding.new) }
@@ -69,6 +70,8 @@ fn forbid_package<A: PackageSource>(
         return Ok(());
     }
     let forbidden = answers.forbidden(name)?;
+    let many = answers.is_many(name)?;
+    encoding.mark(name, many)?;
     encoding.forbid(alloc, name, forbidden.as_slice())?;
     Ok(())
 }
@@ -87,6 +90,7 @@ fn forbid_packages<A: PackageSource>(
     ensures encoded { OnOk result
         (ForbidsPackages A.SolvableId.eq A.PackageSource answers.old
         names.now encoding.old encoding.new) }
+    ensures marks { OnOk result (KeepsMarks encoding.old encoding.new) }
     ensures kept { OnOk result (AddsNeeds encoding.old encoding.new) }
     ensures fired { OnOk result (encoding.new.fired ≡ encoding.old.fired) }
     ensures built { OnOk result (IsBuilt encoding.new) }

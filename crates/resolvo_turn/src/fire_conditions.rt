@@ -4,7 +4,7 @@ ghost use Rattle.std.specs.Prelude.{◌≡◌, ◌<◌, true, false, length, IfO
 ghost use Rattle.resolvo_pool.specs.Cached.{IsCancelledBy};
 ghost use Rattle.resolvo_pool.specs.declared.cache.CacheFault.TheVariants.{Ids};
 ghost use Rattle.resolvo_encoder.specs.Conditions.{IsSet, AreSets, sets_case};
-ghost use Rattle.resolvo_encoder.specs.Conditions.{IsSpent, AreSpent};
+ghost use Rattle.resolvo_encoder.specs.Conditions.{IsMetNow, IsSpent, AreSpent};
 ghost use Rattle.resolvo_encoder.specs.Steps.{IsBuilt};
 ghost use Rattle.resolvo_turn.specs.Encoder.{AddsNeeds, StaysInOrder};
 ghost use Rattle.resolvo_turn.specs.Turn.{FiresMore};
@@ -17,11 +17,13 @@ use resolvo_encoder::encoder::Encoder;
 use resolvo_packages::package_source::PackageSource;
 use resolvo_pool::cache::CacheFault;
 use resolvo_pool_core::id::VersionSetId;
-use resolvo_pool_core::requirement::ConditionalRequirement;
+use resolvo_pool_core::requirement::{ConditionalRequirement, Requirement};
 use std::alloc::Global;
 
-/// A version set of a case, with its package and the candidates that don't match it.
+/// A version set of a case, with its package and the candidates that don't match it. Where the
+/// package is marked `many`, with those that match.
 fn set_of<A: PackageSource>(
+    alloc: Global,
     answers: &mut A,
     version_set: VersionSetId,
 ) -> Result<ConditionSet<A::NameId, A::SolvableId>, CacheFault<A::Cancel>>
@@ -31,15 +33,30 @@ fn set_of<A: PackageSource>(
     ensures cancelled { IfErr result (IsCancelledBy (A.may_cancel answers.old)) }
     ensures ids { IsErrOf result Ids → A.may_lack_ids answers.old }
 {
+    let name = answers.set_package(version_set);
+    let many = answers.is_many(name)?;
+    if many {
+        let matching = answers.candidates(Requirement::Single(version_set))?;
+        return Ok(ConditionSet {
+            version_set,
+            name,
+            many,
+            outside: Vec::new(alloc),
+            matching,
+        });
+    }
     let outside = answers.outside(version_set)?;
     Ok(ConditionSet {
         version_set,
-        name: answers.set_package(version_set),
+        name,
+        many,
         outside,
+        matching: Vec::new(alloc),
     })
 }
 
-/// The version sets of a case, each with its package and the candidates that don't match it.
+/// The version sets of a case, each with its package and the candidates that don't match it, or
+/// that match.
 fn sets_of<A: PackageSource>(
     alloc: Global,
     answers: &mut A,
@@ -53,7 +70,7 @@ fn sets_of<A: PackageSource>(
 {
     let mut sets = Vec::new(alloc);
     for version_set in case {
-        let set = set_of(answers, *version_set)?;
+        let set = set_of(alloc, answers, *version_set)?;
         sets.push(set)?;
     }
     Ok(sets)
@@ -123,7 +140,7 @@ fn encode_case<A: PackageSource>(
     Ok(())
 }
 
-/// Encodes the deferred case at this place.
+/// Encodes the deferred case at this place, of which each version set has a chosen match.
 fn fire<A: PackageSource>(
     alloc: Global,
     answers: &mut A,
@@ -133,6 +150,7 @@ fn fire<A: PackageSource>(
     requires built { IsBuilt encoding.old }
     requires within { index < length encoding.old.deferred.items }
     requires waits { Contains encoding.old.fired.keys index → ⊥ }
+    requires met { IsMetNow encoding.old index }
     // Whatever the answer.
     ensures same { answers.new ≡ answers.old }
     // After an answer.

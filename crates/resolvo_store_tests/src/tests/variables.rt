@@ -12,6 +12,7 @@ fn alloc_each(map: &mut VariableMap<NameId, SolvableId>) -> R<()> {
     map.alloc_at_least_one_variable(NameId::from_raw(6))?;
     map.alloc_constrains_violation_variable(VersionSetId(8))?;
     map.alloc_requires_gate_variable(Requirement::Single(VersionSetId(9)))?;
+    map.alloc_matches_variable(VersionSetId(10))?;
     Ok(())
 }
 

@@ -8,6 +8,7 @@ use Rattle.resolvo_packages.specs.declared.package_source.Offered.{Offered}
 use Rattle.resolvo_sat.specs.RuleClauses.{IsExact}
 use Rattle.resolvo_encoder.specs.Steps.{IsListed}
 use Rattle.resolvo.specs.SoftTurns.{IsCandidate}
+use Rattle.resolvo_turn.specs.Encoder.{StaysInOrderOf}
 use Rattle.resolvo.proofs.Outcomes.{registered_in_order, registered_keeps, registered_true, registered_soft, registered_taken, closed_in_order, closed_keeps, closed_outcome, closed_right, turn_closable}
 use Rattle.resolvo.proofs.soft_requirements.run_soft_requirement.Goals as goal
 
@@ -19,35 +20,35 @@ pub returns-then-is_true-clause-stays : goal.returns-then-is_true-clause-stays
 returns-then-is_true-clause-stays g c = λ root is candidate e.
     let same = g.A.SolvableId.PartialEq.eq in
     let p = g.A.PackageSource.packages c.args.answers.now in (
-      registered_in_order same c.args.encoding.now c.record_soft.new.self (record { solvable = c.args.soft; name = c.package-name.result }) c.in_ok-variable.variable c.in_ok-variable.ensures.recorded p (g.A.PackageSource.orders c.args.answers.now) root (g.met.A.PackageSource.lawful c.args.answers.now)
-          (candidate_listed same p c.args.soft c.package-name.result c.package-name.ensures candidate) e,
+      registered_in_order same c.args.encoding.now c.record_soft.new.self (record { solvable = c.args.soft; name = c.package-name.result }) c.in_ok-many.many c.in_ok-variable.variable c.in_ok-variable.ensures.recorded p (g.A.PackageSource.orders c.args.answers.now) root (g.met.A.PackageSource.lawful c.args.answers.now)
+          (candidate_listed same p c.args.soft c.package-name.result c.package-name.ensures candidate) c.in_ok-many.ensures.mark e,
       tt,
     )
 
 pub returns-then-is_true-clause-outcome : goal.returns-then-is_true-clause-outcome
 returns-then-is_true-clause-outcome g c =
-    registered_true g.A.SolvableId.PartialEq.eq c.args.encoding.now c.record_soft.new.self (record { solvable = c.args.soft; name = c.package-name.result }) c.in_ok-variable.variable c.in_ok-variable.ensures.recorded
+    registered_true g.A.SolvableId.PartialEq.eq c.args.encoding.now c.record_soft.new.self (record { solvable = c.args.soft; name = c.package-name.result }) c.in_ok-many.many c.in_ok-variable.variable c.in_ok-variable.ensures.recorded
     (subst (λ (l : Signed). has (made_true (history c.record_soft.new.self.coding.search)) l ≡ true) c.new.ensures (sym c.is_true.ensures ∙ c.if-is_true.true))
 
 pub returns-then-is_true-clause-keeps : goal.returns-then-is_true-clause-keeps
 returns-then-is_true-clause-keeps g c =
-    registered_keeps g.A.SolvableId.PartialEq.eq c.args.encoding.now c.record_soft.new.self (record { solvable = c.args.soft; name = c.package-name.result }) c.in_ok-variable.variable c.in_ok-variable.ensures.recorded
+    registered_keeps g.A.SolvableId.PartialEq.eq c.args.encoding.now c.record_soft.new.self (record { solvable = c.args.soft; name = c.package-name.result }) c.in_ok-many.many c.in_ok-variable.variable c.in_ok-variable.ensures.recorded
 
 pub run_open-requires-clause-soft : goal.run_open-requires-clause-soft
-run_open-requires-clause-soft g c = registered_soft g.A.SolvableId.PartialEq.eq c.args.encoding.now c.record_soft.new.self (record { solvable = c.args.soft; name = c.package-name.result }) c.in_ok-variable.variable c.in_ok-variable.ensures.recorded
+run_open-requires-clause-soft g c = registered_soft g.A.SolvableId.PartialEq.eq c.args.encoding.now c.record_soft.new.self (record { solvable = c.args.soft; name = c.package-name.result }) c.in_ok-many.many c.in_ok-variable.variable c.in_ok-variable.ensures.recorded
 
 pub run_open-requires-clause-open : goal.run_open-requires-clause-open
 run_open-requires-clause-open g c = subst (λ (l : Signed). has (made_true (history c.record_soft.new.self.coding.search)) l ≡ false) c.new.ensures (sym c.is_true.ensures ∙ c.if-is_true.false)
 
 pub run_open-requires-clause-taken : goal.run_open-requires-clause-taken
 run_open-requires-clause-taken g c =
-    registered_taken g.A.SolvableId.PartialEq.eq c.args.encoding.now c.record_soft.new.self (record { solvable = c.args.soft; name = c.package-name.result }) c.in_ok-variable.variable c.in_ok-variable.ensures.recorded c.requires.built.coding c.requires.taken
+    registered_taken g.A.SolvableId.PartialEq.eq c.args.encoding.now c.record_soft.new.self (record { solvable = c.args.soft; name = c.package-name.result }) c.in_ok-many.many c.in_ok-variable.variable c.in_ok-variable.ensures.recorded c.requires.built.coding c.requires.taken
 
 pub close_turn-requires-clause-refused : goal.close_turn-requires-clause-refused
 close_turn-requires-clause-refused g c =
     let same = g.A.SolvableId.PartialEq.eq in
     let (o, base) = c.in_ok-turn.ensures.turn in
-    turn_closable same c.args.encoding.now c.record_soft.new.self (record { solvable = c.args.soft; name = c.package-name.result }) c.in_ok-variable.variable c.in_ok-variable.ensures.recorded c.run_open.new.encoding c.in_ok-turn.ensures.adds o base c.in_ok-turn.turn c.in_ok-turn.ensures.ended
+    turn_closable same c.args.encoding.now c.record_soft.new.self (record { solvable = c.args.soft; name = c.package-name.result }) c.in_ok-many.many c.in_ok-variable.variable c.in_ok-variable.ensures.recorded c.run_open.new.encoding c.in_ok-turn.ensures.adds o base c.in_ok-turn.turn c.in_ok-turn.ensures.ended
 
 pub returns-clause-stays : goal.returns-clause-stays
 returns-clause-stays g c = λ root is candidate e.
@@ -59,9 +60,10 @@ returns-clause-stays g c = λ root is candidate e.
     let lawful = g.met.A.PackageSource.lawful c.args.answers.now in
     let offered : Offered g.row.A-NameId.Denot g.row.A-SolvableId.Denot = record { solvable = c.args.soft; name = c.package-name.result } in
     let (o, base) = c.in_ok-turn.ensures.turn in
-    let order = c.in_ok-turn.ensures.stays root is (registered_in_order same c.args.encoding.now c.record_soft.new.self offered c.in_ok-variable.variable c.in_ok-variable.ensures.recorded p orders root lawful (candidate_listed same p c.args.soft c.package-name.result c.package-name.ensures candidate) e) in (
-      closed_in_order same c.args.encoding.now c.record_soft.new.self offered c.in_ok-variable.variable c.in_ok-variable.ensures.recorded c.run_open.new.encoding c.in_ok-turn.ensures.adds o base c.close_turn.new.encoding c.in_ok-status.ensures.rest p orders root (c.in_ok-status.ensures.stays p root lawful) order,
-      closed_right same c.args.encoding.now c.record_soft.new.self offered c.in_ok-variable.variable c.in_ok-variable.ensures.recorded c.run_open.new.encoding c.in_ok-turn.ensures.adds o base c.close_turn.new.encoding c.in_ok-status.ensures.rest c.in_ok-turn.turn c.in_ok-turn.ensures.ended c.requires.built.coding exact g.A.NameId.PartialEq.eq names p root order.encoding
+    let stays = subst (λ (a : g.row.A.Denot). StaysInOrderOf same g.A.PackageSource a c.args.input.now.requirements.now c.args.input.now.constraints.now c.record_soft.new.self c.run_open.new.encoding) c.in_ok-many.ensures.same c.in_ok-turn.ensures.stays in
+    let order = stays root is (registered_in_order same c.args.encoding.now c.record_soft.new.self offered c.in_ok-many.many c.in_ok-variable.variable c.in_ok-variable.ensures.recorded p orders root lawful (candidate_listed same p c.args.soft c.package-name.result c.package-name.ensures candidate) c.in_ok-many.ensures.mark e) in (
+      closed_in_order same c.args.encoding.now c.record_soft.new.self offered c.in_ok-many.many c.in_ok-variable.variable c.in_ok-variable.ensures.recorded c.run_open.new.encoding c.in_ok-turn.ensures.adds o base c.close_turn.new.encoding c.in_ok-status.ensures.rest p orders root (c.in_ok-status.ensures.stays p root lawful) order,
+      closed_right same c.args.encoding.now c.record_soft.new.self offered c.in_ok-many.many c.in_ok-variable.variable c.in_ok-variable.ensures.recorded c.run_open.new.encoding c.in_ok-turn.ensures.adds o base c.close_turn.new.encoding c.in_ok-status.ensures.rest c.in_ok-turn.turn c.in_ok-turn.ensures.ended c.requires.built.coding exact g.A.NameId.PartialEq.eq names p root order.encoding
           c.in_ok-status.status c.in_ok-status.ensures.closed,
     )
 
@@ -69,11 +71,11 @@ pub returns-clause-outcome : goal.returns-clause-outcome
 returns-clause-outcome g c =
     let same = g.A.SolvableId.PartialEq.eq in
     let (o, base) = c.in_ok-turn.ensures.turn in
-    closed_outcome same c.args.encoding.now c.record_soft.new.self (record { solvable = c.args.soft; name = c.package-name.result }) c.in_ok-variable.variable c.in_ok-variable.ensures.recorded c.run_open.new.encoding c.in_ok-turn.ensures.adds o base c.close_turn.new.encoding c.in_ok-status.ensures.rest c.in_ok-turn.turn c.in_ok-turn.ensures.ended c.in_ok-status.ensures.built
+    closed_outcome same c.args.encoding.now c.record_soft.new.self (record { solvable = c.args.soft; name = c.package-name.result }) c.in_ok-many.many c.in_ok-variable.variable c.in_ok-variable.ensures.recorded c.run_open.new.encoding c.in_ok-turn.ensures.adds o base c.close_turn.new.encoding c.in_ok-status.ensures.rest c.in_ok-turn.turn c.in_ok-turn.ensures.ended c.in_ok-status.ensures.built
     (subst (λ (l : Signed). has (made_true (history c.record_soft.new.self.coding.search)) l ≡ false) c.new.ensures (sym c.is_true.ensures ∙ c.if-is_true.false)) c.in_ok-status.status c.in_ok-status.ensures.closed
 
 pub returns-clause-keeps : goal.returns-clause-keeps
 returns-clause-keeps g c =
     let same = g.A.SolvableId.PartialEq.eq in
     let (o, base) = c.in_ok-turn.ensures.turn in
-    closed_keeps same c.args.encoding.now c.record_soft.new.self (record { solvable = c.args.soft; name = c.package-name.result }) c.in_ok-variable.variable c.in_ok-variable.ensures.recorded c.run_open.new.encoding c.in_ok-turn.ensures.adds o base c.close_turn.new.encoding c.in_ok-status.ensures.rest c.in_ok-turn.turn c.in_ok-turn.ensures.ended c.in_ok-status.status c.in_ok-status.ensures.closed
+    closed_keeps same c.args.encoding.now c.record_soft.new.self (record { solvable = c.args.soft; name = c.package-name.result }) c.in_ok-many.many c.in_ok-variable.variable c.in_ok-variable.ensures.recorded c.run_open.new.encoding c.in_ok-turn.ensures.adds o base c.close_turn.new.encoding c.in_ok-status.ensures.rest c.in_ok-turn.turn c.in_ok-turn.ensures.ended c.in_ok-status.status c.in_ok-status.ensures.closed

@@ -3,7 +3,7 @@ use Rattle.resolvo_state.specs.declared.clause_kind.ClauseKind.{ClauseKind}
 use Rattle.resolvo_proof.specs.Written.{IsRuleOf}
 use Rattle.resolvo_proof.proofs.Parts.{zip_same}
 use Rattle.resolvo_proof.proofs.write.write_rule.Goals as goal
-use Rattle.resolvo_proof.proofs.write.write_rule.Goals.{in-Needs+in_ok-clone-in-Needs, in-Gated, in-Shared, in-Digit, in-IsThere}
+use Rattle.resolvo_proof.proofs.write.write_rule.Goals.{in-Needs+in_ok-clone-in-Needs, in-Gated, in-Shared, in-Digit, in-IsThere, in-Matches}
 
 pub returns-clause-encoded : goal.returns-clause-encoded
 returns-clause-encoded g c =
@@ -14,4 +14,5 @@ returns-clause-encoded g c =
       | in-Shared w ↦ subst encoded (sym w.in-Shared.is) (ap Some w.rule-is)
       | in-Digit w ↦ subst encoded (sym w.in-Digit.is) (ap Some w.rule-is)
       | in-IsThere w ↦ subst encoded (sym w.in-IsThere.is) (ap Some w.rule-is)
+      | in-Matches w ↦ subst encoded (sym w.in-Matches.is) (ap Some w.rule-is)
     ]

@@ -1,7 +1,7 @@
 use Rattle.std.proofs.Common.{[], subst, rules}
 use Rattle.resolvo_pool_core.specs.RuleKeeping.{Rules}
 use Rattle.resolvo_sat.specs.SearchEnd.{IsNeedEncoded}
-use Rattle.resolvo_encoder.specs.Encoded.{IsGuarded, rules_of}
+use Rattle.resolvo_encoder.specs.Encoded.{IsPrepared, rules_of}
 use Rattle.resolvo_encoder.specs.Steps.{Needs}
 use Rattle.resolvo_turn.specs.Encoder.{IsInOrder}
 use Rattle.resolvo_turn.proofs.AddLemmas.{needs_then}
@@ -14,7 +14,7 @@ returns-clause-encoded g c = λ root e needs.
     let middle = c.guard.new.encoding in
     let new = c.require.new.encoding in
     let (first, guarded) = c.in_ok-guard.ensures.encoded root e in
-    (subst (λ (a : g.row.A.Denot). (root : Rules) → IsInOrder same (g.A.PackageSource.packages a) (g.A.PackageSource.orders a) root middle → IsGuarded same (g.A.PackageSource.packages a) (rules_of middle) c.args.need.requirement → Needs same (g.A.PackageSource.packages a) root c.args.parent c.args.need
+    (subst (λ (a : g.row.A.Denot). (root : Rules) → IsInOrder same (g.A.PackageSource.packages a) (g.A.PackageSource.orders a) root middle → IsPrepared same (g.A.PackageSource.packages a) middle c.args.need.requirement → Needs same (g.A.PackageSource.packages a) root c.args.parent c.args.need
     → IsInOrder same (g.A.PackageSource.packages a) (g.A.PackageSource.orders a) root new × IsNeedEncoded same (g.A.PackageSource.packages a) (rules_of new) c.args.parent c.args.need []) c.in_ok-guard.ensures.same c.in_ok-require.ensures.encoded) root first guarded needs
 
 pub returns-clause-kept : goal.returns-clause-kept

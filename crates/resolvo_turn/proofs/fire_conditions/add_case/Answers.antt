@@ -12,7 +12,7 @@ use Rattle.resolvo_turn.proofs.StopLemmas.{lacks_for}
 use Rattle.resolvo_turn.proofs.fire_conditions.add_case.Goals as goal
 
 pub returns-clause-encoded : goal.returns-clause-encoded
-returns-clause-encoded g c = λ root e guarded sets listed among.
+returns-clause-encoded g c = λ root e guarded sets listed among matched.
     let p = g.A.PackageSource.packages c.args.answers.now in
     let orders = g.A.PackageSource.orders c.args.answers.now in
     let same = g.A.SolvableId.PartialEq.eq in
@@ -21,7 +21,7 @@ returns-clause-encoded g c = λ root e guarded sets listed among.
     let new = c.add_available.new.encoding in
     let offered : AreOffered same p c.args.need.requirement c.as_slice.result.now = subst (λ (xs : List (Offered _ _)). AreOffered same p c.args.need.requirement xs) (sym c.as_slice.ensures.value) c.in_ok-offered.ensures.offered in
     let tried : orders c.args.need.requirement (offered_solvables c.as_slice.result.now) = subst (λ (xs : List (Offered _ _)). orders c.args.need.requirement (offered_solvables xs)) (sym c.as_slice.ensures.value) c.in_ok-offered.ensures.ordered in
-    let (encoded, is_encoded) = c.in_ok-require_case.ensures.encoded p root (g.met.A.PackageSource.lawful c.args.answers.now) e.encoding sets offered guarded listed among in
+    let (encoded, is_encoded) = c.in_ok-require_case.ensures.encoded p root (g.met.A.PackageSource.lawful c.args.answers.now) e.encoding sets offered guarded listed among matched in
     let ordered = ordered_adds orders c.args.need.requirement c.as_slice.result.now c.args.encoding.now middle c.in_ok-require_case.ensures.kept.grows c.in_ok-require_case.ensures.candidates tried e.ordered in (
       parents_in_order same p orders root middle new (record { encoding = encoded; ordered = ordered }) c.in_ok-add_available.ensures.added,
       need_stays same exact p root middle new c.args.parent c.args.need (sets_case c.args.sets.now) (parents_needs middle new c.in_ok-add_available.ensures.added) is_encoded,

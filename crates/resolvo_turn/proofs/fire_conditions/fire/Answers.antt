@@ -1,7 +1,7 @@
 use Rattle.std.proofs.Common.{◌<◌, ◌≤◌, List, length, sym, subst, arith, rules}
 use Rattle.std.specs.Prelude.{Contains}
 use Rattle.resolvo_pool_core.specs.declared.id.VersionSetId.{VersionSetId}
-use Rattle.resolvo_sat.specs.RuleClauses.{cases_for}
+use Rattle.resolvo_sat.specs.RuleClauses.{IsExact, AreMatched, cases_for}
 use Rattle.resolvo_sat.specs.SearchEnd.{IsNeedEncoded}
 use Rattle.resolvo_state.proofs.Positions.{prefix_long}
 use Rattle.resolvo_encoder.specs.Encoded.{rules_of}
@@ -19,11 +19,12 @@ end_case-requires g c =
 pub returns-clause-stays : goal.returns-clause-stays
 returns-clause-stays g c = λ root e.
     let same = g.A.SolvableId.PartialEq.eq in
+    let exact : IsExact same = record { one = g.met.A.SolvableId.Exact.exact; own = g.met.A.SolvableId.Eq.laws.refl } in
     let p = g.A.PackageSource.packages c.args.answers.now in
     let w = c.in_ok-parent.field-0 in
-    encoded_in_order g.A.SolvableId.PartialEq.eq (g.A.PackageSource.packages c.args.answers.now) (g.A.PackageSource.orders c.args.answers.now) root c.args.index c.args.encoding.now c.encode_case.new.encoding c.end_case.new.self c.in_ok-parent.field-0 c.in_ok-parent.ensures.waiting e
-    c.in_ok-encode_case.ensures.kept.deferred (λ listed among. (
-    let (order, is_encoded) = c.in_ok-encode_case.ensures.encoded root e listed (subst (λ (xs : List VersionSetId). Contains (cases_for same p w.need) xs) (sym c.as_slice.ensures.value) among) in
+    encoded_in_order g.A.SolvableId.PartialEq.eq exact (g.A.PackageSource.packages c.args.answers.now) (g.A.PackageSource.orders c.args.answers.now) root c.args.index c.args.encoding.now c.encode_case.new.encoding c.end_case.new.self c.in_ok-parent.field-0 c.in_ok-parent.ensures.waiting c.requires.met e
+    c.in_ok-encode_case.ensures.kept.deferred (λ listed among matched. (
+    let (order, is_encoded) = c.in_ok-encode_case.ensures.encoded root e listed (subst (λ (xs : List VersionSetId). Contains (cases_for same p w.need) xs) (sym c.as_slice.ensures.value) among) (subst (λ (xs : List VersionSetId). AreMatched same p xs) (sym c.as_slice.ensures.value) matched) in
     (order, subst (λ (xs : List VersionSetId). IsNeedEncoded same p (rules_of c.encode_case.new.encoding) w.parent w.need xs) c.as_slice.ensures.value is_encoded))) c.in_ok-end_case.ensures.fired (c.in_ok-end_case.ensures.encoding (g.A.PackageSource.packages c.args.answers.now) root)
 
 pub returns-clause-kept : goal.returns-clause-kept

@@ -20,13 +20,13 @@ pub require_of-requires : goal.require_of-requires
 require_of-requires g c = built_fixes g.S.PartialEq.eq c.args.need.requirement c.args.offered.now c.args.self.now c.fix_candidates.new.self c.requires c.in_ok-fix_candidates.ensures.fixed
 
 pub returns-in_ok-need_directly-in-None-clause-encoded : goal.returns-in_ok-need_directly-in-None-clause-encoded
-returns-in_ok-need_directly-in-None-clause-encoded g c = λ p root lawful e offered guarded needs.
+returns-in_ok-need_directly-in-None-clause-encoded g c = λ p root lawful e offered prepared needs.
     let exact : IsExact g.S.PartialEq.eq = record { one = g.met.S.Exact.exact; own = g.met.S.Eq.laws.refl } in
     let fixes = c.in_ok-fix_candidates.ensures.fixed in
-    let (fixed, has) = fixes_keep g.S.PartialEq.eq exact p root lawful c.args.need.requirement c.args.offered.now c.args.self.now c.fix_candidates.new.self e offered fixes in
+    let (fixed, has) = fixes_keep g.S.PartialEq.eq exact p root lawful c.args.need.requirement c.args.offered.now c.args.self.now c.fix_candidates.new.self e offered prepared fixes in
     let rooted : c.root.result ≡ root_variable = ap (λ n. let v : VariableId = record { 0 = n } in v) c.root.ensures in
     let own : Needs g.S.PartialEq.eq p root None c.args.need = subst (λ (x : Option _). Needs g.S.PartialEq.eq p root x c.args.need) c.in-None.is needs in
-    let grown = guard_grows g.S.PartialEq.eq exact p root c.args.self.now c.fix_candidates.new.self c.args.need.requirement (fixes_extend g.S.PartialEq.eq c.args.need.requirement c.args.offered.now c.args.self.now c.fix_candidates.new.self fixes).grows guarded in
+    let grown = guard_grows g.S.PartialEq.eq exact p root c.args.self.now c.fix_candidates.new.self c.args.need.requirement (fixes_extend g.S.PartialEq.eq c.args.need.requirement c.args.offered.now c.args.self.now c.fix_candidates.new.self fixes).grows prepared.0 in
     let (kind, rule) = needed_keeps g.S.PartialEq.eq exact p root lawful None c.args.need c.root.result c.fix_candidates.new.self c.need_directly.new.self fixed has grown rooted own c.in_ok-need_directly-in-None.ensures.needed in
     (kind, subst (λ (x : Option _). IsNeedEncoded g.S.PartialEq.eq p (rules_of c.need_directly.new.self) x c.args.need []) (sym c.in-None.is) (inl rule))
 
@@ -42,12 +42,12 @@ returns-in_ok-need_directly-in-None-clause-kept g c =
     (need_extends (Kind.Needs None c.args.need needed.case) c.root.result None c.args.need.requirement c.fix_candidates.new.self c.need_directly.new.self needed.states)
 
 pub returns-in_ok-require_of-in-Some-clause-encoded : goal.returns-in_ok-require_of-in-Some-clause-encoded
-returns-in_ok-require_of-in-Some-clause-encoded g c = λ p root lawful e offered guarded needs.
+returns-in_ok-require_of-in-Some-clause-encoded g c = λ p root lawful e offered prepared needs.
     let exact : IsExact g.S.PartialEq.eq = record { one = g.met.S.Exact.exact; own = g.met.S.Eq.laws.refl } in
     let fixes = c.in_ok-fix_candidates.ensures.fixed in
-    let (fixed, has) = fixes_keep g.S.PartialEq.eq exact p root lawful c.args.need.requirement c.args.offered.now c.args.self.now c.fix_candidates.new.self e offered fixes in
+    let (fixed, has) = fixes_keep g.S.PartialEq.eq exact p root lawful c.args.need.requirement c.args.offered.now c.args.self.now c.fix_candidates.new.self e offered prepared fixes in
     let own : Needs g.S.PartialEq.eq p root (Some c.in-Some.solvable) c.args.need = subst (λ (x : Option _). Needs g.S.PartialEq.eq p root x c.args.need) c.in-Some.is needs in
-    let (kind, encoded) = c.in_ok-require_of-in-Some.ensures.encoded p root lawful fixed has (guard_grows g.S.PartialEq.eq exact p root c.args.self.now c.fix_candidates.new.self c.args.need.requirement (fixes_extend g.S.PartialEq.eq c.args.need.requirement c.args.offered.now c.args.self.now c.fix_candidates.new.self fixes).grows guarded) own in
+    let (kind, encoded) = c.in_ok-require_of-in-Some.ensures.encoded p root lawful fixed has (guard_grows g.S.PartialEq.eq exact p root c.args.self.now c.fix_candidates.new.self c.args.need.requirement (fixes_extend g.S.PartialEq.eq c.args.need.requirement c.args.offered.now c.args.self.now c.fix_candidates.new.self fixes).grows prepared.0) own in
     (kind, subst (λ (x : Option _). IsNeedEncoded g.S.PartialEq.eq p (rules_of c.require_of.new.self) x c.args.need []) (sym c.in-Some.is) encoded)
 
 pub returns-in_ok-require_of-in-Some-clause-candidates : goal.returns-in_ok-require_of-in-Some-clause-candidates

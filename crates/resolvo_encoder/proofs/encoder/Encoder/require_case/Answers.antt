@@ -39,8 +39,8 @@ returns g c =
       states = c.in_ok-encode_need.ensures.kind;
     } in
     record {
-      encoded = λ p root lawful e sets offered guarded listed cased.
-          let (keeps, rule) = case_encoded g.S.PartialEq.eq exact c.args.parent c.args.need c.args.sets.now c.args.offered.now c.args.self.now c.encode_need.new.self new_clause p root lawful e sets offered guarded listed cased in
+      encoded = λ p root lawful e sets offered guarded listed cased matched.
+          let (keeps, rule) = case_encoded g.S.PartialEq.eq exact c.args.parent c.args.need c.args.sets.now c.args.offered.now c.args.self.now c.encode_need.new.self new_clause p root lawful e sets offered guarded listed cased matched in
           (keeps, inl rule);
       candidates = case_adds g.S.PartialEq.eq exact c.args.parent c.args.need c.args.sets.now c.args.offered.now c.args.self.now c.encode_need.new.self new_clause;
       kept = case_extends g.S.PartialEq.eq exact c.args.parent c.args.need c.args.sets.now c.args.offered.now c.args.self.now c.encode_need.new.self new_clause;

@@ -25,4 +25,4 @@ returns-clause-placed g c =
     places_is c.args.name c.args.solvable c.in_ok-variable.variable c.in_ok-place.place c.args.self.now c.place_of.new.self _ c.index_mut.result.now c.track.new.tracker c.args.coding.now c.variable.new.self c.track.new.coding
     c.requires.tied places c.in_ok-variable.ensures.given c.in_ok-track.ensures.tracked
     (slice_get_read items _ c.in_ok-place.place c.index_mut.result.now refl below c.index_mut.ensures.value)
-    refl (get_set_here items c.in_ok-place.place c.track.new.tracker below) (λ k other. get_set_other items c.in_ok-place.place k c.track.new.tracker other) (length-set items c.in_ok-place.place c.track.new.tracker) refl refl c.requires.registered
+    refl (get_set_here items c.in_ok-place.place c.track.new.tracker below) (λ k other. get_set_other items c.in_ok-place.place k c.track.new.tracker other) (length-set items c.in_ok-place.place c.track.new.tracker) refl refl refl c.requires.registered

@@ -1,0 +1,18 @@
+use Rattle.std.proofs.Common.{[], ◌∷◌, subst}
+use Rattle.resolvo_store_core.specs.Signed.{Signed}
+use Rattle.resolvo_store_core.specs.Clauses.{no}
+use Rattle.resolvo_state.specs.declared.clause_kind.ClauseKind.TheVariants as Kind
+use Rattle.resolvo_sat.specs.RuleClauses.{IsExact, Rule}
+use Rattle.resolvo_state.specs.declared.atom.ProofAtom.TheVariants.{Solvable}
+use Rattle.resolvo_state.proofs.Growth.{represents_grow}
+use Rattle.resolvo_encoder.specs.ClauseRules.{EncodesPair}
+use Rattle.resolvo_encoder.proofs.EncodesLemmas.{encodes_then, match_encodes}
+use Rattle.resolvo_encoder.proofs.encoder.Encoder.encode_match.Goals as goal
+
+pub returns-clause-encodes : goal.returns-clause-encodes
+returns-clause-encodes g c =
+    let exact : IsExact g.S.PartialEq.eq = record { one = g.met.S.Exact.exact; own = g.met.S.Eq.laws.refl } in
+    let encodes = encodes_then g.S.PartialEq.eq exact [] [] c.args.self.now c.give.new.self c.give-2.new.self c.in_ok-first.ensures.encodes c.in_ok-second.ensures.encodes in
+    let first = represents_grow c.give.new.self.coding c.give-2.new.self.coding c.in_ok-first.first (Solvable c.args.solvable) c.in_ok-second.ensures.encodes.extends.grows c.in_ok-first.ensures.present in
+    encodes_then g.S.PartialEq.eq exact [] (Rule.matches c.args.version_set c.args.solvable ∷ []) c.args.self.now c.give-2.new.self c.encode_pair.new.self encodes
+    (match_encodes g.S.PartialEq.eq exact c.args.version_set c.args.solvable c.in_ok-first.first c.in_ok-second.second c.give-2.new.self c.encode_pair.new.self encodes.built first c.in_ok-second.ensures.present (subst (λ (x : Signed). EncodesPair (Kind.Matches c.args.version_set c.args.solvable) (no c.in_ok-first.first) x c.give-2.new.self c.encode_pair.new.self) c.new.ensures c.in_ok-encode_pair.ensures.kind))
