@@ -6,7 +6,7 @@ use Rattle.std.proofs.lemmas.Grind.{flat_map-append}
 use Rattle.std.proofs.lemmas.List.Concat.{flat_map-cons}
 use Rattle.std.proofs.lemmas.List.{append-nil, take_more}
 use Rattle.std.proofs.lemmas.List.Elements.{Contains-push}
-use Rattle.resolvo_text.specs.Line.{Spec, Cond, Line, Skipped, Listed, Needs, Limits, Unknown, Lock, Favour, Exclude, Wish}
+use Rattle.resolvo_text.specs.Line.{Spec, Cond, Line, Skipped, Listed, Needs, Limits, Unknown, Lock, Favour, Exclude, Many, Wish}
 use Rattle.resolvo_catalogue_core.specs.Grammar.{line_at}
 use Rattle.resolvo_catalogue_core.specs.Questions.{is_rule}
 use Rattle.resolvo_pool_core.specs.declared.id.StringId.{StringId}
@@ -65,6 +65,7 @@ module _ (ids : Ids) (ls : List Line) (deps : VersionDependencies) (h : AreDepen
   deps_no_rule Skipped e = deps_other Skipped refl refl refl
   deps_no_rule (Listed v) e = deps_other (Listed v) refl refl refl
   deps_no_rule (Favour v) e = deps_other (Favour v) refl refl refl
+  deps_no_rule (Many name) e = deps_other (Many name) refl refl refl
   deps_no_rule (Wish v) e = deps_other (Wish v) refl refl refl
   deps_no_rule (Needs ss c) e = absurd cc
   deps_no_rule (Limits s) e = absurd cc

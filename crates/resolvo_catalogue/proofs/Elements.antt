@@ -4,7 +4,7 @@ use Rattle.std.specs.Prelude.{Contains, slice_get, option_to_list}
 use Rattle.std.specs.List.{flat_map}
 use Rattle.std.proofs.lemmas.List.Concat.{flat_map-cons}
 use Rattle.std.proofs.lemmas.List.Elements.{Contains-append_left, Contains-append_right, Contains-append_cases}
-use Rattle.resolvo_text.specs.Line.{Version, Spec, Cond, Line, Skipped, Listed, Needs, Limits, Unknown, Lock, Favour, Exclude, Wish}
+use Rattle.resolvo_text.specs.Line.{Version, Spec, Cond, Line, Skipped, Listed, Needs, Limits, Unknown, Lock, Favour, Exclude, Many, Wish}
 use Rattle.resolvo_catalogue_core.specs.Grammar.{line_at, owner_of}
 use Rattle.resolvo_catalogue_core.specs.Questions.{AreAll, IsVersionLine, BelongsTo}
 use Rattle.resolvo_catalogue_core.proofs.PlaceLemmas.{at_from_contains, contains_from_at}
@@ -52,6 +52,7 @@ need_from (Limits s) written h = absurd (no_element written h)
 need_from (Unknown r) written h = absurd (no_element written h)
 need_from (Lock v) written h = absurd (no_element written h)
 need_from (Favour v) written h = absurd (no_element written h)
+need_from (Many name) written h = absurd (no_element written h)
 need_from (Exclude v r) written h = absurd (no_element written h)
 need_from (Wish v) written h = absurd (no_element written h)
 
@@ -63,6 +64,7 @@ limit_from (Needs ss c) s h = absurd (no_element s h)
 limit_from (Unknown r) s h = absurd (no_element s h)
 limit_from (Lock v) s h = absurd (no_element s h)
 limit_from (Favour v) s h = absurd (no_element s h)
+limit_from (Many name) s h = absurd (no_element s h)
 limit_from (Exclude v r) s h = absurd (no_element s h)
 limit_from (Wish v) s h = absurd (no_element s h)
 
@@ -74,6 +76,7 @@ reason_from (Needs ss c) reason h = absurd (no_element reason h)
 reason_from (Limits s) reason h = absurd (no_element reason h)
 reason_from (Lock v) reason h = absurd (no_element reason h)
 reason_from (Favour v) reason h = absurd (no_element reason h)
+reason_from (Many name) reason h = absurd (no_element reason h)
 reason_from (Exclude v r) reason h = absurd (no_element reason h)
 reason_from (Wish v) reason h = absurd (no_element reason h)
 

@@ -1,13 +1,13 @@
 -- A set of solvables keeps the provider's rules exactly if the same versions keep the lines.
-use Rattle.std.proofs.Common.{◌≡◌, ◌==◌, inl, inr, ◌⊎◌, ℕ, zero, suc, Bool, true, false, List, [], Option, Some, None, refl, sym, ap, subst, ◌∙◌, arith}
+use Rattle.std.proofs.Common.{◌≡◌, ◌==◌, inl, inr, ◌⊎◌, ℕ, zero, suc, Bool, true, false, List, [], ◌∷◌, Option, Some, None, refl, sym, ap, subst, ◌∙◌, arith}
 use Rattle.std.specs.Prelude.{◌&&◌, ◌||◌, not, Contains, slice_get, bytes_eq, option_map}
 use Rattle.std.specs.List.{list_any, list_all, find, flat_map}
 use Rattle.std.specs.Option.{option_map_or}
 use Rattle.std.proofs.lemmas.Bool.{false≢true, eqb-true, or_cases, or_parts}
 use Rattle.std.proofs.lemmas.Bool.Decides.{Decides-eqb}
 use Rattle.std.proofs.lemmas.Slice.Eq.{bytes_eq-Decides}
-use Rattle.std.proofs.lemmas.Option.{slice_get-get_or, slice_get_within}
-use Rattle.resolvo_text.specs.Line.{Version, Spec, Cond, Line, Skipped, Listed, Needs, Limits, Unknown, Lock, Favour, Exclude, Wish}
+use Rattle.std.proofs.lemmas.Option.{slice_get-get_or, slice_get_within, slice_get-map, get_or_from_slice_get}
+use Rattle.resolvo_text.specs.Line.{Version, Spec, Cond, Line, Skipped, Listed, Needs, Limits, Unknown, Lock, Favour, Exclude, Many, Wish}
 use Rattle.resolvo_text.specs.Matches as lines
 use Rattle.resolvo_text.specs.Matches.{Set, same_version, same_package}
 use Rattle.resolvo_catalogue_core.specs.Grammar.{line_at, owner_of, AreRequestLines}
@@ -22,17 +22,17 @@ use Rattle.resolvo_pool_core.specs.declared.id.StringId.{StringId}
 use Rattle.resolvo_pool_core.specs.declared.id.VersionSetId.{VersionSetId}
 use Rattle.resolvo_pool_core.specs.declared.requirement.ConditionalRequirement.{ConditionalRequirement}
 use Rattle.resolvo_pool_core.specs.Provider as pool
-use Rattle.resolvo_pool_core.specs.RuleKeeping.{Rules, rules_of, is_unknown, is_in, is_match, is_outside, meets, binds, is_forbidden, locks_out, listing_for, rules_for, IsRuleKeeping, IsSingle, Obeys}
+use Rattle.resolvo_pool_core.specs.RuleKeeping.{Rules, rules_of, is_many, is_unknown, is_in, is_match, is_outside, meets, binds, is_forbidden, locks_out, listing_for, rules_for, IsRuleKeeping, IsSingle, Obeys}
 use Rattle.resolvo_pool_core.specs.RuleKeeping as kept
 use Rattle.resolvo_catalogue.specs.Ids.{NameId, SolvableId, solvable_id, solvables_of, AreEach, IsNeed, IsSpec, IsSolvable, IsPackage}
 use Rattle.resolvo_catalogue.specs.Known.{name_of}
 use Rattle.resolvo_catalogue.specs.Dependencies.{need_in, limit_in, reason_in, lines_at}
 use Rattle.resolvo_catalogue.specs.Marked.{IsMarked}
-use Rattle.resolvo_catalogue.specs.Provider.{Provider, candidates_of, listing_of, exclusion_of, marks_at, deps_at, dependencies_of, no_lines, no_marks, packages_of}
+use Rattle.resolvo_catalogue.specs.Provider.{Provider, candidates_of, listing_of, exclusion_of, marks_at, many_at, are_many, deps_at, dependencies_of, no_lines, no_marks, packages_of}
 use Rattle.resolvo_catalogue.specs.Over.{IsOver, AreDependenciesAt}
 use Rattle.resolvo_catalogue.specs.KeptSets.{Represents, DistinguishesIds, KeepsAlike, KeepsAlikeExempt}
 use Rattle.resolvo_catalogue.proofs.MarkLemmas.{one_some}
-use Rattle.resolvo_catalogue.proofs.Places.{first_element, each_left}
+use Rattle.resolvo_catalogue.proofs.Places.{no_element, first_element, each_left}
 use Rattle.resolvo_catalogue.proofs.PassLemmas.{any_from, any_to, all_from, all_to}
 use Rattle.resolvo_catalogue.proofs.Elements.{flat_from, flat_to, option_to, each_from_left, each_from_right, need_from, limit_from, reason_from, from_lines, to_lines}
 use Rattle.resolvo_catalogue.proofs.Alike.{listed_is, member_place, is_package, in_from, in_to, candidate, outside_same, need_binds, meets_same}
@@ -82,6 +82,25 @@ module _ (p : Provider) (catalogue : List Line) (over : IsOver catalogue p) (sam
 
   own_listing : (s : SolvableId) (v : Version) → slice_get (listed catalogue) s.raw ≡ Some v → listing_for same (packages_of p) s ≡ listing_of p (solvables_of p.ids (name_of p.ids s).raw)
   own_listing s v e = listing_is p (solvables_of p.ids (name_of p.ids s).raw) s (in_package (name_of p.ids s) s v e refl)
+
+  -- ---- the mark of a package
+
+  many_of_it : (s : SolvableId) (v : Version) → slice_get (listed catalogue) s.raw ≡ Some v → many_at p s ≡ texts_sets.is_many catalogue v.name
+  many_of_it s v e = get_or_from_slice_get p.many s.raw (texts_sets.is_many catalogue v.name) false (ap (λ (flags : List Bool). slice_get flags s.raw) over.many
+      ∙ slice_get-map (λ (w : Version). texts_sets.is_many catalogue w.name) (listed catalogue) s.raw ∙ ap (option_map (λ (w : Version). texts_sets.is_many catalogue w.name)) e)
+
+  many_of_each : (n : NameId) (name : List ℕ) → IsPackage p.ids n name → (ss : List SolvableId) → ((t : SolvableId) → Contains ss t → Contains (solvables_of p.ids n.raw) t) → (s : SolvableId) → Contains ss s → are_many p ss ≡ texts_sets.is_many catalogue name
+  many_of_each n name is [] among s h = absurd (no_element s h)
+  many_of_each n name is (t ∷ ss) among s h =
+      let w = its_version n t (among t (first_element t ss)) in
+      many_of_it t w.0 w.1 ∙ ap (texts_sets.is_many catalogue) (one_some (sym w.2 ∙ is))
+
+  -- the provider and the lines mark a package alike, which has a version
+  pub package_alike : (n : NameId) (name : List ℕ) → IsPackage p.ids n name → (s : SolvableId) → Contains (solvables_of p.ids n.raw) s → is_many (packages_of p) n ≡ texts_sets.is_many catalogue name
+  package_alike n name is s h = ap (λ (l : pool.Listing SolvableId). l.many) (listing_is p (solvables_of p.ids n.raw) s h) ∙ many_of_each n name is (solvables_of p.ids n.raw) (λ t a. a) s h
+
+  pub mark_alike : (s : SolvableId) (v : Version) → slice_get (listed catalogue) s.raw ≡ Some v → is_many (packages_of p) (name_of p.ids s) ≡ texts_sets.is_many catalogue v.name
+  mark_alike s v e = package_alike (name_of p.ids s) v.name (named s v e) s (in_package (name_of p.ids s) s v e refl)
 
   -- ---- the lines that forbid a version
 
@@ -230,12 +249,12 @@ module _ (p : Provider) (catalogue : List Line) (over : IsOver catalogue p) (sam
           let at = from_lines (listed catalogue) catalogue s.raw v.0 v.1 own_deps.0 own_deps.1 (Unknown r.0) (subst (λ (l : Line). Contains (lines_at catalogue own_deps.0) l) is f.1) in
           is_not (texts.binds (owner_of catalogue at.0) set) (line_kept at.0 (Unknown r.0) at.1) (owned_by (owner_of catalogue at.0) v.0 at.2 v.2))
 
-      one_each : (s t : SolvableId) → is_in same (packages_of p) chosen s ≡ true → is_in same (packages_of p) chosen t ≡ true → name_of p.ids s ≡ name_of p.ids t → s ≡ t
-      one_each s t hs ht e =
+      one_each : (s t : SolvableId) → is_in same (packages_of p) chosen s ≡ true → is_in same (packages_of p) chosen t ≡ true → name_of p.ids s ≡ name_of p.ids t → is_many (packages_of p) (name_of p.ids s) ≡ false → s ≡ t
+      one_each s t hs ht e unmarked =
           let v = represents.each s (found chosen s hs) in
           let w = represents.each t (found chosen t ht) in
           let e_name : v.0.name ≡ w.0.name = one_some (sym (named s v.0 v.1) ∙ ap (λ (n : NameId). slice_get p.ids.names n.raw) e ∙ named t w.0 w.1) in
-          let is : v.0 ≡ w.0 = keeps.single.one_each v.0 w.0 v.2 w.2 e_name in
+          let is : v.0 ≡ w.0 = keeps.single.one_each v.0 w.0 v.2 w.2 e_name (sym (mark_alike s v.0 v.1) ∙ unmarked) in
           ap (λ (k : ℕ). solvable_id k) (over.distinct w.0 s.raw t.raw (v.1 ∙ ap (λ (x : Version). Some x) is) w.1)
 
       pub provider_kept : IsRuleKeeping same (packages_of p) root chosen
@@ -270,6 +289,7 @@ module _ (p : Provider) (catalogue : List Line) (over : IsOver catalogue p) (sam
       obeyed n Skipped e = refl
       obeyed n (Listed v) e = refl
       obeyed n (Favour v) e = refl
+      obeyed n (Many name) e = refl
       obeyed n (Wish v) e = refl
       obeyed n (Needs ss c) e = binding (texts.binds (owner_of catalogue n) set) (lines.condition_holds c set) (lines.is_met_by_one ss set) (λ owned holding.
           let v = owner_there catalogue over.grammatical n ss c e in
@@ -307,6 +327,7 @@ module _ (p : Provider) (catalogue : List Line) (over : IsOver catalogue p) (sam
       asked_obeyed n Skipped e = refl
       asked_obeyed n (Listed v) e = refl
       asked_obeyed n (Favour v) e = refl
+      asked_obeyed n (Many name) e = refl
       asked_obeyed n (Wish v) e = refl
       asked_obeyed n (Needs ss c) e = binding true (lines.condition_holds c set) (lines.is_met_by_one ss set) (λ owned holding.
           let written : List Spec × Option Cond = (ss, c) in
@@ -330,10 +351,10 @@ module _ (p : Provider) (catalogue : List Line) (over : IsOver catalogue p) (sam
       lines_kept = record {
         single = record {
           listed = λ v c. let s = represents.all v c in listed_from catalogue v s.0.raw s.2;
-          one_each = λ v w cv cw e_name.
+          one_each = λ v w cv cw e_name unmarked.
               let s = represents.all v cv in
               let t = represents.all w cw in
-              let is : s.0 ≡ t.0 = keeps.single.one s.0 t.0 (held chosen s.0 s.1) (held chosen t.0 t.1) (one_name (name_of p.ids t.0) v w s.0 s.2 (named t.0 w t.2) e_name) in
+              let is : s.0 ≡ t.0 = keeps.single.one s.0 t.0 (held chosen s.0 s.1) (held chosen t.0 t.1) (one_name (name_of p.ids t.0) v w s.0 s.2 (named t.0 w t.2) e_name) (mark_alike s.0 v s.2 ∙ unmarked) in
               one_some (sym s.2 ∙ ap (λ (x : SolvableId). slice_get (listed catalogue) x.raw) is ∙ t.2);
         };
         catalogue_lines = λ n. each_kept (owner_of catalogue n) (line_at catalogue n) (obeyed n);
@@ -368,14 +389,15 @@ kept_alike_exempt p catalogue request over root wishes alike same apart free cho
 
 -- ---- more is interned
 
-pub over_stays : (a b : Provider) → Interns a.ids b.ids → b.deps ≡ a.deps → b.marks ≡ a.marks → AreSound b.ids → (catalogue : List Line) → IsOver catalogue a → IsOver catalogue b
-over_stays a b more deps marks once catalogue over = record {
+pub over_stays : (a b : Provider) → Interns a.ids b.ids → b.deps ≡ a.deps → b.marks ≡ a.marks → b.many ≡ a.many → AreSound b.ids → (catalogue : List Line) → IsOver catalogue a → IsOver catalogue b
+over_stays a b more deps marks many once catalogue over = record {
   versions = rw more.same (versions_stay a.ids b.ids more.grows a.ids.solvables (listed catalogue) over.versions);
   deps = record {
     as_many = rw deps over.deps.as_many;
     each = rw deps (deps_stay a.ids b.ids more.grows catalogue a.deps over.deps.each);
   };
   marks = rw marks (marked_stays a.ids b.ids more.grows catalogue catalogue (listed catalogue) a.marks over.marks);
+  many = many ∙ over.many;
   once = once;
   distinct = over.distinct;
   grammatical = over.grammatical;

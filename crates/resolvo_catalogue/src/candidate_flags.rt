@@ -6,7 +6,7 @@ ghost use Rattle.resolvo_text.specs.Line.{Version, Line, Favour};
 ghost use Rattle.resolvo_catalogue_core.specs.Questions.{IsRuleLine};
 ghost use Rattle.resolvo_catalogue_core.specs.Listed.{listed, AreDistinct};
 ghost use Rattle.resolvo_catalogue.specs.Ids.{Ids, Interns, LacksNumber};
-ghost use Rattle.resolvo_catalogue.specs.Marked.{AreMarked};
+ghost use Rattle.resolvo_catalogue.specs.Marked.{AreMarked, AreMany};
 
 use crate::id_table::IdTable;
 use resolvo_catalogue_core::{Catalogue, Rule, VersionNo};
@@ -47,6 +47,18 @@ pub fn marks_of(alloc: Global, ids: &mut IdTable, catalogue: &Catalogue) -> R<Ve
         favour(&mut marks, *version);
     }
     Ok(marks)
+}
+
+/// Of each version, by its number, whether its package is marked `many`.
+pub fn many_of(alloc: Global, catalogue: &Catalogue) -> R<Vec<bool>>
+    ensures many { IfOk result (λ flags. AreMany catalogue.now flags.items) }
+    ensures refusal { IsOkUnless result Memory }
+{
+    let mut flags = Vec::new(alloc);
+    for version in catalogue.versions() {
+        flags.push(catalogue.is_many(version.0.as_str()))?;
+    }
+    Ok(flags)
 }
 
 /// No marks of so many versions.

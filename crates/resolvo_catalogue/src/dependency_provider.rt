@@ -5,7 +5,7 @@ ghost use Rattle.resolvo_pool_core.specs.declared.want.Want.TheVariants.{Memory}
 ghost use Rattle.std.specs.List.{find, flat_map};
 ghost use Rattle.resolvo_catalogue.specs.Laws.{operands_below, candidates_named};
 ghost use Rattle.resolvo_catalogue.specs.Ids.{solvables_of};
-ghost use Rattle.resolvo_catalogue.specs.Provider.{matches, marks_at, exclusion_of};
+ghost use Rattle.resolvo_catalogue.specs.Provider.{matches, marks_at, many_at, are_many, exclusion_of};
 ghost use Rattle.resolvo_catalogue.specs.Known.{solvable_at, name_of, set_at, members_of, condition_at, name_text, solvable_text, merged_text, span_text, word_text};
 
 use crate::provider::{CatalogueProvider, Hint};
@@ -180,6 +180,7 @@ impl DependencyProvider for CatalogueProvider {
                 Hint::All => HintDependenciesAvailable::All,
             },
             excluded: self.excluded_of(alloc, versions)?,
+            many: self.are_many(versions),
         }))
     }
 
@@ -258,6 +259,25 @@ impl CatalogueProvider {
             }
         }
         None
+    }
+
+    /// Whether the package of these versions is marked `many`.
+    fn are_many(&self, versions: &[SolvableId]) -> bool
+        ensures { result ≡ are_many self.now versions.now }
+    {
+        match versions.first() {
+            Some(version) => self.is_many(*version),
+            None => false,
+        }
+    }
+
+    fn is_many(&self, solvable: SolvableId) -> bool
+        ensures { result ≡ many_at self.now solvable }
+    {
+        match self.many.get(solvable.to_index()) {
+            Some(many) => *many,
+            None => false,
+        }
     }
 
     fn is_favored(&self, solvable: SolvableId) -> bool

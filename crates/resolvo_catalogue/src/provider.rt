@@ -9,7 +9,7 @@ ghost use Rattle.resolvo_catalogue.specs.Ids.{AreByPackage, Interns, LacksNumber
 ghost use Rattle.resolvo_catalogue.specs.Dependencies.{deps_of};
 ghost use Rattle.resolvo_catalogue.specs.Over.{AreDependencies, IsOver};
 
-use crate::candidate_flags::{CandidateFlags, marks_of};
+use crate::candidate_flags::{CandidateFlags, many_of, marks_of};
 use crate::dependencies::VersionDependencies;
 use crate::id_table::IdTable;
 use crate::versions::list_versions;
@@ -35,6 +35,8 @@ pub struct CatalogueProvider {
     pub(crate) packages: Vec<Vec<SolvableId>>,
     pub(crate) deps: Vec<VersionDependencies>,
     pub(crate) marks: Vec<CandidateFlags>,
+    /// Of each version, whether its package is marked `many`.
+    pub(crate) many: Vec<bool>,
     pub(crate) hint: Hint,
     /// How many more calls of `should_cancel_with_value` don't cancel; without it none cancels.
     pub(crate) budget: Option<Cell<u64>>,
@@ -49,6 +51,7 @@ impl Drop for CatalogueProvider {
             packages: _,
             deps: _,
             marks: _,
+            many: _,
             hint: _,
             budget: _,
             alloc: _,
@@ -69,6 +72,7 @@ impl Model for CatalogueProvider {
           ids = p.ids;
           deps = map deps_of p.deps.items;
           marks = p.marks.items;
+          many = p.many.items;
           hint = p.hint;
           has_budget = is_some p.budget;
         } };
@@ -82,6 +86,7 @@ struct Tables {
     packages: Vec<Vec<SolvableId>>,
     deps: Vec<VersionDependencies>,
     marks: Vec<CandidateFlags>,
+    many: Vec<bool>,
 }
 
 /// A request, as ids of a provider.
@@ -114,12 +119,14 @@ impl CatalogueProvider {
             packages,
             deps,
             marks,
+            many,
         } = tables_of(alloc, &mut ids, catalogue)?;
         Ok(CatalogueProvider {
             ids,
             packages,
             deps,
             marks,
+            many,
             hint,
             budget: None,
             alloc,
@@ -135,6 +142,7 @@ impl CatalogueProvider {
             packages,
             deps,
             marks,
+            many,
             hint,
             budget: _,
             alloc,
@@ -144,6 +152,7 @@ impl CatalogueProvider {
             packages,
             deps,
             marks,
+            many,
             hint,
             budget: Some(Cell::new(budget)),
             alloc,
@@ -276,6 +285,7 @@ fn tables_of(alloc: Global, ids: &mut IdTable, catalogue: &Catalogue) -> R<Table
           ids = ids.new;
           deps = map deps_of t.deps.items;
           marks = t.marks.items;
+          many = t.many.items;
           hint = hint;
           has_budget = has_budget;
         })) }
@@ -285,11 +295,13 @@ fn tables_of(alloc: Global, ids: &mut IdTable, catalogue: &Catalogue) -> R<Table
     let packages = list_versions(alloc, ids, catalogue.versions())?;
     let deps = deps_of_lines(alloc, ids, catalogue)?;
     let marks = marks_of(alloc, ids, catalogue)?;
+    let many = many_of(alloc, catalogue)?;
     ids.ids_are_once();
     Ok(Tables {
         packages,
         deps,
         marks,
+        many,
     })
 }
 

@@ -9,7 +9,7 @@ use Rattle.std.proofs.lemmas.List.{map_push, take-append-le}
 use Rattle.std.proofs.Math.Seq.{take-append_seam}
 use Rattle.std.proofs.lemmas.Option.{slice_get-map, slice_get_within}
 use Rattle.resolvo_text.specs.View.{version_of}
-use Rattle.resolvo_text.specs.Line.{Version, Line, Skipped, Listed, Needs, Limits, Unknown, Lock, Favour, Exclude, Wish}
+use Rattle.resolvo_text.specs.Line.{Version, Line, Skipped, Listed, Needs, Limits, Unknown, Lock, Favour, Exclude, Many, Wish}
 use Rattle.resolvo_text.specs.declared.spec.Version as code
 use Rattle.resolvo_catalogue_core.specs.Grammar.{line_at, owner_below, MayFollowInRequest, IsRequestLine, AreRequestLines}
 use Rattle.resolvo_catalogue_core.specs.Listed.{listed, AreDistinct}
@@ -98,6 +98,7 @@ wished_twice catalogue a keeps v k here present may =
     from_line n w is (Unknown r, at, same) = same
     from_line n w is (Lock x, at, same) = same
     from_line n w is (Favour x, at, same) = same
+    from_line n w is (Many name, at, same) = same
     from_line n w is (Exclude x r, at, same) = same
 
     of_version : (n : ℕ) → IsVersionLine (listed catalogue) (asked_lines a) k Wishes n → ⊥

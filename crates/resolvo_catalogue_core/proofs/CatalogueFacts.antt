@@ -7,7 +7,7 @@ use Rattle.std.proofs.lemmas.List.{take-append-le}
 use Rattle.std.proofs.Math.Seq.{take-append_seam}
 use Rattle.resolvo_catalogue_core.proofs.Pushed.{get_push}
 use Rattle.resolvo_text.specs.Matches.{Set}
-use Rattle.resolvo_text.specs.Line.{Version, Line, Skipped, Listed, Needs, Limits, Unknown, Lock, Favour, Exclude, Wish}
+use Rattle.resolvo_text.specs.Line.{Version, Line, Skipped, Listed, Needs, Limits, Unknown, Lock, Favour, Exclude, Many, Wish}
 use Rattle.resolvo_catalogue_core.specs.Grammar.{line_at, owner_of, IsCatalogueLine, AreCatalogueLines}
 use Rattle.resolvo_catalogue_core.specs.Rules.{obeys, keeps, keeps_in_request}
 use Rattle.resolvo_catalogue_core.specs.Listed.{listed, AreDistinct}
@@ -50,6 +50,7 @@ kind_of_option (Some (line_kinds.Rule x)) r e = cc
 kind_of_option (Some line_kinds.Nothing) r e = absurd cc
 kind_of_option (Some (line_kinds.Listed v)) r e = absurd cc
 kind_of_option (Some (line_kinds.Favour v)) r e = absurd cc
+kind_of_option (Some (line_kinds.Many name)) r e = absurd cc
 
 pub rule_is_line : (t : Table) (lines : List Line) → lines_in t ≡ lines → IsTable t → (n : ℕ) (r : Rule) → option_and_then rule_of (kind_at (kinds_in t) n) ≡ Some r → (l : Line) × (line_at lines n ≡ Some l) × IsRuleLine (listed lines) r (owner_of lines n) l
 rule_is_line t lines is keeps n r e =
@@ -60,6 +61,7 @@ no_rule_line : (vs : List Version) (s : LineKind) → rule_of s ≡ None → is_
 no_rule_line vs line_kinds.Nothing e = refl
 no_rule_line vs (line_kinds.Listed v) e = refl
 no_rule_line vs (line_kinds.Favour v) e = refl
+no_rule_line vs (line_kinds.Many name) e = refl
 no_rule_line vs (line_kinds.Rule r) e = absurd cc
 
 -- where no rule is stored for a line, the line has none
@@ -77,6 +79,7 @@ obeys_no_rule : (owner : Option Version) (l : Line) (set : Set) → is_rule l �
 obeys_no_rule owner Skipped set e = refl
 obeys_no_rule owner (Listed v) set e = refl
 obeys_no_rule owner (Favour v) set e = refl
+obeys_no_rule owner (Many name) set e = refl
 obeys_no_rule owner (Wish v) set e = refl
 obeys_no_rule owner (Needs ss c) set e = absurd cc
 obeys_no_rule owner (Limits s) set e = absurd cc
@@ -120,6 +123,7 @@ no_cases lines n not = from_line (line_at lines n) not
     from_line (Some (Unknown r)) not = refl
     from_line (Some (Lock v)) not = refl
     from_line (Some (Favour v)) not = refl
+    from_line (Some (Many name)) not = refl
     from_line (Some (Exclude v r)) not = refl
     from_line (Some (Wish v)) not = refl
     from_line (Some (Needs ss c)) not = let rule = not (Needs ss c) refl in absurd cc

@@ -5,7 +5,7 @@ use Rattle.std.specs.Option.{option_map_or}
 use Rattle.std.specs.BTreeMap.{get_by_text}
 use Rattle.std.proofs.lemmas.Bool.Decides.{Decides-eqb}
 use Rattle.std.proofs.lemmas.Option.{slice_get-get_or}
-use Rattle.resolvo_text.specs.Line.{Version, Line, Skipped, Listed, Needs, Limits, Unknown, Lock, Favour, Exclude, Wish}
+use Rattle.resolvo_text.specs.Line.{Version, Line, Skipped, Listed, Needs, Limits, Unknown, Lock, Favour, Exclude, Many, Wish}
 use Rattle.resolvo_catalogue_core.specs.Grammar.{line_at, owner_below}
 use Rattle.resolvo_catalogue_core.specs.Questions.{LineIs, Locks, LocksAnother, Excludes, Forbids, IsOnly, IsVersionLine}
 use Rattle.resolvo_catalogue_core.specs.Table.{nowhere, line_of, IsKindOf, IsTable, lines_in, versions_in, kinds_in, is_lock_of_another}
@@ -28,6 +28,7 @@ locks_of_another lines v n (Needs ss c, at, h) = absurd h
 locks_of_another lines v n (Limits s, at, h) = absurd h
 locks_of_another lines v n (Unknown r, at, h) = absurd h
 locks_of_another lines v n (Favour w, at, h) = absurd h
+locks_of_another lines v n (Many name, at, h) = absurd h
 locks_of_another lines v n (Exclude w r, at, h) = absurd h
 locks_of_another lines v n (Wish w, at, h) = absurd h
 
@@ -37,6 +38,7 @@ lock_kind vs above (line_kinds.Rule (rule.Lock j)) w k is e = (j.0, slice_get-ge
 lock_kind vs above line_kinds.Nothing w k is e = absurd cc
 lock_kind vs above (line_kinds.Listed j) w k is e = absurd cc
 lock_kind vs above (line_kinds.Favour j) w k is e = absurd cc
+lock_kind vs above (line_kinds.Many name) w k is e = absurd cc
 lock_kind vs above (line_kinds.Rule (rule.Needs of ss c)) w k is e = absurd cc
 lock_kind vs above (line_kinds.Rule (rule.Limits of s)) w k is e = absurd cc
 lock_kind vs above (line_kinds.Rule (rule.Unknown of r)) w k is e = absurd cc
@@ -64,6 +66,7 @@ lock_line t keeps name line some = from_line ((keeps.locks name line).0 some)
     from_line (Limits s, at, h) = absurd h
     from_line (Unknown r, at, h) = absurd h
     from_line (Favour w, at, h) = absurd h
+    from_line (Many name, at, h) = absurd h
     from_line (Exclude w r, at, h) = absurd h
     from_line (Wish w, at, h) = absurd h
 
@@ -125,6 +128,7 @@ own_lock t keeps v k name line at same some own =
     never w one at_w (Limits s, at_x, h) = h
     never w one at_w (Unknown r, at_x, h) = h
     never w one at_w (Favour x, at_x, h) = h
+    never w one at_w (Many name, at_x, h) = h
     never w one at_w (Exclude x r, at_x, h) = h
     never w one at_w (Wish x, at_x, h) = h
 

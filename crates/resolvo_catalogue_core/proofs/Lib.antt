@@ -7,6 +7,7 @@ pub mod PickedLemmas
 pub mod TableLemmas
 pub mod TableSteps
 pub mod PlaceLemmas
+pub mod ManyLemmas
 pub mod Members
 pub mod CatalogueFacts
 pub mod ForbidLemmas

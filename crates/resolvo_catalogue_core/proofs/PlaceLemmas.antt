@@ -1,14 +1,14 @@
 -- Whether a line is allowed below those of a table, by its maps.
-use Rattle.std.proofs.Common.{◌≡◌, is_some, true, false, ℕ, zero, suc, ◌-◌, ◌<◌, ◌≤◌, List, length, get_or, take, Option, Some, None, refl, sym, ap, subst, ◌∙◌, arith, option_map}
+use Rattle.std.proofs.Common.{◌≡◌, is_some, true, false, ℕ, zero, suc, ◌-◌, ◌<◌, ◌≤◌, List, [], length, get_or, take, Option, Some, None, refl, sym, ap, subst, ◌∙◌, arith, option_map}
 use Rattle.std.specs.Prelude.{Contains, slice_get, Result, Ok, Err, IfOk, OnErr, is_ok}
 use Rattle.std.specs.BTreeMap.{get, get_by_text}
 use Rattle.std.specs.Ordering.{nat_cmp}
 use Rattle.std.proofs.lemmas.Option.{get_or_from_slice_get, slice_get_within, slice_get-get_or, slice_get_past}
 use Rattle.std.proofs.lemmas.List.{length-map}
-use Rattle.resolvo_text.specs.Line.{Version, Line, Skipped, Listed, Needs, Limits, Unknown, Lock, Favour, Exclude, Wish}
+use Rattle.resolvo_text.specs.Line.{Version, Line, Skipped, Listed, Needs, Limits, Unknown, Lock, Favour, Exclude, Many, Wish}
 use Rattle.resolvo_catalogue_core.specs.Grammar.{line_at, owner_of, owner_below, MayFollow}
-use Rattle.resolvo_catalogue_core.specs.Questions.{LineIs, MarksUnknownOf, Locks, Favours, Excludes, number_of}
-use Rattle.resolvo_catalogue_core.specs.Table.{IsTable, nowhere, lines_in, versions_in, number_in, kinds_in}
+use Rattle.resolvo_catalogue_core.specs.Questions.{LineIs, MarksUnknownOf, Locks, Favours, MarksMany, Excludes, number_of}
+use Rattle.resolvo_catalogue_core.specs.Table.{IsTable, nowhere, lines_in, versions_in, number_in, kinds_in, numbers_in}
 use Rattle.resolvo_catalogue_core.specs.Listed.{pair_version}
 use Rattle.resolvo_catalogue_core.specs.Questions.{IsVersionLine}
 use Rattle.resolvo_catalogue_core.specs.declared.rule.VersionNo.{VersionNo}
@@ -108,6 +108,7 @@ locked_twice t keeps v name same present may =
     from_line n (Limits s, at, is) = is
     from_line n (Unknown r, at, is) = is
     from_line n (Favour w, at, is) = is
+    from_line n (Many name, at, is) = is
     from_line n (Exclude w r, at, is) = is
     from_line n (Wish w, at, is) = is
 
@@ -134,6 +135,7 @@ favoured_twice t keeps v name same present may =
     from_line n (Unknown r, at, is) = is
     from_line n (Lock w, at, is) = is
     from_line n (Exclude w r, at, is) = is
+    from_line n (Many name, at, is) = is
     from_line n (Wish w, at, is) = is
 
 pub exclude_placed : (t : Table) → IsTable t → (v : Version) (word : List ℕ) (k : ℕ) → slice_get (versions_in t) k ≡ Some v → is_some (get nat_cmp t.excluded k) ≡ false → MayFollow (lines_in t) (Exclude v word)
@@ -157,10 +159,58 @@ excluded_twice t keeps v word k here present may = let some = some_from (get nat
     from_line n w is (Unknown r, at, same) = same
     from_line n w is (Lock x, at, same) = same
     from_line n w is (Favour x, at, same) = same
+    from_line n w is (Many name, at, same) = same
     from_line n w is (Wish x, at, same) = same
 
     of_version : (n : ℕ) → IsVersionLine (versions_in t) (lines_in t) k Excludes n → ⊥
     of_version n (w, there, line) = let same : w ≡ v = cc in from_line n w same line
+
+-- ---- `many` lines
+
+-- no version is listed of a package that has no numbers
+pub none_listed : (t : Table) → IsTable t → (name : List ℕ) → numbers_in (get_by_text t.packages name) ≡ [] → (n : ℕ) → Contains (lines_in t) (Listed (record { name = name; number = n })) → ⊥
+none_listed t keeps name none n has =
+    let v : Version = record { name = name; number = n } in
+    let h = listed_has (lines_in t) v has in
+    let at : slice_get (versions_in t) h.0 ≡ Some v = subst (λ (vs : List Version). slice_get vs h.0 ≡ Some v) keeps.listing h.1 in
+    let found : Contains (numbers_in (get_by_text t.packages name)) h.0 = ((keeps.packages name).all.all h.0).1 (v, at, refl) in
+    let there : Contains [] h.0 = subst (λ (xs : List ℕ). Contains xs h.0) none found in
+    omega (arith, there.1)
+
+-- and one is of a package that has some
+pub some_listed : (t : Table) → IsTable t → (name : List ℕ) (k : ℕ) → Contains (numbers_in (get_by_text t.packages name)) k → (n : ℕ) × Contains (lines_in t) (Listed (record { name = name; number = n }))
+some_listed t keeps name k has =
+    let v = ((keeps.packages name).all.all k).0 has in
+    (v.0.number, subst (λ (x : List ℕ). Contains (lines_in t) (Listed (record { name = x; number = v.0.number }))) v.2 (found_listed t keeps v.0 k v.1))
+
+pub many_placed : (t : Table) → IsTable t → (name : List ℕ) → is_some (get_by_text t.many name) ≡ false → numbers_in (get_by_text t.packages name) ≡ [] → MayFollow (lines_in t) (Many name)
+many_placed t keeps name absent none =
+    let unmarked : get_by_text t.many name ≡ None = none_from (get_by_text t.many name) absent in (
+      λ has.
+          let h = line_from_contains (lines_in t) (Many name) (MarksMany name) has (λ owner. refl) in
+          none_is_some (sym unmarked ∙ (keeps.many name h.0).1 h.1),
+      none_listed t keeps name none,
+    )
+
+pub many_twice : (t : Table) → IsTable t → (name : List ℕ) → is_some (get_by_text t.many name) ≡ true → MayFollow (lines_in t) (Many name) → ⊥
+many_twice t keeps name present may =
+    let some = some_from (get_by_text t.many name) present in
+    from_line some.0 ((keeps.many name some.0).0 some.1)
+  where
+    from_line : (n : ℕ) → LineIs (lines_in t) n (MarksMany name) → ⊥
+    from_line n (Many marked, at, is) = may.0 (subst (λ (x : List ℕ). Contains (lines_in t) (Many x)) is (contains_from_line (lines_in t) n (Many marked) at))
+    from_line n (Skipped, at, is) = is
+    from_line n (Listed w, at, is) = is
+    from_line n (Needs ss c, at, is) = is
+    from_line n (Limits s, at, is) = is
+    from_line n (Unknown r, at, is) = is
+    from_line n (Lock w, at, is) = is
+    from_line n (Favour w, at, is) = is
+    from_line n (Exclude w r, at, is) = is
+    from_line n (Wish w, at, is) = is
+
+pub many_below : (t : Table) → IsTable t → (name : List ℕ) (k : ℕ) → Contains (numbers_in (get_by_text t.packages name)) k → MayFollow (lines_in t) (Many name) → ⊥
+many_below t keeps name k has may = let v = some_listed t keeps name k has in may.1 v.0 v.1
 
 -- ---- unknown marks
 
@@ -184,6 +234,7 @@ unknown_twice t keeps v word k here owner present may = let some = some_from (ge
     from_line n w is (Limits s, at, same) = same
     from_line n w is (Lock x, at, same) = same
     from_line n w is (Favour x, at, same) = same
+    from_line n w is (Many name, at, same) = same
     from_line n w is (Exclude x r, at, same) = same
     from_line n w is (Wish x, at, same) = same
 
@@ -230,4 +281,5 @@ excluded_listed t keeps v (suc n) (Limits s, at, is) = absurd is
 excluded_listed t keeps v (suc n) (Unknown r, at, is) = absurd is
 excluded_listed t keeps v (suc n) (Lock w, at, is) = absurd is
 excluded_listed t keeps v (suc n) (Favour w, at, is) = absurd is
+excluded_listed t keeps v (suc n) (Many name, at, is) = absurd is
 excluded_listed t keeps v (suc n) (Wish w, at, is) = absurd is

@@ -7,7 +7,7 @@ use Rattle.std.proofs.Math.ListN.{get_or-append}
 use Rattle.std.proofs.Math.Seq.{take-append_seam}
 use Rattle.std.proofs.lemmas.List.Elements.{filter_map-append, Contains-append_left}
 use Rattle.std.proofs.lemmas.Option.{slice_get_within, slice_get-get_or, slice_get-map}
-use Rattle.resolvo_text.specs.Line.{Version, Line, Skipped, Listed, Needs, Limits, Unknown, Lock, Favour, Exclude, Wish}
+use Rattle.resolvo_text.specs.Line.{Version, Line, Skipped, Listed, Needs, Limits, Unknown, Lock, Favour, Exclude, Many, Wish}
 use Rattle.resolvo_catalogue_core.specs.Grammar.{owner_of, owner_below, later, version_of}
 use Rattle.resolvo_catalogue_core.specs.Listed.{listed}
 use Rattle.resolvo_catalogue_core.specs.Questions.{LineIs, BelongsTo, MarksUnknownOf, IsOwner}
@@ -47,6 +47,7 @@ listed_from (line ∷ lines) v k e = from_line line v lines (λ j h. listed_from
     from_line (Unknown r) v lines below k e = further (Unknown r) v lines (below k e)
     from_line (Lock w) v lines below k e = further (Lock w) v lines (below k e)
     from_line (Favour w) v lines below k e = further (Favour w) v lines (below k e)
+    from_line (Many name) v lines below k e = further (Many name) v lines (below k e)
     from_line (Exclude w r) v lines below k e = further (Exclude w r) v lines (below k e)
     from_line (Wish w) v lines below k e = further (Wish w) v lines (below k e)
 
@@ -89,6 +90,7 @@ pub line_of_more : (vs : List Version) (w : Version) (above : Option Version) (s
 line_of_more vs w above line_kinds.Nothing h = refl
 line_of_more vs w above (line_kinds.Listed v) h = ap (λ (x : Version). Listed x) (get_or-append vs (w ∷ []) nowhere v.0 h)
 line_of_more vs w above (line_kinds.Favour v) h = ap (λ (x : Version). Favour x) (get_or-append vs (w ∷ []) nowhere v.0 h)
+line_of_more vs w above (line_kinds.Many name) h = refl
 line_of_more vs w above (line_kinds.Rule (rule.Needs of ss c)) h = refl
 line_of_more vs w above (line_kinds.Rule (rule.Limits of s)) h = refl
 line_of_more vs w above (line_kinds.Rule (rule.Unknown of r)) h = refl
@@ -109,6 +111,7 @@ is_kind_more : (vs : List Version) (w : Version) (above : Option Version) (s : L
 is_kind_more vs w above line_kinds.Nothing h = h
 is_kind_more vs w above (line_kinds.Listed v) h = omega (arith, length-append vs (w ∷ []), h)
 is_kind_more vs w above (line_kinds.Favour v) h = omega (arith, length-append vs (w ∷ []), h)
+is_kind_more vs w above (line_kinds.Many name) h = h
 is_kind_more vs w above (line_kinds.Rule (rule.Needs of ss c)) h = is_owner_more vs w of above h
 is_kind_more vs w above (line_kinds.Rule (rule.Limits of s)) h = is_owner_more vs w of above h
 is_kind_more vs w above (line_kinds.Rule (rule.Unknown of r)) h = is_owner_more vs w (Some of) above h
@@ -151,6 +154,7 @@ belongs_owner v lines n (Skipped, at, is) = absurd is
 belongs_owner v lines n (Listed w, at, is) = absurd is
 belongs_owner v lines n (Lock w, at, is) = absurd is
 belongs_owner v lines n (Favour w, at, is) = absurd is
+belongs_owner v lines n (Many name, at, is) = absurd is
 belongs_owner v lines n (Exclude w r, at, is) = absurd is
 belongs_owner v lines n (Wish w, at, is) = absurd is
 
@@ -162,6 +166,7 @@ marks_owner v lines n (Skipped, at, is) = absurd is
 marks_owner v lines n (Listed w, at, is) = absurd is
 marks_owner v lines n (Lock w, at, is) = absurd is
 marks_owner v lines n (Favour w, at, is) = absurd is
+marks_owner v lines n (Many name, at, is) = absurd is
 marks_owner v lines n (Exclude w r, at, is) = absurd is
 marks_owner v lines n (Wish w, at, is) = absurd is
 
@@ -181,6 +186,7 @@ excluded_at vs above (line_kinds.Rule (rule.Exclude k r)) v word is e = (k.0, sl
 excluded_at vs above line_kinds.Nothing v word is e = absurd cc
 excluded_at vs above (line_kinds.Listed k) v word is e = absurd cc
 excluded_at vs above (line_kinds.Favour k) v word is e = absurd cc
+excluded_at vs above (line_kinds.Many name) v word is e = absurd cc
 excluded_at vs above (line_kinds.Rule (rule.Needs of ss c)) v word is e = absurd cc
 excluded_at vs above (line_kinds.Rule (rule.Limits of s)) v word is e = absurd cc
 excluded_at vs above (line_kinds.Rule (rule.Unknown of r)) v word is e = absurd cc

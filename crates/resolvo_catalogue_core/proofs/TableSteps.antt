@@ -20,9 +20,9 @@ use Rattle.std.specs.declared.string.String.{String}
 use Rattle.resolvo_text.specs.View.{spec_of, specs_of, condition_of}
 use Rattle.resolvo_text.specs.declared.spec.Spec as code
 use Rattle.resolvo_text.specs.declared.condition.Cond.{Cond}
-use Rattle.resolvo_text.specs.Line.{Version, Line, Skipped, Listed, Needs, Limits, Unknown, Lock, Favour, Exclude}
+use Rattle.resolvo_text.specs.Line.{Version, Line, Skipped, Listed, Needs, Limits, Unknown, Lock, Favour, Exclude, Many}
 use Rattle.resolvo_catalogue_core.specs.Grammar.{owner_below}
-use Rattle.resolvo_catalogue_core.specs.Questions.{IsOnly, AreAll, LineIs, BelongsTo, MarksUnknownOf, Locks, Favours, Excludes, IsFavour}
+use Rattle.resolvo_catalogue_core.specs.Questions.{IsOnly, AreAll, LineIs, BelongsTo, MarksUnknownOf, Locks, Favours, MarksMany, Excludes, IsFavour}
 use Rattle.resolvo_catalogue_core.specs.Table.{nth, nowhere, line_of, Keeps, IsTable, Adds, lines_in, versions_in, kinds_in, number_in}
 use Rattle.resolvo_catalogue_core.specs.LinesByVersion.{kept_of}
 use Rattle.resolvo_catalogue_core.specs.Numbered.{beside, IsNumbered}
@@ -69,6 +69,7 @@ skip t u keeps more =
       packages = keeps.packages;
       locks = λ name. only_other (keeps.locks name) (line_grows lines Skipped (Locks name)) (λ x. x);
       favoured = λ name. only_other (keeps.favoured name) (line_grows lines Skipped (Favours name)) (λ x. x);
+      many = λ name. only_other (keeps.many name) (line_grows lines Skipped (MarksMany name)) (λ x. x);
       excluded = λ k. only_other (keeps.excluded k) (version_line_grows vs lines Skipped k Excludes) (λ x. x.2);
       unknown = λ k. only_other (keeps.unknown k) (version_line_grows vs lines Skipped k MarksUnknownOf) (λ x. x.2);
       owned = λ k. all_other (keeps.owned k) (version_line_grows vs lines Skipped k BelongsTo) (λ x. x.2);
@@ -93,6 +94,33 @@ lock t u line k v name keeps number at same absent more locked =
       locks = keyed_new bytes_eq bytes_eq-Decides (get_by_text t.locks) (get_by_text u.locks) v.name line (λ name n. LineIs lines n (Locks name)) (λ name n. LineIs (lines ++ l ∷ []) n (Locks name)) (λ name. v.name ≡ name)
           locked none keeps.locks (λ name. rw number (line_grows lines l (Locks name))) refl (λ name same. same);
       favoured = λ name. only_other (keeps.favoured name) (line_grows lines l (Favours name)) (λ x. x);
+      many = λ name. only_other (keeps.many name) (line_grows lines l (MarksMany name)) (λ x. x);
+      excluded = λ j. only_other (keeps.excluded j) (version_line_grows vs lines l j Excludes) (λ x. x.2);
+      unknown = λ j. only_other (keeps.unknown j) (version_line_grows vs lines l j MarksUnknownOf) (λ x. x.2);
+      owned = λ j. all_other (keeps.owned j) (version_line_grows vs lines l j BelongsTo) (λ x. x.2);
+      as_many = keeps.as_many;
+      favour_lines = all_other keeps.favour_lines (line_grows lines l IsFavour) (λ x. x);
+      favour_versions = λ i f at. favours_kept vs lines l f (keeps.favour_versions i f at);
+    })
+
+-- ---- a `many` line
+
+pub mark_many : (t u : Table) (line : ℕ) (name : String Global) → IsTable t → line ≡ length (lines_in t) + 1 → is_some (get_by_text t.many (string_bytes name)) ≡ false
+    → kinds_in u ≡ kinds_in t ++ line_kinds.Many name ∷ [] → ((other : List ℕ) → get_by_text u.many other ≡ update bytes_eq (get_by_text t.many) (string_bytes name) (Some line) other)
+    → Adds t (Many (string_bytes name)) (record t { line_kinds = u.line_kinds; many = u.many })
+mark_many t u line name keeps number absent more marked =
+    let none : get_by_text t.many (string_bytes name) ≡ None = none_from (get_by_text t.many (string_bytes name)) absent in
+    let vs = versions_in t in
+    let lines = lines_in t in
+    let l : Line = Many (string_bytes name) in
+    adds_from t (record t { line_kinds = u.line_kinds; many = u.many }) (line_kinds.Many name) l refl more refl (record {
+      listing = listed_same lines l refl ∙ keeps.listing;
+      kinds = rw more (are_kinds_push vs lines (kinds_in t) l (line_kinds.Many name) (as_long t) keeps.kinds tt);
+      packages = keeps.packages;
+      locks = λ nm. only_other (keeps.locks nm) (line_grows lines l (Locks nm)) (λ x. x);
+      favoured = λ nm. only_other (keeps.favoured nm) (line_grows lines l (Favours nm)) (λ x. x);
+      many = keyed_new bytes_eq bytes_eq-Decides (get_by_text t.many) (get_by_text u.many) (string_bytes name) line (λ nm n. LineIs lines n (MarksMany nm)) (λ nm n. LineIs (lines ++ l ∷ []) n (MarksMany nm)) (λ nm. string_bytes name ≡ nm)
+          marked none keeps.many (λ nm. rw number (line_grows lines l (MarksMany nm))) refl (λ nm same. same);
       excluded = λ j. only_other (keeps.excluded j) (version_line_grows vs lines l j Excludes) (λ x. x.2);
       unknown = λ j. only_other (keeps.unknown j) (version_line_grows vs lines l j MarksUnknownOf) (λ x. x.2);
       owned = λ j. all_other (keeps.owned j) (version_line_grows vs lines l j BelongsTo) (λ x. x.2);
@@ -122,6 +150,7 @@ need t u line k v vec condition keeps number at owner more recorded as_many =
       packages = keeps.packages;
       locks = λ name. only_other (keeps.locks name) (line_grows lines l (Locks name)) (λ x. x);
       favoured = λ name. only_other (keeps.favoured name) (line_grows lines l (Favours name)) (λ x. x);
+      many = λ name. only_other (keeps.many name) (line_grows lines l (MarksMany name)) (λ x. x);
       excluded = λ j. only_other (keeps.excluded j) (version_line_grows vs lines l j Excludes) (λ x. x.2);
       unknown = λ j. only_other (keeps.unknown j) (version_line_grows vs lines l j MarksUnknownOf) (λ x. x.2);
       owned = keyed_more nat_eq Decides-eqb (kept_of t.owned) (kept_of u.owned) k.0 line (λ j. IsVersionLine vs lines j BelongsTo) (λ j. IsVersionLine vs (lines ++ l ∷ []) j BelongsTo) (λ j. (w : Version) × (slice_get vs j ≡ Some w) × (owner_below lines ≡ Some w))
@@ -144,6 +173,7 @@ limit t u line k v spec keeps number at owner more recorded as_many =
       packages = keeps.packages;
       locks = λ name. only_other (keeps.locks name) (line_grows lines l (Locks name)) (λ x. x);
       favoured = λ name. only_other (keeps.favoured name) (line_grows lines l (Favours name)) (λ x. x);
+      many = λ name. only_other (keeps.many name) (line_grows lines l (MarksMany name)) (λ x. x);
       excluded = λ j. only_other (keeps.excluded j) (version_line_grows vs lines l j Excludes) (λ x. x.2);
       unknown = λ j. only_other (keeps.unknown j) (version_line_grows vs lines l j MarksUnknownOf) (λ x. x.2);
       owned = keyed_more nat_eq Decides-eqb (kept_of t.owned) (kept_of u.owned) k.0 line (λ j. IsVersionLine vs lines j BelongsTo) (λ j. IsVersionLine vs (lines ++ l ∷ []) j BelongsTo) (λ j. (w : Version) × (slice_get vs j ≡ Some w) × (owner_below lines ≡ Some w))
@@ -168,6 +198,7 @@ mark_unknown t u line k v word keeps number at owner absent more recorded as_man
       packages = keeps.packages;
       locks = λ name. only_other (keeps.locks name) (line_grows lines l (Locks name)) (λ x. x);
       favoured = λ name. only_other (keeps.favoured name) (line_grows lines l (Favours name)) (λ x. x);
+      many = λ name. only_other (keeps.many name) (line_grows lines l (MarksMany name)) (λ x. x);
       excluded = λ j. only_other (keeps.excluded j) (version_line_grows vs lines l j Excludes) (λ x. x.2);
       unknown = keyed_new nat_eq Decides-eqb (get nat_cmp t.unknown) (get nat_cmp u.unknown) k.0 line (λ j. IsVersionLine vs lines j MarksUnknownOf) (λ j. IsVersionLine vs (lines ++ l ∷ []) j MarksUnknownOf) (λ j. (w : Version) × (slice_get vs j ≡ Some w) × (owner_below lines ≡ Some w))
           marked (none_from (get nat_cmp t.unknown k.0) absent) keeps.unknown (λ j. rw number (version_line_grows vs lines l j MarksUnknownOf)) (v, at, owner) (owner_only t keeps v k.0 at owner);
@@ -192,6 +223,7 @@ exclude t u line k v word keeps number at absent more marked =
       packages = keeps.packages;
       locks = λ name. only_other (keeps.locks name) (line_grows lines l (Locks name)) (λ x. x);
       favoured = λ name. only_other (keeps.favoured name) (line_grows lines l (Favours name)) (λ x. x);
+      many = λ name. only_other (keeps.many name) (line_grows lines l (MarksMany name)) (λ x. x);
       excluded = keyed_new nat_eq Decides-eqb (get nat_cmp t.excluded) (get nat_cmp u.excluded) k.0 line (λ j. IsVersionLine vs lines j Excludes) (λ j. IsVersionLine vs (lines ++ l ∷ []) j Excludes) (λ j. (w : Version) × (slice_get vs j ≡ Some w) × (v ≡ w))
           marked (none_from (get nat_cmp t.excluded k.0) absent) keeps.excluded (λ j. rw number (version_line_grows vs lines l j Excludes)) (v, at, refl) (λ j h. one_number t vs lines keeps v k.0 j at (h.1 ∙ ap (λ (x : Version). Some x) (sym h.2)));
       unknown = λ j. only_other (keeps.unknown j) (version_line_grows vs lines l j MarksUnknownOf) (λ x. x.2);
@@ -217,6 +249,7 @@ favour t u line k v name keeps number at same absent more favoured pushed =
       locks = λ name. only_other (keeps.locks name) (line_grows lines l (Locks name)) (λ x. x);
       favoured = keyed_new bytes_eq bytes_eq-Decides (get_by_text t.favoured) (get_by_text u.favoured) v.name line (λ name n. LineIs lines n (Favours name)) (λ name n. LineIs (lines ++ l ∷ []) n (Favours name)) (λ name. v.name ≡ name)
           favoured none keeps.favoured (λ name. rw number (line_grows lines l (Favours name))) refl (λ name same. same);
+      many = λ name. only_other (keeps.many name) (line_grows lines l (MarksMany name)) (λ x. x);
       excluded = λ j. only_other (keeps.excluded j) (version_line_grows vs lines l j Excludes) (λ x. x.2);
       unknown = λ j. only_other (keeps.unknown j) (version_line_grows vs lines l j MarksUnknownOf) (λ x. x.2);
       owned = λ j. all_other (keeps.owned j) (version_line_grows vs lines l j BelongsTo) (λ x. x.2);
@@ -344,6 +377,7 @@ list t u k v keeps number unlisted adds versions more kept as_many =
       };
       locks = λ name. only_other (keeps.locks name) (line_grows lines l (Locks name)) (λ x. x);
       favoured = λ name. only_other (keeps.favoured name) (line_grows lines l (Favours name)) (λ x. x);
+      many = λ name. only_other (keeps.many name) (line_grows lines l (MarksMany name)) (λ x. x);
       excluded = λ j. only_other (keeps.excluded j) (version_line_of_listed vs lines v l j Excludes none_forbids (λ x h. h)) (λ x. x);
       unknown = λ j. only_other (keeps.unknown j) (version_line_of_listed vs lines v l j MarksUnknownOf none_mark (λ x h. h)) (λ x. x);
       owned = λ j. rw (kept j) (all_other (keeps.owned j) (version_line_of_listed vs lines v l j BelongsTo above (λ x h. h)) (λ x. x));
@@ -379,8 +413,8 @@ no_line Q zero h = absurd cc
 no_line Q (suc n) h = absurd cc
 
 -- a table of no line
-pub empty : (t : Table) → t.versions.items ≡ [] → kinds_in t ≡ [] → t.packages.entries ≡ [] → t.locks.entries ≡ [] → t.favoured.entries ≡ [] → t.excluded.entries ≡ [] → t.unknown.entries ≡ [] → t.owned ≡ [] → t.favours.items ≡ [] → IsTable t
-empty t versions kinds packages locks favoured excluded unknown owned favours =
+pub empty : (t : Table) → t.versions.items ≡ [] → kinds_in t ≡ [] → t.packages.entries ≡ [] → t.locks.entries ≡ [] → t.favoured.entries ≡ [] → t.many.entries ≡ [] → t.excluded.entries ≡ [] → t.unknown.entries ≡ [] → t.owned ≡ [] → t.favours.items ≡ [] → IsTable t
+empty t versions kinds packages locks favoured many excluded unknown owned favours =
     let vs : versions_in t ≡ [] = rw versions refl in
     let lines : lines_in t ≡ [] = rw kinds refl in
     let keeps : Keeps t [] [] = record {
@@ -389,6 +423,7 @@ empty t versions kinds packages locks favoured excluded unknown owned favours =
       packages = λ name. record { kept = λ p is. no_package (get_by_text t.packages name) p (rw packages refl) is; numbers = λ k. no_only _ _ (rw packages refl) (λ n at. none_got n (record { name = name; number = k }) at); all = rw packages (no_all (IsOfPackage [] name) (λ n h. none_got n h.0 h.1)) };
       locks = λ name. no_only _ _ (rw locks refl) (no_line (Locks name));
       favoured = λ name. no_only _ _ (rw favoured refl) (no_line (Favours name));
+      many = λ name. no_only _ _ (rw many refl) (no_line (MarksMany name));
       excluded = λ k. no_only _ _ (rw excluded refl) (λ n h. none_got k h.0 h.1);
       unknown = λ k. no_only _ _ (rw unknown refl) (λ n h. none_got k h.0 h.1);
       owned = λ k. rw owned (no_all (IsVersionLine [] [] k BelongsTo) (λ n h. none_got k h.0 h.1));

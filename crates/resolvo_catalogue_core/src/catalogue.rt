@@ -57,6 +57,7 @@ impl Catalogue {
     ghost use Rattle.resolvo_text.specs.Texts.{IsGrammatical, IsTextFault};
     ghost use Rattle.resolvo_catalogue_core.specs.Rules.{keeps};
     ghost use Rattle.resolvo_catalogue_core.specs.Listed.{listed, version_at, members, is_match, pair_versions, AreDistinct};
+    ghost use Rattle.resolvo_catalogue_core.specs.Sets.{is_many};
     ghost use Rattle.resolvo_catalogue_core.specs.Questions.{IsOnly, AreAll, IsOfPackage, IsVersionLine, BelongsTo, IsRuleLine, LineIs, IsFavour, FavoursAt, Forbids, is_rule, cases_of_line, number_of};
     ghost use Rattle.resolvo_catalogue_core.specs.Picked.{IsPicked};
 
@@ -97,6 +98,13 @@ impl Catalogue {
         ensures { AreAll (map number_of result.now) (IsOfPackage (listed self.now) name.now) }
     {
         self.table.versions_of(name)
+    }
+
+    /// Whether a line marks the package `many`, so that versions of it may be side by side.
+    pub fn is_many(&self, name: &str) -> bool
+        ensures { result ≡ is_many self.now name.now }
+    {
+        self.table.is_many(name)
     }
 
     /// The versions of the SPEC's package that it matches; with `outside`, those that it doesn't.

@@ -14,15 +14,19 @@ pub enum LineKind {
     Nothing,
     Listed(VersionNo),
     Favour(VersionNo),
+    /// The package of this name may have several versions side by side.
+    Many(String),
     Rule(Rule),
 }
 
-/// The stored form of a line: for a rule, its index among the rules.
+/// The stored form of a line: for a rule, its index among the rules, for a marked package that of
+/// its name.
 #[derive(Clone, Copy, Debug)]
 pub enum StoredLine {
     Nothing,
     Listed(VersionNo),
     Favour(VersionNo),
+    Many(usize),
     Rule(usize),
 }
 
@@ -30,22 +34,25 @@ pub enum StoredLine {
 pub struct LineTable {
     held: Vec<StoredLine>,
     rules: Vec<Rule>,
-    ghost in_range: { are_held (length rules.items) held.items ≡ true },
+    /// The names of the packages that are marked `many`.
+    marked: Vec<String>,
+    ghost in_range: { are_held (length rules.items) (length marked.items) held.items ≡ true },
 }
 
 impl LineTable {
     pub fn new(alloc: Global) -> Self
-        ensures { kind_list result.rules.items result.held.items ≡ [] }
+        ensures { kind_list result.rules.items result.marked.items result.held.items ≡ [] }
     {
         LineTable {
             held: Vec::new(alloc),
             rules: Vec::new(alloc),
+            marked: Vec::new(alloc),
         }
     }
 
     /// How many lines there are.
     pub fn len(&self) -> usize
-        ensures { result ≡ length (kind_list self.now.rules.items self.now.held.items) }
+        ensures { result ≡ length (kind_list self.now.rules.items self.now.marked.items self.now.held.items) }
     {
         self.held.len()
     }
@@ -53,24 +60,25 @@ impl LineTable {
     /// Adds a line.
     pub fn push(&mut self, kind: LineKind) -> Result<(), AllocError>
         ensures { OnOk result
-            (kind_list self.new.rules.items self.new.held.items
-            ≡ kind_list self.old.rules.items self.old.held.items ++ kind
+            (kind_list self.new.rules.items self.new.marked.items self.new.held.items
+            ≡ kind_list self.old.rules.items self.old.marked.items self.old.held.items ++ kind
             ∷ []) }
     {
         match kind {
             LineKind::Nothing => self.hold(StoredLine::Nothing),
             LineKind::Listed(version) => self.hold(StoredLine::Listed(version)),
             LineKind::Favour(version) => self.hold(StoredLine::Favour(version)),
+            LineKind::Many(name) => self.push_marked(name),
             LineKind::Rule(rule) => self.push_rule(rule),
         }
     }
 
     fn hold(&mut self, held: StoredLine) -> Result<(), AllocError>
-        requires { is_held (length self.old.rules.items) held ≡ true }
+        requires { is_held (length self.old.rules.items) (length self.old.marked.items) held ≡ true }
         ensures { OnOk result
-            (kind_list self.new.rules.items self.new.held.items
-            ≡ kind_list self.old.rules.items self.old.held.items ++ kind_in self.old.rules.items
-            held
+            (kind_list self.new.rules.items self.new.marked.items self.new.held.items
+            ≡ kind_list self.old.rules.items self.old.marked.items self.old.held.items ++ kind_in self.old.rules.items
+            self.old.marked.items held
             ∷ []) }
     {
         self.held.push(held)?;
@@ -79,13 +87,25 @@ impl LineTable {
 
     fn push_rule(&mut self, rule: Rule) -> Result<(), AllocError>
         ensures { OnOk result
-            (kind_list self.new.rules.items self.new.held.items
-            ≡ kind_list self.old.rules.items self.old.held.items ++ kind.Rule rule
+            (kind_list self.new.rules.items self.new.marked.items self.new.held.items
+            ≡ kind_list self.old.rules.items self.old.marked.items self.old.held.items ++ kind.Rule rule
             ∷ []) }
     {
         let place = self.rules.len();
         self.rules.push(rule)?;
         self.held.push(StoredLine::Rule(place))?;
+        Ok(())
+    }
+
+    fn push_marked(&mut self, name: String) -> Result<(), AllocError>
+        ensures { OnOk result
+            (kind_list self.new.rules.items self.new.marked.items self.new.held.items
+            ≡ kind_list self.old.rules.items self.old.marked.items self.old.held.items ++ kind.Many name
+            ∷ []) }
+    {
+        let place = self.marked.len();
+        self.marked.push(name)?;
+        self.held.push(StoredLine::Many(place))?;
         Ok(())
     }
 
@@ -109,7 +129,7 @@ impl LineTable {
     pub fn rule(&self, line: u32) -> Option<&Rule>
         ensures { option_copied result
             ≡ option_and_then rule_of
-            (kind_at (kind_list self.now.rules.items self.now.held.items) line) }
+            (kind_at (kind_list self.now.rules.items self.now.marked.items self.now.held.items) line) }
     {
         match self.held_at(line)? {
             StoredLine::Rule(place) => self.rule_at(*place),

@@ -176,7 +176,8 @@ impl RequestLines {
             | Line::Unknown(_)
             | Line::Lock(_)
             | Line::Favour(_)
-            | Line::Exclude { .. } => Err(LineFault::Fault),
+            | Line::Exclude { .. }
+            | Line::Many(_) => Err(LineFault::Fault),
         }
     }
 

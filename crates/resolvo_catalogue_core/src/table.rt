@@ -34,6 +34,8 @@ pub struct Table {
     pub locks: BTreeMap<String, u32>,
     /// The line that favours a version of the package.
     pub favoured: BTreeMap<String, u32>,
+    /// The line that marks the package `many`.
+    pub many: BTreeMap<String, u32>,
     /// The line that excludes the version.
     pub excluded: BTreeMap<u32, u32>,
     /// The line that marks the version as unknown.
@@ -52,6 +54,7 @@ impl Drop for Table {
             packages: _,
             locks: _,
             favoured: _,
+            many: _,
             excluded: _,
             unknown: _,
             owned: _,
@@ -105,6 +108,7 @@ impl Table {
             packages: BTreeMap::new(alloc),
             locks: BTreeMap::new(alloc),
             favoured: BTreeMap::new(alloc),
+            many: BTreeMap::new(alloc),
             excluded: BTreeMap::new(alloc),
             unknown: BTreeMap::new(alloc),
             owned: LinesByVersion::new(alloc),
@@ -251,6 +255,13 @@ impl Table {
         ensures { result ≡ is_some (get_by_text self.now.favoured name.now) }
     {
         self.favoured.contains_key(name)
+    }
+
+    /// Whether versions of the package may be side by side.
+    pub fn is_many(&self, name: &str) -> bool
+        ensures { result ≡ is_some (get_by_text self.now.many name.now) }
+    {
+        self.many.contains_key(name)
     }
 
     /// The version that a line below these belongs to.
@@ -438,6 +449,34 @@ impl Table {
         Ok(())
     }
 
+    /// Whether a line lists a version of the package.
+    fn lists_package(&self, name: &str) -> bool
+        ensures { result ≡ not (length (numbers_in (get_by_text self.now.packages name.now)) == 0) }
+    {
+        !self.versions_of(name).is_empty()
+    }
+
+    /// Marks a package of which no line above lists a version.
+    fn mark_many(&mut self, line: u32, name: String) -> Result<(), LineFault>
+        requires table { IsTable self.old }
+        requires line { line ≡ length (lines_in self.old) + 1 }
+        ensures ok { OnOk result (Adds self.old (parsed.Many (string_bytes name)) self.new) }
+        ensures placed { OnOk result (MayFollow (lines_in self.old) (parsed.Many (string_bytes name))) }
+        ensures fault { result ≡ Err Fault
+            → MayFollow (lines_in self.old) (parsed.Many (string_bytes name))
+            → ⊥ }
+    {
+        if self.is_many(&name) {
+            return Err(LineFault::Fault);
+        }
+        if self.lists_package(&name) {
+            return Err(LineFault::Fault);
+        }
+        self.many.insert(name.clone()?, line)?;
+        self.line_kinds.push(LineKind::Many(name))?;
+        Ok(())
+    }
+
     /// Adds the line of this number, if it may follow those of the table.
     pub fn add(&mut self, alloc: Global, number: u32, line: Line) -> Result<(), LineFault>
         requires table { IsTable self.old }
@@ -460,6 +499,7 @@ impl Table {
             Line::Lock(version) => self.lock(number, version),
             Line::Favour(version) => self.favour(number, version),
             Line::Exclude { version, reason } => self.exclude(number, version, reason),
+            Line::Many(name) => self.mark_many(number, name),
             Line::Wish(_) => Err(LineFault::Fault),
         }
     }

@@ -6,7 +6,7 @@ use Rattle.std.proofs.lemmas.Bool.{false≢true, and_parts, and_from, eqb-true, 
 use Rattle.resolvo_text.specs.declared.spec.Span.{Span}
 use Rattle.resolvo_text.specs.declared.spec.Span.TheVariants as span
 use Rattle.resolvo_text.specs.Line.{Spec}
-use Rattle.resolvo_report.specs.Value.{Atom, Chosen, AnyOf, SharedBy, OutsideOf, BitOf}
+use Rattle.resolvo_report.specs.Value.{Atom, Chosen, AnyOf, SharedBy, OutsideOf, MatchesOf, BitOf}
 use Rattle.resolvo_checker.specs.AtomValues.{same_span, same_spec, same_specs, same_atom}
 use Rattle.resolvo_checker.proofs.Sets.{same_own, same_is}
 
@@ -51,6 +51,7 @@ same_atom_is (Chosen v) (Chosen w) h = ap Chosen (same_is v w h)
 same_atom_is (AnyOf m) (AnyOf n) h = ap AnyOf (bytes_is m n h)
 same_atom_is (SharedBy ss) (SharedBy ts) h = ap SharedBy (same_specs_is ss ts h)
 same_atom_is (OutsideOf s) (OutsideOf t) h = ap OutsideOf (same_spec_is s t h)
+same_atom_is (MatchesOf s) (MatchesOf t) h = ap MatchesOf (same_spec_is s t h)
 same_atom_is (BitOf i m) (BitOf j n) h =
     let p = and_parts (eqb i j) (bytes_eq m n) h in
     let e : i ≡ j = eqb-true i j p.0 in
@@ -75,6 +76,16 @@ same_atom_is (BitOf i m) (Chosen n) h = absurd (false≢true h)
 same_atom_is (BitOf i m) (AnyOf n) h = absurd (false≢true h)
 same_atom_is (BitOf i m) (SharedBy n) h = absurd (false≢true h)
 same_atom_is (BitOf i m) (OutsideOf n) h = absurd (false≢true h)
+same_atom_is (Chosen v) (MatchesOf n) h = absurd (false≢true h)
+same_atom_is (AnyOf m) (MatchesOf n) h = absurd (false≢true h)
+same_atom_is (SharedBy m) (MatchesOf n) h = absurd (false≢true h)
+same_atom_is (OutsideOf m) (MatchesOf n) h = absurd (false≢true h)
+same_atom_is (BitOf i m) (MatchesOf n) h = absurd (false≢true h)
+same_atom_is (MatchesOf m) (Chosen n) h = absurd (false≢true h)
+same_atom_is (MatchesOf m) (AnyOf n) h = absurd (false≢true h)
+same_atom_is (MatchesOf m) (SharedBy n) h = absurd (false≢true h)
+same_atom_is (MatchesOf m) (OutsideOf n) h = absurd (false≢true h)
+same_atom_is (MatchesOf m) (BitOf j n) h = absurd (false≢true h)
 
 -- ---- an atom is itself
 
@@ -98,4 +109,5 @@ atom_own (Chosen v) = same_own v
 atom_own (AnyOf n) = bytes_own n
 atom_own (SharedBy ss) = specs_own ss
 atom_own (OutsideOf s) = spec_own s
+atom_own (MatchesOf s) = spec_own s
 atom_own (BitOf i n) = and_from _ _ (own i) (bytes_own n)

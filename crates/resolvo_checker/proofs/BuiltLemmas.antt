@@ -1,19 +1,20 @@
 -- Built clauses and the clauses that they are.
-use Rattle.std.proofs.Common.{◌≡◌, ℕ, ◌+◌, ◌<◌, Bool, List, [], ◌∷◌, ◌++◌, length, take, get_or, Option, Some, None, refl, sym, ap, subst, ◌∙◌}
-use Rattle.std.specs.Prelude.{slice_get}
+use Rattle.std.proofs.Common.{◌≡◌, ℕ, ◌+◌, ◌<◌, Bool, true, false, cond, OnOk, List, [], ◌∷◌, ◌++◌, length, take, get_or, Option, Some, None, refl, sym, ap, subst, ◌∙◌}
+use Rattle.std.specs.Prelude.{slice_get, Result, Ok, Err}
 use Rattle.std.specs.Global.{Vec}
 use Rattle.std.specs.List.{flat_map}
 use Rattle.std.specs.Option.{option_map}
 use Rattle.std.proofs.lemmas.List.{append_assoc, append-nil, map-append, take_more}
 use Rattle.std.proofs.lemmas.List.Concat.{flat_map-append}
-use Rattle.resolvo_text.specs.Line.{Version, Spec}
+use Rattle.resolvo_text.specs.Line.{Version, Spec, Line}
 use Rattle.resolvo_text.specs.View.{specs_of, spec_of}
 use Rattle.resolvo_text.specs.declared.spec.Spec as code
 use Rattle.resolvo_pool_core.specs.OnePass as pass
-use Rattle.resolvo_report.specs.Value.{Atom, Chosen}
+use Rattle.resolvo_catalogue_core.specs.Sets.{is_many}
+use Rattle.resolvo_report.specs.Value.{Atom, Chosen, AnyOf, MatchesOf}
 use Rattle.resolvo_checker.specs.declared.literal.Literal.{Literal}
 use Rattle.resolvo_checker.specs.declared.atom.Built.{Built}
-use Rattle.resolvo_checker.specs.StepClauses.{Clause, membership, literal}
+use Rattle.resolvo_checker.specs.StepClauses.{Clause, membership, literal, each_listed, is_outside, spec_fails}
 use Rattle.resolvo_checker.specs.Built.{member_of, literals_in, literal_of, somes}
 use Rattle.resolvo_checker.specs.Keys.{IsKey, Extends}
 use Rattle.resolvo_checker.proofs.NameLemmas.{extends_none, extends_then}
@@ -88,3 +89,15 @@ one_literal clause l e =
     let s = one_some clause (Some l) e in
     let k : l ≡ s.0 = let m : Some l ≡ Some s.0 = s.1 in cc in
     ap (λ (x : pass.Literal Atom). let c : Clause = x ∷ [] in c) k ∙ sym s.2
+
+-- ---- a SPEC that isn't met
+
+pub marked_fails : (catalogue : List Line) (s : Spec) → is_many catalogue s.name ≡ true → literal (MatchesOf s) false ∷ [] ≡ spec_fails catalogue s
+marked_fails catalogue s e = sym (ap (λ b. cond b (literal (MatchesOf s) false ∷ []) (literal (AnyOf s.name) false ∷ each_listed catalogue (is_outside s))) e)
+
+pub unmarked_fails : (catalogue : List Line) (s : Spec) → is_many catalogue s.name ≡ false → literal (AnyOf s.name) false ∷ each_listed catalogue (is_outside s) ≡ spec_fails catalogue s
+unmarked_fails catalogue s e = sym (ap (λ b. cond b (literal (MatchesOf s) false ∷ []) (literal (AnyOf s.name) false ∷ each_listed catalogue (is_outside s))) e)
+
+pub on_ok : {X E P Q : Type 0} (r : Result X E) → (P → Q) → OnOk r P → OnOk r Q
+on_ok (Ok x) f h = f h
+on_ok (Err e) f h = tt

@@ -11,6 +11,7 @@ use Rattle.std.proofs.lemmas.List.Folds.{list_all-append}
 use Rattle.resolvo_text.specs.Line.{Version, Line}
 use Rattle.resolvo_text.specs.Matches.{same_version}
 use Rattle.resolvo_catalogue_core.specs.Listed.{listed, AreDistinct}
+use Rattle.resolvo_catalogue_core.specs.Sets.{is_many}
 use Rattle.resolvo_pool_core.specs.OnePass as pass
 use Rattle.resolvo_pool_core.specs.OnePass.{AreNamed, AreNamedClauses, one_pass}
 use Rattle.resolvo_pool_core.proofs.PassNamed.{one_pass_alike}
@@ -188,10 +189,10 @@ invariant_push catalogue request old new clauses places after rules found ids ea
 -- ---- how a step fits the earlier ones
 
 pub digit_listed : (catalogue : List Line) (v : Version) (place bit : ℕ) → is_some (digit_clause catalogue v place bit) ≡ true → is_listed catalogue v ≡ true
-digit_listed catalogue v place bit h = one (is_listed catalogue v) refl h where
-  one : (b : Bool) → is_listed catalogue v ≡ b → is_some (cond (b && ltb bit 32) (Some (not_in v ∷ literal (BitOf bit v.name) (eqb (bit_at place bit) 1) ∷ [])) None) ≡ true → is_listed catalogue v ≡ true
-  one true e k = e
-  one false e k = absurd (false≢true k)
+digit_listed catalogue v place bit h = one (is_listed catalogue v) (not (is_many catalogue v.name) && ltb bit 32) refl h where
+  one : (b fits : Bool) → is_listed catalogue v ≡ b → is_some (cond (b && fits) (Some (not_in v ∷ literal (BitOf bit v.name) (eqb (bit_at place bit) 1) ∷ [])) None) ≡ true → is_listed catalogue v ≡ true
+  one true fits e k = e
+  one false fits e k = absurd (false≢true k)
 
 pub follows_derived : (catalogue request : List Line) (entries : List (Vec ℕ × ℕ)) (clauses : List (List Literal)) (places : List (Option ℕ)) (rules : List (Vec ℕ × ℕ)) (ids : List Literal) (earlier : List Step) (count : ℕ) → AreNumbers entries count → AreDistinct (listed catalogue)
     → (literals : List step.Literal) (causes : List ℕ) → is_some (clause_of catalogue request (step.Derive literals causes)) ≡ true → CheckerInvariant catalogue request entries clauses places rules earlier
@@ -209,6 +210,7 @@ other_step (codestep.Shared a) h v place = refl
 other_step (codestep.LimitBars p l w) h v place = refl
 other_step (codestep.Limit p l) h v place = refl
 other_step (codestep.Outside x w) h v place = refl
+other_step (codestep.Matches x w) h v place = refl
 other_step (codestep.Lock l w) h v place = refl
 other_step (codestep.Exclude l) h v place = refl
 other_step (codestep.Unknown l) h v place = refl

@@ -1,5 +1,5 @@
 -- The clause of each rule step is true over each single set that obeys the line that the step rests on.
-use Rattle.std.proofs.Common.{◌≡◌, ℕ, zero, suc, Bool, true, false, List, [], ◌∷◌, ◌++◌, Option, Some, None, refl, sym, ap, ◌∙◌, subst, inl, inr, eqb}
+use Rattle.std.proofs.Common.{◌≡◌, ℕ, zero, suc, Bool, true, false, List, [], ◌∷◌, ◌++◌, Option, Some, None, refl, sym, ap, ◌∙◌, subst, inl, inr, eqb, cond}
 use Rattle.std.specs.Prelude.{not, ◌&&◌, ◌||◌, filter, nat_lt, Contains}
 use Rattle.std.specs.Option.{option_map}
 use Rattle.std.specs.List.{list_any, list_all}
@@ -9,17 +9,17 @@ use Rattle.std.specs.Str.{bytes_eq}
 use Rattle.std.proofs.lemmas.Bool.{false≢true, cases_Bool, or_cases, or_left, or_right, and_from, and_left, and_right, and_parts, not-true}
 use Rattle.std.proofs.lemmas.Option.{cond_some, same_Some, none-some}
 use Rattle.std.proofs.lemmas.List.Folds.{list_any-append}
-use Rattle.resolvo_text.specs.Line.{Version, Spec, Cond, Line, Skipped, Listed, Needs, Limits, Unknown, Lock, Favour, Exclude, Wish}
+use Rattle.resolvo_text.specs.Line.{Version, Spec, Cond, Line, Skipped, Listed, Needs, Limits, Unknown, Lock, Favour, Exclude, Many, Wish}
 use Rattle.resolvo_text.specs.Matches.{Set, same_package, is_member, matches, is_met, is_met_by_one, condition_holds}
 use Rattle.resolvo_text.specs.Cases.{condition_cases, all_met}
 use Rattle.resolvo_text.proofs.CaseLaws.{condition_holds-cases}
 use Rattle.resolvo_catalogue_core.specs.Rules.{binds, obeys}
 use Rattle.resolvo_catalogue_core.specs.Listed.{listed}
-use Rattle.resolvo_catalogue_core.specs.Sets.{IsSingle}
+use Rattle.resolvo_catalogue_core.specs.Sets.{IsSingle, is_many}
 use Rattle.resolvo_pool_core.specs.OnePass as pass
 use Rattle.resolvo_pool_core.specs.OnePass.{is_true_at, clause_true}
-use Rattle.resolvo_report.specs.Value.{Place, OfRequest, OfVersion, Atom, AnyOf, SharedBy, OutsideOf, BitOf}
-use Rattle.resolvo_checker.specs.StepClauses.{Clause, is_in, not_in, literal, is_listed, is_of, is_outside, is_locked_out, each_listed, place_fails, case_fails, some_match, case_at, need_clause, gate_clause, limit_bars_clause, limit_clause, lock_clause, exclude_clause, unknown_clause, shared_clause, outside_clause, digit_clause, any_clause}
+use Rattle.resolvo_report.specs.Value.{Place, OfRequest, OfVersion, Atom, AnyOf, SharedBy, OutsideOf, MatchesOf, BitOf}
+use Rattle.resolvo_checker.specs.StepClauses.{Clause, is_in, not_in, literal, is_listed, is_of, is_outside, is_locked_out, each_listed, place_fails, spec_fails, case_fails, some_match, case_at, need_clause, gate_clause, limit_bars_clause, limit_clause, lock_clause, exclude_clause, unknown_clause, shared_clause, outside_clause, matches_clause, digit_clause, any_clause}
 use Rattle.resolvo_checker.specs.AtomValues.{value_of}
 use Rattle.resolvo_checker.proofs.Sets.{found, failing, none_at, held, each_held, none_held, member, contained, list_any-map, list_any-flat_map, any_kept}
 use Rattle.resolvo_checker.proofs.Atoms.{bytes_is, bytes_own}
@@ -94,8 +94,8 @@ module _ (catalogue : List Line) (set : Set) (place : Version → ℕ) where
         (each_true (matches f.item) m.0 (is_there m.0 m.1) m.1 m.2)
 
     -- a SPEC without a matching member fails
-    spec_fails : (s : Spec) → is_met s set ≡ false → True (literal (AnyOf s.name) false ∷ each_listed catalogue (is_outside s))
-    spec_fails s h = elim (cases_Bool (list_any (is_of s.name) set)) [
+    unmet : (s : Spec) → is_met s set ≡ false → True (literal (AnyOf s.name) false ∷ each_listed catalogue (is_outside s))
+    unmet s h = elim (cases_Bool (list_any (is_of s.name) set)) [
       | inr none ↦ first (literal (AnyOf s.name) false) (each_listed catalogue (is_outside s)) (beq_false (list_any (is_of s.name) set) none)
       | inl some ↦
           let m = member (is_of s.name) set some in
@@ -104,12 +104,18 @@ module _ (catalogue : List Line) (set : Set) (place : Version → ℕ) where
           (each_true (is_outside s) m.0 (is_there m.0 m.1) m.1 (and_from _ _ m.2 (ap not off)))
     ]
 
+    spec_fails_true : (s : Spec) → is_met s set ≡ false → True (spec_fails catalogue s)
+    spec_fails_true s h = by_mark (is_many catalogue s.name) where
+      by_mark : (b : Bool) → True (cond b (literal (MatchesOf s) false ∷ []) (literal (AnyOf s.name) false ∷ each_listed catalogue (is_outside s)))
+      by_mark true = first (literal (MatchesOf s) false) [] (beq_false (is_met s set) h)
+      by_mark false = unmet s h
+
     case_fails_true : (specs : List Spec) → all_met specs set ≡ false → True (case_fails catalogue specs)
     case_fails_true specs h =
         let f = failing (λ s. is_met s set) specs h in
-        list_any-flat_map (is_true_at (value_of set place)) (λ s. literal (AnyOf s.name) false ∷ each_listed catalogue (is_outside s)) specs
-        ∙ f.also (λ s. list_any (is_true_at (value_of set place)) (literal (AnyOf s.name) false ∷ each_listed catalogue (is_outside s)))
-        (spec_fails f.item (not-true (is_met f.item set) f.passes))
+        list_any-flat_map (is_true_at (value_of set place)) (spec_fails catalogue) specs
+        ∙ f.also (λ s. list_any (is_true_at (value_of set place)) (spec_fails catalogue s))
+        (spec_fails_true f.item (not-true (is_met f.item set) f.passes))
 
     -- need
     need_parts : (p : Place) (owner : Option Version) (alternatives : List Spec) (condition : Option Cond) (case : ℕ) (specs : List Spec) → IsOwnerOf p owner → case_at condition case ≡ Some specs
@@ -135,6 +141,7 @@ module _ (catalogue : List Line) (set : Set) (place : Version → ℕ) where
     need_true p owner case (Unknown reason) c s kept h = no_clause c h
     need_true p owner case (Lock v) c s kept h = no_clause c h
     need_true p owner case (Favour v) c s kept h = no_clause c h
+    need_true p owner case (Many name) c s kept h = no_clause c h
     need_true p owner case (Exclude v reason) c s kept h = no_clause c h
     need_true p owner case (Wish v) c s kept h = no_clause c h
 
@@ -154,6 +161,7 @@ module _ (catalogue : List Line) (set : Set) (place : Version → ℕ) where
     gate_true v owner (Unknown reason) c s kept h = no_clause c h
     gate_true v owner (Lock w) c s kept h = no_clause c h
     gate_true v owner (Favour w) c s kept h = no_clause c h
+    gate_true v owner (Many name) c s kept h = no_clause c h
     gate_true v owner (Exclude w reason) c s kept h = no_clause c h
     gate_true v owner (Wish w) c s kept h = no_clause c h
 
@@ -189,6 +197,7 @@ module _ (catalogue : List Line) (set : Set) (place : Version → ℕ) where
     limit_bars_true p owner v (Unknown reason) c s kept h = no_clause c h
     limit_bars_true p owner v (Lock w) c s kept h = no_clause c h
     limit_bars_true p owner v (Favour w) c s kept h = no_clause c h
+    limit_bars_true p owner v (Many name) c s kept h = no_clause c h
     limit_bars_true p owner v (Exclude w reason) c s kept h = no_clause c h
     limit_bars_true p owner v (Wish w) c s kept h = no_clause c h
 
@@ -204,6 +213,7 @@ module _ (catalogue : List Line) (set : Set) (place : Version → ℕ) where
     limit_true p owner (Unknown reason) c s kept h = no_clause c h
     limit_true p owner (Lock w) c s kept h = no_clause c h
     limit_true p owner (Favour w) c s kept h = no_clause c h
+    limit_true p owner (Many name) c s kept h = no_clause c h
     limit_true p owner (Exclude w reason) c s kept h = no_clause c h
     limit_true p owner (Wish w) c s kept h = no_clause c h
 
@@ -224,6 +234,7 @@ module _ (catalogue : List Line) (set : Set) (place : Version → ℕ) where
     lock_true owner v (Limits x) c kept h = no_clause c h
     lock_true owner v (Unknown reason) c kept h = no_clause c h
     lock_true owner v (Favour w) c kept h = no_clause c h
+    lock_true owner v (Many name) c kept h = no_clause c h
     lock_true owner v (Exclude w reason) c kept h = no_clause c h
     lock_true owner v (Wish w) c kept h = no_clause c h
 
@@ -236,6 +247,7 @@ module _ (catalogue : List Line) (set : Set) (place : Version → ℕ) where
     exclude_true owner (Unknown reason) c kept h = no_clause c h
     exclude_true owner (Lock w) c kept h = no_clause c h
     exclude_true owner (Favour w) c kept h = no_clause c h
+    exclude_true owner (Many name) c kept h = no_clause c h
     exclude_true owner (Wish w) c kept h = no_clause c h
 
     pub unknown_true : (owner : Option Version) (line : Line) (c : Clause) → obeys owner line set ≡ true → unknown_clause owner (Some line) ≡ Some c → True c
@@ -248,6 +260,7 @@ module _ (catalogue : List Line) (set : Set) (place : Version → ℕ) where
     unknown_true owner (Limits x) c kept h = no_clause c h
     unknown_true owner (Lock w) c kept h = no_clause c h
     unknown_true owner (Favour w) c kept h = no_clause c h
+    unknown_true owner (Many name) c kept h = no_clause c h
     unknown_true owner (Wish w) c kept h = no_clause c h
 
     -- ---- auxiliary atoms
@@ -257,21 +270,28 @@ module _ (catalogue : List Line) (set : Set) (place : Version → ℕ) where
         let e = cond_some (is_listed catalogue v && is_outside s v) (not_in v ∷ literal (OutsideOf s) true ∷ []) c h in
         subst True e.1 (member_makes v (OutsideOf s) (is_outside s) (λ x. x) (and_parts (is_listed catalogue v) (is_outside s v) e.0).1)
 
-    digit_is : (v : Version) (bit : ℕ) (b : Bool) → eqb (bit_at (place v) bit) 1 ≡ b → True (not_in v ∷ literal (BitOf bit v.name) b ∷ [])
-    digit_is v bit true e = member_makes v (BitOf bit v.name) (λ x. is_of v.name x && eqb (bit_at (place x) bit) 1) (λ h. h) (and_from _ _ (bytes_own v.name) e)
-    digit_is v bit false e = elim (cases_Bool (is_member v set)) [
+    pub matches_true : (s : Spec) (v : Version) (c : Clause) → matches_clause catalogue s v ≡ Some c → True c
+    matches_true s v c h =
+        let e = cond_some (is_listed catalogue v && (matches s v && is_many catalogue s.name)) (not_in v ∷ literal (MatchesOf s) true ∷ []) c h in
+        let p = and_parts (matches s v) (is_many catalogue s.name) (and_parts (is_listed catalogue v) (matches s v && is_many catalogue s.name) e.0).1 in
+        subst True e.1 (member_makes v (MatchesOf s) (matches s) (λ x. x) p.0)
+
+    digit_is : (v : Version) (bit : ℕ) (b : Bool) → is_many catalogue v.name ≡ false → eqb (bit_at (place v) bit) 1 ≡ b → True (not_in v ∷ literal (BitOf bit v.name) b ∷ [])
+    digit_is v bit true own e = member_makes v (BitOf bit v.name) (λ x. is_of v.name x && eqb (bit_at (place x) bit) 1) (λ h. h) (and_from _ _ (bytes_own v.name) e)
+    digit_is v bit false own e = elim (cases_Bool (is_member v set)) [
       | inr n ↦ out v (literal (BitOf bit v.name) false ∷ []) n
       | inl m ↦ next (not_in v) (literal (BitOf bit v.name) false ∷ []) (first (literal (BitOf bit v.name) false) [] (beq_false _
           (none_held (λ x. is_of v.name x && eqb (bit_at (place x) bit) 1) set (λ x k. elim (cases_Bool (is_of v.name x)) [
             | inr other ↦ and_left _ _ other
-            | inl of ↦ and_right _ _ (subst (λ (y : Version). eqb (bit_at (place y) bit) 1 ≡ false) (single.one_each v x (contained set v m) (contained set x k) (sym (bytes_is x.name v.name of))) e)
+            | inl of ↦ and_right _ _ (subst (λ (y : Version). eqb (bit_at (place y) bit) 1 ≡ false) (single.one_each v x (contained set v m) (contained set x k) (sym (bytes_is x.name v.name of)) own) e)
           ]))))
     ]
 
     pub digit_true : (v : Version) (given bit : ℕ) (c : Clause) → place v ≡ given → digit_clause catalogue v given bit ≡ Some c → True c
     digit_true v given bit c e h =
-        let k = cond_some (is_listed catalogue v && nat_lt bit 32) (not_in v ∷ literal (BitOf bit v.name) (eqb (bit_at given bit) 1) ∷ []) c h in
-        subst True k.1 (digit_is v bit (eqb (bit_at given bit) 1) (ap (λ n. eqb (bit_at n bit) 1) e))
+        let k = cond_some (is_listed catalogue v && (not (is_many catalogue v.name) && nat_lt bit 32)) (not_in v ∷ literal (BitOf bit v.name) (eqb (bit_at given bit) 1) ∷ []) c h in
+        let own = and_parts (not (is_many catalogue v.name)) (nat_lt bit 32) (and_parts (is_listed catalogue v) (not (is_many catalogue v.name) && nat_lt bit 32) k.0).1 in
+        subst True k.1 (digit_is v bit (eqb (bit_at given bit) 1) (not-true (is_many catalogue v.name) own.0) (ap (λ n. eqb (bit_at n bit) 1) e))
 
     pub any_true : (v : Version) (c : Clause) → any_clause catalogue v ≡ Some c → True c
     any_true v c h =

@@ -2,7 +2,7 @@
 use Rattle.std.proofs.Common.{◌≡◌, ℕ, zero, suc, ◌<◌, true, List, [], ◌∷◌, sym, ap, subst, length, arith, inl, inr}
 use Rattle.std.specs.Prelude.{Contains, slice_index_or}
 use Rattle.std.proofs.lemmas.Bool.{false≢true, or_cases, or_left, or_right}
-use Rattle.resolvo_text.specs.Line.{Version, Line, Skipped, Listed, Needs, Limits, Unknown, Lock, Favour, Exclude, Wish}
+use Rattle.resolvo_text.specs.Line.{Version, Line, Skipped, Listed, Needs, Limits, Unknown, Lock, Favour, Exclude, Many, Wish}
 use Rattle.resolvo_text.specs.Matches.{same_version, is_member}
 use Rattle.resolvo_catalogue_core.specs.Listed.{listed}
 use Rattle.resolvo_checker.proofs.Sets.{same_own, same_is}
@@ -16,6 +16,7 @@ more_listed (Limits s) lines v h = h
 more_listed (Unknown r) lines v h = h
 more_listed (Lock w) lines v h = h
 more_listed (Favour w) lines v h = h
+more_listed (Many name) lines v h = h
 more_listed (Exclude w r) lines v h = h
 more_listed (Wish w) lines v h = h
 
@@ -42,5 +43,6 @@ contains_listed (Limits s ∷ lines) v h = below (Limits s) lines v (contains_li
 contains_listed (Unknown r ∷ lines) v h = below (Unknown r) lines v (contains_listed lines v h)
 contains_listed (Lock w ∷ lines) v h = below (Lock w) lines v (contains_listed lines v h)
 contains_listed (Favour w ∷ lines) v h = below (Favour w) lines v (contains_listed lines v h)
+contains_listed (Many name ∷ lines) v h = below (Many name) lines v (contains_listed lines v h)
 contains_listed (Exclude w r ∷ lines) v h = below (Exclude w r) lines v (contains_listed lines v h)
 contains_listed (Wish w ∷ lines) v h = below (Wish w) lines v (contains_listed lines v h)

@@ -12,7 +12,7 @@ use Rattle.resolvo_text.specs.Line.{Version, Spec}
 use Rattle.resolvo_catalogue_core.specs.Listed.{AreDistinct}
 use Rattle.resolvo_pool_core.specs.OnePass as pass
 use Rattle.resolvo_pool_core.specs.OnePass.{AreNamed, AreNamedClauses}
-use Rattle.resolvo_report.specs.Value.{Atom, Chosen, AnyOf, SharedBy, OutsideOf, BitOf}
+use Rattle.resolvo_report.specs.Value.{Atom, Chosen, AnyOf, SharedBy, OutsideOf, MatchesOf, BitOf}
 use Rattle.resolvo_checker.specs.declared.literal.Literal.{Literal}
 use Rattle.resolvo_checker.specs.Literals.{literal_of, literals_of}
 use Rattle.resolvo_checker.specs.Numbers.{number_in, AreNumbers, Keeps}
@@ -82,6 +82,7 @@ module _ (versions : List Version) (distinct : AreDistinct versions) where
   key_alone (AnyOf m) k l p q = p ∙ sym q
   key_alone (SharedBy ss) k l p q = p ∙ sym q
   key_alone (OutsideOf s) k l p q = p ∙ sym q
+  key_alone (MatchesOf s) k l p q = p ∙ sym q
   key_alone (BitOf i m) k l p q = p ∙ sym q
 
   other_heads : {P : Type 0} (m n : ℕ) (xs ys k : List ℕ) → k ≡ m ∷ xs → k ≡ n ∷ ys → eqb m n ≡ false → P
@@ -98,6 +99,7 @@ module _ (versions : List Version) (distinct : AreDistinct versions) where
   key_is (AnyOf m) (AnyOf n) k p q = ap AnyOf (tails 1 m n k p q)
   key_is (SharedBy ss) (SharedBy ts) k p q = ap SharedBy (specs_key_is ss ts (tails 2 (flat_map spec_key ss) (flat_map spec_key ts) k p q))
   key_is (OutsideOf s) (OutsideOf t) k p q = ap OutsideOf (spec_key_alone s t (tails 3 (spec_key s) (spec_key t) k p q))
+  key_is (MatchesOf s) (MatchesOf t) k p q = ap MatchesOf (spec_key_alone s t (tails 5 (spec_key s) (spec_key t) k p q))
   key_is (BitOf i m) (BitOf j n) k p q =
       let t : i ∷ m ≡ j ∷ n = tails 4 (i ∷ m) (j ∷ n) k p q in
       let e : i ≡ j = head i j m n t in
@@ -122,6 +124,16 @@ module _ (versions : List Version) (distinct : AreDistinct versions) where
   key_is (BitOf i m) (AnyOf n) k p q = other_heads 4 1 (i ∷ m) n k p q refl
   key_is (BitOf i m) (SharedBy ts) k p q = other_heads 4 2 (i ∷ m) (flat_map spec_key ts) k p q refl
   key_is (BitOf i m) (OutsideOf t) k p q = other_heads 4 3 (i ∷ m) (spec_key t) k p q refl
+  key_is (Chosen v) (MatchesOf t) k p q = other_heads 0 5 (p.0 ∷ []) (spec_key t) k p.2 q refl
+  key_is (AnyOf m) (MatchesOf t) k p q = other_heads 1 5 m (spec_key t) k p q refl
+  key_is (SharedBy ss) (MatchesOf t) k p q = other_heads 2 5 (flat_map spec_key ss) (spec_key t) k p q refl
+  key_is (OutsideOf s) (MatchesOf t) k p q = other_heads 3 5 (spec_key s) (spec_key t) k p q refl
+  key_is (BitOf i m) (MatchesOf t) k p q = other_heads 4 5 (i ∷ m) (spec_key t) k p q refl
+  key_is (MatchesOf s) (Chosen w) k p q = other_heads 5 0 (spec_key s) (q.0 ∷ []) k p q.2 refl
+  key_is (MatchesOf s) (AnyOf n) k p q = other_heads 5 1 (spec_key s) n k p q refl
+  key_is (MatchesOf s) (SharedBy ts) k p q = other_heads 5 2 (spec_key s) (flat_map spec_key ts) k p q refl
+  key_is (MatchesOf s) (OutsideOf t) k p q = other_heads 5 3 (spec_key s) (spec_key t) k p q refl
+  key_is (MatchesOf s) (BitOf j n) k p q = other_heads 5 4 (spec_key s) (j ∷ n) k p q refl
 
   -- two numbers are one exactly if their atoms are
   pub names_agree : (entries : List (Vec ℕ × ℕ)) (count : ℕ) → AreNumbers entries count → (a b : Atom) (i j : ℕ) → Names versions entries a i → Names versions entries b j → eqb i j ≡ same_atom a b

@@ -16,7 +16,7 @@ use Rattle.resolvo_catalogue_core.specs.Listed.{listed}
 use Rattle.resolvo_catalogue_core.specs.Sets.{IsSingle}
 use Rattle.resolvo_pool_core.specs.OnePass.{is_true_at, clause_true, one_pass}
 use Rattle.resolvo_pool_core.proofs.PassSound.{one_pass_true}
-use Rattle.resolvo_report.specs.Value.{Place, OfRequest, OfVersion, Atom, Chosen, AnyOf, SharedBy, OutsideOf, BitOf, Literal, Step}
+use Rattle.resolvo_report.specs.Value.{Place, OfRequest, OfVersion, Atom, Chosen, AnyOf, SharedBy, OutsideOf, MatchesOf, BitOf, Literal, Step}
 use Rattle.resolvo_report.specs.Value as step
 use Rattle.resolvo_checker.specs.Rup.{is_earlier}
 use Rattle.resolvo_checker.specs.StepClauses.{Clause, clause_of, literal_of, is_atom, is_owner, line_of, need_clause, gate_clause, limit_bars_clause, limit_clause, lock_clause, exclude_clause, unknown_clause}
@@ -25,7 +25,7 @@ use Rattle.resolvo_checker.specs.Proof.{rests_on, rests_on_named, allows_place, 
 use Rattle.resolvo_checker.proofs.Sets.{all_at, same_own, same_is, contained, is_contained}
 use Rattle.resolvo_checker.proofs.Atoms.{same_atom_is}
 use Rattle.resolvo_checker.proofs.ListedLemmas.{listed_in}
-use Rattle.resolvo_checker.proofs.ClausesTrue.{True, IsOwnerOf, need_true, gate_true, shared_true, limit_bars_true, limit_true, outside_true, lock_true, exclude_true, unknown_true, digit_true, any_true}
+use Rattle.resolvo_checker.proofs.ClausesTrue.{True, IsOwnerOf, need_true, gate_true, shared_true, limit_bars_true, limit_true, outside_true, matches_true, lock_true, exclude_true, unknown_true, digit_true, any_true}
 
 -- ---- the place that the first digit step of a version gives it
 
@@ -38,6 +38,7 @@ place_given (step.Shared a ∷ steps) v = place_given steps v
 place_given (step.LimitBars p l w ∷ steps) v = place_given steps v
 place_given (step.Limit p l ∷ steps) v = place_given steps v
 place_given (step.Outside s w ∷ steps) v = place_given steps v
+place_given (step.Matches s w ∷ steps) v = place_given steps v
 place_given (step.Lock l w ∷ steps) v = place_given steps v
 place_given (step.Exclude l ∷ steps) v = place_given steps v
 place_given (step.Unknown l ∷ steps) v = place_given steps v
@@ -59,6 +60,7 @@ given_is v place bit (step.Shared a ∷ earlier) rest h = given_is v place bit e
 given_is v place bit (step.LimitBars p l w ∷ earlier) rest h = given_is v place bit earlier rest h
 given_is v place bit (step.Limit p l ∷ earlier) rest h = given_is v place bit earlier rest h
 given_is v place bit (step.Outside s w ∷ earlier) rest h = given_is v place bit earlier rest h
+given_is v place bit (step.Matches s w ∷ earlier) rest h = given_is v place bit earlier rest h
 given_is v place bit (step.Lock l w ∷ earlier) rest h = given_is v place bit earlier rest h
 given_is v place bit (step.Exclude l ∷ earlier) rest h = given_is v place bit earlier rest h
 given_is v place bit (step.Unknown l ∷ earlier) rest h = given_is v place bit earlier rest h
@@ -156,6 +158,7 @@ module _ (catalogue request : List Line) (catalogue_line request_line : ℕ → 
   Placed (step.LimitBars p l w) = Unit {0}
   Placed (step.Limit p l) = Unit {0}
   Placed (step.Outside s w) = Unit {0}
+  Placed (step.Matches s w) = Unit {0}
   Placed (step.Lock l w) = Unit {0}
   Placed (step.Exclude l) = Unit {0}
   Placed (step.Unknown l) = Unit {0}
@@ -172,6 +175,7 @@ module _ (catalogue request : List Line) (catalogue_line request_line : ℕ → 
   clause_is_true (step.LimitBars p line v) c h n earlier f t k = by_place p line (limit_bars_clause catalogue p v) c n (λ d e. none-some d e) (λ owner l s o e. limit_bars_true catalogue set place single (listed_in catalogue) p owner v l c s o e) h
   clause_is_true (step.Limit p line) c h n earlier f t k = by_place p line (limit_clause p) c n (λ d e. none-some d e) (λ owner l s o e. limit_true catalogue set place single (listed_in catalogue) p owner l c s o e) h
   clause_is_true (step.Outside s v) c h n earlier f t k = outside_true catalogue set place single (listed_in catalogue) s v c h
+  clause_is_true (step.Matches s v) c h n earlier f t k = matches_true catalogue set place single (listed_in catalogue) s v c h
   clause_is_true (step.Lock line v) c h n earlier f t k = by_line line (lock_clause catalogue v) c n (λ d e. none-some d e) (λ l o e. lock_true catalogue set place single (listed_in catalogue) (owner_of catalogue line) v l c o e) h
   clause_is_true (step.Exclude line) c h n earlier f t k = by_line line exclude_clause c n (λ d e. none-some d e) (λ l o e. exclude_true catalogue set place single (listed_in catalogue) (owner_of catalogue line) l c o e) h
   clause_is_true (step.Unknown line) c h n earlier f t k = by_line line (unknown_clause (owner_of catalogue line)) c n (λ d e. none-some d e) (λ l o e. unknown_true catalogue set place single (listed_in catalogue) (owner_of catalogue line) l c o e) h
@@ -198,6 +202,7 @@ module _ (catalogue request : List Line) (catalogue_line request_line : ℕ → 
   placed (step.LimitBars p l w) earlier rest e f = tt
   placed (step.Limit p l) earlier rest e f = tt
   placed (step.Outside s w) earlier rest e f = tt
+  placed (step.Matches s w) earlier rest e f = tt
   placed (step.Lock l w) earlier rest e f = tt
   placed (step.Exclude l) earlier rest e f = tt
   placed (step.Unknown l) earlier rest e f = tt
@@ -237,6 +242,7 @@ empty_derived catalogue request (step.Shared a) h = absurd (false≢true h)
 empty_derived catalogue request (step.LimitBars p l w) h = absurd (false≢true h)
 empty_derived catalogue request (step.Limit p l) h = absurd (false≢true h)
 empty_derived catalogue request (step.Outside s w) h = absurd (false≢true h)
+empty_derived catalogue request (step.Matches s w) h = absurd (false≢true h)
 empty_derived catalogue request (step.Lock l w) h = absurd (false≢true h)
 empty_derived catalogue request (step.Exclude l) h = absurd (false≢true h)
 empty_derived catalogue request (step.Unknown l) h = absurd (false≢true h)
@@ -276,6 +282,7 @@ forbidden_false value entries wish in_set (l ∷ ls) h t =
       one (AnyOf n) p e m g = false≢true m
       one (SharedBy ss) p e m g = false≢true m
       one (OutsideOf s) p e m g = false≢true m
+      one (MatchesOf s) p e m g = false≢true m
       one (BitOf i n) p e m g = false≢true m
 
 -- a proof from all lines, a clause of which has no literal but `not` of the wish and of entries, keeps the wish and these apart

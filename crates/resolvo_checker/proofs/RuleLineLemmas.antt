@@ -3,7 +3,7 @@ use Rattle.std.proofs.Common.{◌≡◌, Bool, true, false, List, [], ◌∷◌,
 use Rattle.std.specs.Prelude.{slice_get}
 use Rattle.std.specs.Option.{option_map}
 use Rattle.std.proofs.lemmas.Bool.{false≢true}
-use Rattle.resolvo_text.specs.Line.{Version, Line, Skipped, Listed, Needs, Limits, Unknown, Lock, Favour, Exclude, Wish}
+use Rattle.resolvo_text.specs.Line.{Version, Line, Skipped, Listed, Needs, Limits, Unknown, Lock, Favour, Exclude, Many, Wish}
 use Rattle.resolvo_text.specs.Matches.{same_version}
 use Rattle.resolvo_catalogue_core.specs.Questions.{IsRuleLine, IsOwner, is_rule}
 use Rattle.resolvo_catalogue_core.specs.declared.rule.VersionNo.{VersionNo}
@@ -20,6 +20,7 @@ no_rule_owned : (l : Line) → is_rule l ≡ false → is_owned l ≡ false
 no_rule_owned Skipped h = refl
 no_rule_owned (Listed v) h = refl
 no_rule_owned (Favour v) h = refl
+no_rule_owned (Many name) h = refl
 no_rule_owned (Wish v) h = refl
 no_rule_owned (Unknown r) h = refl
 no_rule_owned (Lock v) h = refl

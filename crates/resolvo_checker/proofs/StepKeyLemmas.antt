@@ -44,6 +44,7 @@ step_is (step.Limit OfRequest line) key e = inl (ap step_in (sym (same_Some (3 �
 step_is (step.Limit (OfVersion v) line) key e = inl (ap step_in (sym (same_Some (3 ∷ line ∷ v.number ∷ v.name) key e)))
 step_is (step.LimitBars p line v) key e = absurd (none-some key e)
 step_is (step.Outside s v) key e = absurd (none-some key e)
+step_is (step.Matches s v) key e = absurd (none-some key e)
 step_is (step.Lock line v) key e = absurd (none-some key e)
 step_is (step.Exclude line) key e = absurd (none-some key e)
 step_is (step.Unknown line) key e = absurd (none-some key e)
@@ -78,6 +79,7 @@ plain (step.Shared ss) key e = record { follows = λ c r before. refl; allows = 
 plain (step.Limit p line) key e = record { follows = λ c r before. refl; allows = λ v place. refl; causes = refl }
 plain (step.LimitBars p line v) key e = absurd (none-some key e)
 plain (step.Outside s v) key e = absurd (none-some key e)
+plain (step.Matches s v) key e = absurd (none-some key e)
 plain (step.Lock line v) key e = absurd (none-some key e)
 plain (step.Exclude line) key e = absurd (none-some key e)
 plain (step.Unknown line) key e = absurd (none-some key e)

@@ -5,7 +5,7 @@ use Rattle.std.specs.Global.{Vec}
 use Rattle.std.specs.Option.{option_map, option_copied}
 use Rattle.std.proofs.lemmas.Bool.{false≢true, cases_Bool, or_left, or_right}
 use Rattle.std.proofs.lemmas.Option.{slice_get-map}
-use Rattle.resolvo_text.specs.Line.{Version, Cond, Line, Skipped, Listed, Needs, Limits, Unknown, Lock, Favour, Exclude, Wish}
+use Rattle.resolvo_text.specs.Line.{Version, Cond, Line, Skipped, Listed, Needs, Limits, Unknown, Lock, Favour, Exclude, Many, Wish}
 use Rattle.resolvo_text.specs.Matches.{same_version, is_member}
 use Rattle.resolvo_text.specs.Cases.{cases}
 use Rattle.resolvo_text.specs.View.{specs_of, cases_of}
@@ -42,6 +42,7 @@ need_owned c p k l = by_owned (need_clause c p k) other l where
   other (Unknown r) h = refl
   other (Lock v) h = refl
   other (Favour v) h = refl
+  other (Many name) h = refl
   other (Exclude v r) h = refl
   other (Wish v) h = refl
 
@@ -55,6 +56,7 @@ gate_owned v l = by_owned (gate_clause v) other l where
   other (Unknown r) h = refl
   other (Lock v) h = refl
   other (Favour v) h = refl
+  other (Many name) h = refl
   other (Exclude v r) h = refl
   other (Wish v) h = refl
 
@@ -68,6 +70,7 @@ limit_owned p l = by_owned (limit_clause p) other l where
   other (Unknown r) h = refl
   other (Lock v) h = refl
   other (Favour v) h = refl
+  other (Many name) h = refl
   other (Exclude v r) h = refl
   other (Wish v) h = refl
 
@@ -81,6 +84,7 @@ limit_bars_owned c p v l = by_owned (limit_bars_clause c p v) other l where
   other (Unknown r) h = refl
   other (Lock w) h = refl
   other (Favour w) h = refl
+  other (Many name) h = refl
   other (Exclude w r) h = refl
   other (Wish w) h = refl
 
@@ -94,6 +98,7 @@ lock_rule c v l = by_rule (lock_clause c v) other l where
   other (Listed w) h = refl
   other (Unknown r) h = refl
   other (Favour w) h = refl
+  other (Many name) h = refl
   other (Exclude w r) h = refl
   other (Wish w) h = refl
 
@@ -108,6 +113,7 @@ exclude_rule l = by_rule exclude_clause other l where
   other (Unknown r) h = refl
   other (Lock w) h = refl
   other (Favour w) h = refl
+  other (Many name) h = refl
   other (Wish w) h = refl
 
 pub unknown_rule : (o : Option Version) (l : Option Line) → unknown_clause o (rule_line l) ≡ unknown_clause o l
@@ -120,6 +126,7 @@ unknown_rule o l = by_rule (unknown_clause o) other l where
   other (Listed w) h = refl
   other (Lock w) h = refl
   other (Favour w) h = refl
+  other (Many name) h = refl
   other (Exclude w r) h = refl
   other (Wish w) h = refl
 

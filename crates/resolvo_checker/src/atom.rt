@@ -9,6 +9,7 @@ pub enum Atom {
     Any(String),
     Shared(Vec<Spec>),
     Outside(Spec),
+    Matches(Spec),
     Bit(u32, String),
 }
 

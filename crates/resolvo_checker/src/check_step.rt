@@ -13,7 +13,7 @@ ghost use Rattle.resolvo_report.specs.Value.{Step as StepValue};
 ghost use Rattle.resolvo_report.specs.View.{step_of, atom_of, literal_of, literals_of as report_literals};
 ghost use Rattle.resolvo_checker.specs.Literals.{literals_of, clause_at};
 ghost use Rattle.resolvo_checker.specs.Rup.{is_earlier};
-ghost use Rattle.resolvo_checker.specs.StepClauses.{is_atom, is_listed, literal_of as plain_literal, clause_of as clause_of_lem};
+ghost use Rattle.resolvo_checker.specs.StepClauses.{is_atom, fits_mark, is_listed, literal_of as plain_literal, clause_of as clause_of_lem};
 ghost use Rattle.resolvo_checker.specs.Proof.{rests_on_named, allows_place, follows as follows_lem, is_valid_step};
 ghost use Rattle.resolvo_checker.specs.Keys.{Extends, Numbered};
 ghost use Rattle.resolvo_checker.specs.Numbers.{AreNumbers};
@@ -23,7 +23,7 @@ ghost use Rattle.resolvo_checker.specs.Built.{rule_clause_of};
 use crate::assignment::Assignment;
 use crate::atom_ids::AtomIds;
 use crate::clause_atoms::{
-    number_all, push_any, push_bit, push_outside, push_shared, push_version,
+    number_all, push_any, push_bit, push_match, push_outside, push_shared, push_version,
 };
 use crate::clauses::Clauses;
 use crate::literal::Literal;
@@ -101,13 +101,27 @@ fn is_named(scope: &Premises, step: &Step) -> bool
         | Step::Unknown { line } => in_catalogue(scope, *line),
         Step::Shared { .. }
         | Step::Outside { .. }
+        | Step::Matches { .. }
         | Step::Digit { .. }
         | Step::Any { .. }
         | Step::Derive { .. } => true,
     }
 }
 
-/// Numbers a literal of a derived clause. False where it names an unlisted version.
+/// Whether the atom may be named: a bit of a package that isn't marked `many`, or `matches` of one
+/// that is.
+fn fits_mark(catalogue: &Catalogue, atom: &Atom) -> bool
+    ensures { result ≡ fits_mark catalogue.now (atom_of atom.now) }
+{
+    match atom {
+        Atom::Matches { spec } => catalogue.is_many(&spec.name),
+        Atom::Bit { name, .. } => !catalogue.is_many(name),
+        Atom::Version(_) | Atom::Any { .. } | Atom::Shared { .. } | Atom::Outside { .. } => true,
+    }
+}
+
+/// Numbers a literal of a derived clause. False where it names an unlisted version, or an atom that
+/// doesn't fit its package's mark.
 fn push_derived(
     alloc: Global,
     catalogue: &Catalogue,
@@ -122,6 +136,9 @@ fn push_derived(
         → Extends (listed catalogue.now) numbers.old out.old.items numbers.new out.new.items
         (plain_literal (literal_of literal.now) ∷ [])) }
 {
+    if !fits_mark(catalogue, &literal.atom) {
+        return Ok(false);
+    }
     let positive = literal.positive;
     match &literal.atom {
         Atom::Version(version) => {
@@ -133,6 +150,7 @@ fn push_derived(
         Atom::Any { name } => push_any(alloc, numbers, out, name, positive)?,
         Atom::Shared { alternatives } => push_shared(alloc, numbers, out, alternatives, positive)?,
         Atom::Outside { spec } => push_outside(alloc, numbers, out, spec, positive)?,
+        Atom::Matches { spec } => push_match(alloc, numbers, out, spec, positive)?,
         Atom::Bit { bit, name } => push_bit(alloc, numbers, out, *bit, name, positive)?,
     }
     Ok(true)
@@ -333,6 +351,7 @@ fn follows(
         | Step::LimitBars { .. }
         | Step::Limit { .. }
         | Step::Outside { .. }
+        | Step::Matches { .. }
         | Step::Lock { .. }
         | Step::Exclude { .. }
         | Step::Unknown { .. }

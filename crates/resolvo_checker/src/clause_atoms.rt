@@ -5,7 +5,7 @@ ghost use Rattle.std.specs.List.{flat_map};
 ghost use Rattle.resolvo_text.specs.Line as spelled;
 ghost use Rattle.resolvo_text.specs.View.{spec_of, specs_of};
 ghost use Rattle.resolvo_catalogue_core.specs.Listed.{listed};
-ghost use Rattle.resolvo_report.specs.Value.{Atom as AtomValue, AnyOf, SharedBy, OutsideOf, BitOf};
+ghost use Rattle.resolvo_report.specs.Value.{Atom as AtomValue, AnyOf, SharedBy, OutsideOf, MatchesOf, BitOf};
 ghost use Rattle.resolvo_report.specs.View.{atom_of};
 ghost use Rattle.resolvo_checker.specs.StepClauses.{Clause as ClauseValue, literal, is_atom};
 ghost use Rattle.resolvo_checker.specs.Built.{literals_in, member_of, somes, literal_of};
@@ -139,6 +139,24 @@ pub fn push_outside(
     Ok(())
 }
 
+pub fn push_match(
+    alloc: Global,
+    numbers: &mut AtomIds,
+    out: &mut Vec<Literal>,
+    spec: &Spec,
+    positive: bool,
+) -> Result<(), AllocError>
+    ensures { OnOk result
+        ((vs : List spelled.Version)
+        → Extends vs numbers.old out.old.items numbers.new out.new.items
+        (literal (MatchesOf (spec_of spec.now)) positive ∷ [])) }
+{
+    let mut key = vec![in alloc; 5]?;
+    push_spec(&mut key, spec)?;
+    push_key(alloc, numbers, out, &key, positive)?;
+    Ok(())
+}
+
 /// The key of a helper of these alternatives.
 pub fn shared_key(alloc: Global, alternatives: &[Spec]) -> Result<Vec<usize>, AllocError>
     ensures { IfOk result (λ key. key.items ≡ 2 ∷ flat_map spec_key (specs_of alternatives.now)) }
@@ -185,6 +203,7 @@ fn push_literal(
             push_shared(alloc, numbers, out, alternatives, built.positive)?
         }
         Atom::Outside(spec) => push_outside(alloc, numbers, out, spec, built.positive)?,
+        Atom::Matches(spec) => push_match(alloc, numbers, out, spec, built.positive)?,
         Atom::Bit(bit, name) => push_bit(alloc, numbers, out, *bit, name, built.positive)?,
     }
     Ok(())

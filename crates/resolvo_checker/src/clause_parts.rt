@@ -4,8 +4,8 @@ ghost use Rattle.std.specs.Prelude.{◌≡◌, [], ◌∷◌, ◌++◌, List, So
 ghost use Rattle.resolvo_text.specs.Line as spelled;
 ghost use Rattle.resolvo_text.specs.View.{spec_of, specs_of};
 ghost use Rattle.resolvo_catalogue_core.specs.Listed.{listed};
-ghost use Rattle.resolvo_report.specs.Value.{AnyOf, SharedBy, OutsideOf, BitOf};
-ghost use Rattle.resolvo_checker.specs.StepClauses.{literal, each_listed, some_match, case_fails};
+ghost use Rattle.resolvo_report.specs.Value.{AnyOf, SharedBy, OutsideOf, MatchesOf, BitOf};
+ghost use Rattle.resolvo_checker.specs.StepClauses.{literal, each_listed, some_match, spec_fails, case_fails};
 ghost use Rattle.resolvo_checker.specs.Built.{literals_in, member_of, positive_at, somes, passes};
 
 use crate::atom::{Atom, Built};
@@ -117,6 +117,22 @@ pub fn push_outside(out: &mut Clause, spec: &Spec, positive: bool) -> Result<(),
     Ok(())
 }
 
+pub fn push_match(out: &mut Clause, spec: &Spec, positive: bool) -> Result<(), AllocError>
+    ensures { OnOk result
+        ((vs : List spelled.Version)
+        → literals_in vs out.new.items
+        ≡ literals_in vs out.old.items ++ Some
+        (literal (MatchesOf (spec_of spec.now)) positive)
+        ∷ []) }
+{
+    let spec = spec.copy()?;
+    out.push(Built {
+        atom: Atom::Matches(spec),
+        positive,
+    })?;
+    Ok(())
+}
+
 /// Adds the versions of these numbers.
 fn push_numbers(out: &mut Clause, numbers: &BTreeSet<u32>) -> Result<(), AllocError>
     ensures { OnOk result
@@ -167,6 +183,25 @@ pub fn push_matches(
     Ok(())
 }
 
+/// Adds the literals of which one is true where the SPEC isn't met.
+fn push_unmet(
+    alloc: Global,
+    out: &mut Clause,
+    catalogue: &Catalogue,
+    spec: &Spec,
+) -> Result<(), AllocError>
+    ensures { OnOk result
+        (literals_in (listed catalogue.now) out.new.items
+        ≡ literals_in (listed catalogue.now) out.old.items ++ somes
+        (spec_fails catalogue.now (spec_of spec.now))) }
+{
+    if catalogue.is_many(&spec.name) {
+        return push_match(out, spec, false);
+    }
+    push_any(alloc, out, &spec.name, false)?;
+    push_each(alloc, out, catalogue, spec, true)
+}
+
 /// Adds the literals of which one is true where the case doesn't hold.
 pub fn push_case(
     alloc: Global,
@@ -180,8 +215,7 @@ pub fn push_case(
         (case_fails catalogue.now (specs_of specs.now))) }
 {
     for spec in specs {
-        push_any(alloc, out, &spec.name, false)?;
-        push_each(alloc, out, catalogue, spec, true)?;
+        push_unmet(alloc, out, catalogue, spec)?;
     }
     Ok(())
 }

@@ -86,6 +86,7 @@ fn key_of(alloc: Global, step: &Step) -> Result<Option<Vec<usize>>, AllocError>
         Step::Limit { place, line } => Ok(Some(limit_key(alloc, place, *line)?)),
         Step::LimitBars { .. }
         | Step::Outside { .. }
+        | Step::Matches { .. }
         | Step::Lock { .. }
         | Step::Exclude { .. }
         | Step::Unknown { .. }

@@ -9,19 +9,20 @@ ghost use Rattle.resolvo_catalogue_core.specs.Grammar.{line_at, owner_of};
 ghost use Rattle.resolvo_catalogue_core.specs.Listed.{listed, version_at, pair_version, pair_versions};
 ghost use Rattle.resolvo_report.specs.Value.{Place as PlaceValue, OfVersion};
 ghost use Rattle.resolvo_report.specs.View.{place_of, step_of};
-ghost use Rattle.resolvo_checker.specs.StepClauses.{is_listed, is_outside as is_outside_lem, is_locked_out as is_locked_out_lem, place_fails, case_fails, some_match, case_at as case_at_lem, line_of, need_clause, gate_clause, limit_bars_clause, limit_clause, lock_clause, exclude_clause, unknown_clause, shared_clause, outside_clause, digit_clause, any_clause};
+ghost use Rattle.resolvo_checker.specs.StepClauses.{is_listed, is_outside as is_outside_lem, is_locked_out as is_locked_out_lem, place_fails, case_fails, some_match, case_at as case_at_lem, line_of, need_clause, gate_clause, limit_bars_clause, limit_clause, lock_clause, exclude_clause, unknown_clause, shared_clause, outside_clause, matches_clause, digit_clause, any_clause};
 ghost use Rattle.resolvo_checker.specs.Built.{literals_in, member_of, somes, seen, rule_clause_of};
 ghost use Rattle.resolvo_checker.specs.RuleLines.{line_of_rule, owner_in, owner_literals, IsValid};
 
 use crate::clause_parts::{
-    Clause, push_any, push_bit, push_case, push_matches, push_outside, push_shared, push_version,
+    Clause, push_any, push_bit, push_case, push_match, push_matches, push_outside, push_shared,
+    push_version,
 };
 use crate::of_line::{rule_at, rule_of, rule_owned};
 use resolvo_catalogue_core::{
     Catalogue, Cond, Request, Rule, Spec, Version, VersionNo, is_in_span,
 };
 use resolvo_report::{Place, Step};
-use resolvo_text::cases_in;
+use resolvo_text::{cases_in, matches};
 use std::alloc::{AllocError, Global};
 
 /// The number of a version, if it is listed.
@@ -368,6 +369,31 @@ fn outside(
     Ok(Some(out))
 }
 
+/// The clause by which a version meets a SPEC, where its package is marked `many`.
+fn meets(
+    alloc: Global,
+    catalogue: &Catalogue,
+    spec: &Spec,
+    version: &Version,
+) -> Result<Option<Clause>, AllocError>
+    ensures { IfOk result
+        (λ o.
+        seen (listed catalogue.now) o
+        ≡ option_map somes
+        (matches_clause catalogue.now (spec_of spec.now) (version_of version.now))) }
+{
+    let Some(number) = number_of(catalogue, version) else {
+        return Ok(None);
+    };
+    if !matches(spec, version) || !catalogue.is_many(&spec.name) {
+        return Ok(None);
+    }
+    let mut out = Vec::new(alloc);
+    push_version(&mut out, number, false)?;
+    push_match(&mut out, spec, true)?;
+    Ok(Some(out))
+}
+
 fn is_set(place: u32, bit: u32) -> bool
     requires { bit < 32 }
     ensures { result ≡ (bit_at place bit == 1) }
@@ -390,7 +416,7 @@ fn digit(
     let Some(number) = number_of(catalogue, version) else {
         return Ok(None);
     };
-    if bit >= 32 {
+    if catalogue.is_many(&version.name) || bit >= 32 {
         return Ok(None);
     }
     let mut out = Vec::new(alloc);
@@ -554,6 +580,7 @@ pub fn clause_of(
         } => limit_bars_at(alloc, catalogue, request, place, *line, version),
         Step::Limit { place, line } => limit_at(alloc, catalogue, request, place, *line),
         Step::Outside { spec, version } => outside(alloc, catalogue, spec, version),
+        Step::Matches { spec, version } => meets(alloc, catalogue, spec, version),
         Step::Lock { line, version } => lock_at(alloc, catalogue, *line, version),
         Step::Exclude { line } => exclude_at(alloc, catalogue, *line),
         Step::Unknown { line } => unknown_at(alloc, catalogue, *line),

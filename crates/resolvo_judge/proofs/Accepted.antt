@@ -9,10 +9,10 @@ use Rattle.std.proofs.lemmas.Bool.{false≢true, and_parts, and_from, or_cases, 
 use Rattle.std.proofs.lemmas.Option.{same_Some}
 use Rattle.std.proofs.lemmas.List.{append_assoc, append-nil}
 use Rattle.std.proofs.lemmas.List.Concat.{flat_map-append}
-use Rattle.resolvo_text.specs.Line.{Version, Line, Skipped, Listed, Needs, Limits, Unknown, Lock, Favour, Exclude, Wish}
+use Rattle.resolvo_text.specs.Line.{Version, Line, Skipped, Listed, Needs, Limits, Unknown, Lock, Favour, Exclude, Many, Wish}
 use Rattle.resolvo_text.specs.Matches.{Set, same_package, same_version, is_member, matches, condition_holds}
 use Rattle.resolvo_catalogue_core.specs.Grammar.{line_at, owner_of}
-use Rattle.resolvo_catalogue_core.specs.Sets.{IsSingle, IsRuleKeeping}
+use Rattle.resolvo_catalogue_core.specs.Sets.{is_many, IsSingle, IsRuleKeeping}
 use Rattle.resolvo_catalogue_core.specs.Answers.{Answer, Reason, Entry, LeftOut, ForRequest, ForVersion, Wished, entry_of, entries_of, wish_line_of, IsNeededBy, IsReason, IsReasoned, IsLeftOut, ClaimsInstall, ClaimsRefusal}
 use Rattle.resolvo_catalogue_core.proofs.Pushed.{increasing_push}
 use Rattle.resolvo_report.specs.Value.{Place, OfRequest, OfVersion, AnswerLine, ReportLine, InstallHead, RefusedHead, CatalogueLine, RequestLine, Numbered, Message, Step}
@@ -20,10 +20,11 @@ use Rattle.resolvo_report.specs.Value as line
 use Rattle.resolvo_checker.specs.StepClauses.{Clause, clause_of, is_listed, is_owner}
 use Rattle.resolvo_checker.specs.Proof.{is_valid_step, rests_on_named, follows, is_named, every_line, IsProof, forbids}
 use Rattle.resolvo_judge.specs.Refusal.{answer_in, step_in, answers_in, answers_claimed, steps_in, catalogue_lines_in, request_lines_in, catalogue_line_in, request_line_in, may_rest, passes, step_forbids, ArePassed, IsAccepted}
-use Rattle.resolvo_judge.specs.Entries.{answer_fits}
+use Rattle.resolvo_judge.specs.Entries.{answer_fits, is_free}
+use Rattle.resolvo_judge.proofs.FreeLemmas.{free_is_new, free_is_alone}
 use Rattle.resolvo_judge.proofs.AnswerTests.{is_needed, is_wish, has_reason, leaves_out, is_left_out, rises, answer_passes, leaves_out_at, AnswersEnd}
 use Rattle.resolvo_judge.proofs.FitLemmas.{AnswersPass, answers_pass, ends_so}
-use Rattle.resolvo_checker.proofs.Sets.{contained, is_contained, same_own, same_is, found}
+use Rattle.resolvo_checker.proofs.Sets.{contained, is_contained, same_own, same_is}
 use Rattle.resolvo_checker.proofs.Atoms.{bytes_own}
 use Rattle.resolvo_checker.proofs.ListedLemmas.{contains_listed}
 use Rattle.resolvo_checker.proofs.ProofTrue.{proof_forbids}
@@ -131,6 +132,7 @@ module _ (c d r t : ℕ → Bool) (more_c : (n : ℕ) → c n ≡ true → d n �
   rests_more (line.Unknown n) h = more_c n h
   rests_more (line.Shared a) h = refl
   rests_more (line.Outside s v) h = refl
+  rests_more (line.Matches s v) h = refl
   rests_more (line.Digit v p b) h = refl
   rests_more (line.Any v) h = refl
   rests_more (line.Derive a b) h = refl
@@ -183,7 +185,7 @@ module _ (catalogue request : List Line) (answers : List Answer) (pass : Answers
   -- what an entry that passes implies
   record EntryPasses (above : List Answer) (v : Version) (reason : Reason) : Type 0 where
     pub listed : is_listed catalogue v ≡ true
-    pub alone : list_any (same_package v) (entries_of above) ≡ false
+    pub free : is_free catalogue (entries_of above) v ≡ true
     pub kept : is_left_out above v ≡ false
     pub reasoned : has_reason catalogue request (entries_of above) v reason ≡ true
     pub rises : rises above (Entry v reason) ≡ true
@@ -191,10 +193,10 @@ module _ (catalogue request : List Line) (answers : List Answer) (pass : Answers
   entry_passes : (above : List Answer) (v : Version) (reason : Reason) (below : List Answer) → answers ≡ above ++ Entry v reason ∷ below → EntryPasses above v reason
   entry_passes above v reason below is =
       let p = and_parts (is_listed catalogue v) _ (here above (Entry v reason) below is) in
-      let q = and_parts (not (list_any (same_package v) (entries_of above))) _ p.1 in
+      let q = and_parts (is_free catalogue (entries_of above) v) _ p.1 in
       let r = and_parts (not (is_left_out above v)) _ q.1 in
       let s = and_parts (has_reason catalogue request (entries_of above) v reason) (rises above (Entry v reason)) r.1 in
-      record { listed = p.0; alone = not-true _ q.0; kept = not-true _ r.0; reasoned = s.0; rises = s.1 }
+      record { listed = p.0; free = q.0; kept = not-true _ r.0; reasoned = s.0; rises = s.1 }
 
   record LeftPasses (above : List Answer) (v : Version) (n k : ℕ) : Type 0 where
     pub wish : is_wish (line_at request n) v ≡ true
@@ -224,6 +226,7 @@ module _ (catalogue request : List Line) (answers : List Answer) (pass : Answers
   needed earlier (Some (Unknown r)) v h = absurd (false≢true h)
   needed earlier (Some (Lock w)) v h = absurd (false≢true h)
   needed earlier (Some (Favour w)) v h = absurd (false≢true h)
+  needed earlier (Some (Many name)) v h = absurd (false≢true h)
   needed earlier (Some (Exclude w r)) v h = absurd (false≢true h)
   needed earlier (Some (Wish w)) v h = absurd (false≢true h)
 
@@ -237,6 +240,7 @@ module _ (catalogue request : List Line) (answers : List Answer) (pass : Answers
   wish_is (Some (Unknown r)) v h = absurd (false≢true h)
   wish_is (Some (Lock w)) v h = absurd (false≢true h)
   wish_is (Some (Favour w)) v h = absurd (false≢true h)
+  wish_is (Some (Many name)) v h = absurd (false≢true h)
   wish_is (Some (Exclude w r)) v h = absurd (false≢true h)
 
   owner_is : (v : Version) (o : Option Version) → is_owner v o ≡ true → o ≡ Some v
@@ -251,15 +255,11 @@ module _ (catalogue request : List Line) (answers : List Answer) (pass : Answers
       (contained earlier w p.0, owner_is w (owner_of catalogue n) q.0, needed earlier (line_at catalogue n) v q.1)
   reason_is earlier v (Wished n) h = wish_is (line_at request n) v h
 
-  -- a member is of its own package
-  no_member : (set : Set) (v : Version) → list_any (same_package v) set ≡ false → Contains set v → ⊥
-  no_member set v none c = false≢true (sym none ∙ (found (same_version v) set (is_contained set v c)).also (same_package v) (let f = found (same_version v) set (is_contained set v c) in subst (λ (w : Version). same_package v w ≡ true) (same_is v f.item f.passes) (bytes_own v.name)))
-
   reasoned : (above below : List Answer) → answers ≡ above ++ below → IsReasoned catalogue request (entries_of above) below
   reasoned above [] is = tt
   reasoned above (Entry v reason ∷ below) is =
       let p = entry_passes above v reason below is in (
-        no_member (entries_of above) v p.alone,
+        λ c. false≢true (sym (free_is_new catalogue (entries_of above) v p.free) ∙ is_contained (entries_of above) v c),
         reason_is (entries_of above) v reason p.reasoned,
         subst (λ (es : Set). IsReasoned catalogue request es below) (entries_more above (Entry v reason) (v ∷ []) refl) (reasoned (above ++ Entry v reason ∷ []) below (next above (Entry v reason) below is)),
       )
@@ -278,13 +278,14 @@ module _ (catalogue request : List Line) (answers : List Answer) (pass : Answers
   left_prefix [] a v h = refl
   left_prefix (x ∷ xs) a v h = let q = or_parts (leaves_out v x) (is_left_out (xs ++ a ∷ []) v) h in ap (λ b. b || is_left_out xs v) q.0 ∙ left_prefix xs a v q.1
 
-  alone_above : (above rest : List Answer) (w : Version) → answers ≡ above ++ rest → is_member w (entries_of rest) ≡ true → list_any (same_package w) (entries_of above) ≡ false
-  alone_above above [] w is h = absurd (false≢true h)
-  alone_above above (Entry x r ∷ rest) w is h = elim (or_cases (same_version w x) (is_member w (entries_of rest)) h) [
-    | inl e ↦ subst (λ (y : Version). list_any (same_package y) (entries_of above) ≡ false) (sym (same_is w x e)) (entry_passes above x r rest is).alone
-    | inr e ↦ any_prefix (same_package w) above (Entry x r) (alone_above (above ++ Entry x r ∷ []) rest w (next above (Entry x r) rest is) e)
+  alone_above : (above rest : List Answer) (w : Version) → is_many catalogue w.name ≡ false → answers ≡ above ++ rest → is_member w (entries_of rest) ≡ true → list_any (same_package w) (entries_of above) ≡ false
+  alone_above above [] w single is h = absurd (false≢true h)
+  alone_above above (Entry x r ∷ rest) w single is h = elim (or_cases (same_version w x) (is_member w (entries_of rest)) h) [
+    | inl e ↦ subst (λ (y : Version). list_any (same_package y) (entries_of above) ≡ false) (sym (same_is w x e))
+        (free_is_alone catalogue (entries_of above) x (subst (λ (y : Version). is_many catalogue y.name ≡ false) (same_is w x e) single) (entry_passes above x r rest is).free)
+    | inr e ↦ any_prefix (same_package w) above (Entry x r) (alone_above (above ++ Entry x r ∷ []) rest w single (next above (Entry x r) rest is) e)
   ]
-  alone_above above (LeftOut x n k ∷ rest) w is h = any_prefix (same_package w) above (LeftOut x n k) (alone_above (above ++ LeftOut x n k ∷ []) rest w (next above (LeftOut x n k) rest is) h)
+  alone_above above (LeftOut x n k ∷ rest) w single is h = any_prefix (same_package w) above (LeftOut x n k) (alone_above (above ++ LeftOut x n k ∷ []) rest w single (next above (LeftOut x n k) rest is) h)
 
   kept_above : (above rest : List Answer) (v : Version) → answers ≡ above ++ rest → is_member v (entries_of rest) ≡ true → is_left_out above v ≡ false
   kept_above above [] v is h = absurd (false≢true h)
@@ -323,28 +324,28 @@ module _ (catalogue request : List Line) (answers : List Answer) (pass : Answers
   ]
   listed_from above (LeftOut x n k ∷ rest) v is h = listed_from (above ++ LeftOut x n k ∷ []) rest v (next above (LeftOut x n k) rest is) h
 
-  apart : (above rest : List Answer) (x w : Version) (r : Reason) → answers ≡ above ++ Entry x r ∷ rest → is_member w (entries_of rest) ≡ true → w.name ≡ x.name → ⊥
-  apart above rest x w r is h same =
-      false≢true (sym (alone_above (above ++ Entry x r ∷ []) rest w (next above (Entry x r) rest is) h) ∙ last_in (same_package w) above x r (subst (λ (m : List ℕ). bytes_eq w.name m ≡ true) same (bytes_own w.name)))
+  apart : (above rest : List Answer) (x w : Version) (r : Reason) → is_many catalogue w.name ≡ false → answers ≡ above ++ Entry x r ∷ rest → is_member w (entries_of rest) ≡ true → w.name ≡ x.name → ⊥
+  apart above rest x w r single is h same =
+      false≢true (sym (alone_above (above ++ Entry x r ∷ []) rest w single (next above (Entry x r) rest is) h) ∙ last_in (same_package w) above x r (subst (λ (m : List ℕ). bytes_eq w.name m ≡ true) same (bytes_own w.name)))
 
-  one_from : (above rest : List Answer) (v w : Version) → answers ≡ above ++ rest → is_member v (entries_of rest) ≡ true → is_member w (entries_of rest) ≡ true → v.name ≡ w.name → v ≡ w
-  one_from above [] v w is h g same = absurd (false≢true h)
-  one_from above (LeftOut x n k ∷ rest) v w is h g same = one_from (above ++ LeftOut x n k ∷ []) rest v w (next above (LeftOut x n k) rest is) h g same
-  one_from above (Entry x r ∷ rest) v w is h g same = elim (or_cases (same_version v x) (is_member v (entries_of rest)) h) [
+  one_from : (above rest : List Answer) (v w : Version) → answers ≡ above ++ rest → is_member v (entries_of rest) ≡ true → is_member w (entries_of rest) ≡ true → v.name ≡ w.name → is_many catalogue v.name ≡ false → v ≡ w
+  one_from above [] v w is h g same single = absurd (false≢true h)
+  one_from above (LeftOut x n k ∷ rest) v w is h g same single = one_from (above ++ LeftOut x n k ∷ []) rest v w (next above (LeftOut x n k) rest is) h g same single
+  one_from above (Entry x r ∷ rest) v w is h g same single = elim (or_cases (same_version v x) (is_member v (entries_of rest)) h) [
     | inl e ↦ elim (or_cases (same_version w x) (is_member w (entries_of rest)) g) [
       | inl f ↦ same_is v x e ∙ sym (same_is w x f)
-      | inr f ↦ absurd (apart above rest x w r is f (sym same ∙ ap (λ (y : Version). y.name) (same_is v x e)))
+      | inr f ↦ absurd (apart above rest x w r (subst (λ (n : List ℕ). is_many catalogue n ≡ false) same single) is f (sym same ∙ ap (λ (y : Version). y.name) (same_is v x e)))
     ]
     | inr e ↦ elim (or_cases (same_version w x) (is_member w (entries_of rest)) g) [
-      | inl f ↦ absurd (apart above rest x v r is e (same ∙ ap (λ (y : Version). y.name) (same_is w x f)))
-      | inr f ↦ one_from (above ++ Entry x r ∷ []) rest v w (next above (Entry x r) rest is) e f same
+      | inl f ↦ absurd (apart above rest x v r single is e (same ∙ ap (λ (y : Version). y.name) (same_is w x f)))
+      | inr f ↦ one_from (above ++ Entry x r ∷ []) rest v w (next above (Entry x r) rest is) e f same single
     ]
   ]
 
   pub single : IsSingle catalogue (entries_of answers)
   single = record {
     listed = λ v c. contains_listed catalogue v (listed_from [] answers v refl (is_contained (entries_of answers) v c));
-    one_each = λ v w c d same. one_from [] answers v w refl (is_contained (entries_of answers) v c) (is_contained (entries_of answers) w d) same;
+    one_each = λ v w c d same single. one_from [] answers v w refl (is_contained (entries_of answers) v c) (is_contained (entries_of answers) w d) same single;
   }
 
   -- ---- the account of the wishes

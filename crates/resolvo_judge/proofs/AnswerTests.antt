@@ -2,13 +2,14 @@
 use Rattle.std.specs.Prelude.{◌≡◌, ℕ, Bool, false, not, ◌&&◌, ◌||◌, ◌==◌, nat_lt, IsTrue, List, ◌∷◌, ◌++◌, Option, Some}
 use Rattle.std.specs.List.{list_any, list_all, flat_map}
 use Rattle.resolvo_text.specs.Line.{Version, Line, Needs, Wish}
-use Rattle.resolvo_text.specs.Matches.{Set, same_package, same_version, is_member, matches, condition_holds}
+use Rattle.resolvo_text.specs.Matches.{Set, same_version, is_member, matches, condition_holds}
 use Rattle.resolvo_catalogue_core.specs.Grammar.{line_at, owner_of}
 use Rattle.resolvo_catalogue_core.specs.Rules.{keeps, keeps_in_request}
 use Rattle.resolvo_catalogue_core.specs.Answers as answer
 use Rattle.resolvo_catalogue_core.specs.Answers.{Answer, Reason, entries_of, wish_line_of}
 use Rattle.resolvo_report.specs.Value.{Step}
 use Rattle.resolvo_checker.specs.StepClauses.{is_listed, is_owner}
+use Rattle.resolvo_judge.specs.Entries.{is_free}
 use Rattle.resolvo_judge.specs.Refusal.{step_forbids}
 
 -- The line is a `needs` line, an alternative of which the version matches, and its condition holds among the entries.
@@ -37,11 +38,11 @@ is_left_out answers v = list_any (leaves_out v) answers
 abbrev pub rises : List Answer → Answer → Bool
 rises above a = list_all (λ n. list_all (λ m. nat_lt m n) (flat_map wish_line_of above)) (wish_line_of a)
 
--- An entry is listed, is the first of its package, isn't left out above, and has its reason among the entries above.
+-- An entry is listed and free, isn't left out above, and has its reason among the entries above.
 -- What is left out is a wish, and no entry above.
 abbrev pub answer_passes : List Line → List Line → List Answer → Answer → Bool
 answer_passes catalogue request above (answer.Entry v reason) =
-    is_listed catalogue v && (not (list_any (same_package v) (entries_of above)) && (not (is_left_out above v) && (has_reason catalogue request (entries_of above) v reason && rises above (answer.Entry v reason))))
+    is_listed catalogue v && (is_free catalogue (entries_of above) v && (not (is_left_out above v) && (has_reason catalogue request (entries_of above) v reason && rises above (answer.Entry v reason))))
 answer_passes catalogue request above (answer.LeftOut v n step) =
     is_wish (line_at request n) v && (not (is_member v (entries_of above)) && rises above (answer.LeftOut v n step))
 

@@ -1,18 +1,19 @@
 -- What is kept of entries and left-out wishes, with one line more.
 use Rattle.std.proofs.Common.{◌≡◌, ℕ, zero, suc, ◌+◌, ◌<◌, Bool, true, false, not, ◌&&◌, ◌||◌, List, [], ◌∷◌, ◌++◌, map, length, Option, Some, None, is_some, if◌then◌else◌, ◌==◌, refl, sym, ap, subst, ◌∙◌, arith}
 use Rattle.std.specs.Prelude.{nat_lt, nat_eq, slice_get}
-use Rattle.std.specs.List.{list_any, list_all, flat_map}
-use Rattle.std.proofs.lemmas.List.{append-nil, length-append, map_push}
+use Rattle.std.specs.List.{list_any, list_all}
+use Rattle.std.proofs.lemmas.List.{append-nil}
 use Rattle.std.proofs.lemmas.List.Concat.{flat_map-append}
 use Rattle.std.proofs.lemmas.Bool.{and_parts, or_left, or_right, lt-ltb, ltb-true}
 use Rattle.std.proofs.lemmas.Option.{same_Some}
-use Rattle.resolvo_text.specs.Line.{Version, Line, Skipped, Listed, Needs, Limits, Unknown, Lock, Favour, Exclude, Wish}
+use Rattle.resolvo_text.specs.Line.{Version, Line, Skipped, Listed, Needs, Limits, Unknown, Lock, Favour, Exclude, Many, Wish}
 use Rattle.resolvo_checker.specs.RuleLines.{owned_line}
 use Rattle.resolvo_catalogue_core.specs.Questions.{wished_in}
-use Rattle.resolvo_text.specs.Matches.{Set, same_package, same_version, is_member}
+use Rattle.resolvo_text.specs.Matches.{Set, same_version, is_member}
 use Rattle.resolvo_report.specs.Value.{AnswerLine, Entry, Wished, LeftOut}
-use Rattle.resolvo_judge.specs.Entries.{entry_of, entries_of, left_out_of, left_out, wish_line_of, wish_lines, may_enter, gives, wishes, is_wish}
+use Rattle.resolvo_judge.specs.Entries.{entry_of, entries_of, left_out_of, left_out, wish_line_of, wish_lines, is_free, may_enter, gives, wishes, is_wish}
 use Rattle.resolvo_judge.specs.Refusal.{leaves_out}
+use Rattle.resolvo_judge.proofs.FreeLemmas.{free_is_new}
 use Rattle.resolvo_catalogue_core.specs.Grammar.{line_at}
 use Rattle.resolvo_checker.proofs.Sets.{same_is, same_own}
 use Rattle.std.proofs.lemmas.Bool.Decides.{Decides-eqb}
@@ -93,6 +94,7 @@ wished_same (Some (Limits s)) v w hv hw = absurd cc
 wished_same (Some (Unknown r)) v w hv hw = absurd cc
 wished_same (Some (Lock x)) v w hv hw = absurd cc
 wished_same (Some (Favour x)) v w hv hw = absurd cc
+wished_same (Some (Many name)) v w hv hw = absurd cc
 wished_same (Some (Exclude x r)) v w hv hw = absurd cc
 
 line_more : (request : List Line) (before : List AnswerLine) (v : Version) (n step k : ℕ) (w : Version) (o : Option ℕ) → wishes (line_at request n) v ≡ true → wishes (line_at request k) w ≡ true → is_some o ≡ list_any (leaves_out w k) before
@@ -115,15 +117,11 @@ line_more request before v n step k w o hv hw old = by_test (nat_eq n k) refl
 
 -- ---- lines that fit
 
-fresh : (catalogue : List Line) (before : List AnswerLine) (v : Version) → may_enter catalogue before v ≡ true → list_any (same_package v) (entries_of before) ≡ false
-fresh catalogue before v h = not_true (list_any (same_package v) (entries_of before)) (and_parts _ _ (and_parts _ _ h).1).0
-  where
-    not_true : (b : Bool) → not b ≡ true → b ≡ false
-    not_true false e = refl
-    not_true true e = absurd cc
+fresh : (catalogue : List Line) (before : List AnswerLine) (v : Version) → may_enter catalogue before v ≡ true → is_member v (entries_of before) ≡ false
+fresh catalogue before v h = free_is_new catalogue (entries_of before) v (and_parts (is_free catalogue (entries_of before) v) (not (is_member v (left_out before))) (and_parts _ _ h).1).0
 
 abbrev pub Adds : Chosen → Chosen → Version → Type 0
-Adds old new v = (set : Set) → Holds old set → list_any (same_package v) set ≡ false → Holds new (set ++ v ∷ [])
+Adds old new v = (set : Set) → Holds old set → is_member v set ≡ false → Holds new (set ++ v ∷ [])
 
 pub entry_kept : (e : Entries) (chosen : Chosen) (catalogue : List Line) (before : List AnswerLine) (l : AnswerLine) (v : Version) → entry_of l ≡ v ∷ [] → left_out_of l ≡ [] → wish_line_of l ≡ [] → ((i : ℕ) → forbidden_from i (l ∷ []) ≡ [])
     → KeepsAnswers e before → may_enter catalogue before v ≡ true → Adds e.chosen chosen v → KeepsAnswers (record e { chosen = chosen }) (before ++ l ∷ [])
@@ -165,6 +163,7 @@ gives_owned (Some (Limits s)) entries v = refl
 gives_owned (Some (Unknown r)) entries v = refl
 gives_owned (Some (Lock w)) entries v = refl
 gives_owned (Some (Favour w)) entries v = refl
+gives_owned (Some (Many name)) entries v = refl
 gives_owned (Some (Exclude w r)) entries v = refl
 gives_owned (Some (Wish w)) entries v = refl
 
@@ -203,6 +202,7 @@ from_wished (Some (Limits s)) w e = absurd cc
 from_wished (Some (Unknown r)) w e = absurd cc
 from_wished (Some (Lock x)) w e = absurd cc
 from_wished (Some (Favour x)) w e = absurd cc
+from_wished (Some (Many name)) w e = absurd cc
 from_wished (Some (Exclude x r)) w e = absurd cc
 
 -- a wish that is no entry is answered where its line is left out

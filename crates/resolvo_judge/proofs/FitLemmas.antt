@@ -5,8 +5,8 @@ use Rattle.std.specs.List.{list_any, list_all, flat_map}
 use Rattle.std.specs.Option.{option_map}
 use Rattle.std.proofs.lemmas.Bool.{false≢true, and_parts, and_from, or_parts, false_from_ne_true, not-true}
 use Rattle.std.proofs.lemmas.Option.{none-some, same_Some, slice_get-map}
-use Rattle.resolvo_text.specs.Line.{Version, Line, Skipped, Listed, Needs, Limits, Unknown, Lock, Favour, Exclude, Wish}
-use Rattle.resolvo_text.specs.Matches.{Set, same_package, same_version, is_member}
+use Rattle.resolvo_text.specs.Line.{Version, Line, Skipped, Listed, Needs, Limits, Unknown, Lock, Favour, Exclude, Many, Wish}
+use Rattle.resolvo_text.specs.Matches.{Set, same_version, is_member}
 use Rattle.resolvo_catalogue_core.specs.Grammar.{line_at, owner_of}
 use Rattle.resolvo_catalogue_core.specs.Rules.{keeps, keeps_in_request}
 use Rattle.resolvo_catalogue_core.specs.Answers as answer
@@ -14,7 +14,7 @@ use Rattle.resolvo_catalogue_core.specs.Answers.{Answer}
 use Rattle.resolvo_report.specs.Value.{OfRequest, OfVersion, AnswerLine, Entry, Wished, LeftOut, Step}
 use Rattle.resolvo_checker.specs.StepClauses.{is_listed, is_owner, line_of}
 use Rattle.resolvo_judge.specs.Entries as judged
-use Rattle.resolvo_judge.specs.Entries.{answer_fits, may_enter, gives, wishes, left_out, is_reason}
+use Rattle.resolvo_judge.specs.Entries.{answer_fits, is_free, may_enter, gives, wishes, left_out, is_reason}
 use Rattle.resolvo_judge.specs.Refusal.{answer_of, step_forbids, leaves_out, InstallEnds}
 use Rattle.resolvo_judge.proofs.AnswerTests as test
 use Rattle.resolvo_judge.proofs.AnswerTests.{answer_passes, is_needed, is_wish, is_left_out, rises, leaves_out_at, AnswersEnd}
@@ -57,6 +57,7 @@ need_same entries (Some (Limits s)) v h = absurd (false≢true h)
 need_same entries (Some (Unknown r)) v h = absurd (false≢true h)
 need_same entries (Some (Lock w)) v h = absurd (false≢true h)
 need_same entries (Some (Favour w)) v h = absurd (false≢true h)
+need_same entries (Some (Many name)) v h = absurd (false≢true h)
 need_same entries (Some (Exclude w r)) v h = absurd (false≢true h)
 need_same entries (Some (Wish w)) v h = absurd (false≢true h)
 
@@ -70,6 +71,7 @@ wish_same (Some (Limits s)) v h = absurd (false≢true h)
 wish_same (Some (Unknown r)) v h = absurd (false≢true h)
 wish_same (Some (Lock w)) v h = absurd (false≢true h)
 wish_same (Some (Favour w)) v h = absurd (false≢true h)
+wish_same (Some (Many name)) v h = absurd (false≢true h)
 wish_same (Some (Exclude w r)) v h = absurd (false≢true h)
 
 -- ---- one line
@@ -77,21 +79,21 @@ wish_same (Some (Exclude w r)) v h = absurd (false≢true h)
 module _ (catalogue request : List Line) (before : List AnswerLine) where
   record Enters (v : Version) : Type 0 where
     pub listed : is_listed catalogue v ≡ true
-    pub alone : list_any (same_package v) (answer.entries_of (map answer_of before)) ≡ false
+    pub free : is_free catalogue (answer.entries_of (map answer_of before)) v ≡ true
     pub kept : is_left_out (map answer_of before) v ≡ false
 
   enters : (v : Version) → may_enter catalogue before v ≡ true → Enters v
   enters v h =
       let p = and_parts (is_listed catalogue v) _ h in
-      let q = and_parts (not (list_any (same_package v) (judged.entries_of before))) (not (is_member v (left_out before))) p.1 in
+      let q = and_parts (is_free catalogue (judged.entries_of before) v) (not (is_member v (left_out before))) p.1 in
       record {
         listed = p.0;
-        alone = ap (list_any (same_package v)) (same_entries before) ∙ not-true _ q.0;
+        free = ap (λ es. is_free catalogue es v) (same_entries before) ∙ q.0;
         kept = not_left before v (not-true _ q.1);
       }
 
   entry_with : (v : Version) (reason : answer.Reason) → Enters v → test.has_reason catalogue request (answer.entries_of (map answer_of before)) v reason ≡ true → rises (map answer_of before) (answer.Entry v reason) ≡ true → answer_passes catalogue request (map answer_of before) (answer.Entry v reason) ≡ true
-  entry_with v reason e r w = and_from _ _ e.listed (and_from _ _ (ap not e.alone) (and_from _ _ (ap not e.kept) (and_from _ _ r w)))
+  entry_with v reason e r w = and_from _ _ e.listed (and_from _ _ e.free (and_from _ _ (ap not e.kept) (and_from _ _ r w)))
 
   rises_same : (n : ℕ) → list_all (λ m. nat_lt m n) (judged.wish_lines before) ≡ true → list_all (λ m. nat_lt m n) (flat_map answer.wish_line_of (map answer_of before)) ≡ true
   rises_same n h = ap (list_all (λ m. nat_lt m n)) (same_lines before) ∙ h

@@ -1,5 +1,5 @@
 -- The wishes that steps forbid: built clauses, wishes by their steps, and one step more.
-use Rattle.std.proofs.Common.{◌≡◌, inl, inr, ℕ, zero, suc, ◌+◌, ◌<◌, ◌≤◌, Bool, true, false, List, [], ◌∷◌, ◌++◌, length, map, take, get_or, Option, Some, None, refl, sym, ap, subst, ◌∙◌, append_assoc, length-append, arith}
+use Rattle.std.proofs.Common.{◌≡◌, inl, inr, ℕ, zero, suc, ◌+◌, ◌<◌, ◌≤◌, Bool, true, false, List, [], ◌∷◌, ◌++◌, length, map, take, get_or, Option, Some, None, refl, sym, ap, ◌∙◌, append_assoc, length-append, arith}
 use Rattle.std.specs.Prelude.{not, ◌&&◌, ◌||◌, nat_eq, nat_lt, nat_le, is_some, slice_get, if◌then◌else◌}
 use Rattle.std.specs.Global.{Vec}
 use Rattle.std.specs.BTreeMap.{get}
@@ -27,7 +27,7 @@ use Rattle.resolvo_judge.specs.KeptAnswers.{forbidden_from}
 use Rattle.resolvo_judge.specs.Refusal.{answer_in, answers_in, step_in, steps_in, step_forbids, passes}
 use Rattle.resolvo_judge.specs.Forbids.{literal_forbids, built_forbid, clause_forbids, is_forbidden, is_forbidden_so_far, AreFirst, FlagsForbidden}
 use Rattle.resolvo_judge.proofs.Accepted.{get_seam}
-use Rattle.resolvo_judge.proofs.LogLemmas.{one_more, answers_more, no_answers_more}
+use Rattle.resolvo_judge.proofs.LogLemmas.{one_more, no_answers_more}
 
 -- ---- clauses that are built
 

@@ -1,16 +1,15 @@
 -- The judge's way through the bytes of a report: the lines so far, all of which passed, and the next.
-use Rattle.std.proofs.Common.{◌≡◌, ℕ, zero, suc, ◌+◌, ◌<◌, ◌≤◌, Bool, true, false, List, [], ◌∷◌, ◌++◌, length, take, drop, map, Option, Some, None, Result, Ok, Err, IfOk, IfErr, refl, sym, ap, subst, ◌∙◌, inl, inr, ⊎_elim, append_assoc, append-nil, length-append, arith, take-append-drop, length-drop}
-use Rattle.std.specs.Prelude.{codes, IsTrue, slice_get}
+use Rattle.std.proofs.Common.{◌≡◌, ℕ, ◌+◌, ◌<◌, ◌≤◌, true, false, List, [], ◌∷◌, ◌++◌, length, take, drop, map, Option, Some, refl, sym, ap, subst, ◌∙◌, inl, inr, ⊎_elim, append_assoc, append-nil, length-append, arith, take-append-drop, length-drop}
+use Rattle.std.specs.Prelude.{codes, IsTrue}
 use Rattle.std.specs.List.{flat_map, join_with_byte}
 use Rattle.std.specs.Fmt.{decimal}
-use Rattle.std.specs.Io.KnownBytes.{Consumes, IsAtEnd}
+use Rattle.std.specs.Io.KnownBytes.{IsAtEnd}
 use Rattle.std.proofs.lemmas.Bool.{false≢true}
 use Rattle.std.proofs.lemmas.Option.{same_Some, slice_get_within}
 use Rattle.std.proofs.lemmas.List.{length-take, length-map, take-append-le}
 use Rattle.std.proofs.lemmas.List.Concat.{flat_map-append}
 use Rattle.resolvo_text.specs.Device.{IfKnown, DeviceFailed}
 use Rattle.resolvo_text.specs.Line.{Line}
-use Rattle.resolvo_text.specs.Lines.{newlines}
 use Rattle.resolvo_text.specs.Spelling.{Words}
 use Rattle.resolvo_text.proofs.KnownBytes.{consumed}
 use Rattle.resolvo_catalogue_core.specs.Answers.{ClaimsInstall, ClaimsRefusal}
@@ -23,8 +22,8 @@ use Rattle.resolvo_report.specs.declared.reader.ReportFault.{ReportFault}
 use Rattle.resolvo_report.specs.declared.reader.ReportFault.TheVariants.{NotAReport, Reader, TooLong, Memory}
 use Rattle.resolvo_report.specs.Value.{Report, Install, Refused, ReportLine, InstallHead, RefusedHead, CatalogueLine, RequestLine, Numbered, Message, Step, AnswerLine}
 use Rattle.resolvo_report.specs.Value as model
-use Rattle.resolvo_report.specs.Text.{line_text, lines_text, step_text, step_words, HasText, report_lines, report_text, numbered}
-use Rattle.resolvo_report.specs.Grammar.{next_part, may_end, AreLines, IsReport, GoesOn, most_bytes}
+use Rattle.resolvo_report.specs.Text.{line_text, lines_text, step_text, step_words, report_lines, numbered}
+use Rattle.resolvo_report.specs.Grammar.{next_part, may_end, GoesOn, most_bytes}
 use Rattle.resolvo_report.specs.Draft.{part_of, Grows}
 use Rattle.resolvo_report.specs.Stream.{GivesLine, IsLineFault}
 use Rattle.resolvo_report.proofs.DraftLemmas.{push_answer, push_install_step, push_catalogue, push_request, push_refused_step, push_message, install_takes, no_install_head, no_refused_head, no_answer}
@@ -35,10 +34,10 @@ use Rattle.resolvo_judge.specs.declared.judge_state.JudgeState.{JudgeState}
 use Rattle.resolvo_judge.specs.declared.judgement.Verdict.{Verdict}
 use Rattle.resolvo_judge.specs.declared.judgement.Verdict.TheVariants.{Yes, No}
 use Rattle.resolvo_checker.specs.CheckStep.{causes_in, count_causes}
-use Rattle.resolvo_judge.specs.Refusal.{answer_of, answer_in, answers_in, answers_claimed, step_in, steps_in, catalogue_line_in, catalogue_lines_in, request_line_in, request_lines_in, is_refusal, passes, Ends, ArePassed, IsAccepted}
+use Rattle.resolvo_judge.specs.Refusal.{answer_of, answer_in, answers_in, step_in, steps_in, catalogue_line_in, catalogue_lines_in, request_line_in, request_lines_in, is_refusal, passes, ArePassed, IsAccepted}
 use Rattle.resolvo_judge.specs.Log.{is_head, causes_of_line}
 use Rattle.resolvo_judge.specs.JudgeState.{JudgeInvariant, DecidesEnd}
-use Rattle.resolvo_judge.specs.Judgement.{IsClaimTrue, IsUpheld, causes_named, HoldsOn, IsRefusedAt, IsVerdict, ClaimsTruth, CountsReadings, IsReceived, IsStop}
+use Rattle.resolvo_judge.specs.Judgement.{IsClaimTrue, IsUpheld, causes_named, HoldsOn, IsRefusedAt, IsVerdict, ClaimsTruth, IsStop}
 use Rattle.resolvo_checker.proofs.WholeProofs.{take_prefix, count_push}
 use Rattle.resolvo_judge.proofs.LogLemmas.{one_more}
 use Rattle.resolvo_judge.proofs.Accepted.{install_true, refusal_true}
@@ -150,6 +149,7 @@ step_within (model.Shared ss) = omega arith
 step_within (model.LimitBars p n v) = omega arith
 step_within (model.Limit p n) = omega arith
 step_within (model.Outside s v) = omega arith
+step_within (model.Matches s v) = omega arith
 step_within (model.Lock n v) = omega arith
 step_within (model.Exclude n) = omega arith
 step_within (model.Unknown n) = omega arith

@@ -1,4 +1,7 @@
 pub mod ChosenLemmas
+pub mod SpanLemmas
+pub mod NumberLemmas
+pub mod FreeLemmas
 pub mod ProofLaws
 pub mod AnswerTests
 pub mod FitLemmas

@@ -1,18 +1,18 @@
 -- The message of a refused report changes nothing: with other lines, or with none, it is accepted as before.
-use Rattle.std.proofs.Common.{◌≡◌, ◌⊎◌, inl, inr, ℕ, zero, suc, ◌+◌, ◌<◌, ◌≤◌, Bool, true, false, List, [], ◌∷◌, ◌++◌, map, take, length, Option, Some, None, refl, sym, ◌∙◌, ap, subst, arith}
+use Rattle.std.proofs.Common.{◌≡◌, ◌⊎◌, inl, inr, ℕ, zero, suc, ◌+◌, Bool, true, false, List, [], ◌∷◌, ◌++◌, map, take, Option, Some, None, refl, sym, ◌∙◌, ap, subst, arith}
 use Rattle.std.specs.Prelude.{◌==◌, nat_lt, if◌then◌else◌, IsTrue, slice_get, option_and_then}
-use Rattle.std.specs.List.{AllByRecursion, flat_map}
+use Rattle.std.specs.List.{AllByRecursion}
 use Rattle.std.proofs.lemmas.Bool.{both_ways}
 use Rattle.std.proofs.lemmas.Option.{same_Some, slice_get_within}
 use Rattle.std.proofs.lemmas.List.{append-nil, take-append-le}
 use Rattle.std.proofs.lemmas.List.Concat.{flat_map-append}
 use Rattle.resolvo_text.specs.Line.{Line}
 use Rattle.resolvo_report.specs.Value.{Step, ReportLine, InstallHead, RefusedHead, Answer, CatalogueLine, RequestLine, Numbered, Message, Refused}
-use Rattle.resolvo_report.specs.Text.{HasText, numbered, report_lines, report_text}
-use Rattle.resolvo_report.specs.Grammar.{next_part, part_after, may_end, AreLines, IsReport}
+use Rattle.resolvo_report.specs.Text.{HasText, numbered, report_text}
+use Rattle.resolvo_report.specs.Grammar.{next_part, part_after, may_end, IsReport}
 use Rattle.resolvo_report.specs.declared.place.Part.{Part}
 use Rattle.resolvo_report.specs.declared.place.Part.TheVariants as part
-use Rattle.resolvo_judge.specs.Refusal.{step_in, steps_in, passes, Ends, ArePassed, IsAccepted}
+use Rattle.resolvo_judge.specs.Refusal.{step_in, steps_in, passes, ArePassed, IsAccepted}
 use Rattle.resolvo_checker.specs.Proof.{ends_empty}
 use Rattle.resolvo_judge.specs.Judgement.{IsUpheld}
 

@@ -1,6 +1,6 @@
 -- Lines of a message that the reader gives without their bytes: the judge's state is that after
 -- the written lines.
-use Rattle.std.proofs.Common.{◌≡◌, ℕ, Bool, true, false, List, [], ◌∷◌, ◌++◌, Some, refl, sym, ap, subst, ◌∙◌, ⊎_elim, append_assoc}
+use Rattle.std.proofs.Common.{◌≡◌, ℕ, false, List, [], ◌∷◌, ◌++◌, Some, refl, sym, ap, subst, ◌∙◌, ⊎_elim, append_assoc}
 use Rattle.std.specs.List.{list_all}
 use Rattle.resolvo_text.specs.Line.{Line}
 use Rattle.resolvo_report.specs.declared.place.Part.{Part}

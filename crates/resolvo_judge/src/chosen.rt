@@ -1,8 +1,11 @@
-//! The entries of an `install` report as a set: at most one version of each package.
-//! Conditions and rules are evaluated in time linear in their size.
-//! Its model is a list of versions: `Holds` of specs/Chosen.antt.
+//! The entries of an `install` report as a set: several versions of a package only where it is marked
+//! `many`, by their numbers. Conditions and rules are evaluated in their size and the logarithm of
+//! the entries. Its model is a list of versions: `Holds` of specs/Chosen.antt.
 
-ghost use Rattle.std.specs.Prelude.{◌≡◌, ◌++◌, ◌∷◌, [], ◌<◌, ◌+◌, ◌^◌, OnOk, false, not, ◌||◌, ◌==◌, List, length, take};
+ghost use Rattle.std.specs.Prelude.{◌≡◌, ◌++◌, ◌∷◌, [], ◌<◌, ◌+◌, ◌^◌, OnOk, if◌then◌else◌, Some, false, not, ◌||◌, ◌==◌, List, length, take};
+ghost use Rattle.std.specs.BTreeMap.Range.{range_contains, IsLeBy, IsLtBy};
+ghost use Rattle.std.specs.Ordering.{nat_cmp};
+ghost use Rattle.std.specs.Range.Bound.{IsForward};
 ghost use Rattle.std.specs.BTreeMap.{get_by_text};
 ghost use Rattle.std.specs.List.{list_any, list_all};
 ghost use Rattle.std.specs.Str.{bytes_eq};
@@ -10,25 +13,85 @@ ghost use Rattle.resolvo_catalogue_core.specs.Listed.{pair_version};
 ghost use Rattle.std.specs.Option.{option_map_or};
 ghost use Rattle.std.specs.String.{string_bytes};
 ghost use Rattle.resolvo_text.specs.Line as spelled;
-ghost use Rattle.resolvo_text.specs.Matches.{Set, is_in_span, same_package, matches, is_member, is_met, is_met_by_one, holds, condition_holds};
+ghost use Rattle.resolvo_text.specs.Matches.{Set, is_in_span, same_package, same_version, matches, is_member, is_met, is_met_by_one, holds, condition_holds};
 ghost use Rattle.resolvo_text.specs.View.{version_of, spec_of, specs_of, cond_of, condition_of};
-ghost use Rattle.resolvo_judge.specs.Chosen.{Holds, number_for};
+ghost use Rattle.resolvo_judge.specs.Chosen.{Holds, index_in};
 
-use resolvo_catalogue_core::{Cond, Span, Spec, Version, is_in_span};
+use resolvo_catalogue_core::{Cond, Span, Spec, Version};
 use std::alloc::{AllocError, Global};
 use std::collections::BTreeMap;
+use std::ops::Bound;
 
-/// The chosen version of a package, and how many versions were chosen before it.
-#[derive(Clone, Copy, Debug)]
-pub struct Pick {
-    pub number: u32,
-    pub index: usize,
+/// Adds a version's number, with the number of versions chosen before it.
+fn add_number(
+    alloc: Global,
+    packages: &mut BTreeMap<String, BTreeMap<u32, usize>>,
+    version: &Version,
+    index: usize,
+) -> Result<(), AllocError>
+    ensures { OnOk result
+        ((v : spelled.Version)
+        → index_in (get_by_text packages.new v.name) v.number
+        ≡ (if same_version (version_of version.now) v
+        then Some index
+        else index_in (get_by_text packages.old v.name) v.number)) }
+{
+    if let Some(numbers) = packages.get_mut(version.name.as_str()) {
+        numbers.insert(version.number, index)?;
+        return Ok(());
+    }
+    let mut numbers = BTreeMap::new(alloc);
+    numbers.insert(version.number, index)?;
+    packages.insert(version.name.clone()?, numbers)?;
+    Ok(())
 }
 
-/// The chosen versions, by their packages.
+/// Whether one of the numbers is between the bounds.
+fn has_between(numbers: &BTreeMap<u32, usize>, start: Bound<u32>, end: Bound<u32>) -> bool
+    requires { IsForward (IsLeBy nat_cmp) (IsLtBy nat_cmp) start end }
+    ensures { result ≡ list_any (λ e. range_contains nat_cmp start end e.0) numbers.now.entries }
+{
+    numbers.range((start, end)).next().is_some()
+}
+
+/// Whether one of the numbers lies in the span.
+fn has_in(numbers: &BTreeMap<u32, usize>, span: Span) -> bool
+    ensures { result ≡ list_any (λ e. is_in_span span e.0) numbers.now.entries }
+{
+    match span {
+        Span::Any => !numbers.is_empty(),
+        Span::One(number) => numbers.contains_key(&number),
+        Span::Range(low, high) => {
+            low < high && has_between(numbers, Bound::Included(low), Bound::Excluded(high))
+        }
+    }
+}
+
+/// Whether one of the numbers lies outside the span.
+fn has_outside(numbers: &BTreeMap<u32, usize>, span: Span) -> bool
+    ensures { result ≡ list_any (λ e. not (is_in_span span e.0)) numbers.now.entries }
+{
+    match span {
+        Span::Any => false,
+        Span::One(number) => {
+            has_between(numbers, Bound::Unbounded, Bound::Excluded(number))
+                || has_between(numbers, Bound::Excluded(number), Bound::Unbounded)
+        }
+        Span::Range(low, high) => {
+            if low >= high {
+                return !numbers.is_empty();
+            }
+            has_between(numbers, Bound::Unbounded, Bound::Excluded(low))
+                || has_between(numbers, Bound::Included(high), Bound::Unbounded)
+        }
+    }
+}
+
+/// The chosen versions, by their packages and numbers, each with how many were chosen before it.
 #[derive(Drop)]
 pub struct Chosen {
-    picks: BTreeMap<String, Pick>,
+    alloc: Global,
+    packages: BTreeMap<String, BTreeMap<u32, usize>>,
     count: usize,
 }
 
@@ -38,7 +101,8 @@ impl Chosen {
         ensures none { result.count ≡ 0 }
     {
         Chosen {
-            picks: BTreeMap::new(alloc),
+            alloc,
+            packages: BTreeMap::new(alloc),
             count: 0,
         }
     }
@@ -50,39 +114,37 @@ impl Chosen {
         self.count
     }
 
-    /// Adds a version of a new package.
+    /// Adds a version that isn't chosen.
     pub fn add(&mut self, version: &Version) -> Result<(), AllocError>
         requires { self.old.count < 2 ^ 32 }
         ensures count { OnOk result (self.new.count ≡ self.old.count + 1) }
         ensures added { OnOk result
             ((set : Set)
             → Holds self.old set
-            → list_any (same_package (version_of version.now)) set ≡ false
+            → is_member (version_of version.now) set ≡ false
             → Holds self.new (set ++ version_of version.now ∷ [])) }
     {
-        let pick = Pick {
-            number: version.number,
-            index: self.count,
-        };
-        self.picks.insert(version.name.clone()?, pick)?;
+        add_number(self.alloc, &mut self.packages, version, self.count)?;
         self.count += 1;
         Ok(())
     }
 
-    /// The chosen version of a package, if there is one.
-    fn pick(&self, name: &str) -> Option<Pick>
-        ensures { result ≡ get_by_text self.now.picks name.now }
+    /// How many versions were chosen before the one of this package and number.
+    fn index(&self, name: &str, number: u32) -> Option<usize>
+        ensures { result ≡ index_in (get_by_text self.now.packages name.now) number }
     {
-        self.picks.get(name).copied()
+        let numbers = self.packages.get(name)?;
+        numbers.get(&number).copied()
     }
 
-    /// The number of the chosen version of a package, if there is one.
-    fn number(&self, name: &str) -> Option<u32>
-        ensures { (set : Set) → Holds self.now set → result ≡ number_for set name.now }
+    fn has_number_among(&self, name: &str, number: u32, first: usize) -> bool
+        ensures { (set : Set)
+            → Holds self.now set
+            → result ≡ is_member (record { name = name.now; number = number }) (take first set) }
     {
-        match self.pick(name) {
-            Some(pick) => Some(pick.number),
-            None => None,
+        match self.index(name, number) {
+            Some(index) => index < first,
+            None => false,
         }
     }
 
@@ -92,10 +154,7 @@ impl Chosen {
             → Holds self.now set
             → result ≡ is_member (pair_version version.now) (take first set) }
     {
-        match self.pick(&version.0) {
-            Some(pick) => version.1 == pick.number && pick.index < first,
-            None => false,
-        }
+        self.has_number_among(&version.0, version.1, first)
     }
 
     /// Whether the version is among the first so many.
@@ -104,10 +163,7 @@ impl Chosen {
             → Holds self.now set
             → result ≡ is_member (version_of version.now) (take first set) }
     {
-        match self.pick(&version.name) {
-            Some(pick) => version.number == pick.number && pick.index < first,
-            None => false,
-        }
+        self.has_number_among(&version.name, version.number, first)
     }
 
     /// Whether a version of this version's package is chosen.
@@ -116,26 +172,23 @@ impl Chosen {
             → Holds self.now set
             → result ≡ list_any (same_package (version_of version.now)) set }
     {
-        self.number(&version.name).is_some()
+        match self.packages.get(version.name.as_str()) {
+            Some(numbers) => !numbers.is_empty(),
+            None => false,
+        }
     }
 
     pub fn has(&self, version: &Version) -> bool
         ensures { (set : Set) → Holds self.now set → result ≡ is_member (version_of version.now) set }
     {
-        match self.number(&version.name) {
-            Some(number) => version.number == number,
-            None => false,
-        }
+        self.index(&version.name, version.number).is_some()
     }
 
     /// Whether a version, as the catalogue lists it, is chosen.
     pub fn has_listed(&self, version: &(String, u32)) -> bool
         ensures { (set : Set) → Holds self.now set → result ≡ is_member (pair_version version.now) set }
     {
-        match self.number(&version.0) {
-            Some(number) => version.1 == number,
-            None => false,
-        }
+        self.index(&version.0, version.1).is_some()
     }
 
     /// Whether each chosen version of the SPEC's package matches.
@@ -148,8 +201,8 @@ impl Chosen {
             not (bytes_eq v.name (spec_of spec.now).name) || matches (spec_of spec.now) v)
             set }
     {
-        match self.number(&spec.name) {
-            Some(number) => is_in_span(spec.span, number),
+        match self.packages.get(spec.name.as_str()) {
+            Some(numbers) => !has_outside(numbers, spec.span),
             None => true,
         }
     }
@@ -165,18 +218,18 @@ impl Chosen {
             (pair_version locked.now).number)
             set }
     {
-        match self.number(&locked.0) {
-            Some(number) => number == locked.1,
+        match self.packages.get(locked.0.as_str()) {
+            Some(numbers) => !has_outside(numbers, Span::One(locked.1)),
             None => true,
         }
     }
 
-    /// Whether the chosen version of the SPEC's package matches.
+    /// Whether a chosen version matches the SPEC.
     pub fn is_met(&self, spec: &Spec) -> bool
         ensures { (set : Set) → Holds self.now set → result ≡ is_met (spec_of spec.now) set }
     {
-        match self.number(&spec.name) {
-            Some(number) => is_in_span(spec.span, number),
+        match self.packages.get(spec.name.as_str()) {
+            Some(numbers) => has_in(numbers, spec.span),
             None => false,
         }
     }

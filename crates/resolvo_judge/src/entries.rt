@@ -12,7 +12,7 @@ ghost use Rattle.resolvo_report.specs.Value as model;
 ghost use Rattle.resolvo_report.specs.View.{place_of, answer_line_of};
 ghost use Rattle.resolvo_checker.specs.RuleLines.{line_of_rule, owned_line};
 ghost use Rattle.resolvo_judge.specs.Chosen.{Holds};
-ghost use Rattle.resolvo_judge.specs.Entries.{may_enter as may_enter_lem, is_place_taken as is_place_taken_lem, gives as gives_lem, is_reason as is_reason_lem, is_wish as is_wish_lem, entries_of};
+ghost use Rattle.resolvo_judge.specs.Entries.{is_free as is_free_lem, may_enter as may_enter_lem, is_place_taken as is_place_taken_lem, gives as gives_lem, is_reason as is_reason_lem, is_wish as is_wish_lem, entries_of};
 ghost use Rattle.resolvo_judge.specs.KeptAnswers.{KeepsAnswers, KeepsLines, DecidesFit, AddsAnswer, AddsLine, IsWishAnswered, AreWishesAnswered, is_after};
 
 use crate::chosen::Chosen;
@@ -115,6 +115,18 @@ impl Entries {
         }
     }
 
+    /// Whether the version is no entry, nor another version of a package that isn't marked `many`.
+    fn is_free(&self, catalogue: &Catalogue, version: &Version) -> bool
+        ensures { (set : Set)
+            → Holds self.now.chosen set
+            → result ≡ is_free_lem catalogue.now set (version_of version.now) }
+    {
+        if catalogue.is_many(&version.name) {
+            return !self.chosen.has(version);
+        }
+        !self.chosen.has_package_of(version)
+    }
+
     /// Whether the version may be an entry, its reason aside.
     fn may_enter(&self, catalogue: &Catalogue, version: &Version) -> bool
         ensures { (before : List model.AnswerLine)
@@ -122,7 +134,7 @@ impl Entries {
             → result ≡ may_enter_lem catalogue.now before (version_of version.now) }
     {
         number_of(catalogue, version).is_some()
-            && !self.chosen.has_package_of(version)
+            && self.is_free(catalogue, version)
             && !self.out.has(version)
     }
 

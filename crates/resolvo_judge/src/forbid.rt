@@ -71,8 +71,11 @@ fn built_forbids(
         BuiltAtom::Version(version) => {
             !built.positive && is_listed_among(chosen, versions, *version, forbidden)
         }
-        BuiltAtom::Any(_) | BuiltAtom::Shared(_) | BuiltAtom::Outside(_) | BuiltAtom::Bit(..) =>
-            false,
+        BuiltAtom::Any(_)
+        | BuiltAtom::Shared(_)
+        | BuiltAtom::Outside(_)
+        | BuiltAtom::Matches(_)
+        | BuiltAtom::Bit(..) => false,
     }
 }
 
@@ -98,7 +101,11 @@ fn literal_forbids(chosen: &Chosen, literal: &Literal, forbidden: &Forbidden) ->
 {
     match &literal.atom {
         Atom::Version(version) => !literal.positive && is_among(chosen, version, forbidden),
-        Atom::Any { .. } | Atom::Shared { .. } | Atom::Outside { .. } | Atom::Bit { .. } => false,
+        Atom::Any { .. }
+        | Atom::Shared { .. }
+        | Atom::Outside { .. }
+        | Atom::Matches { .. }
+        | Atom::Bit { .. } => false,
     }
 }
 

@@ -14,9 +14,9 @@ use Rattle.resolvo_text.proofs.AlternativeLemmas.{bind_some}
 use Rattle.resolvo_text.proofs.LineLemmas.{newlines-append, no_newline}
 use Rattle.resolvo_text.proofs.SpanLaws.{not_a_span}
 use Rattle.resolvo_text.proofs.PartLaws.{word_takes, skip_takes, skip_is, no_skip, chosen}
-use Rattle.resolvo_report.specs.Value.{Place, Step, Need, Gate, Shared, LimitBars, Limit, Outside, Lock, Exclude, Unknown, Digit, Any, Derive, Entry, Wished, LeftOut, ReportLine, InstallHead, RefusedHead, Answer, CatalogueLine, RequestLine, Numbered}
+use Rattle.resolvo_report.specs.Value.{Place, Step, Need, Gate, Shared, LimitBars, Limit, Outside, Matches, Lock, Exclude, Unknown, Digit, Any, Derive, Entry, Wished, LeftOut, ReportLine, InstallHead, RefusedHead, Answer, CatalogueLine, RequestLine, Numbered}
 use Rattle.resolvo_report.specs.Text.{version_text, place_text, clause_text, step_words, step_text, line_text, IsLineNumber, IsBit, IsPlace, AreAlternatives, IsStep, HasText}
-use Rattle.resolvo_report.specs.Parse.{pair_at, behind, whole, version_in, version_at, place_at, number_at, line_at, derived_in, limit_in, need_in, gate_in, shared_in, outside_in, lock_in, line_in, digit_in, any_in, step_by, left_out_in, numbered_in, entry_in, line_by, is_message, line_read}
+use Rattle.resolvo_report.specs.Parse.{pair_at, behind, whole, version_in, version_at, place_at, number_at, line_at, derived_in, limit_in, need_in, gate_in, shared_in, outside_in, matches_in, lock_in, line_in, digit_in, any_in, step_by, left_out_in, numbered_in, entry_in, line_by, is_message, line_read}
 use Rattle.resolvo_report.proofs.FormLaws.{Plain, ArePlain, number_is_plain, version_is_plain, Kind, pair_law, behind_law, whole_kind, number_law, line_number_law, bit_law, line_law, version_law, place_law, spec_law, specs_law, version_in_takes}
 use Rattle.resolvo_report.proofs.StepLaws.{NoSpace-plain, split_plain, is_keyword, at_end, behind_is, derived_takes, derived_again, derived_text, by_text}
 
@@ -37,6 +37,10 @@ shared_kind = whole_kind (λ ss. Shared ss) specs_law (tt, tt)
 pub outside_kind : Kind outside_in (λ (x : Spec × Version). Outside x.0 x.1) (λ (x : Spec × Version). spec_words x.0 ++ (codes "holds" ∷ version_text x.1 ∷ [])) (λ (x : Spec × Version). IsSpec x.0 × IsVersion x.1)
 unfolding outside_in
 outside_kind = whole_kind (λ (x : Spec × Version). Outside x.0 x.1) (pair_law spec_law (behind_law (codes "holds") refl version_law) (λ y rest fits ends. not_a_span 104 (codes "olds") (inr (omega arith)))) tt
+
+pub matches_kind : Kind matches_in (λ (x : Spec × Version). Matches x.0 x.1) (λ (x : Spec × Version). spec_words x.0 ++ (codes "holds" ∷ version_text x.1 ∷ [])) (λ (x : Spec × Version). IsSpec x.0 × IsVersion x.1)
+unfolding matches_in
+matches_kind = whole_kind (λ (x : Spec × Version). Matches x.0 x.1) (pair_law spec_law (behind_law (codes "holds") refl version_law) (λ y rest fits ends. not_a_span 104 (codes "olds") (inr (omega arith)))) tt
 
 pub lock_kind : Kind lock_in (λ (x : ℕ × Version). Lock x.0 x.1) (λ (x : ℕ × Version). (codes "line" ∷ decimal x.0 ∷ []) ++ (codes "bars" ∷ version_text x.1 ∷ [])) (λ (x : ℕ × Version). IsLineNumber x.0 × IsVersion x.1)
 unfolding lock_in
@@ -137,19 +141,22 @@ step_takes k words s e =
             | inl h ↦ let t = limit_takes words s h.1 in by_words k words s (ap (λ (w : List ℕ). w ∷ words) (is_keyword k (codes "limit") h.0) ∙ t.0) t.1
             | inr e4 ↦ elim (chosen (bytes_eq k (codes "outside")) _ _ _ e4.1) [
               | inl h ↦ of_kind outside_kind (codes "outside") k words s (λ x fits. (refl, fits)) h.0 h.1
-              | inr e5 ↦ elim (chosen (bytes_eq k (codes "lock")) _ _ _ e5.1) [
-                | inl h ↦ of_kind lock_kind (codes "lock") k words s (λ x fits. (refl, fits)) h.0 h.1
-                | inr e6 ↦ elim (chosen (bytes_eq k (codes "exclude")) _ _ _ e6.1) [
-                  | inl h ↦ of_kind (lines_kind (λ n. Exclude n)) (codes "exclude") k words s (λ x fits. (refl, fits)) h.0 h.1
-                  | inr e7 ↦ elim (chosen (bytes_eq k (codes "unknown")) _ _ _ e7.1) [
-                    | inl h ↦ of_kind (lines_kind (λ n. Unknown n)) (codes "unknown") k words s (λ x fits. (refl, fits)) h.0 h.1
-                    | inr e8 ↦ elim (chosen (bytes_eq k (codes "digit")) _ _ _ e8.1) [
-                      | inl h ↦ of_kind digit_kind (codes "digit") k words s (λ x fits. (refl, (fits.0, fits.1.0, fits.1.1))) h.0 h.1
-                      | inr e9 ↦ elim (chosen (bytes_eq k (codes "any")) _ _ _ e9.1) [
-                        | inl h ↦ of_kind any_kind (codes "any") k words s (λ x fits. (refl, fits)) h.0 h.1
-                        | inr e10 ↦ elim (chosen (bytes_eq k (codes "derive")) _ _ _ e10.1) [
-                          | inl h ↦ derive_by k words s h.0 h.1
-                          | inr e11 ↦ absurd (none e11.1)
+              | inr em ↦ elim (chosen (bytes_eq k (codes "matches")) _ _ _ em.1) [
+                | inl h ↦ of_kind matches_kind (codes "matches") k words s (λ x fits. (refl, fits)) h.0 h.1
+                | inr e5 ↦ elim (chosen (bytes_eq k (codes "lock")) _ _ _ e5.1) [
+                  | inl h ↦ of_kind lock_kind (codes "lock") k words s (λ x fits. (refl, fits)) h.0 h.1
+                  | inr e6 ↦ elim (chosen (bytes_eq k (codes "exclude")) _ _ _ e6.1) [
+                    | inl h ↦ of_kind (lines_kind (λ n. Exclude n)) (codes "exclude") k words s (λ x fits. (refl, fits)) h.0 h.1
+                    | inr e7 ↦ elim (chosen (bytes_eq k (codes "unknown")) _ _ _ e7.1) [
+                      | inl h ↦ of_kind (lines_kind (λ n. Unknown n)) (codes "unknown") k words s (λ x fits. (refl, fits)) h.0 h.1
+                      | inr e8 ↦ elim (chosen (bytes_eq k (codes "digit")) _ _ _ e8.1) [
+                        | inl h ↦ of_kind digit_kind (codes "digit") k words s (λ x fits. (refl, (fits.0, fits.1.0, fits.1.1))) h.0 h.1
+                        | inr e9 ↦ elim (chosen (bytes_eq k (codes "any")) _ _ _ e9.1) [
+                          | inl h ↦ of_kind any_kind (codes "any") k words s (λ x fits. (refl, fits)) h.0 h.1
+                          | inr e10 ↦ elim (chosen (bytes_eq k (codes "derive")) _ _ _ e10.1) [
+                            | inl h ↦ derive_by k words s h.0 h.1
+                            | inr e11 ↦ absurd (none e11.1)
+                          ]
                         ]
                       ]
                     ]
@@ -186,6 +193,7 @@ step_again (Shared ss) fits = again_words (Shared ss) (codes "shared") _ refl re
 step_again (LimitBars p n v) fits = again_words (LimitBars p n v) (codes "limit") _ refl refl ((place_law.plain p fits.0).0, (refl, (number_is_plain n fits.1.1, (refl, (version_is_plain v fits.2, tt))))) (forbids_again p n v fits.0 fits.1 fits.2)
 step_again (Limit p n) fits = again_words (Limit p n) (codes "limit") _ refl refl ((place_law.plain p fits.0).0, (refl, (number_is_plain n fits.1.1, tt))) (limit_again p n fits.0 fits.1)
 step_again (Outside s v) fits = again_words (Outside s v) (codes "outside") _ refl refl (outside_kind.plain (s, v) fits) (outside_kind.again (s, v) fits)
+step_again (Matches s v) fits = again_words (Matches s v) (codes "matches") _ refl refl (matches_kind.plain (s, v) fits) (matches_kind.again (s, v) fits)
 step_again (Lock n v) fits = again_words (Lock n v) (codes "lock") _ refl refl (lock_kind.plain (n, v) fits) (lock_kind.again (n, v) fits)
 step_again (Exclude n) fits = again_words (Exclude n) (codes "exclude") _ refl refl (line_kind.plain n fits) ((lines_kind (λ n. Exclude n)).again n fits)
 step_again (Unknown n) fits = again_words (Unknown n) (codes "unknown") _ refl refl (line_kind.plain n fits) ((lines_kind (λ n. Unknown n)).again n fits)

@@ -19,7 +19,7 @@ use Rattle.resolvo_text.specs.Parse.{◌>>=◌, word_at, end_at, reason_at, spec
 use Rattle.resolvo_text.proofs.NumberLemmas.{number_in-decimal, number_in_spells}
 use Rattle.resolvo_text.proofs.AlternativeLemmas.{bind_some}
 use Rattle.resolvo_text.proofs.PartLaws.{word_takes, skip_takes, skip_is, no_skip, chosen, BeginsNot}
-use Rattle.resolvo_report.specs.Value.{Atom, Chosen, AnyOf, SharedBy, OutsideOf, BitOf, Literal, Step, Derive}
+use Rattle.resolvo_report.specs.Value.{Atom, Chosen, AnyOf, SharedBy, OutsideOf, MatchesOf, BitOf, Literal, Step, Derive}
 use Rattle.resolvo_report.specs.Text.{version_text, atom_words, atom_text, signed, literal_words, literal_text, clause_text, IsBit, AreAlternatives, IsAtom, are_rising, are_once, AreLiterals, AreNumbers}
 use Rattle.resolvo_report.specs.Parse.{pair_at, behind, behind_at, whole, version_in, bit_at, specs_at, atom_by, atom_in, literal_in, literal_behind, literals_behind, text_behind, atom_part, are_in_order, is_semicolon, pieces_in, literals_in, numbers_in, some_of, causes_in, causes_behind, is_close, derived_in}
 use Rattle.resolvo_report.proofs.TextLemmas.{join_spaced}
@@ -52,6 +52,9 @@ shared_atom = whole_kind (λ ss. SharedBy ss) specs_law (tt, tt)
 outside_atom : Kind (whole spec_at (λ s. OutsideOf s)) (λ s. OutsideOf s) spec_words IsSpec
 outside_atom = whole_kind (λ s. OutsideOf s) spec_law tt
 
+matches_atom : Kind (whole spec_at (λ s. MatchesOf s)) (λ s. MatchesOf s) spec_words IsSpec
+matches_atom = whole_kind (λ s. MatchesOf s) spec_law tt
+
 bit_atom : Kind (whole (pair_at bit_at (behind_at (codes "of") reason_at)) (λ x. BitOf x.0 x.1)) (λ (x : ℕ × List ℕ). BitOf x.0 x.1) (λ (x : ℕ × List ℕ). (decimal x.0 ∷ []) ++ codes "of" ∷ (x.1 ∷ [])) (λ (x : ℕ × List ℕ). IsBit x.0 × IsTrue (is_name x.1))
 bit_atom = whole_kind (λ (x : ℕ × List ℕ). BitOf x.0 x.1) (pair_law bit_law (behind_law (codes "of") refl name_law) (λ y rest fits ends. tt)) tt
 
@@ -82,13 +85,16 @@ atom_by_takes k words a e =
         | inl h ↦ of_kind shared_atom (codes "shared") k words a (λ x fits. (refl, fits)) (is_keyword k (codes "shared") h.0) h.1
         | inr e2 ↦ elim (chosen (bytes_eq k (codes "outside")) _ _ _ e2.1) [
           | inl h ↦ of_kind outside_atom (codes "outside") k words a (λ x fits. (refl, fits)) (is_keyword k (codes "outside") h.0) h.1
-          | inr e3 ↦ elim (chosen (bytes_eq k (codes "bit")) _ _ _ e3.1) [
-            | inl h ↦ of_kind bit_atom (codes "bit") k words a (λ x fits. (refl, fits)) (is_keyword k (codes "bit") h.0) h.1
-            | inr e4 ↦
-                let p = bind_some (version_in k) (λ v. end_at words >>= λ _. Some (Chosen v)) a e4.1 in
-                let q = bind_some (end_at words) (λ _. Some (Chosen p.0)) a p.2 in
-                let version = version_in_takes k p.0 p.1 in
-                subst (AtomBy k words) (same_Some _ _ q.2) (ap (λ (w : List ℕ). w ∷ words) version.0 ∙ ap (λ (ws : Words). version_text p.0 ∷ ws) (at_end words q.0 q.1), version.1)
+          | inr em ↦ elim (chosen (bytes_eq k (codes "matches")) _ _ _ em.1) [
+            | inl h ↦ of_kind matches_atom (codes "matches") k words a (λ x fits. (refl, fits)) (is_keyword k (codes "matches") h.0) h.1
+            | inr e3 ↦ elim (chosen (bytes_eq k (codes "bit")) _ _ _ e3.1) [
+              | inl h ↦ of_kind bit_atom (codes "bit") k words a (λ x fits. (refl, fits)) (is_keyword k (codes "bit") h.0) h.1
+              | inr e4 ↦
+                  let p = bind_some (version_in k) (λ v. end_at words >>= λ _. Some (Chosen v)) a e4.1 in
+                  let q = bind_some (end_at words) (λ _. Some (Chosen p.0)) a p.2 in
+                  let version = version_in_takes k p.0 p.1 in
+                  subst (AtomBy k words) (same_Some _ _ q.2) (ap (λ (w : List ℕ). w ∷ words) version.0 ∙ ap (λ (ws : Words). version_text p.0 ∷ ws) (at_end words q.0 q.1), version.1)
+            ]
           ]
         ]
       ]
@@ -117,6 +123,10 @@ pub no_version_outside : version_in (codes "outside") ≡ None
 unfolding version_in
 no_version_outside = refl
 
+pub no_version_matches : version_in (codes "matches") ≡ None
+unfolding version_in
+no_version_matches = refl
+
 pub no_version_bit : version_in (codes "bit") ≡ None
 unfolding version_in
 no_version_bit = refl
@@ -135,10 +145,11 @@ rest_of (w ∷ ws) = ws
 
 atom_by_again : (a : Atom) → IsAtom a → atom_by (first_of (atom_words a)) (rest_of (atom_words a)) ≡ Some a
 unfolding atom_by
-atom_by_again (Chosen v) fits = rw (no_keyword (codes "any") v fits no_version_any, no_keyword (codes "shared") v fits no_version_shared, no_keyword (codes "outside") v fits no_version_outside, no_keyword (codes "bit") v fits no_version_bit, version_in_again v fits) refl
+atom_by_again (Chosen v) fits = rw (no_keyword (codes "any") v fits no_version_any, no_keyword (codes "shared") v fits no_version_shared, no_keyword (codes "outside") v fits no_version_outside, no_keyword (codes "matches") v fits no_version_matches, no_keyword (codes "bit") v fits no_version_bit, version_in_again v fits) refl
 atom_by_again (AnyOf name) fits = any_atom.again name fits
 atom_by_again (SharedBy ss) fits = shared_atom.again ss fits
 atom_by_again (OutsideOf s) fits = outside_atom.again s fits
+atom_by_again (MatchesOf s) fits = matches_atom.again s fits
 atom_by_again (BitOf bit name) fits = bit_atom.again (bit, name) fits
 
 atom_begins : (a : Atom) → atom_words a ≡ first_of (atom_words a) ∷ rest_of (atom_words a)
@@ -146,6 +157,7 @@ atom_begins (Chosen v) = refl
 atom_begins (AnyOf name) = refl
 atom_begins (SharedBy ss) = refl
 atom_begins (OutsideOf s) = refl
+atom_begins (MatchesOf s) = refl
 atom_begins (BitOf bit name) = refl
 
 atom_takes : (words : Words) (a : Atom) → atom_in words ≡ Some a → (words ≡ atom_words a) × IsAtom a
@@ -164,6 +176,7 @@ atom_are_plain (Chosen v) fits = (version_is_plain v fits, tt)
 atom_are_plain (AnyOf name) fits = (refl, any_atom.plain name fits)
 atom_are_plain (SharedBy ss) fits = (refl, shared_atom.plain ss fits)
 atom_are_plain (OutsideOf s) fits = (refl, outside_atom.plain s fits)
+atom_are_plain (MatchesOf s) fits = (refl, matches_atom.plain s fits)
 atom_are_plain (BitOf bit name) fits = (refl, bit_atom.plain (bit, name) fits)
 
 -- ---- literals
@@ -187,6 +200,7 @@ not_not (Chosen v) fits = no_keyword (codes "not") v fits no_version_not
 not_not (AnyOf name) fits = refl
 not_not (SharedBy ss) fits = refl
 not_not (OutsideOf s) fits = refl
+not_not (MatchesOf s) fits = refl
 not_not (BitOf bit name) fits = refl
 
 literal_by_sign : (positive : Bool) (a : Atom) → IsAtom a → literal_in (signed positive (atom_words a)) ≡ Some (record { atom = a; positive = positive })
@@ -281,6 +295,7 @@ atom_is_no_not (Chosen v) fits = plain_begins (version_text v) (version_is_plain
 atom_is_no_not (AnyOf name) fits = refl
 atom_is_no_not (SharedBy ss) fits = rw (join_spaced (codes "shared") (alternatives_words ss)) refl
 atom_is_no_not (OutsideOf s) fits = refl
+atom_is_no_not (MatchesOf s) fits = refl
 atom_is_no_not (BitOf bit name) fits = refl
 
 not_joined : (ws : Words) (w : List ℕ) → join_with_byte 32 (codes "not" ∷ (w ∷ ws)) ≡ codes "not " ++ join_with_byte 32 (w ∷ ws)
@@ -404,6 +419,7 @@ literal_some true (Chosen v) = omega (arith, length-append (v.name ++ codes "=")
 literal_some true (AnyOf name) = some_joined (codes "any") (name ∷ []) (omega arith)
 literal_some true (SharedBy ss) = some_joined (codes "shared") (alternatives_words ss) (omega arith)
 literal_some true (OutsideOf s) = some_joined (codes "outside") (spec_words s) (omega arith)
+literal_some true (MatchesOf s) = some_joined (codes "matches") (spec_words s) (omega arith)
 literal_some true (BitOf bit name) = some_joined (codes "bit") (decimal bit ∷ codes "of" ∷ name ∷ []) (omega arith)
 
 -- more than a bracket

@@ -14,12 +14,12 @@ use Rattle.resolvo_text.specs.Lines.{newlines, is_newline}
 use Rattle.resolvo_text.specs.Spelling.{Words, is_name, is_word, is_reserved, starts_name, continues_name, IsVersion}
 use Rattle.resolvo_text.specs.Parse.{is_space}
 use Rattle.resolvo_text.proofs.PartLaws.{skip_is, no_skip}
-use Rattle.resolvo_report.specs.Value.{Place, Literal, Step, Need, Gate, Shared, LimitBars, Limit, Outside, Lock, Exclude, Unknown, Digit, Any, Derive, Entry, Wished, LeftOut, ReportLine, InstallHead, RefusedHead, Answer, CatalogueLine, RequestLine, Numbered, Message}
+use Rattle.resolvo_report.specs.Value.{Place, Literal, Step, Need, Gate, Shared, LimitBars, Limit, Outside, Matches, Lock, Exclude, Unknown, Digit, Any, Derive, Entry, Wished, LeftOut, ReportLine, InstallHead, RefusedHead, Answer, CatalogueLine, RequestLine, Numbered, Message}
 use Rattle.resolvo_report.specs.Text.{version_text, place_text, literal_text, literal_words, clause_text, step_words, step_text, answer_words, line_text, IsAtom, IsStep, IsAnswer, HasText}
 use Rattle.resolvo_report.specs.Parse.{version_in, entry_in, numbered_in, step_by, line_by, is_message, line_read}
 use Rattle.resolvo_report.proofs.FormLaws.{is_plain, Plain, ArePlain, number_is_plain, version_is_plain, number_law, place_law, version_in_again, behind_again}
 use Rattle.resolvo_report.proofs.StepLaws.{NoSpace-plain, split_plain, no_keyword, literal_are_plain, numbers_are_plain}
-use Rattle.resolvo_report.proofs.LineLaws.{step_again, left_out_kind, entry_kind, line_kind, need_kind, gate_kind, shared_kind, outside_kind, lock_kind, digit_kind, any_kind}
+use Rattle.resolvo_report.proofs.LineLaws.{step_again, left_out_kind, entry_kind, line_kind, need_kind, gate_kind, shared_kind, outside_kind, matches_kind, lock_kind, digit_kind, any_kind}
 
 -- ---- no newlines
 
@@ -62,6 +62,7 @@ step_one_line (Shared ss) fits = joined_one_line (step_words (Shared ss)) (refl,
 step_one_line (LimitBars p n v) fits = joined_one_line (step_words (LimitBars p n v)) (refl, ((place_law.plain p fits.0).0, (refl, (number_is_plain n fits.1.1, (refl, (version_is_plain v fits.2, tt))))))
 step_one_line (Limit p n) fits = joined_one_line (step_words (Limit p n)) (refl, ((place_law.plain p fits.0).0, (refl, (number_is_plain n fits.1.1, tt))))
 step_one_line (Outside s v) fits = joined_one_line (step_words (Outside s v)) (refl, outside_kind.plain (s, v) fits)
+step_one_line (Matches s v) fits = joined_one_line (step_words (Matches s v)) (refl, matches_kind.plain (s, v) fits)
 step_one_line (Lock n v) fits = joined_one_line (step_words (Lock n v)) (refl, lock_kind.plain (n, v) fits)
 step_one_line (Exclude n) fits = joined_one_line (step_words (Exclude n)) (refl, line_kind.plain n fits)
 step_one_line (Unknown n) fits = joined_one_line (step_words (Unknown n)) (refl, line_kind.plain n fits)

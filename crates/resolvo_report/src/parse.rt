@@ -15,7 +15,7 @@ ghost use Rattle.resolvo_report.specs.View.{literals_of, step_of, report_line_of
 ghost use Rattle.resolvo_report.specs.Text.{line_text, HasText};
 ghost use Rattle.resolvo_report.specs.Shown.{Shows};
 ghost use Rattle.resolvo_report.specs.Pieces.{texts_of};
-ghost use Rattle.resolvo_report.specs.Parse.{is_semicolon, is_close, text_behind, literals_behind, pieces_in, literals_in, numbers_in, causes_in, causes_behind, derived_in, limit_in, need_in, gate_in, shared_in, outside_in, lock_in, digit_in, any_in, step_by, left_out_in, numbered_in, entry_in, line_by, is_message, line_read};
+ghost use Rattle.resolvo_report.specs.Parse.{is_semicolon, is_close, text_behind, literals_behind, pieces_in, literals_in, numbers_in, causes_in, causes_behind, derived_in, limit_in, need_in, gate_in, shared_in, outside_in, matches_in, lock_in, digit_in, any_in, step_by, left_out_in, numbered_in, entry_in, line_by, is_message, line_read};
 
 use crate::part::{
     behind, bit_at, line_at, line_in as last_line, line_number_at, literal_behind, number_at,
@@ -216,6 +216,16 @@ fn outside_in(alloc: Global, words: &[u8]) -> Result<Step, LineFault>
     Ok(Step::Outside { spec, version })
 }
 
+#[tactic(auto, unfolding(crate::specs::Parse::matches_in))]
+fn matches_in(alloc: Global, words: &[u8]) -> Result<Step, LineFault>
+    ensures { Gives step_of result (matches_in (words_in words.now)) }
+{
+    let (spec, rest) = spec_at(alloc, words)?;
+    let (version, rest) = version_at(alloc, behind(rest, b"holds")?)?;
+    no_more(rest)?;
+    Ok(Step::Matches { spec, version })
+}
+
 #[tactic(auto, unfolding(crate::specs::Parse::lock_in))]
 fn lock_in(alloc: Global, words: &[u8]) -> Result<Step, LineFault>
     ensures { Gives step_of result (lock_in (words_in words.now)) }
@@ -269,6 +279,9 @@ fn step_by(alloc: Global, keyword: &[u8], words: &[u8]) -> Result<Step, LineFaul
     }
     if keyword == b"outside".as_slice() {
         return outside_in(alloc, words);
+    }
+    if keyword == b"matches".as_slice() {
+        return matches_in(alloc, words);
     }
     if keyword == b"lock".as_slice() {
         return lock_in(alloc, words);

@@ -150,6 +150,11 @@ fn atom_by(alloc: Global, keyword: &[u8], words: &[u8]) -> Result<Atom, LineFaul
         no_more(rest)?;
         return Ok(Atom::Outside { spec });
     }
+    if keyword == b"matches".as_slice() {
+        let (spec, rest) = spec_at(alloc, words)?;
+        no_more(rest)?;
+        return Ok(Atom::Matches { spec });
+    }
     if keyword == b"bit".as_slice() {
         let (bit, rest) = bit_at(words)?;
         let (name, rest) = reason_at(alloc, behind(rest, b"of")?)?;

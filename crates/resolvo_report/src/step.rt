@@ -23,6 +23,8 @@ pub enum Atom {
     Shared { alternatives: Vec<Spec> },
     /// The versions of the SPEC's package that it doesn't match are forbidden.
     Outside { spec: Spec },
+    /// A version is chosen that the SPEC matches; its package is marked `many`.
+    Matches { spec: Spec },
     /// One binary digit of the place of the package's chosen version.
     Bit { bit: u32, name: String },
 }
@@ -65,6 +67,11 @@ pub enum Step {
     },
     /// The definition of an atom `Outside`, for one version.
     Outside {
+        spec: Spec,
+        version: Version,
+    },
+    /// The definition of an atom `Matches`, for one version.
+    Matches {
         spec: Spec,
         version: Version,
     },

@@ -109,6 +109,10 @@ impl fmt::Display for Atom {
                 let asked = Asked { spec };
                 write!(f, "outside {asked}")
             }
+            Atom::Matches { spec } => {
+                let asked = Asked { spec };
+                write!(f, "matches {asked}")
+            }
             Atom::Bit { bit, name } => {
                 let name = name.as_str();
                 write!(f, "bit {bit} of {name}")
@@ -226,6 +230,11 @@ impl fmt::Display for Step {
                 let asked = Asked { spec };
                 let word = OneWord { version };
                 write!(f, "outside {asked} holds {word}")
+            }
+            Step::Matches { spec, version } => {
+                let asked = Asked { spec };
+                let word = OneWord { version };
+                write!(f, "matches {asked} holds {word}")
             }
             Step::Lock { line, version } => {
                 let word = OneWord { version };

@@ -6,7 +6,7 @@ use Rattle.std.specs.List.{AllByRecursion}
 use Rattle.std.proofs.lemmas.Slice.Eq.{bytes_eq-Decides}
 use Rattle.std.proofs.lemmas.Option.{same_Some}
 use Rattle.std.proofs.lemmas.List.{append-nil, length-append}
-use Rattle.resolvo_text.specs.Line.{Version, Spec, Cond, Line, Skipped, Listed, Needs, Limits, Unknown, Lock, Favour, Exclude, Wish}
+use Rattle.resolvo_text.specs.Line.{Version, Spec, Cond, Line, Skipped, Listed, Needs, Limits, Unknown, Lock, Favour, Exclude, Many, Wish}
 use Rattle.resolvo_text.specs.Spelling.{Words, is_name, IsVersion, IsSpec, version_words, spec_words, alternatives_words, AreWordsOf, AreWordsOfCondition, HasForm}
 use Rattle.resolvo_text.specs.Parse.{◌>>=◌, version_at, reason_at, spec_at, alternatives_at, version_in, reason_in, spec_in, span_in, skip, end_at, behind_if, condition_in, needs_in, line_by}
 use Rattle.resolvo_text.proofs.AlternativeLemmas.{bind_some}
@@ -158,9 +158,12 @@ line_by_takes keyword words line e =
     (λ same made. of_version keyword (codes "favour") words line (λ v. Favour v) same made (λ v fits. record { spelled = refl; form = fits }))
     (chooses (bytes_eq keyword (codes "exclude")) _ _ line
     (λ same made. exclude_takes keyword words line same made)
+    (chooses (bytes_eq keyword (codes "many")) _ _ line
+    (λ same made. made_takes (reason_in words) (λ name. Many name) (keyword ∷ words) line made (λ name h.
+    let t = reason_in_takes words name h in record { spelled = headed keyword (codes "many") words _ same t.0; form = t.1 }))
     (chooses (bytes_eq keyword (codes "wish")) _ _ line
     (λ same made. of_version keyword (codes "wish") words line (λ v. Wish v) same made (λ v fits. record { spelled = refl; form = fits }))
-    (λ none. absurd cc)))))))) e
+    (λ none. absurd cc))))))))) e
 
 abbrev line_of_words : Words → Option Line
 line_of_words [] = None
@@ -177,4 +180,5 @@ line_by_again keyword words (Unknown reason) form spelled = ap line_of_words spe
 line_by_again keyword words (Lock v) form spelled = ap line_of_words spelled ∙ rw (version_in_again v form) refl
 line_by_again keyword words (Favour v) form spelled = ap line_of_words spelled ∙ rw (version_in_again v form) refl
 line_by_again keyword words (Exclude v reason) form spelled = ap line_of_words spelled ∙ rw (version_again v (reason ∷ []) form.0, reason_in_again reason form.1) refl
+line_by_again keyword words (Many name) form spelled = ap line_of_words spelled ∙ rw (reason_in_again name form) refl
 line_by_again keyword words (Wish v) form spelled = ap line_of_words spelled ∙ rw (version_in_again v form) refl

@@ -12,7 +12,7 @@ use Rattle.std.proofs.lemmas.List.Splits.{slice_split_at, slice_split_none, join
 use Rattle.std.proofs.lemmas.Str.Parse.{digit_at}
 use Rattle.resolvo_text.specs.declared.spec.Span.{Span}
 use Rattle.resolvo_text.specs.declared.spec.Span.TheVariants.{Any, One, Range}
-use Rattle.resolvo_text.specs.Line.{Version, Spec, Cond, Line, Skipped, Listed, Needs, Limits, Unknown, Lock, Favour, Exclude, Wish}
+use Rattle.resolvo_text.specs.Line.{Version, Spec, Cond, Line, Skipped, Listed, Needs, Limits, Unknown, Lock, Favour, Exclude, Many, Wish}
 use Rattle.resolvo_text.specs.Spelling.{Words, starts_name, continues_name, is_word, is_reserved, is_name, IsVersion, IsSpec, IsSpan, version_words, span_words, spec_words, alternatives_words, AreWordsOf, AreWordsOfCondition, Written, Lone, Group, Both, Either, IsWritten, written_words, SpellsLine, HasForm, Spells, IsSkipped}
 use Rattle.resolvo_text.specs.Parse.{is_space, word_at, line_by, is_skipped, line_in}
 use Rattle.resolvo_text.proofs.NumberLemmas.{digits}
@@ -119,6 +119,7 @@ spells_words text words (Unknown reason) is e = (words, e, is)
 spells_words text words (Lock v) is e = (words, e, is)
 spells_words text words (Favour v) is e = (words, e, is)
 spells_words text words (Exclude v reason) is e = (words, e, is)
+spells_words text words (Many name) is e = (words, e, is)
 spells_words text words (Wish v) is e = (words, e, is)
 
 skipped_is : (text : List ℕ) → is_skipped text ≡ true → IsSkipped text
@@ -163,6 +164,7 @@ line_again text (Unknown reason) form (words, joined, is) = text_again text _ _ 
 line_again text (Lock v) form (words, joined, is) = text_again text _ _ (version_words v) (Lock v) refl (joined_of text words _ joined is) (by_test (codes "lock") refl, version_are_words v form) (line_by_again (codes "lock") _ (Lock v) form refl)
 line_again text (Favour v) form (words, joined, is) = text_again text _ _ (version_words v) (Favour v) refl (joined_of text words _ joined is) (by_test (codes "favour") refl, version_are_words v form) (line_by_again (codes "favour") _ (Favour v) form refl)
 line_again text (Exclude v reason) form (words, joined, is) = text_again text _ _ (version_words v ++ reason ∷ []) (Exclude v reason) refl (joined_of text words _ joined is) (by_test (codes "exclude") refl, both (version_words v) (reason ∷ []) (version_are_words v form.0) (name_has_no_space reason form.1, tt)) (line_by_again (codes "exclude") _ (Exclude v reason) form refl)
+line_again text (Many name) form (words, joined, is) = text_again text _ _ (name ∷ []) (Many name) refl (joined_of text words _ joined is) (by_test (codes "many") refl, (name_has_no_space name form, tt)) (line_by_again (codes "many") _ (Many name) form refl)
 line_again text (Wish v) form (words, joined, is) = text_again text _ _ (version_words v) (Wish v) refl (joined_of text words _ joined is) (by_test (codes "wish") refl, version_are_words v form) (line_by_again (codes "wish") _ (Wish v) form refl)
 
 -- a text spells one line at most

@@ -27,6 +27,8 @@ pub enum Line {
         version: Version,
         reason: String,
     },
+    /// Versions of the package may be side by side.
+    Many(String),
     Wish(Version),
 }
 

@@ -231,6 +231,9 @@ fn line_by(alloc: Global, keyword: &[u8], words: &[u8]) -> Result<Line, LineFaul
         let reason = reason_in(alloc, words)?;
         return Ok(Line::Exclude { version, reason });
     }
+    if keyword == b"many".as_slice() {
+        return Ok(Line::Many(reason_in(alloc, words)?));
+    }
     if keyword == b"wish".as_slice() {
         return Ok(Line::Wish(version_in(alloc, words)?));
     }

@@ -17,6 +17,7 @@ returns-clause-over c hint has_budget =
         each = deps_stay b d later.grows c.args.catalogue.now _ c.in_ok-deps.ensures.deps.each;
       };
       marks = c.in_ok-marks.ensures.marked;
+      many = c.in_ok-many.ensures.many;
       once = c.ids_are_once.ensures;
       distinct = c.versions.ensures.distinct;
       grammatical = c.lines_are_in_place.ensures;

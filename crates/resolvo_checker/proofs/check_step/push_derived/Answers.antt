@@ -36,6 +36,13 @@ returns-in_ok-push_outside-in-Outside-clause-extends c = λ _.
     subst (λ a. Extends vs c.args.numbers.now c.args.out.now.items c.push_outside.new.numbers c.push_outside.new.out.items (literal a p ∷ [])) (ap atom_of (sym c.in-Outside.is))
     (c.in_ok-push_outside-in-Outside.ensures vs)
 
+pub returns-in_ok-push_match-in-Matches-clause-extends : goal.returns-in_ok-push_match-in-Matches-clause-extends
+returns-in_ok-push_match-in-Matches-clause-extends c = λ _.
+    let p = c.args.literal.now.positive in
+    let vs = listed c.args.catalogue.now in
+    subst (λ a. Extends vs c.args.numbers.now c.args.out.now.items c.push_match.new.numbers c.push_match.new.out.items (literal a p ∷ [])) (ap atom_of (sym c.in-Matches.is))
+    (c.in_ok-push_match-in-Matches.ensures vs)
+
 pub returns-in_ok-push_bit-in-Bit-clause-extends : goal.returns-in_ok-push_bit-in-Bit-clause-extends
 returns-in_ok-push_bit-in-Bit-clause-extends c = λ _.
     let p = c.args.literal.now.positive in

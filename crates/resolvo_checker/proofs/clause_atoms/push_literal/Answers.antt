@@ -1,6 +1,6 @@
 use Rattle.std.proofs.Common.{ap, sym, subst, ◌∙◌, ◌∷◌, [], Some}
 use Rattle.resolvo_text.specs.View.{spec_of, specs_of}
-use Rattle.resolvo_report.specs.Value.{AnyOf, SharedBy, OutsideOf, BitOf}
+use Rattle.resolvo_report.specs.Value.{AnyOf, SharedBy, OutsideOf, MatchesOf, BitOf}
 use Rattle.resolvo_checker.specs.StepClauses.{literal}
 use Rattle.resolvo_checker.specs.Built.{literal_of}
 use Rattle.resolvo_checker.specs.Keys.{Extends}
@@ -27,6 +27,13 @@ returns-in_ok-push_outside-in-Outside c = λ vs clause e.
     subst (Extends vs c.args.numbers.now c.args.out.now.items c.push_outside.new.numbers c.push_outside.new.out.items)
     (one_literal clause (literal (OutsideOf (spec_of c.in-Outside.spec)) p) (e ∙ ap (λ a. literal_of vs a p ∷ []) c.in-Outside.is))
     (c.in_ok-push_outside-in-Outside.ensures vs)
+
+pub returns-in_ok-push_match-in-Matches : goal.returns-in_ok-push_match-in-Matches
+returns-in_ok-push_match-in-Matches c = λ vs clause e.
+    let p = c.args.built.now.positive in
+    subst (Extends vs c.args.numbers.now c.args.out.now.items c.push_match.new.numbers c.push_match.new.out.items)
+    (one_literal clause (literal (MatchesOf (spec_of c.in-Matches.spec)) p) (e ∙ ap (λ a. literal_of vs a p ∷ []) c.in-Matches.is))
+    (c.in_ok-push_match-in-Matches.ensures vs)
 
 pub returns-in_ok-push_bit-in-Bit : goal.returns-in_ok-push_bit-in-Bit
 returns-in_ok-push_bit-in-Bit c = λ vs clause e.

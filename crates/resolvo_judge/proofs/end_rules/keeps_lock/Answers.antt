@@ -1,9 +1,8 @@
-use Rattle.std.proofs.Common.{◌≡◌, ◌∙◌, ◌||◌, ◌==◌, not, Some, None, sym, ap, subst}
-use Rattle.std.specs.Prelude.{slice_get}
+use Rattle.std.proofs.Common.{◌≡◌, ◌||◌, ◌==◌, not, subst}
 use Rattle.std.specs.List.{list_all}
 use Rattle.resolvo_text.specs.Line.{Version}
 use Rattle.resolvo_text.specs.Matches.{same_package}
-use Rattle.resolvo_catalogue_core.specs.Listed.{pair_version, pair_versions}
+use Rattle.resolvo_catalogue_core.specs.Listed.{pair_version}
 use Rattle.resolvo_judge.proofs.end_rules.keeps_lock.Goals as goal
 
 pub returns-in-Some : goal.returns-in-Some

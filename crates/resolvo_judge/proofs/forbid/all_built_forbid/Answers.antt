@@ -1,4 +1,4 @@
-use Rattle.std.proofs.Common.{sym, ◌∙◌, take, false, Option}
+use Rattle.std.proofs.Common.{sym, ◌∙◌, take, false}
 use Rattle.std.specs.Option.{option_map_or}
 use Rattle.resolvo_text.specs.View.{version_of}
 use Rattle.resolvo_catalogue_core.specs.Listed.{pair_versions}

@@ -5,7 +5,7 @@ use Rattle.std.specs.Ordering.{nat_cmp}
 use Rattle.std.specs.Map.{update}
 use Rattle.std.proofs.lemmas.List.{map_push}
 use Rattle.resolvo_judge.specs.declared.forbidden_wishes.Forbidden.{Forbidden}
-use Rattle.resolvo_judge.specs.ForbiddenWishes.{ForbiddenWish, forbidden_of, wishes_kept}
+use Rattle.resolvo_judge.specs.ForbiddenWishes.{forbidden_of, wishes_kept}
 use Rattle.resolvo_catalogue_core.proofs.Sorted.{updates_number}
 use Rattle.resolvo_judge.proofs.ForbidLemmas.{puts_wish}
 use Rattle.resolvo_judge.proofs.forbidden_wishes.add_wish.Goals as goal

@@ -1,4 +1,4 @@
-use Rattle.std.proofs.Common.{◌≡◌, [], ◌∷◌, ◌++◌, ap, sym, subst, ◌∙◌}
+use Rattle.std.proofs.Common.{[], ◌∷◌, ◌++◌, ap, sym, subst, ◌∙◌}
 use Rattle.resolvo_report.specs.View.{report_line_of, answer_line_of}
 use Rattle.resolvo_judge.specs.Forbids.{FlagsForbidden}
 use Rattle.resolvo_judge.proofs.ForbidLemmas.{flags_answer}

@@ -1,4 +1,4 @@
-use Rattle.std.proofs.Common.{◌≡◌, ◌∙◌, sym, subst, ◌++◌, ◌∷◌, [], Bool}
+use Rattle.std.proofs.Common.{◌∙◌, sym, subst, ◌++◌, ◌∷◌, [], Bool}
 use Rattle.resolvo_report.specs.Value.{Numbered}
 use Rattle.resolvo_report.specs.View.{step_of}
 use Rattle.resolvo_judge.specs.Refusal.{steps_in}

@@ -8,11 +8,13 @@ use Rattle.resolvo_catalogue_core.proofs.line_table.LineTable.rule.Goals as goal
 pub returns-in-Rule : goal.returns-in-Rule
 returns-in-Rule c =
     let rules = c.args.self.now.rules.items in
-    let rule_here = λ (h : StoredLine). rule_of (kind_in rules h) in
-    c.rule_at.ensures ∙ sym (rule_held rules c.args.self.now.held.items c.args.line ∙ ap (λ (o : Option StoredLine). option_and_then rule_here o) (sym c.in_ok-place.ensures) ∙ ap rule_here c.in-Rule.is ∙ rule_placed _)
+    let marked = c.args.self.now.marked.items in
+    let rule_here = λ (h : StoredLine). rule_of (kind_in rules marked h) in
+    c.rule_at.ensures ∙ sym (rule_held rules marked c.args.self.now.held.items c.args.line ∙ ap (λ (o : Option StoredLine). option_and_then rule_here o) (sym c.in_ok-place.ensures) ∙ ap rule_here c.in-Rule.is ∙ rule_placed _)
 
 pub returns-in_default : goal.returns-in_default
 returns-in_default c =
     let rules = c.args.self.now.rules.items in
-    let rule_here = λ (h : StoredLine). rule_of (kind_in rules h) in
-    sym (rule_held rules c.args.self.now.held.items c.args.line ∙ ap (λ (o : Option StoredLine). option_and_then rule_here o) (sym c.in_ok-place.ensures) ∙ no_rule_held rules c.in_ok-place.field-0.now c.in_default.not-Rule)
+    let marked = c.args.self.now.marked.items in
+    let rule_here = λ (h : StoredLine). rule_of (kind_in rules marked h) in
+    sym (rule_held rules marked c.args.self.now.held.items c.args.line ∙ ap (λ (o : Option StoredLine). option_and_then rule_here o) (sym c.in_ok-place.ensures) ∙ no_rule_held rules marked c.in_ok-place.field-0.now c.in_default.not-Rule)

@@ -1,12 +1,11 @@
-use Rattle.std.proofs.Common.{◌≡◌, ◌∙◌, ◌&&◌, Some, None, Bool, List, ℕ, sym, ap}
-use Rattle.std.specs.Prelude.{nat_lt}
-use Rattle.resolvo_text.specs.View.{version_of, spec_of}
-use Rattle.resolvo_judge.specs.Chosen.{number_for, pick_from}
+use Rattle.std.proofs.Common.{◌∙◌, ℕ, List, ap}
+use Rattle.std.specs.BTreeMap.{get_by_text}
+use Rattle.resolvo_text.specs.View.{version_of}
+use Rattle.resolvo_judge.specs.Chosen.{index_in}
 use Rattle.resolvo_judge.proofs.ChosenLemmas.{has_by}
 use Rattle.resolvo_judge.proofs.chosen.Chosen.has.Goals as goal
 
-pub returns-in-Some : goal.returns-in-Some
-returns-in-Some c = λ set h. has_by (version_of c.args.version.now) set (Some c.in-Some.number) h.own (sym c.in-Some.is ∙ c.number.ensures set h ∙ ap (λ (name : List ℕ). number_for set name) c.deref.ensures)
-
-pub returns-in-None : goal.returns-in-None
-returns-in-None c = λ set h. has_by (version_of c.args.version.now) set None h.own (sym c.in-None.is ∙ c.number.ensures set h ∙ ap (λ (name : List ℕ). number_for set name) c.deref.ensures)
+pub returns : goal.returns
+returns c = λ set h.
+    c.is_some.ensures
+    ∙ has_by c.args.self.now set (version_of c.args.version.now) c.index.result h (c.index.ensures ∙ ap (λ (name : List ℕ). index_in (get_by_text c.args.self.now.packages name) c.args.version.now.number) c.deref.ensures)

@@ -1,12 +1,11 @@
-use Rattle.std.proofs.Common.{◌≡◌, ◌∙◌, Some, None, List, ℕ, sym, ap}
-use Rattle.resolvo_text.specs.View.{spec_of}
+use Rattle.std.proofs.Common.{◌∙◌, ℕ, List, ap}
+use Rattle.std.specs.BTreeMap.{get_by_text}
 use Rattle.resolvo_catalogue_core.specs.Listed.{pair_version}
-use Rattle.resolvo_judge.specs.Chosen.{number_for}
-use Rattle.resolvo_judge.proofs.ChosenLemmas.{has_by, within_by, lock_by}
+use Rattle.resolvo_judge.specs.Chosen.{index_in}
+use Rattle.resolvo_judge.proofs.ChosenLemmas.{has_by}
 use Rattle.resolvo_judge.proofs.chosen.Chosen.has_listed.Goals as goal
 
-pub returns-in-Some : goal.returns-in-Some
-returns-in-Some c = λ set h. has_by (pair_version c.args.version.now) set (Some c.in-Some.number) h.own (sym c.in-Some.is ∙ c.number.ensures set h ∙ ap (λ (name : List ℕ). number_for set name) c.deref.ensures)
-
-pub returns-in-None : goal.returns-in-None
-returns-in-None c = λ set h. has_by (pair_version c.args.version.now) set None h.own (sym c.in-None.is ∙ c.number.ensures set h ∙ ap (λ (name : List ℕ). number_for set name) c.deref.ensures)
+pub returns : goal.returns
+returns c = λ set h.
+    c.is_some.ensures
+    ∙ has_by c.args.self.now set (pair_version c.args.version.now) c.index.result h (c.index.ensures ∙ ap (λ (name : List ℕ). index_in (get_by_text c.args.self.now.packages name) c.args.version.now.1) c.deref.ensures)

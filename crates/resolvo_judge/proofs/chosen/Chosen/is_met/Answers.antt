@@ -1,12 +1,17 @@
-use Rattle.std.proofs.Common.{◌≡◌, ◌∙◌, ◌&&◌, Some, None, Bool, List, ℕ, sym, ap}
-use Rattle.std.specs.Prelude.{nat_lt}
-use Rattle.resolvo_text.specs.View.{version_of, spec_of}
-use Rattle.resolvo_judge.specs.Chosen.{number_for, pick_from}
-use Rattle.resolvo_judge.proofs.ChosenLemmas.{met_by}
+use Rattle.std.proofs.Common.{◌∙◌, ℕ, List, sym, ap}
+use Rattle.std.specs.BTreeMap.{get_by_text}
+use Rattle.resolvo_text.specs.View.{spec_of}
+use Rattle.resolvo_judge.proofs.ChosenLemmas.{met_by, met_none}
 use Rattle.resolvo_judge.proofs.chosen.Chosen.is_met.Goals as goal
 
 pub returns-in-Some : goal.returns-in-Some
-returns-in-Some c = λ set h. c.is_in_span.ensures ∙ met_by (spec_of c.args.spec.now) set (Some c.in-Some.number) h.own (sym c.in-Some.is ∙ c.number.ensures set h ∙ ap (λ (name : List ℕ). number_for set name) c.deref.ensures)
+returns-in-Some c = λ set h.
+    let x = c.args.self.now in
+    let found = c.in-Some.ensures.value ∙ ap (λ (name : List ℕ). get_by_text x.packages name) c.as_str.ensures.value in
+    c.has_in.ensures ∙ met_by x set (spec_of c.args.spec.now) c.in-Some.numbers.now h (sym found)
 
 pub returns-in-None : goal.returns-in-None
-returns-in-None c = λ set h. met_by (spec_of c.args.spec.now) set None h.own (sym c.in-None.is ∙ c.number.ensures set h ∙ ap (λ (name : List ℕ). number_for set name) c.deref.ensures)
+returns-in-None c = λ set h.
+    let x = c.args.self.now in
+    let none = c.in-None.ensures.value ∙ ap (λ (name : List ℕ). get_by_text x.packages name) c.as_str.ensures.value in
+    met_none x set (spec_of c.args.spec.now) h (sym none)

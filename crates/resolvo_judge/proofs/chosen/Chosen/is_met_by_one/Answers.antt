@@ -1,4 +1,4 @@
-use Rattle.std.proofs.Common.{◌≡◌, true, sym, ◌∙◌}
+use Rattle.std.proofs.Common.{sym, ◌∙◌}
 use Rattle.resolvo_text.specs.Matches.{is_met}
 use Rattle.resolvo_text.specs.View.{spec_of}
 use Rattle.resolvo_judge.proofs.ChosenLemmas.{any_at}

@@ -1,4 +1,4 @@
-use Rattle.std.proofs.Common.{◌≡◌, ◌&&◌, Bool, Option, sym, ◌∙◌, ap}
+use Rattle.std.proofs.Common.{◌&&◌, Bool, Option, sym, ◌∙◌, ap}
 use Rattle.resolvo_text.specs.Line.{Line}
 use Rattle.resolvo_text.specs.View.{version_of}
 use Rattle.resolvo_catalogue_core.specs.Listed.{listed}

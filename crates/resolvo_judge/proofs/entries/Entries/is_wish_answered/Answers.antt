@@ -1,4 +1,4 @@
-use Rattle.std.proofs.Common.{◌≡◌, sym, ◌∙◌, ap, option_map, Option}
+use Rattle.std.proofs.Common.{sym, ◌∙◌, ap, option_map}
 use Rattle.std.specs.Option.{option_copied}
 use Rattle.resolvo_text.specs.View.{version_of}
 use Rattle.resolvo_judge.specs.Entries.{entries_of}

@@ -1,8 +1,7 @@
-use Rattle.std.proofs.Common.{◌≡◌, sym, ◌∙◌, ap, refl, true, false, not, length, List, [], Some}
+use Rattle.std.proofs.Common.{sym, ◌∙◌, refl}
 use Rattle.resolvo_text.specs.View.{version_of}
 use Rattle.resolvo_report.specs.View.{place_of}
 use Rattle.resolvo_report.specs.Value as model
-use Rattle.resolvo_judge.specs.Entries.{entries_of}
 use Rattle.resolvo_judge.proofs.EntryLemmas.{entry_kept, lines_stay}
 use Rattle.resolvo_judge.proofs.entries.Entries.take_entry.Goals as goal
 

@@ -1,7 +1,5 @@
-use Rattle.std.proofs.Common.{◌≡◌, sym, ◌∙◌, ap, refl, true, false, not, length, List, [], Some}
+use Rattle.std.proofs.Common.{sym, ◌∙◌, refl, Some}
 use Rattle.resolvo_text.specs.View.{version_of}
-use Rattle.resolvo_report.specs.View.{place_of}
-use Rattle.resolvo_report.specs.Value as model
 use Rattle.resolvo_catalogue_core.proofs.Sorted.{updates_number}
 use Rattle.resolvo_judge.specs.Entries.{entries_of}
 use Rattle.resolvo_judge.proofs.EntryLemmas.{left_out_kept, lines_more}
