@@ -35,7 +35,7 @@ use Rattle.resolve_answer.specs.First.{IsFirstMatchOf, IsMatch, IsNeeded, HoldsF
 use Rattle.resolve_answer.proofs.FirstMatches.{IsSooner, first_match, none_sooner, needed_grows}
 use Rattle.resolve_answer.proofs.FirstTried.{sooner_from}
 use Rattle.resolve_answer.proofs.FirstNeeds.{solvables_for, found, held, needed_by, needed_met, one_each, keeps_rules}
-use Rattle.resolve_answer.proofs.FirstFlat.{matches_name, needed_alone, newest_for, newest_met, newest_keep, newest_first}
+use Rattle.resolve_answer.proofs.FirstFlat.{matches_name, nothing_marked, needed_alone, newest_for, newest_met, newest_keep, newest_first}
 
 -- ---- one alternative
 
@@ -143,7 +143,7 @@ module _ (catalogue : List Line) (source : ReadRequest) (p : Provider) (asked : 
         let u = entry_met alternatives need in
         let own = first_matched catalogue alternatives s v alone m in
         let name : u.0.name ≡ v.name = matches_name s u.0 (one_matched alternatives s u.0 alone u.2) ∙ sym (matches_name s v own.1) in
-        subst (λ (x : Version). Contains entries x) (choices.keeping.single.one_each u.0 v (inside u.0 u.1) (choices.holds alternatives v grown m) name) u.1
+        subst (λ (x : Version). Contains entries x) (choices.keeping.single.one_each u.0 v (inside u.0 u.1) (choices.holds alternatives v grown m) name (choices.unmarked u.0.name)) u.1
 
     first_chosen_are : (v : Version) → Contains entries v ↔ Contains first v
     first_chosen_are v = (inside v, λ c. choices.least entries entries_hold v c)
@@ -157,7 +157,7 @@ module _ (catalogue : List Line) (source : ReadRequest) (p : Provider) (asked : 
         (v.0, v.1, one_matched (s ∷ []) s v.0 refl v.2)
 
     entry_alone : (v w : Version) → Contains entries v → Contains entries w → v.name ≡ w.name → v ≡ w
-    entry_alone v w c d name = one_each p catalogue over same apart source asked asks chosen entries represents keeps v w c d name
+    entry_alone v w c d name = one_each p catalogue over same apart source asked asks chosen entries represents keeps v w c d name (nothing_marked catalogue source.lines flat_listing flat_request v.name)
 
     entries_newest : AreNewest catalogue source.lines entries
     entries_newest v c =

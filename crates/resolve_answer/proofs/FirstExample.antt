@@ -97,12 +97,13 @@ asks_all (suc (suc k)) = refl
 
 pub newest_is_first : IsFirstChoices catalogue request (a 2 ∷ [])
 newest_is_first = record {
+  unmarked = λ name. refl;
   holds = λ alternatives v need m. held alternatives v (needed (a 2 ∷ []) alternatives need) m;
   least = λ set h v c. subst (λ (x : Version). Contains set x) (sym (only (a 2) v c)) (h (any_a ∷ []) (a 2) (needs_one set) (inl first));
   keeping = record {
     single = record {
       listed = λ v c. subst (λ (x : Version). Contains catalogue (Listed x)) (sym (only (a 2) v c)) first.0.0;
-      one_each = λ v w c d e. only (a 2) v c ∙ sym (only (a 2) w d);
+      one_each = λ v w c d e unmarked. only (a 2) v c ∙ sym (only (a 2) w d);
     };
     catalogue_lines = keeps_all;
     request_lines = asks_all;

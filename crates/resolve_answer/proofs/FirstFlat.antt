@@ -1,21 +1,21 @@
 -- Of flat texts: the newest versions that fit keep the rules, and are of the packages of any entries that do.
-use Rattle.std.proofs.Common.{◌≡◌, inl, inr, suc, ◌≤◌, Bool, true, List, [], ◌∷◌, Option, Some, None, refl, sym, ap, subst, ◌∙◌, arith}
+use Rattle.std.proofs.Common.{◌≡◌, inl, inr, ℕ, suc, ◌≤◌, Bool, true, false, List, [], ◌∷◌, Option, Some, None, refl, sym, ap, subst, ◌∙◌, arith}
 use Rattle.std.specs.Prelude.{◌&&◌, ◌||◌, not, Contains, bytes_eq, option_to_list}
 use Rattle.std.specs.List.{list_all, flat_map}
 use Rattle.std.specs.Option.{option_map_or}
 use Rattle.std.proofs.lemmas.Bool.{false≢true, and_parts, and_from}
 use Rattle.std.proofs.lemmas.Slice.Eq.{bytes_eq-Decides}
-use Rattle.resolvo_text.specs.Line.{Version, Spec, Cond, Line, Skipped, Listed, Needs, Limits, Unknown, Lock, Favour, Exclude, Wish}
+use Rattle.resolvo_text.specs.Line.{Version, Spec, Cond, Line, Skipped, Listed, Needs, Limits, Unknown, Lock, Favour, Exclude, Many, Wish}
 use Rattle.resolvo_text.specs.Matches.{Set, matches, is_met}
 use Rattle.resolvo_catalogue_core.specs.Grammar.{line_at, owner_of}
 use Rattle.resolvo_catalogue_core.specs.Listed.{listed}
 use Rattle.resolvo_catalogue_core.specs.Rules.{obeys}
-use Rattle.resolvo_catalogue_core.specs.Sets.{IsRuleKeeping}
+use Rattle.resolvo_catalogue_core.specs.Sets.{IsRuleKeeping, marks_many, is_many}
 use Rattle.resolvo_catalogue_core.proofs.PlaceLemmas.{at_from_contains, contains_from_line}
 use Rattle.resolvo_catalogue.proofs.Places.{no_element, first_element, later_element, element_cases}
-use Rattle.resolvo_catalogue.proofs.PassLemmas.{any_to, all_from, all_to}
+use Rattle.resolvo_catalogue.proofs.PassLemmas.{any_from, any_to, all_from, all_to}
 use Rattle.resolvo_catalogue.proofs.Elements.{flat_from, flat_to, option_from}
-use Rattle.resolvo_catalogue.proofs.RulesKept.{bound_by, binding_by}
+use Rattle.resolvo_catalogue.proofs.RulesKept.{not_false, bound_by, binding_by}
 use Rattle.resolve_answer.specs.Flat.{AllLines}
 use Rattle.resolve_answer.specs.First.{IsFavoured, flat_need, is_flat_listing, is_flat_need, FitsRequest, IsLineOf, IsNeeded}
 use Rattle.resolve_answer.proofs.FirstMatches.{newest_of, among_listed, from_listed, IsSooner}
@@ -48,6 +48,7 @@ need_from (Limits t) s e = absurd (cc (e))
 need_from (Unknown r) s e = absurd (cc (e))
 need_from (Lock v) s e = absurd (cc (e))
 need_from (Favour v) s e = absurd (cc (e))
+need_from (Many name) s e = absurd (cc (e))
 need_from (Exclude v r) s e = absurd (cc (e))
 need_from (Wish v) s e = absurd (cc (e))
 
@@ -57,6 +58,7 @@ flat_obeyed owner Skipped set h = refl
 flat_obeyed owner (Listed v) set h = refl
 flat_obeyed owner (Wish v) set h = refl
 flat_obeyed owner (Favour v) set h = refl
+flat_obeyed owner (Many name) set h = refl
 flat_obeyed owner (Needs ss c) set h = absurd (false≢true h)
 flat_obeyed owner (Limits s) set h = absurd (false≢true h)
 flat_obeyed owner (Unknown r) set h = absurd (false≢true h)
@@ -69,6 +71,7 @@ need_obeyed Skipped set h met = refl
 need_obeyed (Listed v) set h met = refl
 need_obeyed (Wish v) set h met = refl
 need_obeyed (Favour v) set h met = refl
+need_obeyed (Many name) set h met = refl
 need_obeyed (Needs [] c) set h met = absurd (false≢true h)
 need_obeyed (Needs (s ∷ []) None) set h met = any_to (λ (t : Spec). is_met t set) (s ∷ []) s (first_element s []) (met s refl)
 need_obeyed (Needs (s ∷ []) (Some c)) set h met = absurd (false≢true h)
@@ -77,6 +80,18 @@ need_obeyed (Limits s) set h met = absurd (false≢true h)
 need_obeyed (Unknown r) set h met = absurd (false≢true h)
 need_obeyed (Lock v) set h met = absurd (false≢true h)
 need_obeyed (Exclude v r) set h met = absurd (false≢true h)
+
+flat_marks : (name : List ℕ) (l : Line) → marks_many name l ≡ true → is_flat_listing l ≡ true → ⊥
+flat_marks name (Many m) h flat = false≢true flat
+flat_marks name Skipped h flat = false≢true h
+flat_marks name (Listed v) h flat = false≢true h
+flat_marks name (Needs ss c) h flat = false≢true h
+flat_marks name (Limits s) h flat = false≢true h
+flat_marks name (Unknown r) h flat = false≢true h
+flat_marks name (Lock v) h flat = false≢true h
+flat_marks name (Favour v) h flat = false≢true h
+flat_marks name (Exclude v r) h flat = false≢true h
+flat_marks name (Wish v) h flat = false≢true h
 
 line_obeyed : (owner : Option Version) (o : Option Line) (set : Set) → ((l : Line) → o ≡ Some l → obeys owner l set ≡ true) → option_map_or (λ (l : Line). obeys owner l set) o true ≡ true
 line_obeyed owner None set h = refl
@@ -111,6 +126,12 @@ fits_to request v h = all_to (fits_one v) (needed_in request) (λ s c.
 module _ (catalogue request : List Line) (flat_listing : AllLines is_flat_listing catalogue) (flat_request : AllLines is_flat_need request) where
   pub nothing_favoured : (v : Version) → IsFavoured catalogue v → ⊥
   nothing_favoured v c = let at = at_from_contains catalogue (Favour v) c in false≢true (flat_listing (suc at.0) (Favour v) at.1)
+
+  pub nothing_marked : (name : List ℕ) → is_many catalogue name ≡ false
+  nothing_marked name = not_false (is_many catalogue name) (λ h.
+      let l = any_from (marks_many name) catalogue h in
+      let at = at_from_contains catalogue l.0 l.1 in
+      flat_marks name l.0 l.2 (flat_listing (suc at.0) l.0 at.1))
 
   -- each need is that of a line of the request with one SPEC
   pub needed_alone : (set : Set) (alternatives : List Spec) → IsNeeded catalogue request set alternatives → (s : Spec) × (alternatives ≡ s ∷ []) × Contains request (Needs (s ∷ []) None)
@@ -182,7 +203,7 @@ module _ (catalogue request : List Line) (flat_listing : AllLines is_flat_listin
       newest_keep = record {
         single = record {
           listed = λ u c. (are.each u c).among;
-          one_each = λ u w c d name.
+          one_each = λ u w c d name unmarked.
               let a = are.each u c in
               let b = are.each w d in
               let up : u.number ≤ w.number = b.newest u a.among name a.fits in

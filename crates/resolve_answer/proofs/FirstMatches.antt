@@ -3,7 +3,7 @@ use Rattle.std.proofs.Common.{◌≡◌, ◌⊎◌, inl, inr, ℕ, ◌<◌, ◌�
 use Rattle.std.specs.Prelude.{Contains, slice_get}
 use Rattle.std.specs.List.{list_any}
 use Rattle.std.proofs.lemmas.Bool.{cases_lt, false≢true, and_parts, and_from, or_cases, or_left, or_right}
-use Rattle.resolvo_text.specs.Line.{Version, Spec, Cond, Is, And, Or, Line, Skipped, Listed, Needs, Limits, Unknown, Lock, Favour, Exclude, Wish}
+use Rattle.resolvo_text.specs.Line.{Version, Spec, Cond, Is, And, Or, Line, Skipped, Listed, Needs, Limits, Unknown, Lock, Favour, Exclude, Many, Wish}
 use Rattle.resolvo_text.specs.Matches.{Set, matches, is_met, holds, condition_holds}
 use Rattle.resolvo_catalogue_core.specs.Grammar.{AreCatalogueLines}
 use Rattle.resolvo_catalogue_core.specs.Listed.{listed}
@@ -84,6 +84,7 @@ favours_match s (Limits t) = false
 favours_match s (Unknown r) = false
 favours_match s (Lock v) = false
 favours_match s (Exclude v r) = false
+favours_match s (Many name) = false
 favours_match s (Wish v) = false
 
 favour_from : (s : Spec) (l : Line) → favours_match s l ≡ true → (v : Version) × (l ≡ Favour v) × (matches s v ≡ true)
@@ -96,6 +97,7 @@ favour_from s (Limits t) h = absurd (false≢true h)
 favour_from s (Unknown r) h = absurd (false≢true h)
 favour_from s (Lock v) h = absurd (false≢true h)
 favour_from s (Exclude v r) h = absurd (false≢true h)
+favour_from s (Many name) h = absurd (false≢true h)
 favour_from s (Wish v) h = absurd (false≢true h)
 
 favour_to : (s : Spec) (v : Version) → matches s v ≡ true → favours_match s (Favour v) ≡ true

@@ -25,7 +25,7 @@ use Rattle.resolvo_catalogue.specs.KeptSets.{Represents, DistinguishesIds, root_
 use Rattle.resolvo_catalogue.specs.declared.provider.RequestIds.{RequestIds}
 use Rattle.resolvo_catalogue.proofs.Alike.{is_package, in_from, in_to, need_binds, meets_same, outside_same}
 use Rattle.resolvo_catalogue.proofs.Elements.{flat_from, flat_to, each_from_left, each_from_right, need_from, limit_from, from_lines, to_lines}
-use Rattle.resolvo_catalogue.proofs.KeptAlike.{deps_of_it, kept_alike}
+use Rattle.resolvo_catalogue.proofs.KeptAlike.{deps_of_it, kept_alike, mark_alike}
 use Rattle.resolvo_catalogue.proofs.MarkLemmas.{one_some}
 use Rattle.resolvo_catalogue.proofs.PassLemmas.{all_from}
 use Rattle.resolvo_catalogue.proofs.Places.{no_element, first_element, later_element, element_cases}
@@ -130,14 +130,14 @@ module _ (p : Provider) (catalogue : List Line) (over : IsOver catalogue p) (sam
             let need = each_from_right (IsNeed p.ids) (deps_at p s.0).requirements (flat_map need_in (lines_at catalogue owned.0)) owned.2.requirements need_parsed (flat_to need_in (lines_at catalogue owned.0) (Needs alternatives needed.condition) need_parsed l (first_element need_parsed [])) in
             met_for (Some s.0) need.0 need_parsed (held s.0 s.1) (req_to (deps_at p s.0) (deps_at p s.0).unknown need.0 (keeps.known s.0 (held s.0 s.1)) need.1) need.2 needed.holds
 
-    -- one member a package
-    pub one_each : (v w : Version) → Contains set v → Contains set w → v.name ≡ w.name → v ≡ w
-    one_each v w c d e_name =
+    -- one member a package that isn't marked
+    pub one_each : (v w : Version) → Contains set v → Contains set w → v.name ≡ w.name → sets.is_many catalogue v.name ≡ false → v ≡ w
+    one_each v w c d e_name unmarked =
         let s = represents.all v c in
         let t = represents.all w d in
         let at_s : slice_get p.ids.names (name_of p.ids s.0).raw ≡ Some v.name = is_package p (listed catalogue) over.versions over.once same apart s.0 v s.2 in
         let raws : (name_of p.ids s.0).raw ≡ (name_of p.ids t.0).raw = over.once.names (name_of p.ids s.0).raw (name_of p.ids t.0).raw w.name (at_s ∙ ap (λ (x : List ℕ). Some x) e_name) (is_package p (listed catalogue) over.versions over.once same apart t.0 w t.2) in
-        let is : s.0 ≡ t.0 = keeps.single.one s.0 t.0 (held s.0 s.1) (held t.0 t.1) (ap (λ (k : ℕ). let id : NameId = record { raw = k; tag = record {} } in id) raws) in
+        let is : s.0 ≡ t.0 = keeps.single.one s.0 t.0 (held s.0 s.1) (held t.0 t.1) (ap (λ (k : ℕ). let id : NameId = record { raw = k; tag = record {} } in id) raws) (mark_alike p catalogue over same apart s.0 v s.2 ∙ unmarked) in
         one_some (sym s.2 ∙ ap (λ (x : SolvableId). slice_get (listed catalogue) x.raw) is ∙ t.2)
 
   -- ---- where the set keeps the lines

@@ -23,7 +23,7 @@ use Rattle.resolvo_sat.proofs.Lists.{contains_cases, contains_first, contains_la
 use Rattle.resolvo_state.proofs.Positions.{get_below, get_in_prefix}
 use Rattle.resolvo_proof.specs.declared.step.ProofStep.{ProofStep}
 use Rattle.resolvo_proof.specs.declared.step.ProofStep.TheVariants.{Rule, Derived}
-use Rattle.resolvo_proof.specs.declared.step.ProofRule.TheVariants.{Needs, GateOf, Shared, Limit, Outside, Locked, Excluded, Digit, AtLeastOne}
+use Rattle.resolvo_proof.specs.declared.step.ProofRule.TheVariants.{Needs, GateOf, Shared, Limit, Outside, Locked, Excluded, Digit, AtLeastOne, Matches}
 use Rattle.resolvo_catalogue.specs.Ids.{Ids, NameId, SolvableId}
 use Rattle.resolvo_catalogue.specs.Known.{word_text}
 use Rattle.resolvo_catalogue.proofs.MarkLemmas.{one_some}
@@ -57,6 +57,7 @@ first_line_named catalogue request ids (Rule (Excluded s reason)) t (line, inl (
 first_line_named catalogue request ids (Rule (Excluded s reason)) t (line, inr (is, at), first) = subst (λ (x : Step). NamesFirstLine catalogue request x) (sym is) (version_at catalogue s, word_text ids reason, (line, inr (refl, at), first))
 first_line_named catalogue request ids (Rule (Digit s place bit)) t is = subst (λ (x : Step). NamesFirstLine catalogue request x) (sym is) tt
 first_line_named catalogue request ids (Rule (AtLeastOne n s)) t is = subst (λ (x : Step). NamesFirstLine catalogue request x) (sym is) tt
+first_line_named catalogue request ids (Rule (Matches v s)) t is = subst (λ (x : Step). NamesFirstLine catalogue request x) (sym is) tt
 first_line_named catalogue request ids (Derived literals causes) t (written, is, are) = subst (λ (x : Step). NamesFirstLine catalogue request x) (sym is) tt
 
 pub all_first : (catalogue request : List Line) (ids : Ids) (steps : List (ProofStep NameId SolvableId)) (written : List Step) → AllZip (IsWrittenAs catalogue ids request) steps written → NameFirstLines catalogue request written

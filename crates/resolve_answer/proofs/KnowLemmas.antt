@@ -1,15 +1,16 @@
 -- The steps of a search over a catalogue's provider name known versions, names, SPECs and
 -- alternatives: those that lines spell.
-use Rattle.std.proofs.Common.{◌≡◌, inl, inr, ℕ, zero, suc, ◌<◌, Bool, true, ◌&&◌, List, [], ◌∷◌, ◌++◌, length, Option, Some, None, refl, sym, ap, subst, ◌∙◌, arith}
+use Rattle.std.proofs.Common.{◌≡◌, inl, inr, ℕ, zero, suc, ◌<◌, Bool, true, false, ◌&&◌, List, [], ◌∷◌, ◌++◌, length, Option, Some, None, refl, sym, ap, subst, ◌∙◌, arith}
 use Rattle.std.specs.Prelude.{not, Contains, slice_get, slice_index_or, option_to_list, filter}
 use Rattle.std.specs.List.{flat_map}
-use Rattle.std.proofs.lemmas.Bool.{and_parts, eqb-true}
+use Rattle.std.proofs.lemmas.Bool.{cases_Bool, and_parts, eqb-true}
 use Rattle.std.proofs.lemmas.Option.{slice_get-get_or, slice_get_within, get_or_from_slice_get}
-use Rattle.resolvo_text.specs.Line.{Line, Listed}
+use Rattle.resolvo_text.specs.Line.{Spec, Line, Listed}
 use Rattle.resolvo_text.specs.Spelling.{HasForm, Spells, SpellsLine}
 use Rattle.resolvo_catalogue_core.specs.Grammar.{AreRequestLines, line_at}
 use Rattle.resolvo_catalogue_core.specs.Listed.{listed}
 use Rattle.resolvo_catalogue_core.specs.Questions.{ReadRequest}
+use Rattle.resolvo_catalogue_core.specs.Sets.{is_many}
 use Rattle.resolvo_catalogue_core.proofs.PlaceLemmas.{at_from_contains, contains_from_line}
 use Rattle.resolvo_catalogue_core.proofs.TableLemmas.{listed_from}
 use Rattle.resolvo_pool_core.specs.declared.id.VersionSetId.{VersionSetId}
@@ -18,16 +19,17 @@ use Rattle.resolvo_pool_core.specs.declared.requirement.ConditionalRequirement.{
 use Rattle.resolvo_pool_core.specs.declared.requirement.Requirement.{Requirement}
 use Rattle.resolvo_pool_core.specs.OnePass.{Literal}
 use Rattle.resolvo_pool_core.specs.Provider as pool
-use Rattle.resolvo_pool_core.specs.RuleKeeping.{Packages, rules_of, rules_for, is_in, is_outside}
+use Rattle.resolvo_pool_core.specs.RuleKeeping.{Packages, rules_of, rules_for, is_in, is_match, is_outside}
+use Rattle.resolvo_pool_core.specs.RuleKeeping as kept
 use Rattle.resolvo_pool_core.specs.Text.{alternatives_of}
 use Rattle.resolvo_store_core.specs.AtMostOne.{digit}
-use Rattle.resolvo_sat.specs.RuleClauses.{Atom, IsExact, ForbidReason, plus, minus, solvables, IsRule, has_plain_need, has_condition, same_requirement, cases_under, parent_literals, case_literals, candidate_literals, literals_of}
+use Rattle.resolvo_sat.specs.RuleClauses.{Atom, IsExact, ForbidReason, plus, minus, solvables, IsRule, has_plain_need, has_condition, same_requirement, cases_under, parent_literals, set_literals, case_literals, candidate_literals, AreMatched, literals_of}
 use Rattle.resolvo_sat.proofs.Lists.{contains_none, contains_cases, contains_first, contains_later, contains_parts, map_contains, filter_contains, any_contained, contains_map}
 use Rattle.resolvo_state.specs.declared.atom.ProofAtom.{ProofAtom}
 use Rattle.resolvo_state.specs.declared.atom.ProofAtom.TheVariants as atom
 use Rattle.resolvo_state.specs.Atoms.{atom_of}
 use Rattle.resolvo_proof.specs.declared.step.ProofRule.{ProofRule}
-use Rattle.resolvo_proof.specs.declared.step.ProofRule.TheVariants.{Needs, GateOf, Shared, Limit, Outside, Locked, Excluded, Digit, AtLeastOne}
+use Rattle.resolvo_proof.specs.declared.step.ProofRule.TheVariants.{Needs, GateOf, Shared, Limit, Outside, Locked, Excluded, Digit, AtLeastOne, Matches as MatchesRule}
 use Rattle.resolvo_proof.specs.declared.step.ProofStep.{ProofStep}
 use Rattle.resolvo_proof.specs.declared.step.ProofStep.TheVariants.{Rule, Derived}
 use Rattle.resolvo_proof.specs.Steps.{literal_in, rule_under, clause_of, clause_at}
@@ -35,7 +37,7 @@ use Rattle.resolvo_proof.specs.Proof.{IsProof}
 use Rattle.resolvo_proof.specs.Drawn.{AreDrawn}
 use Rattle.resolvo_proof.specs.Trimmed.{IsTrimmedTo, IsRenumbered}
 use Rattle.resolvo_catalogue.specs.Ids.{NameId, SolvableId, AreEach, IsNeed, IsSpec, IsPackage}
-use Rattle.resolvo_catalogue.specs.Known.{name_of, set_at, members_of, condition_at}
+use Rattle.resolvo_catalogue.specs.Known.{name_of, name_text, set_at, spec_at, members_of, condition_at}
 use Rattle.resolvo_catalogue.specs.Dependencies.{VersionDependencies, need_in, limit_in, lines_at}
 use Rattle.resolvo_catalogue.specs.Provider.{Provider, packages_of, candidates_of, dependencies_of, matches, deps_at, no_lines}
 use Rattle.resolvo_catalogue.specs.Over.{IsOver, AreAsked}
@@ -44,12 +46,14 @@ use Rattle.resolvo_catalogue.specs.declared.provider.RequestIds.{RequestIds}
 use Rattle.resolvo_catalogue.specs.declared.id_table.Numbers.{Numbers}
 use Rattle.resolvo_catalogue.proofs.Alike.{is_package, candidate, in_to}
 use Rattle.resolvo_catalogue.proofs.Elements.{flat_from, option_from, each_from_left, need_from, limit_from}
+use Rattle.resolvo_catalogue.proofs.KeptAlike.{mark_alike}
 use Rattle.resolvo_catalogue.proofs.MarkLemmas.{one_some}
 use Rattle.resolvo_catalogue.proofs.RulesKept.{req_from, con_from}
 use Rattle.resolve_refusal.specs.Refusal.{IsVersion, IsSpelledName, IsSpelledSet, IsSpelledRequirement, IsKnownAtom, IsKnownStep}
 use Rattle.resolve_refusal.proofs.ForbidLemmas.{known_version, forbidden_version}
 use Rattle.resolve_refusal.proofs.Cases.{case_specs}
-use Rattle.resolve_refusal.proofs.Clauses.{candidate_of}
+use Rattle.resolve_refusal.proofs.Clauses.{candidate_of, set_alike}
+use Rattle.resolve_refusal.proofs.RenameLemmas.{name_is, spec_is}
 use Rattle.resolve_answer.proofs.CaseForms.{case_fits}
 use Rattle.resolve_answer.proofs.Atoms.{one_requirement}
 
@@ -201,13 +205,15 @@ module _ (catalogue : List Line) (source : ReadRequest) (provider : Provider) (o
   IsKnown (Atom.gate r) = IsSpelledRequirement catalogue provider.ids r
   IsKnown (Atom.outside v) = IsSpelledSet catalogue provider.ids v
   IsKnown (Atom.any_of n) = IsSpelledName catalogue provider.ids n
-  IsKnown (Atom.digit n bit) = IsSpelledName catalogue provider.ids n × (bit < 32)
+  IsKnown (Atom.matches v) = IsSpelledSet catalogue provider.ids v × (is_many catalogue (spec_at provider.ids v).name ≡ true)
+  IsKnown (Atom.digit n bit) = IsSpelledName catalogue provider.ids n × (bit < 32) × (is_many catalogue (name_text provider.ids n) ≡ false)
 
   known_atom : (a : ProofAtom NameId SolvableId) → IsKnown (atom_of a) → IsKnownAtom catalogue provider.ids a
   known_atom (atom.Solvable s) h = h
   known_atom (atom.AtLeastOne n) h = h
   known_atom (atom.Gate r) h = h
   known_atom (atom.Outside v) h = h
+  known_atom (atom.Matches v) h = h
   known_atom (atom.Bit n bit) h = h
 
   abbrev AreKnown : List (Literal (Atom NameId SolvableId)) → Type 0
@@ -238,18 +244,28 @@ module _ (catalogue : List Line) (source : ReadRequest) (provider : Provider) (o
   candidates_known [] = known_none
   candidates_known (v ∷ vs) = known_append _ _ (tested_known (matches provider v) v) (candidates_known vs)
 
-  case_known : (vs : List VersionSetId) → AreSpelledSets vs → AreKnown (case_literals same p vs)
-  case_known [] spelled = known_none
-  case_known (v ∷ vs) spelled =
-      known_more (minus (Atom.any_of (set_at provider.ids v).0)) _ (set_name v (spelled v (contains_first v v vs refl)))
-      (known_append _ _ (tested_known (λ s. not (matches provider v s)) v) (case_known vs (λ w h. spelled w (contains_later w v vs h))))
+  -- the mark of a version set's package, which has a match
+  set_marked : (v : VersionSetId) (x : SolvableId) → IsSpelledSet catalogue provider.ids v → is_match same p v x ≡ true → kept.is_many p (set_at provider.ids v).0 ≡ is_many catalogue (spec_at provider.ids v).name
+  set_marked v x (s, is, fits) match = set_alike catalogue provider over same exact v s x is match ∙ ap (λ (t : Spec). is_many catalogue t.name) (sym (spec_is catalogue provider over v s is))
+
+  set_known : (v : VersionSetId) → IsSpelledSet catalogue provider.ids v → (x : SolvableId) × (is_match same p v x ≡ true) → AreKnown (set_literals same p v)
+  set_known v spelled (x, match) = elim (cases_Bool (kept.is_many p (set_at provider.ids v).0)) [
+    | inl many ↦ rw many (known_more (minus (Atom.matches v)) [] (spelled, sym (set_marked v x spelled match) ∙ many) known_none)
+    | inr one ↦ rw one (known_more (minus (Atom.any_of (set_at provider.ids v).0)) _ (set_name v spelled) (tested_known (λ s. not (matches provider v s)) v))
+  ]
+
+  case_known : (vs : List VersionSetId) → AreSpelledSets vs → AreMatched same p vs → AreKnown (case_literals same p vs)
+  case_known [] spelled matched = known_none
+  case_known (v ∷ vs) spelled matched =
+      known_append _ _ (set_known v (spelled v (contains_first v v vs refl)) (matched v (contains_first v v vs refl)))
+      (case_known vs (λ w h. spelled w (contains_later w v vs h)) (λ w h. matched w (contains_later w v vs h)))
 
   -- ---- clauses of rules
 
   rule_known : (condition : Option ConditionId) (r : ProofRule NameId SolvableId) → IsRule same p (root_of ids) (rule_under condition r) → AreKnown (literals_of same p (rule_under None r))
   rule_known condition (Needs parent r case) is =
       let known = need_known parent (record { condition = condition; requirement = r }) is.0 in
-      known_append _ _ (parent_known parent known.0) (known_append _ _ (case_known case.items (known.1.1 case.items is.1)) (candidates_known (alternatives_of (members_of provider.ids) r)))
+      known_append _ _ (parent_known parent known.0) (known_append _ _ (case_known case.items (known.1.1 case.items is.1) is.2) (candidates_known (alternatives_of (members_of provider.ids) r)))
   rule_known condition (GateOf s r) is =
       let known = gate_known s r is in
       known_more (minus (Atom.solvable s)) (plus (Atom.gate r) ∷ []) known.0 (known_more (plus (Atom.gate r)) [] known.1 known_none)
@@ -264,13 +280,20 @@ module _ (catalogue : List Line) (source : ReadRequest) (provider : Provider) (o
       known_more (minus (Atom.solvable s)) (plus (Atom.outside v) ∷ []) (outside_version v s out) (known_more (plus (Atom.outside v)) [] (limit_known parent v limited).1 known_none)
   rule_known condition (Locked locked s) is = known_more (minus (Atom.solvable s)) [] (forbidden_version catalogue provider over same exact s (ForbidReason.lock locked) is) known_none
   rule_known condition (Excluded s reason) is = known_more (minus (Atom.solvable s)) [] (forbidden_version catalogue provider over same exact s (ForbidReason.word reason) is) known_none
-  rule_known condition (Digit s place bit) (among, below) =
+  rule_known condition (Digit s place bit) (among, below, one) =
       let known = candidate_version (name_of provider.ids s) s among in
       let deps : Literal (Atom NameId SolvableId) = record { atom = Atom.digit (name_of provider.ids s) bit; positive = digit place bit } in
-      let named : IsKnown deps.atom = (name_spelled s known, below) in
+      let (v, e) = known in
+      let text : name_text provider.ids (name_of provider.ids s) ≡ v.name = name_is catalogue provider over (name_of provider.ids s) v.name (is_package provider (listed catalogue) over.versions over.once same apart s v e) in
+      let unmarked : is_many catalogue (name_text provider.ids (name_of provider.ids s)) ≡ false = ap (is_many catalogue) text ∙ (sym (mark_alike provider catalogue over same apart s v e) ∙ one) in
+      let named : IsKnown deps.atom = (name_spelled s known, below, unmarked) in
       known_more (minus (Atom.solvable s)) (deps ∷ []) known (known_more deps [] named known_none)
   rule_known condition (AtLeastOne n s) is =
       known_more (minus (Atom.solvable s)) (plus (Atom.any_of n) ∷ []) (candidate_version n s is) (known_more (plus (Atom.any_of n)) [] (candidate_name n s is) known_none)
+  rule_known condition (MatchesRule v s) ((parent, need, case, listed, cased, there), match, marked) =
+      let spelled = (need_known parent need listed).1.1 case cased v there in
+      known_more (minus (Atom.solvable s)) (plus (Atom.matches v) ∷ []) (candidate_version (set_at provider.ids v).0 s (and_parts _ _ match).0)
+      (known_more (plus (Atom.matches v)) [] (spelled, sym (set_marked v s spelled match) ∙ marked) known_none)
 
   -- ---- steps
 
@@ -298,6 +321,7 @@ module _ (catalogue : List Line) (source : ReadRequest) (provider : Provider) (o
     rule_step condition (Excluded s reason) is = tt
     rule_step condition (Digit s place bit) is = tt
     rule_step condition (AtLeastOne n s) is = tt
+    rule_step condition (MatchesRule v s) ((parent, need, case, listed, cased, there), match, marked) = (need_known parent need listed).1.1 case cased v there
 
     -- each step names known items
     pub known_step : (n : ℕ) (s : ProofStep NameId SolvableId) → slice_get steps n ≡ Some s → IsKnownStep catalogue provider.ids s

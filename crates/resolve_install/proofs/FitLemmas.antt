@@ -1,5 +1,5 @@
 -- Listed lines pass the judge, one after the other and at the end.
-use Rattle.std.proofs.Common.{◌≡◌, ◌⊎◌, inl, inr, ℕ, zero, suc, ◌<◌, ◌≤◌, true, false, List, [], ◌∷◌, ◌++◌, map, take, drop, Option, Some, refl, sym, ap, subst, ◌∙◌, append_assoc, arith}
+use Rattle.std.proofs.Common.{◌≡◌, ◌⊎◌, inl, inr, ℕ, zero, suc, ◌<◌, ◌≤◌, Bool, true, false, if◌then◌else◌, List, [], ◌∷◌, ◌++◌, map, take, drop, Option, Some, refl, sym, ap, subst, ◌∙◌, append_assoc, arith}
 use Rattle.std.specs.Prelude.{Contains, slice_get, not, nat_lt}
 use Rattle.std.specs.List.{list_any, list_all}
 use Rattle.std.proofs.lemmas.Bool.{and_from, or_left, or_right, false_from_ne_true, eq-eqb, lt-ltb}
@@ -13,10 +13,10 @@ use Rattle.resolvo_text.specs.Matches.{Set, same_package, same_version, is_membe
 use Rattle.resolvo_catalogue_core.specs.Grammar.{line_at}
 use Rattle.resolvo_catalogue_core.specs.Answers as answers
 use Rattle.resolvo_catalogue_core.specs.Answers.{Answer, IsNeededBy, IsReasoned}
-use Rattle.resolvo_catalogue_core.specs.Sets.{IsSingle, IsRuleKeeping}
+use Rattle.resolvo_catalogue_core.specs.Sets.{is_many, IsSingle, IsRuleKeeping}
 use Rattle.resolve_order.proofs.Elements.{no_element, first_element, element_cases, any_from, any_element, mapped_element, member_from, member_none}
 use Rattle.resolvo_report.specs.Value.{Place, OfRequest, OfVersion, AnswerLine, Entry, Wished, LeftOut, Step}
-use Rattle.resolvo_judge.specs.Entries.{entry_of, entries_of, left_out, wish_line_of, wish_lines, may_enter, is_reason, is_wish, wishes, gives, answer_fits}
+use Rattle.resolvo_judge.specs.Entries.{entry_of, entries_of, left_out, wish_line_of, wish_lines, is_free, may_enter, is_reason, is_wish, wishes, gives, answer_fits}
 use Rattle.resolvo_judge.specs.Refusal.{answer_of, leaves_out, step_forbids, InstallEnds}
 use Rattle.resolvo_judge.proofs.FitLemmas.{same_entries}
 use Rattle.resolvo_checker.proofs.Sets.{same_own, is_contained}
@@ -114,12 +114,19 @@ module _ (catalogue request : List Line) (steps : List Step) (set : Set) (lines 
         subst (λ (xs : Set). IsReasoned catalogue request xs (map answer_of (a ∷ below))) (same_entries before)
         (reasoned_at catalogue request [] (map answer_of before) (map answer_of (a ∷ below)) (subst (λ (xs : List Answer). IsReasoned catalogue request [] xs) (ap (map answer_of) is ∙ map-append answer_of before (a ∷ below)) right.reasoned))
 
-    -- no other version of its package is an entry
-    alone : (v : Version) → Contains set v → (Contains (entries_of before) v → ⊥) → list_any (same_package v) (entries_of before) ≡ false
-    alone v inside new = false_from_ne_true (list_any (same_package v) (entries_of before)) (λ h.
+    -- no other version of its package is an entry, where that isn't marked `many`
+    alone : (v : Version) → is_many catalogue v.name ≡ false → Contains set v → (Contains (entries_of before) v → ⊥) → list_any (same_package v) (entries_of before) ≡ false
+    alone v unmarked inside new = false_from_ne_true (list_any (same_package v) (entries_of before)) (λ h.
         let w = any_element (same_package v) (entries_of before) h in
-        let one : v ≡ w.0 = single.one_each v w.0 inside (inside_before w.0 w.1) ((bytes_eq-Decides v.name w.0.name).0 w.2) in
+        let one : v ≡ w.0 = single.one_each v w.0 inside (inside_before w.0 w.1) ((bytes_eq-Decides v.name w.0.name).0 w.2) unmarked in
         new (subst (λ (x : Version). Contains (entries_of before) x) (sym one) w.1))
+
+    free : (v : Version) → Contains set v → (Contains (entries_of before) v → ⊥) → is_free catalogue (entries_of before) v ≡ true
+    free v inside new = by_test (is_many catalogue v.name) refl
+      where
+        by_test : (b : Bool) → is_many catalogue v.name ≡ b → (if b then not (is_member v (entries_of before)) else not (list_any (same_package v) (entries_of before))) ≡ true
+        by_test true e = ap not (member_none (entries_of before) v new)
+        by_test false e = ap not (alone v e inside new)
 
     -- a chosen version isn't left out above
     kept : (v : Version) → Contains set v → Contains (left_out before) v → ⊥
@@ -128,7 +135,7 @@ module _ (catalogue request : List Line) (steps : List Step) (set : Set) (lines 
         right.unchosen p.0 (p.1 ++ a ∷ below) v p.2 p.3 (is ∙ ap (λ (xs : List AnswerLine). xs ++ a ∷ below) p.4 ∙ append_assoc p.0 (LeftOut v p.2 p.3 ∷ p.1) (a ∷ below)) inside
 
     may_be_entry : (v : Version) → Contains set v → (Contains (entries_of before) v → ⊥) → may_enter catalogue before v ≡ true
-    may_be_entry v inside new = and_from _ _ (listed_in catalogue v (single.listed v inside)) (and_from _ _ (ap not (alone v inside new)) (ap not (member_none (left_out before) v (kept v inside))))
+    may_be_entry v inside new = and_from _ _ (listed_in catalogue v (single.listed v inside)) (and_from _ _ (free v inside new) (ap not (member_none (left_out before) v (kept v inside))))
 
     -- a wish is in its turn
     is_a_wish : (v : Version) (n : ℕ) → wish_line_of a ≡ n ∷ [] → line_at request n ≡ Some (Wish v) → is_wish request before n v ≡ true

@@ -5,13 +5,13 @@ use Rattle.std.specs.List.{list_any, list_all}
 use Rattle.std.specs.Option.{option_map_or, option_and_then}
 use Rattle.std.specs.Str.{bytes_eq}
 use Rattle.std.proofs.lemmas.Bool.{and_from, and_parts}
-use Rattle.resolvo_text.specs.Line.{Version, Spec, Cond, Is, And, Or, Line, Skipped, Listed, Needs, Limits, Unknown, Lock, Favour, Exclude, Wish}
+use Rattle.resolvo_text.specs.Line.{Version, Spec, Cond, Is, And, Or, Line, Skipped, Listed, Needs, Limits, Unknown, Lock, Favour, Exclude, Many, Wish}
 use Rattle.resolvo_text.specs.Matches.{Set, same_package, same_version, matches, is_met_by_one, holds, condition_holds}
 use Rattle.resolvo_catalogue_core.specs.Grammar.{line_at, owner_of}
 use Rattle.resolvo_catalogue_core.specs.Rules.{binds, obeys}
 use Rattle.resolvo_catalogue_core.specs.Sets.{IsRuleKeeping}
 use Rattle.resolve_order.proofs.Elements.{no_element, first_element, later_element, element_cases, any_from, any_element}
-use Rattle.resolvo_report.specs.Value.{Atom, Chosen, AnyOf, SharedBy, OutsideOf, BitOf, Step}
+use Rattle.resolvo_report.specs.Value.{Atom, Chosen, AnyOf, SharedBy, OutsideOf, MatchesOf, BitOf, Step}
 use Rattle.resolvo_checker.specs.StepClauses.{Clause, clause_of}
 use Rattle.resolvo_checker.specs.Proof.{is_among, forbids}
 use Rattle.resolvo_judge.specs.Refusal.{step_forbids}
@@ -73,6 +73,7 @@ module _ (a b : Set) (same : AreSame a b) where
   obeys_same owner Skipped = refl
   obeys_same owner (Listed v) = refl
   obeys_same owner (Favour v) = refl
+  obeys_same owner (Many name) = refl
   obeys_same owner (Wish v) = refl
 
   line_same : (owner : Option Version) (o : Option Line) → option_map_or (λ line. obeys owner line a) o true ≡ option_map_or (λ line. obeys owner line b) o true
@@ -95,6 +96,7 @@ module _ (a b : Set) (same : AreSame a b) where
   among_same wish (AnyOf name) = refl
   among_same wish (SharedBy ss) = refl
   among_same wish (OutsideOf s) = refl
+  among_same wish (MatchesOf s) = refl
   among_same wish (BitOf bit name) = refl
 
   forbids_same : (wish : Version) (clause : Clause) → forbids a wish clause ≡ forbids b wish clause

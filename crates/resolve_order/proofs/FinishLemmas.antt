@@ -3,8 +3,7 @@ use Rattle.std.proofs.Common.{◌≡◌, ℕ, zero, suc, ◌+◌, ◌<◌, List,
 use Rattle.std.specs.Prelude.{Contains, slice_get}
 use Rattle.std.specs.Option.{option_map}
 use Rattle.std.proofs.lemmas.Grind.{flat_map-append}
-use Rattle.std.proofs.lemmas.List.{append-nil, map-append, take_more, take-append-drop}
-use Rattle.std.proofs.lemmas.List.Elements.{Contains-append_left}
+use Rattle.std.proofs.lemmas.List.{append-nil, map-append, take_more}
 use Rattle.std.proofs.lemmas.Option.{slice_get-get_or}
 use Rattle.resolvo_text.specs.Line.{Version, Line, Wish}
 use Rattle.resolvo_text.specs.Matches.{Set}
@@ -18,7 +17,7 @@ use Rattle.resolvo_catalogue_core.proofs.TableSteps.{numbered}
 use Rattle.resolve_order.specs.Order as order
 use Rattle.resolve_order.specs.Order.{IsNext, AreInOrder, IsComplete, IsOneTurn, AreTurns, wish_entry, chosen_by, chosen_in, accepted_by}
 use Rattle.resolve_order.specs.View.{reason_of, answer_of, wish_at, turn_of, turns_of, IsAccepted, IsWishOf, AreWishesOf}
-use Rattle.resolve_order.specs.Kept.{AreOneEach, Holds, IsListing, IsLeft, IsFound, Extends, TakesTurn, IsSpentAt, Remains, answers_in, entries_in, left_of}
+use Rattle.resolve_order.specs.Kept.{Holds, IsListing, IsLeft, IsFound, Extends, TakesTurn, IsSpentAt, Remains, answers_in, entries_in, left_of}
 use Rattle.resolve_order.specs.declared.chosen.Chosen.{Chosen}
 use Rattle.resolve_order.specs.declared.entry.Answer.TheVariants as answer
 use Rattle.resolve_order.specs.declared.entry.Entry.{Entry}
@@ -38,9 +37,9 @@ pub extends_none : (catalogue request : List Line) (chosen : Set) (x : InstallOr
 extends_none catalogue request chosen x h = record { listing = h; others = []; more = sym (append-nil (answers_in catalogue x)); in_order = tt }
 
 -- the same listing, where fewer versions are left
-pub ready : (catalogue request : List Line) (chosen : Set) (x : InstallOrder) (kept : Chosen) → ((versions : List Version) (all entries : Set) → Holds versions x.chosen all entries → Holds versions kept all entries)
+pub ready : (catalogue request : List Line) (chosen : Set) (x : InstallOrder) (kept : Chosen) → ((lines : List Line) (all entries : Set) → Holds lines x.chosen all entries → Holds lines kept all entries)
     → IsListing catalogue request x chosen → IsListing catalogue request (record x { chosen = kept }) chosen
-ready catalogue request chosen x kept holds h = record { holds = holds (listed catalogue) chosen (entries_in catalogue x) h.holds; lines = h.lines; numbered = h.numbered }
+ready catalogue request chosen x kept holds h = record { holds = holds catalogue chosen (entries_in catalogue x) h.holds; lines = h.lines; numbered = h.numbered }
 
 pub extends_again : (catalogue request : List Line) (chosen : Set) (x : InstallOrder) (kept : Chosen) (after : InstallOrder) → Extends catalogue request chosen (record x { chosen = kept }) after → Extends catalogue request chosen x after
 extends_again catalogue request chosen x kept after h = record { listing = h.listing; others = h.others; more = h.more; in_order = h.in_order }
@@ -101,17 +100,6 @@ pub chosen_more : (versions : List Version) (turns : List Turn) (i : ℕ) (t : T
 chosen_more versions turns i t lt is =
     ap chosen_in (turns_next versions turns i t lt is) ∙ flat_map-append chosen_by (turns_of versions (take i turns)) (turn_of versions t ∷ [])
     ∙ ap (λ (set : Set). chosen_in (turns_of versions (take i turns)) ++ set) (append-nil (chosen_by (turn_of versions t)))
-
-pub one_each_before : (versions : List Version) (turns : List Turn) (i : ℕ) → AreOneEach (chosen_in (turns_of versions turns)) → AreOneEach (chosen_in (turns_of versions (take i turns)))
-one_each_before versions turns i one = λ v w cv cw same. one v w (whole v cv) (whole w cw) same
-  where
-    all : chosen_in (turns_of versions turns) ≡ chosen_in (turns_of versions (take i turns)) ++ chosen_in (turns_of versions (drop i turns))
-    all =
-        ap (λ (ts : List Turn). chosen_in (turns_of versions ts)) (sym (take-append-drop i turns)) ∙ ap chosen_in (map-append (turn_of versions) (take i turns) (drop i turns))
-        ∙ flat_map-append chosen_by (turns_of versions (take i turns)) (turns_of versions (drop i turns))
-
-    whole : (v : Version) → Contains (chosen_in (turns_of versions (take i turns))) v → Contains (chosen_in (turns_of versions turns)) v
-    whole v c = subst (λ (set : Set). Contains set v) (sym all) (Contains-append_left (chosen_in (turns_of versions (take i turns))) (chosen_in (turns_of versions (drop i turns))) v c)
 
 wish_suc : (versions : List Version) (request : List Line) (chosen : Set) (turns : List Turn) (i : ℕ) (t : Turn) → i < length turns → t ≡ get_or turns i t → AreWishesOf versions request chosen turns
     → IsWishOf versions request (chosen ++ chosen_in (turns_of versions (take (suc i) turns))) t

@@ -31,7 +31,7 @@ none_given catalogue request chosen entries waiting r other w is waits (inr c) g
 
 pub next_found : (catalogue request : List Line) (chosen entries : Set) (lines waiting : List Reason) (r : Reason) (v : Version) → AreLines catalogue request entries lines
     → Split (IsSpentAt catalogue request chosen entries) lines waiting r → ((x : Reason) → Contains waiting x → IsWaiting entries (line_named catalogue request (reason_of (listed catalogue) x)))
-    → Contains chosen v → (Contains entries v → ⊥) → IsNeededBy entries (line_named catalogue request (reason_of (listed catalogue) r)) v → IsOfFirst chosen entries (line_named catalogue request (reason_of (listed catalogue) r)) v
+    → Contains chosen v → (Contains entries v → ⊥) → IsNeededBy entries (line_named catalogue request (reason_of (listed catalogue) r)) v → IsOfFirst catalogue chosen entries (line_named catalogue request (reason_of (listed catalogue) r)) v
     → IsNext catalogue request chosen entries (reason_of (listed catalogue) r) v
 next_found catalogue request chosen entries lines waiting r v are split waits in_chosen unlisted needed of_first = record {
   gives = record {

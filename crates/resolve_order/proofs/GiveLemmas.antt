@@ -27,9 +27,9 @@ use Rattle.resolve_order.specs.declared.install_order.InstallOrder.{InstallOrder
 use Rattle.resolve_order.proofs.LineLemmas.{first_lines, more_lines}
 use Rattle.resolve_order.proofs.PickLemmas.{flag_means}
 
-pub no_entries : (catalogue request : List Line) (x : InstallOrder) (n : ℕ) → x.answers.items ≡ [] → x.lines.items ≡ lines_to n → n ≡ length request → Holds (listed catalogue) x.chosen [] [] → IsListing catalogue request x []
+pub no_entries : (catalogue request : List Line) (x : InstallOrder) (n : ℕ) → x.answers.items ≡ [] → x.lines.items ≡ lines_to n → n ≡ length request → Holds catalogue x.chosen [] [] → IsListing catalogue request x []
 no_entries catalogue request x n none lines count h = record {
-  holds = subst (λ (es : List Answer). Holds (listed catalogue) x.chosen [] (entries_of (answers_of (listed catalogue) es))) (sym none) h;
+  holds = subst (λ (es : List Answer). Holds catalogue x.chosen [] (entries_of (answers_of (listed catalogue) es))) (sym none) h;
   lines = subst (λ (es : List Answer). AreLines catalogue request (entries_of (answers_of (listed catalogue) es)) x.lines.items) (sym none)
       (subst (AreLines catalogue request []) (sym (lines ∙ ap lines_to count)) (first_lines catalogue request));
   numbered = λ i e at. absurd (past i e (subst (λ (es : List Answer). slice_get es i ≡ Some e) none at));
@@ -49,11 +49,11 @@ entries_more catalogue before after e v at more =
 
 pub listing_more : (catalogue request : List Line) (chosen : Set) (before after : InstallOrder) (e : Entry) (v : Version) (numbers : List ℕ) → slice_get (listed catalogue) e.version.0 ≡ Some v
     → after.answers.items ≡ before.answers.items ++ answer.Entry e ∷ [] → after.lines.items ≡ before.lines.items ++ lines_for e.version numbers → AreAll numbers (IsVersionLine (listed catalogue) catalogue e.version.0 BelongsTo)
-    → Holds (listed catalogue) after.chosen chosen (entries_in catalogue before ++ v ∷ []) → IsListing catalogue request before chosen → IsListing catalogue request after chosen
+    → Holds catalogue after.chosen chosen (entries_in catalogue before ++ v ∷ []) → IsListing catalogue request before chosen → IsListing catalogue request after chosen
 listing_more catalogue request chosen before after e v numbers at more lines all h was =
     let now = entries_more catalogue before after e v at more in
     record {
-      holds = subst (Holds (listed catalogue) after.chosen chosen) (sym now) h;
+      holds = subst (Holds catalogue after.chosen chosen) (sym now) h;
       lines = subst (λ (set : Set). AreLines catalogue request set after.lines.items) (sym now)
           (subst (AreLines catalogue request (entries_in catalogue before ++ v ∷ [])) (sym lines) (more_lines catalogue request (entries_in catalogue before) before.lines.items e.version v numbers at all was.lines));
       numbered = λ i x at_i. elim (get_push before.answers.items (answer.Entry e) x i (subst (λ (es : List Answer). slice_get es i ≡ Some x) more at_i)) [
@@ -72,7 +72,7 @@ wish_listed catalogue request chosen before after line n h accepted unset more =
     let v = nth (listed catalogue) n in
     let E = entries_in catalogue before in
     let at : slice_get (listed catalogue) n.0 ≡ Some v = accepted.0.1 ∙ ap Some (sym (numbered (listed catalogue) n accepted.0.0 accepted.0.1)) in
-    let out : is_member v E ≡ false = not_true (is_member v E) (sym (flag_means (listed catalogue) before.chosen chosen E n.0 v h.holds at) ∙ unset) in
+    let out : is_member v E ≡ false = not_true (is_member v E) (sym (flag_means catalogue before.chosen chosen E n.0 v h.holds at) ∙ unset) in
     more ∙ ap (λ b. answers_in catalogue before ++ (if b then [] else answers.Entry v (answers.Wished line) ∷ [])) (sym out)
   where
     not_true : (b : _) → not b ≡ not false → b ≡ false
@@ -85,7 +85,7 @@ wish_is_entry catalogue request chosen before line n h accepted is_set =
     let v = nth (listed catalogue) n in
     let E = entries_in catalogue before in
     let at : slice_get (listed catalogue) n.0 ≡ Some v = accepted.0.1 ∙ ap Some (sym (numbered (listed catalogue) n accepted.0.0 accepted.0.1)) in
-    let among = not_false (is_member v E) (sym (flag_means (listed catalogue) before.chosen chosen E n.0 v h.holds at) ∙ is_set) in
+    let among = not_false (is_member v E) (sym (flag_means catalogue before.chosen chosen E n.0 v h.holds at) ∙ is_set) in
     sym (append-nil (answers_in catalogue before)) ∙ ap (λ b. answers_in catalogue before ++ (if b then [] else answers.Entry v (answers.Wished line) ∷ [])) (sym among)
   where
     not_false : (b : _) → not b ≡ false → b ≡ not false
@@ -100,7 +100,7 @@ left_out_more catalogue request chosen before after line n step chosen_is lines_
     ap entries_of added ∙ flat_map-append entry_of (answers_in catalogue before) (answers.LeftOut (nth (listed catalogue) n) line step ∷ []) ∙ append-nil (entries_in catalogue before) in
     record {
       listing = record {
-        holds = subst (Holds (listed catalogue) after.chosen chosen) (sym same) (subst (λ (kept : Chosen). Holds (listed catalogue) kept chosen (entries_in catalogue before)) (sym chosen_is) h.holds);
+        holds = subst (Holds catalogue after.chosen chosen) (sym same) (subst (λ (kept : Chosen). Holds catalogue kept chosen (entries_in catalogue before)) (sym chosen_is) h.holds);
         lines = subst (λ (set : Set). AreLines catalogue request set after.lines.items) (sym same)
             (subst (λ (rs : List Reason). AreLines catalogue request (entries_in catalogue before) rs) (sym (ap (λ ls. ls.items) lines_are)) h.lines);
         numbered = λ i x at_i. elim (get_push before.answers.items (answer.LeftOut n line step) x i (subst (λ (es : List Answer). slice_get es i ≡ Some x) more at_i)) [

@@ -1,4 +1,7 @@
 pub mod Elements
+pub mod NumberLemmas
+pub mod FavourLemmas
+pub mod NewestLemmas
 pub mod PickLemmas
 pub mod RemainLemmas
 pub mod LineLemmas

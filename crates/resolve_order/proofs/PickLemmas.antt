@@ -1,60 +1,66 @@
--- The chosen versions by their packages, and which of them are entries.
-use Rattle.std.proofs.Common.{◌≡◌, ◌⊎◌, inl, inr, ℕ, zero, suc, ◌+◌, ◌-◌, ◌<◌, Bool, true, false, not, if◌then◌else◌, List, [], ◌∷◌, ◌++◌, length, Option, Some, None, refl, sym, ap, subst, ◌∙◌, set, get_or, take, drop, append_assoc, arith}
-use Rattle.std.specs.Prelude.{slice_get, Contains, option_to_list}
-use Rattle.std.specs.Option.{option_map_or}
+-- The chosen versions by their packages and numbers, and which of them are entries.
+use Rattle.std.proofs.Common.{◌≡◌, ◌⊎◌, inl, inr, ℕ, zero, suc, ◌+◌, ◌-◌, ◌<◌, Bool, true, false, not, List, [], ◌∷◌, ◌++◌, length, Option, Some, None, refl, sym, ap, subst, ◌∙◌, set, get_or, take, drop, arith}
+use Rattle.std.specs.Prelude.{slice_get, Contains, option_to_list, ◌==◌, IsTrue}
+use Rattle.std.specs.Option.{option_map_or, is_some}
+use Rattle.std.specs.Ordering.{nat_cmp}
+use Rattle.std.specs.BTreeMap.{BTreeMap}
 use Rattle.std.specs.List.{list_any}
 use Rattle.std.specs.Str.{bytes_eq}
-use Rattle.std.specs.BTreeMap.{get_by_text}
-use Rattle.std.proofs.lemmas.Bool.{false≢true, cases_Bool, and_parts}
+use Rattle.std.specs.BTreeMap.{get, get_by_text}
+use Rattle.std.proofs.lemmas.Bool.{false≢true, cases_Bool, and_parts, and_from}
 use Rattle.std.proofs.lemmas.List.Elements.{Contains-append_left, Contains-append_right, Contains-push, Contains-push_cases}
 use Rattle.std.proofs.lemmas.List.Sums.{sum_by-set}
 use Rattle.std.proofs.lemmas.List.{append-nil, take_all, take_more, take-append-drop, drop_more, map-append}
 use Rattle.std.proofs.lemmas.Grind.{flat_map-append}
 use Rattle.std.proofs.lemmas.Option.{slice_get_within, slice_get-get_or, get_or_from_slice_get}
+use Rattle.std.proofs.lemmas.Bool.Decides.{Decides-eqb}
 use Rattle.std.proofs.lemmas.Slice.Eq.{bytes_eq-Decides}
-use Rattle.resolvo_text.specs.Line.{Version, Spec, Cond, Line, Needs}
+use Rattle.resolvo_text.specs.Line.{Version, Spec, Cond, Line, Needs, Favour}
 use Rattle.resolvo_text.specs.View.{spec_of, specs_of}
 use Rattle.resolvo_text.specs.declared.spec.Spec as code
 use Rattle.resolvo_text.specs.Matches.{Set, matches, is_member, is_met, is_in_span, condition_holds}
-use Rattle.resolvo_catalogue_core.specs.Listed.{is_match, members}
+use Rattle.resolvo_catalogue_core.specs.Listed.{listed, is_match, members}
 use Rattle.resolvo_catalogue_core.specs.Questions.{is_rule}
 use Rattle.resolvo_catalogue_core.specs.declared.rule.VersionNo.{VersionNo}
-use Rattle.resolve_order.specs.Kept.{AreOneEach, IsPick, is_unlisted, weight, unlisted, IsIn, Holds, IsChosenMatch, IsUnlistedMatch, IsFirstMatch, IsLineState, IsWaiting, IsSpent}
+use Rattle.resolvo_catalogue_core.proofs.TableSteps.{same_version_is}
+use Rattle.resolve_order.specs.Order.{IsSorted}
+use Rattle.resolve_order.specs.Kept.{number_at, AreNumbersOf, IsLeftOver, IsFavouredOf, is_unlisted, weight, unlisted, IsIn, Holds, IsNewestIn, IsFavouredMatch, IsUnlistedMatch, IsFirstMatch, IsLineState, IsWaiting, IsSpent}
 use Rattle.resolve_order.specs.declared.chosen.LineState.TheVariants as state
 use Rattle.resolve_order.specs.declared.chosen.Chosen.{Chosen}
+use Rattle.resolve_order.proofs.NumberLemmas.{PutsNumber, numbers_more, numbers_less, numbers_same}
 use Rattle.resolve_order.proofs.Elements.{no_element, first_element, any_from, any_element, any_none, member_from, from_member, member_none, none_from_member}
 
 -- ---- one more chosen version
 
-pub picks_more : (versions : List Version) (chosen : Set) (v : Version) (n : VersionNo) (name : List ℕ) (before after : Option VersionNo)
-    → slice_get versions n.0 ≡ Some v → after ≡ (if bytes_eq v.name name then Some n else before) → AreOneEach (chosen ++ v ∷ []) → IsPick versions chosen name before → IsPick versions (chosen ++ v ∷ []) name after
-picks_more versions chosen v n name before after at is one pick = subst (IsPick versions (chosen ++ v ∷ []) name) (sym is) (by_test (bytes_eq v.name name) refl)
-  where
-    other : (w : Version) → bytes_eq v.name name ≡ false → Contains (chosen ++ v ∷ []) w → w.name ≡ name → Contains chosen w
-    other w e c same = elim (Contains-push_cases chosen v w c) [
-      | inl old ↦ old
-      | inr new ↦ absurd (false≢true (sym e ∙ (bytes_eq-Decides v.name name).1 (ap (λ (x : Version). x.name) new ∙ same)))
-    ]
+alone : (versions : List Version) (n : VersionNo) (v : Version) → slice_get versions n.0 ≡ Some v → members versions (n ∷ []) ≡ v ∷ []
+alone versions n v at = ap (λ (o : Option Version). option_to_list o ++ []) at
 
-    kept : (o : Option VersionNo) → bytes_eq v.name name ≡ false → IsPick versions chosen name o → IsPick versions (chosen ++ v ∷ []) name o
-    kept None e h = λ w c same. h w (other w e c same) same
-    kept (Some m) e h = (h.0, h.1, h.2, Contains-append_left chosen (v ∷ []) h.0 h.3, λ w c same. h.4 w (other w e c same) same)
+-- whether it is no entry, by its flag
+pub flag_means : (catalogue : List Line) (kept : Chosen) (chosen entries : Set) (n : ℕ) (v : Version) → Holds catalogue kept chosen entries → slice_get (listed catalogue) n ≡ Some v → is_unlisted kept.listed.items n ≡ not (is_member v entries)
+flag_means catalogue kept chosen entries n v h at = ap (λ (o : Option Bool). option_map_or not o false) (h.flags n v at)
 
-    by_test : (b : Bool) → bytes_eq v.name name ≡ b → IsPick versions (chosen ++ v ∷ []) name (if b then Some n else before)
-    by_test true e =
-        let is : v.name ≡ name = (bytes_eq-Decides v.name name).0 e in
-        (v, at, is, Contains-push chosen v, λ w c same. one w v c (Contains-push chosen v) (same ∙ sym is))
-    by_test false e = kept before e pick
+not_true : (b : Bool) → not b ≡ true → b ≡ false
+not_true true e = absurd (false≢true e)
+not_true false e = refl
 
--- the version of this number, if there is one
-pub adds : (versions : List Version) (before after : Chosen) (chosen entries : Set) (n : VersionNo) (v : Version) → slice_get versions n.0 ≡ Some v
-    → ((name : List ℕ) → get_by_text after.picks name ≡ (if bytes_eq v.name name then Some n else get_by_text before.picks name)) → after.listed ≡ before.listed → after.left.items ≡ before.left.items ++ n ∷ []
-    → Holds versions before chosen entries → AreOneEach (chosen ++ members versions (n ∷ [])) → Holds versions after (chosen ++ members versions (n ∷ [])) entries
-adds versions before after chosen entries n v at picks flags left h one = subst (λ (new : Set). Holds versions after (chosen ++ new) entries) (sym alone) (record {
-  picks = λ name. picks_more versions chosen v n name (get_by_text before.picks name) (get_by_text after.picks name) at (picks name) (subst (λ (new : Set). AreOneEach (chosen ++ new)) alone one) (h.picks name);
+not_false : (b : Bool) → not b ≡ false → b ≡ true
+not_false true e = refl
+not_false false e = absurd (false≢true (sym e))
+
+-- a version that is no entry
+pub adds : (catalogue : List Line) (before after : Chosen) (chosen entries : Set) (n : VersionNo) (v : Version) → slice_get (listed catalogue) n.0 ≡ Some v → is_unlisted before.listed.items n.0 ≡ true
+    → ((name : List ℕ) → PutsNumber v (Some n) name (get_by_text before.unlisted name) (get_by_text after.unlisted name)) → after.entries ≡ before.entries → after.favoured ≡ before.favoured → after.listed ≡ before.listed → after.left.items ≡ before.left.items ++ n ∷ []
+    → Holds catalogue before chosen entries → Holds catalogue after (chosen ++ members (listed catalogue) (n ∷ [])) entries
+adds catalogue before after chosen entries n v at unset puts entered favoured flags left h = subst (λ (new : Set). Holds catalogue after (chosen ++ new) entries) (sym (alone (listed catalogue) n v at)) (record {
+  unlisted = λ name. numbers_more (listed catalogue) (IsLeftOver chosen entries) (IsLeftOver (chosen ++ v ∷ []) entries) v n name (get_by_text before.unlisted name) (get_by_text after.unlisted name) h.distinct at
+      (λ w l. (Contains-append_left chosen (v ∷ []) w l.0, l.1)) (Contains-push chosen v, none_from_member entries v (not_true (is_member v entries) (sym (flag_means catalogue before chosen entries n.0 v h at) ∙ unset)))
+      (λ w l apart. (elim (Contains-push_cases chosen v w l.0) [ inl old ↦ old | inr new ↦ absurd (apart new) ], l.1)) (puts name) (h.unlisted name);
+  entered = λ name. subst (λ (m : _). AreNumbersOf (listed catalogue) (Contains entries) name (get_by_text m name)) (sym entered) (h.entered name);
+  favoured = λ name. subst (λ (m : _). IsFavouredOf catalogue name (get_by_text m name)) (sym favoured) (h.favoured name);
   flags = λ k w at_k. ap (λ (l : _). slice_get l.items k) flags ∙ h.flags k w at_k;
   distinct = h.distinct;
   among = λ w c. Contains-append_left chosen (v ∷ []) w (h.among w c);
+  known = λ w c. elim (Contains-push_cases chosen v w c) [ inl old ↦ h.known w old | inr new ↦ (n, at ∙ ap Some new) ];
   left = λ w c. elim (Contains-push_cases chosen v w c) [
     | inl old ↦ elim (h.left w old) [
       | inl entry ↦ inl entry
@@ -63,29 +69,40 @@ adds versions before after chosen entries n v at picks flags left h one = subst 
     | inr new ↦ inr (n, subst (λ (ns : List VersionNo). Contains ns n) (sym left) (Contains-push before.left.items n), at ∙ ap Some new)
   ];
 })
-  where
-    alone : members versions (n ∷ []) ≡ v ∷ []
-    alone = ap (λ (o : Option Version). option_to_list o ++ []) at
 
-pub adds_none : (versions : List Version) (kept : Chosen) (chosen entries : Set) (n : VersionNo) → slice_get versions n.0 ≡ None → Holds versions kept chosen entries → Holds versions kept (chosen ++ members versions (n ∷ [])) entries
-adds_none versions kept chosen entries n at h = subst (λ (set : Set). Holds versions kept set entries) (sym (append-nil chosen) ∙ ap (λ (new : Set). chosen ++ new) (sym none)) h
+-- no version has this number
+pub adds_none : (catalogue : List Line) (kept : Chosen) (chosen entries : Set) (n : VersionNo) → slice_get (listed catalogue) n.0 ≡ None → Holds catalogue kept chosen entries → Holds catalogue kept (chosen ++ members (listed catalogue) (n ∷ [])) entries
+adds_none catalogue kept chosen entries n at h = subst (λ (set : Set). Holds catalogue kept set entries) (sym (append-nil chosen) ∙ ap (λ (new : Set). chosen ++ new) (sym none)) h
   where
-    none : members versions (n ∷ []) ≡ []
+    none : members (listed catalogue) (n ∷ []) ≡ []
     none = ap (λ (o : Option Version). option_to_list o ++ []) at
+
+-- an entry
+adds_entry : (catalogue : List Line) (kept : Chosen) (chosen entries : Set) (n : VersionNo) (v : Version) → slice_get (listed catalogue) n.0 ≡ Some v → Contains entries v → Holds catalogue kept chosen entries → Holds catalogue kept (chosen ++ members (listed catalogue) (n ∷ [])) entries
+adds_entry catalogue kept chosen entries n v at entry h = subst (λ (new : Set). Holds catalogue kept (chosen ++ new) entries) (sym (alone (listed catalogue) n v at)) (record {
+  unlisted = λ name. numbers_same (listed catalogue) (IsLeftOver chosen entries) (IsLeftOver (chosen ++ v ∷ []) entries) name (get_by_text kept.unlisted name) (λ w l. (Contains-append_left chosen (v ∷ []) w l.0, l.1)) (λ w l. (was w l.0, l.1)) (h.unlisted name);
+  entered = h.entered;
+  favoured = h.favoured;
+  flags = h.flags;
+  distinct = h.distinct;
+  among = λ w c. Contains-append_left chosen (v ∷ []) w (h.among w c);
+  known = λ w c. h.known w (was w c);
+  left = λ w c. h.left w (was w c);
+})
+  where
+    was : (w : Version) → Contains (chosen ++ v ∷ []) w → Contains chosen w
+    was w c = elim (Contains-push_cases chosen v w c) [ inl old ↦ old | inr new ↦ subst (Contains chosen) new (h.among v entry) ]
+
+-- an entry, or a number that no version has
+pub adds_listed : (catalogue : List Line) (kept : Chosen) (chosen entries : Set) (n : VersionNo) → is_unlisted kept.listed.items n.0 ≡ false → Holds catalogue kept chosen entries → Holds catalogue kept (chosen ++ members (listed catalogue) (n ∷ [])) entries
+adds_listed catalogue kept chosen entries n is_set h = of (slice_get (listed catalogue) n.0) refl
+  where
+    of : (o : Option Version) → slice_get (listed catalogue) n.0 ≡ o → Holds catalogue kept (chosen ++ members (listed catalogue) (n ∷ [])) entries
+    of None at = adds_none catalogue kept chosen entries n at h
+    of (Some v) at = adds_entry catalogue kept chosen entries n v at (from_member entries v (not_false (is_member v entries) (sym (flag_means catalogue kept chosen entries n.0 v h at) ∙ is_set))) h
 
 pub members_more : (versions : List Version) (numbers : List VersionNo) (i : ℕ) (d : VersionNo) → i < length numbers → members versions (take (i + 1) numbers) ≡ members versions (take i numbers) ++ members versions (get_or numbers i d ∷ [])
 members_more versions numbers i d lt = ap (members versions) (take_more numbers i d lt) ∙ flat_map-append (λ (n : VersionNo). option_to_list (slice_get versions n.0)) (take i numbers) (get_or numbers i d ∷ [])
-
--- those of the first numbers are among all of them
-pub one_each_first : (versions : List Version) (chosen : Set) (numbers : List VersionNo) (i : ℕ) → AreOneEach (chosen ++ members versions numbers) → AreOneEach (chosen ++ members versions (take i numbers))
-one_each_first versions chosen numbers i one = λ v w cv cw same. one v w (whole v cv) (whole w cw) same
-  where
-    all : members versions numbers ≡ members versions (take i numbers) ++ members versions (drop i numbers)
-    all = ap (members versions) (sym (take-append-drop i numbers)) ∙ flat_map-append (λ (n : VersionNo). option_to_list (slice_get versions n.0)) (take i numbers) (drop i numbers)
-
-    whole : (v : Version) → Contains (chosen ++ members versions (take i numbers)) v → Contains (chosen ++ members versions numbers) v
-    whole v c = subst (λ (set : Set). Contains set v) (append_assoc chosen (members versions (take i numbers)) (members versions (drop i numbers)) ∙ ap (λ (set : Set). chosen ++ set) (sym all))
-        (Contains-append_left (chosen ++ members versions (take i numbers)) (members versions (drop i numbers)) v c)
 
 -- ---- one more entry
 
@@ -132,58 +149,41 @@ member_more w v set apart = elim (cases_Bool (is_member w set)) [
   | inr e ↦ member_none (set ++ v ∷ []) w (λ c. elim (Contains-push_cases set v w c) [ inl old ↦ none_from_member set w e old | inr new ↦ apart (sym new) ]) ∙ sym e
 ]
 
-pub marks : (versions : List Version) (before after : Chosen) (chosen entries : Set) (n : ℕ) (v : Version) → slice_get versions n ≡ Some v → Contains chosen v
-    → is_unlisted before.listed.items n ≡ true → after.picks ≡ before.picks → after.listed.items ≡ set before.listed.items n true → after.left ≡ before.left → Holds versions before chosen entries → Holds versions after chosen (entries ++ v ∷ [])
-marks versions before after chosen entries n v at in_chosen unset picks flags left h = record {
-  picks = λ name. subst (λ (p : _). IsPick versions chosen name (get_by_text p name)) (sym picks) (h.picks name);
-  flags = λ k w at_k. ap (λ (fs : List Bool). slice_get fs k) flags ∙ of k w at_k (is_nat k n);
+-- The version is moved from the unlisted ones to the entries.
+pub record Moves (before after : Chosen) (n : VersionNo) (v : Version) : Type 0 where
+  pub entered : (name : List ℕ) → PutsNumber v (Some n) name (get_by_text before.entries name) (get_by_text after.entries name)
+  pub taken : (name : List ℕ) → PutsNumber v None name (get_by_text before.unlisted name) (get_by_text after.unlisted name)
+  pub same_favoured : after.favoured ≡ before.favoured
+  pub same_left : after.left ≡ before.left
+
+pub marks : (catalogue : List Line) (before after : Chosen) (chosen entries : Set) (n : VersionNo) (v : Version) → slice_get (listed catalogue) n.0 ≡ Some v → Contains chosen v → is_unlisted before.listed.items n.0 ≡ true
+    → Moves before after n v → after.listed.items ≡ set before.listed.items n.0 true → Holds catalogue before chosen entries → Holds catalogue after chosen (entries ++ v ∷ [])
+marks catalogue before after chosen entries n v at in_chosen unset moves flags h = record {
+  unlisted = λ name. numbers_less (listed catalogue) (IsLeftOver chosen entries) (IsLeftOver chosen (entries ++ v ∷ [])) v name (get_by_text before.unlisted name) (get_by_text after.unlisted name)
+      (λ w l. (l.0, λ c. l.1 (Contains-append_left entries (v ∷ []) w c))) (λ l. l.1 (Contains-push entries v))
+      (λ w l apart. (l.0, λ c. elim (Contains-push_cases entries v w c) [ inl old ↦ l.1 old | inr new ↦ apart new ])) (moves.taken name) (h.unlisted name);
+  entered = λ name. numbers_more (listed catalogue) (Contains entries) (Contains (entries ++ v ∷ [])) v n name (get_by_text before.entries name) (get_by_text after.entries name) h.distinct at
+      (λ w c. Contains-append_left entries (v ∷ []) w c) (Contains-push entries v) (λ w c apart. elim (Contains-push_cases entries v w c) [ inl old ↦ old | inr new ↦ absurd (apart new) ]) (moves.entered name) (h.entered name);
+  favoured = λ name. subst (λ (m : _). IsFavouredOf catalogue name (get_by_text m name)) (sym moves.same_favoured) (h.favoured name);
+  flags = λ k w at_k. ap (λ (fs : List Bool). slice_get fs k) flags ∙ of k w at_k (is_nat k n.0);
   distinct = h.distinct;
   among = λ w c. elim (Contains-push_cases entries v w c) [ inl old ↦ h.among w old | inr new ↦ subst (Contains chosen) new in_chosen ];
+  known = h.known;
   left = λ w c. elim (h.left w c) [
     | inl entry ↦ inl (Contains-append_left entries (v ∷ []) w entry)
-    | inr i ↦ inr (i.0, subst (λ (l : _). Contains l.items i.0) (sym left) i.1, i.2)
+    | inr i ↦ inr (i.0, subst (λ (l : _). Contains l.items i.0) (sym moves.same_left) i.1, i.2)
   ];
 }
   where
-    of : (k : ℕ) (w : Version) → slice_get versions k ≡ Some w → (k ≡ n) ⊎ (k ≡ n → ⊥) → slice_get (set before.listed.items n true) k ≡ Some (is_member w (entries ++ v ∷ []))
+    of : (k : ℕ) (w : Version) → slice_get (listed catalogue) k ≡ Some w → (k ≡ n.0) ⊎ (k ≡ n.0 → ⊥) → slice_get (set before.listed.items n.0 true) k ≡ Some (is_member w (entries ++ v ∷ []))
     of k w at_k (inl same) =
-        let is : w ≡ v = (let e : slice_get versions n ≡ Some w = subst (λ (i : ℕ). slice_get versions i ≡ Some w) same at_k in cc) in
-        ap (λ (i : ℕ). slice_get (set before.listed.items n true) i) same
-        ∙ get_set_here before.listed.items n true (within_flags before.listed.items n unset)
+        let is : w ≡ v = (let e : slice_get (listed catalogue) n.0 ≡ Some w = subst (λ (i : ℕ). slice_get (listed catalogue) i ≡ Some w) same at_k in cc) in
+        ap (λ (i : ℕ). slice_get (set before.listed.items n.0 true) i) same
+        ∙ get_set_here before.listed.items n.0 true (within_flags before.listed.items n.0 unset)
         ∙ ap Some (sym (member_from (entries ++ v ∷ []) w (subst (Contains (entries ++ v ∷ [])) (sym is) (Contains-push entries v))))
     of k w at_k (inr apart) =
-        get_set_apart before.listed.items n k true apart ∙ h.flags k w at_k
-        ∙ ap Some (sym (member_more w v entries (λ same. apart (h.distinct v k n (subst (λ (x : Version). slice_get versions k ≡ Some x) same at_k) at))))
-
--- ---- matches
-
-name_matched : (s : Spec) (w : Version) → matches s w ≡ true → w.name ≡ s.name
-name_matched s w m = (bytes_eq-Decides w.name s.name).0 (and_parts (bytes_eq w.name s.name) (is_in_span s.span w.number) m).0
-
-match_is : (versions : List Version) (s : Spec) (n : ℕ) (v : Version) (b : Bool) → slice_get versions n ≡ Some v → is_match versions s n ≡ b → matches s v ≡ b
-match_is versions s n v b at is = sym (ap (λ (o : Option Version). option_map_or (λ x. matches s x) o false) at) ∙ is
-
-pub picked_match : (versions : List Version) (chosen : Set) (s : Spec) (n : VersionNo) → IsPick versions chosen s.name (Some n) → is_match versions s n.0 ≡ true → IsChosenMatch versions chosen s (Some n)
-picked_match versions chosen s n p is = (p.0, p.1, match_is versions s n.0 p.0 true p.1 is, p.3, λ w c m. p.4 w c (name_matched s w m))
-
-pub picked_other : (versions : List Version) (chosen : Set) (s : Spec) (n : VersionNo) → IsPick versions chosen s.name (Some n) → is_match versions s n.0 ≡ false → IsChosenMatch versions chosen s None
-picked_other versions chosen s n p is = λ w c m.
-    false≢true (sym (match_is versions s n.0 p.0 false p.1 is) ∙ subst (λ (x : Version). matches s x ≡ true) (p.4 w c (name_matched s w m)) m)
-
-pub picked_none : (versions : List Version) (chosen : Set) (s : Spec) → IsPick versions chosen s.name None → IsChosenMatch versions chosen s None
-picked_none versions chosen s p = λ w c m. p w c (name_matched s w m)
-
--- whether it is no entry, by its flag
-pub flag_means : (versions : List Version) (kept : Chosen) (chosen entries : Set) (n : ℕ) (v : Version) → Holds versions kept chosen entries → slice_get versions n ≡ Some v → is_unlisted kept.listed.items n ≡ not (is_member v entries)
-flag_means versions kept chosen entries n v h at = ap (λ (o : Option Bool). option_map_or not o false) (h.flags n v at)
-
-not_true : (b : Bool) → not b ≡ true → b ≡ false
-not_true true e = absurd (false≢true e)
-not_true false e = refl
-
-not_false : (b : Bool) → not b ≡ false → b ≡ true
-not_false true e = refl
-not_false false e = absurd (false≢true (sym e))
+        get_set_apart before.listed.items n.0 k true apart ∙ h.flags k w at_k
+        ∙ ap Some (sym (member_more w v entries (λ same. apart (h.distinct v k n.0 (subst (λ (x : Version). slice_get (listed catalogue) k ≡ Some x) same at_k) at))))
 
 -- ---- those left
 
@@ -200,63 +200,174 @@ last_none (n ∷ numbers) at =
     let is = slice_get-get_or (n ∷ numbers) (length (n ∷ numbers) - 1) n (omega arith) in cc
 
 -- an entry is dropped
-pub drops : (versions : List Version) (before after : Chosen) (chosen entries : Set) (n : VersionNo) → before.left.items ≡ after.left.items ++ n ∷ [] → is_unlisted before.listed.items n.0 ≡ false
-    → after.picks ≡ before.picks → after.listed ≡ before.listed → Holds versions before chosen entries → Holds versions after chosen entries
-drops versions before after chosen entries n left is_set picks flags h = record {
-  picks = λ name. subst (λ (p : _). IsPick versions chosen name (get_by_text p name)) (sym picks) (h.picks name);
+pub drops : (catalogue : List Line) (before after : Chosen) (chosen entries : Set) (n : VersionNo) → before.left.items ≡ after.left.items ++ n ∷ [] → is_unlisted before.listed.items n.0 ≡ false
+    → after.unlisted ≡ before.unlisted → after.entries ≡ before.entries → after.favoured ≡ before.favoured → after.listed ≡ before.listed → Holds catalogue before chosen entries → Holds catalogue after chosen entries
+drops catalogue before after chosen entries n left is_set over entered favoured flags h = record {
+  unlisted = λ name. subst (λ (m : _). AreNumbersOf (listed catalogue) (IsLeftOver chosen entries) name (get_by_text m name)) (sym over) (h.unlisted name);
+  entered = λ name. subst (λ (m : _). AreNumbersOf (listed catalogue) (Contains entries) name (get_by_text m name)) (sym entered) (h.entered name);
+  favoured = λ name. subst (λ (m : _). IsFavouredOf catalogue name (get_by_text m name)) (sym favoured) (h.favoured name);
   flags = λ k w at. ap (λ (l : _). slice_get l.items k) flags ∙ h.flags k w at;
   distinct = h.distinct;
   among = h.among;
+  known = h.known;
   left = λ w c. elim (h.left w c) [
     | inl entry ↦ inl entry
     | inr i ↦ of w i.0 i.2 (Contains-push_cases after.left.items n i.0 (subst (λ (ns : List VersionNo). Contains ns i.0) left i.1))
   ];
 }
   where
-    of : (w : Version) (m : VersionNo) → slice_get versions m.0 ≡ Some w → Contains after.left.items m ⊎ (n ≡ m) → Contains entries w ⊎ IsIn versions after.left.items w
+    of : (w : Version) (m : VersionNo) → slice_get (listed catalogue) m.0 ≡ Some w → Contains after.left.items m ⊎ (n ≡ m) → Contains entries w ⊎ IsIn (listed catalogue) after.left.items w
     of w m at (inl old) = inr (m, old, at)
     of w m at (inr same) =
-        inl (from_member entries w (not_false (is_member w entries) (sym (flag_means versions before chosen entries m.0 w h at) ∙ subst (λ (k : VersionNo). is_unlisted before.listed.items k.0 ≡ false) same is_set)))
+        inl (from_member entries w (not_false (is_member w entries) (sym (flag_means catalogue before chosen entries m.0 w h at) ∙ subst (λ (k : VersionNo). is_unlisted before.listed.items k.0 ≡ false) same is_set)))
 
-pub none_left_entries : (versions : List Version) (kept : Chosen) (chosen entries : Set) → kept.left.items ≡ [] → Holds versions kept chosen entries → (v : Version) → Contains chosen v → Contains entries v
-none_left_entries versions kept chosen entries none h v c = elim (h.left v c) [ inl entry ↦ entry | inr i ↦ absurd (no_element i.0 (subst (λ (ns : List VersionNo). Contains ns i.0) none i.1)) ]
+pub none_left_entries : (catalogue : List Line) (kept : Chosen) (chosen entries : Set) → kept.left.items ≡ [] → Holds catalogue kept chosen entries → (v : Version) → Contains chosen v → Contains entries v
+none_left_entries catalogue kept chosen entries none h v c = elim (h.left v c) [ inl entry ↦ entry | inr i ↦ absurd (no_element i.0 (subst (λ (ns : List VersionNo). Contains ns i.0) none i.1)) ]
 
-pub match_unlisted : (versions : List Version) (kept : Chosen) (chosen entries : Set) (s : Spec) (n : VersionNo) → Holds versions kept chosen entries → IsChosenMatch versions chosen s (Some n)
-    → is_unlisted kept.listed.items n.0 ≡ true → IsUnlistedMatch versions chosen entries s (Some n)
-match_unlisted versions kept chosen entries s n h m unset =
-    (m.0, m.1, m.2, m.3, none_from_member entries m.0 (not_true (is_member m.0 entries) (sym (flag_means versions kept chosen entries n.0 m.0 h m.1) ∙ unset)))
+-- ---- matches
 
-pub match_listed : (versions : List Version) (kept : Chosen) (chosen entries : Set) (s : Spec) (n : VersionNo) → Holds versions kept chosen entries → IsChosenMatch versions chosen s (Some n)
-    → is_unlisted kept.listed.items n.0 ≡ false → IsUnlistedMatch versions chosen entries s None
-match_listed versions kept chosen entries s n h m is_set = λ w c is.
-    from_member entries w (subst (λ (x : Version). is_member x entries ≡ true) (sym (m.4 w c is)) (not_false (is_member m.0 entries) (sym (flag_means versions kept chosen entries n.0 m.0 h m.1) ∙ is_set)))
+name_matched : (s : Spec) (w : Version) → matches s w ≡ true → w.name ≡ s.name
+name_matched s w m = (bytes_eq-Decides w.name s.name).0 (and_parts (bytes_eq w.name s.name) (is_in_span s.span w.number) m).0
 
-pub no_match : (versions : List Version) (chosen entries : Set) (s : Spec) → IsChosenMatch versions chosen s None → IsUnlistedMatch versions chosen entries s None
-no_match versions chosen entries s none = λ w c is. absurd (none w c is)
+in_span : (s : Spec) (w : Version) → matches s w ≡ true → is_in_span s.span w.number ≡ true
+in_span s w m = (and_parts (bytes_eq w.name s.name) (is_in_span s.span w.number) m).1
+
+match_from : (s : Spec) (w : Version) → w.name ≡ s.name → is_in_span s.span w.number ≡ true → matches s w ≡ true
+match_from s w name span = and_from (bytes_eq w.name s.name) (is_in_span s.span w.number) ((bytes_eq-Decides w.name s.name).1 name) span
+
+match_is : (versions : List Version) (s : Spec) (n : ℕ) (v : Version) (b : Bool) → slice_get versions n ≡ Some v → is_match versions s n ≡ b → matches s v ≡ b
+match_is versions s n v b at is = sym (ap (λ (o : Option Version). option_map_or (λ x. matches s x) o false) at) ∙ is
+
+version_is : (u v : Version) → u.name ≡ v.name → u.number ≡ v.number → u ≡ v
+version_is u v name number = (same_version_is u v).0 (and_from (bytes_eq u.name v.name) (u.number == v.number) ((bytes_eq-Decides u.name v.name).1 name) ((Decides-eqb u.number v.number).1 number))
+
+-- The numbers of a map in the span are those of the matches.
+found_match : (versions : List Version) (P : Version → Type 0) (s : Spec) (numbers : Option (BTreeMap ℕ VersionNo)) (n : ℕ) (k : VersionNo) → AreNumbersOf versions P s.name numbers → number_at numbers n ≡ Some k → is_in_span s.span n ≡ true
+    → (v : Version) × (slice_get versions k.0 ≡ Some v) × (v.number ≡ n) × (matches s v ≡ true) × P v
+found_match versions P s numbers n k are is span =
+    let v = (are n k).0 is in
+    (v.0, v.1, v.3, match_from s v.0 v.2 (subst (λ (i : ℕ). is_in_span s.span i ≡ true) (sym v.3) span), v.4)
+
+number_found : (versions : List Version) (P : Version → Type 0) (s : Spec) (numbers : Option (BTreeMap ℕ VersionNo)) (w : Version) (k : VersionNo) → AreNumbersOf versions P s.name numbers → slice_get versions k.0 ≡ Some w → matches s w ≡ true → P w → number_at numbers w.number ≡ Some k
+number_found versions P s numbers w k are at m p = (are w.number k).1 (w, at, name_matched s w m, refl, p)
+
+-- ---- the favoured match
+
+pub favoured_none : (catalogue : List Line) (chosen entries : Set) (s : Spec) → IsFavouredOf catalogue s.name None → IsFavouredMatch catalogue chosen entries s None
+favoured_none catalogue chosen entries s none = λ w f m l. none w f (name_matched s w m)
+
+pub favoured_known : (catalogue : List Line) (name : List ℕ) (k : VersionNo) → IsFavouredOf catalogue name (Some k) → slice_get (listed catalogue) k.0 ≡ None → ⊥
+favoured_known catalogue name k h none = cc (h.1, none)
+
+module _ (catalogue : List Line) (chosen entries : Set) (s : Spec) (numbers : BTreeMap ℕ VersionNo) (k : VersionNo) (p : Version) (favoured : IsFavouredOf catalogue s.name (Some k))
+    (are : AreNumbersOf (listed catalogue) (IsLeftOver chosen entries) s.name (Some numbers)) (at : slice_get (listed catalogue) k.0 ≡ Some p) where
+  it_is : p ≡ favoured.0
+  it_is = (let a = favoured.1 in cc)
+
+  pub favoured_found : is_some (get nat_cmp numbers p.number) ≡ true → is_match (listed catalogue) s k.0 ≡ true → IsFavouredMatch catalogue chosen entries s (Some k)
+  favoured_found has is = of (get nat_cmp numbers p.number) refl has
+    where
+      of : (o : Option VersionNo) → get nat_cmp numbers p.number ≡ o → is_some o ≡ true → IsFavouredMatch catalogue chosen entries s (Some k)
+      of None e h = absurd (false≢true h)
+      of (Some j) e h =
+          let u = (are p.number j).0 e in
+          let same : u.0 ≡ favoured.0 = version_is u.0 favoured.0 (u.2 ∙ sym favoured.2) (u.3 ∙ ap (λ (x : Version). x.number) it_is) in
+          (favoured.0, favoured.1, favoured.3, match_is (listed catalogue) s k.0 favoured.0 true favoured.1 is, subst (IsLeftOver chosen entries) same u.4)
+
+  pub favoured_other : (is_some (get nat_cmp numbers p.number) ≡ false) ⊎ (is_match (listed catalogue) s k.0 ≡ false) → IsFavouredMatch catalogue chosen entries s None
+  favoured_other fails = λ w f m l. elim fails [
+    | inl none ↦ false≢true (sym none ∙ ap is_some (found w f m l))
+    | inr fails ↦ false≢true (sym (match_is (listed catalogue) s k.0 w false (at_w w f m) fails) ∙ m)
+  ]
+    where
+      same : (w : Version) → Contains catalogue (Favour w) → matches s w ≡ true → w ≡ favoured.0
+      same w f m = favoured.4 w f (name_matched s w m)
+
+      at_w : (w : Version) → Contains catalogue (Favour w) → matches s w ≡ true → slice_get (listed catalogue) k.0 ≡ Some w
+      at_w w f m = favoured.1 ∙ ap Some (sym (same w f m))
+
+      found : (w : Version) → Contains catalogue (Favour w) → matches s w ≡ true → IsLeftOver chosen entries w → get nat_cmp numbers p.number ≡ Some k
+      found w f m l = ap (λ (x : Version). get nat_cmp numbers x.number) (it_is ∙ sym (same w f m)) ∙ number_found (listed catalogue) (IsLeftOver chosen entries) s (Some numbers) w k are (at_w w f m) m l
+
+-- ---- the first unlisted match
+
+left_from_none : (entries : Set) (w : Version) → ((Contains entries w → ⊥) → ⊥) → Contains entries w
+left_from_none entries w h = elim (cases_Bool (is_member w entries)) [
+  | inl e ↦ from_member entries w e
+  | inr e ↦ absurd (h (none_from_member entries w e))
+]
+
+-- no match is left over
+pub none_matches : (catalogue : List Line) (kept : Chosen) (chosen entries : Set) (s : Spec) → Holds catalogue kept chosen entries → ((n : ℕ) (k : VersionNo) → number_at (get_by_text kept.unlisted s.name) n ≡ Some k → is_in_span s.span n ≡ true → ⊥)
+    → IsUnlistedMatch catalogue chosen entries s None
+none_matches catalogue kept chosen entries s h none = λ w c m. left_from_none entries w (λ out.
+    let k = h.known w c in
+    none w.number k.0 (number_found (listed catalogue) (IsLeftOver chosen entries) s (get_by_text kept.unlisted s.name) w k.0 (h.unlisted s.name) k.1 m (c, out)) (in_span s w m))
+
+pub no_numbers : (catalogue : List Line) (kept : Chosen) (chosen entries : Set) (s : Spec) → Holds catalogue kept chosen entries → get_by_text kept.unlisted s.name ≡ None → IsUnlistedMatch catalogue chosen entries s None
+no_numbers catalogue kept chosen entries s h none =
+    none_matches catalogue kept chosen entries s h (λ n k at span. no_number n k (subst (λ (m : Option (BTreeMap ℕ VersionNo)). number_at m n ≡ Some k) none at))
+  where
+    no_number : (n : ℕ) (k : VersionNo) → number_at None n ≡ Some k → ⊥
+    no_number n k e = cc
+
+pub favoured_first : (catalogue : List Line) (chosen entries : Set) (s : Spec) (k : VersionNo) → IsFavouredMatch catalogue chosen entries s (Some k) → IsUnlistedMatch catalogue chosen entries s (Some k)
+favoured_first catalogue chosen entries s k f = (f.0, f.1, f.3, f.4, λ w m l. inr (inl f.2))
+
+pub newest_first : (catalogue : List Line) (kept : Chosen) (chosen entries : Set) (s : Spec) (numbers : BTreeMap ℕ VersionNo) (o : Option VersionNo) → Holds catalogue kept chosen entries → get_by_text kept.unlisted s.name ≡ Some numbers
+    → IsFavouredMatch catalogue chosen entries s None → IsNewestIn (get nat_cmp numbers) s.span o → IsUnlistedMatch catalogue chosen entries s o
+newest_first catalogue kept chosen entries s numbers None h is none newest =
+    none_matches catalogue kept chosen entries s h (λ n k at span. newest n k (subst (λ (m : Option (BTreeMap ℕ VersionNo)). number_at m n ≡ Some k) is at) span)
+newest_first catalogue kept chosen entries s numbers (Some k) h is none newest = (v.0, v.1, v.3, v.4, first)
+  where
+    are : AreNumbersOf (listed catalogue) (IsLeftOver chosen entries) s.name (Some numbers)
+    are = subst (AreNumbersOf (listed catalogue) (IsLeftOver chosen entries) s.name) is (h.unlisted s.name)
+
+    v : (v : Version) × (slice_get (listed catalogue) k.0 ≡ Some v) × (v.number ≡ newest.0) × (matches s v ≡ true) × IsLeftOver chosen entries v
+    v = found_match (listed catalogue) (IsLeftOver chosen entries) s (Some numbers) newest.0 k are newest.1 newest.2
+
+    first : (w : Version) → IsTrue (matches s w) → IsLeftOver chosen entries w → (w ≡ v.0) ⊎ IsSorted catalogue v.0 w
+    first w m l = elim (is_nat w.number v.0.number) [
+      | inl same ↦ inl (version_is w v.0 (name_matched s w m ∙ sym (name_matched s v.0 v.3)) same)
+      | inr apart ↦ inr (inr (λ f. none w f m l, lower apart))
+    ]
+      where
+        lower : (w.number ≡ v.0.number → ⊥) → w.number < v.0.number
+        lower apart =
+            let j = h.known w l.0 in
+            let most = newest.3 w.number j.0 (number_found (listed catalogue) (IsLeftOver chosen entries) s (Some numbers) w j.0 are j.1 m l) (in_span s w m) in
+            let is_newest = v.2 in
+            omega (arith, most, is_newest, apart)
+
+-- the test of its flag says the same
+pub still_unlisted : (catalogue : List Line) (kept : Chosen) (chosen entries : Set) (s : Spec) (k : VersionNo) → Holds catalogue kept chosen entries → IsUnlistedMatch catalogue chosen entries s (Some k) → is_unlisted kept.listed.items k.0 ≡ false → ⊥
+still_unlisted catalogue kept chosen entries s k h m is_set =
+    m.3.1 (from_member entries m.0 (not_false (is_member m.0 entries) (sym (flag_means catalogue kept chosen entries k.0 m.0 h m.1) ∙ is_set)))
 
 -- ---- met SPECs
 
-not_not : (b : Bool) → not (not b) ≡ b
-not_not true = refl
-not_not false = refl
+pub met_by : (catalogue : List Line) (kept : Chosen) (chosen entries : Set) (s : Spec) (numbers : BTreeMap ℕ VersionNo) (o : Option VersionNo) → Holds catalogue kept chosen entries → get_by_text kept.entries s.name ≡ Some numbers
+    → IsNewestIn (get nat_cmp numbers) s.span o → is_some o ≡ is_met s entries
+met_by catalogue kept chosen entries s numbers None h is newest = sym (any_none (matches s) entries (λ w c m.
+    let k = h.known w (h.among w c) in
+    newest w.number k.0 (subst (λ (x : Option (BTreeMap ℕ VersionNo)). number_at x w.number ≡ Some k.0) is (number_found (listed catalogue) (Contains entries) s (get_by_text kept.entries s.name) w k.0 (h.entered s.name) k.1 m c)) (in_span s w m)))
+met_by catalogue kept chosen entries s numbers (Some k) h is newest =
+    let v = found_match (listed catalogue) (Contains entries) s (Some numbers) newest.0 k (subst (AreNumbersOf (listed catalogue) (Contains entries) s.name) is (h.entered s.name)) newest.1 newest.2 in
+    sym (any_from (matches s) entries v.0 v.4 v.3)
 
-pub met_by : (versions : List Version) (kept : Chosen) (chosen entries : Set) (s : Spec) (n : VersionNo) → Holds versions kept chosen entries → IsChosenMatch versions chosen s (Some n)
-    → not (is_unlisted kept.listed.items n.0) ≡ is_met s entries
-met_by versions kept chosen entries s n h m =
-    ap not (flag_means versions kept chosen entries n.0 m.0 h m.1) ∙ not_not (is_member m.0 entries) ∙ of (cases_Bool (is_member m.0 entries))
+pub met_none : (catalogue : List Line) (kept : Chosen) (chosen entries : Set) (s : Spec) → Holds catalogue kept chosen entries → get_by_text kept.entries s.name ≡ None → false ≡ is_met s entries
+met_none catalogue kept chosen entries s h none = sym (any_none (matches s) entries (λ w c m.
+    let k = h.known w (h.among w c) in
+    no_number w.number k.0 (subst (λ (x : Option (BTreeMap ℕ VersionNo)). number_at x w.number ≡ Some k.0) none (number_found (listed catalogue) (Contains entries) s (get_by_text kept.entries s.name) w k.0 (h.entered s.name) k.1 m c))))
   where
-    of : (is_member m.0 entries ≡ true) ⊎ (is_member m.0 entries ≡ false) → is_member m.0 entries ≡ is_met s entries
-    of (inl e) = e ∙ sym (any_from (matches s) entries m.0 (from_member entries m.0 e) m.2)
-    of (inr e) = e ∙ sym (any_none (matches s) entries (λ w c is. none_from_member entries m.0 e (subst (Contains entries) (m.4 w (h.among w c) is) c)))
-
-pub met_none : (versions : List Version) (kept : Chosen) (chosen entries : Set) (s : Spec) → Holds versions kept chosen entries → IsChosenMatch versions chosen s None → false ≡ is_met s entries
-met_none versions kept chosen entries s h none = sym (any_none (matches s) entries (λ w c is. none w (h.among w c) is))
+    no_number : (n : ℕ) (k : VersionNo) → number_at None n ≡ Some k → ⊥
+    no_number n k e = cc
 
 -- ---- the first of several SPECs
 
-pub none_of_first : (versions : List Version) (chosen entries : Set) (alternatives : List code.Spec) (i : ℕ) (s : code.Spec) → i < length alternatives → s ≡ get_or alternatives i s
-    → IsFirstMatch versions chosen entries (specs_of (take i alternatives)) None → IsUnlistedMatch versions chosen entries (spec_of s) None → IsFirstMatch versions chosen entries (specs_of (take (i + 1) alternatives)) None
-none_of_first versions chosen entries alternatives i s lt is before here = λ t w c m chosen_w.
+pub none_of_first : (catalogue : List Line) (chosen entries : Set) (alternatives : List code.Spec) (i : ℕ) (s : code.Spec) → i < length alternatives → s ≡ get_or alternatives i s
+    → IsFirstMatch catalogue chosen entries (specs_of (take i alternatives)) None → IsUnlistedMatch catalogue chosen entries (spec_of s) None → IsFirstMatch catalogue chosen entries (specs_of (take (i + 1) alternatives)) None
+none_of_first catalogue chosen entries alternatives i s lt is before here = λ t w c m chosen_w.
     elim (Contains-push_cases (specs_of (take i alternatives)) (spec_of s) t (subst (λ (ss : _). Contains ss t) more c)) [
       | inl old ↦ before t w old m chosen_w
       | inr new ↦ here w chosen_w (subst (λ (x : Spec). matches x w ≡ true) (sym new) m)
@@ -265,10 +376,10 @@ none_of_first versions chosen entries alternatives i s lt is before here = λ t 
     more : specs_of (take (i + 1) alternatives) ≡ specs_of (take i alternatives) ++ spec_of s ∷ []
     more = ap specs_of (take_more alternatives i s lt ∙ ap (λ (x : code.Spec). take i alternatives ++ x ∷ []) (sym is)) ∙ map-append spec_of (take i alternatives) (s ∷ [])
 
-pub found_first : (versions : List Version) (chosen entries : Set) (alternatives : List code.Spec) (i : ℕ) (s : code.Spec) (n : VersionNo) → i < length alternatives → s ≡ get_or alternatives i s
-    → IsFirstMatch versions chosen entries (specs_of (take i alternatives)) None → IsUnlistedMatch versions chosen entries (spec_of s) (Some n) → IsFirstMatch versions chosen entries (specs_of alternatives) (Some n)
-found_first versions chosen entries alternatives i s n lt is before here =
-    (here.0, here.1, here.3, here.4, (specs_of (take i alternatives), spec_of s, specs_of (drop (i + 1) alternatives), parts, here.2, before))
+pub found_first : (catalogue : List Line) (chosen entries : Set) (alternatives : List code.Spec) (i : ℕ) (s : code.Spec) (n : VersionNo) → i < length alternatives → s ≡ get_or alternatives i s
+    → IsFirstMatch catalogue chosen entries (specs_of (take i alternatives)) None → IsUnlistedMatch catalogue chosen entries (spec_of s) (Some n) → IsFirstMatch catalogue chosen entries (specs_of alternatives) (Some n)
+found_first catalogue chosen entries alternatives i s n lt is before here =
+    (here.0, here.1, here.3, (specs_of (take i alternatives), spec_of s, specs_of (drop (i + 1) alternatives), parts, here.2, here.4, before))
   where
     parts : specs_of alternatives ≡ specs_of (take i alternatives) ++ spec_of s ∷ specs_of (drop (i + 1) alternatives)
     parts =
@@ -277,15 +388,15 @@ found_first versions chosen entries alternatives i s n lt is before here =
 
 -- ---- the version of a need
 
-pub gives_need : (versions : List Version) (chosen entries : Set) (alternatives : List Spec) (condition : Option Cond) (n : VersionNo) → IsFirstMatch versions chosen entries alternatives (Some n) → condition_holds condition entries ≡ true
-    → IsLineState versions chosen entries (Some (Needs alternatives condition)) (state.Gives n)
-gives_need versions chosen entries alternatives condition n m holds =
-    let f = m.4 in
-    (m.0, m.1, m.2, m.3, (alternatives, condition, refl, matched, holds), (f.0, f.1, f.2, condition, ap (λ (ss : _). Some (Needs ss condition)) f.3, f.4, f.5))
+pub gives_need : (catalogue : List Line) (chosen entries : Set) (alternatives : List Spec) (condition : Option Cond) (n : VersionNo) → IsFirstMatch catalogue chosen entries alternatives (Some n) → condition_holds condition entries ≡ true
+    → IsLineState catalogue chosen entries (Some (Needs alternatives condition)) (state.Gives n)
+gives_need catalogue chosen entries alternatives condition n m holds =
+    let f = m.3 in
+    (m.0, m.1, m.2.0, m.2.1, (alternatives, condition, refl, matched, holds), (f.0, f.1, f.2, condition, ap (λ (ss : _). Some (Needs ss condition)) f.3, f.4, λ w is c out. f.5 w is (c, out), f.6))
   where
     matched : list_any (λ s. matches s m.0) alternatives ≡ true
     matched =
-        let f = m.4 in
+        let f = m.3 in
         any_from (λ s. matches s m.0) alternatives f.1 (subst (λ (ss : _). Contains ss f.1) (sym f.3) (Contains-append_right f.0 (f.1 ∷ f.2) f.1 (first_element f.1 f.2))) f.4
 
 same_need : (ss ts : List Spec) (c d : Option Cond) → ◌≡◌ {A = Option Line} (Some (Needs ss c)) (Some (Needs ts d)) → (ss ≡ ts) × (c ≡ d)
@@ -294,8 +405,8 @@ same_need ss ts c d e = (cc, cc)
 pub waits_need : (entries : Set) (alternatives : List Spec) (condition : Option Cond) → condition_holds condition entries ≡ false → IsWaiting entries (Some (Needs alternatives condition))
 waits_need entries alternatives condition fails = λ ss c e. ap (λ (x : Option Cond). condition_holds x entries) (sym (same_need alternatives ss condition c e).1) ∙ fails
 
-pub spent_need : (versions : List Version) (chosen entries : Set) (alternatives : List Spec) (condition : Option Cond) → IsFirstMatch versions chosen entries alternatives None → IsSpent chosen entries (Some (Needs alternatives condition))
-spent_need versions chosen entries alternatives condition none = λ ss c w e any in_chosen.
+pub spent_need : (catalogue : List Line) (chosen entries : Set) (alternatives : List Spec) (condition : Option Cond) → IsFirstMatch catalogue chosen entries alternatives None → IsSpent chosen entries (Some (Needs alternatives condition))
+spent_need catalogue chosen entries alternatives condition none = λ ss c w e any in_chosen.
     let f = any_element (λ s. matches s w) ss any in
     none f.0 w (subst (λ (xs : _). Contains xs f.0) (sym (same_need alternatives ss condition c e).0) f.1) f.2 in_chosen
 

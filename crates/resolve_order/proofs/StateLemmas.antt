@@ -76,7 +76,7 @@ given_left catalogue request x chosen before after put r taken h none left below
 }
 
 pub given_next : (catalogue request : List Line) (x : InstallOrder) (chosen : Set) (before after : OpenLines) (r : Reason) (n : VersionNo) → IsTaken x.lines.items before after r → AreLeft catalogue request x chosen before → IsListing catalogue request x chosen
-    → IsLineState (listed catalogue) chosen (entries_in catalogue x) (line_named catalogue request (reason_of (listed catalogue) r)) (state.Gives n) → IsFound catalogue request x chosen (Some (record { version = n; reason = r }))
+    → IsLineState catalogue chosen (entries_in catalogue x) (line_named catalogue request (reason_of (listed catalogue) r)) (state.Gives n) → IsFound catalogue request x chosen (Some (record { version = n; reason = r }))
 given_next catalogue request x chosen before after r n taken h listing is = (
   slice_get_within (listed catalogue) n.0 is.0 is.1,
   subst (IsNext catalogue request chosen (entries_in catalogue x) (reason_of (listed catalogue) r)) (sym (numbered (listed catalogue) n is.0 is.1))

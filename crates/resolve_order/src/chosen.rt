@@ -1,20 +1,22 @@
-//! The chosen versions by their packages, and which of them are entries.
+//! The chosen versions by their packages and numbers, and which of them are entries.
 //! Two sets (`Holds` of specs/Kept.antt), with the version that a line gives. `install_order` keeps
 //! it.
 
-ghost use Rattle.std.specs.Prelude.{◌≡◌, ◌++◌, ◌∷◌, [], ◌+◌, true, Contains, slice_get, Some, List, Option, IfOk, OnOk, IfSome};
-ghost use Rattle.std.specs.BTreeMap.{get_by_text};
+ghost use Rattle.std.specs.Prelude.{◌≡◌, ◌++◌, ◌∷◌, [], ℕ, ◌+◌, if◌then◌else◌, true, Contains, slice_get, Some, None, List, Option, IfOk, OnOk, IfSome};
+ghost use Rattle.std.specs.BTreeMap.{get, get_by_text};
+ghost use Rattle.std.specs.Ordering.{nat_cmp};
 ghost use Rattle.std.specs.Option.{option_copied, option_map};
 ghost use Rattle.resolvo_text.specs.Line as content;
-ghost use Rattle.resolvo_text.specs.Matches.{Set, is_met, holds, condition_holds};
+ghost use Rattle.resolvo_text.specs.Matches.{Set, same_version, is_met, holds, condition_holds};
 ghost use Rattle.resolvo_text.specs.View.{spec_of, specs_of, cond_of, condition_of};
 ghost use Rattle.resolvo_catalogue_core.specs.Listed.{listed, members, pair_version, version_at};
 ghost use Rattle.resolvo_catalogue_core.specs.Questions.{IsRuleLine};
-ghost use Rattle.resolve_order.specs.Kept.{Holds, AreOneEach, IsChosenMatch, IsUnlistedMatch, IsFirstMatch, IsRuleAt, IsLineState, IfGives, is_unlisted, unlisted};
+ghost use Rattle.resolve_order.specs.Kept.{Holds, IsLeftOver, IsNewestIn, IsFavouredOf, IsFavouredMatch, IsUnlistedMatch, IsFirstMatch, AreNumbersOf, number_at, IsRuleAt, IsLineState, IfGives, is_unlisted, unlisted};
 
-use resolvo_catalogue_core::{Catalogue, Cond, Rule, Spec, VersionNo};
+use resolvo_catalogue_core::{Catalogue, Cond, Rule, Span, Spec, VersionNo};
 use std::alloc::{AllocError, Global};
 use std::collections::BTreeMap;
+use std::ops::Bound;
 
 /// What a line gives, by what is chosen and what is an entry.
 #[derive(Clone, Copy, Debug)]
@@ -33,10 +35,94 @@ fn version_at(catalogue: &Catalogue, version: VersionNo) -> Option<&(String, u32
     catalogue.versions().get(version.0 as usize)
 }
 
+/// The versions of a package by their numbers.
+type Numbers = BTreeMap<u32, VersionNo>;
+
+/// Adds a version of the package.
+fn add_number(
+    alloc: Global,
+    packages: &mut BTreeMap<String, Numbers>,
+    listed: &(String, u32),
+    version: VersionNo,
+) -> Result<(), AllocError>
+    ensures { OnOk result
+        ((v : content.Version)
+        → number_at (get_by_text packages.new v.name) v.number
+        ≡ (if same_version (pair_version listed.now) v
+        then Some version
+        else number_at (get_by_text packages.old v.name) v.number)) }
+{
+    if let Some(numbers) = packages.get_mut(listed.0.as_str()) {
+        numbers.insert(listed.1, version)?;
+        return Ok(());
+    }
+    let mut numbers = BTreeMap::new(alloc);
+    numbers.insert(listed.1, version)?;
+    packages.insert(listed.0.clone()?, numbers)?;
+    Ok(())
+}
+
+/// Takes a version of the package out.
+fn remove_number(packages: &mut BTreeMap<String, Numbers>, listed: &(String, u32))
+    ensures { (v : content.Version)
+        → number_at (get_by_text packages.new v.name) v.number
+        ≡ (if same_version (pair_version listed.now) v
+        then None
+        else number_at (get_by_text packages.old v.name) v.number) }
+{
+    if let Some(numbers) = packages.get_mut(listed.0.as_str()) {
+        numbers.remove(&listed.1);
+    }
+}
+
+/// The version of the highest number in the span.
+fn newest_in(numbers: &Numbers, span: Span) -> Option<VersionNo>
+    ensures { IsNewestIn (get nat_cmp numbers.now) span result }
+{
+    let newest = match span {
+        Span::Any => numbers.last_key_value(),
+        Span::One(number) => numbers.get_key_value(&number),
+        Span::Range(low, high) => {
+            if low >= high {
+                return None;
+            }
+            let between = (Bound::Included(low), Bound::Excluded(high));
+            numbers.range(between).next_back()
+        }
+    };
+    match newest {
+        Some((_, version)) => Some(*version),
+        None => None,
+    }
+}
+
+/// The favoured versions of a catalogue, by their packages.
+fn favoured_by(
+    alloc: Global,
+    catalogue: &Catalogue,
+) -> Result<BTreeMap<String, VersionNo>, AllocError>
+    ensures { IfOk result
+        (λ map. (name : List ℕ) → IsFavouredOf catalogue.now name (get_by_text map name)) }
+{
+    catalogue.lines_are_in_place();
+    let mut map = BTreeMap::new(alloc);
+    for (_, version) in catalogue.favours() {
+        if let Some(listed) = version_at(catalogue, *version) {
+            map.insert(listed.0.clone()?, *version)?;
+        }
+    }
+    Ok(map)
+}
+
 #[derive(Drop)]
 pub struct Chosen {
-    /// The chosen version of each package.
-    picks: BTreeMap<String, VersionNo>,
+    alloc: Global,
+    /// The chosen versions of each package that are no entries.
+    unlisted: BTreeMap<String, Numbers>,
+    /// The entries of each package.
+    entries: BTreeMap<String, Numbers>,
+    /// The favoured version of each package.
+    favoured: BTreeMap<String, VersionNo>,
     /// Of each version of the catalogue, whether it is an entry.
     listed: Vec<bool>,
     /// The chosen versions that may be no entries yet.
@@ -45,28 +131,33 @@ pub struct Chosen {
 
 impl Chosen {
     pub fn new(alloc: Global, catalogue: &Catalogue) -> Result<Chosen, AllocError>
-        ensures { IfOk result (λ kept. Holds (listed catalogue.now) kept [] []) }
+        ensures { IfOk result (λ kept. Holds catalogue.now kept [] []) }
     {
         let mut listed = Vec::new(alloc);
         listed.resize(catalogue.versions().len(), false)?;
         Ok(Chosen {
-            picks: BTreeMap::new(alloc),
+            alloc,
+            unlisted: BTreeMap::new(alloc),
+            entries: BTreeMap::new(alloc),
+            favoured: favoured_by(alloc, catalogue)?,
             listed,
             left: Vec::new(alloc),
         })
     }
 
-    /// Adds a chosen version. A number that no version has is passed over.
+    /// Adds a chosen version. A number that no version has is passed over, and so is an entry.
     pub fn add(&mut self, catalogue: &Catalogue, version: VersionNo) -> Result<(), AllocError>
         ensures { OnOk result
             ((chosen entries : Set)
-            → Holds (listed catalogue.now) self.old chosen entries
-            → AreOneEach (chosen ++ members (listed catalogue.now) (version ∷ []))
-            → Holds (listed catalogue.now) self.new
+            → Holds catalogue.now self.old chosen entries
+            → Holds catalogue.now self.new
             (chosen ++ members (listed catalogue.now) (version ∷ [])) entries) }
     {
+        if !self.is_unlisted(version) {
+            return Ok(());
+        }
         if let Some(listed) = version_at(catalogue, version) {
-            self.picks.insert(listed.0.clone()?, version)?;
+            add_number(self.alloc, &mut self.unlisted, listed, version)?;
             self.left.push(version)?;
         }
         Ok(())
@@ -80,9 +171,8 @@ impl Chosen {
     ) -> Result<(), AllocError>
         ensures { OnOk result
             ((chosen entries : Set)
-            → Holds (listed catalogue.now) self.old chosen entries
-            → AreOneEach (chosen ++ members (listed catalogue.now) versions.now)
-            → Holds (listed catalogue.now) self.new
+            → Holds catalogue.now self.old chosen entries
+            → Holds catalogue.now self.new
             (chosen ++ members (listed catalogue.now) versions.now) entries) }
     {
         for version in versions {
@@ -102,28 +192,34 @@ impl Chosen {
     }
 
     /// Makes a chosen version an entry.
-    pub fn mark(&mut self, version: VersionNo)
+    pub fn mark(&mut self, catalogue: &Catalogue, version: VersionNo) -> Result<(), AllocError>
         requires { is_unlisted self.old.listed.items version.0 ≡ true }
-        ensures fewer { unlisted self.new.listed.items + 1 ≡ unlisted self.old.listed.items }
-        ensures marked { (versions : List content.Version) (chosen entries : Set)
-            (v : content.Version)
-            → slice_get versions version.0 ≡ Some v
+        ensures fewer { OnOk result
+            (unlisted self.new.listed.items + 1 ≡ unlisted self.old.listed.items) }
+        ensures marked { OnOk result
+            ((chosen entries : Set) (v : content.Version)
+            → slice_get (listed catalogue.now) version.0 ≡ Some v
             → Contains chosen v
-            → Holds versions self.old chosen entries
-            → Holds versions self.new chosen (entries ++ v ∷ []) }
+            → Holds catalogue.now self.old chosen entries
+            → Holds catalogue.now self.new chosen (entries ++ v ∷ [])) }
     {
+        if let Some(listed) = version_at(catalogue, version) {
+            add_number(self.alloc, &mut self.entries, listed, version)?;
+            remove_number(&mut self.unlisted, listed);
+        }
         self.listed[version.0 as usize] = true;
+        Ok(())
     }
 
     /// Whether each chosen version is seen to be an entry. Drops those that are from the end of
     /// the left ones, so that each is looked at once.
     pub fn are_all_listed(&mut self) -> bool
-        ensures holds { (versions : List content.Version) (chosen entries : Set)
-            → Holds versions self.old chosen entries
-            → Holds versions self.new chosen entries }
+        ensures holds { (catalogue : List content.Line) (chosen entries : Set)
+            → Holds catalogue self.old chosen entries
+            → Holds catalogue self.new chosen entries }
         ensures listed { result ≡ true
-            → (versions : List content.Version) (chosen entries : Set)
-            → Holds versions self.old chosen entries
+            → (catalogue : List content.Line) (chosen entries : Set)
+            → Holds catalogue self.old chosen entries
             → (v : content.Version) → Contains chosen v → Contains entries v }
     {
         while let Some(version) = self.left.last().copied() {
@@ -135,39 +231,50 @@ impl Chosen {
         true
     }
 
-    /// The chosen version of a package.
-    fn pick(&self, name: &str) -> Option<VersionNo>
-        ensures { result ≡ get_by_text self.now.picks name.now }
-    {
-        self.picks.get(name).copied()
-    }
-
-    /// The chosen version that the SPEC matches.
-    fn chosen_match(&self, catalogue: &Catalogue, spec: &Spec) -> Option<VersionNo>
+    /// The favoured version of the SPEC's package, if it is a chosen match and no entry.
+    fn favoured_match(
+        &self,
+        catalogue: &Catalogue,
+        numbers: &Numbers,
+        spec: &Spec,
+    ) -> Option<VersionNo>
         ensures { (chosen entries : Set)
-            → Holds (listed catalogue.now) self.now chosen entries
-            → IsChosenMatch (listed catalogue.now) chosen (spec_of spec.now) result }
+            → Holds catalogue.now self.now chosen entries
+            → AreNumbersOf (listed catalogue.now) (IsLeftOver chosen entries)
+            (spec_of spec.now).name (Some numbers.now)
+            → IsFavouredMatch catalogue.now chosen entries (spec_of spec.now) result }
     {
-        match self.pick(&spec.name) {
-            Some(version) => {
-                if catalogue.match_of(spec, version) {
-                    Some(version)
-                } else {
-                    None
-                }
-            }
-            None => None,
+        let version = self.favoured.get(spec.name.as_str()).copied()?;
+        let listed = version_at(catalogue, version)?;
+        if numbers.contains_key(&listed.1) && catalogue.match_of(spec, version) {
+            Some(version)
+        } else {
+            None
         }
     }
 
-    /// The chosen version that the SPEC matches, if it is no entry.
+    /// The first of the chosen versions that the SPEC matches and that are no entries: the favoured
+    /// one, or the newest.
+    fn sorted_match(&self, catalogue: &Catalogue, spec: &Spec) -> Option<VersionNo>
+        ensures { (chosen entries : Set)
+            → Holds catalogue.now self.now chosen entries
+            → IsUnlistedMatch catalogue.now chosen entries (spec_of spec.now) result }
+    {
+        let numbers = self.unlisted.get(spec.name.as_str())?;
+        match self.favoured_match(catalogue, numbers, spec) {
+            Some(version) => Some(version),
+            None => newest_in(numbers, spec.span),
+        }
+    }
+
+    /// The same, by its flag no entry.
     fn unlisted_match(&self, catalogue: &Catalogue, spec: &Spec) -> Option<VersionNo>
         ensures unlisted { IfSome result (λ n. is_unlisted self.now.listed.items n.0 ≡ true) }
         ensures matched { (chosen entries : Set)
-            → Holds (listed catalogue.now) self.now chosen entries
-            → IsUnlistedMatch (listed catalogue.now) chosen entries (spec_of spec.now) result }
+            → Holds catalogue.now self.now chosen entries
+            → IsUnlistedMatch catalogue.now chosen entries (spec_of spec.now) result }
     {
-        match self.chosen_match(catalogue, spec) {
+        match self.sorted_match(catalogue, spec) {
             Some(version) => {
                 if self.is_unlisted(version) {
                     Some(version)
@@ -183,8 +290,8 @@ impl Chosen {
     fn first_match(&self, catalogue: &Catalogue, alternatives: &[Spec]) -> Option<VersionNo>
         ensures unlisted { IfSome result (λ n. is_unlisted self.now.listed.items n.0 ≡ true) }
         ensures matched { (chosen entries : Set)
-            → Holds (listed catalogue.now) self.now chosen entries
-            → IsFirstMatch (listed catalogue.now) chosen entries (specs_of alternatives.now)
+            → Holds catalogue.now self.now chosen entries
+            → IsFirstMatch catalogue.now chosen entries (specs_of alternatives.now)
             result }
     {
         for spec in alternatives {
@@ -196,40 +303,38 @@ impl Chosen {
     }
 
     /// Whether an entry matches.
-    fn is_met(&self, catalogue: &Catalogue, spec: &Spec) -> bool
-        ensures { (chosen entries : Set)
-            → Holds (listed catalogue.now) self.now chosen entries
+    fn is_met(&self, spec: &Spec) -> bool
+        ensures { (catalogue : List content.Line) (chosen entries : Set)
+            → Holds catalogue self.now chosen entries
             → result ≡ is_met (spec_of spec.now) entries }
     {
-        match self.chosen_match(catalogue, spec) {
-            Some(version) => !self.is_unlisted(version),
+        match self.entries.get(spec.name.as_str()) {
+            Some(numbers) => newest_in(numbers, spec.span).is_some(),
             None => false,
         }
     }
 
     /// Whether the condition holds among the entries.
     // one of four such bodies, each over its own form of a set (docs/DECISIONS.md)
-    fn holds(&self, catalogue: &Catalogue, condition: &Cond) -> bool
-        ensures { (chosen entries : Set)
-            → Holds (listed catalogue.now) self.now chosen entries
+    fn holds(&self, condition: &Cond) -> bool
+        ensures { (catalogue : List content.Line) (chosen entries : Set)
+            → Holds catalogue self.now chosen entries
             → result ≡ holds (cond_of condition.now) entries }
     {
         match condition {
-            Cond::Spec(spec) => self.is_met(catalogue, spec),
-            Cond::And(left, right) => {
-                self.holds(catalogue, left) && self.holds(catalogue, right)
-            }
-            Cond::Or(left, right) => { self.holds(catalogue, left) || self.holds(catalogue, right) }
+            Cond::Spec(spec) => self.is_met(spec),
+            Cond::And(left, right) => self.holds(left) && self.holds(right),
+            Cond::Or(left, right) => self.holds(left) || self.holds(right),
         }
     }
 
-    fn condition_holds(&self, catalogue: &Catalogue, condition: &Option<Cond>) -> bool
-        ensures { (chosen entries : Set)
-            → Holds (listed catalogue.now) self.now chosen entries
+    fn condition_holds(&self, condition: &Option<Cond>) -> bool
+        ensures { (catalogue : List content.Line) (chosen entries : Set)
+            → Holds catalogue self.now chosen entries
             → result ≡ condition_holds (condition_of condition.now) entries }
     {
         match condition {
-            Some(condition) => self.holds(catalogue, condition),
+            Some(condition) => self.holds(condition),
             None => true,
         }
     }
@@ -243,13 +348,13 @@ impl Chosen {
     ) -> LineState
         ensures unlisted { IfGives result (λ n. is_unlisted self.now.listed.items n.0 ≡ true) }
         ensures state { (chosen entries : Set)
-            → Holds (listed catalogue.now) self.now chosen entries
-            → IsLineState (listed catalogue.now) chosen entries
+            → Holds catalogue.now self.now chosen entries
+            → IsLineState catalogue.now chosen entries
             (Some (content.Needs (specs_of alternatives.now) (condition_of condition.now))) result }
     {
         match self.first_match(catalogue, alternatives) {
             Some(version) => {
-                if self.condition_holds(catalogue, condition) {
+                if self.condition_holds(condition) {
                     LineState::Gives(version)
                 } else {
                     LineState::Waiting
@@ -264,9 +369,9 @@ impl Chosen {
         ensures unlisted { IfGives result (λ n. is_unlisted self.now.listed.items n.0 ≡ true) }
         ensures state { (chosen entries : Set) (versions : List content.Version)
             (owner : Option content.Version) (line : content.Line)
-            → Holds (listed catalogue.now) self.now chosen entries
+            → Holds catalogue.now self.now chosen entries
             → IsRuleLine versions rule.now owner line
-            → IsLineState (listed catalogue.now) chosen entries (Some line) result }
+            → IsLineState catalogue.now chosen entries (Some line) result }
     {
         match rule {
             Rule::Needs {
@@ -283,9 +388,9 @@ impl Chosen {
     pub fn line_state(&self, catalogue: &Catalogue, rule: Option<&Rule>) -> LineState
         ensures unlisted { IfGives result (λ n. is_unlisted self.now.listed.items n.0 ≡ true) }
         ensures state { (chosen entries : Set) (line : Option content.Line)
-            → Holds (listed catalogue.now) self.now chosen entries
+            → Holds catalogue.now self.now chosen entries
             → IsRuleAt line (option_copied rule.entry)
-            → IsLineState (listed catalogue.now) chosen entries line result }
+            → IsLineState catalogue.now chosen entries line result }
     {
         match rule {
             Some(rule) => self.rule_state(catalogue, rule),

@@ -15,7 +15,7 @@ ghost use Rattle.resolvo_catalogue_core.specs.Table.{nth};
 ghost use Rattle.resolve_order.specs.Order.{line_named, wish_entry, IsComplete, Chose, LeavesOut, AreTurns, AreReached, chosen_by, chosen_in, wishes_in};
 ghost use Rattle.resolve_order.specs.declared.entry.Answer.TheVariants as answer;
 ghost use Rattle.resolve_order.specs.View.{reason_of, answers_of, wish_at, turn_of, turns_of, IsAccepted, IsWishOf, AreNumbered, AreTurnsOf};
-ghost use Rattle.resolve_order.specs.Kept.{IsListing, IsLeft, IsFound, IsRuleAt, Extends, TakesTurn, AreOneEach, is_unlisted, unlisted, lines_to, lines_for, answers_in, entries_in};
+ghost use Rattle.resolve_order.specs.Kept.{IsListing, IsLeft, IsFound, IsRuleAt, Extends, TakesTurn, is_unlisted, unlisted, lines_to, lines_for, answers_in, entries_in};
 
 use crate::chosen::{Chosen, LineState};
 use crate::entry::{Answer, Entry, Reason, Turn};
@@ -106,7 +106,7 @@ impl InstallOrder {
             → IsListing catalogue.now request self.old chosen
             → IsListing catalogue.now request self.new chosen) }
     {
-        self.chosen.mark(entry.version);
+        self.chosen.mark(catalogue, entry.version)?;
         self.answers.push(Answer::Entry(entry))?;
         push_lines(
             &mut self.lines,
@@ -248,7 +248,6 @@ impl InstallOrder {
             ((before chosen : Set)
             → chosen ≡ before ++ members (listed catalogue.now) versions.now
             → IsListing catalogue.now request.now.lines self.old before
-            → AreOneEach chosen
             → IsAccepted (listed catalogue.now) request.now.lines chosen wish
             → TakesTurn catalogue.now request.now.lines chosen
             (Chose (option_map (wish_at (listed catalogue.now)) wish)
@@ -273,7 +272,6 @@ impl InstallOrder {
             ((before chosen : Set)
             → chosen ≡ before ++ chosen_by (turn_of (listed catalogue.now) turn.now)
             → IsListing catalogue.now request.now.lines self.old before
-            → AreOneEach chosen
             → IsWishOf (listed catalogue.now) request.now.lines chosen turn.now
             → TakesTurn catalogue.now request.now.lines chosen
             (turn_of (listed catalogue.now) turn.now) self.old self.new) }

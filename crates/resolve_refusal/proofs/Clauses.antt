@@ -2,7 +2,7 @@
 use Rattle.std.proofs.Common.{◌≡◌, ◌==◌, inl, inr, ℕ, zero, suc, ◌/◌, Bool, true, false, List, [], ◌∷◌, ◌++◌, map, length, Option, Some, None, refl, sym, ap, subst, ◌∙◌, arith}
 use Rattle.std.specs.Prelude.{◌&&◌, ◌<◌, not, filter, option_map, unwrap_or, Contains, slice_get, slice_index_or, nat_lt}
 use Rattle.std.specs.Int.{bit_at}
-use Rattle.std.proofs.lemmas.Bool.{and_parts, and_from, eqb-true}
+use Rattle.std.proofs.lemmas.Bool.{cases_Bool, and_parts, and_from, eqb-true}
 use Rattle.std.proofs.lemmas.Bool.Decides.{Decides-ltb}
 use Rattle.std.proofs.lemmas.Option.{slice_get-get_or, slice_get_within, get_or_from_slice_get, unwrap_or-slice_get}
 use Rattle.std.proofs.lemmas.Nat.Bits.{bit_at_lowest, bit_at-suc}
@@ -10,6 +10,7 @@ use Rattle.resolvo_text.specs.Line.{Version, Spec, Cond, Line, Needs, Limits}
 use Rattle.resolvo_text.specs.Matches as lines
 use Rattle.resolvo_catalogue_core.specs.Listed.{listed}
 use Rattle.resolvo_catalogue_core.specs.Questions.{ReadRequest}
+use Rattle.resolvo_catalogue_core.specs.Sets.{is_many}
 use Rattle.resolvo_catalogue_core.proofs.PlaceLemmas.{at_from_contains, contains_from_at}
 use Rattle.resolvo_pool_core.specs.declared.id.VersionSetId.{VersionSetId}
 use Rattle.resolvo_pool_core.specs.declared.id.StringId.{StringId}
@@ -23,7 +24,7 @@ use Rattle.resolvo_pool_core.specs.RuleKeeping.{rules_of, rules_for}
 use Rattle.resolvo_pool_core.specs.RuleKeeping as pool_rules
 use Rattle.resolvo_pool_core.specs.Text.{alternatives_of}
 use Rattle.resolvo_store_core.specs.AtMostOne.{digit}
-use Rattle.resolvo_sat.specs.RuleClauses.{Atom, Rule, IsExact, plus, minus, solvables, parent_literals, case_literals, candidate_literals, same_requirement, has_plain_need, has_condition, literals_of}
+use Rattle.resolvo_sat.specs.RuleClauses.{Atom, Rule, IsExact, plus, minus, solvables, parent_literals, set_literals, case_literals, candidate_literals, AreMatched, same_requirement, has_plain_need, has_condition, literals_of}
 use Rattle.resolvo_sat.proofs.Lists.{contains_none, contains_cases, contains_first, contains_later, contains_left, contains_right, contains_parts, contains_map, map_contains, contains_filter, filter_contains, any_contained, contained_all}
 use Rattle.resolvo_state.specs.declared.atom.ProofAtom.{ProofAtom}
 use Rattle.resolvo_state.specs.declared.atom.ProofAtom.TheVariants as atom
@@ -40,7 +41,7 @@ use Rattle.resolvo_catalogue.specs.KeptSets.{DistinguishesIds, root_of}
 use Rattle.resolvo_catalogue.specs.declared.provider.RequestIds.{RequestIds}
 use Rattle.resolvo_catalogue.specs.declared.id_table.Numbers.{Numbers}
 use Rattle.resolvo_catalogue.proofs.Alike.{member_place, listed_is, is_package, match_same, in_from, in_to, outside_same}
-use Rattle.resolvo_catalogue.proofs.KeptAlike.{its_version}
+use Rattle.resolvo_catalogue.proofs.KeptAlike.{its_version, package_alike, mark_alike}
 use Rattle.resolvo_catalogue.proofs.RulesKept.{con_from}
 use Rattle.resolvo_catalogue.proofs.MarkLemmas.{one_some}
 use Rattle.resolvo_catalogue.proofs.Places.{each_left}
@@ -185,17 +186,50 @@ module _ (catalogue : List Line) (provider : Provider) (over : IsOver catalogue 
         → Spells (solvables (filter (λ x. not (matches provider w x)) (pool.listed (candidates_of provider (set_at provider.ids w).0)))) (judge.each_listed catalogue (judge.is_outside s))
     others_spelled w s spec = tested_spelled w (λ x. not (matches provider w x)) (judge.is_outside s) (λ x v e. outside_same provider (listed catalogue) over.versions over.once same apart w s x v spec e)
 
-    -- a case of a condition, and its SPECs
-    case_spelled : (vs : List VersionSetId) (ss : List Spec) → AreEach (IsSpec provider.ids) vs ss → Spells (case_literals same (packages_of provider) vs) (judge.case_fails catalogue ss)
-    case_spelled [] [] h = spelled_none
-    case_spelled [] (s ∷ ss) h = absurd h
-    case_spelled (v ∷ vs) [] h = absurd h
-    case_spelled (v ∷ vs) (s ∷ ss) h =
-        let (n, e, named) = h.0 in
+    -- a candidate that a version set matches is a listed version, which its SPEC matches
+    pub is_its_match : (v : VersionSetId) (spec : Spec) (s : SolvableId) → IsSpec provider.ids v spec → pool_rules.is_match same (packages_of provider) v s ≡ true
+        → IsVersion catalogue provider.ids s × (lines.matches (spec_at provider.ids v) (version_at catalogue s) ≡ true)
+    is_its_match v spec s is match =
+        let among = in_from provider (listed catalogue) over.versions over.once same apart (pool.listed (candidates_of provider (set_at provider.ids v).0)) s (and_parts _ _ match).0 in
+        let (w, e) = candidate_listed (set_at provider.ids v).0 s among in
+        let matched : lines.matches spec w ≡ true = sym (match_same provider (listed catalogue) over.versions over.once same apart v spec s w is e) ∙ match in
+        let named : spec ≡ spec_at provider.ids v = sym (spec_is catalogue provider over v spec is) in
+        let at : w ≡ version_at catalogue s = sym (version_is catalogue provider over s w e) in
+        ((w, e), subst (λ (x : Spec). lines.matches x (version_at catalogue s) ≡ true) named (subst (λ (x : Version). lines.matches spec x ≡ true) at matched))
+
+    -- the package of a version set
+    set_package : (v : VersionSetId) (s : Spec) → IsSpec provider.ids v s → IsPackage provider.ids (set_at provider.ids v).0 s.name
+    set_package v s (n, e, named) =
         let set : (set_at provider.ids v).0 ≡ n = ap (λ (x : NameId × Numbers). x.0) (get_or_from_slice_get provider.ids.version_sets v.0 _ _ e) in
-        let its : IsPackage provider.ids (set_at provider.ids v).0 s.name = subst (λ (m : NameId). IsPackage provider.ids m s.name) (sym set) named in
-        let text : s.name ≡ name_text provider.ids (set_at provider.ids v).0 = sym (name_is catalogue provider over (set_at provider.ids v).0 s.name its) in
-        spelled_more (minus (Atom.any_of (set_at provider.ids v).0)) _ _ _ (s.name, its) (λ i. record { atom = in_report.AnyOf (text i); positive = false }) (spelled_append _ _ _ _ (others_spelled v s h.0) (case_spelled vs ss h.1))
+        subst (λ (m : NameId). IsPackage provider.ids m s.name) (sym set) named
+
+    -- the provider and the lines mark the package of a version set alike, which has a match
+    pub set_alike : (v : VersionSetId) (s : Spec) (x : SolvableId) → IsSpec provider.ids v s → pool_rules.is_match same (packages_of provider) v x ≡ true
+        → pool_rules.is_many (packages_of provider) (set_at provider.ids v).0 ≡ is_many catalogue s.name
+    set_alike v s x is match =
+        let n = (set_at provider.ids v).0 in
+        let among = in_from provider (listed catalogue) over.versions over.once same apart (pool.listed (candidates_of provider n)) x (and_parts _ _ match).0 in
+        package_alike provider catalogue over same apart n s.name (set_package v s is) x (subst (λ (xs : List SolvableId). Contains xs x) (listed_is provider (solvables_of provider.ids n.raw)) among)
+
+    -- a version set of a case, and its SPEC
+    set_spelled : (v : VersionSetId) (s : Spec) → IsSpec provider.ids v s → (x : SolvableId) × (pool_rules.is_match same (packages_of provider) v x ≡ true) → Spells (set_literals same (packages_of provider) v) (judge.spec_fails catalogue s)
+    set_spelled v s is (x, match) =
+        let n = (set_at provider.ids v).0 in
+        let alike = set_alike v s x is match in
+        let its = set_package v s is in
+        let text : s.name ≡ name_text provider.ids n = sym (name_is catalogue provider over n s.name its) in
+        let spec : s ≡ spec_at provider.ids v = sym (spec_is catalogue provider over v s is) in
+        elim (cases_Bool (is_many catalogue s.name)) [
+          | inl many ↦ rw (alike ∙ many, many) (spelled_more (minus (Atom.matches v)) _ [] [] (s, is) (λ i. record { atom = in_report.MatchesOf (spec i); positive = false }) spelled_none)
+          | inr one ↦ rw (alike ∙ one, one) (spelled_more (minus (Atom.any_of n)) _ _ _ (s.name, its) (λ i. record { atom = in_report.AnyOf (text i); positive = false }) (others_spelled v s is))
+        ]
+
+    -- a case of a condition, whose version sets have matches, and its SPECs
+    case_spelled : (vs : List VersionSetId) (ss : List Spec) → AreEach (IsSpec provider.ids) vs ss → AreMatched same (packages_of provider) vs → Spells (case_literals same (packages_of provider) vs) (judge.case_fails catalogue ss)
+    case_spelled [] [] h matched = spelled_none
+    case_spelled [] (s ∷ ss) h matched = absurd h
+    case_spelled (v ∷ vs) [] h matched = absurd h
+    case_spelled (v ∷ vs) (s ∷ ss) h matched = spelled_append _ _ _ _ (set_spelled v s h.0 (matched v (contains_first v v vs refl))) (case_spelled vs ss h.1 (λ w a. matched w (contains_later w v vs a)))
 
     candidates_spelled : (vs : List VersionSetId) (ss : List Spec) → AreEach (IsSpec provider.ids) vs ss → Spells (candidate_literals same (packages_of provider) vs) (judge.some_match catalogue ss)
     candidates_spelled [] [] h = spelled_none
@@ -255,15 +289,15 @@ module _ (catalogue : List Line) (provider : Provider) (over : IsOver catalogue 
     IsSpelled request c step = (d : judge.Clause) × (judge.clause_of catalogue request step ≡ Some d) × Spells c d
 
     pub need_spelled : (request : List Line) (parent : Option SolvableId) (r : Requirement) (case : List VersionSetId) (line k : ℕ) → ((s : SolvableId) → parent ≡ Some s → IsVersion catalogue provider.ids s) → IsRequirement catalogue provider.ids r
-        → (specs : List Spec) × AreEach (IsSpec provider.ids) case specs → IsOfPlace catalogue request (place_at catalogue parent) (NeedsAs (alternatives_at provider.ids r) (map (spec_at provider.ids) case) k) line
+        → (specs : List Spec) × AreEach (IsSpec provider.ids) case specs → AreMatched same (packages_of provider) case → IsOfPlace catalogue request (place_at catalogue parent) (NeedsAs (alternatives_at provider.ids r) (map (spec_at provider.ids) case) k) line
         → IsSpelled request (parent_literals parent ++ (case_literals same (packages_of provider) case ++ candidate_literals same (packages_of provider) (alternatives_of (members_of provider.ids) r))) (in_report.Need (place_at catalogue parent) line k)
-    need_spelled request parent r case line k listed known (specs, each) (l, is_line, (condition, is, (at, first))) =
+    need_spelled request parent r case line k listed known (specs, each) matched (l, is_line, (condition, is, (at, first))) =
         let line_is : judge.line_of catalogue request (place_at catalogue parent) line ≡ Some (Needs (alternatives_at provider.ids r) condition) = is_line ∙ ap (λ (x : Line). Some x) is in
         let cased : judge.case_at condition k ≡ Some specs = at ∙ ap (λ (ss : List Spec). Some ss) (specs_are catalogue provider over case specs each) in (
           judge.place_fails (place_at catalogue parent) ++ (judge.case_fails catalogue specs ++ judge.some_match catalogue (alternatives_at provider.ids r)),
           ap (judge.need_clause catalogue (place_at catalogue parent) k) line_is
               ∙ ap (option_map (λ ss. judge.place_fails (place_at catalogue parent) ++ (judge.case_fails catalogue ss ++ judge.some_match catalogue (alternatives_at provider.ids r)))) cased,
-          spelled_append _ _ _ _ (fails_spelled parent listed) (spelled_append _ _ _ _ (case_spelled case specs each) (alternatives_spelled r known)),
+          spelled_append _ _ _ _ (fails_spelled parent listed) (spelled_append _ _ _ _ (case_spelled case specs each matched) (alternatives_spelled r known)),
         )
 
     pub gate_spelled : (request : List Line) (s : SolvableId) (r : Requirement) (line : ℕ) → IsVersion catalogue provider.ids s → IsRequirement catalogue provider.ids r
@@ -279,17 +313,18 @@ module _ (catalogue : List Line) (provider : Provider) (over : IsOver catalogue 
         → IsSpelled request (minus (Atom.gate r) ∷ candidate_literals same (packages_of provider) (alternatives_of (members_of provider.ids) r)) (in_report.Shared (alternatives_at provider.ids r))
     shared_spelled request r known = (_, refl, spelled_more (minus (Atom.gate r)) _ _ _ known refl (alternatives_spelled r known))
 
-    pub digit_spelled : (request : List Line) (s : SolvableId) (place bit : ℕ) → IsVersion catalogue provider.ids s → bit < 32
+    pub digit_spelled : (request : List Line) (s : SolvableId) (place bit : ℕ) → IsVersion catalogue provider.ids s → bit < 32 → pool_rules.is_many (packages_of provider) (name_of provider.ids s) ≡ false
         → IsSpelled request (literals_of same (packages_of provider) (Rule.has_digit s bit (digit place bit))) (in_report.Digit (version_at catalogue s) place bit)
-    digit_spelled request s place bit known below =
+    digit_spelled request s place bit known below unmarked =
         let (v, e) = known in
         let at : version_at catalogue s ≡ v = version_is catalogue provider over s v e in
         let packaged = is_package provider (listed catalogue) over.versions over.once same apart s v e in
         let text : (version_at catalogue s).name ≡ name_text provider.ids (name_of provider.ids s) = ap (λ (x : Version). x.name) at ∙ sym (name_is catalogue provider over (name_of provider.ids s) v.name packaged) in
         let lists : judge.is_listed catalogue (version_at catalogue s) ≡ true = is_listed s known in
+        let one : is_many catalogue (version_at catalogue s).name ≡ false = ap (λ (x : Version). is_many catalogue x.name) at ∙ (sym (mark_alike provider catalogue over same apart s v e) ∙ unmarked) in
         let within : nat_lt bit 32 ≡ true = (Decides-ltb bit 32).1 below in (
           judge.not_in (version_at catalogue s) ∷ judge.literal (in_report.BitOf bit (version_at catalogue s).name) (bit_at place bit == 1) ∷ [],
-          rw (lists, within) refl,
+          rw (lists, one, within) refl,
           spelled_more (minus (Atom.solvable s)) _ _ _ known refl (spelled_more _ _ [] [] (v.name, packaged) (λ i. record { atom = in_report.BitOf bit (text i); positive = sym (digit_bit place bit) i }) spelled_none),
         )
 
@@ -349,6 +384,18 @@ module _ (catalogue : List Line) (provider : Provider) (over : IsOver catalogue 
           spelled_more (minus (Atom.solvable s)) _ _ _ version refl (spelled_more (plus (Atom.outside v)) _ [] [] (spec, is) refl spelled_none),
         )
 
+    pub match_spelled : (request : List Line) (v : VersionSetId) (s : SolvableId) → (spec : Spec) × IsSpec provider.ids v spec → pool_rules.is_match same (packages_of provider) v s ≡ true
+        → pool_rules.is_many (packages_of provider) (set_at provider.ids v).0 ≡ true
+        → IsSpelled request (minus (Atom.solvable s) ∷ plus (Atom.matches v) ∷ []) (in_report.Matches (spec_at provider.ids v) (version_at catalogue s))
+    match_spelled request v s (spec, is) match marked =
+        let (version, matched) = is_its_match v spec s is match in
+        let lists : judge.is_listed catalogue (version_at catalogue s) ≡ true = is_listed s version in
+        let many : is_many catalogue (spec_at provider.ids v).name ≡ true = ap (λ (x : Spec). is_many catalogue x.name) (spec_is catalogue provider over v spec is) ∙ (sym (set_alike v spec s is match) ∙ marked) in (
+          judge.not_in (version_at catalogue s) ∷ judge.literal (in_report.MatchesOf (spec_at provider.ids v)) true ∷ [],
+          rw (lists, matched, many) refl,
+          spelled_more (minus (Atom.solvable s)) _ _ _ version refl (spelled_more (plus (Atom.matches v)) _ [] [] (spec, is) refl spelled_none),
+        )
+
     -- a candidate of a package is a version of it
     pub candidate_of : (n : NameId) (s : SolvableId) → pool_rules.is_in same (packages_of provider) (pool.listed (candidates_of provider n)) s ≡ true → IsVersion catalogue provider.ids s × IsPackage provider.ids n (version_at catalogue s).name
     candidate_of n s h =
@@ -381,13 +428,15 @@ module _ (catalogue : List Line) (provider : Provider) (over : IsOver catalogue 
   known_atom (atom.AtLeastOne n) (name, is, fits) = (name, is)
   known_atom (atom.Gate r) (ss, are, fit) = (ss, are)
   known_atom (atom.Outside v) (s, is, fits) = (s, is)
-  known_atom (atom.Bit n bit) ((name, is, fits), below) = (name, is)
+  known_atom (atom.Matches v) ((s, is, fits), many) = (s, is)
+  known_atom (atom.Bit n bit) ((name, is, fits), below, one) = (name, is)
 
   named_atom : (a : ProofAtom NameId SolvableId) → name catalogue provider over (atom_of a) ≡ atom_at catalogue provider.ids a
   named_atom (atom.Solvable s) = refl
   named_atom (atom.AtLeastOne n) = refl
   named_atom (atom.Gate r) = refl
   named_atom (atom.Outside v) = refl
+  named_atom (atom.Matches v) = refl
   named_atom (atom.Bit n bit) = refl
 
   is_atom : (a : ProofAtom NameId SolvableId) → IsKnownAtom catalogue provider.ids a → judge.is_atom catalogue (atom_at catalogue provider.ids a) ≡ true
@@ -395,7 +444,8 @@ module _ (catalogue : List Line) (provider : Provider) (over : IsOver catalogue 
   is_atom (atom.AtLeastOne n) h = refl
   is_atom (atom.Gate r) h = refl
   is_atom (atom.Outside v) h = refl
-  is_atom (atom.Bit n bit) h = refl
+  is_atom (atom.Matches v) (known, many) = many
+  is_atom (atom.Bit n bit) (known, below, one) = rw one refl
 
   named_literal : (l : ProofLiteral NameId SolvableId) → name_literal catalogue provider over (literal_in l) ≡ judge.literal_of (literal_at catalogue provider.ids l)
   named_literal l i = record { atom = named_atom l.atom i; positive = l.positive }

@@ -17,7 +17,7 @@ use Rattle.resolvo_proof.specs.Steps.{literal_in}
 use Rattle.resolvo_proof.specs.declared.step.ProofLiteral.{ProofLiteral}
 use Rattle.resolvo_proof.specs.declared.step.ProofStep.{ProofStep}
 use Rattle.resolvo_proof.specs.declared.step.ProofStep.TheVariants.{Rule, Derived}
-use Rattle.resolvo_proof.specs.declared.step.ProofRule.TheVariants.{Needs as NeedsRule, GateOf, Shared, Limit, Outside, Locked, Excluded, Digit, AtLeastOne}
+use Rattle.resolvo_proof.specs.declared.step.ProofRule.TheVariants.{Needs as NeedsRule, GateOf, Shared, Limit, Outside, Locked, Excluded, Digit, AtLeastOne, Matches as MatchesRule}
 use Rattle.resolvo_catalogue.specs.Ids.{NameId, SolvableId}
 use Rattle.resolvo_catalogue.specs.Known.{alternatives_at, word_text}
 use Rattle.resolvo_catalogue.specs.Provider.{Provider, packages_of, dependencies_of}
@@ -39,8 +39,8 @@ use Rattle.resolve_refusal.specs.StepRules.{NamesRule}
 use Rattle.resolve_refusal.specs.Refusal.{IsVersion, IsKnownAtom, AreLiterals, IsForbiddenBy, IsWrittenAs, IsProofOver, Refutes}
 use Rattle.resolve_refusal.specs.Parts.{IsRefusalOf, IsRefusedBy}
 use Rattle.resolve_refusal.proofs.RenameLemmas.{named_once}
-use Rattle.resolve_refusal.proofs.Clauses.{Spells, spelled_members, asked_for, gate_asked, limited, is_out, candidate_of, literals_spelled}
-use Rattle.resolve_refusal.proofs.Taken.{out_is}
+use Rattle.resolve_refusal.proofs.Clauses.{Spells, spelled_members, asked_for, gate_asked, limited, is_out, is_its_match, candidate_of, literals_spelled}
+use Rattle.resolve_refusal.proofs.Taken.{out_is, match_is}
 use Rattle.resolve_refusal.proofs.FollowLemmas.{owned, digit_known}
 use Rattle.resolve_refusal.proofs.ForbidLemmas.{forbidden_version, lock_forbids, word_forbids}
 use Rattle.resolve_refusal.proofs.AcceptLemmas.{refusal_of}
@@ -134,7 +134,7 @@ module _ (catalogue : List Line) (source : ReadRequest) (provider : Provider) (s
   -- the step has a text
   pub step_fits : (n : ℕ) (s : ProofStep NameId SolvableId) (t : Step) → slice_get steps n ≡ Some s → NamesRule catalogue source.lines provider.ids s t → IsWrittenAs catalogue provider.ids source.lines s t → IsStep t
   step_fits n (Rule (NeedsRule parent r case)) t at names_rule is_named =
-      let (condition, (needs, cases)) = proves.proof n _ at in
+      let (condition, (needs, cases, matched)) = proves.proof n _ at in
       let (versions, known) = asked_for catalogue provider proves.over proves.same proves.exact source proves.ids proves.asked parent (record { condition = condition; requirement = r }) needs in
       let (line, k, number, is, first) = need_written catalogue source provider steps proves few n parent r case t at names_rule in
       let (l, parsed, needing) = first.parsed in
@@ -166,12 +166,18 @@ module _ (catalogue : List Line) (source : ReadRequest) (provider : Provider) (s
   step_fits n (Rule (Locked locked s)) t at names_rule by = (let (condition, forbids) = proves.proof n _ at in forbid_fits s t (forbidden_version catalogue provider proves.over proves.same proves.exact s (ForbidReason.lock locked) forbids) (lock_forbids catalogue (version_at catalogue s) t by))
   step_fits n (Rule (Excluded s reason)) t at names_rule by = (let (condition, forbids) = proves.proof n _ at in forbid_fits s t (forbidden_version catalogue provider proves.over proves.same proves.exact s (ForbidReason.word reason) forbids) (word_forbids catalogue (version_at catalogue s) (word_text provider.ids reason) t by))
   step_fits n (Rule (Digit s place bit)) t at names_rule is =
-      let (version, below) = digit_known catalogue source provider steps proves n s place bit at in
+      let (version, below, one) = digit_known catalogue source provider steps proves n s place bit at in
       subst (λ (x : Step). IsStep x) (sym is) (version_fits catalogue provider proves.over s version, names_rule, below)
   step_fits n (Rule (AtLeastOne m s)) t at names_rule is =
       let (condition, there) = proves.proof n _ at in
       let (version, packaged) = candidate_of catalogue provider proves.over proves.same proves.exact m s there in
       subst (λ (x : Step). IsStep x) (sym is) (version_fits catalogue provider proves.over s version)
+  step_fits n (Rule (MatchesRule v s)) t at names_rule is =
+      let (condition, rule) = proves.proof n _ at in
+      let (match, many) = match_is proves.same (packages_of provider) (root_of proves.ids) v s rule in
+      let (spec, named, fits) = proves.known n _ at in
+      let (version, matched) = is_its_match catalogue provider proves.over proves.same proves.exact v spec s named match in
+      subst (λ (x : Step). IsStep x) (sym is) (subst (λ (x : Spec). form.IsSpec x) (sym (spec_is provider.ids v spec named)) fits, version_fits catalogue provider proves.over s version)
   step_fits n (Derived literals causes) t at (v, of, same, rising) (written, is, are) =
       let refutes = proves.proof n _ at in
       let one : v ≡ written = one_clause (sym of ∙ is) in

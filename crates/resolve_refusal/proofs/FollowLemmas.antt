@@ -18,7 +18,8 @@ use Rattle.resolvo_proof.specs.Steps.{literal_in, clause_of, clause_at}
 use Rattle.resolvo_proof.specs.declared.step.ProofLiteral.{ProofLiteral}
 use Rattle.resolvo_proof.specs.declared.step.ProofStep.{ProofStep}
 use Rattle.resolvo_proof.specs.declared.step.ProofStep.TheVariants.{Rule, Derived}
-use Rattle.resolvo_proof.specs.declared.step.ProofRule.TheVariants.{Needs as NeedsRule, GateOf, Shared, Limit, Outside, Locked, Excluded, Digit, AtLeastOne}
+use Rattle.resolvo_proof.specs.declared.step.ProofRule.TheVariants.{Needs as NeedsRule, GateOf, Shared, Limit, Outside, Locked, Excluded, Digit, AtLeastOne, Matches as MatchesRule}
+use Rattle.resolvo_pool_core.specs.RuleKeeping.{is_many}
 use Rattle.resolvo_catalogue.specs.Ids.{NameId, SolvableId}
 use Rattle.resolvo_catalogue.specs.Known.{name_of, spec_at, alternatives_at, word_text}
 use Rattle.resolvo_catalogue.specs.Provider.{Provider, packages_of}
@@ -37,10 +38,10 @@ use Rattle.resolve_refusal.specs.Named as named
 use Rattle.resolve_refusal.specs.RefusedReport.{version_at, place_at}
 use Rattle.resolve_refusal.specs.Refusal.{IsVersion, IsWrittenAs, AreLiterals, IsProofOver, Refutes}
 use Rattle.resolve_refusal.proofs.RenameLemmas.{IsKnownClause, name_clause, version_is, pass_alike}
-use Rattle.resolve_refusal.proofs.Taken.{out_is}
+use Rattle.resolve_refusal.proofs.Taken.{out_is, match_is}
 use Rattle.resolve_refusal.proofs.Cases.{case_specs}
 use Rattle.resolve_refusal.proofs.ForbidLemmas.{forbid_rule, by_forbid, forbidden_version, lock_forbids, word_forbids}
-use Rattle.resolve_refusal.proofs.Clauses.{Spells, IsSpelled, spelled_members, asked_for, gate_asked, need_spelled, gate_spelled, shared_spelled, limited, limit_spelled, limit_forbids_spelled, outside_spelled, candidate_of, any_spelled, forbid_spelled, digit_spelled, literals_spelled, derived_spelled}
+use Rattle.resolve_refusal.proofs.Clauses.{Spells, IsSpelled, spelled_members, asked_for, gate_asked, need_spelled, gate_spelled, shared_spelled, limited, limit_spelled, limit_forbids_spelled, outside_spelled, match_spelled, candidate_of, any_spelled, forbid_spelled, digit_spelled, literals_spelled, derived_spelled}
 
 -- ---- lists, place by place
 
@@ -70,6 +71,7 @@ rests c r (in_report.LimitBars (in_report.OfVersion w) line v) in_c in_r = in_c 
 rests c r (in_report.Limit in_report.OfRequest line) in_c in_r = in_r line refl
 rests c r (in_report.Limit (in_report.OfVersion v) line) in_c in_r = in_c line refl
 rests c r (in_report.Outside s v) in_c in_r = refl
+rests c r (in_report.Matches s v) in_c in_r = refl
 rests c r (in_report.Lock line v) in_c in_r = in_c line refl
 rests c r (in_report.Exclude line) in_c in_r = in_c line refl
 rests c r (in_report.Unknown line) in_c in_r = in_c line refl
@@ -118,6 +120,7 @@ module _ (catalogue : List Line) (source : ReadRequest) (provider : Provider) (s
   line_rule of (Rule (Excluded s reason)) t n forbids e = (let (line, l, at, rule, in_text) = forbid_rule catalogue (version_at catalogue s) t (word_forbids catalogue (version_at catalogue s) (word_text provider.ids reason) t forbids) in (l, in_catalogue_text catalogue source.lines of line n l at (sym (in_text of) ∙ e), rule))
   line_rule of (Rule (Digit s place bit)) t n is e = absurd (let g : line_in of (in_report.Digit (version_at catalogue s) place bit) ≡ Some n = subst (λ (x : in_report.Step). line_in of x ≡ Some n) is e in cc)
   line_rule of (Rule (AtLeastOne m s)) t n is e = absurd (let g : line_in of (in_report.Any (version_at catalogue s)) ≡ Some n = subst (λ (x : in_report.Step). line_in of x ≡ Some n) is e in cc)
+  line_rule of (Rule (MatchesRule v s)) t n is e = absurd (let g : line_in of (in_report.Matches (spec_at provider.ids v) (version_at catalogue s)) ≡ Some n = subst (λ (x : in_report.Step). line_in of x ≡ Some n) is e in cc)
   line_rule of (Derived literals causes) t n (written, is, are) e = absurd (let g : line_in of (in_report.Derive written (map suc causes.items)) ≡ Some n = subst (λ (x : in_report.Step). line_in of x ≡ Some n) is e in cc)
 
   -- ---- clauses
@@ -125,21 +128,21 @@ module _ (catalogue : List Line) (source : ReadRequest) (provider : Provider) (s
   abbrev IsClauseOf : ProofStep NameId SolvableId → in_report.Step → Type 0
   IsClauseOf s t = IsSpelled catalogue provider proves.over proves.same proves.exact source.lines (clause_of proves.same (packages_of provider) s) t
 
-  -- the digit of a step is one of the first 32, of a version's place
-  pub digit_known : (n : ℕ) (s : SolvableId) (place bit : ℕ) → slice_get steps n ≡ Some (Rule (Digit s place bit)) → IsVersion catalogue provider.ids s × (bit < 32)
+  -- the digit of a step is one of the first 32, of a version's place, whose package isn't marked `many`
+  pub digit_known : (n : ℕ) (s : SolvableId) (place bit : ℕ) → slice_get steps n ≡ Some (Rule (Digit s place bit)) → IsVersion catalogue provider.ids s × (bit < 32) × (is_many (packages_of provider) (name_of provider.ids s) ≡ false)
   digit_known n s place bit at =
-      let (condition, (among, below)) = proves.proof n _ at in
+      let (condition, (among, below, one)) = proves.proof n _ at in
       let (version, packaged) = candidate_of catalogue provider proves.over proves.same proves.exact (name_of provider.ids s) s among in
-      (version, below)
+      (version, below, one)
 
   -- the clause of a written step spells that of the proof's step
   step_spelled : (n : ℕ) (s : ProofStep NameId SolvableId) (t : in_report.Step) → slice_get steps n ≡ Some s → IsWrittenAs catalogue provider.ids source.lines s t → IsClauseOf s t
   step_spelled n (Rule (NeedsRule parent r case)) t at (line, k, is, first) =
-      let (condition, (needs, cases)) = proves.proof n _ at in
+      let (condition, (needs, cases, matched)) = proves.proof n _ at in
       let (versions, (x, (alternatives, conditioned))) = asked_for catalogue provider proves.over proves.same proves.exact source proves.ids proves.asked parent (record { condition = condition; requirement = r }) needs in
       let (specs, among, each) = case_specs provider.ids proves.over.once.below condition x.1 conditioned case.items cases in
       subst (λ (y : in_report.Step). IsClauseOf (Rule (NeedsRule parent r case)) y) (sym is)
-      (need_spelled catalogue provider proves.over proves.same proves.exact source.lines parent r case.items line k versions (x.0, alternatives) (specs, each) first.parsed)
+      (need_spelled catalogue provider proves.over proves.same proves.exact source.lines parent r case.items line k versions (x.0, alternatives) (specs, each) matched first.parsed)
   step_spelled n (Rule (GateOf s r)) t at (line, is, first) =
       let (condition, asks) = proves.proof n _ at in
       let (version, known) = gate_asked catalogue provider proves.over proves.same proves.exact s r asks in
@@ -163,11 +166,16 @@ module _ (catalogue : List Line) (source : ReadRequest) (provider : Provider) (s
   step_spelled n (Rule (Locked locked s)) t at by = (let (condition, forbids) = proves.proof n _ at in forbid_spelled catalogue provider proves.over proves.same proves.exact source.lines s t (forbidden_version catalogue provider proves.over proves.same proves.exact s (ForbidReason.lock locked) forbids) (lock_forbids catalogue (version_at catalogue s) t by))
   step_spelled n (Rule (Excluded s reason)) t at by = (let (condition, forbids) = proves.proof n _ at in forbid_spelled catalogue provider proves.over proves.same proves.exact source.lines s t (forbidden_version catalogue provider proves.over proves.same proves.exact s (ForbidReason.word reason) forbids) (word_forbids catalogue (version_at catalogue s) (word_text provider.ids reason) t by))
   step_spelled n (Rule (Digit s place bit)) t at is =
-      let (version, below) = digit_known n s place bit at in
-      subst (λ (x : in_report.Step). IsClauseOf (Rule (Digit s place bit)) x) (sym is) (digit_spelled catalogue provider proves.over proves.same proves.exact source.lines s place bit version below)
+      let (version, below, one) = digit_known n s place bit at in
+      subst (λ (x : in_report.Step). IsClauseOf (Rule (Digit s place bit)) x) (sym is) (digit_spelled catalogue provider proves.over proves.same proves.exact source.lines s place bit version below one)
   step_spelled n (Rule (AtLeastOne m s)) t at is =
       let (condition, there) = proves.proof n _ at in
       subst (λ (x : in_report.Step). IsClauseOf (Rule (AtLeastOne m s)) x) (sym is) (any_spelled catalogue provider proves.over proves.same proves.exact source.lines m s there)
+  step_spelled n (Rule (MatchesRule v s)) t at is =
+      let (condition, rule) = proves.proof n _ at in
+      let (match, many) = match_is proves.same (packages_of provider) (root_of proves.ids) v s rule in
+      let (spec, known, fits) = proves.known n _ at in
+      subst (λ (x : in_report.Step). IsClauseOf (Rule (MatchesRule v s)) x) (sym is) (match_spelled catalogue provider proves.over proves.same proves.exact source.lines v s (spec, known) match many)
   step_spelled n (Derived literals causes) t at (written, is, are) =
       let known = proves.known n _ at in
       subst (λ (x : in_report.Step). IsClauseOf (Derived literals causes) x) (sym is)
@@ -211,13 +219,14 @@ module _ (catalogue : List Line) (source : ReadRequest) (provider : Provider) (s
     no_other_place n m s place bit (Rule (Locked locked q)) u at there lock = by_forbid catalogue (version_at catalogue q) u (allows_place (version_at catalogue s) place) true (λ l. refl) (λ l. refl) (λ l. refl) (lock_forbids catalogue (version_at catalogue q) u lock)
     no_other_place n m s place bit (Rule (Excluded q reason)) u at there forbids = by_forbid catalogue (version_at catalogue q) u (allows_place (version_at catalogue s) place) true (λ l. refl) (λ l. refl) (λ l. refl) (word_forbids catalogue (version_at catalogue q) (word_text provider.ids reason) u forbids)
     no_other_place n m s place bit (Rule (AtLeastOne o q)) u at there is = ap (allows_place (version_at catalogue s) place) is
+    no_other_place n m s place bit (Rule (MatchesRule v q)) u at there is = ap (allows_place (version_at catalogue s) place) is
     no_other_place n m s place bit (Derived literals causes) u at there (w, is, are) = ap (allows_place (version_at catalogue s) place) is
     no_other_place n m s place bit (Rule (Digit q other digit)) u at there is = ap (allows_place (version_at catalogue s) place) is ∙ go (same_version (version_at catalogue q) (version_at catalogue s)) refl
       where
         one_version : version_at catalogue q ≡ version_at catalogue s → q ≡ s
         one_version e =
-            let ((v, a), below) = digit_known m q other digit there in
-            let ((w, b), within) = digit_known n s place bit at in
+            let ((v, a), below, one) = digit_known m q other digit there in
+            let ((w, b), within, unmarked) = digit_known n s place bit at in
             let same : v ≡ w = sym (version_is catalogue provider proves.over q v a) ∙ (e ∙ version_is catalogue provider proves.over s w b) in
             let raw : q.raw ≡ s.raw = proves.over.distinct w q.raw s.raw (a ∙ ap (λ (y : Version). Some y) same) b in
             λ i. record { raw = raw i; tag = q.tag }
@@ -239,6 +248,7 @@ module _ (catalogue : List Line) (source : ReadRequest) (provider : Provider) (s
     step_follows n (Rule (Locked locked q)) t at there lock = by_forbid catalogue (version_at catalogue q) t (follows catalogue source.lines (take n written)) true (λ l. refl) (λ l. refl) (λ l. refl) (lock_forbids catalogue (version_at catalogue q) t lock)
     step_follows n (Rule (Excluded q reason)) t at there forbids = by_forbid catalogue (version_at catalogue q) t (follows catalogue source.lines (take n written)) true (λ l. refl) (λ l. refl) (λ l. refl) (word_forbids catalogue (version_at catalogue q) (word_text provider.ids reason) t forbids)
     step_follows n (Rule (AtLeastOne o q)) t at there is = ap (follows catalogue source.lines (take n written)) is
+    step_follows n (Rule (MatchesRule v q)) t at there is = ap (follows catalogue source.lines (take n written)) is
     step_follows n (Rule (Digit s place bit)) t at there is = ap (follows catalogue source.lines (take n written)) is ∙ contained_all (allows_place (version_at catalogue s) place) (take n written) (λ u h. (
         let (k, e) = at_from_contains (take n written) u h in
         let (x, a, names_rule) = zip_right (IsWrittenAs catalogue provider.ids source.lines) steps written each k u (taken written n k u e) in

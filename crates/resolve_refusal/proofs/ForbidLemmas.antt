@@ -6,7 +6,7 @@ use Rattle.std.specs.Bool.{Decides}
 use Rattle.std.specs.List.{list_any, find, flat_map}
 use Rattle.std.specs.Cmp.Lexicographic.{bytes_decides}
 use Rattle.std.proofs.lemmas.Bool.{cases_Bool, false≢true, eq-eqb, eqb-true, or_cases}
-use Rattle.resolvo_text.specs.Line.{Version, Line, Skipped, Listed, Needs, Limits, Unknown, Lock, Favour, Exclude, Wish}
+use Rattle.resolvo_text.specs.Line.{Version, Line, Skipped, Listed, Needs, Limits, Unknown, Lock, Favour, Exclude, Many, Wish}
 use Rattle.resolvo_text.specs.Matches.{same_package}
 use Rattle.resolvo_catalogue_core.specs.Grammar.{line_at, owner_of}
 use Rattle.resolvo_catalogue_core.specs.Listed.{listed, version_at}
@@ -51,6 +51,7 @@ lock_is v owner (Needs ss c) h = absurd h
 lock_is v owner (Limits s) h = absurd h
 lock_is v owner (Unknown reason) h = absurd h
 lock_is v owner (Favour w) h = absurd h
+lock_is v owner (Many name) h = absurd h
 lock_is v owner (Exclude w reason) h = absurd h
 lock_is v owner (Wish w) h = absurd h
 
@@ -63,6 +64,7 @@ exclude_is v owner (Limits s) h = absurd h
 exclude_is v owner (Unknown reason) h = absurd h
 exclude_is v owner (Lock w) h = absurd h
 exclude_is v owner (Favour w) h = absurd h
+exclude_is v owner (Many name) h = absurd h
 exclude_is v owner (Wish w) h = absurd h
 
 unknown_is : (v : Version) (owner : Option Version) (l : Line) → MarksUnknownOf v owner l → (reason : List ℕ) × (l ≡ Unknown reason) × (owner ≡ Some v)
@@ -73,6 +75,7 @@ unknown_is v owner (Needs ss c) h = absurd h
 unknown_is v owner (Limits s) h = absurd h
 unknown_is v owner (Lock w) h = absurd h
 unknown_is v owner (Favour w) h = absurd h
+unknown_is v owner (Many name) h = absurd h
 unknown_is v owner (Exclude w reason) h = absurd h
 unknown_is v owner (Wish w) h = absurd h
 
@@ -301,6 +304,7 @@ no_lock (Needs ss c) e = refl
 no_lock (Limits s) e = refl
 no_lock (Unknown reason) e = refl
 no_lock (Favour w) e = refl
+no_lock (Many name) e = refl
 no_lock (Exclude w reason) e = refl
 no_lock (Wish w) e = refl
 

@@ -35,6 +35,7 @@ module _ (catalogue : List Line) (provider : Provider) (over : IsOver catalogue 
   IsKnown (Atom.any_of n) = IsName catalogue provider.ids n
   IsKnown (Atom.gate r) = IsRequirement catalogue provider.ids r
   IsKnown (Atom.outside v) = (s : Spec) × IsSpec provider.ids v s
+  IsKnown (Atom.matches v) = (s : Spec) × IsSpec provider.ids v s
   IsKnown (Atom.digit n bit) = IsName catalogue provider.ids n
 
   -- the atom in the words of a report
@@ -43,6 +44,7 @@ module _ (catalogue : List Line) (provider : Provider) (over : IsOver catalogue 
   name (Atom.any_of n) = in_report.AnyOf (name_text provider.ids n)
   name (Atom.gate r) = in_report.SharedBy (alternatives_at provider.ids r)
   name (Atom.outside v) = in_report.OutsideOf (spec_at provider.ids v)
+  name (Atom.matches v) = in_report.MatchesOf (spec_at provider.ids v)
   name (Atom.digit n bit) = in_report.BitOf bit (name_text provider.ids n)
 
   abbrev pub name_literal : pass.Literal (Atom NameId SolvableId) → pass.Literal in_report.Atom
@@ -140,6 +142,9 @@ module _ (catalogue : List Line) (provider : Provider) (over : IsOver catalogue 
   outside_one : {v w : Spec} → in_report.OutsideOf v ≡ in_report.OutsideOf w → v ≡ w
   outside_one h = cc
 
+  matches_one : {v w : Spec} → in_report.MatchesOf v ≡ in_report.MatchesOf w → v ≡ w
+  matches_one h = cc
+
   bit_one : {a b : ℕ} {v w : List ℕ} → in_report.BitOf a v ≡ in_report.BitOf b w → (a ≡ b) × (v ≡ w)
   bit_one h = (cc, cc)
 
@@ -153,12 +158,14 @@ module _ (catalogue : List Line) (provider : Provider) (over : IsOver catalogue 
       λ i. Atom.solvable (record { raw = at i; tag = s.tag })
   one_atom (Atom.solvable s) (Atom.gate q) x y h = absurd cc
   one_atom (Atom.solvable s) (Atom.outside w) x y h = absurd cc
+  one_atom (Atom.solvable s) (Atom.matches w) x y h = absurd cc
   one_atom (Atom.solvable s) (Atom.any_of m) x y h = absurd cc
   one_atom (Atom.solvable s) (Atom.digit m other) x y h = absurd cc
   one_atom (Atom.gate r) (Atom.solvable t) x y h = absurd cc
   one_atom (Atom.gate r) (Atom.gate q) x y h =
       ap (λ (u : Requirement). Atom.gate u) (one_requirement r q x y (same_members r q x y (shared_one h)))
   one_atom (Atom.gate r) (Atom.outside w) x y h = absurd cc
+  one_atom (Atom.gate r) (Atom.matches w) x y h = absurd cc
   one_atom (Atom.gate r) (Atom.any_of m) x y h = absurd cc
   one_atom (Atom.gate r) (Atom.digit m other) x y h = absurd cc
   one_atom (Atom.outside v) (Atom.solvable t) x y h = absurd cc
@@ -168,11 +175,23 @@ module _ (catalogue : List Line) (provider : Provider) (over : IsOver catalogue 
       let (b, g) = y in
       let same : a ≡ b = sym (spec_is v a e) ∙ (outside_one h ∙ spec_is w b g) in
       ap (λ (u : VersionSetId). Atom.outside u) (one_set v w b (subst (IsSpec provider.ids v) same e) g)
+  one_atom (Atom.outside v) (Atom.matches w) x y h = absurd cc
   one_atom (Atom.outside v) (Atom.any_of m) x y h = absurd cc
   one_atom (Atom.outside v) (Atom.digit m other) x y h = absurd cc
+  one_atom (Atom.matches v) (Atom.solvable t) x y h = absurd cc
+  one_atom (Atom.matches v) (Atom.gate q) x y h = absurd cc
+  one_atom (Atom.matches v) (Atom.outside w) x y h = absurd cc
+  one_atom (Atom.matches v) (Atom.matches w) x y h =
+      let (a, e) = x in
+      let (b, g) = y in
+      let same : a ≡ b = sym (spec_is v a e) ∙ (matches_one h ∙ spec_is w b g) in
+      ap (λ (u : VersionSetId). Atom.matches u) (one_set v w b (subst (IsSpec provider.ids v) same e) g)
+  one_atom (Atom.matches v) (Atom.any_of m) x y h = absurd cc
+  one_atom (Atom.matches v) (Atom.digit m other) x y h = absurd cc
   one_atom (Atom.any_of n) (Atom.solvable t) x y h = absurd cc
   one_atom (Atom.any_of n) (Atom.gate q) x y h = absurd cc
   one_atom (Atom.any_of n) (Atom.outside w) x y h = absurd cc
+  one_atom (Atom.any_of n) (Atom.matches w) x y h = absurd cc
   one_atom (Atom.any_of n) (Atom.any_of m) x y h =
       let at : n ≡ m = one_name n m x y (any_one h) in
       ap (λ (u : NameId). Atom.any_of u) at
@@ -180,6 +199,7 @@ module _ (catalogue : List Line) (provider : Provider) (over : IsOver catalogue 
   one_atom (Atom.digit n bit) (Atom.solvable t) x y h = absurd cc
   one_atom (Atom.digit n bit) (Atom.gate q) x y h = absurd cc
   one_atom (Atom.digit n bit) (Atom.outside w) x y h = absurd cc
+  one_atom (Atom.digit n bit) (Atom.matches w) x y h = absurd cc
   one_atom (Atom.digit n bit) (Atom.any_of m) x y h = absurd cc
   one_atom (Atom.digit n bit) (Atom.digit m other) x y h =
       let at : n ≡ m = one_name n m x y (bit_one h).1 in

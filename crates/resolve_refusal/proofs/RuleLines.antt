@@ -23,7 +23,7 @@ use Rattle.resolvo_sat.specs.RuleClauses.{ForbidReason, KeepsOut, has_condition,
 use Rattle.resolvo_sat.proofs.Lists.{contains_first, contains_later, any_contained}
 use Rattle.resolvo_proof.specs.declared.step.ProofStep.{ProofStep}
 use Rattle.resolvo_proof.specs.declared.step.ProofStep.TheVariants.{Rule, Derived}
-use Rattle.resolvo_proof.specs.declared.step.ProofRule.TheVariants.{Needs as NeedsRule, GateOf, Shared, Limit, Outside, Locked, Excluded, Digit, AtLeastOne}
+use Rattle.resolvo_proof.specs.declared.step.ProofRule.TheVariants.{Needs as NeedsRule, GateOf, Shared, Limit, Outside, Locked, Excluded, Digit, AtLeastOne, Matches}
 use Rattle.resolvo_catalogue_core.specs.Questions.{ReadRequest}
 use Rattle.resolvo_pool_core.specs.declared.requirement.Requirement.TheVariants.{Single, Union}
 use Rattle.resolvo_catalogue.specs.Ids.{Ids, NameId, SolvableId, AreEach, IsNeed, IsSpec, IsConditionOf}
@@ -288,7 +288,7 @@ module _ (catalogue : List Line) (source : ReadRequest) (p : Provider) (steps : 
   pub need_written : (n : ℕ) (parent : Option SolvableId) (r : Requirement) (case : Vec VersionSetId Global) (t : Step) → slice_get steps n ≡ Some (Rule (NeedsRule parent r case)) → NamesNeed catalogue source.lines p.ids parent r case.items t
       → (line k : ℕ) × IsNumber k × (t ≡ in_report.Need (place_at catalogue parent) line k) × IsFirstNeed catalogue source.lines (place_at catalogue parent) (alternatives_at p.ids r) (map (spec_at p.ids) case.items) line k
   need_written n parent r case t at (found, by, names_rule) =
-      let (condition, (has, among)) = proves.proof n _ at in
+      let (condition, (has, among, matched)) = proves.proof n _ at in
       let (l, is, first) = need_found parent r condition case.items found by has among in
       let (number, is_named) = subst (λ (o : Option NeedLine). IfSome o (λ x. IsNumber x.case × (t ≡ in_report.Need (place_at catalogue parent) x.line x.case))) is names_rule in
       (l.line, l.case, number, is_named, first)
@@ -314,6 +314,7 @@ module _ (catalogue : List Line) (source : ReadRequest) (p : Provider) (steps : 
   step_written n (Rule (Excluded s reason)) t at names_rule written = (let (condition, forbids) = proves.proof n _ at in word_written reason s t names_rule forbids)
   step_written n (Rule (Digit s place bit)) t at names_rule written = written
   step_written n (Rule (AtLeastOne name s)) t at names_rule written = written
+  step_written n (Rule (Matches v s)) t at names_rule written = written
   step_written n (Derived literals causes) t at names_rule written =
       let (clause, is, same, rising) = names_rule in
       let below : n < length steps = slice_get_within steps n _ at in

@@ -40,7 +40,8 @@ module _ (catalogue : List Line) (provider : Provider) (over : IsOver catalogue 
   atom_fits (atom.AtLeastOne n) h = name_fits n h
   atom_fits (atom.Gate r) (ss, are, fits) = subst (λ (ts : List Spec). AreAlternatives ts) (sym (alternatives_are provider.ids r ss are)) fits
   atom_fits (atom.Outside v) (s, is, fits) = subst (λ (t : Spec). form.IsSpec t) (sym (spec_is catalogue provider over v s is)) fits
-  atom_fits (atom.Bit n bit) (name, below) = (below, name_fits n name)
+  atom_fits (atom.Matches v) ((s, is, fits), many) = subst (λ (t : Spec). form.IsSpec t) (sym (spec_is catalogue provider over v s is)) fits
+  atom_fits (atom.Bit n bit) (name, below, unmarked) = (below, name_fits n name)
 
   -- known literals have texts
   pub literals_fit : (literals : List (ProofLiteral NameId SolvableId)) → ((l : ProofLiteral NameId SolvableId) → Contains literals l → IsKnownAtom catalogue provider.ids l.atom) → HaveForm catalogue provider.ids literals

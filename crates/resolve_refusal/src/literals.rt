@@ -73,6 +73,9 @@ fn atom_of(
         ProofAtom::Outside(version_set) => Ok(Atom::Outside {
             spec: provider.spec_of(version_set)?,
         }),
+        ProofAtom::Matches(version_set) => Ok(Atom::Matches {
+            spec: provider.spec_of(version_set)?,
+        }),
         ProofAtom::Bit(name, bit) => Ok(Atom::Bit {
             bit,
             name: String::from_str(alloc, provider.name_of(name))?,

@@ -88,6 +88,7 @@ fn line_in(text: Text, step: &Step) -> Option<u32>
         Step::Unknown { line } => in_catalogue(text, *line),
         Step::Shared { .. }
         | Step::Outside { .. }
+        | Step::Matches { .. }
         | Step::Digit { .. }
         | Step::Any { .. }
         | Step::Derive { .. } => None,

@@ -120,6 +120,13 @@ impl Writing<'_> {
             ProofRule::AtLeastOne { solvable, .. } => Ok(Step::Any {
                 version: self.version(*solvable)?,
             }),
+            ProofRule::Matches {
+                version_set,
+                solvable,
+            } => Ok(Step::Matches {
+                spec: self.provider.spec_of(*version_set)?,
+                version: self.version(*solvable)?,
+            }),
         }
     }
 

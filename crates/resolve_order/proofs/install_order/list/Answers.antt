@@ -5,7 +5,7 @@ use Rattle.resolve_order.specs.Order.{AreTurns, chosen_in}
 use Rattle.resolve_order.specs.View.{answers_of, turns_of}
 use Rattle.resolve_order.specs.declared.entry.Turn.{Turn}
 use Rattle.resolve_order.specs.declared.entry.Turn.TheVariants as turn
-use Rattle.resolve_order.proofs.FinishLemmas.{all_accepted, wish_at_turn, any_default, chosen_more, one_each_before, lists_more}
+use Rattle.resolve_order.proofs.FinishLemmas.{all_accepted, wish_at_turn, any_default, chosen_more, lists_more}
 use Rattle.resolve_order.proofs.TurnLemmas.{reasoned_turns, exact_entries}
 use Rattle.resolve_order.proofs.install_order.list.Goals as goal
 
@@ -26,7 +26,7 @@ loop-turn-preserved c = λ are.
     let before = c.loop-turn.invariant are in
     lists_more c.args.catalogue.now c.args.request.now.lines turns i t c.loop-turn.listing c.take_turn.new.self c.loop-turn-test.true is before
     (c.in_ok-take_turn.ensures (chosen_in (turns_of vs (take i turns))) (chosen_in (turns_of vs (take (i + 1) turns))) (chosen_more vs turns i t c.loop-turn-test.true is) before.listing
-    (one_each_before vs turns (i + 1) are.single.one_each) (wish_at_turn vs c.args.request.now.lines turns i t c.loop-turn-test.true is are.wishes))
+    (wish_at_turn vs c.args.request.now.lines turns i t c.loop-turn-test.true is are.wishes))
 
 pub returns-clause-order : goal.returns-clause-order
 returns-clause-order c = λ are.

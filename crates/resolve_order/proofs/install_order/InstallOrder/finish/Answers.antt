@@ -18,7 +18,7 @@ returns-then-are_all_listed-clause-listed c = λ chosen h.
 pub returns-then-are_all_listed-clause-complete : goal.returns-then-are_all_listed-clause-complete
 returns-then-are_all_listed-clause-complete c = λ chosen h reason v g.
     let catalogue = c.args.catalogue.now in
-    g.unlisted (c.are_all_listed.ensures.listed c.if-are_all_listed.true (listed catalogue) chosen (entries_in catalogue c.args.self.now) h.holds v g.is_chosen)
+    g.unlisted (c.are_all_listed.ensures.listed c.if-are_all_listed.true catalogue chosen (entries_in catalogue c.args.self.now) h.holds v g.is_chosen)
 
 pub loop-places-init : goal.loop-places-init
 loop-places-init c = λ chosen h.

@@ -20,7 +20,7 @@ loop-reason-preserved-in-Spent c = λ chosen h left.
     let taken = subst (λ (lines : List Reason). IsTaken lines c.loop-reason.places c.take.new.self c.in-Some.reason) c.deref.ensures.value
     (record { waiting = c.in-Some.ensures.waiting; left = c.in-Some.ensures.taken; within = c.in-Some.ensures.within }) in
     spent_left catalogue request x chosen c.loop-reason.places c.take.new.self c.in-Some.reason taken (c.loop-reason.invariant chosen h left)
-    (subst (IsLineState (listed catalogue) chosen E line) c.in-Spent.is (c.line_state.ensures.state chosen E line h.holds c.rule_at.ensures))
+    (subst (IsLineState catalogue chosen E line) c.in-Spent.is (c.line_state.ensures.state chosen E line h.holds c.rule_at.ensures))
 
 pub loop-reason-preserved : goal.loop-reason-preserved
 loop-reason-preserved c = λ chosen h left.
@@ -33,7 +33,7 @@ loop-reason-preserved c = λ chosen h left.
     (record { waiting = c.in-Some.ensures.waiting; left = c.in-Some.ensures.taken; within = c.in-Some.ensures.within }) in
     let put = c.in_ok-wait-in-Waiting.ensures in
     waiting_left catalogue request x chosen c.loop-reason.places c.take.new.self c.wait.new.self c.in-Some.reason taken (c.loop-reason.invariant chosen h left)
-    (subst (IsLineState (listed catalogue) chosen E line) c.in-Waiting.is (c.line_state.ensures.state chosen E line h.holds c.rule_at.ensures)) put.waiting put.again put.below
+    (subst (IsLineState catalogue chosen E line) c.in-Waiting.is (c.line_state.ensures.state chosen E line h.holds c.rule_at.ensures)) put.waiting put.again put.below
 
 pub returns-in-Gives-clause-found : goal.returns-in-Gives-clause-found
 returns-in-Gives-clause-found c = λ chosen h left.
@@ -45,7 +45,7 @@ returns-in-Gives-clause-found c = λ chosen h left.
     let taken = subst (λ (lines : List Reason). IsTaken lines c.loop-reason.places c.take.new.self c.in-Some.reason) c.deref.ensures.value
     (record { waiting = c.in-Some.ensures.waiting; left = c.in-Some.ensures.taken; within = c.in-Some.ensures.within }) in
     given_next catalogue request x chosen c.loop-reason.places c.take.new.self c.in-Some.reason c.in-Gives.version taken (c.loop-reason.invariant chosen h left) h
-    (subst (IsLineState (listed catalogue) chosen E line) c.in-Gives.is (c.line_state.ensures.state chosen E line h.holds c.rule_at.ensures))
+    (subst (IsLineState catalogue chosen E line) c.in-Gives.is (c.line_state.ensures.state chosen E line h.holds c.rule_at.ensures))
 
 pub returns-in-Gives-clause-left : goal.returns-in-Gives-clause-left
 returns-in-Gives-clause-left c = λ chosen h left.

@@ -9,15 +9,15 @@ use Rattle.resolve_order.specs.declared.entry.Turn.{Turn}
 use Rattle.resolve_order.proofs.install_order.InstallOrder.take_turn.Goals as goal
 
 pub returns-in_ok-take_chosen-in-Chose : goal.returns-in_ok-take_chosen-in-Chose
-returns-in_ok-take_chosen-in-Chose c = λ before chosen is h one wish.
+returns-in_ok-take_chosen-in-Chose c = λ before chosen is h wish.
     let vs = listed c.args.catalogue.now in
     let request = c.args.request.now.lines in
     let was = c.in-Chose.is in
     subst (λ (t : Turn). TakesTurn c.args.catalogue.now request chosen (turn_of vs t) c.args.self.now c.take_chosen.new.self) (sym was)
-    (c.in_ok-take_chosen-in-Chose.ensures before chosen (subst (λ (t : Turn). chosen ≡ before ++ chosen_by (turn_of vs t)) was is) h one (subst (IsWishOf vs request chosen) was wish))
+    (c.in_ok-take_chosen-in-Chose.ensures before chosen (subst (λ (t : Turn). chosen ≡ before ++ chosen_by (turn_of vs t)) was is) h (subst (IsWishOf vs request chosen) was wish))
 
 pub returns-in_ok-leave_out-in-LeftOut : goal.returns-in_ok-leave_out-in-LeftOut
-returns-in_ok-leave_out-in-LeftOut c = λ before chosen is h one wish.
+returns-in_ok-leave_out-in-LeftOut c = λ before chosen is h wish.
     let catalogue = c.args.catalogue.now in
     let vs = listed catalogue in
     let request = c.args.request.now.lines in
