@@ -3,12 +3,11 @@
 
     checks/rt_store.py libs [CRATE ..]     builds the libraries (or those at and below the named crates) into the store, side by side
     checks/rt_store.py tests CRATE ..      proves and runs the crates' tests, as the gate does
-    checks/rt_store.py edits CRATE ..      tries the crates' must-fail edits, as the gate does
     checks/rt_store.py front CRATE ..      the quick pass over the sources: what needs no proof to find
     checks/rt_store.py take                takes into the store the libraries that rt ci proved of this very text on this machine
     checks/rt_store.py WORD ..             anything else is done by rt, in a crate's folder, over the store
 
-The first five run at the top of the repository. A library is kept as its statements, under a sum of its text and of what it
+The first four run at the top of the repository. A library is kept as its statements, under a sum of its text and of what it
 sees of the libraries below. So a library that didn't change is proved once for all clones. A change of proofs, or of a body, often
 proves nothing above it again: only a change of what is seen does. A check of a crate keeps its work in out/, as under rt.
 
@@ -85,11 +84,12 @@ def visible(rlib):
     return total.hexdigest()
 
 
-def canonical(rlib):
-    """The first library of the store that a check can't tell from this one."""
+def canonical(rlib, deps):
+    """The first library of the store that a check can't tell from this one. Both were proved over the same libraries."""
     if EXACT or not os.path.isdir(rlib):
         return rlib
-    index = f"{STORE}/seen/{os.path.basename(rlib)}-{visible(rlib)[:32]}"
+    over = hashlib.sha256(repr([visible(rlib), sorted(it.rlib for it in deps)]).encode()).hexdigest()
+    index = f"{STORE}/seen/{os.path.basename(rlib)}-{over[:32]}"
     if os.path.isfile(index):
         first = open(index).read()
         if os.path.isdir(first):
@@ -129,14 +129,14 @@ def place(self, seen=None):
         place(dep, seen)
     self.kept_stamp = None
     if self.makes_rlib():
-        self.rlib = canonical(f"{STORE}/{self.stamp()}/{self.name}.rlib")
+        self.rlib = canonical(f"{STORE}/{self.stamp()}/{self.name}.rlib", self.deps)
 
 
 def init(self, *given, **named):
     made(self, *given, **named)
     self.kept_stamp = None
     if self.makes_rlib():
-        self.rlib = canonical(f"{STORE}/{self.stamp()}/{self.name}.rlib")
+        self.rlib = canonical(f"{STORE}/{self.stamp()}/{self.name}.rlib", self.deps)
 
 
 def is_built(self):
@@ -163,7 +163,7 @@ def build_rlib(self, flags, anew):
             content(self.rlib)
             with open(f"{STORE}/log", "a") as it:
                 it.write(f"{time.strftime('%H:%M:%S')} {self.name} {time.time() - begun:.0f} s {folder} of {os.path.dirname(os.path.dirname(self.folder))}\n")
-            self.rlib = canonical(self.rlib)
+            self.rlib = canonical(self.rlib, self.deps)
         return status
 
 
@@ -271,23 +271,9 @@ def take():
             rt.link_or_copy(f"{kept}/{number}", to)
         os.rename(part, folder)
         content(crate.rlib)
-        crate.rlib = canonical(crate.rlib)
+        crate.rlib = canonical(crate.rlib, crate.deps)
         print(f"rt_store: {crate.name} taken from the gate", flush=True)
     return 0
-
-
-def edits(names):
-    rtlib.guarded()
-    failed = 0
-    for crate in rtlib.crates_below(os.getcwd()):
-        if crate.name in names:
-            for dep in crate.below():
-                if dep.build_rlib(["--jobs", "1"], True):
-                    return 1
-            for well, text in rt.must_fail_all(crate, rt.edits_of(crate)[0], ["--jobs", os.environ.get("RT_STORE_JOBS", "1")]):
-                print(text, flush=True)
-                failed += not well
-    return failed
 
 
 if __name__ == "__main__":
@@ -303,8 +289,6 @@ if __name__ == "__main__":
                 words = crate.words(["--jobs", "1", "--only", ""], tests=crate.has_tests(), as_source=True)
                 subprocess.run([rtlib.RATTLE, "check", *words], cwd=crate.folder)
         sys.exit(0)
-    if sys.argv[1:2] == ["edits"]:
-        sys.exit(edits(sys.argv[2:]))
     if sys.argv[1:2] == ["take"]:
         sys.exit(take())
     sys.exit(rt.main(sys.argv[1:]))

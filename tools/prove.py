@@ -1,15 +1,18 @@
 #!/usr/bin/env python3
 """Proves the program and the libraries below it side by side, and builds it.
 
-Usage: tools/prove.py [CRATE]     (default: resolve)
+Usage: tools/prove.py [--anew] [CRATE]     (default: resolve)
 
 `rt run` proves one library after the other. This makes a copy of the crate with what lies below it, without wrong bodies and without
-the crates of tests, and runs the gate (`rt ci`) over the copy. So every proof is from nothing, and as many run side by side as there are
-processors with 4 GB each; RT_JOBS may name another number. The proved program is then in crates/CRATE/out, beside its object file.
+the crates of tests, and runs the gate (`rt ci`) over the copy. As many proofs run side by side as there are processors. Processors that
+no other proof needs share one, as long as there are 3 GB for each. RT_JOBS may name a number of proofs; then each has one processor.
+What this machine has proved before is kept, and isn't proved again; with `--anew` it is. The proved program is then in
+crates/CRATE/out, beside its object file.
 The last lines are the verdict and the minutes. Status 1 where something isn't proved; then the repository is as it was.
 """
+import importlib.machinery
+import importlib.util
 import os
-import re
 import shutil
 import subprocess
 import sys
@@ -20,6 +23,7 @@ from typing import Dict, List, Set
 TOP = os.path.dirname(os.path.dirname(os.path.abspath(__file__)))
 PARTS = ("src", "specs", "proofs", "c", "data")
 FILES = ("stdin", "stdout", "args", "status")
+MEMORY = 3_000_000_000  # bytes of a proof by one processor
 
 
 def lines_of(text: str) -> Dict[str, str]:
@@ -62,27 +66,34 @@ def copy(top: str, to: str, crate: str) -> List[str]:
     return names
 
 
-def jobs() -> int:
-    """One for each processor, as long as there are 4 GB for each."""
-    with open("/proc/meminfo", encoding="utf-8") as file:
-        found = re.search(r"^MemAvailable: +(\d+)", file.read(), re.M)
-    lanes = int(found[1]) // 4_000_000 if found else 1
-    return max(1, min(lanes, len(os.sched_getaffinity(0))))
+def gate(folder: str, flags: List[str]) -> int:
+    """Runs `rt ci` in a folder. rt reckons with more memory for a proof than these take, and would leave processors idle."""
+    os.chdir(folder)
+    path = os.path.realpath(shutil.which("rt") or "/opt/rattle/bin/rt")
+    loader = importlib.machinery.SourceFileLoader("rt_main", path)
+    module = importlib.util.module_from_spec(importlib.util.spec_from_loader("rt_main", loader))
+    sys.dont_write_bytecode = True
+    loader.exec_module(module)
+    module.need = lambda crate: MEMORY
+    return module.main(["ci", *flags])
 
 
 def main(words: List[str]) -> int:
     """The command line."""
-    if len(words) > 1 or words and words[0].startswith("-"):
+    if words[:1] == ["--gate"]:
+        return gate(words[1], words[2:])
+    flags = [word for word in words if word == "--anew"]
+    names = [word for word in words if word != "--anew"]
+    if len(names) > 1 or names and names[0].startswith("-"):
         print(__doc__, end="")
         return 2
-    crate = words[0] if words else "resolve"
+    crate = names[0] if names else "resolve"
     begun = time.monotonic()
     with tempfile.TemporaryDirectory(prefix="prove-") as folder:
         names = copy(TOP, folder, crate)
         subprocess.run(["git", "init", "-q", folder], check=True)
-        environment = {"RT_JOBS": str(jobs()), **os.environ}
-        print(f"prove.py: {len(names)} crates, {environment['RT_JOBS']} at a time", flush=True)
-        status = subprocess.run(["rt", "ci"], cwd=folder, env=environment, check=False).returncode
+        print(f"prove.py: {len(names)} crates", flush=True)
+        status = subprocess.run([sys.executable, os.path.abspath(__file__), "--gate", folder, *flags], check=False).returncode
         made, to = (os.path.join(at, "crates", crate, "out") for at in (folder, TOP))
         built = [name for name in (crate, f"{crate}.o") if os.path.isfile(os.path.join(made, name))]
         if not status:
