@@ -28,8 +28,8 @@ SECONDS = 10
 MOST_SETS = 20_000
 # words at the bounds of what a line may hold
 EDGES = ["0", "00", "01", "4294967295", "4294967296", "18446744073709551616", "1..2", "0..4294967295", "2..2", "3..1", "..", "-1",
-         "if", "and", "or", "|", "(", ")", "not", "any", "outside", "shared", "bit", "_", "a.b-c_d", "A", "", "#", "---", "x" * 300,
-         "needs", "limits", "version", "wish", "lock", "favour", "exclude", "unknown", "a", "b", "c", "d", "1", "2", "3"]
+         "if", "and", "or", "|", "(", ")", "not", "any", "outside", "shared", "matches", "bit", "_", "a.b-c_d", "A", "", "#", "---", "x" * 300,
+         "needs", "limits", "version", "wish", "lock", "favour", "exclude", "unknown", "many", "a", "b", "c", "d", "1", "2", "3"]
 BYTES = [b" ", b"\n", b"\r", b"\t", b"\0", b"\xff", b"\xc3\xa9", b"|", b"(", b")", b";", b"#", b".", b"0", b"9"]
 
 

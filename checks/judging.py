@@ -1,9 +1,10 @@
 #!/usr/bin/env python3
 """Compares `resolve judge` with the plain slow judge, over reports of a plain slow prover and damaged copies of them.
 
-Usage: checks/judging.py [REPORTS] [DAMAGES] [PATH OF THE PROGRAM]
+Usage: checks/judging.py [REPORTS] [DAMAGES] [PATH OF THE PROGRAM] [--many]
 Defaults: 2000 reports, 20000 damaged copies, crates/resolve/out/resolve (which `rt run` leaves). With `-` for the program the
-plain judge alone is run. Both must accept each undamaged report, and give the same answer on each damaged copy.
+plain judge alone is run. Both must accept each undamaged report, and give the same answer on each damaged copy. With `--many`
+packages are marked `many`, and an install report may have several versions of one.
 """
 import itertools
 import os
@@ -50,8 +51,13 @@ def some_need(rng):
     return text + (" if " + some_condition(rng) if rng.random() < 0.3 else "")
 
 
-def some_texts(rng, most=3):
-    lines, listed = [], []
+def some_marks(rng):
+    """Lines that mark packages, of which one may have no versions."""
+    return [f"many {package}" for package in PACKAGES + ["d"] if rng.random() < 0.4]
+
+
+def some_texts(rng, most=3, with_many=False):
+    lines, listed = some_marks(rng) if with_many else [], []
     for package in PACKAGES:
         for number in range(1, rng.randint(1, most) + 1):
             lines.append(f"version {package} {number}")
@@ -88,6 +94,8 @@ class Prover:
             for placed in text.placed:
                 self.add_line(where, placed)
         for v in self.listed:
+            if v.package in self.catalogue.many:
+                continue
             of = [w for w in self.listed if w.package == v.package]
             place = 1 + of.index(v)
             for bit in range(max(2, len(of).bit_length())):
@@ -121,18 +129,33 @@ class Prover:
         for k, case in enumerate(cases(line.condition), 1):
             clause = own + given
             for s in case:
-                clause = clause + [(("any", s.package), False)]
-                clause += [(("v", v), True) for v in self.listed if v.package == s.package and not s.matches(v)]
+                clause = clause + self.unmet(s)
             self.rules.append((f"need {at} line {n} case {k}", (where, n), clause))
         if at != "request" and line.condition is None:
             specs = " | ".join(map(str, line.alternatives))
             self.rules.append((f"gate {at} line {n}", (where, n), own + [(("shared", specs), True)]))
             self.rules.append((f"shared {specs}", None, [(("shared", specs), False)] + given))
 
+    def unmet(self, s):
+        """The literals of a case's SPEC; one over a marked package has rules of its own."""
+        if s.package not in self.catalogue.many:
+            others = [v for v in self.listed if v.package == s.package and not s.matches(v)]
+            return [(("any", s.package), False), *((("v", v), True) for v in others)]
+        for v in self.listed:
+            if s.matches(v):
+                rule = (f"matches {s} holds {v}", None, [(("v", v), False), (("matches", str(s)), True)])
+                self.rules += [rule] * (rule not in self.rules)
+        return [(("matches", str(s)), False)]
+
+    def choices(self, package):
+        """The sets of versions of a package: any of a marked one, at most one of any other."""
+        of = [v for v in self.listed if v.package == package]
+        most = len(of) if package in self.catalogue.many else 1
+        return [picked for count in range(most + 1) for picked in itertools.combinations(of, count)]
+
     def sets(self):
-        choices = [[None] + [v for v in self.listed if v.package == p] for p in PACKAGES]
-        for picked in itertools.product(*choices):
-            chosen = [v for v in picked if v]
+        for picked in itertools.product(*map(self.choices, PACKAGES)):
+            chosen = [v for part in picked for v in part]
             if all(obeys(placed, chosen) for placed in self.catalogue.placed + self.request.placed):
                 yield chosen
 
@@ -290,9 +313,10 @@ def damaged(rng, report):
 
 
 def main():
-    reports = int(sys.argv[1]) if len(sys.argv) > 1 else 2000
-    damages = int(sys.argv[2]) if len(sys.argv) > 2 else 20000
-    program = sys.argv[3] if len(sys.argv) > 3 else os.path.join(HERE, "../crates/resolve/out/resolve")
+    given = [word for word in sys.argv[1:] if word != "--many"]
+    reports = int(given[0]) if given else 2000
+    damages = int(given[1]) if len(given) > 1 else 20000
+    program = given[2] if len(given) > 2 else os.path.join(HERE, "../crates/resolve/out/resolve")
     rng = random.Random(1)
     counts = {"install": 0, "refused": 0, "yes": 0, "no": 0}
     with tempfile.TemporaryDirectory() as folder:
@@ -312,7 +336,7 @@ def main():
             return n
 
         for i in range(reports):
-            catalogue, request = (text.encode() for text in some_texts(rng))
+            catalogue, request = (text.encode() for text in some_texts(rng, with_many="--many" in sys.argv))
             prover = Prover(catalogue, request)
             sets = list(prover.sets())
             report = (prover.install(rng, sets) if sets else prover.refuse(rng)).encode()

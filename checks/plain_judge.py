@@ -87,7 +87,8 @@ class Judge:
             need(v not in self.entries)
             self.out.append((v, answer.step, list(self.entries)))
             return
-        need(v in self.listed and all(w.package != v.package for w in self.entries))
+        need(v in self.listed and v not in self.entries)
+        need(self.is_many(v) or all(w.package != v.package for w in self.entries))
         need(all(w != v for w, _, _ in self.out))
         if isinstance(answer, texts.WishedEntry):
             self.wish(v, answer.line)
@@ -98,6 +99,10 @@ class Judge:
             need(any(s.matches(v) for s in line.alternatives))
             need(holds(line.condition, self.entries))
         self.entries.append(v)
+
+    def is_many(self, named):
+        """Whether the package of a version or SPEC is marked `many`."""
+        return named.package in self.catalogue.many
 
     def wish(self, v, n):
         need(n > self.wish_line)
@@ -141,9 +146,15 @@ class Judge:
         all_cases = cases(line.condition)
         need(1 <= step.case <= len(all_cases))
         for s in all_cases[step.case - 1]:
-            clause.append(Literal(texts.AnyAtom(s.package), False))
-            clause += [Literal(v, True) for v in self.listed if v.package == s.package and not s.matches(v)]
+            clause += self.unmet(s)
         return clause + self.listed_matches(line.alternatives)
+
+    def unmet(self, s):
+        """What a need's clause has for a SPEC of its case."""
+        if self.is_many(s):
+            return [Literal(texts.MatchesAtom(s), False)]
+        others = [Literal(v, True) for v in self.listed if v.package == s.package and not s.matches(v)]
+        return [Literal(texts.AnyAtom(s.package), False), *others]
 
     def step_GateStep(self, step):
         line, clause = self.place_line(step.version, step.line, NeedsLine)
@@ -168,6 +179,11 @@ class Judge:
     def step_OutsideStep(self, step):
         return self.barred(step.spec, step.version) + [Literal(texts.OutsideAtom(step.spec), True)]
 
+    def step_MatchesStep(self, step):
+        v, s = step.version, step.spec
+        need(self.is_many(s) and v in self.listed and s.matches(v))
+        return [Literal(v, False), Literal(texts.MatchesAtom(s), True)]
+
     def step_LockStep(self, step):
         line = self.rule("catalogue", step.line).line
         need(isinstance(line, texts.LockLine) and step.version in self.listed)
@@ -189,7 +205,7 @@ class Judge:
 
     def step_DigitStep(self, step):
         v, k = step.version, step.place
-        need(v in self.listed and self.places.get(v, k) == k)
+        need(v in self.listed and not self.is_many(v) and self.places.get(v, k) == k)
         self.places[v] = k
         return [Literal(v, False), Literal(texts.BitAtom(step.bit, v.package), bool(k >> step.bit & 1))]
 
@@ -197,8 +213,16 @@ class Judge:
         need(step.version in self.listed)
         return [Literal(step.version, False), Literal(texts.AnyAtom(step.version.package), True)]
 
+    def has_atom(self, atom):
+        """Versions are listed; packages with bits aren't marked `many`, those of `matches` are."""
+        if isinstance(atom, Version):
+            return atom in self.listed
+        if isinstance(atom, texts.BitAtom):
+            return not self.is_many(atom)
+        return not isinstance(atom, texts.MatchesAtom) or self.is_many(atom.spec)
+
     def step_DeriveStep(self, step):
-        need(all(not isinstance(each.atom, Version) or each.atom in self.listed for each in step.literals))
+        need(all(self.has_atom(each.atom) for each in step.literals))
         need(all(1 <= n <= len(self.clauses) for n in step.causes))
         known = {each.atom: not each.positive for each in step.literals}
         refuted = False

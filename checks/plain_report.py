@@ -8,8 +8,8 @@ from typing import Iterable, Iterator, Optional, Union
 
 from plain_judge import holds
 from plain_message import message
-from plain_rules import ROOT, Clause, Digit, Excluded, Facts, Gate, Limit, Locked, Need, Options, Outside, Rule, Shared
-from plain_rules import There
+from plain_rules import ROOT, Clause, Digit, Excluded, Facts, Gate, Limit, Locked, Matches, Need, Options, Outside, Rule
+from plain_rules import Shared, There
 from plain_search import Outcome, Turns
 from tools import texts
 from tools.texts import Catalogue, DeriveStep, Install, Placed, Refused, Report, Request, Step, Version, cases
@@ -87,6 +87,8 @@ class Writer:
             return texts.OutsideStep(rule.spec, rule.version)
         if isinstance(rule, Digit):
             return texts.DigitStep(rule.version, rule.place, rule.bit)
+        if isinstance(rule, Matches):
+            return texts.MatchesStep(rule.spec, rule.version)
         assert isinstance(rule, There)
         return texts.AnyStep(rule.version)
 
@@ -143,7 +145,7 @@ class Writer:
         return Install(tuple(answers), tuple(steps))
 
     def list_turn(self, answers: list[texts.Answer], chosen: tuple[Version, ...]) -> None:
-        """Again and again the first line with an unlisted match, whose condition holds, gives its match."""
+        """Again and again the first line with unlisted matches, whose condition holds, gives the first of them."""
         while True:
             entry = self.next_entry(entries_of(answers), chosen)
             if entry is None:
@@ -151,14 +153,14 @@ class Writer:
             answers.append(entry)
 
     def next_entry(self, entries: list[Version], chosen: tuple[Version, ...]) -> Optional[texts.Entry]:
-        """Lines of the request first, then those of the entries in their order."""
+        """Lines of the request first, then those of the entries in their order; in a line the alternatives, each one's matches
+        sorted."""
         for place in (None, *entries):
             for placed in self.lines(place, texts.NeedsLine):
                 if holds(placed.line.condition, entries):
-                    for spec in placed.line.alternatives:
-                        for version in chosen:
-                            if spec.matches(version) and version not in entries:
-                                return texts.Entry(version, place, placed.number)
+                    for version in self.facts.sorted(placed.line.alternatives):
+                        if version in chosen and version not in entries:
+                            return texts.Entry(version, place, placed.number)
         return None
 
 

@@ -9,11 +9,11 @@ from typing import Optional, Union
 sys.path.insert(0, os.path.join(os.path.dirname(os.path.abspath(__file__)), ".."))
 
 from tools.texts import AnyAtom, BitAtom, Catalogue, Condition, ExcludeLine, FavourLine, LimitsLine, Literal, LockLine
-from tools.texts import NeedsLine, OutsideAtom, Request, SharedAtom, Spec, UnknownLine, Version, WishLine
+from tools.texts import MatchesAtom, NeedsLine, OutsideAtom, Request, SharedAtom, Spec, UnknownLine, Version, WishLine
 
 ROOT = "the problem itself"
 Parent = Optional[Version]  # None is the request
-Atom = Union[str, Version, AnyAtom, SharedAtom, OutsideAtom, BitAtom]
+Atom = Union[str, Version, AnyAtom, SharedAtom, OutsideAtom, MatchesAtom, BitAtom]
 Case = tuple[Spec, ...]
 Alternatives = tuple[Spec, ...]
 
@@ -40,6 +40,8 @@ class Options:
     restart_after_encoding: bool = True  # a conflict right after an encoding begins the turn again, and isn't learnt from
     root_in_learnt: bool = True  # `not root` is a literal of learnt clauses
     as_met: bool = True  # a learnt clause has its literals in the order in which they were met, not back along the trail
+    # What comes with the line `many`.
+    asks_wishes: bool = True  # a wish's turn begins with a question for the candidates of its package
     # What a caller may set.
     hinted: bool = True  # the needs of each candidate are at hand, so it is encoded with a need that lists it
     gated: int = 4  # from so many candidates on a need has a gate
@@ -131,7 +133,15 @@ class There:
     version: Version
 
 
-Rule = Union[Need, Gate, Shared, Limit, Outside, Locked, Excluded, Digit, There]
+@dataclass(frozen=True)
+class Matches:
+    """A chosen version makes `matches` of a SPEC of its package true."""
+
+    spec: Spec
+    version: Version
+
+
+Rule = Union[Need, Gate, Shared, Limit, Outside, Locked, Excluded, Digit, There, Matches]
 
 
 @dataclass(eq=False)
@@ -200,6 +210,7 @@ class Facts:
     def __init__(self, catalogue: Catalogue, request: Request, bars_wishes: bool = True) -> None:
         self.bars_wishes = bars_wishes
         self.candidates = catalogue.by_package
+        self.many = catalogue.many
         self.needs: dict[Parent, list[NeedOf]] = {}
         self.limits: dict[Parent, list[Spec]] = {}
         self.unknown: dict[Version, str] = {}

@@ -11,10 +11,11 @@ from collections import deque
 from dataclasses import dataclass
 from typing import Callable, Iterable, Optional
 
-from plain_rules import PROGRAM, ROOT, Alternatives, Atom, Case, Clause, Digit, Excluded, Facts, Gate, Limit, Locked, Need
-from plain_rules import NeedClause, NeedOf, Options, Outside, Parent, Rule, Shared, There, no, of_parent, yes
+from plain_rules import PROGRAM, ROOT, Alternatives, Atom, Case, Clause, Digit, Excluded, Facts, Gate, Limit, Locked
+from plain_rules import Matches, Need, NeedClause, NeedOf, Options, Outside, Parent, Rule, Shared, There, no, of_parent, yes
 from plain_solver import Solver
-from tools.texts import AnyAtom, BitAtom, Catalogue, Literal, OutsideAtom, Request, SharedAtom, Spec, Version, cases
+from tools.texts import AnyAtom, BitAtom, Catalogue, Literal, MatchesAtom, OutsideAtom, Request, SharedAtom, Spec, Version
+from tools.texts import cases
 
 __all__ = ["PROGRAM", "Encoder", "Facts", "Options", "Outcome", "Turn", "Turns", "search"]
 
@@ -48,6 +49,7 @@ class Encoder:
         self.bits: dict[str, int] = {}
         self.there: dict[str, set[Version]] = {}  # versions with an any clause, by packages of encoded cases
         self.new_there: dict[str, None] = {}
+        self.matched: set[Spec] = set()  # SPECs of encoded cases whose packages are marked, with their matches clauses
         self.helpers: set[Spec] = set()
         self.gates: set[Alternatives] = set()
         self.unseen: Parent = None  # a wish that counts as undecided where cases are looked at
@@ -191,8 +193,10 @@ class Encoder:
         return all(any(is_true(match) for match in self.facts.matching(spec)) for spec in case)
 
     def is_void(self, parent: Parent, case: Case) -> bool:
-        """A case that its own parent is outside of can't hold beside it: it has no clause."""
-        return parent is not None and any(parent in self.facts.outside(spec) for spec in case)
+        """A case that its own parent is outside of can't hold beside it: it has no clause. Other versions of a marked package
+        may stand beside."""
+        outside = [parent in self.facts.outside(spec) for spec in case if spec.package not in self.facts.many]
+        return parent is not None and any(outside)
 
     def look_at_cases(self, parent: Parent, need: NeedOf) -> None:
         """Cases that hold become clauses at once, the others are deferred under their condition."""
@@ -250,9 +254,14 @@ class Encoder:
                 self.queue_parent(candidate)
 
     def condition_literals(self, case: Case) -> list[Literal]:
-        """For each SPEC `not any` of its package, then its package's other versions, which are registered."""
+        """For each SPEC `not any` of its package, then its package's other versions, which are registered; of a marked package
+        `not matches` alone."""
         literals = []
         for spec in case:
+            if spec.package in self.facts.many:
+                self.watch_spec(spec)
+                literals.append(no(MatchesAtom(spec)))
+                continue
             self.watch_package(spec.package)
             outside = self.facts.outside(spec)
             self.register(outside)
@@ -278,8 +287,10 @@ class Encoder:
     # -- at most one version a package, and whether there is one
 
     def register(self, versions: list[Version]) -> None:
-        """Candidates of encoded needs, versions outside encoded conditions, and wishes are registered, each once."""
+        """Candidates of encoded needs, versions outside encoded conditions, and wishes are registered, each once, but for those
+        of marked packages."""
         new = [version for version in dict.fromkeys(versions) if version not in self.registered]
+        new = [version for version in new if version.package not in self.facts.many]
         self.registered.update(new)
         if not self.options.digits_at_once:
             for version in new:
@@ -300,6 +311,13 @@ class Encoder:
         self.there[package] = set()
         for version in self.places.get(package, ()):
             self.add_there(version)
+
+    def watch_spec(self, spec: Spec) -> None:
+        """The SPEC of an encoded case has matches clauses, if its package is marked."""
+        if spec in self.matched:
+            return
+        self.matched.add(spec)
+        self.add_matches(spec)
 
     def add_digits(self) -> None:
         """Package by package each new version gets its digits and its any clause; then come the any clauses of packages that
@@ -337,6 +355,11 @@ class Encoder:
         if there is not None and version not in there:
             there.add(version)
             self.settle(self.solver.add_clause(There(version), [no(version), yes(AnyAtom(version.package))]))
+
+    def add_matches(self, spec: Spec) -> None:
+        """For each match: not the version, or `matches` of the SPEC."""
+        for version in self.facts.matching(spec):
+            self.settle(self.solver.add_clause(Matches(spec, version), [no(version), yes(MatchesAtom(spec))]))
 
 
 # ---- turns
@@ -442,8 +465,11 @@ class Turns:
             is_falsified = self.encoder.encode(new, fired)
 
     def begin(self, goal: Parent) -> bool:
-        """The goal is true at the first level; a wish is registered before what its needs list."""
+        """The goal is true at the first level; a wish is registered before what its needs list. Whether its package is marked is
+        asked for before its dependencies."""
         solver = self.solver
+        if goal is not None and self.options.asks_wishes:
+            self.encoder.ask(f"candidates of {goal.package}")
         if solver.value(yes(of_parent(goal))) is None:
             solver.assign(yes(of_parent(goal)), None, solver.first_level)
         if goal is not None:

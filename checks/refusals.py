@@ -21,6 +21,7 @@ TOTALS = {}
 
 EVERY_KIND = b"""# every kind of line
 
+many d
 version a 1
 needs b 1..4 | c if b or ( c 2 and a )
 limits b 2..5
@@ -30,6 +31,7 @@ version c 2
 lock a 1
 favour b 2
 exclude c 2 insecure
+version d 1
 """
 EVERY_ASK = b"needs a 1..4 | b if c or d\nlimits a 1..4\nwish a 1\n"
 

@@ -1,8 +1,9 @@
 #!/usr/bin/env python3
 """Exports refusals as CNF with proofs, and has them verified by checkers that know nothing of packages.
 
-Usage: checks/second.py [REFUSALS] [PATH OF THE PROGRAM]
-Defaults: 200 generated refusals, crates/resolve/out/resolve (which `rt run` leaves); `-` for no program.
+Usage: checks/second.py [REFUSALS] [PATH OF THE PROGRAM] [--many]
+Defaults: 200 generated refusals, crates/resolve/out/resolve (which `rt run` leaves); `-` for no program. With `--many` packages of
+the generated texts are marked `many`.
 Each export must be verified by checks/lrat_checker.py, and by drat-trim and lrat-check where the variables DRAT_TRIM
 and LRAT_CHECK name them. minisat, where it is installed, must find no model of the CNF. The clauses are compared with the plain
 judge's reading of lines. Faults are planted in the exporter, and the checkers must see them.
@@ -165,7 +166,7 @@ def generated(count: int, prover: Callable[[tuple[bytes, bytes]], bytes]) -> Ite
     """Reports over generated texts until as many are refused."""
     rng, pair = random.Random(17), 0
     while count:
-        texts = tuple(text.encode() for text in some_texts(rng))
+        texts = tuple(text.encode() for text in some_texts(rng, with_many="--many" in sys.argv))
         pair += 1
         made = read_texts(f"generated pair {pair}", *texts, prover(texts))
         count -= not isinstance(made.report, Install)
@@ -260,7 +261,7 @@ def is_model(cnf: Cnf, chosen: list[Version]) -> bool:
 def check_meaning(texts: Texts, rng: random.Random) -> int:
     """Over some lines and some exclusive versions: how many of 50 sets are models.
 
-    A set must be one exactly if it obeys the lines and has one of these versions a package at most.
+    A set must be one exactly if it obeys the lines and has one of these versions a package at most, marked ones aside.
     """
     cnf = Cnf(texts.catalogue)
     cnf.most_paired = rng.choice([1, 64])
@@ -268,12 +269,13 @@ def check_meaning(texts: Texts, rng: random.Random) -> int:
     named += [("request", placed) for placed in texts.request.placed]
     lines = [placed for text, placed in named if rng.random() < 0.3 and cnf.add_line(text, placed)]
     exclusive = [version for version in texts.catalogue.listed if rng.random() < 0.7]
-    for package in texts.catalogue.by_package:
+    marked = texts.catalogue.many
+    for package in texts.catalogue.by_package.keys() - marked:
         cnf.add_at_most_one(package, [version for version in exclusive if version.package == package])
     models = 0
     for _ in range(50):
         chosen = [version for version in texts.catalogue.listed if rng.random() < rng.choice([0.1, 0.3, 0.5])]
-        packages = [version.package for version in chosen if version in exclusive]
+        packages = [version.package for version in chosen if version in exclusive and version.package not in marked]
         wanted = len(set(packages)) == len(packages) and all(obeys(placed, chosen) for placed in lines)
         if is_model(cnf, chosen) != wanted:
             told = ", ".join(map(str, chosen))
@@ -397,8 +399,9 @@ def run_program(count: int, program: str, folder: Path, checkers: Checkers) -> N
 
 
 def main() -> None:
-    count = int(sys.argv[1]) if len(sys.argv) > 1 else 200
-    program = sys.argv[2] if len(sys.argv) > 2 else str(HERE.parent / "crates/resolve/out/resolve")
+    given = [word for word in sys.argv[1:] if word != "--many"]
+    count = int(given[0]) if given else 200
+    program = given[1] if len(given) > 1 else str(HERE.parent / "crates/resolve/out/resolve")
     if program != "-" and not os.access(program, os.X_OK):
         sys.exit(f"{program} isn't a program that can be run; `-` asks the plain prover alone")
     with tempfile.TemporaryDirectory() as name:

@@ -17,6 +17,7 @@ import tempfile
 
 from calls import copy_with
 from plain_judge import Judge, holds
+from plain_rules import Facts
 from solving import generated_texts
 from tools import texts
 from tools.texts import Literal, NeedsLine, Version, WishLine
@@ -65,6 +66,8 @@ def atom_of(text):
         return texts.SharedAtom(specs_of(rest))
     if word == "outside":
         return texts.OutsideAtom(spec_of(rest))
+    if word == "matches":
+        return texts.MatchesAtom(spec_of(rest))
     if word == "bit" and " of " in rest:
         bit, name = rest.split(" of ")
         return texts.BitAtom(int(bit), name)
@@ -79,14 +82,18 @@ def parent_of(text):
     return [] if text == "request" else [Literal(version_of(text), False)]
 
 
-def clause_of(words, listed):
+def clause_of(words, catalogue):
     """The clause of a step, as a set of literals."""
     kind, *rest = words
+    listed = catalogue.listed
     matches = lambda specs: [Literal(v, True) for s in specs for v in listed if s.matches(v)]
     if kind == "need":
         owner, case, specs = rest
         clause = parent_of(owner) + matches(specs_of(specs))
         for spec in map(spec_of, case.split("&")[1:]):
+            if spec.package in catalogue.many:
+                clause.append(Literal(texts.MatchesAtom(spec), False))
+                continue
             clause.append(Literal(texts.AnyAtom(spec.package), False))
             clause += [Literal(v, True) for v in listed if v.package == spec.package and not spec.matches(v)]
     elif kind == "gate":
@@ -99,6 +106,8 @@ def clause_of(words, listed):
         clause = parent_of(rest[0]) + [Literal(texts.OutsideAtom(spec_of(rest[1])), False)]
     elif kind == "outside":
         clause = [Literal(version_of(rest[1]), False), Literal(texts.OutsideAtom(spec_of(rest[0])), True)]
+    elif kind == "matches":
+        clause = [Literal(version_of(rest[1]), False), Literal(texts.MatchesAtom(spec_of(rest[0])), True)]
     elif kind in ("locked", "excluded"):
         clause = [Literal(version_of(rest[0]), False)]
     elif kind == "digit":
@@ -115,12 +124,12 @@ def clause_of(words, listed):
 class Answer:
     """What the library's solver answered to a pair."""
 
-    def __init__(self, lines, listed):
+    def __init__(self, lines, catalogue):
         self.verdict = lines[0][0]
         self.chosen = [version_of(words[1]) for words in lines if words[0] == "chosen"]
         self.turns = [words[1:] for words in lines if words[0] == "turn"]
         steps = [words for words in lines[1:] if words[0] not in ("chosen", "turn")]
-        self.steps = [(clause_of(words, listed), [int(n) for n in words[2].split()] if words[0] == "derived" else None) for words in steps]
+        self.steps = [(clause_of(words, catalogue), [int(n) for n in words[2].split()] if words[0] == "derived" else None) for words in steps]
 
     def trimmed(self, wanted):
         """The steps to which these lead back, in order, with their causes as numbers from 1; and the number of each by its place."""
@@ -153,7 +162,8 @@ def listed_turns(court, turns):
 
 
 def first_entry(court, entries, chosen):
-    """The first line that has a chosen match that isn't listed: those of the request, then those of the entries in their order."""
+    """The first line that has chosen matches that aren't listed gives the first of them: lines of the request, then those of the
+    entries in their order; in a line the alternatives, each one's matches sorted."""
     there = [entry[0] for entry in entries]
     lines = [(None, n, placed) for n, placed in enumerate(court.request.placed, 1)]
     for owner in there:
@@ -161,11 +171,9 @@ def first_entry(court, entries, chosen):
     for owner, n, placed in lines:
         if not isinstance(placed.line, NeedsLine) or not holds(placed.line.condition, there):
             continue
-        for spec in placed.line.alternatives:
-            match = next((v for v in chosen if spec.matches(v)), None)
-            if match is not None:
-                if match not in there:
-                    return match, owner, n
+        for match in Facts(court.catalogue, court.request).sorted(placed.line.alternatives):
+            if match in chosen and match not in there:
+                return match, owner, n
     return None
 
 
@@ -205,7 +213,7 @@ def report_steps(court, report):
 def compare(pair, answer_lines, output):
     catalogue, request = (text.encode() for text in pair)
     court = Judge(catalogue, request)
-    answer = Answer(answer_lines, court.listed)
+    answer = Answer(answer_lines, court.catalogue)
     report = texts.read_report(output)
     verdict = "refused" if isinstance(report, texts.Refused) else "install"
     assert answer.verdict == verdict, f"the solver says {answer.verdict}, the program {verdict}"

@@ -1,8 +1,9 @@
 #!/usr/bin/env python3
 """Compares `resolve solve` with a plain slow solver, which tries all sets, over generated texts.
 
-Usage: checks/solving.py [PAIRS] [PATH OF THE PROGRAM]
-Defaults: 1000 pairs, crates/resolve/out/resolve (which `rt run` leaves).
+Usage: checks/solving.py [PAIRS] [PATH OF THE PROGRAM] [--many]
+Defaults: 1000 pairs, crates/resolve/out/resolve (which `rt run` leaves). With `-` for the program plain_search.py answers in its
+place. With `--many` packages are marked `many`, so that a set may have several versions of them.
 It must install exactly where some set keeps all rules, and the plain judge must accept each report. Where the first choices keep
 all rules and no line has alternatives, they must be the entries above the first wish. Of flat texts these are the newest versions
 that fit. A wish may be left out only where no rule-keeping set holds it with all entries above its line. Each form of line occurs
@@ -16,27 +17,31 @@ import tempfile
 
 from judging import Prover, some_spec, some_texts
 from plain_judge import holds, judge, obeys
-from tools.texts import FavourLine, NeedsLine, Version, VersionLine, WishLine, cases
+from plain_report import report as plain_report
+from tools import texts
+from tools.texts import FavourLine, ManyLine, NeedsLine, Version, VersionLine, WishLine, cases
 
 HERE = os.path.dirname(os.path.abspath(__file__))
 
 
 def blocks_of(catalogue):
-    """The lines of each version with those that belong to it, and the lines below all versions."""
-    blocks, below = [], []
+    """The lines above all versions, those of each version with what belongs to it, and the lines below all versions."""
+    above, blocks, below = [], [], []
     for line in catalogue.splitlines():
-        if line.startswith("version "):
+        if line.startswith("many "):
+            above.append(line)
+        elif line.startswith("version "):
             blocks.append([line])
         elif line.startswith(("needs ", "limits ", "unknown ")):
             blocks[-1].append(line)
         else:
             below.append(line)
-    return blocks, below
+    return above, blocks, below
 
 
 def disturbed(rng, catalogue):
     """The same versions in another order, with more alternatives and exclusions, comments and empty lines."""
-    blocks, below = blocks_of(catalogue)
+    above, blocks, below = blocks_of(catalogue)
     rng.shuffle(blocks)
     for block in blocks:
         if rng.random() < 0.2:
@@ -46,7 +51,7 @@ def disturbed(rng, catalogue):
         version = block[0].split()[1:]
         if version not in barred and rng.random() < 0.1:
             below.append(f"exclude {version[0]} {version[1]} insecure")
-    lines = [line for block in blocks for line in block] + below
+    lines = above + [line for block in blocks for line in block] + below
     for line in ["", "# anything", "#needs  a"]:
         lines.insert(rng.randint(0, len(lines)), line)
     return "".join(line + "\n" for line in lines)
@@ -71,10 +76,10 @@ FORMS = {*(f"catalogue {word}" for word in "version needs limits unknown lock fa
          "request needs", "request limits", "request wish", "alternatives", "condition", " and ", " or ", " ( "}
 
 
-def generated_texts(rng):
+def generated_texts(rng, with_many=False):
     """Texts of all forms; some wish more, some lose their conditions, some all rules of the catalogue."""
     most = 6 if rng.random() < 0.3 else 3
-    catalogue, request = some_texts(rng, most)
+    catalogue, request = some_texts(rng, min(most, 4) if with_many else most, with_many)
     if rng.random() < 0.5:
         listed = [line.split()[1:] for line in catalogue.splitlines() if line.startswith("version")]
         wished = [line.split()[1:] for line in request.splitlines() if line.startswith("wish")]
@@ -83,7 +88,7 @@ def generated_texts(rng):
     if rng.random() < 0.3:
         catalogue, request = ("".join(line.split(" if ")[0] + "\n" for line in text.splitlines()) for text in (catalogue, request))
     if rng.random() < 0.2:
-        catalogue = "".join(line + "\n" for line in catalogue.splitlines() if line.startswith("version"))
+        catalogue = "".join(line + "\n" for line in catalogue.splitlines() if line.startswith(("version", "many")))
     if rng.random() < 0.4:
         catalogue = disturbed(rng, catalogue)
     return catalogue, request
@@ -98,8 +103,10 @@ def first_match(catalogue, listed, spec):
 
 def first_choices(catalogue, request, listed):
     """The least set that holds the first match of each line that binds in it and whose condition holds. None where such a line
-    has alternatives."""
+    has alternatives, or a package is marked."""
     chosen = []
+    if any(isinstance(placed.line, ManyLine) for placed in catalogue):
+        return None
     while True:
         for placed in request + catalogue:
             line = placed.line
@@ -138,6 +145,12 @@ def told(report):
         name, number = line.removeprefix("left out ").split()[0].split("=")
         lines.append((Version(name, int(number)), not left, left or " wished line " in line))
     return lines
+
+
+def has_several(report):
+    """Whether an install report has several versions of a package."""
+    packages = [v.package for v, entry, _ in told(report) if entry] if report.startswith("install\n") else []
+    return len(packages) > len(set(packages))
 
 
 def first_turn(lines):
@@ -180,25 +193,41 @@ def check(catalogue_text, request_text, status, report):
             assert sorted(flat) == sorted(chosen), f"the newest are {flat}"
 
 
+def answer_of(program, pair, paths):
+    """The status and the output of the program, or of the plain search."""
+    if program == "-":
+        catalogue = texts.read_catalogue(pair[0].encode())
+        found = plain_report(catalogue, texts.read_request(pair[1].encode(), catalogue))
+        return int(isinstance(found, texts.Refused)), texts.report_text(found).decode()
+    for path, text in zip(paths, pair):
+        with open(path, "w") as file:
+            file.write(text)
+    run = subprocess.run([program, "solve", *paths], capture_output=True, text=True)
+    return run.returncode, run.stdout
+
+
 def main():
-    pairs = int(sys.argv[1]) if len(sys.argv) > 1 else 1000
-    program = sys.argv[2] if len(sys.argv) > 2 else os.path.join(HERE, "../crates/resolve/out/resolve")
-    rng, counts, forms = random.Random(9), {0: 0, 1: 0}, set()
+    given, with_many = [word for word in sys.argv[1:] if word != "--many"], "--many" in sys.argv
+    pairs = int(given[0]) if given else 1000
+    program = given[1] if len(given) > 1 else os.path.join(HERE, "../crates/resolve/out/resolve")
+    rng, counts, forms, several = random.Random(9), {0: 0, 1: 0}, set(), 0
     with tempfile.TemporaryDirectory() as folder:
         paths = [os.path.join(folder, part) for part in ("catalogue", "request")]
         for k in range(pairs):
-            texts = generated_texts(rng)
-            forms |= forms_of(*texts)
-            for path, text in zip(paths, texts):
-                open(path, "w").write(text)
-            run = subprocess.run([program, "solve", *paths], capture_output=True, text=True)
+            pair = generated_texts(rng, with_many)
+            forms |= forms_of(*pair)
+            status, output = answer_of(program, pair, paths)
             try:
-                check(*texts, run.returncode, run.stdout)
+                check(*pair, status, output)
             except AssertionError as fault:
-                sys.exit(f"pair {k}: {fault}\n--- catalogue\n{texts[0]}--- request\n{texts[1]}--- printed\n{run.stdout}")
-            counts[run.returncode] += 1
-    if pairs >= 1000 and forms != FORMS:
-        sys.exit(f"of these forms no pair has one, or no list has them: {forms ^ FORMS}")
+                sys.exit(f"pair {k}: {fault}\n--- catalogue\n{pair[0]}--- request\n{pair[1]}--- printed\n{output}")
+            counts[status] += 1
+            several += has_several(output)
+    wanted = FORMS | {"catalogue many"} if with_many else FORMS
+    if pairs >= 1000 and forms != wanted:
+        sys.exit(f"of these forms no pair has one, or no list has them: {forms ^ wanted}")
+    if with_many:
+        print(f"{several} reports have several versions of a package")
     print(f"{pairs} pairs: {counts[0]} installed, {counts[1]} refused, each as the plain solver says, and judged yes")
 
 

@@ -97,6 +97,8 @@ class People(Spelling):
 
 # ---- whether a report speaks of these texts
 
+NAMING = (texts.BarStep, texts.OutsideStep, texts.MatchesStep, texts.LockStep, texts.AnyStep, texts.DigitStep)
+
 
 class Fit:
     """Checks that the lines and versions that a report names are there; raises Bad."""
@@ -156,7 +158,7 @@ class Fit:
             for literal in step.literals:
                 if isinstance(literal.atom, Version):
                     self.version(literal.atom)
-        if isinstance(step, (texts.BarStep, texts.OutsideStep, texts.LockStep, texts.AnyStep, texts.DigitStep)):
+        if isinstance(step, NAMING):
             self.version(step.version)
 
     def causes(self, number: int, step: Union[Step, texts.Answer]) -> None:

@@ -23,6 +23,13 @@ class SkippedLine:
 
 
 @dataclass(frozen=True, slots=True)
+class ManyLine:
+    """`many NAME`: versions of the package may stand side by side."""
+
+    package: str
+
+
+@dataclass(frozen=True, slots=True)
 class VersionLine:
     """`version NAME NUM`."""
 
@@ -81,7 +88,7 @@ class WishLine:
 
 
 CatalogueLine = Union[
-    SkippedLine, VersionLine, NeedsLine, LimitsLine, UnknownLine, LockLine, FavourLine, ExcludeLine
+    SkippedLine, ManyLine, VersionLine, NeedsLine, LimitsLine, UnknownLine, LockLine, FavourLine, ExcludeLine
 ]
 RequestLine = Union[SkippedLine, NeedsLine, LimitsLine, WishLine]
 Line = Union[CatalogueLine, WishLine]
@@ -113,6 +120,11 @@ class Catalogue:
     def listed(self) -> tuple[Version, ...]:
         """The versions in line order."""
         return tuple(line.version for line in self.lines if isinstance(line, VersionLine))
+
+    @cached_property
+    def many(self) -> frozenset[str]:
+        """The packages of which versions may stand side by side."""
+        return frozenset(line.package for line in self.lines if isinstance(line, ManyLine))
 
     @cached_property
     def line_of(self) -> dict[Version, int]:
@@ -170,6 +182,8 @@ def line_text(line: Line, spelling: Spelling = PLAIN) -> str:
         return f"limits {spec_text(line.spec, spelling)}"
     if isinstance(line, UnknownLine):
         return f"unknown {line.reason}"
+    if isinstance(line, ManyLine):
+        return f"many {spelling.name_text(line.package)}"
     behind = f" {line.reason}" if isinstance(line, ExcludeLine) else ""
     return f"{KEYWORDS[type(line)]} {version_text(line.version, spelling, ' ')}{behind}"
 
@@ -220,6 +234,7 @@ COMMON: dict[str, Callable[[Words], Line]] = {
     "limits": lambda words: LimitsLine(words.spec()),
 }
 CATALOGUE_FORMS: dict[str, Callable[[Words], Line]] = COMMON | {
+    "many": lambda words: ManyLine(words.name()),
     "version": lambda words: VersionLine(words.spaced_version()),
     "unknown": lambda words: UnknownLine(words.reason()),
     "lock": lambda words: LockLine(words.spaced_version()),
@@ -263,6 +278,7 @@ class CatalogueReader:
     def __init__(self) -> None:
         self.owner: Optional[Version] = None
         self.listed: set[Version] = set()
+        self.packages: set[str] = set()
         self.seen: set[tuple[type, object]] = set()
 
     def check(self, line: Line) -> None:
@@ -270,7 +286,12 @@ class CatalogueReader:
         if isinstance(line, VersionLine):
             self.once(line, line.version, f"{line.version} is listed already")
             self.listed.add(line.version)
+            self.packages.add(line.version.package)
             self.owner = line.version
+        elif isinstance(line, ManyLine):
+            if line.package in self.packages:
+                raise Bad(f"a line above lists a version of {line.package}")
+            self.once(line, line.package, f"{line.package} has a `many` line already")
         elif isinstance(line, (NeedsLine, LimitsLine, UnknownLine)):
             if self.owner is None:
                 raise Bad("no `version` line stands above it")

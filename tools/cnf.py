@@ -1,8 +1,8 @@
 """The CNF of some lines of a catalogue and a request: all that one has to believe of an exported refusal.
 
-Each set of versions, at most one a package, that obeys the lines is a model of these clauses. So where they have no
-model, no such set obeys the lines. docs/SECOND.md has the clauses as a table. The steps of a report have one part in
-them: at most one is stated of the versions that `digit` steps name.
+Each set of versions, at most one a package that isn't marked `many`, that obeys the lines is a model of these clauses.
+So where they have no model, no such set obeys the lines. docs/SECOND.md has the clauses as a table. The steps of a report
+have one part in them: at most one is stated of the versions that `digit` steps name. None names a marked package's.
 """
 from __future__ import annotations
 

@@ -113,6 +113,9 @@ class Sentences:
     def OutsideStep(self, step: texts.OutsideStep) -> str:
         return f"{self.people.version(step.version)} doesn't match {self.people.spec_text(step.spec)}."
 
+    def MatchesStep(self, step: texts.MatchesStep) -> str:
+        return f"{self.people.version(step.version)} matches {self.people.spec_text(step.spec)}."
+
     def LimitStep(self, step: texts.LimitStep) -> str:
         spec = self.bundle.line(step.place, step.line).line.spec
         kept = f"no version outside {self.people.spec_text(spec)} may be installed"
@@ -169,6 +172,8 @@ class Sentences:
             return f"{'a' if literal.positive else 'no'} match of {self.people.specs(atom.alternatives)}"
         if isinstance(atom, texts.OutsideAtom):
             return f"{'a' if literal.positive else 'no'} version outside {self.people.spec_text(atom.spec)}"
+        if isinstance(atom, texts.MatchesAtom):
+            return f"{'a' if literal.positive else 'no'} match of {self.people.spec_text(atom.spec)}"
         return f"bit {atom.bit} of {self.people.name_text(atom.package)} is {int(literal.positive)}"
 
 
@@ -319,6 +324,6 @@ def left_lines(bundle: Bundle, out: LeftOut) -> list[str]:
     lines = [f"{wish}, wished for by request line {out.line}, is left out: {why}."]
     sentences = Sentences(bundle)
     for number in rests_on(steps, out.step):
-        if not isinstance(steps[number - 1], (texts.DeriveStep, texts.DigitStep, texts.AnyStep)):
+        if not isinstance(steps[number - 1], (texts.DeriveStep, texts.DigitStep, texts.AnyStep, texts.MatchesStep)):
             lines.append(f"  {sentences.text(steps[number - 1])}")
     return lines

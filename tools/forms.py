@@ -21,12 +21,13 @@ FORMAT = "resolve report 1"
 ANSWERS = {"entry": reports.Entry, "wished": reports.WishedEntry, "left out": reports.LeftOut}
 STEPS = {
     "need": reports.NeedStep, "gate": reports.GateStep, "shared": reports.SharedStep, "outside": reports.OutsideStep,
+    "matches": reports.MatchesStep,
     "limit": reports.LimitStep, "bar": reports.BarStep, "lock": reports.LockStep, "exclude": reports.ExcludeStep,
     "unknown": reports.UnknownStep, "any": reports.AnyStep, "digit": reports.DigitStep, "derive": reports.DeriveStep,
 }
 ATOMS = {
-    "any": reports.AnyAtom, "shared": reports.SharedAtom, "outside": reports.OutsideAtom, "bit": reports.BitAtom,
-    "version": Version,
+    "any": reports.AnyAtom, "shared": reports.SharedAtom, "outside": reports.OutsideAtom, "matches": reports.MatchesAtom,
+    "bit": reports.BitAtom, "version": Version,
 }
 KINDS = {kind: word for table in (ANSWERS, STEPS, ATOMS) for word, kind in table.items()}
 

@@ -19,7 +19,7 @@ from typing import Iterable, Optional
 
 from tools import texts
 from tools.bundle import CatalogueFile
-from tools.catalogue import Catalogue, line_text
+from tools.catalogue import KEYWORDS, Catalogue, line_text
 from tools.dictionary import Dictionary, RealSpelling
 from tools.files import Failure
 from tools.reports import Entry, Install, WishedEntry
@@ -50,9 +50,12 @@ class Lock:
     entries: tuple[LockEntry, ...]
 
     @property
-    def versions(self) -> dict[str, str]:
-        """The version of each name."""
-        return {entry.name: entry.version for entry in self.entries}
+    def versions(self) -> dict[str, list[str]]:
+        """The versions of each name: one, or several of a package that is marked `many`."""
+        found: dict[str, list[str]] = {}
+        for entry in self.entries:
+            found.setdefault(entry.name, []).append(entry.version)
+        return found
 
 
 def sum_of(data: bytes) -> str:
@@ -104,7 +107,7 @@ class LockReader:
     def __init__(self) -> None:
         self.head: list[str] = []
         self.entries: list[LockEntry] = []
-        self.names: set[str] = set()
+        self.versions: set[tuple[str, str]] = set()
         self.count = 0
 
     def line(self, number: int, raw: str) -> None:
@@ -130,8 +133,8 @@ class LockReader:
     def entry(self, words: Words) -> None:
         """A locked version."""
         name, version, place = words.take("a name"), words.take("a version"), None
-        if name in self.names:
-            raise Bad(f"{quoted(name)} is locked already")
+        if (name, version) in self.versions:
+            raise Bad(f"{quoted(f'{name} {version}')} is locked already")
         kind = words.take("`for` or `wished`")
         if kind == "for":
             if len(words.words) == 6:
@@ -142,7 +145,7 @@ class LockReader:
             raise Bad(f"`for` or `wished` is due, not {quoted(kind)}")
         words.expect("line")
         self.entries.append(LockEntry(name, version, place, kind == "wished", words.line()))
-        self.names.add(name)
+        self.versions.add((name, version))
         words.end()
 
 
@@ -181,6 +184,8 @@ def locked_versions(lock: Lock, lock_path: str, file: CatalogueFile, but: Iterab
             version = named_version(spelling, entry.name, entry.version)
             if version not in file.catalogue.line_of:
                 raise Failure(lock_path, line, f"{entry.name} {entry.version} is no longer listed by {file.path}", 1)
+            if version.package not in file.catalogue.many and any(each.package == version.package for each in found):
+                raise Failure(lock_path, line, f"{entry.name} has another version above, and {file.path} has no `many` of it", 1)
             found.append(version)
     return found
 
@@ -197,8 +202,11 @@ def named_version(spelling: Spelling, name: str, text: str) -> Optional[Version]
 def mark_lines(versions: list[Version], file: CatalogueFile, kind: type, lock_path: str) -> list[str]:
     """`lock` or `favour` lines for versions; what the catalogue marks so already needs none."""
     marks = {p.line.version.package: p for p in file.catalogue.placed if isinstance(p.line, kind)}
-    lines = []
+    lines, packages = [], [version.package for version in versions]
     for version in versions:
+        if packages.count(version.package) > 1:
+            reason = f"it has several versions of {version.package}, and one `{KEYWORDS[kind]}` line a package is allowed"
+            raise Failure(lock_path, None, f"{reason}; --wish has no such bound", 1)
         mark = marks.get(version.package)
         if mark is None:
             lines.append(line_text(kind(version)))
@@ -238,13 +246,19 @@ def plan_lines(old: Lock, new: Lock, file: Optional[CatalogueFile]) -> list[str]
     """Installs, upgrades, downgrades, changes and removals, each in the order of its lock."""
     before, after, lines = old.versions, new.versions, []
     is_known = file is not None or (old.ecosystem, new.ecosystem) == ("-", "-")
-    for name, version in after.items():
-        if name not in before:
-            lines.append(f"install {name} {version}")
-        elif before[name] != version:
-            kind = direction(name, (before[name], version), file) if is_known else "change"
-            lines.append(f"{kind} {name} {before[name]} to {version}")
-    return lines + [f"remove {name} {version}" for name, version in before.items() if name not in after]
+    for name, versions in after.items():
+        gone, new = without(before.get(name, []), versions), without(versions, before.get(name, []))
+        if len(gone) == len(new) == 1:
+            kind = direction(name, (gone[0], new[0]), file) if is_known else "change"
+            lines.append(f"{kind} {name} {gone[0]} to {new[0]}")
+        else:
+            lines += [f"install {name} {version}" for version in new] + [f"remove {name} {version}" for version in gone]
+    return lines + [f"remove {name} {version}" for name in before if name not in after for version in before[name]]
+
+
+def without(versions: list[str], others: list[str]) -> list[str]:
+    """The versions that aren't among the others."""
+    return [version for version in versions if version not in others]
 
 
 def direction(name: str, versions: tuple[str, str], file: Optional[CatalogueFile]) -> str:

@@ -13,8 +13,8 @@ from tools.ladder import LadderBit
 from tools.proof import Helper, Proof
 from tools.texts import AnyAtom, AnyStep, Atom, BarStep, BitAtom, Catalogue, DeriveStep, DigitStep, ExcludeLine
 from tools.texts import ExcludeStep, Fault, GateStep, Install, LimitsLine, LimitStep, Line, LockLine, LockStep
-from tools.texts import NeedsLine, NeedStep, OutsideAtom, OutsideStep, Report, Request, SharedAtom, SharedStep, Spec
-from tools.texts import Step, UnknownLine, UnknownStep, Version, cases
+from tools.texts import MatchesAtom, MatchesStep, NeedsLine, NeedStep, OutsideAtom, OutsideStep, Report, Request
+from tools.texts import SharedAtom, SharedStep, Spec, Step, UnknownLine, UnknownStep, Version, cases
 
 Number = Optional[int]  # of a clause; None where it is always true, and so isn't there
 
@@ -74,6 +74,7 @@ class Replay:
             step = self.steps[number - 1]
             if isinstance(step, DigitStep):
                 self.listed(number, step.version)
+                self.unmarked(number, step.version.package)
                 place = self.places.setdefault(step.version, step.place)
                 self.fault_unless(place == step.place, number, f"a second place of {step.version}")
         for package in dict.fromkeys(version.package for version in self.places):
@@ -112,6 +113,14 @@ class Replay:
         self.fault_unless(version in self.cnf.variable, number, f"{version} isn't listed")
         return self.cnf.variable[version]
 
+    def marked(self, number: int, package: str) -> None:
+        """The package is marked `many`."""
+        self.fault_unless(package in self.catalogue.many, number, f"{package} isn't marked `many`")
+
+    def unmarked(self, number: int, package: str) -> None:
+        """The package isn't marked `many`, so that its versions have places."""
+        self.fault_unless(package not in self.catalogue.many, number, f"{package} is marked `many`")
+
     def line(self, number: int, step: Step, kinds: Union[type, tuple[type, ...]]) -> tuple[Origin, Line]:
         """The line that a step rests on, which must be named and of these kinds; the step's place must be its owner."""
         origin = rested_on(step)
@@ -136,6 +145,8 @@ class Replay:
             return self.cnf.matches(atom.alternatives)
         if isinstance(atom, OutsideAtom):
             return [self.cnf.variable[version] for version in self.cnf.outside(atom.spec)]
+        if isinstance(atom, MatchesAtom):
+            return self.cnf.matches([atom.spec])
         versions = self.catalogue.by_package.get(atom.package, [])
         if isinstance(atom, BitAtom):
             versions = [version for version in versions if self.places.get(version, 0) >> atom.bit & 1]
@@ -161,6 +172,10 @@ class Replay:
         """The variable of an atom, defined when it is first used."""
         if isinstance(atom, Version):
             return self.listed(number, atom)
+        if isinstance(atom, MatchesAtom):
+            self.marked(number, atom.spec.package)
+        elif isinstance(atom, BitAtom):
+            self.unmarked(number, atom.package)
         ladder_bit = self.ladder_bit(number, atom) if isinstance(atom, BitAtom) else None
         return ladder_bit.variable if ladder_bit else self.helper(atom).variable
 
@@ -171,7 +186,7 @@ class Replay:
     # ---- the clause of each step
 
     def need(self, number: int, step: NeedStep) -> Number:
-        """A clause of the CNF, once each `holds SPEC` in it is replaced by `any` and the versions outside."""
+        """A clause of the CNF, once each `holds SPEC` in it is replaced by what the step has for the SPEC."""
         origin, line = self.line(number, step, NeedsLine)
         stated = self.cnf.needs[origin]
         self.fault_unless(1 <= step.case <= len(stated), number, f"{origin} has no case {step.case}")
@@ -181,16 +196,25 @@ class Replay:
             return of_case
         literals = self.owner(step.place)
         for spec in case:
-            literals += [-self.helper(AnyAtom(spec.package)).variable, *self.members(OutsideAtom(spec))]
+            literals += self.unmet(spec)
         literals += self.cnf.matches(line.alternatives)
         return self.derive(number, literals, [*(self.lemma(number, spec) for spec in case), of_case])
 
+    def some(self, spec: Spec) -> Helper:
+        """The helper of a case's SPEC: some match of a marked package, or some version of any other."""
+        return self.helper(MatchesAtom(spec) if spec.package in self.catalogue.many else AnyAtom(spec.package))
+
+    def unmet(self, spec: Spec) -> list[int]:
+        """No match is there, of a marked package. Of any other no version is there, or one outside."""
+        outside = [] if spec.package in self.catalogue.many else self.members(OutsideAtom(spec))
+        return [-self.some(spec).variable, *outside]
+
     def lemma(self, number: int, spec: Spec) -> Number:
-        """The SPEC holds, or no version of its package is there, or one outside."""
+        """The SPEC holds, or is unmet."""
         if spec not in self.lemmas:
-            holds, some = self.cnf.holds[spec], self.helper(AnyAtom(spec.package))
-            literals = [holds.variable, -some.variable, *self.members(OutsideAtom(spec))]
-            self.lemmas[spec] = self.derive(number, literals, [*holds.if_matched, some.some_member])
+            holds, literals = self.cnf.holds[spec], self.unmet(spec)
+            causes = [*holds.if_matched, self.some(spec).some_member]
+            self.lemmas[spec] = self.derive(number, [holds.variable, *literals], causes)
         return self.lemmas[spec]
 
     def gate(self, number: int, step: GateStep) -> Number:
@@ -221,6 +245,13 @@ class Replay:
         """A clause of the helper's definition."""
         helper, variable = self.helper(OutsideAtom(step.spec)), self.listed(number, step.version)
         self.fault_unless(variable in helper.if_member, number, f"{step.version} isn't outside {step.spec}")
+        return helper.if_member[variable]
+
+    def matching(self, number: int, step: MatchesStep) -> Number:
+        """A clause of the helper's definition."""
+        self.marked(number, step.spec.package)
+        helper, variable = self.helper(MatchesAtom(step.spec)), self.listed(number, step.version)
+        self.fault_unless(variable in helper.if_member, number, f"{step.version} doesn't match {step.spec}")
         return helper.if_member[variable]
 
     def lock(self, number: int, step: LockStep) -> Number:
@@ -266,6 +297,7 @@ CLAUSES: dict[type, Callable[[Replay, int, Step], Number]] = {
     GateStep: Replay.gate,
     SharedStep: Replay.shared,
     OutsideStep: Replay.outside,
+    MatchesStep: Replay.matching,
     LimitStep: Replay.limit,
     BarStep: Replay.bar,
     LockStep: Replay.lock,

@@ -41,6 +41,13 @@ class OutsideAtom:
 
 
 @dataclass(frozen=True, slots=True)
+class MatchesAtom:
+    """`matches SPEC`: some member matches; the SPEC's package is marked `many`."""
+
+    spec: Spec
+
+
+@dataclass(frozen=True, slots=True)
 class BitAtom:
     """`bit NUM of NAME`: that bit of the member's place is 1."""
 
@@ -48,7 +55,7 @@ class BitAtom:
     package: str
 
 
-Atom = Union[Version, AnyAtom, SharedAtom, OutsideAtom, BitAtom]
+Atom = Union[Version, AnyAtom, SharedAtom, OutsideAtom, MatchesAtom, BitAtom]
 
 
 @dataclass(frozen=True, slots=True)
@@ -89,6 +96,14 @@ class SharedStep:
 @dataclass(frozen=True, slots=True)
 class OutsideStep:
     """`outside SPEC holds VER`."""
+
+    spec: Spec
+    version: Version
+
+
+@dataclass(frozen=True, slots=True)
+class MatchesStep:
+    """`matches SPEC holds VER`."""
 
     spec: Spec
     version: Version
@@ -158,8 +173,8 @@ class DeriveStep:
 
 
 Step = Union[
-    NeedStep, GateStep, SharedStep, OutsideStep, LimitStep, BarStep, LockStep, ExcludeStep, UnknownStep, AnyStep,
-    DigitStep, DeriveStep,
+    NeedStep, GateStep, SharedStep, OutsideStep, MatchesStep, LimitStep, BarStep, LockStep, ExcludeStep, UnknownStep,
+    AnyStep, DigitStep, DeriveStep,
 ]
 
 
@@ -239,6 +254,8 @@ def atom_text(atom: Atom, spelling: Spelling = PLAIN) -> str:
         return f"shared {specs_text(atom.alternatives, spelling)}"
     if isinstance(atom, OutsideAtom):
         return f"outside {spec_text(atom.spec, spelling)}"
+    if isinstance(atom, MatchesAtom):
+        return f"matches {spec_text(atom.spec, spelling)}"
     return f"bit {atom.bit} of {spelling.name_text(atom.package)}"
 
 
@@ -259,6 +276,7 @@ STEP_TEXTS: dict[type, StepWriter] = {
     GateStep: lambda s, sp: f"gate {version_text(s.version, sp)} line {s.line}",
     SharedStep: lambda s, sp: f"shared {specs_text(s.alternatives, sp)}",
     OutsideStep: lambda s, sp: f"outside {spec_text(s.spec, sp)} holds {version_text(s.version, sp)}",
+    MatchesStep: lambda s, sp: f"matches {spec_text(s.spec, sp)} holds {version_text(s.version, sp)}",
     LimitStep: lambda s, sp: f"limit {place_text(s.place, sp)} line {s.line}",
     BarStep: lambda s, sp: f"limit {place_text(s.place, sp)} line {s.line} bars {version_text(s.version, sp)}",
     LockStep: lambda s, sp: f"lock line {s.line} bars {version_text(s.version, sp)}",
@@ -316,6 +334,8 @@ def read_atom(text: str, spelling: Spelling) -> Atom:
         atom = SharedAtom(words.alternatives())
     elif kind == "outside":
         atom = OutsideAtom(words.spec())
+    elif kind == "matches":
+        atom = MatchesAtom(words.spec())
     elif kind == "bit":
         bit = words.bit()
         words.expect("of")
@@ -373,11 +393,11 @@ def read_gate(words: Words) -> Step:
     return GateStep(version, words.line())
 
 
-def read_outside(words: Words) -> Step:
-    """The rest of a line with `outside`."""
+def read_held(words: Words, kind: Callable[[Spec, Version], Step]) -> Step:
+    """The rest of a line with `outside` or `matches`."""
     spec = words.spec()
     words.expect("holds")
-    return OutsideStep(spec, words.version())
+    return kind(spec, words.version())
 
 
 def read_lock(words: Words) -> Step:
@@ -407,7 +427,8 @@ STEP_FORMS: dict[str, Callable[[Words], Step]] = {
     "need": read_need,
     "gate": read_gate,
     "shared": lambda words: SharedStep(words.alternatives()),
-    "outside": read_outside,
+    "outside": lambda words: read_held(words, OutsideStep),
+    "matches": lambda words: read_held(words, MatchesStep),
     "limit": read_limit,
     "lock": read_lock,
     "exclude": lambda words: read_barred(words, ExcludeStep),

@@ -8,13 +8,14 @@
 Texts are bytes; each reader raises Fault with the text and the line that docs/FORMATS.md defines. A value has one text, and
 reading what a writer wrote gives the value again. The parts are in words.py, catalogue.py, reports.py, dictionary.py.
 """
-from tools.catalogue import Catalogue, CatalogueLine, ExcludeLine, FavourLine, LimitsLine, Line, LockLine, NeedsLine
-from tools.catalogue import Placed, Request, RequestLine, RULES, SkippedLine, UnknownLine, VersionLine, WishLine
+from tools.catalogue import Catalogue, CatalogueLine, ExcludeLine, FavourLine, LimitsLine, Line, LockLine, ManyLine
+from tools.catalogue import NeedsLine, Placed, Request, RequestLine, RULES, SkippedLine, UnknownLine, VersionLine, WishLine
 from tools.catalogue import catalogue_text, decoded, encoded, line_text, read_catalogue, read_request, request_text
 from tools.catalogue import split_input
 from tools.dictionary import Dictionary, RealSpelling, escape, read_dictionary
 from tools.reports import Answer, AnyAtom, AnyStep, Atom, BarStep, BitAtom, DeriveStep, DigitStep, Entry, ExcludeStep
-from tools.reports import GateStep, Install, LeftOut, LimitStep, Literal, LockStep, NeedStep, OutsideAtom, OutsideStep
+from tools.reports import GateStep, Install, LeftOut, LimitStep, Literal, LockStep, MatchesAtom, MatchesStep, NeedStep
+from tools.reports import OutsideAtom, OutsideStep
 from tools.reports import Place, Refused, Report, ReportReader, SharedAtom, SharedStep, Step, UnknownStep, WishedEntry
 from tools.reports import answer_text, atom_text, literal_text, read_report, report_text, step_text
 from tools.words import PLAIN, And, Bad, Condition, Fault, Or, Span, Spec, Spelling, Version, Words, cases

@@ -73,7 +73,7 @@ class Locks(FolderCase):
             (b"lock 1", b"lock 2", 1, "`1` is due, not `2`"), (b"lock 1", b"\xfflock 1", 1, "control characters"),
             (b"\n", b"\r\n", 1, "control characters"), (b"catalogue sha256", b"catalogue md5", 2, "isn't `sha256:` and 64 digits"),
             (b"entries 3", b"entries 4", 8, "it ends after 3 entries of 4"), (b"entries 3", b"entries 03", 4, "isn't a number"),
-            (b"libc6 2.36-9 for", b"app 2.36-9 for", 7, "`app` is locked already"), (b"for request", b"of request", 5, "`for` or `wished` is due"),
+            (b"libc6 2.36-9 for", b"app 1.1-1 for", 7, "`app 1.1-1` is locked already"), (b"for request", b"of request", 5, "`for` or `wished` is due"),
             (b"app 1.1-1 for request", b"app  1.1-1 for request", 5, "exactly one space"), (b"line 12", b"line 0", 7, "lines are numbered from 1"),
             (b"line 12", b"line 12 x", 7, "a word too many"), (b"for request line 2", b"for request", 5, "due"),
         ]:
@@ -137,6 +137,42 @@ class Locks(FolderCase):
         whole = self.lines("--wish", "--whole", self.catalogue, self.lock, "--request", request)
         self.assertEqual(whole, ["needs app", "wish libc6 2", "wish app 2", "wish libstdc_p_p6 3"])
         self.assert_fault("lock lines: --wish --whole needs --request, to whose end the wishes go", "lock", "lines", "--wish", "--whole", self.catalogue, self.lock)
+
+    # -- several versions of a marked package
+
+    def several(self):
+        """A catalogue with a marked package, an install report with two versions of it, and their lock."""
+        catalogue = self.write("many.catalogue", "many a\nversion a 1\nversion a 2\nversion a 3\nversion b 1\n")
+        report = self.write("many.report", "install\na=2 for request line 1\na=1 for request line 2\nb=1 for request line 3\n")
+        text = run("lock", "write", catalogue, report)[1]
+        return catalogue, self.write("many.lock", text), text
+
+    def test_several_versions(self):
+        catalogue, lock, text = self.several()
+        self.assertEqual(text.splitlines()[4:6], [b"a 2 for request line 1", b"a 1 for request line 2"])
+        self.assertEqual(lock_text(read_lock(text)), text)
+        self.assertEqual(self.lines("--wish", catalogue, lock), ["wish a 2", "wish a 1", "wish b 1"])
+        self.assertEqual(self.lines("--keep", catalogue, lock, "--except", "a"), ["favour b 1"])
+        for how, word in (("--frozen", "lock"), ("--keep", "favour")):
+            wanted = f"{lock}: it has several versions of a, and one `{word}` line a package is allowed; --wish has no such bound"
+            self.assert_fault(wanted, "lock", "lines", how, catalogue, lock, status=1)
+
+    def test_several_versions_where_the_mark_is_gone(self):
+        _, lock, _ = self.several()
+        later = self.write("later.catalogue", "version a 1\nversion a 2\nversion b 1\n")
+        wanted = f"{lock}: line 6: a has another version above, and {later} has no `many` of it"
+        self.assert_fault(wanted, "lock", "lines", "--wish", later, lock, status=1)
+
+    def test_plan_of_several_versions(self):
+        catalogue, lock, text = self.several()
+        plan = lambda new: run("lock", "plan", lock, self.write("new.lock", new), catalogue)[1].decode().splitlines()
+        self.assertEqual(plan(text.replace(b"a 1 for", b"a 3 for")), ["upgrade a 1 to 3"])
+        one = text.replace(b"entries 3", b"entries 2").replace(b"a 1 for request line 2\n", b"")
+        self.assertEqual(plan(one), ["remove a 1"])
+        more = text.replace(b"entries 3", b"entries 4").replace(b"b 1 for", b"a 3 for request line 4\nb 1 for")
+        self.assertEqual(plan(more), ["install a 3"])
+        self.assertEqual(plan(text.replace(b"a 1 for", b"c 1 for").replace(b"a 2 for", b"c 2 for")),
+                         ["install c 2", "install c 1", "remove a 2", "remove a 1"])
 
     # -- plan
 

@@ -131,6 +131,49 @@ CONDITIONAL_LRAT = """\
 17 0 2 10 1 16 0
 """
 
+# A need under a condition on a marked package, of which the request needs two versions; what is needed is barred.
+MARKED = ("many c\nversion c 1\nversion c 2\nversion x 1\nexclude x 1 broken\n", """\
+needs c 2
+needs c 1
+needs x if c 1
+""", """\
+refused
+catalogue line 5
+request line 2
+request line 3
+step 1 need request line 2 case 1
+step 2 matches c 1 holds c=1
+step 3 need request line 3 case 1
+step 4 exclude line 5
+step 5 derive [not matches c 1] by 4 3
+step 6 derive [] by 1 2 5
+""")
+MARKED_CNF = """\
+c var 1 c=1
+c var 2 c=2
+c var 3 x=1
+c holds 4 c 1
+c clauses 1..1 catalogue line 5: exclude x 1 broken
+c clauses 2..2 request line 2: needs c 1
+c clauses 3..4 holds c 1
+c clauses 5..5 request line 3: needs x if c 1
+p cnf 4 5
+-3 0
+1 0
+4 -1 0
+-4 1 0
+-4 3 0
+"""
+# Variable 5 is `matches c 1`. By line 8 the SPEC holds where it is true.
+MARKED_LRAT = """\
+6 5 -1 0 0
+7 -5 1 0 -6 0
+8 4 -5 0 3 7 0
+9 -5 3 0 8 5 0
+10 -5 0 1 9 0
+11 0 2 6 10 0
+"""
+
 # Two versions of one package, distinguished by a bit of their places.
 APART = ("version a 1\nversion a 2\n", "needs a 1\nneeds a 2\n", """\
 refused
@@ -193,6 +236,7 @@ class Exports(unittest.TestCase):
         for texts, formula, proof in [
             (LIMITED, LIMITED_CNF, LIMITED_LRAT),
             (CONDITIONAL, CONDITIONAL_CNF, CONDITIONAL_LRAT),
+            (MARKED, MARKED_CNF, MARKED_LRAT),
             (APART, APART_CNF, APART_LRAT),
         ]:
             made = exported(*texts)
@@ -326,6 +370,21 @@ class Faults(unittest.TestCase):
                 catalogue, request, report = APART
                 self.assertIn(old, report)
                 self.assert_fault((catalogue, request, report.replace(old, new)), line, reason)
+
+    def test_steps_over_marked_packages(self) -> None:
+        for old, new, line, reason in [
+            ("matches c 1 holds c=1", "matches c 2 holds c=1", 6, "c=1 doesn't match c 2"),
+            ("matches c 1 holds c=1", "matches c holds c=3", 6, "c=3 isn't listed"),
+            ("matches c 1 holds c=1", "matches x holds x=1", 6, "x isn't marked `many`"),
+            ("matches c 1 holds c=1", "digit c=1 place 0 bit 0", 6, "c is marked `many`"),
+            ("[not matches c 1]", "[not matches x]", 9, "x isn't marked `many`"),
+            ("[not matches c 1]", "[not bit 0 of c]", 9, "c is marked `many`"),
+        ]:
+            with self.subTest(new):
+                catalogue, request, report = MARKED
+                self.assertIn(old, report)
+                self.assert_fault((catalogue, request, report.replace(old, new)), line, reason)
+        self.assert_fault(("many a\n" + APART[0], *APART[1:]), 6, "a is marked `many`")
 
     def test_wishes(self) -> None:
         catalogue, request, report = WISHES

@@ -21,7 +21,9 @@ step 10 any c=1
 step 11 digit c=1 place 3 bit 31
 step 12 need p=1 line 2 case 0
 step 13 derive [any c; bit 0 of c; c=1; not outside c 9; not shared c | d 2..4] by 0 1
-step 14 derive [] by 13
+step 14 matches d 2..4 holds d=2
+step 15 derive [matches d 2..4; not matches d] by 14
+step 16 derive [] by 13
 | a message, \xff and
 | 
 """
@@ -42,6 +44,10 @@ FAULTS = [
     ("refused\nstep 1 derive [maybe a=1] by 1\n", 2), ("refused\nstep 1 guess\n", 2), ("refused\nstep 1\n", 2), ("refused\nstep 1 \n", 2),
     ("refused\nstep 1 any a=1\nstep 2 any a=1", 3), ("refused\nstep 1 shared a | \n", 2), ("refused\nstep 1 outside a 1 a=1\n", 2),
     ("refused\nstep 1 outside a 2..2 holds a=1\n", 2), ("refused\nstep 1 limit request line 1 bars\n", 2),
+    ("refused\nstep 1 matches a 1 a=1\n", 2), ("refused\nstep 1 matches a\n", 2),
+    ("refused\nstep 1 matches a 2..2 holds a=2\n", 2), ("refused\nstep 1 matches a | b holds a=1\n", 2),
+    ("refused\nstep 1 derive [matches a | b] by 1\n", 2), ("refused\nstep 1 derive [matches a=1] by 1\n", 2),
+    ("refused\nstep 1 derive [matches a; matches a] by 1\n", 2), ("refused\nstep 1 derive [shared a; matches a] by 1\n", 2),
 ]
 
 
@@ -50,11 +56,11 @@ class Reports(unittest.TestCase):
         data = ROWS.encode("latin1")
         report = texts.read_report(data)
         self.assertEqual(texts.report_text(report), data)
-        self.assertEqual(len({type(step) for step in report.steps}), 12)
+        self.assertEqual(len({type(step) for step in report.steps}), 13)
         self.assertEqual(report.message[1], "")
 
     def test_examples_are_written_as_they_were(self):
-        for name in ("app", "conflict", "locked", "wishes", "held", "debian"):
+        for name in ("app", "conflict", "locked", "wishes", "majors", "held", "debian"):
             data = data_bytes(f"{name}.report")
             self.assertEqual(texts.report_text(texts.read_report(data)), data)
 

@@ -17,16 +17,18 @@ CATALOGUE_FAULTS = [
     "version a 1\nneeds b if (c)", "version a 1\nneeds b if c and", "version a 1\nneeds b if ( c",
     "version a 1\nneeds b if c )", "version a 1\nneeds b if ( )", "version a 1\nneeds b holds", "version a 1\nlimits b | c",
     "version a 1\nneeds b if " + " or ".join(["c"] * 17), "version a 1\nneeds b if " + "( " * 17 + "c" + " )" * 17,
+    "version a 1\nmany a", "many a\nmany a", "many a\nversion a 1\nmany a", "many", "many a 1", "many if", "many -a", " many a",
     "wish a 1", "Version a 1", "\ufeffversion a 1", "version a 1\nneeds b 1..2..3", "version a 1\nneeds b ..3",
 ]
 REQUEST_FAULTS = [
     "version a 1", "lock a 1", "wish b 1", "wish a 3", "wish a 1\nwish a 1", "wish a 01", "needs a\n needs a",
-    "needs a\nunknown x", "limits a 1..1", "needs a\r", "favour a 1", "exclude a 1 x",
+    "needs a\nunknown x", "many a", "limits a 1..1", "needs a\r", "favour a 1", "exclude a 1 x",
 ]
 GOOD = [
     "", "\n", "#", "# \xff anything\n\nversion a 0\nversion a 4294967295", "version 3d 1\nversion a-b.c 1\nversion _ 1",
     "version a 1\nneeds b 1..4 | c if d and e\nneeds b 1..4 | c if d and e\nlimits b 2..5\nlimits b 2..5",
     "version a 1\nlock a 1\nfavour a 1\nexclude a 1 x\nunknown y", "version a 1\nversion b 1\nlock a 1\nlock b 1",
+    "many a\nversion a 1\nversion b 1\nmany many\nversion many 1\nversion a 2", "many a",
     "version a 1\nneeds a if " + " or ".join(["c"] * 16), "version request 1\nneeds any | line if holds",
     "version a 1\nneeds b if a and ( b or c ) and d or ( e or f ) or g and ( h and i )",
 ]
@@ -59,7 +61,7 @@ class Catalogues(unittest.TestCase):
             self.assertEqual(texts.read_catalogue(whole), catalogue)
 
     def test_examples_are_written_as_they_were(self):
-        for name, base in (("app", "app"), ("conflict", "app"), ("locked", "locked"), ("wishes", "wishes")):
+        for name, base in (("app", "app"), ("conflict", "app"), ("locked", "locked"), ("wishes", "wishes"), ("majors", "majors")):
             data, request = data_bytes(f"{base}.catalogue"), data_bytes(f"{name}.request")
             catalogue = texts.read_catalogue(data)
             self.assertEqual(texts.catalogue_text(catalogue), data)
@@ -87,6 +89,12 @@ class Catalogues(unittest.TestCase):
         self.assertEqual(catalogue.matches(texts.Spec("b", (2, 3))), [b])
         self.assertEqual(catalogue.matches(texts.Spec("b", (3,))), [])
         self.assertEqual(catalogue.matches(texts.Spec("none", None)), [])
+
+    def test_marked_packages(self):
+        catalogue = texts.read_catalogue(b"version b 1\nmany a\nneeds a\nversion a 1\nversion a 2\nmany none\n")
+        self.assertEqual(catalogue.many, {"a", "none"})
+        self.assertEqual(catalogue.placed[2].owner, texts.Version("b", 1))
+        self.assertEqual(texts.read_catalogue(b"version a 1\n").many, frozenset())
 
     def test_cases(self):
         line = texts.read_catalogue(b"version a 1\nneeds b if ( c or d ) and ( e or f )\n").lines[1]

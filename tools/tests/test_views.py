@@ -10,7 +10,7 @@ from html.parser import HTMLParser
 from unittest import mock
 
 from tools import texts
-from tools.explain import tree_of
+from tools.explain import step_sentences, tree_of
 from tools.files import progress
 from tools.forms import read_json, report_json
 from tools.graph import MOST_NODES, conflict_graph, graph_svg
@@ -64,6 +64,14 @@ KINDS = (
     b"step 15 limit request line 2\nstep 16 outside c 1 holds c=2\nstep 17 derive [] by 1 2 4 5 6 7 8 3\n",
 )
 KINDS = (KINDS[0], KINDS[1], KINDS[2].replace(b"[not any c; bit 0 of c; c=1; not outside c 9; shared c 1..3 | d]", b"[bit 0 of c; c=1; not any c; not outside c 9; shared c 1..3 | d]"))
+
+
+# One with a step and literals over a marked package.
+MARKED = (
+    b"many c\nversion c 1\nversion c 2\nversion x 1\nexclude x 1 broken\n", b"needs c 2\nneeds c 1\nneeds x if c 1\n",
+    b"refused\ncatalogue line 5\nrequest line 2\nrequest line 3\nstep 1 need request line 2 case 1\nstep 2 matches c 1 holds c=1\n"
+    b"step 3 need request line 3 case 1\nstep 4 exclude line 5\nstep 5 derive [not matches c 1] by 4 3\nstep 6 derive [] by 1 2 5\n",
+)
 
 
 class Loads(HTMLParser):
@@ -137,6 +145,15 @@ class Views(FolderCase):
         self.assertEqual([line.split(". ")[0].strip() for line in lines], [str(n) for n in range(1, 18)])
         self.assertIn("  13. By catalogue line 9 (needs p if c 1 and d or c 2): if d 2 is installed, p 1 is needed where c 1 and d are there.", lines)
         self.assertIn("  14. From 1: bit 0 of c is 1 or c 1 or no version of c or no version outside c 9 or a match of c 1..3 | d.", lines)
+
+    def test_a_marked_package(self):
+        bundle = bundle_of(*MARKED)
+        self.assertEqual(step_sentences(bundle)[1:5:3], ["2. c 1 matches c 1.", "5. From 4 and 3: no match of c 1."])
+        self.assertEqual(read_json(report_json(bundle.report), "x"), bundle.report)
+        self.assertEqual({node.label for node in conflict_graph(bundle).nodes}, {"the request", "c 1", "x 1", "line 5: exclude x 1 broken"})
+        with self.assertRaises(texts.Fault) as raised:
+            bundle_of(*MARKED[:2], MARKED[2].replace(b"c 1 holds c=1", b"c 3 holds c=3"))
+        self.assertEqual(raised.exception.line, 6)
 
     def test_tree_and_why(self):
         self.assertEqual(self.view("tree", DEBIAN), TREE)
