@@ -1,6 +1,6 @@
 -- The turns of wishes, one after the other: each is appended to the turns, and its steps to the
 -- steps.
-use Rattle.std.proofs.Common.{◌≡◌, ℕ, zero, suc, ◌<◌, List, [], ◌∷◌, ◌++◌, drop, length, Option, Some, None, refl, sym, ap, subst, ◌∙◌, append_assoc, arith}
+use Rattle.std.proofs.Common.{◌≡◌, ℕ, zero, suc, ◌<◌, ◌≤◌, List, [], ◌∷◌, ◌++◌, drop, length, Option, Some, None, refl, sym, ap, subst, ◌∙◌, append_assoc, arith}
 use Rattle.std.specs.Prelude.{MatchOption, slice_get}
 use Rattle.std.proofs.lemmas.Option.{same_Some}
 use Rattle.std.proofs.lemmas.List.{append-nil}
@@ -12,7 +12,7 @@ use Rattle.resolvo_report.specs.View.{step_of}
 use Rattle.resolvo_report.specs.declared.step.Step as code
 use Rattle.resolve_answer.specs.Wishes.{asked_by}
 use Rattle.resolve_answer.specs.declared.turns.Outcome.{Outcome}
-use Rattle.resolve_answer.specs.ReportTurns.{AreReportTurns, Solved, AreTurnsFor, IsWishedTurn}
+use Rattle.resolve_answer.specs.ReportTurns.{AreReportTurns, Solved, AreTurnsFor, IsWishedTurn, HasPlaceTooGreat}
 use Rattle.resolve_answer.specs.declared.wishes.Wish.{Wish}
 
 -- ---- lists
@@ -78,3 +78,7 @@ turns_free numbers turns places w ws m steps t rest after is wished more = (
   subst (λ (b : Option code.Step). MatchOption b (IsWishedTurn numbers places (asked_by w) (slice_get turns m) t × AreTurnsFor numbers turns places ws (suc m) steps rest after)
       (λ s. (suc (length steps) < 4294967296) × (t ≡ LeftOut (asked_by w) (suc (length steps))) × AreTurnsFor numbers turns places ws m (steps ++ step_of s ∷ []) rest after)) (sym is) (wished, more),
 )
+
+-- a step's place that no number is for
+pub too_great : (places : List ℕ) (step place : ℕ) → slice_get places step ≡ Some place → 4294967295 ≤ place → HasPlaceTooGreat places
+too_great places step place at past = (step, place, at, past)

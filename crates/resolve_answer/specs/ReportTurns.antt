@@ -67,3 +67,12 @@ AreTurnsFor chosen turns places (w ∷ ws) n steps matched after = (t : Turn) ×
 abbrev pub AreReportTurns : Outcome → List Wish → List Step → List Turn → List Step → Type 0
 AreReportTurns o wishes steps matched after = (t : Turn) × (rest : List Turn) × (matched ≡ t ∷ rest) × IsFirstTurn o.chosen.now o.turns.now t
     × AreTurnsFor o.chosen.now o.turns.now o.places.now wishes 0 steps rest after
+
+-- Some step has a place among the written steps that no number is for: the numbers are 1 to 4294967295.
+abbrev pub HasPlaceTooGreat : List ℕ → Type 0
+HasPlaceTooGreat places = (step place : ℕ) × (slice_get places step ≡ Some place) × (4294967295 ≤ place)
+
+-- So many steps have used all numbers, or some step has such a place.
+pub data LacksStepNumber (places : List ℕ) (count : ℕ) : Type 0 where
+  steps : 4294967295 ≤ count → LacksStepNumber places count
+  places : HasPlaceTooGreat places → LacksStepNumber places count

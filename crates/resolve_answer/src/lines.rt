@@ -1,6 +1,7 @@
 //! The lines of a text, kept while it is written: no copy of the whole text is made.
 
-ghost use Rattle.std.specs.Prelude.{ℕ, List, ◌++◌, ◌∷◌, [], IfOk, OnOk, IfSome};
+ghost use Rattle.std.specs.Prelude.{ℕ, List, ◌++◌, ◌∷◌, [], IfOk, IsOkUnless, OnOk, IfSome};
+ghost use Rattle.resolvo_pool_core.specs.declared.want.Want.TheVariants.{Memory};
 ghost use Rattle.resolvo_report.specs.View.{messages_of};
 ghost use Rattle.resolve_answer.specs.Message.{AreLinesOf, AreBegun};
 
@@ -20,11 +21,12 @@ struct Lines {
 impl Lines {
     /// Takes one byte more. A whole line has room for exactly its bytes.
     fn push(&mut self, byte: u8) -> R<()>
-        ensures { OnOk result
+        ensures pushed { OnOk result
             ((text : List ℕ)
             → AreBegun text (messages_of self.old.whole.items) self.old.begun.items
             → AreBegun (text ++ byte ∷ [])
             (messages_of self.new.whole.items) self.new.begun.items) }
+        ensures refusal { IsOkUnless result Memory }
     {
         if byte != b'\n' {
             self.begun.push(byte)?;
@@ -56,8 +58,9 @@ impl fmt::Write for Lines {
 /// The lines of the text of a value, without their newlines. Bytes after the last newline are
 /// dropped.
 pub(crate) fn lines_of<D: fmt::Display>(alloc: Global, value: &D) -> R<Vec<Vec<u8>>>
-    ensures { IfOk result
+    ensures lines { IfOk result
         (λ v. IfSome (D.output value.now) (λ text. AreLinesOf text (messages_of v.items))) }
+    ensures refusal { IsOkUnless result Memory }
 {
     let mut lines = Lines {
         alloc,

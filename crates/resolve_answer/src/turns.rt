@@ -1,8 +1,9 @@
 //! The turns of a report: the versions chosen in each, and the wishes left out, each with its step.
 
-ghost use Rattle.std.specs.Prelude.{◌≡◌, ◌<◌, ◌++◌, ◌∷◌, [], length, slice_get, IfOk, OnOk};
+ghost use Rattle.std.specs.Prelude.{◌≡◌, ◌<◌, ◌≤◌, ◌++◌, ◌∷◌, [], length, slice_get, IfOk, IsErrOf, IsOkUnless, OnOk};
+ghost use Rattle.resolvo_pool_core.specs.declared.want.Want.TheVariants.{Ids, Memory};
 ghost use Rattle.resolvo_report.specs.View.{steps_of};
-ghost use Rattle.resolve_answer.specs.ReportTurns.{number_at, AreReportTurns, AreWanted, IsBetween, IsFirstTurn, IsWishedTurn, Wants};
+ghost use Rattle.resolve_answer.specs.ReportTurns.{number_at, AreReportTurns, AreWanted, IsBetween, IsFirstTurn, IsWishedTurn, Wants, HasPlaceTooGreat, LacksStepNumber};
 
 use crate::wishes::Wish;
 use resolve_order as report;
@@ -24,7 +25,8 @@ pub struct Outcome<'a> {
 
 /// The steps of the turns, for those that have one. `Memory` where they find no room.
 pub fn wanted_steps(alloc: Global, turns: &[Turn<SolvableId>]) -> R<Vec<usize>>
-    ensures { IfOk result (λ v. AreWanted turns.now v.items) }
+    ensures steps { IfOk result (λ v. AreWanted turns.now v.items) }
+    ensures refusal { IsOkUnless result Memory }
 {
     let mut wanted = Vec::new(alloc);
     for turn in turns {
@@ -35,7 +37,8 @@ pub fn wanted_steps(alloc: Global, turns: &[Turn<SolvableId>]) -> R<Vec<usize>>
 
 /// Wants a step, if it is one.
 fn want(wanted: &mut Vec<usize>, step: Option<usize>) -> R<()>
-    ensures { OnOk result (Wants step wanted.old.items wanted.new.items) }
+    ensures steps { OnOk result (Wants step wanted.old.items wanted.new.items) }
+    ensures refusal { IsOkUnless result Memory }
 {
     if let Some(step) = step {
         wanted.push(step)?;
@@ -69,8 +72,10 @@ impl<'a> Outcome<'a> {
     }
 
     /// The number of a turn's step among the written steps; 0 is none. `Ids` where it is too great.
+    #[tactic(auto, using(crate::proofs::WishTurns::too_great))]
     fn number_of(self, turn: &Turn<SolvableId>) -> R<u32>
-        ensures { IfOk result (λ n. n ≡ number_at self.entry.places.now turn.now.step) }
+        ensures number { IfOk result (λ n. n ≡ number_at self.entry.places.now turn.now.step) }
+        ensures ids { IsErrOf result Ids → HasPlaceTooGreat self.entry.places.now }
     {
         let Some(step) = turn.step else {
             return Ok(0);
@@ -86,10 +91,11 @@ impl<'a> Outcome<'a> {
 
     /// The turn of a wish that the solver was asked for, by the place of its turn there.
     fn wished(self, wish: (u32, VersionNo), place: usize) -> R<report::Turn<'a>>
-        ensures { IfOk result
+        ensures turn { IfOk result
             (λ t.
             IsWishedTurn self.entry.chosen.now self.entry.places.now wish
             (slice_get self.entry.turns.now place) t) }
+        ensures ids { IsErrOf result Ids → HasPlaceTooGreat self.entry.places.now }
     {
         match self.turns.get(place) {
             Some(turn) => {
@@ -114,6 +120,7 @@ fn push_step(steps: &mut Vec<Step>, step: Step) -> R<u32>
     ensures pushed { OnOk result (steps.new.items ≡ steps.old.items ++ step ∷ []) }
     ensures number { IfOk result (λ n. n ≡ length steps.new.items) }
     ensures bound { OnOk result (length steps.new.items < 4294967296) }
+    ensures ids { IsErrOf result Ids → 4294967295 ≤ length steps.new.items }
 {
     if steps.len() >= 4_294_967_295 {
         return Err(Want::Ids);
@@ -131,10 +138,12 @@ pub fn report_turns<'a>(
     wishes: Vec<Wish>,
     steps: &mut Vec<Step>,
 ) -> R<Vec<report::Turn<'a>>>
-    ensures { IfOk result
+    ensures turns { IfOk result
         (λ v.
         AreReportTurns outcome.entry wishes.items (steps_of steps.old.items) v.items
         (steps_of steps.new.items)) }
+    ensures ids { IsErrOf result Ids
+        → LacksStepNumber outcome.entry.places.now (length steps.new.items) }
 {
     let mut matched = Vec::new(alloc);
     matched.push(outcome.first())?;

@@ -1,9 +1,10 @@
 //! The wishes of a request. Those that a lock or an exclusion forbids are left out without a
 //! search.
 
-ghost use Rattle.std.specs.Prelude.{◌≡◌, map, IfOk, OnOk};
+ghost use Rattle.std.specs.Prelude.{◌≡◌, map, IfOk, IsOkUnless, OnOk};
 ghost use Rattle.resolvo_catalogue_core.specs.Questions.{AreAll, IsWish, LineIs};
 ghost use Rattle.std.specs.Option.{option_map};
+ghost use Rattle.resolvo_pool_core.specs.declared.want.Want.TheVariants.{Memory};
 ghost use Rattle.resolvo_report.specs.View.{step_of};
 ghost use Rattle.resolve_refusal.specs.InstallSteps.{IsForbidStepOf};
 ghost use Rattle.resolve_answer.specs.Wishes.{AreWishesOf, asked_by, free_of};
@@ -28,6 +29,7 @@ pub fn wishes_of(alloc: Global, catalogue: &Catalogue, request: &Request) -> R<V
     ensures wishes { IfOk result (λ v. AreWishesOf catalogue.now request.now.wishes v.items) }
     ensures lines { OnOk result
         (AreAll (map (λ f. f.0) request.now.wishes) (λ n. LineIs request.now.lines n IsWish)) }
+    ensures refusal { IsOkUnless result Memory }
 {
     let mut wishes = Vec::new(alloc);
     for wish in request.wishes() {
@@ -41,6 +43,7 @@ fn wish_of(alloc: Global, catalogue: &Catalogue, wish: (u32, VersionNo)) -> R<Wi
     ensures asked { IfOk result (λ w. asked_by w ≡ wish) }
     ensures forbidden { IfOk result
         (λ w. IsForbidStepOf catalogue.now w.version.0 (option_map step_of w.forbidden_by)) }
+    ensures refusal { IsOkUnless result Memory }
 {
     let (line, version) = wish;
     let forbidden_by = forbid_step(alloc, catalogue, version)?;
@@ -53,7 +56,8 @@ fn wish_of(alloc: Global, catalogue: &Catalogue, wish: (u32, VersionNo)) -> R<Wi
 
 /// The wishes of the search: those that no step forbids. `Memory` where there is no room.
 pub fn free_wishes(alloc: Global, wishes: &[Wish]) -> R<Vec<SolvableId>>
-    ensures { IfOk result (λ v. v.items ≡ free_of wishes.now) }
+    ensures wishes { IfOk result (λ v. v.items ≡ free_of wishes.now) }
+    ensures refusal { IsOkUnless result Memory }
 {
     let mut free = Vec::new(alloc);
     for wish in wishes {

@@ -14,7 +14,7 @@ use Rattle.resolve_answer.proofs.answer.installed_over.Goals as goal
 
 pub returns : goal.returns
 returns c = λ asks is.
-    let (t, rest, are, first_turn, matched) = c.in_ok-matched.ensures in
+    let (t, rest, are, first_turn, matched) = c.in_ok-matched.ensures.turns in
     let proof = c.args.proof.items in
     let wanted = c.as_slice.result.now in
     let kept_is = sym c.as_slice-2.ensures.value in
@@ -24,6 +24,6 @@ returns c = λ asks is.
     let stays : StaysProof proof c.as_slice-2.result.now = subst (λ (ks : List (ProofStep NameId SolvableId)). StaysProof proof ks) kept_is c.in_ok-steps.ensures.proof in
     let one_place : HaveOnePlace proof → HaveOnePlace c.as_slice-2.result.now = subst (λ (ks : List (ProofStep NameId SolvableId)). HaveOnePlace proof → HaveOnePlace ks) kept_is c.in_ok-steps.ensures.places in
     let one_sign : HaveOneSigns proof → HaveOneSigns c.as_slice-2.result.now = subst (λ (ks : List (ProofStep NameId SolvableId)). HaveOneSigns proof → HaveOneSigns ks) kept_is c.in_ok-steps.ensures.signs in
-    installed_reported c.args.catalogue.now c.args.request.now c.args.provider.now c.args.wishes.items asks c.args.found.solvables.now c.args.found.turns.now proof is wanted (subst (λ (ws : List ℕ). AreWanted c.args.found.turns.now ws) (sym c.as_slice.ensures.value) c.in_ok-wanted.ensures)
+    installed_reported c.args.catalogue.now c.args.request.now c.args.provider.now c.args.wishes.items asks c.args.found.solvables.now c.args.found.turns.now proof is wanted (subst (λ (ws : List ℕ). AreWanted c.args.found.turns.now ws) (sym c.as_slice.ensures.value) c.in_ok-wanted.ensures.steps)
     c.as_slice-2.result.now c.as_slice-4.result.now trimmed stays one_place one_sign (steps_of c.in_ok-written.written.items) c.in_ok-written.ensures.steps c.as_slice-3.result.now (c.as_slice-3.ensures.value ∙ c.in_ok-chosen.ensures) t rest (steps_of c.report_turns.new.steps.items) first_turn matched (report_of c.in_ok-install_report.field-0)
     (subst (λ (ts : List Turn). Serve c.args.catalogue.now c.args.request.now.lines ts (steps_of c.report_turns.new.steps.items) → IsInstallOf c.args.catalogue.now c.args.request.now.lines ts (steps_of c.report_turns.new.steps.items) (report_of c.in_ok-install_report.field-0)) turns_are c.in_ok-install_report.ensures)

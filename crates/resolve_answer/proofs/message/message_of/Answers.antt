@@ -25,4 +25,4 @@ returns-in_ok-lines-in-Some-clause-fits c = λ l there.
     let (g, drawn, is_message) = rw c.in-Some.is at c.in_ok-display.ensures.lines in
     let same = rw c.in-Some.is at c.in_ok-display.ensures.interner in
     text_lines _ _ solver.provider (offered_by l.offers) solver.proof g display.lines.items (text_of (meaning_of display.interner.now) display.lines.items) (messages_of c.in_ok-lines-in-Some.lines.items)
-    (drawn l there) is_message (ap (λ p. text_of (meaning_of p) display.lines.items) same) c.in_ok-lines-in-Some.ensures
+    (drawn l there) is_message (ap (λ p. text_of (meaning_of p) display.lines.items) same) c.in_ok-lines-in-Some.ensures.lines

@@ -1,4 +1,4 @@
-use Rattle.std.proofs.Common.{◌≡◌, ◌+◌, ◌<◌, ◌++◌, ◌∷◌, [], ℕ, suc, List, drop, length, Some, refl, sym, ◌∙◌, ap, subst, arith}
+use Rattle.std.proofs.Common.{◌≡◌, ◌+◌, ◌<◌, ◌++◌, ◌∷◌, [], ℕ, suc, List, drop, length, Some, refl, sym, ◌∙◌, ap, subst, arith, rules}
 use Rattle.std.proofs.lemmas.Iterator.Adapters.{YieldsList-from_vec}
 use Rattle.std.proofs.lemmas.Iterator.Consumers.{YieldsList-turn, YieldsList-end}
 use Rattle.std.proofs.lemmas.List.{append-nil, length-map, length_push, map-append}
@@ -8,7 +8,7 @@ use Rattle.resolve_order.specs.declared.entry.Turn.TheVariants.{LeftOut}
 use Rattle.resolvo_report.specs.Value.{Step}
 use Rattle.resolvo_report.specs.View.{step_of, steps_of}
 use Rattle.resolve_answer.specs.Wishes.{asked_by}
-use Rattle.resolve_answer.specs.ReportTurns.{AreReportTurns, AreTurnsFor}
+use Rattle.resolve_answer.specs.ReportTurns.{AreReportTurns, AreTurnsFor, LacksStepNumber}
 use Rattle.resolve_answer.specs.declared.wishes.Wish.{Wish}
 use Rattle.resolve_answer.proofs.WishTurns.{Goes, drop_all, drop_here, goes_more, turns_forbidden, turns_free}
 use Rattle.resolve_answer.proofs.turns.report_turns.Goals as goal
@@ -50,15 +50,21 @@ loop-wish-preserved c =
     let longer : suc done ≡ length (c.loop-wish.yielded ++ c.in-Some.wish ∷ []) = (let l = length_push c.loop-wish.yielded c.in-Some.wish in omega arith) in
     let matched = c.in_ok-wished-in-None-forbidden_by.field-0 in
     let goes = goes_more c.args.outcome c.args.wishes.items (steps_of c.args.steps.now.items) done c.in-Some.wish here c.loop-wish.next (c.loop-wish.next + 1) matched (steps_of c.loop-wish.steps.items) (steps_of c.loop-wish.steps.items) c.loop-wish.matched.items c.push-in-None-forbidden_by.new.self.items c.in_ok-push-in-None-forbidden_by.ensures.items
-    (λ rest after more. turns_free c.args.outcome.chosen.now c.args.outcome.turns.now c.args.outcome.places.now c.in-Some.wish (drop (suc done) c.args.wishes.items) c.loop-wish.next (steps_of c.loop-wish.steps.items) matched rest after c.in-None-forbidden_by.is c.in_ok-wished-in-None-forbidden_by.ensures
+    (λ rest after more. turns_free c.args.outcome.chosen.now c.args.outcome.turns.now c.args.outcome.places.now c.in-Some.wish (drop (suc done) c.args.wishes.items) c.loop-wish.next (steps_of c.loop-wish.steps.items) matched rest after c.in-None-forbidden_by.is c.in_ok-wished-in-None-forbidden_by.ensures.turn
     (let one : c.loop-wish.next + 1 ≡ suc c.loop-wish.next = omega arith in subst (λ (k : ℕ). AreTurnsFor c.args.outcome.chosen.now c.args.outcome.turns.now c.args.outcome.places.now (drop (suc done) c.args.wishes.items) k (steps_of c.loop-wish.steps.items) rest after) one more)) c.loop-wish.invariant.goes in
     record {
       goes = subst (λ (k : ℕ). Goes c.args.outcome c.args.wishes.items (steps_of c.args.steps.now.items) done c.in-Some.wish here c.loop-wish.next k (c.loop-wish.next + 1) (steps_of c.loop-wish.steps.items) c.push-in-None-forbidden_by.new.self.items) longer goes;
       few = (let l : length c.push-in-None-forbidden_by.new.self.items ≡ length c.loop-wish.matched.items + 1 = ap length c.in_ok-push-in-None-forbidden_by.ensures.items ∙ length_push c.loop-wish.matched.items matched in let f : c.loop-wish.next < length c.loop-wish.matched.items = c.loop-wish.invariant.few in omega arith);
     }
 
-pub returns : goal.returns
-returns c =
+pub returns-clause-turns : goal.returns-clause-turns
+returns-clause-turns c =
     let t = YieldsList-end (YieldsList-from_vec {s = c.into_iter-wish-iterator.result} c.args.wishes.items c.into_iter-wish-iterator.ensures.into_iter_gives.0 (c.into_iter-wish-iterator.ensures.into_iter_gives.1 ∙ c.args.wishes.ok.0)) c.loop-wish.yielded c.loop-wish.wish-iterator c.loop-wish.yielded_by c.next.result c.next.new.self c.in-None.is c.next.ensures.steps in
     subst (λ (ts : List Turn). AreReportTurns c.args.outcome c.args.wishes.items (steps_of c.args.steps.now.items) ts (steps_of c.loop-wish.steps.items)) (append-nil c.loop-wish.matched.items)
     (c.loop-wish.invariant.goes [] (steps_of c.loop-wish.steps.items) (subst (λ (ws : List Wish). AreTurnsFor c.args.outcome.chosen.now c.args.outcome.turns.now c.args.outcome.places.now ws c.loop-wish.next (steps_of c.loop-wish.steps.items) [] (steps_of c.loop-wish.steps.items)) (sym (drop_all (length c.loop-wish.yielded) c.args.wishes.items t.1)) (refl, refl)))
+
+pub returns-in_err-step-in-Some-forbidden_by-clause-ids : goal.returns-in_err-step-in-Some-forbidden_by-clause-ids
+returns-in_err-step-in-Some-forbidden_by-clause-ids c = search (rules, LacksStepNumber.steps)
+
+pub returns-in_err-wished-in-None-forbidden_by-clause-ids : goal.returns-in_err-wished-in-None-forbidden_by-clause-ids
+returns-in_err-wished-in-None-forbidden_by-clause-ids c = search (rules, LacksStepNumber.places)

@@ -36,7 +36,7 @@ pub loop-turn-preserved : goal.loop-turn-preserved
 loop-turn-preserved c =
     let xs = c.args.turns.now in
     let i = c.loop-turn.turn-index in
-    record { are = subst (λ (ts : List Solved). AreWanted ts c.want.new.wanted.items) (sym (take_more xs i _ c.loop-turn-test.true)) (wants_more (take i xs) (get_or xs i _) (get_or xs i _).step c.loop-turn.wanted.items c.want.new.wanted.items refl c.in_ok-want.ensures c.loop-turn.invariant.are) }
+    record { are = subst (λ (ts : List Solved). AreWanted ts c.want.new.wanted.items) (sym (take_more xs i _ c.loop-turn-test.true)) (wants_more (take i xs) (get_or xs i _) (get_or xs i _).step c.loop-turn.wanted.items c.want.new.wanted.items refl c.in_ok-want.ensures.steps c.loop-turn.invariant.are) }
 
-pub returns : goal.returns
-returns c = subst (λ (ts : List Solved). AreWanted ts c.loop-turn.wanted.items) (take_all c.loop-turn.turn-index c.args.turns.now c.loop-turn-test.false) c.loop-turn.invariant.are
+pub returns-clause-steps : goal.returns-clause-steps
+returns-clause-steps c = subst (λ (ts : List Solved). AreWanted ts c.loop-turn.wanted.items) (take_all c.loop-turn.turn-index c.args.turns.now c.loop-turn-test.false) c.loop-turn.invariant.are

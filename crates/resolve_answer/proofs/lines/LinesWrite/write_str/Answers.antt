@@ -11,7 +11,7 @@ pub loop-byte-preserved : goal.loop-byte-preserved
 loop-byte-preserved c = λ text are.
     let i = c.loop-byte.byte-index in
     let bytes = c.as_bytes-byte-items.result.now in
-    let after = c.in-Ok.ensures (text ++ take i bytes) (c.loop-byte.invariant text are) in
+    let after = c.in-Ok.ensures.pushed (text ++ take i bytes) (c.loop-byte.invariant text are) in
     subst (λ (ys : List ℕ). AreBegun ys (messages_of c.push.new.self.whole.items) c.push.new.self.begun.items) (append_assoc text (take i bytes) (get_or bytes i 0 ∷ []) ∙ ap (λ (ys : List ℕ). text ++ ys) (sym (take_more bytes i 0 c.loop-byte-test.true))) after
 
 pub returns : goal.returns
