@@ -3,6 +3,7 @@ ghost use Rattle.std.specs.Prelude.{◌≡◌, length, map, None, IfOk, IfErr, I
 ghost use Rattle.resolvo_pool.specs.Cached.{IsCancelledBy};
 ghost use Rattle.resolvo_pool_core.specs.declared.want.Want.TheVariants.{Memory};
 ghost use Rattle.resolvo_graph.specs.Message.{IsLengthBelow};
+ghost use Rattle.resolvo_graph.specs.Words.{meaning_by};
 ghost use Rattle.resolvo.specs.Conflicts.{clause_of_step, conflict_clauses};
 ghost use Rattle.resolvo.specs.Solver.{HoldsConflict, IsGraphOf, IsTrueOf, IsConflictMessage};
 ghost use Rattle.resolvo.specs.Solve.{AreChosenOnce, AskNothing, EndsSo, Counts};
@@ -98,14 +99,7 @@ impl Conflict {
             → IsLengthBelow
             (IsConflictMessage D.NameId.eq D.SolvableId.eq (D.name_of_solvable solver.now.provider)
             solver.now)
-            (record {
-              name_of = D.name_of_version_set solver.now.provider;
-              members_of = D.members_of solver.now.provider;
-              name_text = D.name_text solver.now.provider;
-              version_set_text = D.version_set_text solver.now.provider;
-              versions_text = D.merged_text solver.now.provider;
-              word_text = D.string_text solver.now.provider;
-            })
+            (meaning_by D.Interner solver.now.provider)
             bound None) }
         ensures refusal { IsOkUnless result Memory }
     {

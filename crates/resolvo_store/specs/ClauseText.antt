@@ -7,6 +7,7 @@ use Rattle.resolvo_pool_core.specs.declared.id.StringId.{StringId}
 use Rattle.resolvo_pool_core.specs.declared.id.VariableId.{VariableId}
 use Rattle.resolvo_pool_core.specs.declared.id.VersionSetId.{VersionSetId}
 use Rattle.resolvo_pool_core.specs.declared.id.VersionSetUnionId.{VersionSetUnionId}
+use Rattle.resolvo_pool_core.specs.declared.provider.Interner as interner
 use Rattle.resolvo_pool_core.specs.declared.requirement.Requirement.{Requirement}
 use Rattle.resolvo_pool_core.specs.Text.{set_text, requirement_text}
 use Rattle.resolvo_store_core.specs.Signed.{Signed}
@@ -23,6 +24,17 @@ pub record Meaning (N S : Type 0) : Type 0 where
   pub name_text : N → List ℕ
   pub version_set_text : VersionSetId → List ℕ
   pub string_text : StringId → List ℕ
+
+-- the meaning by an interner's members; the last six types are those of its ids' maps and sets
+abbrev pub meaning_by : {A N S B C D E F G : Type 0} → interner.Ghosts A N S B C D E F G → A → Meaning N S
+meaning_by g i = record {
+  name_of = g.name_of_version_set i;
+  members_of = g.members_of i;
+  solvable_text = g.solvable_text i;
+  name_text = g.name_text i;
+  version_set_text = g.version_set_text i;
+  string_text = g.string_text i;
+}
 
 -- the number of a condition's case, if there is a condition
 abbrev pub case_words : Option (DenseId DisjunctionTag ℕ) → List ℕ

@@ -3,7 +3,7 @@
 //! share names.
 ghost use Rattle.std.specs.Prelude.{◌≡◌, ◌++◌, Some, codes};
 ghost use Rattle.std.specs.Fmt.{WritesOnOk};
-ghost use Rattle.resolvo_store.specs.ClauseText.{origin_words, variable_words, case_words, need_words, forbid_words, limit_words, pair_words, excluded_words, clause_words};
+ghost use Rattle.resolvo_store.specs.ClauseText.{meaning_by, origin_words, variable_words, case_words, need_words, forbid_words, limit_words, pair_words, excluded_words, clause_words};
 
 use crate::variable_map::{VariableMap, VariableOrigin};
 use resolvo_pool_core::id::{DisjunctionId, StringId, VariableId, VersionSetId};
@@ -34,14 +34,7 @@ impl<I: Interner> fmt::Display for ClauseDisplay<'_, I> {
     ghost output = { λ d.
         Some
         (clause_words
-        (record {
-          name_of = I.name_of_version_set d.interner.now;
-          members_of = I.members_of d.interner.now;
-          solvable_text = I.solvable_text d.interner.now;
-          name_text = I.name_text d.interner.now;
-          version_set_text = I.version_set_text d.interner.now;
-          string_text = I.string_text d.interner.now;
-        })
+        (meaning_by I.Interner d.interner.now)
         d.variable_map.now d.clause) };
 
     fn fmt<W: fmt::Write>(&self, f: &mut fmt::Formatter<W>) -> fmt::Result {
@@ -97,14 +90,7 @@ impl<I: Interner> ClauseDisplay<'_, I> {
     ) -> fmt::Result
         ensures { WritesOnOk W.write_str_gives f.old result
             (need_words
-            (record {
-              name_of = I.name_of_version_set self.now.interner.now;
-              members_of = I.members_of self.now.interner.now;
-              solvable_text = I.solvable_text self.now.interner.now;
-              name_text = I.name_text self.now.interner.now;
-              version_set_text = I.version_set_text self.now.interner.now;
-              string_text = I.string_text self.now.interner.now;
-            })
+            (meaning_by I.Interner self.now.interner.now)
             self.now.variable_map.now parent condition requirement)
             f.new }
     {
@@ -127,14 +113,7 @@ impl<I: Interner> ClauseDisplay<'_, I> {
     ) -> fmt::Result
         ensures { WritesOnOk W.write_str_gives f.old result
             (forbid_words
-            (record {
-              name_of = I.name_of_version_set self.now.interner.now;
-              members_of = I.members_of self.now.interner.now;
-              solvable_text = I.solvable_text self.now.interner.now;
-              name_text = I.name_text self.now.interner.now;
-              version_set_text = I.version_set_text self.now.interner.now;
-              string_text = I.string_text self.now.interner.now;
-            })
+            (meaning_by I.Interner self.now.interner.now)
             self.now.variable_map.now variable other name)
             f.new }
     {
@@ -162,14 +141,7 @@ impl<I: Interner> ClauseDisplay<'_, I> {
     ) -> fmt::Result
         ensures { WritesOnOk W.write_str_gives f.old result
             (kind.now ++ limit_words
-            (record {
-              name_of = I.name_of_version_set self.now.interner.now;
-              members_of = I.members_of self.now.interner.now;
-              solvable_text = I.solvable_text self.now.interner.now;
-              name_text = I.name_text self.now.interner.now;
-              version_set_text = I.version_set_text self.now.interner.now;
-              string_text = I.string_text self.now.interner.now;
-            })
+            (meaning_by I.Interner self.now.interner.now)
             self.now.variable_map.now first second via)
             f.new }
     {
@@ -192,14 +164,7 @@ impl<I: Interner> ClauseDisplay<'_, I> {
     ) -> fmt::Result
         ensures { WritesOnOk W.write_str_gives f.old result
             (kind.now ++ pair_words
-            (record {
-              name_of = I.name_of_version_set self.now.interner.now;
-              members_of = I.members_of self.now.interner.now;
-              solvable_text = I.solvable_text self.now.interner.now;
-              name_text = I.name_text self.now.interner.now;
-              version_set_text = I.version_set_text self.now.interner.now;
-              string_text = I.string_text self.now.interner.now;
-            })
+            (meaning_by I.Interner self.now.interner.now)
             self.now.variable_map.now first second)
             f.new }
     {
@@ -217,14 +182,7 @@ impl<I: Interner> ClauseDisplay<'_, I> {
     ) -> fmt::Result
         ensures { WritesOnOk W.write_str_gives f.old result
             (excluded_words
-            (record {
-              name_of = I.name_of_version_set self.now.interner.now;
-              members_of = I.members_of self.now.interner.now;
-              solvable_text = I.solvable_text self.now.interner.now;
-              name_text = I.name_text self.now.interner.now;
-              version_set_text = I.version_set_text self.now.interner.now;
-              string_text = I.string_text self.now.interner.now;
-            })
+            (meaning_by I.Interner self.now.interner.now)
             self.now.variable_map.now variable reason)
             f.new }
     {
@@ -241,14 +199,7 @@ impl<I: Interner> fmt::Display for VariableDisplay<'_, I> {
     ghost output = { λ d.
         Some
         (variable_words
-        (record {
-          name_of = I.name_of_version_set d.interner.now;
-          members_of = I.members_of d.interner.now;
-          solvable_text = I.solvable_text d.interner.now;
-          name_text = I.name_text d.interner.now;
-          version_set_text = I.version_set_text d.interner.now;
-          string_text = I.string_text d.interner.now;
-        })
+        (meaning_by I.Interner d.interner.now)
         d.variable_map.now d.variable) };
 
     fn fmt<W: fmt::Write>(&self, f: &mut fmt::Formatter<W>) -> fmt::Result {
@@ -272,14 +223,7 @@ impl<I: Interner> fmt::Display for OriginDisplay<'_, I> {
     ghost output = { λ d.
         Some
         (origin_words
-        (record {
-          name_of = I.name_of_version_set d.interner.now;
-          members_of = I.members_of d.interner.now;
-          solvable_text = I.solvable_text d.interner.now;
-          name_text = I.name_text d.interner.now;
-          version_set_text = I.version_set_text d.interner.now;
-          string_text = I.string_text d.interner.now;
-        })
+        (meaning_by I.Interner d.interner.now)
         d.origin) };
 
     fn fmt<W: fmt::Write>(&self, f: &mut fmt::Formatter<W>) -> fmt::Result {
