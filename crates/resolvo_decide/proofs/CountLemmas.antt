@@ -1,4 +1,4 @@
--- A clause begins without a tally, and may be given one.
+-- A clause begins without a count, and may be given one.
 use Rattle.std.proofs.Common.{◌≡◌, ℕ, zero, suc, ◌+◌, ◌<◌, ◌≤◌, ◌⊎◌, inl, inr, cond, Bool, true, false, List, [], ◌∷◌, ◌++◌, length, take, get_or, Option, Some, None, Vec, Global, refl, sym, ◌∙◌, ap, subst, arith, eq-eqb, eqb-true}
 use Rattle.std.specs.Prelude.{◌==◌, slice_get, slice_set, Contains}
 use Rattle.std.specs.Option.{option_map}
@@ -14,85 +14,85 @@ use Rattle.resolvo_store_core.specs.Trail.{EachOnce, value_in}
 use Rattle.resolvo_store_core.specs.declared.decision.Entry.{Entry}
 use Rattle.resolvo_store_core.specs.declared.decide_queue.NeedClause.{NeedClause}
 use Rattle.resolvo_store_core.specs.declared.lists.Candidate.{Candidate}
-use Rattle.resolvo_decide.specs.declared.tallies.Counting.{Counting}
-use Rattle.resolvo_decide.specs.declared.tallies.Counting.TheVariants.{Never, Tallied}
-use Rattle.resolvo_decide.specs.declared.tallies.Tallies.{Tallies}
-use Rattle.resolvo_decide.specs.declared.tallies.Use.{Use}
-use Rattle.resolvo_decide.specs.declared.tally.Tally.{Tally}
-use Rattle.resolvo_decide.specs.Tallies.{times, found, uses_at, listing, tallied, number_at, Counts, Lists, AreListed, AreBelow, IsTally}
-use Rattle.resolvo_decide.specs.Needs.{AreTallied, KeepsCounted}
+use Rattle.resolvo_decide.specs.declared.candidate_counts.CountState.{CountState}
+use Rattle.resolvo_decide.specs.declared.candidate_counts.CountState.TheVariants.{Never, Kept}
+use Rattle.resolvo_decide.specs.declared.candidate_counts.CandidateCounts.{CandidateCounts}
+use Rattle.resolvo_decide.specs.declared.candidate_counts.Occurrence.{Occurrence}
+use Rattle.resolvo_decide.specs.declared.candidate_count.CandidateCount.{CandidateCount}
+use Rattle.resolvo_decide.specs.CandidateCounts.{times, found, occurrences_at, listing, kept_count, number_at, Counts, Lists, AreListed, AreBelow, IsRightCount}
+use Rattle.resolvo_decide.specs.Needs.{AreRightCounts, KeepsCounted}
 use Rattle.resolvo_decide.proofs.Positions.{places_read, places_set, places_set_other}
 use Rattle.resolvo_decide.proofs.OfferLemmas.{counts_agree}
 
--- ---- the numbers of tallies
+-- ---- the numbers of counts
 
-pub number_end : (cs : List Counting) (i : ℕ) → number_at (cs ++ Never ∷ []) i ≡ number_at cs i
+pub number_end : (cs : List CountState) (i : ℕ) → number_at (cs ++ Never ∷ []) i ≡ number_at cs i
 number_end [] zero = refl
 number_end [] (suc i) = refl
 number_end (c ∷ cs) zero = refl
 number_end (c ∷ cs) (suc i) = number_end cs i
 
-pub number_take : (n : ℕ) (cs : List Counting) (i : ℕ) → i < n → number_at (take n cs) i ≡ number_at cs i
+pub number_take : (n : ℕ) (cs : List CountState) (i : ℕ) → i < n → number_at (take n cs) i ≡ number_at cs i
 number_take zero cs i h = absurd (omega (arith, h))
 number_take (suc n) [] i h = refl
 number_take (suc n) (c ∷ cs) zero h = refl
 number_take (suc n) (c ∷ cs) (suc i) h = number_take n cs i (omega (arith, h))
 
-pub number_past : (n : ℕ) (cs : List Counting) (i : ℕ) → n ≤ i → number_at (take n cs) i ≡ None
+pub number_past : (n : ℕ) (cs : List CountState) (i : ℕ) → n ≤ i → number_at (take n cs) i ≡ None
 number_past zero cs i h = refl
 number_past (suc n) [] i h = refl
 number_past (suc n) (c ∷ cs) zero h = absurd (omega (arith, h))
 number_past (suc n) (c ∷ cs) (suc i) h = number_past n cs i (omega (arith, h))
 
-number_set : (cs : List Counting) (i : ℕ) (c : Counting) → i < length cs → number_at (slice_set cs i c) i ≡ tallied c
+number_set : (cs : List CountState) (i : ℕ) (c : CountState) → i < length cs → number_at (slice_set cs i c) i ≡ kept_count c
 number_set [] i c h = absurd (omega (arith, h))
 number_set (x ∷ cs) zero c h = refl
 number_set (x ∷ cs) (suc i) c h = number_set cs i c (omega (arith, h))
 
-number_set_other : (cs : List Counting) (i : ℕ) (c : Counting) (j : ℕ) → (number_at (slice_set cs i c) j ≡ number_at cs j) ⊎ (j ≡ i)
+number_set_other : (cs : List CountState) (i : ℕ) (c : CountState) (j : ℕ) → (number_at (slice_set cs i c) j ≡ number_at cs j) ⊎ (j ≡ i)
 number_set_other [] i c j = inl refl
 number_set_other (x ∷ cs) zero c zero = inr refl
 number_set_other (x ∷ cs) zero c (suc j) = inl refl
 number_set_other (x ∷ cs) (suc i) c zero = inl refl
 number_set_other (x ∷ cs) (suc i) c (suc j) = elim (number_set_other cs i c j) [ inl same ↦ inl same | inr is ↦ inr (ap suc is) ]
 
--- a clause without a tally that stays without one
-pub number_same : (cs : List Counting) (i : ℕ) (c d : Counting) → tallied (get_or cs i d) ≡ None → tallied c ≡ None → (j : ℕ) → number_at (slice_set cs i c) j ≡ number_at cs j
+-- a clause without a count that stays without one
+pub number_same : (cs : List CountState) (i : ℕ) (c d : CountState) → kept_count (get_or cs i d) ≡ None → kept_count c ≡ None → (j : ℕ) → number_at (slice_set cs i c) j ≡ number_at cs j
 number_same [] i c d was is j = refl
 number_same (x ∷ cs) zero c d was is zero = is ∙ sym was
 number_same (x ∷ cs) zero c d was is (suc j) = refl
 number_same (x ∷ cs) (suc i) c d was is zero = refl
 number_same (x ∷ cs) (suc i) c d was is (suc j) = number_same cs i c d was is j
 
--- ---- the uses of a new tally
+-- ---- the occurrences of a new count
 
-times_both : (k : ℕ) (xs ys : List Use) → times k (xs ++ ys) ≡ times k xs + times k ys
+times_both : (k : ℕ) (xs ys : List Occurrence) → times k (xs ++ ys) ≡ times k xs + times k ys
 times_both k [] ys = (let same : times k ys ≡ 0 + times k ys = omega arith in same)
 times_both k (x ∷ xs) ys =
     let more : times k (xs ++ ys) ≡ times k xs + times k ys = times_both k xs ys in
     let sum : (n : ℕ) → n + (times k xs + times k ys) ≡ n + times k xs + times k ys = λ n. omega arith in
-    ap (λ n. cond (x.tally == k) 1 0 + n) more ∙ sum (cond (x.tally == k) 1 0)
+    ap (λ n. cond (x.count == k) 1 0 + n) more ∙ sum (cond (x.count == k) 1 0)
 
-times_none : (k : ℕ) (xs : List Use) → ((u : Use) → Contains xs u → u.tally < k) → times k xs ≡ 0
+times_none : (k : ℕ) (xs : List Occurrence) → ((u : Occurrence) → Contains xs u → u.count < k) → times k xs ≡ 0
 times_none k [] h = refl
-times_none k (x ∷ xs) h = go (x.tally == k) refl (h x (0, omega arith, refl)) (times_none k xs (λ u a. h u (Contains-append_right (x ∷ []) xs u a)))
+times_none k (x ∷ xs) h = go (x.count == k) refl (h x (0, omega arith, refl)) (times_none k xs (λ u a. h u (Contains-append_right (x ∷ []) xs u a)))
   where
-    go : (b : Bool) → (x.tally == k) ≡ b → x.tally < k → times k xs ≡ 0 → cond b 1 0 + times k xs ≡ 0
-    go true is low more = (let same : x.tally ≡ k = eqb-true x.tally k is in absurd (omega (arith, low, same)))
+    go : (b : Bool) → (x.count == k) ≡ b → x.count < k → times k xs ≡ 0 → cond b 1 0 + times k xs ≡ 0
+    go true is low more = (let same : x.count ≡ k = eqb-true x.count k is in absurd (omega (arith, low, same)))
     go false is low more = (let same : 0 + times k xs ≡ times k xs = omega arith in same ∙ more)
 
 module _ (k : ℕ) where
   times_listing : (place : ℕ) (ls : List Signed) (l : Signed) → times k (listing k place ls (index_in l)) ≡ found l ls
   times_listing place [] l = refl
   times_listing place (x ∷ ls) l =
-      times_both k (cond (index_in x == index_in l) (record { tally = k; place = place } ∷ []) []) (listing k (place + 1) ls (index_in l))
-      ∙ ap (λ n. times k (cond (index_in x == index_in l) (record { tally = k; place = place } ∷ []) []) + n) (times_listing (place + 1) ls l)
+      times_both k (cond (index_in x == index_in l) (record { count = k; place = place } ∷ []) []) (listing k (place + 1) ls (index_in l))
+      ∙ ap (λ n. times k (cond (index_in x == index_in l) (record { count = k; place = place } ∷ []) []) + n) (times_listing (place + 1) ls l)
       ∙ ap (λ n. n + found l ls) (one (index_in x == index_in l) ∙ ap (λ b. cond b 1 0) (turned (index_in x) (index_in l) ∙ sym (same_is_index l x)))
     where
       own : (k == k) ≡ true
       own = eq-eqb k k refl
 
-      one : (b : Bool) → times k (cond b (record { tally = k; place = place } ∷ []) []) ≡ cond b 1 0
+      one : (b : Bool) → times k (cond b (record { count = k; place = place } ∷ []) []) ≡ cond b 1 0
       one true = ap (λ b. cond b 1 0 + 0) own
       one false = refl
 
@@ -105,199 +105,199 @@ module _ (k : ℕ) where
         ]
       ]
 
-  listing_own : (place : ℕ) (ls : List Signed) (index : ℕ) (u : Use) → Contains (listing k place ls index) u → u.tally ≡ k
+  listing_own : (place : ℕ) (ls : List Signed) (index : ℕ) (u : Occurrence) → Contains (listing k place ls index) u → u.count ≡ k
   listing_own place [] index u (i, low, at) = absurd (omega (arith, low))
-  listing_own place (x ∷ ls) index u h = elim (Contains-append_cases (cond (index_in x == index) (record { tally = k; place = place } ∷ []) []) (listing k (place + 1) ls index) u h) [
+  listing_own place (x ∷ ls) index u h = elim (Contains-append_cases (cond (index_in x == index) (record { count = k; place = place } ∷ []) []) (listing k (place + 1) ls index) u h) [
     | inl first ↦ go (index_in x == index) first
     | inr later ↦ listing_own (place + 1) ls index u later
   ]
     where
-      go : (b : Bool) → Contains (cond b (record { tally = k; place = place } ∷ []) []) u → u.tally ≡ k
-      go true (zero, low, at) = ap (λ (v : Use). v.tally) (sym at)
+      go : (b : Bool) → Contains (cond b (record { count = k; place = place } ∷ []) []) u → u.count ≡ k
+      go true (zero, low, at) = ap (λ (v : Occurrence). v.count) (sym at)
       go true (suc i, low, at) = absurd (omega (arith, low))
       go false (i, low, at) = absurd (omega (arith, low))
 
-  listing_placed : (place : ℕ) (ls : List Signed) (p : ℕ) (l : Signed) → slice_get ls p ≡ Some l → Contains (listing k place ls (index_in l)) (record { tally = k; place = place + p })
+  listing_placed : (place : ℕ) (ls : List Signed) (p : ℕ) (l : Signed) → slice_get ls p ≡ Some l → Contains (listing k place ls (index_in l)) (record { count = k; place = place + p })
   listing_placed place [] p l at = cc
   listing_placed place (x ∷ ls) zero l at =
       let is : x ≡ l = cc in
       let same : place ≡ place + 0 = omega arith in
       let own : (index_in x == index_in l) ≡ true = eq-eqb (index_in x) (index_in l) (ap index_in is) in
-      let u : Use = record { tally = k; place = place } in
-      let first : Contains {X = Use} (u ∷ []) u = (0, omega arith, refl) in
-      let here : Contains {X = Use} (cond (index_in x == index_in l) (u ∷ []) []) u = subst (λ b. Contains {X = Use} (cond b (u ∷ []) []) u) (sym own) first in
-      subst (λ n. Contains (listing k place (x ∷ ls) (index_in l)) (record { tally = k; place = n })) same
+      let u : Occurrence = record { count = k; place = place } in
+      let first : Contains {X = Occurrence} (u ∷ []) u = (0, omega arith, refl) in
+      let here : Contains {X = Occurrence} (cond (index_in x == index_in l) (u ∷ []) []) u = subst (λ b. Contains {X = Occurrence} (cond b (u ∷ []) []) u) (sym own) first in
+      subst (λ n. Contains (listing k place (x ∷ ls) (index_in l)) (record { count = k; place = n })) same
       (Contains-append_left (cond (index_in x == index_in l) (u ∷ []) []) (listing k (place + 1) ls (index_in l)) u here)
   listing_placed place (x ∷ ls) (suc p) l at =
       let sum : place + 1 + p ≡ place + suc p = omega arith in
-      subst (λ n. Contains (listing k place (x ∷ ls) (index_in l)) (record { tally = k; place = n })) sum
-      (Contains-append_right (cond (index_in x == index_in l) (record { tally = k; place = place } ∷ []) []) (listing k (place + 1) ls (index_in l)) (record { tally = k; place = place + 1 + p }) (listing_placed (place + 1) ls p l at))
+      subst (λ n. Contains (listing k place (x ∷ ls) (index_in l)) (record { count = k; place = n })) sum
+      (Contains-append_right (cond (index_in x == index_in l) (record { count = k; place = place } ∷ []) []) (listing k (place + 1) ls (index_in l)) (record { count = k; place = place + 1 + p }) (listing_placed (place + 1) ls p l at))
 
 none_first : (n : ℕ) → 0 + n ≡ n
 none_first n = omega arith
 
-module _ (k : ℕ) (ls : List Signed) (old new : List (Vec Use Global)) (added : Lists k ls old new) (below : AreBelow k old) where
+module _ (k : ℕ) (ls : List Signed) (old new : List (Vec Occurrence Global)) (added : Lists k ls old new) (below : AreBelow k old) where
   listed_new : AreListed ls new k
   listed_new = record {
-    times = λ l. ap (times k) (added (index_in l)) ∙ times_both k (uses_at old (index_in l)) (listing k 0 ls (index_in l))
-        ∙ ap (λ n. n + times k (listing k 0 ls (index_in l))) (times_none k (uses_at old (index_in l)) (below (index_in l))) ∙ none_first (times k (listing k 0 ls (index_in l))) ∙ times_listing k 0 ls l;
-    placed = λ p l at. subst (λ us. Contains us (record { tally = k; place = p })) (sym (added (index_in l))) (Contains-append_right (uses_at old (index_in l)) (listing k 0 ls (index_in l)) (record { tally = k; place = p }) (subst (λ n. Contains (listing k 0 ls (index_in l)) (record { tally = k; place = n })) (none_first p) (listing_placed k 0 ls p l at)));
+    times = λ l. ap (times k) (added (index_in l)) ∙ times_both k (occurrences_at old (index_in l)) (listing k 0 ls (index_in l))
+        ∙ ap (λ n. n + times k (listing k 0 ls (index_in l))) (times_none k (occurrences_at old (index_in l)) (below (index_in l))) ∙ none_first (times k (listing k 0 ls (index_in l))) ∙ times_listing k 0 ls l;
+    placed = λ p l at. subst (λ us. Contains us (record { count = k; place = p })) (sym (added (index_in l))) (Contains-append_right (occurrences_at old (index_in l)) (listing k 0 ls (index_in l)) (record { count = k; place = p }) (subst (λ n. Contains (listing k 0 ls (index_in l)) (record { count = k; place = n })) (none_first p) (listing_placed k 0 ls p l at)));
   }
 
   below_new : AreBelow (k + 1) new
-  below_new index u h = elim (Contains-append_cases (uses_at old index) (listing k 0 ls index) u (subst (λ us. Contains us u) (added index) h)) [
-    | inl before ↦ (let low : u.tally < k = below index u before in omega (arith, low))
-    | inr here ↦ (let own : u.tally ≡ k = listing_own k 0 ls index u here in omega (arith, own))
+  below_new index u h = elim (Contains-append_cases (occurrences_at old index) (listing k 0 ls index) u (subst (λ us. Contains us u) (added index) h)) [
+    | inl before ↦ (let low : u.count < k = below index u before in omega (arith, low))
+    | inr here ↦ (let own : u.count ≡ k = listing_own k 0 ls index u here in omega (arith, own))
   ]
 
   listed_other : (j : ℕ) (ms : List Signed) → j < k → AreListed ms old j → AreListed ms new j
   listed_other j ms low h = record {
-    times = λ l. ap (times j) (added (index_in l)) ∙ times_both j (uses_at old (index_in l)) (listing k 0 ls (index_in l))
-        ∙ ap (λ n. times j (uses_at old (index_in l)) + n) (none (listing k 0 ls (index_in l)) (listing_own k 0 ls (index_in l))) ∙ plus (times j (uses_at old (index_in l))) ∙ h.times l;
-    placed = λ p l at. subst (λ us. Contains us (record { tally = j; place = p })) (sym (added (index_in l))) (Contains-append_left (uses_at old (index_in l)) (listing k 0 ls (index_in l)) (record { tally = j; place = p }) (h.placed p l at));
+    times = λ l. ap (times j) (added (index_in l)) ∙ times_both j (occurrences_at old (index_in l)) (listing k 0 ls (index_in l))
+        ∙ ap (λ n. times j (occurrences_at old (index_in l)) + n) (none (listing k 0 ls (index_in l)) (listing_own k 0 ls (index_in l))) ∙ plus (times j (occurrences_at old (index_in l))) ∙ h.times l;
+    placed = λ p l at. subst (λ us. Contains us (record { count = j; place = p })) (sym (added (index_in l))) (Contains-append_left (occurrences_at old (index_in l)) (listing k 0 ls (index_in l)) (record { count = j; place = p }) (h.placed p l at));
   }
     where
       plus : (n : ℕ) → n + 0 ≡ n
       plus n = omega arith
 
-      none : (us : List Use) → ((u : Use) → Contains us u → u.tally ≡ k) → times j us ≡ 0
+      none : (us : List Occurrence) → ((u : Occurrence) → Contains us u → u.count ≡ k) → times j us ≡ 0
       none [] h = refl
-      none (x ∷ us) h = go (x.tally == j) refl (h x (0, omega arith, refl)) (none us (λ u a. h u (Contains-append_right (x ∷ []) us u a)))
+      none (x ∷ us) h = go (x.count == j) refl (h x (0, omega arith, refl)) (none us (λ u a. h u (Contains-append_right (x ∷ []) us u a)))
         where
-          go : (b : Bool) → (x.tally == j) ≡ b → x.tally ≡ k → times j us ≡ 0 → cond b 1 0 + times j us ≡ 0
-          go true is own more = (let same : x.tally ≡ j = eqb-true x.tally j is in absurd (omega (arith, low, own, same)))
+          go : (b : Bool) → (x.count == j) ≡ b → x.count ≡ k → times j us ≡ 0 → cond b 1 0 + times j us ≡ 0
+          go true is own more = (let same : x.count ≡ j = eqb-true x.count j is in absurd (omega (arith, low, own, same)))
           go false is own more = (let same : 0 + times j us ≡ times j us = omega arith in same ∙ more)
 
 -- no candidate is left to list
-pub no_more : (us : List Use) → us ≡ us ++ []
+pub no_more : (us : List Occurrence) → us ≡ us ++ []
 no_more [] = refl
 no_more (x ∷ us) = ap (λ vs. x ∷ vs) (no_more us)
 
 -- a use was pushed to the list of an index
-pub pushed_use : (old room new : List (Vec Use Global)) (index : ℕ) (v p : Vec Use Global) (u : Use) → ((j : ℕ) → uses_at room j ≡ uses_at old j) → index < length room → v ≡ get_or room index v → p.items ≡ v.items ++ u ∷ [] → new ≡ slice_set room index p
-    → (j : ℕ) → uses_at new j ≡ uses_at old j ++ cond (index == j) (u ∷ []) []
-pushed_use old room new index v p u same within read more is j = ap (λ us. uses_at us j) is ∙ elim (cases_Bool (index == j)) [
+pub pushed_occurrence : (old room new : List (Vec Occurrence Global)) (index : ℕ) (v p : Vec Occurrence Global) (u : Occurrence) → ((j : ℕ) → occurrences_at room j ≡ occurrences_at old j) → index < length room → v ≡ get_or room index v → p.items ≡ v.items ++ u ∷ [] → new ≡ slice_set room index p
+    → (j : ℕ) → occurrences_at new j ≡ occurrences_at old j ++ cond (index == j) (u ∷ []) []
+pushed_occurrence old room new index v p u same within read more is j = ap (λ us. occurrences_at us j) is ∙ elim (cases_Bool (index == j)) [
   | inl here ↦
       let at : index ≡ j = eqb-true index j here in
-      subst (λ n. uses_at (slice_set room index p) n ≡ uses_at old n ++ (u ∷ [])) at (places_set room index p within ∙ more ∙ ap (λ us. us ++ u ∷ []) (sym (places_read room index v within read) ∙ same index)) ∙ ap (λ b. uses_at old j ++ cond b (u ∷ []) []) (sym here)
+      subst (λ n. occurrences_at (slice_set room index p) n ≡ occurrences_at old n ++ (u ∷ [])) at (places_set room index p within ∙ more ∙ ap (λ us. us ++ u ∷ []) (sym (places_read room index v within read) ∙ same index)) ∙ ap (λ b. occurrences_at old j ++ cond b (u ∷ []) []) (sym here)
   | inr far ↦ elim (places_set_other room index p j) [
-    | inl kept ↦ kept ∙ same j ∙ no_more (uses_at old j) ∙ ap (λ b. uses_at old j ++ cond b (u ∷ []) []) (sym far)
+    | inl kept ↦ kept ∙ same j ∙ no_more (occurrences_at old j) ∙ ap (λ b. occurrences_at old j ++ cond b (u ∷ []) []) (sym far)
     | inr at ↦ absurd (both_ways (index == j) far (eq-eqb index j (sym at)))
   ]
 ]
 
 -- one candidate more is listed
-pub listing_more : (k place : ℕ) (ls : List Signed) (l : Signed) (rest : List Signed) (index : ℕ) (before after first : List Use) → ls ≡ l ∷ rest → after ≡ before ++ cond (index_in l == index) (record { tally = k; place = place } ∷ []) []
+pub listing_more : (k place : ℕ) (ls : List Signed) (l : Signed) (rest : List Signed) (index : ℕ) (before after first : List Occurrence) → ls ≡ l ∷ rest → after ≡ before ++ cond (index_in l == index) (record { count = k; place = place } ∷ []) []
     → before ++ listing k place ls index ≡ first → after ++ listing k (place + 1) rest index ≡ first
 listing_more k place ls l rest index before after first is more h =
-    ap (λ us. us ++ listing k (place + 1) rest index) more ∙ append_assoc before (cond (index_in l == index) (record { tally = k; place = place } ∷ []) []) (listing k (place + 1) rest index)
+    ap (λ us. us ++ listing k (place + 1) rest index) more ∙ append_assoc before (cond (index_in l == index) (record { count = k; place = place } ∷ []) []) (listing k (place + 1) rest index)
     ∙ ap (λ ms. before ++ listing k place ms index) (sym is) ∙ h
 
 -- ---- what stays right
 
-pub tally_prefix : (ts : List Tally) (t u : Tally) (k : ℕ) → slice_get ts k ≡ Some t → slice_get (ts ++ u ∷ []) k ≡ Some t
-tally_prefix [] t u k h = cc
-tally_prefix (x ∷ ts) t u zero h = h
-tally_prefix (x ∷ ts) t u (suc k) h = tally_prefix ts t u k h
+pub count_prefix : (ts : List CandidateCount) (t u : CandidateCount) (k : ℕ) → slice_get ts k ≡ Some t → slice_get (ts ++ u ∷ []) k ≡ Some t
+count_prefix [] t u k h = cc
+count_prefix (x ∷ ts) t u zero h = h
+count_prefix (x ∷ ts) t u (suc k) h = count_prefix ts t u k h
 
-tally_last : (ts : List Tally) (u : Tally) → slice_get (ts ++ u ∷ []) (length ts) ≡ Some u
-tally_last [] u = refl
-tally_last (x ∷ ts) u = tally_last ts u
+count_last : (ts : List CandidateCount) (u : CandidateCount) → slice_get (ts ++ u ∷ []) (length ts) ≡ Some u
+count_last [] u = refl
+count_last (x ∷ ts) u = count_last ts u
 
 some_apart : (k n : ℕ) → Some k ≡ Some n → k ≡ n
 some_apart k n h = cc
 
 -- the numbers are the same
-pub counted_same : (values : ℕ → Option Bool) (position : ℕ) (ls : List Signed) (old new : Tallies) → new.tallies ≡ old.tallies → new.uses ≡ old.uses → ((i : ℕ) → number_at new.countings.items i ≡ number_at old.countings.items i) → (trail : List Entry) → KeepsCounted trail values position ls old new
+pub counted_same : (values : ℕ → Option Bool) (position : ℕ) (ls : List Signed) (old new : CandidateCounts) → new.counts ≡ old.counts → new.occurrences ≡ old.occurrences → ((i : ℕ) → number_at new.count_states.items i ≡ number_at old.count_states.items i) → (trail : List Entry) → KeepsCounted trail values position ls old new
 counted_same values position ls old new ts us same trail = λ agree literals queue at h. record {
   each = λ i q k here number. (let one = h.each i q k here (sym (same i) ∙ number) in record {
     some = one.some;
     once = one.once;
-    tally = one.tally;
+    count = one.count;
     there = ap (λ xs. slice_get xs.items k) ts ∙ one.there;
     counts = one.counts;
     listed = subst (λ xs. AreListed (literals q.requirement) xs.items k) (sym us) one.listed;
   });
   within = λ i k number. subst (λ xs. k < length xs.items) (sym ts) (h.within i k (sym (same i) ∙ number));
   apart = λ i j k a b. h.apart i j k (sym (same i) ∙ a) (sym (same j) ∙ b);
-  below = subst (λ xs. AreBelow (length xs.items) new.uses.items) (sym ts) (subst (λ xs. AreBelow (length old.tallies.items) xs.items) (sym us) h.below);
+  below = subst (λ xs. AreBelow (length xs.items) new.occurrences.items) (sym ts) (subst (λ xs. AreBelow (length old.counts.items) xs.items) (sym us) h.below);
 }
 
--- a clause was given a tally
-pub counted_given : (values : ℕ → Option Bool) (position : ℕ) (ls : List Signed) (t : Tally) (old new : Tallies) → position < length old.countings.items → 0 < length ls → Counts values ls t → new.tallies.items ≡ old.tallies.items ++ t ∷ []
-    → Lists (length old.tallies.items) ls old.uses.items new.uses.items → new.countings.items ≡ slice_set old.countings.items position (Tallied (length old.tallies.items)) → (trail : List Entry) → EachOnce trail → KeepsCounted trail values position ls old new
+-- a clause was given a count
+pub counted_given : (values : ℕ → Option Bool) (position : ℕ) (ls : List Signed) (t : CandidateCount) (old new : CandidateCounts) → position < length old.count_states.items → 0 < length ls → Counts values ls t → new.counts.items ≡ old.counts.items ++ t ∷ []
+    → Lists (length old.counts.items) ls old.occurrences.items new.occurrences.items → new.count_states.items ≡ slice_set old.count_states.items position (Kept (length old.counts.items)) → (trail : List Entry) → EachOnce trail → KeepsCounted trail values position ls old new
 counted_given values position ls t old new inside many counts ts added cs trail once = λ agree literals queue at h. record {
   each = λ i q k here number. elim (either i k number) [
     | inl before ↦ other literals queue h i q k here before
     | inr (is, last) ↦ given agree (literals q.requirement) k last (at q (subst (λ j. slice_get queue j ≡ Some q) is here)) h.below
   ];
-  within = λ i k number. (let long : length new.tallies.items ≡ length old.tallies.items + 1 = ap length ts ∙ length-append old.tallies.items (t ∷ []) in elim (either i k number) [
-    | inl before ↦ (let low : k < length old.tallies.items = h.within i k before in omega (arith, low, long))
+  within = λ i k number. (let long : length new.counts.items ≡ length old.counts.items + 1 = ap length ts ∙ length-append old.counts.items (t ∷ []) in elim (either i k number) [
+    | inl before ↦ (let low : k < length old.counts.items = h.within i k before in omega (arith, low, long))
     | inr (is, last) ↦ omega (arith, last, long)
   ]);
   apart = λ i j k a b. elim (either i k a) [
     | inl before ↦ elim (either j k b) [
       | inl both ↦ h.apart i j k before both
-      | inr (is, last) ↦ (let low : k < length old.tallies.items = h.within i k before in absurd (omega (arith, low, last)))
+      | inr (is, last) ↦ (let low : k < length old.counts.items = h.within i k before in absurd (omega (arith, low, last)))
     ]
     | inr (here, last) ↦ elim (either j k b) [
-      | inl before ↦ (let low : k < length old.tallies.items = h.within j k before in absurd (omega (arith, low, last)))
+      | inl before ↦ (let low : k < length old.counts.items = h.within j k before in absurd (omega (arith, low, last)))
       | inr (there, _) ↦ here ∙ sym there
     ]
   ];
-  below = subst (λ n. AreBelow n new.uses.items) (sym (ap length ts ∙ length-append old.tallies.items (t ∷ []))) (below_new (length old.tallies.items) ls old.uses.items new.uses.items added h.below);
+  below = subst (λ n. AreBelow n new.occurrences.items) (sym (ap length ts ∙ length-append old.counts.items (t ∷ []))) (below_new (length old.counts.items) ls old.occurrences.items new.occurrences.items added h.below);
 }
   where
-    either : (i k : ℕ) → number_at new.countings.items i ≡ Some k → (number_at old.countings.items i ≡ Some k) ⊎ ((i ≡ position) × (k ≡ length old.tallies.items))
-    either i k number = elim (number_set_other old.countings.items position (Tallied (length old.tallies.items)) i) [
+    either : (i k : ℕ) → number_at new.count_states.items i ≡ Some k → (number_at old.count_states.items i ≡ Some k) ⊎ ((i ≡ position) × (k ≡ length old.counts.items))
+    either i k number = elim (number_set_other old.count_states.items position (Kept (length old.counts.items)) i) [
       | inl same ↦ inl (sym same ∙ ap (λ xs. number_at xs i) (sym cs) ∙ number)
-      | inr is ↦ inr (is, some_apart k (length old.tallies.items) (sym number ∙ ap (λ xs. number_at xs i) cs ∙ ap (number_at (slice_set old.countings.items position (Tallied (length old.tallies.items)))) is ∙ number_set old.countings.items position (Tallied (length old.tallies.items)) inside))
+      | inr is ↦ inr (is, some_apart k (length old.counts.items) (sym number ∙ ap (λ xs. number_at xs i) cs ∙ ap (number_at (slice_set old.count_states.items position (Kept (length old.counts.items)))) is ∙ number_set old.count_states.items position (Kept (length old.counts.items)) inside))
     ]
 
-    other : (literals : Requirement → List Signed) (queue : List NeedClause) → AreTallied literals queue trail old → (i : ℕ) (q : NeedClause) (k : ℕ) → slice_get queue i ≡ Some q → number_at old.countings.items i ≡ Some k → IsTally (literals q.requirement) trail new k
+    other : (literals : Requirement → List Signed) (queue : List NeedClause) → AreRightCounts literals queue trail old → (i : ℕ) (q : NeedClause) (k : ℕ) → slice_get queue i ≡ Some q → number_at old.count_states.items i ≡ Some k → IsRightCount (literals q.requirement) trail new k
     other literals queue h i q k here number =
         let one = h.each i q k here number in
         record {
           some = one.some;
           once = one.once;
-          tally = one.tally;
-          there = ap (λ xs. slice_get xs k) ts ∙ tally_prefix old.tallies.items one.tally t k one.there;
+          count = one.count;
+          there = ap (λ xs. slice_get xs k) ts ∙ count_prefix old.counts.items one.count t k one.there;
           counts = one.counts;
-          listed = listed_other (length old.tallies.items) ls old.uses.items new.uses.items added h.below k (literals q.requirement) (h.within i k number) one.listed;
+          listed = listed_other (length old.counts.items) ls old.occurrences.items new.occurrences.items added h.below k (literals q.requirement) (h.within i k number) one.listed;
         }
 
-    given : ((v : ℕ) → values v ≡ value_in trail v) → (ms : List Signed) (k : ℕ) → k ≡ length old.tallies.items → ms ≡ ls → AreBelow (length old.tallies.items) old.uses.items → IsTally ms trail new k
-    given agree ms k last is below = subst (λ n. IsTally ms trail new n) (sym last) (subst (λ xs. IsTally xs trail new (length old.tallies.items)) (sym is) (record {
+    given : ((v : ℕ) → values v ≡ value_in trail v) → (ms : List Signed) (k : ℕ) → k ≡ length old.counts.items → ms ≡ ls → AreBelow (length old.counts.items) old.occurrences.items → IsRightCount ms trail new k
+    given agree ms k last is below = subst (λ n. IsRightCount ms trail new n) (sym last) (subst (λ xs. IsRightCount xs trail new (length old.counts.items)) (sym is) (record {
       some = many;
       once = once;
-      tally = t;
-      there = ap (λ xs. slice_get xs (length old.tallies.items)) ts ∙ tally_last old.tallies.items t;
+      count = t;
+      there = ap (λ xs. slice_get xs (length old.counts.items)) ts ∙ count_last old.counts.items t;
       counts = counts_agree (value_in trail) values (λ v. sym (agree v)) ls t counts;
-      listed = listed_new (length old.tallies.items) ls old.uses.items new.uses.items added below;
+      listed = listed_new (length old.counts.items) ls old.occurrences.items new.occurrences.items added below;
     }))
 
 -- more candidates in front are passed over
-tally_set : (ts : List Tally) (n : ℕ) (t : Tally) → n < length ts → slice_get (slice_set ts n t) n ≡ Some t
-tally_set [] n t h = absurd (omega (arith, h))
-tally_set (x ∷ ts) zero t h = refl
-tally_set (x ∷ ts) (suc n) t h = tally_set ts n t (omega (arith, h))
+count_set : (ts : List CandidateCount) (n : ℕ) (t : CandidateCount) → n < length ts → slice_get (slice_set ts n t) n ≡ Some t
+count_set [] n t h = absurd (omega (arith, h))
+count_set (x ∷ ts) zero t h = refl
+count_set (x ∷ ts) (suc n) t h = count_set ts n t (omega (arith, h))
 
-tally_set_other : (ts : List Tally) (n : ℕ) (t : Tally) (k : ℕ) → (n ≡ k → ⊥) → slice_get (slice_set ts n t) k ≡ slice_get ts k
-tally_set_other [] n t k far = refl
-tally_set_other (x ∷ ts) zero t zero far = absurd (far refl)
-tally_set_other (x ∷ ts) zero t (suc k) far = refl
-tally_set_other (x ∷ ts) (suc n) t zero far = refl
-tally_set_other (x ∷ ts) (suc n) t (suc k) far = tally_set_other ts n t k (λ same. far (ap suc same))
+count_set_other : (ts : List CandidateCount) (n : ℕ) (t : CandidateCount) (k : ℕ) → (n ≡ k → ⊥) → slice_get (slice_set ts n t) k ≡ slice_get ts k
+count_set_other [] n t k far = refl
+count_set_other (x ∷ ts) zero t zero far = absurd (far refl)
+count_set_other (x ∷ ts) zero t (suc k) far = refl
+count_set_other (x ∷ ts) (suc n) t zero far = refl
+count_set_other (x ∷ ts) (suc n) t (suc k) far = count_set_other ts n t k (λ same. far (ap suc same))
 
-length_set : (ts : List Tally) (n : ℕ) (t : Tally) → length (slice_set ts n t) ≡ length ts
+length_set : (ts : List CandidateCount) (n : ℕ) (t : CandidateCount) → length (slice_set ts n t) ≡ length ts
 length_set [] n t = refl
 length_set (x ∷ ts) zero t = refl
 length_set (x ∷ ts) (suc n) t = ap suc (length_set ts n t)
 
-tally_read : (ts : List Tally) (n : ℕ) (d t : Tally) → slice_get ts n ≡ Some t → get_or ts n d ≡ t
-tally_read [] n d t h = cc
-tally_read (x ∷ ts) zero d t h = cc
-tally_read (x ∷ ts) (suc n) d t h = tally_read ts n d t h
+count_read : (ts : List CandidateCount) (n : ℕ) (d t : CandidateCount) → slice_get ts n ≡ Some t → get_or ts n d ≡ t
+count_read [] n d t h = cc
+count_read (x ∷ ts) zero d t h = cc
+count_read (x ∷ ts) (suc n) d t h = count_read ts n d t h
 
 -- the default doesn't matter within the list
 pub get_any : {X : Type 0} (xs : List X) (n : ℕ) (d e : X) → n < length xs → get_or xs n d ≡ get_or xs n e
@@ -317,53 +317,53 @@ false_literals {N} values cs from to h p l low high at =
     literal_there (x ∷ xs) zero m h = (let is : x.literal ≡ m = cc in (x, refl, is))
     literal_there (x ∷ xs) (suc i) m h = literal_there xs i m h
 
-pub counted_passed : (values : ℕ → Option Bool) (position : ℕ) (ls : List Signed) (n passed : ℕ) (d : Tally) (old new : Tallies) → number_at old.countings.items position ≡ Some n → n < length old.tallies.items
-    → ((p : ℕ) (l : Signed) → (get_or old.tallies.items n d).passed ≤ p → p < passed → slice_get ls p ≡ Some l → is_false (value_under values l) ≡ true)
-    → new.tallies.items ≡ slice_set old.tallies.items n (record (get_or old.tallies.items n d) { passed = passed }) → new.uses ≡ old.uses → new.countings ≡ old.countings → (trail : List Entry) → KeepsCounted trail values position ls old new
+pub counted_passed : (values : ℕ → Option Bool) (position : ℕ) (ls : List Signed) (n passed : ℕ) (d : CandidateCount) (old new : CandidateCounts) → number_at old.count_states.items position ≡ Some n → n < length old.counts.items
+    → ((p : ℕ) (l : Signed) → (get_or old.counts.items n d).passed ≤ p → p < passed → slice_get ls p ≡ Some l → is_false (value_under values l) ≡ true)
+    → new.counts.items ≡ slice_set old.counts.items n (record (get_or old.counts.items n d) { passed = passed }) → new.occurrences ≡ old.occurrences → new.count_states ≡ old.count_states → (trail : List Entry) → KeepsCounted trail values position ls old new
 counted_passed values position ls n passed d old new has inside falses ts us cs trail = λ agree literals queue at h. record {
   each = λ i q k here number. each agree literals queue at h i q k here (ap (λ xs. number_at xs.items i) (sym cs) ∙ number);
-  within = λ i k number. (let low : k < length old.tallies.items = h.within i k (ap (λ xs. number_at xs.items i) (sym cs) ∙ number) in omega (arith, low, long));
+  within = λ i k number. (let low : k < length old.counts.items = h.within i k (ap (λ xs. number_at xs.items i) (sym cs) ∙ number) in omega (arith, low, long));
   apart = λ i j k a b. h.apart i j k (ap (λ xs. number_at xs.items i) (sym cs) ∙ a) (ap (λ xs. number_at xs.items j) (sym cs) ∙ b);
-  below = subst (λ m. AreBelow m new.uses.items) (sym long) (subst (λ xs. AreBelow (length old.tallies.items) xs.items) (sym us) h.below);
+  below = subst (λ m. AreBelow m new.occurrences.items) (sym long) (subst (λ xs. AreBelow (length old.counts.items) xs.items) (sym us) h.below);
 }
   where
-    long : length new.tallies.items ≡ length old.tallies.items
-    long = ap length ts ∙ length_set old.tallies.items n (record (get_or old.tallies.items n d) { passed = passed })
+    long : length new.counts.items ≡ length old.counts.items
+    long = ap length ts ∙ length_set old.counts.items n (record (get_or old.counts.items n d) { passed = passed })
 
-    each : ((v : ℕ) → values v ≡ value_in trail v) → (literals : Requirement → List Signed) (queue : List NeedClause) → ((q : NeedClause) → slice_get queue position ≡ Some q → literals q.requirement ≡ ls) → AreTallied literals queue trail old
-        → (i : ℕ) (q : NeedClause) (k : ℕ) → slice_get queue i ≡ Some q → number_at old.countings.items i ≡ Some k → IsTally (literals q.requirement) trail new k
+    each : ((v : ℕ) → values v ≡ value_in trail v) → (literals : Requirement → List Signed) (queue : List NeedClause) → ((q : NeedClause) → slice_get queue position ≡ Some q → literals q.requirement ≡ ls) → AreRightCounts literals queue trail old
+        → (i : ℕ) (q : NeedClause) (k : ℕ) → slice_get queue i ≡ Some q → number_at old.count_states.items i ≡ Some k → IsRightCount (literals q.requirement) trail new k
     each agree literals queue at h i q k here number = elim (cases_Bool (n == k)) [
       | inl same ↦ mine (eqb-true n k same)
       | inr far ↦ record {
         some = one.some;
         once = one.once;
-        tally = one.tally;
-        there = ap (λ xs. slice_get xs k) ts ∙ tally_set_other old.tallies.items n (record (get_or old.tallies.items n d) { passed = passed }) k (λ is. both_ways (n == k) far (eq-eqb n k is)) ∙ one.there;
+        count = one.count;
+        there = ap (λ xs. slice_get xs k) ts ∙ count_set_other old.counts.items n (record (get_or old.counts.items n d) { passed = passed }) k (λ is. both_ways (n == k) far (eq-eqb n k is)) ∙ one.there;
         counts = one.counts;
         listed = subst (λ xs. AreListed (literals q.requirement) xs.items k) (sym us) one.listed;
       }
     ]
       where
-        one : IsTally (literals q.requirement) trail old k
+        one : IsRightCount (literals q.requirement) trail old k
         one = h.each i q k here number
 
-        mine : n ≡ k → IsTally (literals q.requirement) trail new k
+        mine : n ≡ k → IsRightCount (literals q.requirement) trail new k
         mine is =
             let place : position ≡ i = h.apart position i k (has ∙ ap Some is) number in
             let own : literals q.requirement ≡ ls = at q (subst (λ j. slice_get queue j ≡ Some q) (sym place) here) in
-            let read : get_or old.tallies.items n d ≡ one.tally = tally_read old.tallies.items n d one.tally (ap (slice_get old.tallies.items) is ∙ one.there) in
-            let first : (get_or old.tallies.items n d).passed ≡ one.tally.passed = ap (λ (t : Tally). t.passed) read in
+            let read : get_or old.counts.items n d ≡ one.count = count_read old.counts.items n d one.count (ap (slice_get old.counts.items) is ∙ one.there) in
+            let first : (get_or old.counts.items n d).passed ≡ one.count.passed = ap (λ (t : CandidateCount). t.passed) read in
             record {
               some = one.some;
               once = one.once;
-              tally = record one.tally { passed = passed };
-              there = ap (λ xs. slice_get xs k) ts ∙ ap (slice_get (slice_set old.tallies.items n (record (get_or old.tallies.items n d) { passed = passed }))) (sym is)
-                  ∙ tally_set old.tallies.items n (record (get_or old.tallies.items n d) { passed = passed }) inside ∙ ap (λ (t : Tally). Some (record t { passed = passed })) read;
+              count = record one.count { passed = passed };
+              there = ap (λ xs. slice_get xs k) ts ∙ ap (slice_get (slice_set old.counts.items n (record (get_or old.counts.items n d) { passed = passed }))) (sym is)
+                  ∙ count_set old.counts.items n (record (get_or old.counts.items n d) { passed = passed }) inside ∙ ap (λ (t : CandidateCount). Some (record t { passed = passed })) read;
               counts = record {
                 total = one.counts.total;
                 trues = one.counts.trues;
                 falses = one.counts.falses;
-                passed = λ p l low there. elim (cases_lt p one.tally.passed) [
+                passed = λ p l low there. elim (cases_lt p one.count.passed) [
                   | inl before ↦ one.counts.passed p l before there
                   | inr behind ↦ ap (λ o. is_false (option_map (λ v. beq v l.positive) o)) (sym (agree l.variable.0)) ∙ falses p l (omega (arith, behind, first)) low (ap (λ ms. slice_get ms p) (sym own) ∙ there)
                 ];

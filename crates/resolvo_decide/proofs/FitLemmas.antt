@@ -22,12 +22,12 @@ use Rattle.resolvo_store_core.specs.declared.lists.Candidate.{Candidate}
 use Rattle.resolvo_store_core.specs.declared.lists.FixedLists.{FixedLists}
 use Rattle.resolvo_decide.specs.declared.clause_states.ClauseState.{ClauseState}
 use Rattle.resolvo_decide.specs.declared.clause_states.ClauseState.TheVariants.{Open, Satisfied, Inactive}
-use Rattle.resolvo_decide.specs.declared.tallies.Tallies.{Tallies}
-use Rattle.resolvo_decide.specs.declared.tallies.Use.{Use}
+use Rattle.resolvo_decide.specs.declared.candidate_counts.CandidateCounts.{CandidateCounts}
+use Rattle.resolvo_decide.specs.declared.candidate_counts.Occurrence.{Occurrence}
 use Rattle.resolvo_decide.specs.declared.undecided_clauses.UndecidedClauses.{UndecidedClauses}
 use Rattle.resolvo_decide.specs.States.{state_at, reopened, is_open_state}
-use Rattle.resolvo_decide.specs.Tallies.{IsTally, AreListed, AreBelow, HasNoTally, number_at}
-use Rattle.resolvo_decide.specs.Needs.{literals_in, is_met, places_at, IsMetNow, IsSoundState, Fits, AreTallied, KeepsFitting, KeepsTallies, KeepsCounted, OffersAtLeast, AddsNeed}
+use Rattle.resolvo_decide.specs.CandidateCounts.{IsRightCount, AreListed, AreBelow, HasNoCount, number_at}
+use Rattle.resolvo_decide.specs.Needs.{literals_in, is_met, places_at, IsMetNow, IsSoundState, Fits, AreRightCounts, KeepsFitting, KeepsCounts, KeepsCounted, OffersAtLeast, AddsNeed}
 use Rattle.resolvo_decide.proofs.Positions.{state_end, state_map, state_out, state_put, state_set_other}
 use Rattle.resolvo_decide.proofs.TrailEnds.{open_before}
 use Rattle.resolvo_decide.proofs.Seen.{met_take, met_whole, take_less, idle_take, idle_more}
@@ -62,24 +62,24 @@ pub sound_put : (literals : Requirement → List Signed) (es : List Entry) (q : 
 sound_put literals es q found new so (inl is) = subst (IsSoundState literals es q) (sym is) so
 sound_put literals es q found new so (inr is) = sound_open literals q es new is
 
-pub fits_back : (common : ℕ) (old new : UndecidedClauses) → new.seen.items ≡ take common old.seen.items → new.states ≡ map (reopened common) old.states → new.places ≡ old.places → KeepsTallies old.seen.items new.seen.items old.tallies new.tallies → KeepsFitting old new
-fits_back common old new seen states places tallies = λ literals queue f. record {
+pub fits_back : (common : ℕ) (old new : UndecidedClauses) → new.seen.items ≡ take common old.seen.items → new.states ≡ map (reopened common) old.states → new.places ≡ old.places → KeepsCounts old.seen.items new.seen.items old.counts new.counts → KeepsFitting old new
+fits_back common old new seen states places counts = λ literals queue f. record {
   count = ap length states ∙ length-map old.states (reopened common) ∙ f.count;
   each = λ i q at. subst (λ (es : List Entry). IsSoundState literals es q (state_at new.states i)) (sym seen)
       (subst (IsSoundState literals (take common old.seen.items) q) (sym (ap (λ ss. state_at ss i) states ∙ state_map common old.states i)) (sound_back literals q common old.seen.items (state_at old.states i) (f.each i q at)));
   placed = λ i q at. subst (λ ps. Contains (places_at ps.items q.parent.0) i) (sym places) (f.placed i q at);
-  tallied = tallies literals queue f.tallied;
+  kept_count = counts literals queue f.kept_count;
 }
 
 -- the states are unchanged or open, and the clauses of a parent that the entry makes true are open
 pub fits_on : (e : Entry) (old new : UndecidedClauses) → new.seen.items ≡ old.seen.items ++ e ∷ [] → new.places ≡ old.places → length new.states ≡ length old.states
     → ((i : ℕ) → (state_at new.states i ≡ state_at old.states i) ⊎ (state_at new.states i ≡ Open))
-    → (e.decision.value ≡ true → (i : ℕ) → Contains (places_at old.places.items e.decision.variable.0) i → state_at new.states i ≡ Open) → KeepsTallies old.seen.items (old.seen.items ++ e ∷ []) old.tallies new.tallies → KeepsFitting old new
-fits_on e old new seen places long others opened tallies = λ literals queue f. record {
+    → (e.decision.value ≡ true → (i : ℕ) → Contains (places_at old.places.items e.decision.variable.0) i → state_at new.states i ≡ Open) → KeepsCounts old.seen.items (old.seen.items ++ e ∷ []) old.counts new.counts → KeepsFitting old new
+fits_on e old new seen places long others opened counts = λ literals queue f. record {
   count = long ∙ f.count;
   each = λ i q at. subst (λ (es : List Entry). IsSoundState literals es q (state_at new.states i)) (sym seen) (each literals queue f i q at);
   placed = λ i q at. subst (λ ps. Contains (places_at ps.items q.parent.0) i) (sym places) (f.placed i q at);
-  tallied = subst (λ (es : List Entry). AreTallied literals queue es new.tallies) (sym seen) (tallies literals queue f.tallied);
+  kept_count = subst (λ (es : List Entry). AreRightCounts literals queue es new.counts) (sym seen) (counts literals queue f.kept_count);
 }
   where
     open_not : (s : ClauseState) → s ≡ Open → s ≡ Inactive → ⊥
@@ -98,11 +98,11 @@ fits_add literals q old new queue f a = record {
   count = ap length a.states ∙ length-append old.states (Open ∷ []) ∙ ap (λ n. n + 1) f.count ∙ sym (length-append queue (q ∷ []));
   each = λ i r at. subst (λ (es : List Entry). IsSoundState literals es r (state_at new.states i)) (sym (ap (λ v. v.items) a.seen)) (each i r (at_end queue i r at));
   placed = λ i r at. placed i r (at_end queue i r at);
-  tallied = record {
-    each = λ i r k at number. tallied i r k number (at_end queue i r at);
-    within = λ i k number. subst (λ ts. k < length ts.items) (sym a.tallies.tallies) (f.tallied.within i k (numbered i k number));
-    apart = λ i j k here there. f.tallied.apart i j k (numbered i k here) (numbered j k there);
-    below = subst (λ ts. AreBelow (length ts.items) new.tallies.uses.items) (sym a.tallies.tallies) (subst (λ us. AreBelow (length old.tallies.tallies.items) us.items) (sym a.tallies.uses) f.tallied.below);
+  kept_count = record {
+    each = λ i r k at number. kept_count i r k number (at_end queue i r at);
+    within = λ i k number. subst (λ ts. k < length ts.items) (sym a.counts.counts) (f.kept_count.within i k (numbered i k number));
+    apart = λ i j k here there. f.kept_count.apart i j k (numbered i k here) (numbered j k there);
+    below = subst (λ ts. AreBelow (length ts.items) new.counts.occurrences.items) (sym a.counts.counts) (subst (λ us. AreBelow (length old.counts.counts.items) us.items) (sym a.counts.occurrences) f.kept_count.below);
   };
 }
   where
@@ -123,10 +123,10 @@ fits_add literals q old new queue f a = record {
     placed i r (inl before) = a.kept r.parent.0 i (f.placed i r before)
     placed i r (inr (last, is, none)) = subst (λ (s : NeedClause). Contains (places_at new.places.items s.parent.0) i) (sym is) (subst (λ j. Contains (places_at new.places.items q.parent.0) j) (f.count ∙ sym last) a.placed)
 
-    numbered : (i k : ℕ) → number_at new.tallies.countings.items i ≡ Some k → number_at old.tallies.countings.items i ≡ Some k
+    numbered : (i k : ℕ) → number_at new.counts.count_states.items i ≡ Some k → number_at old.counts.count_states.items i ≡ Some k
     numbered i k number = elim (cases_lt i (length old.states)) [
-      | inl low ↦ sym (a.tallies.kept i low) ∙ number
-      | inr high ↦ (let no : None ≡ Some k = sym (a.tallies.fresh i high) ∙ number in absurd cc)
+      | inl low ↦ sym (a.counts.kept i low) ∙ number
+      | inr high ↦ (let no : None ≡ Some k = sym (a.counts.fresh i high) ∙ number in absurd cc)
     ]
 
     known : (i : ℕ) (r : NeedClause) → slice_get queue i ≡ Some r → i < length queue
@@ -137,20 +137,20 @@ fits_add literals q old new queue f a = record {
         inside (x ∷ qs) zero h = omega arith
         inside (x ∷ qs) (suc j) h = let low : j < length qs = inside qs j h in omega (arith, low)
 
-    tallied : (i : ℕ) (r : NeedClause) (k : ℕ) → number_at new.tallies.countings.items i ≡ Some k → (slice_get queue i ≡ Some r) ⊎ ((i ≡ length queue) × (r ≡ q) × (slice_get queue i ≡ None)) → IsTally (literals r.requirement) new.seen.items new.tallies k
-    tallied i r k number (inl before) =
+    kept_count : (i : ℕ) (r : NeedClause) (k : ℕ) → number_at new.counts.count_states.items i ≡ Some k → (slice_get queue i ≡ Some r) ⊎ ((i ≡ length queue) × (r ≡ q) × (slice_get queue i ≡ None)) → IsRightCount (literals r.requirement) new.seen.items new.counts k
+    kept_count i r k number (inl before) =
         let low : i < length old.states = omega (arith, known i r before, f.count) in
-        let was : IsTally (literals r.requirement) old.seen.items old.tallies k = f.tallied.each i r k before (sym (a.tallies.kept i low) ∙ number) in
-        let here : IsTally (literals r.requirement) new.seen.items old.tallies k = subst (λ es. IsTally (literals r.requirement) es.items old.tallies k) (sym a.seen) was in
+        let was : IsRightCount (literals r.requirement) old.seen.items old.counts k = f.kept_count.each i r k before (sym (a.counts.kept i low) ∙ number) in
+        let here : IsRightCount (literals r.requirement) new.seen.items old.counts k = subst (λ es. IsRightCount (literals r.requirement) es.items old.counts k) (sym a.seen) was in
         record {
           some = here.some;
           once = here.once;
-          tally = here.tally;
-          there = ap (λ ts. slice_get ts.items k) a.tallies.tallies ∙ here.there;
+          count = here.count;
+          there = ap (λ ts. slice_get ts.items k) a.counts.counts ∙ here.there;
           counts = here.counts;
-          listed = subst (λ us. AreListed (literals r.requirement) us.items k) (sym a.tallies.uses) here.listed;
+          listed = subst (λ us. AreListed (literals r.requirement) us.items k) (sym a.counts.occurrences) here.listed;
         }
-    tallied i r k number (inr (last, is, none)) = (let no : None ≡ Some k = sym (a.tallies.fresh i (omega (arith, last, f.count))) ∙ number in absurd cc)
+    kept_count i r k number (inr (last, is, none)) = (let no : None ≡ Some k = sym (a.counts.fresh i (omega (arith, last, f.count))) ∙ number in absurd cc)
 
 -- the state of a clause under values
 module _ {N : Type 0} (lists : FixedLists N) (values : ℕ → Option Bool) (es : List Entry) (agree : (v : ℕ) → values v ≡ value_in es v) where
@@ -234,7 +234,7 @@ module _ {N : Type 0} (lists : FixedLists N) (values : ℕ → Option Bool) (sco
 -- the state of one clause is set
 pub fits_found : (literals : Requirement → List Signed) (needs : UndecidedClauses) (queue : List NeedClause) (position : ℕ) (q : NeedClause) (found : ClauseState) → Fits literals needs queue → slice_get queue position ≡ Some q
     → IsSoundState literals needs.seen.items q found → Fits literals (record needs { states = slice_set needs.states position found }) queue
-fits_found literals needs queue position q found f here so = record { count = length-set needs.states position found ∙ f.count; each = each; placed = f.placed; tallied = f.tallied }
+fits_found literals needs queue position q found f here so = record { count = length-set needs.states position found ∙ f.count; each = each; placed = f.placed; kept_count = f.kept_count }
   where
     each : (i : ℕ) (r : NeedClause) → slice_get queue i ≡ Some r → IsSoundState literals needs.seen.items r (state_at (slice_set needs.states position found) i)
     each i r at = elim (state_set_other needs.states position found i) [
@@ -319,7 +319,7 @@ fits_same literals needs queue states is f = record {
   count = ap length is ∙ f.count;
   each = λ i q at. subst (λ (ss : List ClauseState). IsSoundState literals needs.seen.items q (state_at ss i)) (sym is) (f.each i q at);
   placed = f.placed;
-  tallied = f.tallied;
+  kept_count = f.kept_count;
 }
 
 -- the clause read is the one at its position
@@ -339,19 +339,19 @@ read_is [] i d q h = cc
 read_is (x ∷ qs) zero d q h = cc
 read_is (x ∷ qs) (suc i) d q h = read_is qs i d q h
 
--- the tallies were changed by the candidates of a clause
-pub fits_counted : {N : Type 0} (lists : FixedLists N) (values : ℕ → Option Bool) (old : UndecidedClauses) (all : Tallies) (queue : List NeedClause) (position : ℕ) (d : NeedClause) (cs : List (Candidate N)) → cs ≡ candidates_in lists (get_or queue position d).requirement
-    → ((v : ℕ) → values v ≡ value_in old.seen.items v) → KeepsCounted old.seen.items values position (candidate_literals cs) old.tallies all → Fits (literals_in lists) old queue → Fits (literals_in lists) (record old { tallies = all }) queue
+-- the counts were changed by the candidates of a clause
+pub fits_counted : {N : Type 0} (lists : FixedLists N) (values : ℕ → Option Bool) (old : UndecidedClauses) (all : CandidateCounts) (queue : List NeedClause) (position : ℕ) (d : NeedClause) (cs : List (Candidate N)) → cs ≡ candidates_in lists (get_or queue position d).requirement
+    → ((v : ℕ) → values v ≡ value_in old.seen.items v) → KeepsCounted old.seen.items values position (candidate_literals cs) old.counts all → Fits (literals_in lists) old queue → Fits (literals_in lists) (record old { counts = all }) queue
 fits_counted {N} lists values old all queue position d cs is agree kept f = record {
   count = f.count;
   each = f.each;
   placed = f.placed;
-  tallied = kept agree (literals_in lists) queue (λ q at. ap (λ (r : NeedClause). literals_in lists r.requirement) (sym (read_is queue position d q at)) ∙ ap candidate_literals (sym is)) f.tallied;
+  kept_count = kept agree (literals_in lists) queue (λ q at. ap (λ (r : NeedClause). literals_in lists r.requirement) (sym (read_is queue position d q at)) ∙ ap candidate_literals (sym is)) f.kept_count;
 }
 
 -- another clause was counted
 pub fits_marked : (literals : Requirement → List Signed) (needs : UndecidedClauses) (queue : List NeedClause) (counted : Option ℕ) → Fits literals needs queue → Fits literals (record needs { counted = counted }) queue
-fits_marked literals needs queue counted f = record { count = f.count; each = f.each; placed = f.placed; tallied = f.tallied }
+fits_marked literals needs queue counted f = record { count = f.count; each = f.each; placed = f.placed; kept_count = f.kept_count }
 
 -- a clause doesn't beat a decision that no score as its first undecided candidate's beats
 pub offer_beaten : {N : Type 0} (lists : FixedLists N) (values : ℕ → Option Bool) (score : N → ℕ) (q : NeedClause) (best : Option NextDecision) (c : Candidate N) → find (λ d. is_open (value_under values d.literal)) (candidates_in lists q.requirement) ≡ Some c
@@ -393,11 +393,11 @@ fits_more old new needs queue same f = record {
   count = f.count;
   each = λ i q at. so q (state_at needs.states i) (f.each i q at);
   placed = f.placed;
-  tallied = record {
-    each = λ i q k at number. (let h = f.tallied.each i q k at number in subst (λ ls. IsTally ls needs.seen.items needs.tallies k) (sym (same q.requirement h.some)) h);
-    within = f.tallied.within;
-    apart = f.tallied.apart;
-    below = f.tallied.below;
+  kept_count = record {
+    each = λ i q k at number. (let h = f.kept_count.each i q k at number in subst (λ ls. IsRightCount ls needs.seen.items needs.counts k) (sym (same q.requirement h.some)) h);
+    within = f.kept_count.within;
+    apart = f.kept_count.apart;
+    below = f.kept_count.below;
   };
 }
   where
@@ -414,24 +414,24 @@ fits_more old new needs queue same f = record {
     so q Inactive h = h
 
 -- the empty queue
-pub fits_none : (literals : Requirement → List Signed) (needs : UndecidedClauses) → needs.states ≡ [] → HasNoTally needs.tallies → Fits literals needs []
-fits_none literals needs none untallied = record {
+pub fits_none : (literals : Requirement → List Signed) (needs : UndecidedClauses) → needs.states ≡ [] → HasNoCount needs.counts → Fits literals needs []
+fits_none literals needs none uncounted = record {
   count = ap length none;
   each = λ i q at. absurd (nothing i q at);
   placed = λ i q at. absurd (nothing i q at);
-  tallied = record {
+  kept_count = record {
     each = λ i q k at number. absurd (nothing i q at);
     within = λ i k number. absurd (unnumbered i k number);
     apart = λ i j k here there. absurd (unnumbered i k here);
-    below = λ index u h. absurd (unused u (subst (λ us. Contains (items_or_none (slice_get us index)) u) untallied.uses h));
+    below = λ index u h. absurd (unused u (subst (λ us. Contains (items_or_none (slice_get us index)) u) uncounted.occurrences h));
   };
 }
   where
     nothing : (i : ℕ) (q : NeedClause) → slice_get [] i ≡ Some q → ⊥
     nothing i q at = cc
 
-    unnumbered : (i k : ℕ) → number_at needs.tallies.countings.items i ≡ Some k → ⊥
-    unnumbered i k number = (let no : None ≡ Some k = ap (λ cs. number_at cs i) (sym untallied.countings) ∙ number in absurd cc)
+    unnumbered : (i k : ℕ) → number_at needs.counts.count_states.items i ≡ Some k → ⊥
+    unnumbered i k number = (let no : None ≡ Some k = ap (λ cs. number_at cs i) (sym uncounted.count_states) ∙ number in absurd cc)
 
-    unused : (u : Use) → Contains [] u → ⊥
+    unused : (u : Occurrence) → Contains [] u → ⊥
     unused u (i, low, at) = omega (arith, low)

@@ -3,5 +3,5 @@ pub mod Seen
 pub mod FitLemmas
 pub mod OfferLemmas
 mod TrailEnds
-mod TallyLemmas
+mod ChangeLemmas
 mod CountLemmas

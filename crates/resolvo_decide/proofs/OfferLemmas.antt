@@ -1,4 +1,4 @@
--- The decision that a clause offers, by a walk over its candidates or by its tally.
+-- The decision that a clause offers, by a walk over its candidates or by its count.
 use Rattle.std.proofs.Common.{◌≡◌, ℕ, zero, suc, ◌+◌, ◌-◌, ◌<◌, cond, Bool, true, false, List, [], ◌∷◌, length, drop, find, Option, Some, None, refl, sym, ◌∙◌, ap, subst, arith}
 use Rattle.std.specs.Prelude.{◌||◌, slice_get}
 use Rattle.std.specs.List.{count_by, list_any}
@@ -14,10 +14,10 @@ use Rattle.resolvo_store_core.specs.Trail.{value_in}
 use Rattle.resolvo_store_core.specs.declared.decide_queue.NeedClause.{NeedClause}
 use Rattle.resolvo_store_core.specs.declared.lists.FixedLists.{FixedLists}
 use Rattle.resolvo_store_core.specs.declared.lists.Candidate.{Candidate}
-use Rattle.resolvo_decide.specs.declared.tally.Tally.{Tally}
+use Rattle.resolvo_decide.specs.declared.candidate_count.CandidateCount.{CandidateCount}
 use Rattle.resolvo_decide.specs.declared.undecided_clauses.UndecidedClauses.{UndecidedClauses}
-use Rattle.resolvo_decide.specs.Tallies.{Counts, CountsIn, has_true_in, passed_by, tally_in, number_at}
-use Rattle.resolvo_decide.specs.Needs.{IsTalliedAt}
+use Rattle.resolvo_decide.specs.CandidateCounts.{Counts, CountsIn, has_true_in, passed_by, count_in, number_at}
+use Rattle.resolvo_decide.specs.Needs.{IsRightCountAt}
 
 -- the first candidate found, or a later one
 abbrev pub first_of : {X : Type 0} → Option X → Option X → Option X
@@ -82,29 +82,29 @@ module _ {N : Type 0} (values : ℕ → Option Bool) where
       ∙ find_behind n cs (λ p l low at. h (suc p) l (omega (arith, low)) at)
 
   -- so is the first one that isn't false
-  module _ (t : Tally) (cs : List (Candidate N)) (counts : Counts values (candidate_literals cs) t) where
-    pub tally_true : 0 < t.trues → list_any (λ c. is_true (value_under values c.literal)) cs ≡ true
-    tally_true h = some_counted (λ c. is_true (value_under values c.literal)) cs (omega (arith, h, counts.trues, count_map (λ l. is_true (value_under values l)) cs))
+  module _ (t : CandidateCount) (cs : List (Candidate N)) (counts : Counts values (candidate_literals cs) t) where
+    pub count_true : 0 < t.trues → list_any (λ c. is_true (value_under values c.literal)) cs ≡ true
+    count_true h = some_counted (λ c. is_true (value_under values c.literal)) cs (omega (arith, h, counts.trues, count_map (λ l. is_true (value_under values l)) cs))
 
-    pub tally_none : t.trues ≡ 0 → list_any (λ c. is_true (value_under values c.literal)) cs ≡ false
-    tally_none h = none_counted (λ c. is_true (value_under values c.literal)) cs (omega (arith, h, counts.trues, count_map (λ l. is_true (value_under values l)) cs))
+    pub count_none : t.trues ≡ 0 → list_any (λ c. is_true (value_under values c.literal)) cs ≡ false
+    count_none h = none_counted (λ c. is_true (value_under values c.literal)) cs (omega (arith, h, counts.trues, count_map (λ l. is_true (value_under values l)) cs))
 
-    pub tally_open : t.total - (t.trues + t.falses) ≡ count_by (λ c. is_open (value_under values c.literal)) cs
-    tally_open = omega (arith, counts.total, counts.trues, counts.falses, length_literals cs, count_map (λ l. is_true (value_under values l)) cs, count_map (λ l. is_false (value_under values l)) cs, all_counted cs)
+    pub count_open : t.total - (t.trues + t.falses) ≡ count_by (λ c. is_open (value_under values c.literal)) cs
+    count_open = omega (arith, counts.total, counts.trues, counts.falses, length_literals cs, count_map (λ l. is_true (value_under values l)) cs, count_map (λ l. is_false (value_under values l)) cs, all_counted cs)
 
-    pub tally_first : find (λ c. is_open (value_under values c.literal)) cs ≡ find (λ c. is_open (value_under values c.literal)) (drop t.passed cs)
-    tally_first = find_behind t.passed cs counts.passed
+    pub count_first : find (λ c. is_open (value_under values c.literal)) cs ≡ find (λ c. is_open (value_under values c.literal)) (drop t.passed cs)
+    count_first = find_behind t.passed cs counts.passed
 
--- ---- what a tally says, if there is one
+-- ---- what a count says, if there is one
 
 module _ {N : Type 0} (values : ℕ → Option Bool) (cs : List (Candidate N)) where
-  pub tallied_met : (o : Option Tally) → CountsIn values (candidate_literals cs) o → has_true_in o ≡ true → list_any (λ c. is_true (value_under values c.literal)) cs ≡ true
-  tallied_met None counts h = cc
-  tallied_met (Some t) counts h = tally_true values t cs counts (ltb-true 0 t.trues h)
+  pub counted_met : (o : Option CandidateCount) → CountsIn values (candidate_literals cs) o → has_true_in o ≡ true → list_any (λ c. is_true (value_under values c.literal)) cs ≡ true
+  counted_met None counts h = cc
+  counted_met (Some t) counts h = count_true values t cs counts (ltb-true 0 t.trues h)
 
-  pub tallied_first : (o : Option Tally) → CountsIn values (candidate_literals cs) o → find (λ c. is_open (value_under values c.literal)) cs ≡ find (λ c. is_open (value_under values c.literal)) (drop (passed_by o) cs)
-  tallied_first None counts = refl
-  tallied_first (Some t) counts = tally_first values t cs counts
+  pub counted_first : (o : Option CandidateCount) → CountsIn values (candidate_literals cs) o → find (λ c. is_open (value_under values c.literal)) cs ≡ find (λ c. is_open (value_under values c.literal)) (drop (passed_by o) cs)
+  counted_first None counts = refl
+  counted_first (Some t) counts = count_first values t cs counts
 
 pub any_behind : {X : Type 0} (f : X → Bool) (n : ℕ) (xs : List X) → list_any f (drop n xs) ≡ true → list_any f xs ≡ true
 any_behind f zero xs h = h
@@ -116,21 +116,21 @@ any_behind f (suc n) (x ∷ xs) h = go (f x) (any_behind f n xs h)
     go false more = more
 
 -- the same values
-pub counts_agree : (values others : ℕ → Option Bool) → ((v : ℕ) → values v ≡ others v) → (ls : List Signed) (t : Tally) → Counts others ls t → Counts values ls t
+pub counts_agree : (values others : ℕ → Option Bool) → ((v : ℕ) → values v ≡ others v) → (ls : List Signed) (t : CandidateCount) → Counts others ls t → Counts values ls t
 counts_agree values others agree ls t h =
     let same : others ≡ values = λ i v. sym (agree v) i in
     subst (λ (f : ℕ → Option Bool). Counts f ls t) same h
 
--- the tally at a position
-pub counted_at : (literals : Requirement → List Signed) (needs : UndecidedClauses) (position : ℕ) (q : NeedClause) (values : ℕ → Option Bool) → ((v : ℕ) → values v ≡ value_in needs.seen.items v) → IsTalliedAt literals needs position q
-    → (o : Option Tally) → o ≡ tally_in needs.tallies.tallies.items (number_at needs.tallies.countings.items position) → CountsIn values (literals q.requirement) o
-counted_at literals needs position q values agree h o is = go (number_at needs.tallies.countings.items position) refl
+-- the count at a position
+pub counted_at : (literals : Requirement → List Signed) (needs : UndecidedClauses) (position : ℕ) (q : NeedClause) (values : ℕ → Option Bool) → ((v : ℕ) → values v ≡ value_in needs.seen.items v) → IsRightCountAt literals needs position q
+    → (o : Option CandidateCount) → o ≡ count_in needs.counts.counts.items (number_at needs.counts.count_states.items position) → CountsIn values (literals q.requirement) o
+counted_at literals needs position q values agree h o is = go (number_at needs.counts.count_states.items position) refl
   where
-    go : (n : Option ℕ) → number_at needs.tallies.countings.items position ≡ n → CountsIn values (literals q.requirement) o
-    go None none = subst (CountsIn values (literals q.requirement)) (sym (is ∙ ap (tally_in needs.tallies.tallies.items) none)) tt
+    go : (n : Option ℕ) → number_at needs.counts.count_states.items position ≡ n → CountsIn values (literals q.requirement) o
+    go None none = subst (CountsIn values (literals q.requirement)) (sym (is ∙ ap (count_in needs.counts.counts.items) none)) tt
     go (Some k) some =
         let one = h k some in
-        subst (CountsIn values (literals q.requirement)) (sym (is ∙ ap (tally_in needs.tallies.tallies.items) some ∙ one.there)) (counts_agree values (value_in needs.seen.items) agree (literals q.requirement) one.tally one.counts)
+        subst (CountsIn values (literals q.requirement)) (sym (is ∙ ap (count_in needs.counts.counts.items) some ∙ one.there)) (counts_agree values (value_in needs.seen.items) agree (literals q.requirement) one.count one.counts)
 
 -- what an eligible clause offers
 module _ {N : Type 0} (lists : FixedLists N) (values : ℕ → Option Bool) (score : N → ℕ) (q : NeedClause) where

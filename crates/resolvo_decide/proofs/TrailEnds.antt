@@ -10,7 +10,7 @@ use Rattle.resolvo_store_core.specs.Signed.{Signed, negation, same_literal, valu
 use Rattle.resolvo_store_core.specs.Trail.{assigned, assignment_of, value_in, EachOnce}
 use Rattle.resolvo_store_core.specs.declared.decision.Entry.{Entry}
 use Rattle.resolvo_store_core.specs.declared.decision_map.Assignment.{Assignment}
-use Rattle.resolvo_decide.specs.Tallies.{found, made_true}
+use Rattle.resolvo_decide.specs.CandidateCounts.{found, made_true}
 use Rattle.resolvo_decide.proofs.Seen.{value_prefix}
 
 -- 1 for true, 0 for false

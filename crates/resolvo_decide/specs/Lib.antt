@@ -1,3 +1,3 @@
 pub mod States
-pub mod Tallies
+pub mod CandidateCounts
 pub mod Needs

@@ -19,9 +19,9 @@ use Rattle.resolvo_store_core.specs.declared.lists.FixedLists.{FixedLists}
 use Rattle.resolvo_decide.specs.declared.clause_states.ClauseState.{ClauseState}
 use Rattle.resolvo_decide.specs.declared.clause_states.ClauseState.TheVariants.{Open, Satisfied, Inactive}
 use Rattle.resolvo_decide.specs.declared.undecided_clauses.UndecidedClauses.{UndecidedClauses}
-use Rattle.resolvo_decide.specs.declared.tallies.Tallies.{Tallies}
+use Rattle.resolvo_decide.specs.declared.candidate_counts.CandidateCounts.{CandidateCounts}
 use Rattle.resolvo_decide.specs.States.{state_at}
-use Rattle.resolvo_decide.specs.Tallies.{IsTally, AreBelow, Begins, number_at}
+use Rattle.resolvo_decide.specs.CandidateCounts.{IsRightCount, AreBelow, Begins, number_at}
 
 -- the literals of a requirement's candidates
 abbrev pub literals_in : {N : Type 0} → FixedLists N → Requirement → List Signed
@@ -47,19 +47,19 @@ IsSoundState literals trail q Open = ⊤
 IsSoundState literals trail q (Satisfied within) = is_met (take within trail) (literals q.requirement) ≡ true
 IsSoundState literals trail q Inactive = is_true (value_in trail q.parent.0) ≡ false
 
--- each clause has a tally of its own, and that of each clause of the queue is right under the trail
-pub record AreTallied (literals : Requirement → List Signed) (queue : List NeedClause) (trail : List Entry) (all : Tallies) : Type 0 where
-  pub each : (i : ℕ) (q : NeedClause) (k : ℕ) → slice_get queue i ≡ Some q → number_at all.countings.items i ≡ Some k → IsTally (literals q.requirement) trail all k
-  pub within : (i k : ℕ) → number_at all.countings.items i ≡ Some k → k < length all.tallies.items
-  pub apart : (i j k : ℕ) → number_at all.countings.items i ≡ Some k → number_at all.countings.items j ≡ Some k → i ≡ j
-  pub below : AreBelow (length all.tallies.items) all.uses.items
+-- each clause has a count of its own, and that of each clause of the queue is right under the trail
+pub record AreRightCounts (literals : Requirement → List Signed) (queue : List NeedClause) (trail : List Entry) (all : CandidateCounts) : Type 0 where
+  pub each : (i : ℕ) (q : NeedClause) (k : ℕ) → slice_get queue i ≡ Some q → number_at all.count_states.items i ≡ Some k → IsRightCount (literals q.requirement) trail all k
+  pub within : (i k : ℕ) → number_at all.count_states.items i ≡ Some k → k < length all.counts.items
+  pub apart : (i j k : ℕ) → number_at all.count_states.items i ≡ Some k → number_at all.count_states.items j ≡ Some k → i ≡ j
+  pub below : AreBelow (length all.counts.items) all.occurrences.items
 
--- the state and the tally of each clause of the queue are right, and the clauses of each parent are listed
+-- the state and the count of each clause of the queue are right, and the clauses of each parent are listed
 pub record Fits (literals : Requirement → List Signed) (needs : UndecidedClauses) (queue : List NeedClause) : Type 0 where
   pub count : length needs.states ≡ length queue
   pub each : (i : ℕ) (q : NeedClause) → slice_get queue i ≡ Some q → IsSoundState literals needs.seen.items q (state_at needs.states i)
   pub placed : (i : ℕ) (q : NeedClause) → slice_get queue i ≡ Some q → Contains (places_at needs.places.items q.parent.0) i
-  pub tallied : AreTallied literals queue needs.seen.items needs.tallies
+  pub kept_count : AreRightCounts literals queue needs.seen.items needs.counts
 
 -- the new states fit each queue that the old ones fit
 abbrev pub KeepsFitting : UndecidedClauses → UndecidedClauses → Type 0
@@ -71,20 +71,20 @@ pub record AddsNeed (parent : VariableId) (old new : UndecidedClauses) : Type 0 
   pub seen : new.seen ≡ old.seen
   pub placed : Contains (places_at new.places.items parent.0) (length old.states)
   pub kept : (v i : ℕ) → Contains (places_at old.places.items v) i → Contains (places_at new.places.items v) i
-  pub tallies : Begins (length old.states) old.tallies new.tallies
+  pub counts : Begins (length old.states) old.counts new.counts
 
--- the tallies stay right as the trail changes from the one to the other
-abbrev pub KeepsTallies : List Entry → List Entry → Tallies → Tallies → Type 0
-KeepsTallies before after old new = (literals : Requirement → List Signed) (queue : List NeedClause) → AreTallied literals queue before old → AreTallied literals queue after new
+-- the counts stay right as the trail changes from the one to the other
+abbrev pub KeepsCounts : List Entry → List Entry → CandidateCounts → CandidateCounts → Type 0
+KeepsCounts before after old new = (literals : Requirement → List Signed) (queue : List NeedClause) → AreRightCounts literals queue before old → AreRightCounts literals queue after new
 
 -- so they do where the values are the trail's, and these the literals of the clause at the position
-abbrev pub KeepsCounted : List Entry → (ℕ → Option Bool) → ℕ → List Signed → Tallies → Tallies → Type 0
+abbrev pub KeepsCounted : List Entry → (ℕ → Option Bool) → ℕ → List Signed → CandidateCounts → CandidateCounts → Type 0
 KeepsCounted trail values position ls old new = ((v : ℕ) → values v ≡ value_in trail v) → (literals : Requirement → List Signed) (queue : List NeedClause)
-    → ((q : NeedClause) → slice_get queue position ≡ Some q → literals q.requirement ≡ ls) → AreTallied literals queue trail old → AreTallied literals queue trail new
+    → ((q : NeedClause) → slice_get queue position ≡ Some q → literals q.requirement ≡ ls) → AreRightCounts literals queue trail old → AreRightCounts literals queue trail new
 
--- the tally of the clause at the position, if it has one, is right
-abbrev pub IsTalliedAt : (Requirement → List Signed) → UndecidedClauses → ℕ → NeedClause → Type 0
-IsTalliedAt literals needs position q = (k : ℕ) → number_at needs.tallies.countings.items position ≡ Some k → IsTally (literals q.requirement) needs.seen.items needs.tallies k
+-- the count of the clause at the position, if it has one, is right
+abbrev pub IsRightCountAt : (Requirement → List Signed) → UndecidedClauses → ℕ → NeedClause → Type 0
+IsRightCountAt literals needs position q = (k : ℕ) → number_at needs.counts.count_states.items position ≡ Some k → IsRightCount (literals q.requirement) needs.seen.items needs.counts k
 
 -- each decision that a clause of the queue offers has at least so many undecided candidates
 abbrev pub OffersAtLeast : {N : Type 0} → FixedLists N → (ℕ → Option Bool) → List NeedClause → ℕ → Type 0

@@ -3,10 +3,10 @@
 //! `src/solver/decide_queue.rs`.
 #![tactic(auto)]
 
+pub mod candidate_count;
+pub mod candidate_counts;
 pub mod clause_states;
 mod lists_by_index;
 mod offer;
 pub mod scores;
-pub mod tallies;
-pub mod tally;
 pub mod undecided_clauses;

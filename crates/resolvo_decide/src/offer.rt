@@ -7,9 +7,9 @@ ghost use Rattle.resolvo_store_core.specs.Values.{value_at};
 ghost use Rattle.resolvo_store_core.specs.Pick.{is_eligible, offer};
 ghost use Rattle.resolvo_store_core.specs.Clauses.{candidate_literals};
 ghost use Rattle.resolvo_store_core.specs.Lists.{candidates_in};
-ghost use Rattle.resolvo_decide.specs.Tallies.{Counts, passed_by};
+ghost use Rattle.resolvo_decide.specs.CandidateCounts.{Counts, passed_by};
 
-use crate::tally::Tally;
+use crate::candidate_count::CandidateCount;
 use resolvo_pool_core::id_map::ScoreMap;
 use resolvo_store_core::decide_queue::{NeedClause, NextDecision};
 use resolvo_store_core::decision_map::DecisionMap;
@@ -41,40 +41,43 @@ where
     })
 }
 
-/// The same, where the candidates are tallied.
-pub(crate) fn tallied_offer<N: Copy + Eq, C: ScoreMap<N>>(
+/// The same, where the candidates have a count.
+pub(crate) fn counted_offer<N: Copy + Eq, C: ScoreMap<N>>(
     need: &NeedClause,
     lists: &FixedLists<N>,
     values: &DecisionMap,
     scores: &C,
-    tally: Tally,
+    count: CandidateCount,
 ) -> Option<NextDecision>
 where
     N: Drop,
     requires { Counts (value_at values.now)
-        (candidate_literals (candidates_in lists.now need.now.requirement)) tally }
+        (candidate_literals (candidates_in lists.now need.now.requirement)) count }
     ensures { result ≡ offer lists.now (value_at values.now) (C.score_of scores.now) need.now }
 {
-    if tally.trues > 0 || !is_needed(need, lists, values) {
+    if count.trues > 0 || !is_needed(need, lists, values) {
         return None;
     }
     let candidates = lists.candidates(need.requirement)?;
-    let candidate = first_undecided(behind_passed(candidates, Some(tally)), values)?;
+    let candidate = first_undecided(behind_passed(candidates, Some(count)), values)?;
     Some(NextDecision {
         candidate: candidate.literal.variable(),
         required_by: need.parent,
         clause_id: need.clause,
         package_activity: scores.get(candidate.package),
-        candidate_count: tally.undecided(),
+        candidate_count: count.undecided(),
     })
 }
 
-/// The candidates behind those that a tally passes over.
-pub(crate) fn behind_passed<N>(candidates: &[Candidate<N>], tally: Option<Tally>) -> &[Candidate<N>]
-    ensures { result.now ≡ drop (passed_by tally) candidates.now }
+/// The candidates behind those that a count passes over.
+pub(crate) fn behind_passed<N>(
+    candidates: &[Candidate<N>],
+    count: Option<CandidateCount>,
+) -> &[Candidate<N>]
+    ensures { result.now ≡ drop (passed_by count) candidates.now }
 {
-    match tally {
-        Some(tally) => &candidates[tally.passed.min(candidates.len())..],
+    match count {
+        Some(count) => &candidates[count.passed.min(candidates.len())..],
         None => candidates,
     }
 }

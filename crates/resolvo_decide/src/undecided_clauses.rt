@@ -14,15 +14,15 @@ ghost use Rattle.resolvo_store_core.specs.Pick.{pick, offer, later};
 ghost use Rattle.resolvo_store_core.specs.declared.decide_queue.NeedClause.{NeedClause};
 ghost use Rattle.resolvo_decide.specs.declared.clause_states.ClauseState.TheVariants.{Open};
 ghost use Rattle.resolvo_decide.specs.States.{state_at};
-ghost use Rattle.resolvo_decide.specs.Tallies.{has_true_in, HasNoTally};
-ghost use Rattle.resolvo_decide.specs.Needs.{literals_in, places_at, IsMetNow, IsSoundState, Fits, KeepsFitting, KeepsTallies, IsTalliedAt, OffersAtLeast, LeavesUndecided, IsPick, AddsNeed};
+ghost use Rattle.resolvo_decide.specs.CandidateCounts.{has_true_in, HasNoCount};
+ghost use Rattle.resolvo_decide.specs.Needs.{literals_in, places_at, IsMetNow, IsSoundState, Fits, KeepsFitting, KeepsCounts, IsRightCountAt, OffersAtLeast, LeavesUndecided, IsPick, AddsNeed};
 
+use crate::candidate_count::CandidateCount;
+use crate::candidate_counts::CandidateCounts;
 use crate::clause_states::{ClauseState, ClauseStates};
 use crate::lists_by_index::make_room;
-use crate::offer::{behind_passed, offered, tallied_offer};
+use crate::offer::{behind_passed, counted_offer, offered};
 use crate::scores::Scores;
-use crate::tallies::Tallies;
-use crate::tally::Tally;
 use resolvo_pool_core::id::VariableId;
 use resolvo_pool_core::id_map::ScoreMap;
 use resolvo_pool_core::want::R;
@@ -43,7 +43,7 @@ pub struct UndecidedClauses {
     /// The positions of the clauses of each parent, by the parent's variable.
     places: Vec<Vec<usize>>,
     /// How many candidates are true or false, of the clauses for which that is kept.
-    tallies: Tallies,
+    counts: CandidateCounts,
     /// The clause whose candidates were last counted by a walk over them.
     counted: Option<usize>,
 }
@@ -54,13 +54,13 @@ impl UndecidedClauses {
         ensures states { result.states ≡ [] }
         ensures seen { result.seen.items ≡ [] }
         ensures places { result.places.items ≡ [] }
-        ensures tallies { HasNoTally result.tallies }
+        ensures counts { HasNoCount result.counts }
     {
         UndecidedClauses {
             states: ClauseStates::new(alloc),
             seen: Vec::new(alloc),
             places: Vec::new(alloc),
-            tallies: Tallies::new(alloc),
+            counts: CandidateCounts::new(alloc),
             counted: None,
         }
     }
@@ -74,7 +74,7 @@ impl UndecidedClauses {
         make_room(&mut self.places, alloc, index + 1)?;
         let position = self.states.len();
         self.places[index].push(position)?;
-        self.tallies.begin(position)?;
+        self.counts.begin(position)?;
         self.states.push()?;
         Ok(())
     }
@@ -124,21 +124,21 @@ impl UndecidedClauses {
     /// Removes the last seen entries, until this many are left.
     fn undo_entries(&mut self, kept: usize)
         ensures seen { self.new.seen.items ≡ take kept self.old.seen.items }
-        ensures tallies { KeepsTallies self.old.seen.items self.new.seen.items self.old.tallies
-            self.new.tallies }
+        ensures counts { KeepsCounts self.old.seen.items self.new.seen.items self.old.counts
+            self.new.counts }
         ensures rest { self.new ≡ record self.old {
           seen = self.new.seen;
-          tallies = self.new.tallies;
+          counts = self.new.counts;
         } }
     {
         while kept < self.seen.len() {
             if let Some(entry) = self.seen.pop() {
-                self.tallies.undo_entry(entry);
+                self.counts.undo_entry(entry);
             }
         }
     }
 
-    /// Notes the clause whose candidates the pick counted by a walk, so that it may get a tally.
+    /// Notes the clause whose candidates the pick counted by a walk, so that it may get a count.
     fn note_count<N: Copy>(
         &mut self,
         queue: &[NeedClause],
@@ -161,7 +161,7 @@ impl UndecidedClauses {
         if let Some(position) = counted {
             if position < queue.len() {
                 if let Some(candidates) = lists.candidates(queue[position].requirement) {
-                    self.tallies.note_count(position, candidates, values)?;
+                    self.counts.note_count(position, candidates, values)?;
                 }
             }
         }
@@ -191,7 +191,7 @@ impl UndecidedClauses {
         ensures refusal { IsOkUnless result Memory }
     {
         self.seen.push(entry)?;
-        self.tallies.add_entry(entry);
+        self.counts.add_entry(entry);
         if entry.decision.value {
             self.open_clauses_of(entry.decision.variable);
         }
@@ -264,14 +264,14 @@ impl UndecidedClauses {
     ) -> Option<NextDecision>
     where
         N: Drop,
-        requires tallied { IsTalliedAt (literals_in lists.now) self.old position need.now }
+        requires kept_count { IsRightCountAt (literals_in lists.now) self.old position need.now }
         requires values { (v : ℕ) → value_at values.now v ≡ value_in self.old.seen.items v }
         ensures offer { result
             ≡ offer lists.now (value_at values.now) (C.score_of scores.now) need.now }
         ensures rest { self.new ≡ record self.old { counted = self.new.counted } }
     {
-        match self.tallies.tally(position) {
-            Some(tally) => tallied_offer(need, lists, values, scores, tally),
+        match self.counts.count(position) {
+            Some(count) => counted_offer(need, lists, values, scores, count),
             None => {
                 self.counted = Some(position);
                 offered(need, lists, values, scores)
@@ -305,7 +305,7 @@ impl UndecidedClauses {
         ensures seen { self.new.seen ≡ self.old.seen }
     {
         if let Some(candidates) = lists.candidates(queue[position].requirement) {
-            self.tallies.pass_false(position, candidates, values);
+            self.counts.pass_false(position, candidates, values);
         }
         match self.first_undecided(position, &queue[position], lists, values) {
             Ok(candidate) => !is_final(best, scores.get(candidate.package), 0),
@@ -326,7 +326,7 @@ impl UndecidedClauses {
     ) -> Result<Candidate<N>, ClauseState>
     where
         N: Drop,
-        requires tallied { IsTalliedAt (literals_in lists.now) self.now position need.now }
+        requires kept_count { IsRightCountAt (literals_in lists.now) self.now position need.now }
         requires values { (v : ℕ) → value_at values.now v ≡ value_in self.now.seen.items v }
         ensures first { IfOk result
             (λ c. find (λ d. is_open (value_under (value_at values.now) d.literal))
@@ -343,11 +343,11 @@ impl UndecidedClauses {
         let Some(candidates) = lists.candidates(need.requirement) else {
             return Err(ClauseState::Open);
         };
-        let tally = self.tallies.tally(position);
-        if has_true(tally) {
+        let count = self.counts.count(position);
+        if has_true(count) {
             return Err(self.met());
         }
-        match first_possible(behind_passed(candidates, tally), values) {
+        match first_possible(behind_passed(candidates, count), values) {
             Some(candidate) if candidate.literal.is_true(values) => Err(self.met()),
             Some(candidate) => Ok(*candidate),
             None => Err(ClauseState::Open),
@@ -365,12 +365,12 @@ impl UndecidedClauses {
     }
 }
 
-/// Whether a tally has a true candidate.
-fn has_true(tally: Option<Tally>) -> bool
-    ensures { result ≡ has_true_in tally }
+/// Whether a count has a true candidate.
+fn has_true(count: Option<CandidateCount>) -> bool
+    ensures { result ≡ has_true_in count }
 {
-    match tally {
-        Some(tally) => tally.trues > 0,
+    match count {
+        Some(count) => count.trues > 0,
         None => false,
     }
 }

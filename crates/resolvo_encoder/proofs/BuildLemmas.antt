@@ -194,7 +194,7 @@ built_begun {N} {S} e begun = record {
   gates = λ r v at. (let none : None ≡ Some v = sym (begun.gates r) ∙ at in absurd cc);
   within = (let none : e.encoded ≡ 0 = begun.encoded in omega arith);
   clauses = λ q a. absurd (contains_none q (subst (λ (qs : List NeedClause). Contains qs q) begun.queue a));
-  needs = subst (λ qs. Fits (literals_in e.lists) e.needs qs) (sym begun.queue) (fits_none (literals_in e.lists) e.needs begun.needs begun.tallies);
+  needs = subst (λ qs. Fits (literals_in e.lists) e.needs qs) (sym begun.queue) (fits_none (literals_in e.lists) e.needs begun.needs begun.counts);
   seen = subst (λ es. IsPrefixOf es e.coding.search.tracker.trail) (sym begun.seen) (e.coding.search.tracker.trail, refl);
 }
 

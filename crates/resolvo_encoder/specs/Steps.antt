@@ -21,7 +21,7 @@ use Rattle.resolvo_pool_core.specs.RuleKeeping.{Packages, Rules, IsLawful, is_in
 use Rattle.resolvo_pool_core.specs.declared.id.VersionSetId.{VersionSetId}
 use Rattle.resolvo_pool_core.specs.declared.requirement.ConditionalRequirement.{ConditionalRequirement}
 use Rattle.resolvo_decide.specs.Needs.{literals_in, Fits, AddsNeed}
-use Rattle.resolvo_decide.specs.Tallies.{HasNoTally}
+use Rattle.resolvo_decide.specs.CandidateCounts.{HasNoCount}
 use Rattle.resolvo_sat.specs.RuleClauses.{Rule, cases_for, AreMatched, IsRule}
 use Rattle.resolvo_sat.specs.Known.{clause_at}
 use Rattle.resolvo_sat.specs.State.{lists}
@@ -214,7 +214,7 @@ pub record IsBegunEncoding {N S : Type 0} (e : Encoder N S) : Type 0 where
   pub queue : e.queue ≡ []
   pub needs : e.needs.states ≡ []
   pub seen : e.needs.seen.items ≡ []
-  pub tallies : HasNoTally e.needs.tallies
+  pub counts : HasNoCount e.needs.counts
   pub gates : (r : Requirement) → slot_of e.gates r ≡ None
   pub packages : e.recorded.packages.keys ≡ []
   pub version_sets : e.recorded.version_sets.keys ≡ []

@@ -2,7 +2,7 @@ use Rattle.std.proofs.Common.{◌≡◌, ℕ, ◌<◌, inl, inr, List, [], ◌�
 use Rattle.std.specs.Prelude.{Contains}
 use Rattle.std.proofs.lemmas.List.Elements.{Contains-append_left, Contains-append_right}
 use Rattle.resolvo_decide.specs.Needs.{places_at}
-use Rattle.resolvo_decide.specs.Tallies.{Begins}
+use Rattle.resolvo_decide.specs.CandidateCounts.{Begins}
 use Rattle.resolvo_decide.proofs.Positions.{places_read, places_set, places_set_other}
 use Rattle.resolvo_decide.proofs.undecided_clauses.UndecidedClauses.add.Goals as goal
 
@@ -17,7 +17,7 @@ returns-clause-added c =
     let is : c.push.new.self.items ≡ was ++ n ∷ [] = c.in_ok-push.ensures.items ∙ ap (λ k. c.index_mut.result.now.items ++ k ∷ []) many ∙ ap (λ (xs : List ℕ). xs ++ n ∷ []) (sym (places_read old v c.index_mut.result.now room c.index_mut.ensures.value)) in
     record {
       states = c.in_ok-push-2.ensures.pushed;
-      tallies = subst (λ k. Begins k c.args.self.now.tallies c.begin.new.self) many c.in_ok-begin.ensures.begun;
+      counts = subst (λ k. Begins k c.args.self.now.counts c.begin.new.self) many c.in_ok-begin.ensures.begun;
       seen = refl;
       placed = subst (λ (xs : List ℕ). Contains xs n) (sym (places_set old v c.push.new.self room ∙ is)) (Contains-append_right was (n ∷ []) n (0, omega arith, refl));
       kept = λ u i h. elim (places_set_other old v c.push.new.self u) [

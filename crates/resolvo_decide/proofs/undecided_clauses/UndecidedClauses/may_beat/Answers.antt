@@ -9,8 +9,8 @@ use Rattle.resolvo_decide.proofs.FitLemmas.{fits_counted, read_at, read_is, read
 use Rattle.resolvo_decide.proofs.undecided_clauses.UndecidedClauses.may_beat.Goals.{in-Some, in_default}
 use Rattle.resolvo_decide.proofs.undecided_clauses.UndecidedClauses.may_beat.Goals as goal
 
-pub first_undecided-requires-clause-tallied : goal.first_undecided-requires-clause-tallied
-first_undecided-requires-clause-tallied g c =
+pub first_undecided-requires-clause-kept_count : goal.first_undecided-requires-clause-kept_count
+first_undecided-requires-clause-kept_count g c =
     let lists = c.args.lists.now in
     let qs = c.args.queue.now in
     let fits : Fits (literals_in lists) c.match-candidates.self qs = elim c.match-candidates.branch [
@@ -18,7 +18,7 @@ first_undecided-requires-clause-tallied g c =
           (fits_counted lists (value_at c.args.values.now) c.args.self.now w.pass_false.new.self qs c.args.position _ w.in-Some.candidates.now w.in-Some.ensures.1 c.requires.values (w.pass_false.ensures.kept c.args.self.now.seen.items) c.requires.fits)
       | in_default w ↦ subst (λ (n : UndecidedClauses). Fits (literals_in lists) n qs) (sym w.self-is) c.requires.fits
     ] in
-    λ k number. fits.tallied.each c.args.position _ k (read_at qs c.args.position _ c.requires.within) number
+    λ k number. fits.kept_count.each c.args.position _ k (read_at qs c.args.position _ c.requires.within) number
 
 pub returns-in-Ok-clause-nothing : goal.returns-in-Ok-clause-nothing
 returns-in-Ok-clause-nothing g c = λ h q at.

@@ -65,5 +65,5 @@ pub returns-then-is_final-clause-fits : goal.returns-then-is_final-clause-fits
 returns-then-is_final-clause-fits g c =
     subst (λ (n : UndecidedClauses). Fits (literals_in c.args.lists.now) n c.args.queue.now) (sym c.offer_at-next.ensures.rest) (fits_marked (literals_in c.args.lists.now) c.may_beat.new.self c.args.queue.now c.offer_at-next.new.self.counted c.may_beat.ensures.fits)
 
-pub offer_at-next-requires-clause-tallied : goal.offer_at-next-requires-clause-tallied
-offer_at-next-requires-clause-tallied g c = λ k number. c.may_beat.ensures.fits.tallied.each c.loop-position.position _ k (read_at c.args.queue.now c.loop-position.position _ c.loop-position-test.true) number
+pub offer_at-next-requires-clause-kept_count : goal.offer_at-next-requires-clause-kept_count
+offer_at-next-requires-clause-kept_count g c = λ k number. c.may_beat.ensures.fits.kept_count.each c.loop-position.position _ k (read_at c.args.queue.now c.loop-position.position _ c.loop-position-test.true) number

@@ -1,6 +1,6 @@
 use Rattle.std.proofs.Common.{inl, refl, sym, ◌∙◌, ◌++◌, ◌∷◌, [], ap, subst}
 use Rattle.std.proofs.lemmas.Bool.{both_ways}
-use Rattle.resolvo_decide.specs.Needs.{KeepsTallies}
+use Rattle.resolvo_decide.specs.Needs.{KeepsCounts}
 use Rattle.resolvo_decide.specs.declared.undecided_clauses.UndecidedClauses.{UndecidedClauses}
 use Rattle.resolvo_decide.proofs.FitLemmas.{fits_on}
 use Rattle.resolvo_decide.proofs.undecided_clauses.UndecidedClauses.sync_entry.Goals as goal
@@ -11,7 +11,7 @@ returns-then-entry-clause-fits c =
     let rest = c.open_clauses_of.ensures.rest in
     fits_on c.args.entry c.args.self.now c.open_clauses_of.new.self (ap (λ (n : UndecidedClauses). n.seen.items) rest ∙ c.in_ok-push.ensures.items) (ap (λ (n : UndecidedClauses). n.places) rest)
     c.open_clauses_of.ensures.len c.open_clauses_of.ensures.others (λ is. c.open_clauses_of.ensures.opened)
-    (subst (λ ts. KeepsTallies es (es ++ c.args.entry ∷ []) c.args.self.now.tallies ts) (sym (ap (λ (n : UndecidedClauses). n.tallies) rest)) (c.add_entry.ensures.kept es c.requires))
+    (subst (λ ts. KeepsCounts es (es ++ c.args.entry ∷ []) c.args.self.now.counts ts) (sym (ap (λ (n : UndecidedClauses). n.counts) rest)) (c.add_entry.ensures.kept es c.requires))
 
 pub returns-else-entry-clause-fits : goal.returns-else-entry-clause-fits
 returns-else-entry-clause-fits c =

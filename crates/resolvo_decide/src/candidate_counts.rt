@@ -1,6 +1,7 @@
-//! The tallies of need clauses with many candidates, which spare the pick a count of them.
-//! A clause gets one when its candidates are counted for the second time. Each of its candidates is
-//! then listed by its literal, so that an entry of the trail changes the tallies that it concerns.
+//! Counts of the candidates of long need clauses, kept up with the trail, so that a pick needn't
+//! walk over them. A clause gets one when its candidates are counted for the second time. Each of
+//! them is then listed by its literal, so that an entry of the trail changes the counts that it
+//! concerns.
 
 ghost use Rattle.std.specs.Prelude.{◌≡◌, ℕ, ◌<◌, ◌≤◌, ◌++◌, ◌∷◌, [], List, length, true, slice_get, Some, None, OnOk, IsOkUnless};
 ghost use Rattle.std.specs.Option.{option_map};
@@ -10,11 +11,11 @@ ghost use Rattle.resolvo_store_core.specs.Signed.{negation, value_under, index_i
 ghost use Rattle.resolvo_store_core.specs.Trail.{EachOnce, assigned};
 ghost use Rattle.resolvo_store_core.specs.Values.{value_at};
 ghost use Rattle.resolvo_store_core.specs.declared.decision.Entry.{Entry};
-ghost use Rattle.resolvo_decide.specs.Tallies.{changed_each, uses_at, made_true, number_at, tally_in, Counts, Lists, HasNoTally, Changes, Begins};
-ghost use Rattle.resolvo_decide.specs.Needs.{KeepsTallies, KeepsCounted};
+ghost use Rattle.resolvo_decide.specs.CandidateCounts.{changed_each, occurrences_at, made_true, number_at, count_in, Counts, Lists, HasNoCount, Changes, Begins};
+ghost use Rattle.resolvo_decide.specs.Needs.{KeepsCounts, KeepsCounted};
 
+use crate::candidate_count::{CandidateChange, CandidateCount};
 use crate::lists_by_index::make_room;
-use crate::tally::{Change, Tally};
 use resolvo_pool_core::id::DenseIndex;
 use resolvo_pool_core::want::R;
 use resolvo_store_core::decision::Entry;
@@ -22,105 +23,105 @@ use resolvo_store_core::decision_map::DecisionMap;
 use resolvo_store_core::lists::Candidate;
 use std::alloc::Global;
 
-/// A clause with fewer candidates gets no tally: to count them is as fast.
+/// A clause with fewer candidates gets no count: a walk over them is as fast.
 const MANY: usize = 16;
 
 /// How the candidates of a clause are counted.
 #[derive(Clone, Copy, Debug)]
-pub enum Counting {
+pub enum CountState {
     /// They weren't counted yet.
     Never,
     /// They were counted once.
     Once,
-    /// By the tally of this number.
-    Tallied(usize),
+    /// Their count is kept, under this number.
+    Kept(usize),
 }
 
-/// A candidate of a clause with a tally.
+/// A candidate of a clause with a count: the number of the count, and the place of the candidate.
 #[derive(Clone, Copy, Debug)]
-pub struct Use {
-    pub tally: usize,
+pub struct Occurrence {
+    pub count: usize,
     pub place: usize,
 }
 
-/// The tallies of clauses, under a trail.
+/// The counts of clauses, under a trail.
 #[derive(Drop)]
-pub struct Tallies {
+pub struct CandidateCounts {
     /// How each clause is counted, by its position in the queue.
-    countings: Vec<Counting>,
-    tallies: Vec<Tally>,
-    /// The candidates of the clauses with a tally, by the indexes of their literals.
-    uses: Vec<Vec<Use>>,
+    count_states: Vec<CountState>,
+    counts: Vec<CandidateCount>,
+    /// The candidates of the clauses with a count, by the indexes of their literals.
+    occurrences: Vec<Vec<Occurrence>>,
 }
 
-impl Tallies {
-    /// The tallies of an empty queue.
-    pub fn new(alloc: Global) -> Tallies
-        ensures { HasNoTally result }
+impl CandidateCounts {
+    /// The counts of an empty queue.
+    pub fn new(alloc: Global) -> CandidateCounts
+        ensures { HasNoCount result }
     {
-        Tallies {
-            countings: Vec::new(alloc),
-            tallies: Vec::new(alloc),
-            uses: Vec::new(alloc),
+        CandidateCounts {
+            count_states: Vec::new(alloc),
+            counts: Vec::new(alloc),
+            occurrences: Vec::new(alloc),
         }
     }
 
-    /// Adds the clause at this position, without a tally.
+    /// Adds the clause at this position, without a count.
     pub fn begin(&mut self, position: usize) -> R<()>
         ensures begun { OnOk result (Begins position self.old self.new) }
         ensures refusal { IsOkUnless result Memory }
     {
-        self.countings.truncate(position);
-        while self.countings.len() <= position {
-            self.countings.push(Counting::Never)?;
+        self.count_states.truncate(position);
+        while self.count_states.len() <= position {
+            self.count_states.push(CountState::Never)?;
         }
         Ok(())
     }
 
-    /// The tally of the clause at this position, if it has one.
-    pub fn tally(&self, position: usize) -> Option<Tally>
-        ensures { result ≡ tally_in self.now.tallies.items
-            (number_at self.now.countings.items position) }
+    /// The count of the clause at this position, if it has one.
+    pub fn count(&self, position: usize) -> Option<CandidateCount>
+        ensures { result ≡ count_in self.now.counts.items
+            (number_at self.now.count_states.items position) }
     {
-        match self.countings.get(position) {
-            Some(Counting::Tallied(number)) => self.tallies.get(*number).copied(),
+        match self.count_states.get(position) {
+            Some(CountState::Kept(number)) => self.counts.get(*number).copied(),
             _ => None,
         }
     }
 
-    /// Changes the tallies after this entry was added to the trail.
+    /// Changes the counts after this entry was added to the trail.
     pub fn add_entry(&mut self, entry: Entry)
         ensures kept { (trail : List Entry)
             → assigned trail entry.decision.variable.0 ≡ None
-            → KeepsTallies trail (trail ++ entry ∷ []) self.old self.new }
+            → KeepsCounts trail (trail ++ entry ∷ []) self.old self.new }
     {
-        self.change(index_made_true(entry), Change::MadeTrue);
-        self.change(index_made_false(entry), Change::MadeFalse);
+        self.change(index_made_true(entry), CandidateChange::MadeTrue);
+        self.change(index_made_false(entry), CandidateChange::MadeFalse);
     }
 
-    /// Changes the tallies after this last entry was removed from the trail.
+    /// Changes the counts after this last entry was removed from the trail.
     pub fn undo_entry(&mut self, entry: Entry)
         ensures kept { (trail : List Entry)
-            → KeepsTallies (trail ++ entry ∷ []) trail self.old self.new }
+            → KeepsCounts (trail ++ entry ∷ []) trail self.old self.new }
     {
-        self.change(index_made_true(entry), Change::UndoneTrue);
-        self.change(index_made_false(entry), Change::UndoneFalse);
+        self.change(index_made_true(entry), CandidateChange::UndoneTrue);
+        self.change(index_made_false(entry), CandidateChange::UndoneFalse);
     }
 
-    /// Changes the tallies of the literal of this index.
-    fn change(&mut self, index: usize, change: Change)
+    /// Changes the counts of the literal of this index.
+    fn change(&mut self, index: usize, change: CandidateChange)
         ensures { Changes change index self.old self.new }
     {
-        if index < self.uses.len() {
+        if index < self.occurrences.len() {
             change_each(
-                self.tallies.as_mut_slice(),
-                self.uses[index].as_slice(),
+                self.counts.as_mut_slice(),
+                self.occurrences[index].as_slice(),
                 change,
             );
         }
     }
 
-    /// Passes over the false candidates in front of the clause at this position, if it has a tally.
+    /// Passes over the false candidates in front of the clause at this position, if it has a count.
     pub fn pass_false<N: Copy>(
         &mut self,
         position: usize,
@@ -131,16 +132,16 @@ impl Tallies {
             → KeepsCounted trail (value_at values.now) position (candidate_literals candidates.now)
             self.old self.new }
     {
-        if let Some(Counting::Tallied(number)) = self.countings.get(position) {
+        if let Some(CountState::Kept(number)) = self.count_states.get(position) {
             let number = *number;
-            if number < self.tallies.len() {
-                let passed = self.tallies[number].passed;
-                self.tallies[number].passed = first_not_false(candidates, passed, values);
+            if number < self.counts.len() {
+                let passed = self.counts[number].passed;
+                self.counts[number].passed = first_not_false(candidates, passed, values);
             }
         }
     }
 
-    /// Notes that the candidates of the clause at this position were counted. Gives it a tally at
+    /// Notes that the candidates of the clause at this position were counted. Gives it a count at
     /// the second time, if they are many.
     pub fn note_count<N: Copy>(
         &mut self,
@@ -155,27 +156,27 @@ impl Tallies {
             self.old self.new) }
         ensures refusal { IsOkUnless result Memory }
     {
-        if candidates.len() < MANY || position >= self.countings.len() {
+        if candidates.len() < MANY || position >= self.count_states.len() {
             return Ok(());
         }
-        match self.countings[position] {
-            Counting::Never => {
-                self.countings[position] = Counting::Once;
+        match self.count_states[position] {
+            CountState::Never => {
+                self.count_states[position] = CountState::Once;
                 Ok(())
             }
-            Counting::Once => self.give_tally(position, candidates, values),
-            Counting::Tallied(_) => Ok(()),
+            CountState::Once => self.keep_count(position, candidates, values),
+            CountState::Kept(_) => Ok(()),
         }
     }
 
-    /// Gives a tally to the clause at this position.
-    fn give_tally<N: Copy>(
+    /// Gives a count to the clause at this position.
+    fn keep_count<N: Copy>(
         &mut self,
         position: usize,
         candidates: &[Candidate<N>],
         values: &DecisionMap,
     ) -> R<()>
-        requires within { position < length self.old.countings.items }
+        requires within { position < length self.old.count_states.items }
         requires some { 0 < length candidates.now }
         ensures kept { OnOk result
             ((trail : List Entry)
@@ -184,10 +185,10 @@ impl Tallies {
             self.old self.new) }
         ensures refusal { IsOkUnless result Memory }
     {
-        let number = self.tallies.len();
-        self.tallies.push(tally_of(candidates, values))?;
-        list_uses(&mut self.uses, number, candidates)?;
-        self.countings[position] = Counting::Tallied(number);
+        let number = self.counts.len();
+        self.counts.push(count_of(candidates, values))?;
+        list_occurrences(&mut self.occurrences, number, candidates)?;
+        self.count_states[position] = CountState::Kept(number);
         Ok(())
     }
 }
@@ -216,37 +217,42 @@ fn index_made_false(entry: Entry) -> usize
     }
 }
 
-/// Changes the tallies of these candidates.
-fn change_each(tallies: &mut [Tally], uses: &[Use], change: Change)
+/// Changes the counts of these candidates.
+fn change_each(counts: &mut [CandidateCount], occurrences: &[Occurrence], change: CandidateChange)
     ensures each { (k : ℕ)
-        → slice_get tallies.new k
-        ≡ option_map (changed_each change k uses.now) (slice_get tallies.old k) }
-    ensures len { length tallies.new ≡ length tallies.old }
+        → slice_get counts.new k
+        ≡ option_map (changed_each change k occurrences.now) (slice_get counts.old k) }
+    ensures len { length counts.new ≡ length counts.old }
 {
-    for one in uses {
-        if one.tally < tallies.len() {
-            tallies[one.tally] = tallies[one.tally].changed(change, one.place);
+    for one in occurrences {
+        if one.count < counts.len() {
+            counts[one.count] = counts[one.count].changed(change, one.place);
         }
     }
 }
 
-/// Lists the candidates of a clause by the indexes of their literals, for the tally of this number.
-fn list_uses<N: Copy>(uses: &mut Vec<Vec<Use>>, tally: usize, candidates: &[Candidate<N>]) -> R<()>
+/// Lists the candidates of a clause by the indexes of their literals, for the count of this number.
+fn list_occurrences<N: Copy>(
+    occurrences: &mut Vec<Vec<Occurrence>>,
+    count: usize,
+    candidates: &[Candidate<N>],
+) -> R<()>
     ensures listed { OnOk result
-        (Lists tally (candidate_literals candidates.now) uses.old.items uses.new.items) }
+        (Lists count (candidate_literals candidates.now)
+        occurrences.old.items occurrences.new.items) }
     ensures refusal { IsOkUnless result Memory }
 {
-    let alloc = *uses.allocator();
+    let alloc = *occurrences.allocator();
     for place in 0..candidates.len() {
         let index = candidates[place].literal.to_index();
-        make_room(uses, alloc, index + 1)?;
-        uses[index].push(Use { tally, place })?;
+        make_room(occurrences, alloc, index + 1)?;
+        occurrences[index].push(Occurrence { count, place })?;
     }
     Ok(())
 }
 
-/// The tally of these candidates, by a count.
-fn tally_of<N: Copy>(candidates: &[Candidate<N>], values: &DecisionMap) -> Tally
+/// The count of these candidates, by a walk over them.
+fn count_of<N: Copy>(candidates: &[Candidate<N>], values: &DecisionMap) -> CandidateCount
     ensures { Counts (value_at values.now) (candidate_literals candidates.now) result }
 {
     let mut trues = 0;
@@ -258,7 +264,7 @@ fn tally_of<N: Copy>(candidates: &[Candidate<N>], values: &DecisionMap) -> Tally
             None => {}
         }
     }
-    Tally {
+    CandidateCount {
         total: candidates.len(),
         trues,
         falses,

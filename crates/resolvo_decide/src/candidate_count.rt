@@ -2,11 +2,11 @@
 //! trail, or removed from it, changes them by one for each candidate of its variable.
 
 ghost use Rattle.std.specs.Prelude.{◌≡◌, ◌+◌, ◌-◌};
-ghost use Rattle.resolvo_decide.specs.Tallies.{changed, one_more};
+ghost use Rattle.resolvo_decide.specs.CandidateCounts.{changed, one_more};
 
 /// What an entry of the trail does to a candidate.
 #[derive(Clone, Copy, Debug)]
-pub enum Change {
+pub enum CandidateChange {
     /// It makes the candidate true.
     MadeTrue,
     /// It makes the candidate false.
@@ -19,7 +19,7 @@ pub enum Change {
 
 /// The candidates of a clause under the trail.
 #[derive(Clone, Copy, Debug)]
-pub struct Tally {
+pub struct CandidateCount {
     /// How many candidates there are.
     pub total: usize,
     /// How many are true.
@@ -30,7 +30,7 @@ pub struct Tally {
     pub passed: usize,
 }
 
-impl Tally {
+impl CandidateCount {
     /// How many candidates are undecided.
     pub fn undecided(self) -> usize
         ensures { result ≡ self.total - (self.trues + self.falses) }
@@ -41,35 +41,35 @@ impl Tally {
     }
 
     /// After a change of the candidate at this place.
-    pub fn changed(self, change: Change, place: usize) -> Tally
+    pub fn changed(self, change: CandidateChange, place: usize) -> CandidateCount
         ensures { result ≡ changed change place self }
     {
-        let Tally {
+        let CandidateCount {
             total,
             trues,
             falses,
             passed,
         } = self;
         match change {
-            Change::MadeTrue => Tally {
+            CandidateChange::MadeTrue => CandidateCount {
                 total,
                 trues: one_more(total, trues),
                 falses,
                 passed,
             },
-            Change::MadeFalse => Tally {
+            CandidateChange::MadeFalse => CandidateCount {
                 total,
                 trues,
                 falses: one_more(total, falses),
                 passed,
             },
-            Change::UndoneTrue => Tally {
+            CandidateChange::UndoneTrue => CandidateCount {
                 total,
                 trues: trues.saturating_sub(1),
                 falses,
                 passed,
             },
-            Change::UndoneFalse => Tally {
+            CandidateChange::UndoneFalse => CandidateCount {
                 total,
                 trues,
                 falses: falses.saturating_sub(1),

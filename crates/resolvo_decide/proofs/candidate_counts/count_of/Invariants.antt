@@ -2,7 +2,7 @@ use Rattle.std.proofs.Common.{◌≡◌, ◌+◌, ◌≤◌, drop}
 use Rattle.std.specs.List.{count_by}
 use Rattle.resolvo_store_core.specs.Signed.{value_under, is_true, is_false}
 use Rattle.resolvo_store_core.specs.Values.{value_at}
-use Rattle.resolvo_decide.proofs.tallies.tally_of.Given as goal
+use Rattle.resolvo_decide.proofs.candidate_counts.count_of.Given as goal
 
 -- the counts of the remaining candidates are left to add
 abbrev pub invariant-loop-candidate : goal.invariant-loop-candidate
