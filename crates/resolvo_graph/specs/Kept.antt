@@ -6,6 +6,7 @@ use Rattle.std.specs.declared.rc.Rc.{Rc}
 use Rattle.std.specs.declared.alloc.Global.{Global}
 use Rattle.resolvo_graph.specs.declared.graph.NodeIndex.{NodeIndex}
 use Rattle.resolvo_graph.specs.declared.merge.MergedConflictNode.{MergedConflictNode}
+use Rattle.resolvo_graph.specs.declared.tree.Findings as code
 use Rattle.resolvo_graph.specs.Graph.{Graph}
 use Rattle.resolvo_graph.specs.Tree.{Findings}
 
@@ -18,5 +19,5 @@ abbrev pub ids_at : {S : Type 0} → List (MergedConflictNode S) → ℕ → Lis
 ids_at groups g = option_map_or (λ n. n.ids.items) (slice_get groups g) []
 
 -- the input of a tree, from the values of the code
-abbrev pub findings : {S H : Type 0} → (S → S → Bool) → Graph S → List NodeIndex → HashMap S (Rc (MergedConflictNode S) Global) H → Findings S
-findings eq g installable m = record { graph = g; same = eq; installable = installable; merged = merged_with eq m }
+abbrev pub findings : {S : Type 0} → (S → S → Bool) → code.Findings S → Findings S
+findings same f = record { graph = f.graph.now; same = same; installable = f.installable.keys; merged = merged_with same f.merged }

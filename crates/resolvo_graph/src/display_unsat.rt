@@ -134,8 +134,7 @@ impl<S: Copy + Exact + Hash + Debug> Findings<'_, S> {
     ) -> R<()>
         ensures lines { OnOk result
             ((lines : List (MessageLine S))
-            × AreParts
-            (findings S.eq self.now.graph.now self.now.installable.keys self.now.merged)
+            × AreParts (findings S.eq self.now)
             missing.now.keys (edges_of self.now.graph.now (record { 0 = 0 })) lines
             × Adds L.took sink.old lines sink.new) }
         ensures refusal { IsOkUnless result Memory }
@@ -157,9 +156,7 @@ impl<S: Copy + Exact + Hash + Debug> Findings<'_, S> {
     ) -> R<()>
         ensures lines { OnOk result
             ((lines : List (MessageLine S))
-            × IsSecondPart
-            (findings S.eq self.now.graph.now self.now.installable.keys self.now.merged)
-            others.now edges.now lines
+            × IsSecondPart (findings S.eq self.now) others.now edges.now lines
             × Adds L.took sink.old lines sink.new) }
         ensures refusal { IsOkUnless result Memory }
     {

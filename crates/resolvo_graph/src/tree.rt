@@ -89,8 +89,7 @@ impl<S: Copy + Exact + Hash + Debug> Findings<'_, S> {
     ) -> R<()>
         ensures lines { OnOk result
             ((lines : List (MessageLine S))
-            × IsTree (findings S.eq self.now.graph.now self.now.installable.keys self.now.merged)
-            top_level_indent (runs_of edges.now) lines
+            × IsTree (findings S.eq self.now) top_level_indent (runs_of edges.now) lines
             × Adds L.took sink.old lines sink.new) }
         ensures refusal { IsOkUnless result Memory }
     {
@@ -123,10 +122,7 @@ impl<S: Copy + Exact + Hash + Debug> Findings<'_, S> {
             ≡ stack.old.items ++ reverse
             (siblings (record { levels = []; top_level_indent = top_level_indent }) []
             (reverse
-            (in_rank
-            (findings S.eq self.now.graph.now self.now.installable.keys
-            self.now.merged)
-            (runs_of edges.now))))) }
+            (in_rank (findings S.eq self.now) (runs_of edges.now))))) }
         ensures refusal { IsOkUnless result Memory }
     {
         let ops = self.in_rank(alloc, runs(alloc, edges)?)?;
@@ -143,19 +139,16 @@ impl<S: Copy + Exact + Hash + Debug> Findings<'_, S> {
     fn write_entry(&self, alloc: Global, entry: Entry<S>, writer: &mut TreeWriter<S>) -> R<()>
         ensures covered { OnOk result
             (writer.new.covered.keys
-            ≡ covered_after
-            (findings S.eq self.now.graph.now self.now.installable.keys self.now.merged)
-            writer.old.covered.keys entry.op entry.above) }
+            ≡ covered_after (findings S.eq self.now) writer.old.covered.keys entry.op entry.above) }
         ensures stack { OnOk result
             (writer.new.stack.items
             ≡ writer.old.stack.items ++ reverse
-            (entries_below
-            (findings S.eq self.now.graph.now self.now.installable.keys self.now.merged)
+            (entries_below (findings S.eq self.now)
             writer.old.covered.keys entry.op entry.indent entry.above)) }
         ensures lines { OnOk result
             (writer.new.lines.items
-            ≡ writer.old.lines.items ++ lines_at
-            (findings S.eq self.now.graph.now self.now.installable.keys self.now.merged)
+            ≡ writer.old.lines.items
+            ++ lines_at (findings S.eq self.now)
             writer.old.covered.keys entry.op entry.indent entry.above) }
         ensures refusal { IsOkUnless result Memory }
     {
@@ -190,8 +183,7 @@ impl<S: Copy + Exact + Hash + Debug> Findings<'_, S> {
         above: &[NodeIndex],
     ) -> bool
         ensures { result
-            ≡ is_passed (findings S.eq self.now.graph.now self.now.installable.keys self.now.merged)
-            covered.now.keys node version above.now }
+            ≡ is_passed (findings S.eq self.now) covered.now.keys node version above.now }
     {
         covered.contains(&version) || above.contains(&node)
     }
@@ -209,14 +201,13 @@ impl<S: Copy + Exact + Hash + Debug> Findings<'_, S> {
         ensures stack { OnOk result
             (writer.new.stack.items
             ≡ writer.old.stack.items ++ reverse
-            (entries_below
-            (findings S.eq self.now.graph.now self.now.installable.keys self.now.merged)
+            (entries_below (findings S.eq self.now)
             [] (DisplayOp.Requirement run.now) indenter above.now)) }
         ensures lines { OnOk result
             (writer.new.lines.items
-            ≡ writer.old.lines.items ++ lines_at
-            (findings S.eq self.now.graph.now self.now.installable.keys self.now.merged) []
-            (DisplayOp.Requirement run.now) indenter above.now) }
+            ≡ writer.old.lines.items
+            ++ lines_at (findings S.eq self.now) [] (DisplayOp.Requirement run.now)
+            indenter above.now) }
         ensures refusal { IsOkUnless result Memory }
     {
         let outlook = self.outlook(run);
@@ -241,27 +232,18 @@ impl<S: Copy + Exact + Hash + Debug> Findings<'_, S> {
     ) -> R<()>
         ensures covered { OnOk result
             (writer.new.covered.keys
-            ≡ covered_with
-            (findings S.eq self.now.graph.now self.now.installable.keys self.now.merged)
-            writer.old.covered.keys version) }
+            ≡ covered_with (findings S.eq self.now) writer.old.covered.keys version) }
         ensures stack { OnOk result
             (writer.new.stack.items
             ≡ writer.old.stack.items ++ reverse
             (siblings indenter (above.items ++ node ∷ [])
             (reverse
-            (needs_of
-            (findings S.eq self.now.graph.now self.now.installable.keys
-            self.now.merged)
-            (verdict_of
-            (findings S.eq self.now.graph.now self.now.installable.keys
-            self.now.merged)
-            node)
+            (needs_of (findings S.eq self.now) (verdict_of (findings S.eq self.now) node)
             (edges_of self.now.graph.now node))))) }
         ensures lines { OnOk result
             (writer.new.lines.items
-            ≡ writer.old.lines.items ++ version_lines
-            (findings S.eq self.now.graph.now self.now.installable.keys self.now.merged) node
-            version indenter) }
+            ≡ writer.old.lines.items
+            ++ version_lines (findings S.eq self.now) node version indenter) }
         ensures refusal { IsOkUnless result Memory }
     {
         let edges = self.graph.list_edges(alloc, node)?;
@@ -285,9 +267,7 @@ impl<S: Copy + Exact + Hash + Debug> Findings<'_, S> {
             ≡ stack.old.items ++ reverse
             (siblings indenter.now (above.items ++ node ∷ [])
             (reverse
-            (needs_of
-            (findings S.eq self.now.graph.now self.now.installable.keys
-            self.now.merged)
+            (needs_of (findings S.eq self.now)
             (verdict_for (reason_in self.now.graph.now edges.now) edges.now)
             edges.now)))) }
         ensures refusal { IsOkUnless result Memory }
@@ -330,9 +310,7 @@ impl<S: Copy + Exact + Hash + Debug> Findings<'_, S> {
 
     /// The sentence on a run.
     fn outlook(&self, run: &Run) -> Outlook
-        ensures { result
-            ≡ outlook_of
-            (findings S.eq self.now.graph.now self.now.installable.keys self.now.merged) run.now }
+        ensures { result ≡ outlook_of (findings S.eq self.now) run.now }
     {
         if self.is_missing(run.targets()) {
             Outlook::Missing
@@ -358,11 +336,8 @@ impl<S: Copy + Exact + Hash + Debug> Findings<'_, S> {
         ensures options { IfOk result
             (λ v.
             v.items
-            ≡ firsts_after
-            (findings S.eq self.now.graph.now self.now.installable.keys self.now.merged) []
-            (shown_of
-            (findings S.eq self.now.graph.now self.now.installable.keys self.now.merged)
-            outlook run.now)) }
+            ≡ firsts_after (findings S.eq self.now) []
+            (shown_of (findings S.eq self.now) outlook run.now)) }
         ensures refusal { IsOkUnless result Memory }
     {
         match outlook {
@@ -417,11 +392,7 @@ impl<S: Copy + Exact + Hash + Debug> Findings<'_, S> {
     /// The versions, of merged ones only the first.
     fn firsts(&self, alloc: Global, candidates: &[(NodeIndex, S)]) -> R<Vec<DisplayOp<S>>>
         ensures firsts { IfOk result
-            (λ v.
-            v.items
-            ≡ firsts_after
-            (findings S.eq self.now.graph.now self.now.installable.keys self.now.merged) []
-            candidates.now) }
+            (λ v. v.items ≡ firsts_after (findings S.eq self.now) [] candidates.now) }
         ensures refusal { IsOkUnless result Memory }
     {
         let mut covered = IndexSet::new(alloc);
@@ -443,19 +414,13 @@ impl<S: Copy + Exact + Hash + Debug> Findings<'_, S> {
         ensures covered { OnOk result
             (covered.new.keys
             ≡ cond
-            (is_covered
-            (findings S.eq self.now.graph.now self.now.installable.keys self.now.merged)
-            covered.old.keys version)
+            (is_covered (findings S.eq self.now) covered.old.keys version)
             covered.old.keys
-            (covered_with
-            (findings S.eq self.now.graph.now self.now.installable.keys self.now.merged)
-            covered.old.keys version)) }
+            (covered_with (findings S.eq self.now) covered.old.keys version)) }
         ensures found { OnOk result
             (found.new.items
             ≡ found.old.items ++ cond
-            (is_covered
-            (findings S.eq self.now.graph.now self.now.installable.keys self.now.merged)
-            covered.old.keys version)
+            (is_covered (findings S.eq self.now) covered.old.keys version)
             [] (DisplayOp.Candidate node version ∷ [])) }
         ensures refusal { IsOkUnless result Memory }
     {
@@ -470,9 +435,7 @@ impl<S: Copy + Exact + Hash + Debug> Findings<'_, S> {
     fn mark(&self, version: S, covered: &mut IndexSet<S>) -> R<()>
         ensures covered { OnOk result
             (covered.new.keys
-            ≡ covered_with
-            (findings S.eq self.now.graph.now self.now.installable.keys self.now.merged)
-            covered.old.keys version) }
+            ≡ covered_with (findings S.eq self.now) covered.old.keys version) }
         ensures refusal { IsOkUnless result Memory }
     {
         if let Some(group) = self.merged.get(&version) {
@@ -531,11 +494,7 @@ impl<S: Copy + Exact + Hash + Debug> Findings<'_, S> {
     /// The runs below a version with this verdict and these edges.
     fn needs(&self, alloc: Global, verdict: Verdict, edges: &[Edge<S>]) -> R<Vec<DisplayOp<S>>>
         ensures needs { IfOk result
-            (λ v.
-            v.items
-            ≡ needs_of
-            (findings S.eq self.now.graph.now self.now.installable.keys self.now.merged)
-            verdict edges.now) }
+            (λ v. v.items ≡ needs_of (findings S.eq self.now) verdict edges.now) }
         ensures refusal { IsOkUnless result Memory }
     {
         match verdict {
@@ -547,11 +506,7 @@ impl<S: Copy + Exact + Hash + Debug> Findings<'_, S> {
     /// The runs, those with an installable target last.
     fn in_rank(&self, alloc: Global, runs: Vec<Run>) -> R<Vec<DisplayOp<S>>>
         ensures rank { IfOk result
-            (λ v.
-            v.items
-            ≡ in_rank
-            (findings S.eq self.now.graph.now self.now.installable.keys self.now.merged)
-            runs.items) }
+            (λ v. v.items ≡ in_rank (findings S.eq self.now) runs.items) }
         ensures refusal { IsOkUnless result Memory }
     {
         let mut ranked = Vec::new(alloc);

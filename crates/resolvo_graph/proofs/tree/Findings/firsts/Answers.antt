@@ -7,7 +7,7 @@ use Rattle.resolvo_graph.proofs.tree.Findings.firsts.Goals as goal
 
 pub loop-node-preserved : goal.loop-node-preserved
 loop-node-preserved g c =
-    let f = findings g.S.PartialEq.eq c.args.self.now.graph.now c.args.self.now.installable.keys c.args.self.now.merged in
+    let f = findings g.S.PartialEq.eq c.args.self.now in
     let cs = c.args.candidates.now in
     let v = c.loop-node-item.result in
     first_more f cs c.loop-node.node-index v c.loop-node.covered.keys c.add_first.new.covered.keys (firsts_after f [] cs) c.loop-node.found.items c.add_first.new.found.items (left cs c.loop-node.node-index v v c.loop-node-test.true c.loop-node-item.is) c.loop-node.invariant c.in_ok-add_first.ensures.covered c.in_ok-add_first.ensures.found

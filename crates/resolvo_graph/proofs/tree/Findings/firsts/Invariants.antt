@@ -5,4 +5,4 @@ use Rattle.resolvo_graph.proofs.tree.Findings.firsts.Given as goal
 
 -- the versions found, then the firsts of the remaining ones
 abbrev pub invariant-loop-node : goal.invariant-loop-node
-invariant-loop-node g l = firsts_after (findings g.S.PartialEq.eq l.self.graph.now l.self.installable.keys l.self.merged) [] l.candidates ≡ l.found.items ++ firsts_after (findings g.S.PartialEq.eq l.self.graph.now l.self.installable.keys l.self.merged) l.covered.keys (drop l.node-index l.candidates)
+invariant-loop-node g l = firsts_after (findings g.S.PartialEq.eq l.self) [] l.candidates ≡ l.found.items ++ firsts_after (findings g.S.PartialEq.eq l.self) l.covered.keys (drop l.node-index l.candidates)

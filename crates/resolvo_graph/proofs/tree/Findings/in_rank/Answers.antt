@@ -17,7 +17,7 @@ returns-clause-rank g c =
     let all : c.loop-run.yielded ≡ c.args.runs.items = all_yielded c.loop-run.yielded c.args.runs.items ended.0 in
     c.in_ok-append.ensures.items ∙ ap (λ xs. xs ++ c.loop-run.installable.items) c.loop-run.invariant.ranked
     ∙ ap (λ ys. map Requirement (filter (λ r. not (has_target_in c.args.self.now.installable.keys r)) c.loop-run.yielded) ++ ys) c.loop-run.invariant.installable
-    ∙ ap (in_rank (findings g.S.PartialEq.eq c.args.self.now.graph.now c.args.self.now.installable.keys c.args.self.now.merged)) all
+    ∙ ap (in_rank (findings g.S.PartialEq.eq c.args.self.now)) all
 
 pub loop-run-preserved : goal.loop-run-preserved
 loop-run-preserved g c =

@@ -8,5 +8,5 @@ use Rattle.resolvo_graph.proofs.tree.Findings.place_top.Goals as goal
 
 pub returns-clause-stack : goal.returns-clause-stack
 returns-clause-stack g c =
-    let f = findings g.S.PartialEq.eq c.args.self.now.graph.now c.args.self.now.installable.keys c.args.self.now.merged in
+    let f = findings g.S.PartialEq.eq c.args.self.now in
     on_ok c.place-2.result (λ put. put_top c.place-2.new.stack.items c.args.stack.now.items c.new.result (record { levels = []; top_level_indent = c.args.top_level_indent }) _ c.in_ok-ops.ops.items (in_rank f (runs_of c.args.edges.now)) put c.new.ensures refl (c.in_ok-ops.ensures.rank ∙ ap (in_rank f) c.in_ok-runs.ensures.runs)) c.place-2.ensures.stack

@@ -8,11 +8,11 @@ use Rattle.resolvo_graph.proofs.SinkLemmas.{adds_none}
 use Rattle.resolvo_graph.proofs.tree.Findings.second_part.Goals as goal
 
 pub returns-then-is_empty-clause-lines : goal.returns-then-is_empty-clause-lines
-returns-then-is_empty-clause-lines g c = ([], no_second_part (findings g.S.PartialEq.eq c.args.self.now.graph.now c.args.self.now.installable.keys c.args.self.now.merged) c.args.others.now c.args.edges.now [] (sym c.is_empty.ensures ∙ c.if-is_empty.true) refl, adds_none g.L.LineSink.took c.args.sink.now)
+returns-then-is_empty-clause-lines g c = ([], no_second_part (findings g.S.PartialEq.eq c.args.self.now) c.args.others.now c.args.edges.now [] (sym c.is_empty.ensures ∙ c.if-is_empty.true) refl, adds_none g.L.LineSink.took c.args.sink.now)
 
 pub returns-clause-lines : goal.returns-clause-lines
 returns-clause-lines g c =
-    let f = findings g.S.PartialEq.eq c.args.self.now.graph.now c.args.self.now.installable.keys c.args.self.now.merged in
+    let f = findings g.S.PartialEq.eq c.args.self.now in
     let (tree, is_tree, grown) = c.in_ok-tree.ensures.lines in
     on_ok c.take-2.result (λ more. (
       heading ∷ tree ++ conflict_lines c.args.edges.now,

@@ -9,7 +9,7 @@ use Rattle.resolvo_graph.proofs.tree.Findings.tree.Goals as goal
 
 pub loop-entry-init : goal.loop-entry-init
 loop-entry-init g c =
-    let f = findings g.S.PartialEq.eq c.args.self.now.graph.now c.args.self.now.installable.keys c.args.self.now.merged in
+    let f = findings g.S.PartialEq.eq c.args.self.now in
     let es = c.args.edges.now in
     let put : c.place_top.new.stack.items ≡ [] ++ reverse (siblings (record { levels = []; top_level_indent = c.args.top_level_indent }) [] (reverse (in_rank f (runs_of es)))) =
     c.in_ok-place_top.ensures.stack ∙ ap (λ xs. xs ++ reverse (siblings (record { levels = []; top_level_indent = c.args.top_level_indent }) [] (reverse (in_rank f (runs_of es))))) c.new-2.ensures.items in
@@ -21,7 +21,7 @@ loop-entry-init g c =
 
 pub loop-entry-smaller : goal.loop-entry-smaller
 loop-entry-smaller g c =
-    let f = findings g.S.PartialEq.eq c.args.self.now.graph.now c.args.self.now.installable.keys c.args.self.now.merged in
+    let f = findings g.S.PartialEq.eq c.args.self.now in
     let us = reached c.args.self.now.graph.now c.args.edges.now in
     let below = c.pop.new.self.items in
     let e = c.in-Some.entry in
@@ -30,7 +30,7 @@ loop-entry-smaller g c =
 
 pub loop-entry-preserved : goal.loop-entry-preserved
 loop-entry-preserved g c =
-    let f = findings g.S.PartialEq.eq c.args.self.now.graph.now c.args.self.now.installable.keys c.args.self.now.merged in
+    let f = findings g.S.PartialEq.eq c.args.self.now in
     let es = c.args.edges.now in
     let us = reached c.args.self.now.graph.now es in
     let below = c.pop.new.self.items in
@@ -44,11 +44,11 @@ loop-entry-preserved g c =
 
 pub returns-then-is_full-clause-lines : goal.returns-then-is_full-clause-lines
 returns-then-is_full-clause-lines g c =
-    let f = findings g.S.PartialEq.eq c.args.self.now.graph.now c.args.self.now.installable.keys c.args.self.now.merged in
+    let f = findings g.S.PartialEq.eq c.args.self.now in
     let es = c.args.edges.now in
     filled f (reached c.args.self.now.graph.now es) g.L.LineSink.took (reached_edges c.args.self.now.graph.now es) (siblings (record { levels = []; top_level_indent = c.args.top_level_indent }) [] (reverse (in_rank f (runs_of es)))) c.loop-entry.writer.stack.items c.loop-entry.writer.covered.keys c.args.sink.now c.loop-entry.sink c.loop-entry.invariant.known c.loop-entry.invariant.follows (c.is_full.ensures c.if-is_full.true)
 
 pub returns-clause-lines : goal.returns-clause-lines
 returns-clause-lines g c =
-    let f = findings g.S.PartialEq.eq c.args.self.now.graph.now c.args.self.now.installable.keys c.args.self.now.merged in
+    let f = findings g.S.PartialEq.eq c.args.self.now in
     taken f g.L.LineSink.took (siblings (record { levels = []; top_level_indent = c.args.top_level_indent }) [] (reverse (in_rank f (runs_of c.args.edges.now)))) c.loop-entry.writer.stack.items c.loop-entry.writer.covered.keys c.args.sink.now c.loop-entry.sink c.loop-entry.invariant.follows (nil_from_length c.loop-entry.writer.stack.items (omega (arith, c.loop-entry.writer.stack.ok, c.in_default.ensures.cases)))

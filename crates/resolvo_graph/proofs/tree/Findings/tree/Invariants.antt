@@ -8,9 +8,9 @@ use Rattle.resolvo_graph.proofs.tree.Findings.tree.Given as goal
 -- the lines of the stack's entries follow those that were taken
 abbrev pub invariant-loop-entry : goal.invariant-loop-entry
 invariant-loop-entry g l = record {
-  known : All (λ e. IsKnown (findings g.S.PartialEq.eq l.self.graph.now l.self.installable.keys l.self.merged) (reached l.self.graph.now l.edges) e.op) l.writer.stack.items;
+  known : All (λ e. IsKnown (findings g.S.PartialEq.eq l.self) (reached l.self.graph.now l.edges) e.op) l.writer.stack.items;
   none : l.writer.lines.items ≡ [];
-  follows : Follows (findings g.S.PartialEq.eq l.self.graph.now l.self.installable.keys l.self.merged) g.L.LineSink.took (siblings (record { levels = []; top_level_indent = l.top_level_indent }) [] (reverse (in_rank (findings g.S.PartialEq.eq l.self.graph.now l.self.installable.keys l.self.merged) (runs_of l.edges)))) l.writer.stack.items l.writer.covered.keys l.initial.sink l.sink;
+  follows : Follows (findings g.S.PartialEq.eq l.self) g.L.LineSink.took (siblings (record { levels = []; top_level_indent = l.top_level_indent }) [] (reverse (in_rank (findings g.S.PartialEq.eq l.self) (runs_of l.edges)))) l.writer.stack.items l.writer.covered.keys l.initial.sink l.sink;
 }
 
 -- the weight of the remaining entries falls
