@@ -10,7 +10,7 @@ ghost use Rattle.resolvo_store.specs.Calls.{Done, Added, Became, Bad, plain_answ
 
 use crate::clause_store::ClauseStore;
 use crate::store_call::{StoreAnswer, StoreCall};
-use resolvo_pool_core::id::VariableId;
+use resolvo_pool_core::id::{ClauseId, VariableId};
 use resolvo_pool_core::requirement::Requirement;
 use resolvo_pool_core::solver_id::SolverId;
 use resolvo_pool_core::want::R;
@@ -82,14 +82,7 @@ impl<N: SolverId + Drop> ClauseStore<N> {
                 value,
                 clause,
                 level,
-            } => {
-                let decision = Decision {
-                    variable: *variable,
-                    value: *value,
-                    derived_from: *clause,
-                };
-                self.try_assign(decision, *level)
-            }
+            } => self.try_assign(*variable, *value, *clause, *level),
             StoreCall::UndoLast => Ok(StoreAnswer::Undone(self.undo_last())),
             StoreCall::UndoUntil(level) => {
                 self.undo_until(*level);
@@ -211,27 +204,38 @@ impl<N: SolverId + Drop> ClauseStore<N> {
     }
 
     /// Adds an assignment, if its reason exists and no assignment is at a higher level.
-    fn try_assign(&mut self, decision: Decision, level: u32) -> R<StoreAnswer>
+    fn try_assign(
+        &mut self,
+        variable: VariableId,
+        value: bool,
+        clause: ClauseId,
+        level: u32,
+    ) -> R<StoreAnswer>
         ensures answer { IfOk result
             (λ a.
             plain_answer a
-            ≡ cond (can_assign (plain N.Scores.score_of self.old) decision.derived_from level)
+            ≡ cond (can_assign (plain N.Scores.score_of self.old) clause level)
             (Became
-            (set_for decision.value
-            (value_in (plain N.Scores.score_of self.old).trail decision.variable.0)))
+            (set_for value (value_in (plain N.Scores.score_of self.old).trail variable.0)))
             Bad) }
         ensures store { OnOk result
             (Like (plain N.Scores.score_of self.new)
-            (cond (can_assign (plain N.Scores.score_of self.old) decision.derived_from level)
-            (with_decision decision level (plain N.Scores.score_of self.old))
+            (cond (can_assign (plain N.Scores.score_of self.old) clause level)
+            (with_decision (record { variable = variable; value = value; derived_from = clause })
+            level (plain N.Scores.score_of self.old))
             (plain N.Scores.score_of self.old))) }
         ensures err { OnErr result
             (Like (plain N.Scores.score_of self.new) (plain N.Scores.score_of self.old)) }
         ensures refusal { IsOkUnless result Memory }
     {
-        if !self.can_assign(decision.derived_from, level) {
+        if !self.can_assign(clause, level) {
             return Ok(StoreAnswer::Bad);
         }
+        let decision = Decision {
+            variable,
+            value,
+            derived_from: clause,
+        };
         Ok(StoreAnswer::Set(self.assign(decision, level)?))
     }
 
