@@ -19,7 +19,7 @@ use Rattle.resolvo_decide.specs.declared.candidate_counts.CountState.TheVariants
 use Rattle.resolvo_decide.specs.declared.candidate_counts.CandidateCounts.{CandidateCounts}
 use Rattle.resolvo_decide.specs.declared.candidate_counts.Occurrence.{Occurrence}
 use Rattle.resolvo_decide.specs.declared.candidate_count.CandidateCount.{CandidateCount}
-use Rattle.resolvo_decide.specs.CandidateCounts.{times, found, occurrences_at, listing, kept_count, number_at, Counts, Lists, AreListed, AreBelow, IsRightCount}
+use Rattle.resolvo_decide.specs.CandidateCounts.{times, found, occurrences_at, occurrences_of, kept_count, number_at, Counts, Lists, AreListed, AreBelow, IsRightCount}
 use Rattle.resolvo_decide.specs.Needs.{AreRightCounts, KeepsCounted}
 use Rattle.resolvo_decide.proofs.Positions.{places_read, places_set, places_set_other}
 use Rattle.resolvo_decide.proofs.OfferLemmas.{counts_agree}
@@ -82,11 +82,11 @@ times_none k (x ∷ xs) h = go (x.count == k) refl (h x (0, omega arith, refl)) 
     go false is low more = (let same : 0 + times k xs ≡ times k xs = omega arith in same ∙ more)
 
 module _ (k : ℕ) where
-  times_listing : (place : ℕ) (ls : List Signed) (l : Signed) → times k (listing k place ls (index_in l)) ≡ found l ls
-  times_listing place [] l = refl
-  times_listing place (x ∷ ls) l =
-      times_both k (cond (index_in x == index_in l) (record { count = k; place = place } ∷ []) []) (listing k (place + 1) ls (index_in l))
-      ∙ ap (λ n. times k (cond (index_in x == index_in l) (record { count = k; place = place } ∷ []) []) + n) (times_listing (place + 1) ls l)
+  times_occurrences : (place : ℕ) (ls : List Signed) (l : Signed) → times k (occurrences_of k place ls (index_in l)) ≡ found l ls
+  times_occurrences place [] l = refl
+  times_occurrences place (x ∷ ls) l =
+      times_both k (cond (index_in x == index_in l) (record { count = k; place = place } ∷ []) []) (occurrences_of k (place + 1) ls (index_in l))
+      ∙ ap (λ n. times k (cond (index_in x == index_in l) (record { count = k; place = place } ∷ []) []) + n) (times_occurrences (place + 1) ls l)
       ∙ ap (λ n. n + found l ls) (one (index_in x == index_in l) ∙ ap (λ b. cond b 1 0) (turned (index_in x) (index_in l) ∙ sym (same_is_index l x)))
     where
       own : (k == k) ≡ true
@@ -105,11 +105,11 @@ module _ (k : ℕ) where
         ]
       ]
 
-  listing_own : (place : ℕ) (ls : List Signed) (index : ℕ) (u : Occurrence) → Contains (listing k place ls index) u → u.count ≡ k
-  listing_own place [] index u (i, low, at) = absurd (omega (arith, low))
-  listing_own place (x ∷ ls) index u h = elim (Contains-append_cases (cond (index_in x == index) (record { count = k; place = place } ∷ []) []) (listing k (place + 1) ls index) u h) [
+  occurrences_own : (place : ℕ) (ls : List Signed) (index : ℕ) (u : Occurrence) → Contains (occurrences_of k place ls index) u → u.count ≡ k
+  occurrences_own place [] index u (i, low, at) = absurd (omega (arith, low))
+  occurrences_own place (x ∷ ls) index u h = elim (Contains-append_cases (cond (index_in x == index) (record { count = k; place = place } ∷ []) []) (occurrences_of k (place + 1) ls index) u h) [
     | inl first ↦ go (index_in x == index) first
-    | inr later ↦ listing_own (place + 1) ls index u later
+    | inr later ↦ occurrences_own (place + 1) ls index u later
   ]
     where
       go : (b : Bool) → Contains (cond b (record { count = k; place = place } ∷ []) []) u → u.count ≡ k
@@ -117,21 +117,21 @@ module _ (k : ℕ) where
       go true (suc i, low, at) = absurd (omega (arith, low))
       go false (i, low, at) = absurd (omega (arith, low))
 
-  listing_placed : (place : ℕ) (ls : List Signed) (p : ℕ) (l : Signed) → slice_get ls p ≡ Some l → Contains (listing k place ls (index_in l)) (record { count = k; place = place + p })
-  listing_placed place [] p l at = cc
-  listing_placed place (x ∷ ls) zero l at =
+  occurrences_placed : (place : ℕ) (ls : List Signed) (p : ℕ) (l : Signed) → slice_get ls p ≡ Some l → Contains (occurrences_of k place ls (index_in l)) (record { count = k; place = place + p })
+  occurrences_placed place [] p l at = cc
+  occurrences_placed place (x ∷ ls) zero l at =
       let is : x ≡ l = cc in
       let same : place ≡ place + 0 = omega arith in
       let own : (index_in x == index_in l) ≡ true = eq-eqb (index_in x) (index_in l) (ap index_in is) in
       let u : Occurrence = record { count = k; place = place } in
       let first : Contains {X = Occurrence} (u ∷ []) u = (0, omega arith, refl) in
       let here : Contains {X = Occurrence} (cond (index_in x == index_in l) (u ∷ []) []) u = subst (λ b. Contains {X = Occurrence} (cond b (u ∷ []) []) u) (sym own) first in
-      subst (λ n. Contains (listing k place (x ∷ ls) (index_in l)) (record { count = k; place = n })) same
-      (Contains-append_left (cond (index_in x == index_in l) (u ∷ []) []) (listing k (place + 1) ls (index_in l)) u here)
-  listing_placed place (x ∷ ls) (suc p) l at =
+      subst (λ n. Contains (occurrences_of k place (x ∷ ls) (index_in l)) (record { count = k; place = n })) same
+      (Contains-append_left (cond (index_in x == index_in l) (u ∷ []) []) (occurrences_of k (place + 1) ls (index_in l)) u here)
+  occurrences_placed place (x ∷ ls) (suc p) l at =
       let sum : place + 1 + p ≡ place + suc p = omega arith in
-      subst (λ n. Contains (listing k place (x ∷ ls) (index_in l)) (record { count = k; place = n })) sum
-      (Contains-append_right (cond (index_in x == index_in l) (record { count = k; place = place } ∷ []) []) (listing k (place + 1) ls (index_in l)) (record { count = k; place = place + 1 + p }) (listing_placed (place + 1) ls p l at))
+      subst (λ n. Contains (occurrences_of k place (x ∷ ls) (index_in l)) (record { count = k; place = n })) sum
+      (Contains-append_right (cond (index_in x == index_in l) (record { count = k; place = place } ∷ []) []) (occurrences_of k (place + 1) ls (index_in l)) (record { count = k; place = place + 1 + p }) (occurrences_placed (place + 1) ls p l at))
 
 none_first : (n : ℕ) → 0 + n ≡ n
 none_first n = omega arith
@@ -139,22 +139,22 @@ none_first n = omega arith
 module _ (k : ℕ) (ls : List Signed) (old new : List (Vec Occurrence Global)) (added : Lists k ls old new) (below : AreBelow k old) where
   listed_new : AreListed ls new k
   listed_new = record {
-    times = λ l. ap (times k) (added (index_in l)) ∙ times_both k (occurrences_at old (index_in l)) (listing k 0 ls (index_in l))
-        ∙ ap (λ n. n + times k (listing k 0 ls (index_in l))) (times_none k (occurrences_at old (index_in l)) (below (index_in l))) ∙ none_first (times k (listing k 0 ls (index_in l))) ∙ times_listing k 0 ls l;
-    placed = λ p l at. subst (λ us. Contains us (record { count = k; place = p })) (sym (added (index_in l))) (Contains-append_right (occurrences_at old (index_in l)) (listing k 0 ls (index_in l)) (record { count = k; place = p }) (subst (λ n. Contains (listing k 0 ls (index_in l)) (record { count = k; place = n })) (none_first p) (listing_placed k 0 ls p l at)));
+    times = λ l. ap (times k) (added (index_in l)) ∙ times_both k (occurrences_at old (index_in l)) (occurrences_of k 0 ls (index_in l))
+        ∙ ap (λ n. n + times k (occurrences_of k 0 ls (index_in l))) (times_none k (occurrences_at old (index_in l)) (below (index_in l))) ∙ none_first (times k (occurrences_of k 0 ls (index_in l))) ∙ times_occurrences k 0 ls l;
+    placed = λ p l at. subst (λ us. Contains us (record { count = k; place = p })) (sym (added (index_in l))) (Contains-append_right (occurrences_at old (index_in l)) (occurrences_of k 0 ls (index_in l)) (record { count = k; place = p }) (subst (λ n. Contains (occurrences_of k 0 ls (index_in l)) (record { count = k; place = n })) (none_first p) (occurrences_placed k 0 ls p l at)));
   }
 
   below_new : AreBelow (k + 1) new
-  below_new index u h = elim (Contains-append_cases (occurrences_at old index) (listing k 0 ls index) u (subst (λ us. Contains us u) (added index) h)) [
+  below_new index u h = elim (Contains-append_cases (occurrences_at old index) (occurrences_of k 0 ls index) u (subst (λ us. Contains us u) (added index) h)) [
     | inl before ↦ (let low : u.count < k = below index u before in omega (arith, low))
-    | inr here ↦ (let own : u.count ≡ k = listing_own k 0 ls index u here in omega (arith, own))
+    | inr here ↦ (let own : u.count ≡ k = occurrences_own k 0 ls index u here in omega (arith, own))
   ]
 
   listed_other : (j : ℕ) (ms : List Signed) → j < k → AreListed ms old j → AreListed ms new j
   listed_other j ms low h = record {
-    times = λ l. ap (times j) (added (index_in l)) ∙ times_both j (occurrences_at old (index_in l)) (listing k 0 ls (index_in l))
-        ∙ ap (λ n. times j (occurrences_at old (index_in l)) + n) (none (listing k 0 ls (index_in l)) (listing_own k 0 ls (index_in l))) ∙ plus (times j (occurrences_at old (index_in l))) ∙ h.times l;
-    placed = λ p l at. subst (λ us. Contains us (record { count = j; place = p })) (sym (added (index_in l))) (Contains-append_left (occurrences_at old (index_in l)) (listing k 0 ls (index_in l)) (record { count = j; place = p }) (h.placed p l at));
+    times = λ l. ap (times j) (added (index_in l)) ∙ times_both j (occurrences_at old (index_in l)) (occurrences_of k 0 ls (index_in l))
+        ∙ ap (λ n. times j (occurrences_at old (index_in l)) + n) (none (occurrences_of k 0 ls (index_in l)) (occurrences_own k 0 ls (index_in l))) ∙ plus (times j (occurrences_at old (index_in l))) ∙ h.times l;
+    placed = λ p l at. subst (λ us. Contains us (record { count = j; place = p })) (sym (added (index_in l))) (Contains-append_left (occurrences_at old (index_in l)) (occurrences_of k 0 ls (index_in l)) (record { count = j; place = p }) (h.placed p l at));
   }
     where
       plus : (n : ℕ) → n + 0 ≡ n
@@ -187,11 +187,11 @@ pushed_occurrence old room new index v p u same within read more is j = ap (λ u
 ]
 
 -- one candidate more is listed
-pub listing_more : (k place : ℕ) (ls : List Signed) (l : Signed) (rest : List Signed) (index : ℕ) (before after first : List Occurrence) → ls ≡ l ∷ rest → after ≡ before ++ cond (index_in l == index) (record { count = k; place = place } ∷ []) []
-    → before ++ listing k place ls index ≡ first → after ++ listing k (place + 1) rest index ≡ first
-listing_more k place ls l rest index before after first is more h =
-    ap (λ us. us ++ listing k (place + 1) rest index) more ∙ append_assoc before (cond (index_in l == index) (record { count = k; place = place } ∷ []) []) (listing k (place + 1) rest index)
-    ∙ ap (λ ms. before ++ listing k place ms index) (sym is) ∙ h
+pub occurrences_more : (k place : ℕ) (ls : List Signed) (l : Signed) (rest : List Signed) (index : ℕ) (before after first : List Occurrence) → ls ≡ l ∷ rest → after ≡ before ++ cond (index_in l == index) (record { count = k; place = place } ∷ []) []
+    → before ++ occurrences_of k place ls index ≡ first → after ++ occurrences_of k (place + 1) rest index ≡ first
+occurrences_more k place ls l rest index before after first is more h =
+    ap (λ us. us ++ occurrences_of k (place + 1) rest index) more ∙ append_assoc before (cond (index_in l == index) (record { count = k; place = place } ∷ []) []) (occurrences_of k (place + 1) rest index)
+    ∙ ap (λ ms. before ++ occurrences_of k place ms index) (sym is) ∙ h
 
 -- ---- what stays right
 

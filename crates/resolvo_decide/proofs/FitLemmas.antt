@@ -27,7 +27,7 @@ use Rattle.resolvo_decide.specs.declared.candidate_counts.Occurrence.{Occurrence
 use Rattle.resolvo_decide.specs.declared.undecided_clauses.UndecidedClauses.{UndecidedClauses}
 use Rattle.resolvo_decide.specs.States.{state_at, reopened, is_open_state}
 use Rattle.resolvo_decide.specs.CandidateCounts.{IsRightCount, AreListed, AreBelow, HasNoCount, number_at}
-use Rattle.resolvo_decide.specs.Needs.{literals_in, is_met, places_at, IsMetNow, IsSoundState, Fits, AreRightCounts, KeepsFitting, KeepsCounts, KeepsCounted, OffersAtLeast, AddsNeed}
+use Rattle.resolvo_decide.specs.Needs.{literals_in, is_met, places_at, IsMetNow, IsSoundState, Fits, AreRightCounts, KeepsFits, KeepsCounts, KeepsCounted, OffersAtLeast, AddsNeed}
 use Rattle.resolvo_decide.proofs.Positions.{state_end, state_map, state_out, state_put, state_set_other}
 use Rattle.resolvo_decide.proofs.TrailEnds.{open_before}
 use Rattle.resolvo_decide.proofs.Seen.{met_take, met_whole, take_less, idle_take, idle_more}
@@ -62,7 +62,7 @@ pub sound_put : (literals : Requirement → List Signed) (es : List Entry) (q : 
 sound_put literals es q found new so (inl is) = subst (IsSoundState literals es q) (sym is) so
 sound_put literals es q found new so (inr is) = sound_open literals q es new is
 
-pub fits_back : (common : ℕ) (old new : UndecidedClauses) → new.seen.items ≡ take common old.seen.items → new.states ≡ map (reopened common) old.states → new.places ≡ old.places → KeepsCounts old.seen.items new.seen.items old.counts new.counts → KeepsFitting old new
+pub fits_back : (common : ℕ) (old new : UndecidedClauses) → new.seen.items ≡ take common old.seen.items → new.states ≡ map (reopened common) old.states → new.places ≡ old.places → KeepsCounts old.seen.items new.seen.items old.counts new.counts → KeepsFits old new
 fits_back common old new seen states places counts = λ literals queue f. record {
   count = ap length states ∙ length-map old.states (reopened common) ∙ f.count;
   each = λ i q at. subst (λ (es : List Entry). IsSoundState literals es q (state_at new.states i)) (sym seen)
@@ -74,7 +74,7 @@ fits_back common old new seen states places counts = λ literals queue f. record
 -- the states are unchanged or open, and the clauses of a parent that the entry makes true are open
 pub fits_on : (e : Entry) (old new : UndecidedClauses) → new.seen.items ≡ old.seen.items ++ e ∷ [] → new.places ≡ old.places → length new.states ≡ length old.states
     → ((i : ℕ) → (state_at new.states i ≡ state_at old.states i) ⊎ (state_at new.states i ≡ Open))
-    → (e.decision.value ≡ true → (i : ℕ) → Contains (places_at old.places.items e.decision.variable.0) i → state_at new.states i ≡ Open) → KeepsCounts old.seen.items (old.seen.items ++ e ∷ []) old.counts new.counts → KeepsFitting old new
+    → (e.decision.value ≡ true → (i : ℕ) → Contains (places_at old.places.items e.decision.variable.0) i → state_at new.states i ≡ Open) → KeepsCounts old.seen.items (old.seen.items ++ e ∷ []) old.counts new.counts → KeepsFits old new
 fits_on e old new seen places long others opened counts = λ literals queue f. record {
   count = long ∙ f.count;
   each = λ i q at. subst (λ (es : List Entry). IsSoundState literals es q (state_at new.states i)) (sym seen) (each literals queue f i q at);
@@ -245,7 +245,7 @@ fits_found literals needs queue position q found f here so = record { count = le
     ]
 
 -- two steps in turn
-pub keeps_both : (a b c : UndecidedClauses) → KeepsFitting a b → KeepsFitting b c → KeepsFitting a c
+pub keeps_both : (a b c : UndecidedClauses) → KeepsFits a b → KeepsFits b c → KeepsFits a c
 keeps_both a b c f g = λ literals queue h. g literals queue (f literals queue h)
 
 -- the pick continues after a clause

@@ -95,13 +95,13 @@ abbrev pub AreBelow : ℕ → List (Vec Occurrence Global) → Type 0
 AreBelow k occurrences = (index : ℕ) (u : Occurrence) → Contains (occurrences_at occurrences index) u → u.count < k
 
 -- the occurrences of the literals of an index, for the count of this number, from a place on
-abbrev pub listing : ℕ → ℕ → List Signed → ℕ → List Occurrence
-listing k place [] index = []
-listing k place (l ∷ ls) index = cond (index_in l == index) (record { count = k; place = place } ∷ []) [] ++ listing k (place + 1) ls index
+abbrev pub occurrences_of : ℕ → ℕ → List Signed → ℕ → List Occurrence
+occurrences_of k place [] index = []
+occurrences_of k place (l ∷ ls) index = cond (index_in l == index) (record { count = k; place = place } ∷ []) [] ++ occurrences_of k (place + 1) ls index
 
 -- the occurrences of these literals were added
 abbrev pub Lists : ℕ → List Signed → List (Vec Occurrence Global) → List (Vec Occurrence Global) → Type 0
-Lists k literals old new = (index : ℕ) → occurrences_at new index ≡ occurrences_at old index ++ listing k 0 literals index
+Lists k literals old new = (index : ℕ) → occurrences_at new index ≡ occurrences_at old index ++ occurrences_of k 0 literals index
 
 -- no clause has a count
 pub record HasNoCount (all : CandidateCounts) : Type 0 where

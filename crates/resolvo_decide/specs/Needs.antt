@@ -62,8 +62,8 @@ pub record Fits (literals : Requirement → List Signed) (needs : UndecidedClaus
   pub kept_count : AreRightCounts literals queue needs.seen.items needs.counts
 
 -- the new states fit each queue that the old ones fit
-abbrev pub KeepsFitting : UndecidedClauses → UndecidedClauses → Type 0
-KeepsFitting old new = (literals : Requirement → List Signed) (queue : List NeedClause) → Fits literals old queue → Fits literals new queue
+abbrev pub KeepsFits : UndecidedClauses → UndecidedClauses → Type 0
+KeepsFits old new = (literals : Requirement → List Signed) (queue : List NeedClause) → Fits literals old queue → Fits literals new queue
 
 -- a clause of this parent was added
 pub record AddsNeed (parent : VariableId) (old new : UndecidedClauses) : Type 0 where

@@ -15,7 +15,7 @@ ghost use Rattle.resolvo_store_core.specs.declared.decide_queue.NeedClause.{Need
 ghost use Rattle.resolvo_decide.specs.declared.clause_states.ClauseState.TheVariants.{Open};
 ghost use Rattle.resolvo_decide.specs.States.{state_at};
 ghost use Rattle.resolvo_decide.specs.CandidateCounts.{has_true_in, HasNoCount};
-ghost use Rattle.resolvo_decide.specs.Needs.{literals_in, places_at, IsMetNow, IsSoundState, Fits, KeepsFitting, KeepsCounts, IsRightCountAt, OffersAtLeast, LeavesUndecided, IsPick, AddsNeed};
+ghost use Rattle.resolvo_decide.specs.Needs.{literals_in, places_at, IsMetNow, IsSoundState, Fits, KeepsFits, KeepsCounts, IsRightCountAt, OffersAtLeast, LeavesUndecided, IsPick, AddsNeed};
 
 use crate::candidate_count::CandidateCount;
 use crate::candidate_counts::CandidateCounts;
@@ -113,7 +113,7 @@ impl UndecidedClauses {
     /// Drops the seen entries behind this many. The cost is that of the clauses that they satisfied.
     pub fn truncate(&mut self, kept: usize)
         ensures seen { self.new.seen.items ≡ take kept self.old.seen.items }
-        ensures fits { KeepsFitting self.old self.new }
+        ensures fits { KeepsFits self.old self.new }
     {
         if kept < self.seen.len() {
             self.undo_entries(kept);
@@ -173,7 +173,7 @@ impl UndecidedClauses {
         requires seen { IsPrefixOf self.old.seen.items trail.now }
         requires once { EachOnce trail.now }
         ensures seen { OnOk result (self.new.seen.items ≡ trail.now) }
-        ensures fits { OnOk result (KeepsFitting self.old self.new) }
+        ensures fits { OnOk result (KeepsFits self.old self.new) }
         ensures refusal { IsOkUnless result Memory }
     {
         let seen = self.seen.len();
@@ -187,7 +187,7 @@ impl UndecidedClauses {
     fn sync_entry(&mut self, entry: Entry) -> R<()>
         requires { assigned self.old.seen.items entry.decision.variable.0 ≡ None }
         ensures seen { OnOk result (self.new.seen.items ≡ self.old.seen.items ++ entry ∷ []) }
-        ensures fits { OnOk result (KeepsFitting self.old self.new) }
+        ensures fits { OnOk result (KeepsFits self.old self.new) }
         ensures refusal { IsOkUnless result Memory }
     {
         self.seen.push(entry)?;

@@ -18,7 +18,7 @@ use Rattle.resolvo_store_core.specs.declared.lists.FixedLists.{FixedLists}
 use Rattle.resolvo_store_core.specs.Pick.{pick_by}
 use Rattle.resolvo_store_core.specs.declared.decide_queue.NextDecision.{NextDecision}
 use Rattle.resolvo_store_core.specs.declared.decision.Entry.{Entry}
-use Rattle.resolvo_decide.specs.Needs.{literals_in, Fits, KeepsFitting}
+use Rattle.resolvo_decide.specs.Needs.{literals_in, Fits, KeepsFits}
 use Rattle.resolvo_decide.specs.declared.undecided_clauses.UndecidedClauses.{UndecidedClauses}
 use Rattle.resolvo_decide.proofs.FitLemmas.{fits_add, fits_more, fits_none}
 use Rattle.resolvo_store_core.specs.declared.decide_queue.NeedClause.{NeedClause}
@@ -128,7 +128,7 @@ kept_from_one old new kept same zero low within = refl
 kept_from_one old new kept same (suc k) low within = same (suc k) (omega arith) low within
 
 -- where entries were undone, and the states of requires clauses were reset to those left
-pub built_back : {N S : Type 0} (old : Encoder N S) (c : SolverState N S) (n : UndecidedClauses) → IsBuilt old → IsCoding c → Grows old.coding c → KeepsDigits old.coding c → KeepsFitting old.needs n → IsPrefixOf n.seen.items c.search.tracker.trail → IsBuilt (record old { coding = c; needs = n })
+pub built_back : {N S : Type 0} (old : Encoder N S) (c : SolverState N S) (n : UndecidedClauses) → IsBuilt old → IsCoding c → Grows old.coding c → KeepsDigits old.coding c → KeepsFits old.needs n → IsPrefixOf n.seen.items c.search.tracker.trail → IsBuilt (record old { coding = c; needs = n })
 built_back old c n b coding grows digits fits seen = built_grows old (record old { coding = c; needs = n }) b coding grows refl refl refl refl refl digits (clauses_grow old (record old { coding = c; needs = n }) b grows refl) (fits (literals_in old.lists) old.queue b.needs) seen
 
 -- where a disjunction was added

@@ -15,7 +15,7 @@ use Rattle.resolvo_store_core.specs.Pairs.{watches}
 use Rattle.resolvo_store_core.specs.Walk.{pairs_after, lists_after}
 use Rattle.resolvo_store_core.specs.Pick.{first_broken_by, pick_by}
 use Rattle.resolvo_store.specs.Stored.{Stored, Like, names_in, condition_among}
-use Rattle.resolvo_store.specs.Changes.{candidates_from, same_requirement, all_but_last, last_undone, down_to, watching, highest}
+use Rattle.resolvo_store.specs.Changes.{candidates_from, same_requirement, all_but_last, last_undone, down_to, with_watcher, highest}
 use Rattle.resolvo_store.specs.Calls.{PlainAnswer, Became, Undone, Met, Falsified, Bad, Added, has_condition, has_candidates_for, has_learnt_in, has_clause, can_watch, can_add, can_register, can_assign, may, answer_to, changed_by, step, answer_of, after, answers_of, broken_in, picked_in, broken_or_next, LacksNumber}
 use Rattle.resolvo_store_core.specs.declared.decision.Entry.{Entry}
 use Rattle.resolvo_store_core.specs.declared.decide_queue.NeedClause.{NeedClause}
@@ -134,8 +134,8 @@ module _ {N : Type 0} (s t : Stored N) (like : Like s t) where
     candidates_change : (r : Requirement) (cs : List _) (q : Requirement) → cond (same_requirement r q) (Some cs) (s.candidates q) ≡ cond (same_requirement r q) (Some cs) (t.candidates q)
     candidates_change r cs q = ap (λ o. cond (same_requirement r q) (Some cs) o) (like.candidates q)
 
-    watching_change : (w : Option WatchedLiterals) (l : Signed) → watching (length s.clauses) w s.watchers l ≡ watching (length t.clauses) w t.watchers l
-    watching_change w l = ap (λ (cs : List (Clause N)). watching (length cs) w s.watchers l) like.clauses ∙ ap (λ xs. cond (watches w l) (record { 0 = length t.clauses } ∷ xs) xs) (like.watchers l)
+    with_watcher_change : (w : Option WatchedLiterals) (l : Signed) → with_watcher (length s.clauses) w s.watchers l ≡ with_watcher (length t.clauses) w t.watchers l
+    with_watcher_change w l = ap (λ (cs : List (Clause N)). with_watcher (length cs) w s.watchers l) like.clauses ∙ ap (λ xs. cond (watches w l) (record { 0 = length t.clauses } ∷ xs) xs) (like.watchers l)
 
     score_change : (n : N) (add : ℕ) (m : N) → cond (eq n m) (min (s.score n + add) highest) (s.score m) ≡ cond (eq n m) (min (t.score n + add) highest) (t.score m)
     score_change n add m = ap (λ (k : ℕ). cond (eq n m) (min (k + add) highest) (s.score m)) (like.score n) ∙ ap (λ (k : ℕ). cond (eq n m) (min (t.score n + add) highest) k) (like.score m)
@@ -151,7 +151,7 @@ module _ {N : Type 0} (s t : Stored N) (like : Like s t) where
     changed_like (call.FixCandidates r groups) = record { candidates = candidates_change r (candidates_from groups.items); disjunctions = like.disjunctions; learnt = like.learnt; clauses = like.clauses; watched = like.watched; watchers = like.watchers; trail = like.trail; needs = like.needs; score = like.score }
     changed_like (call.FixDisjunction ls) = record { candidates = like.candidates; disjunctions = ap (λ ds. ds ++ ls.items ∷ []) like.disjunctions; learnt = like.learnt; clauses = like.clauses; watched = like.watched; watchers = like.watchers; trail = like.trail; needs = like.needs; score = like.score }
     changed_like (call.FixLearnt ls) = record { candidates = like.candidates; disjunctions = like.disjunctions; learnt = ap (λ ds. ds ++ ls.items ∷ []) like.learnt; clauses = like.clauses; watched = like.watched; watchers = like.watchers; trail = like.trail; needs = like.needs; score = like.score }
-    changed_like (call.AddClause c w) = record { candidates = like.candidates; disjunctions = like.disjunctions; learnt = like.learnt; clauses = ap (λ cs. cs ++ c ∷ []) like.clauses; watched = ap (λ ws. ws ++ w ∷ []) like.watched; watchers = watching_change w; trail = like.trail; needs = like.needs; score = like.score }
+    changed_like (call.AddClause c w) = record { candidates = like.candidates; disjunctions = like.disjunctions; learnt = like.learnt; clauses = ap (λ cs. cs ++ c ∷ []) like.clauses; watched = ap (λ ws. ws ++ w ∷ []) like.watched; watchers = with_watcher_change w; trail = like.trail; needs = like.needs; score = like.score }
     changed_like (call.Register p r d c) = record { candidates = like.candidates; disjunctions = like.disjunctions; learnt = like.learnt; clauses = like.clauses; watched = like.watched; watchers = like.watchers; trail = like.trail; needs = ap (λ rs. rs ++ record { parent = p; requirement = r; condition = d; clause = c } ∷ []) like.needs; score = like.score }
     changed_like (call.Assign v b c level) = record { candidates = like.candidates; disjunctions = like.disjunctions; learnt = like.learnt; clauses = like.clauses; watched = like.watched; watchers = like.watchers; trail = ap (λ (es : List Entry). entered (set_for b (value_in es v.0)) (record { decision = record { variable = v; value = b; derived_from = c }; level = level }) es) like.trail; needs = like.needs; score = like.score }
     changed_like call.UndoLast = record { candidates = like.candidates; disjunctions = like.disjunctions; learnt = like.learnt; clauses = like.clauses; watched = like.watched; watchers = like.watchers; trail = ap all_but_last like.trail; needs = like.needs; score = like.score }

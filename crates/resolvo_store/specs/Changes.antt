@@ -49,11 +49,11 @@ with_learnt ls s = record s { learnt = s.learnt ++ ls ∷ [] }
 -- ---- clauses
 
 -- the clause of this number is first in the lists of its two watched literals, if it has any
-abbrev pub watching : ℕ → Option WatchedLiterals → (Signed → List ClauseId) → Signed → List ClauseId
-watching c w view l = cond (watches w l) (record { 0 = c } ∷ view l) (view l)
+abbrev pub with_watcher : ℕ → Option WatchedLiterals → (Signed → List ClauseId) → Signed → List ClauseId
+with_watcher c w view l = cond (watches w l) (record { 0 = c } ∷ view l) (view l)
 
 abbrev pub with_clause : {N : Type 0} → Clause N → Option WatchedLiterals → Stored N → Stored N
-with_clause c w s = record s { clauses = s.clauses ++ c ∷ []; watched = s.watched ++ w ∷ []; watchers = watching (length s.clauses) w s.watchers }
+with_clause c w s = record s { clauses = s.clauses ++ c ∷ []; watched = s.watched ++ w ∷ []; watchers = with_watcher (length s.clauses) w s.watchers }
 
 abbrev pub with_need : {N : Type 0} → NeedClause → Stored N → Stored N
 with_need r s = record s { needs = s.needs ++ r ∷ [] }

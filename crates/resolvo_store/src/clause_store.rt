@@ -12,7 +12,7 @@ ghost use Rattle.resolvo_store_core.specs.Signed.{Signed, same_literal};
 ghost use Rattle.resolvo_store_core.specs.Watches.{watchers, IsWatched, SameLists};
 ghost use Rattle.resolvo_store_core.specs.declared.watched_literals.WatchedLiterals.{WatchedLiterals};
 ghost use Rattle.resolvo_store.specs.Stored.{Like, plain, new_store};
-ghost use Rattle.resolvo_store.specs.Changes.{versions_of, candidates_from, with_candidates, with_disjunction, with_learnt, watching, with_clause, with_need, with_decision, undone, last_undone, undone_until, bumped, decayed, walked};
+ghost use Rattle.resolvo_store.specs.Changes.{versions_of, candidates_from, with_candidates, with_disjunction, with_learnt, with_watcher, with_clause, with_need, with_decision, undone, last_undone, undone_until, bumped, decayed, walked};
 ghost use Rattle.resolvo_store_core.specs.Clauses.{Fits, is_in_range, literals_of};
 ghost use Rattle.resolvo_store.specs.Calls.{has_clause, can_watch, can_fix, can_add, can_register, can_assign, can_decay, broken_in, picked_in};
 
@@ -428,7 +428,7 @@ fn begin(watches: &mut WatchMap, watched: &Option<WatchedLiterals>, clause: Clau
         → same_literal p.first p.second ≡ false }
     ensures lists { OnOk result
         ((l : Signed)
-        → watchers watches.new l ≡ watching clause.0 watched.now (watchers watches.old) l) }
+        → watchers watches.new l ≡ with_watcher clause.0 watched.now (watchers watches.old) l) }
     ensures fits { OnOk result
         ((pairs : List (Option WatchedLiterals))
         → IsWatched pairs (watchers watches.old)
