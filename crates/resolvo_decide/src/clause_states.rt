@@ -112,7 +112,10 @@ impl ClauseStates {
     /// without one is skipped until one of its clauses opens.
     pub fn next_open(&mut self, from: usize) -> usize
         ensures behind { from ≤ result }
-        ensures passed { (i : ℕ) → from ≤ i → i < result → is_open_state (state_at self.old i) ≡ false }
+        ensures passed { (i : ℕ)
+            → from ≤ i
+            → i < result
+            → is_open_state (state_at self.old i) ≡ false }
         ensures open { is_open_state (state_at self.old result) ≡ true }
         ensures same { self.new ≡ self.old }
     {
@@ -135,7 +138,10 @@ impl ClauseStates {
         // After each call.
         ensures behind { position < result }
         ensures within { result ≤ length self.old }
-        ensures passed { (i : ℕ) → position ≤ i → i < result → is_open_state (state_at self.old i) ≡ false }
+        ensures passed { (i : ℕ)
+            → position ≤ i
+            → i < result
+            → is_open_state (state_at self.old i) ≡ false }
         ensures same { self.new ≡ self.old }
     {
         if !is_marked(&self.groups, position / GROUP) {
@@ -170,7 +176,10 @@ impl ClauseStates {
     /// clause.
     fn close_group(&mut self, from: usize, position: usize, next: usize)
         requires within { position < length self.old }
-        requires passed { (i : ℕ) → from ≤ i → i < next → is_open_state (state_at self.old i) ≡ false }
+        requires passed { (i : ℕ)
+            → from ≤ i
+            → i < next
+            → is_open_state (state_at self.old i) ≡ false }
         ensures { self.new ≡ self.old }
     {
         if from <= position / GROUP * GROUP && self.group_end(position) <= next {
@@ -208,7 +217,8 @@ impl ClauseStates {
     /// Opens the clauses at these positions.
     pub fn open_each(&mut self, places: &[usize])
         ensures opened { (i : ℕ) → Contains places.now i → state_at self.new i ≡ Open }
-        ensures others { (i : ℕ) → (state_at self.new i ≡ state_at self.old i) ⊎ (state_at self.new i ≡ Open) }
+        ensures others { (i : ℕ)
+            → (state_at self.new i ≡ state_at self.old i) ⊎ (state_at self.new i ≡ Open) }
         ensures len { length self.new ≡ length self.old }
     {
         for place in places {
@@ -256,7 +266,8 @@ impl ClauseStates {
 
     /// Opens the clause at a position, unless the trail's prefix of this length satisfies it.
     fn reopen_at(&mut self, position: usize, common: usize)
-        ensures { self.new ≡ slice_set self.old position (reopened common (state_at self.old position)) }
+        ensures { self.new
+            ≡ slice_set self.old position (reopened common (state_at self.old position)) }
     {
         if common < self.state(position).within() as usize {
             self.put(position, ClauseState::Open);
@@ -354,7 +365,10 @@ fn first_open(states: &[ClauseState], from: usize, end: usize) -> usize
     requires end { end ≤ length states.now }
     ensures behind { from ≤ result }
     ensures within { result ≤ end }
-    ensures passed { (i : ℕ) → from ≤ i → i < result → is_open_state (state_at states.now i) ≡ false }
+    ensures passed { (i : ℕ)
+        → from ≤ i
+        → i < result
+        → is_open_state (state_at states.now i) ≡ false }
 {
     for position in from..end {
         if states[position].is_open() {

@@ -11,7 +11,8 @@ pub fn make_room<T: Drop>(lists: &mut Vec<Vec<T>>, alloc: Global, count: usize) 
     ensures long { OnOk result (count ≤ length lists.new.items) }
     ensures same { OnOk result
         ((v : ℕ)
-        → items_or_none (slice_get lists.new.items v) ≡ items_or_none (slice_get lists.old.items v)) }
+        → items_or_none (slice_get lists.new.items v)
+        ≡ items_or_none (slice_get lists.old.items v)) }
     ensures refusal { IsOkUnless result Memory }
 {
     while lists.len() < count {

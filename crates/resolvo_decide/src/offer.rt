@@ -1,4 +1,4 @@
-//! The decision that a clause offers, by one walk over its candidates.
+//! The decision that a clause offers, by one walk over its candidates or by their count.
 ghost use Rattle.std.specs.Prelude.{◌≡◌, cond, drop, None};
 ghost use Rattle.std.specs.Option.{option_map, option_copied};
 ghost use Rattle.std.specs.List.{find, count_by, list_any, list_all};
@@ -109,7 +109,8 @@ fn undecided<N: Copy>(
     values: &DecisionMap,
 ) -> Option<(Candidate<N>, usize)>
     ensures { result
-        ≡ cond (list_any (λ c. is_true (value_under (value_at values.now) c.literal)) candidates.now)
+        ≡ cond
+        (list_any (λ c. is_true (value_under (value_at values.now) c.literal)) candidates.now)
         None
         (option_map
         (λ c.

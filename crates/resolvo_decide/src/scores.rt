@@ -1,5 +1,5 @@
-//! The scores of packages, with an upper bound that is bumped and decays as they do. It is 0 until a
-//! conflict bumps a score, so the first undecided clause that offers a decision is the pick.
+//! The scores of packages, with an upper bound that is bumped and decays as they do. It is 0 until
+//! a conflict bumps a score, so the first undecided clause that offers a decision is the pick.
 ghost use Rattle.std.specs.Prelude.{◌≡◌, ◌≤◌, ◌*◌, ◌/◌, IsOkUnless};
 ghost use Rattle.resolvo_pool_core.specs.declared.want.Want.TheVariants.{Memory};
 

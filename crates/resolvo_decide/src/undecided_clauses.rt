@@ -1,4 +1,4 @@
-//! The states of the need clauses of a queue: satisfied, idle, or undecided.
+//! The states of the need clauses of a queue: satisfied, inactive, or undecided.
 //! They hold for the trail in `seen`. Each pick adds the new entries of the trail; `truncate` drops
 //! those that a backjump removed.
 ghost use Rattle.std.specs.Prelude.{◌≡◌, ℕ, ◌<◌, ◌≤◌, ◌++◌, ◌∷◌, ◌⊎◌, [], take, drop, length, not, false, true, slice_get, Some, None, Contains, OnOk, IfOk, IfErr, IsOkUnless};
@@ -96,7 +96,8 @@ impl UndecidedClauses {
         requires seen { IsPrefixOf self.old.seen.items trail.now.trail }
         requires fewest { LeavesUndecided lists.now trail.now.trail queue.now fewest }
         // After an answer.
-        ensures picked { IfOk result (IsPick lists.now trail.now.trail (C.score_of scores.now.map) queue.now) }
+        ensures picked { IfOk result
+            (IsPick lists.now trail.now.trail (C.score_of scores.now.map) queue.now) }
         ensures fits { OnOk result (Fits (literals_in lists.now) self.new queue.now) }
         ensures seen { OnOk result (self.new.seen.items ≡ trail.now.trail) }
         // After a refusal.
@@ -110,7 +111,8 @@ impl UndecidedClauses {
         Ok(next)
     }
 
-    /// Drops the seen entries behind this many. The cost is that of the clauses that they satisfied.
+    /// Drops the seen entries behind this many. The cost is that of the clauses that they
+    /// satisfied.
     pub fn truncate(&mut self, kept: usize)
         ensures seen { self.new.seen.items ≡ take kept self.old.seen.items }
         ensures fits { KeepsFits self.old self.new }
@@ -233,7 +235,8 @@ impl UndecidedClauses {
         requires bounded { (name : N) → C.score_of scores.now name ≤ most }
         requires fewest { OffersAtLeast lists.now (value_at values.now) queue.now fewest }
         // After an answer.
-        ensures picked { result ≡ pick lists.now (value_at values.now) (C.score_of scores.now) queue.now }
+        ensures picked { result
+            ≡ pick lists.now (value_at values.now) (C.score_of scores.now) queue.now }
         // Whatever the answer.
         ensures fits { Fits (literals_in lists.now) self.new queue.now }
         ensures seen { self.new.seen ≡ self.old.seen }

@@ -223,7 +223,8 @@ fn write_conflict<S: Copy + Exact + Hash + Debug>(
     indenter: Indenter,
     lines: &mut Vec<MessageLine<S>>,
 ) -> R<()>
-    ensures line { OnOk result (lines.new.items ≡ lines.old.items ++ conflict_line weight indenter) }
+    ensures line { OnOk result
+        (lines.new.items ≡ lines.old.items ++ conflict_line weight indenter) }
     ensures refusal { IsOkUnless result Memory }
 {
     match weight {

@@ -241,7 +241,8 @@ fn profiles<S: SolverId, I: Interner<SolvableId = S>>(
     graph: &ConflictGraph<S>,
     interner: &I,
 ) -> R<Vec<Profile<I::NameId, S>>>
-    ensures profiles { IfOk result (λ v. AreProfiles graph.now (I.name_of_solvable interner.now) v.items) }
+    ensures profiles { IfOk result
+        (λ v. AreProfiles graph.now (I.name_of_solvable interner.now) v.items) }
     ensures refusal { IsOkUnless result Memory }
 {
     let mut found = Vec::new(alloc);
@@ -261,7 +262,8 @@ fn profile_of<S: SolverId, I: Interner<SolvableId = S>>(
     node: NodeIndex,
     solvable: S,
 ) -> R<Profile<I::NameId, S>>
-    ensures profile { IfOk result (IsProfile graph.now (I.name_of_solvable interner.now) (node, solvable)) }
+    ensures profile { IfOk result
+        (IsProfile graph.now (I.name_of_solvable interner.now) (node, solvable)) }
     ensures refusal { IsOkUnless result Memory }
 {
     Ok(Profile {

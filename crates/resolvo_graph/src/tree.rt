@@ -448,8 +448,8 @@ impl<S: Copy + Exact + Hash + Debug> Findings<'_, S> {
 
     /// The versions that are merged with one, or that one alone.
     fn merged_versions(&self, alloc: Global, version: S) -> R<Versions<S>>
-        ensures versions { IfOk result (λ v. v ≡ unwrap_or (merged_with S.eq self.now.merged version)
-            (version ∷ [])) }
+        ensures versions { IfOk result
+            (λ v. v ≡ unwrap_or (merged_with S.eq self.now.merged version) (version ∷ [])) }
         ensures refusal { IsOkUnless result Memory }
     {
         if let Some(group) = self.merged.get(&version) {
