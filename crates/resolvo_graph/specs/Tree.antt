@@ -100,11 +100,15 @@ admitted_in (e ∷ es) = with_set (admitted_by e.weight) (admitted_in es)
 abbrev pub same_set : VersionSetId → VersionSetId → Bool
 same_set v w = v.0 == w.0
 
--- the verdict on a version with these edges; the reason of an exclusion goes first
+-- the verdict on a version with these edges, and this reason of an exclusion, which goes first
 abbrev pub verdict_for : {S : Type 0} → Option StringId → List (Edge S) → Verdict
 verdict_for (Some why) es = Excluded why
 verdict_for None [] = Alone
 verdict_for None (e ∷ es) = cond (list_any (λ d. is_forbidden d.weight) (e ∷ es)) Conflicts (cond (list_any is_admitting (e ∷ es)) Constrains Requires)
+
+-- the verdict on a version with these edges
+abbrev pub verdict_in : {S : Type 0} → Graph S → List (Edge S) → Verdict
+verdict_in g es = verdict_for (reason_in g es) es
 
 -- a line for each version set that a version admits alone, one level deeper
 abbrev pub admitted_lines : {S : Type 0} → Indent → List VersionSetId → List (MessageLine S)
@@ -152,7 +156,7 @@ module _ {S : Type 0} (f : Findings S) where
   in_rank rs = map Requirement (filter (λ r. not (has_target_in f.installable r)) rs) ++ map Requirement (filter (has_target_in f.installable) rs)
 
   abbrev pub verdict_of : NodeIndex → Verdict
-  verdict_of n = verdict_for (reason_in f.graph (edges_of f.graph n)) (edges_of f.graph n)
+  verdict_of n = verdict_in f.graph (edges_of f.graph n)
 
   -- the runs below a version with this verdict and these edges
   abbrev pub needs_of : Verdict → List (Edge S) → List (DisplayOp S)
@@ -167,9 +171,12 @@ module _ {S : Type 0} (f : Findings S) where
   abbrev pub is_passed : List S → NodeIndex → S → List NodeIndex → Bool
   is_passed covered n s above = is_covered covered s || is_among above n
 
-  -- the lines of a version, without those below it
+  -- the lines of a version with these edges, without those below it
+  abbrev pub lines_with : S → List (Edge S) → Indent → List (MessageLine S)
+  lines_with s es i = record { indenter = i; sentence = Sentences.Versions (unwrap_or (f.merged s) (s ∷ [])) (verdict_in f.graph es) } ∷ further_lines (verdict_in f.graph es) i es
+
   abbrev pub version_lines : NodeIndex → S → Indent → List (MessageLine S)
-  version_lines n s i = record { indenter = i; sentence = Sentences.Versions (unwrap_or (f.merged s) (s ∷ [])) (verdict_of n) } ∷ further_lines (verdict_of n) i (edges_of f.graph n)
+  version_lines n s i = lines_with s (edges_of f.graph n) i
 
   -- the lines of an entry itself
   abbrev pub lines_at : List S → DisplayOp S → Indent → List NodeIndex → List (MessageLine S)

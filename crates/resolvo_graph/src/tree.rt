@@ -5,7 +5,6 @@
 ghost use Rattle.std.specs.Prelude.{◌≡◌, ◌++◌, ◌∷◌, [], List, IfOk, OnOk, cond, filter, reverse, unwrap_or, slice_get, IsOkUnless};
 ghost use Rattle.std.specs.List.{list_any, dedup};
 ghost use Rattle.resolvo_pool_core.specs.declared.want.Want.TheVariants.{Memory};
-ghost use Rattle.resolvo_graph.specs.declared.wording.Sentence.TheVariants as Sentences;
 ghost use Rattle.resolvo_graph.specs.declared.wording.MessageLine.{MessageLine};
 ghost use Rattle.resolvo_graph.specs.declared.tree.DisplayOp.{DisplayOp};
 ghost use Rattle.resolvo_graph.specs.Graph.{edges_of, is_forbidden};
@@ -14,7 +13,7 @@ ghost use Rattle.resolvo_graph.specs.Kept.{findings, merged_with};
 ghost use Rattle.resolvo_graph.specs.Sink.{Adds};
 ghost use Rattle.resolvo_graph.specs.Walk.{is_among};
 ghost use Rattle.resolvo_graph.specs.Runs.{runs_of};
-ghost use Rattle.resolvo_graph.specs.Tree.{siblings, is_missing, candidates_at, reason_in, is_admitting, admitted_in, same_set, verdict_for, admitted_lines, further_lines, outlook_of, shown_of, covered_with, is_covered, firsts_after, in_rank, verdict_of, needs_of, is_passed, version_lines, lines_at, entries_below, covered_after, IsTree, solvable_at_node, order_before};
+ghost use Rattle.resolvo_graph.specs.Tree.{siblings, is_missing, candidates_at, reason_in, is_admitting, admitted_in, same_set, verdict_in, admitted_lines, further_lines, outlook_of, shown_of, covered_with, is_covered, firsts_after, in_rank, verdict_of, needs_of, is_passed, lines_with, version_lines, lines_at, entries_below, covered_after, IsTree, solvable_at_node, order_before};
 
 use crate::graph::{ConflictGraph, ConflictNode, Edge, NodeIndex};
 use crate::indenter::{ChildOrder, Indenter};
@@ -268,8 +267,7 @@ impl<S: Copy + Exact + Hash + Debug> Findings<'_, S> {
             (siblings indenter.now (above.items ++ node ∷ [])
             (reverse
             (needs_of (findings S.eq self.now)
-            (verdict_for (reason_in self.now.graph.now edges.now) edges.now)
-            edges.now)))) }
+            (verdict_in self.now.graph.now edges.now) edges.now)))) }
         ensures refusal { IsOkUnless result Memory }
     {
         let mut above = above;
@@ -289,13 +287,8 @@ impl<S: Copy + Exact + Hash + Debug> Findings<'_, S> {
     ) -> R<()>
         ensures lines { OnOk result
             (lines.new.items
-            ≡ lines.old.items ++ record {
-              indenter = indenter;
-              sentence = Sentences.Versions (unwrap_or (merged_with S.eq self.now.merged version)
-                  (version ∷ [])) (verdict_for (reason_in self.now.graph.now edges.now) edges.now);
-            }
-            ∷ further_lines (verdict_for (reason_in self.now.graph.now edges.now) edges.now)
-            indenter edges.now) }
+            ≡ lines.old.items
+            ++ lines_with (findings S.eq self.now) version edges.now indenter) }
         ensures refusal { IsOkUnless result Memory }
     {
         let verdict = self.verdict(edges);
@@ -462,7 +455,7 @@ impl<S: Copy + Exact + Hash + Debug> Findings<'_, S> {
 
     /// The verdict on a version with these edges.
     fn verdict(&self, edges: &[Edge<S>]) -> Verdict
-        ensures { result ≡ verdict_for (reason_in self.now.graph.now edges.now) edges.now }
+        ensures { result ≡ verdict_in self.now.graph.now edges.now }
     {
         if let Some(reason) = self.reason(edges) {
             Verdict::Excluded(reason)
