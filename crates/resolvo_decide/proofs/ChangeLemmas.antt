@@ -20,7 +20,7 @@ use Rattle.resolvo_decide.specs.CandidateCounts.{one_more, changed, changed_each
 use Rattle.resolvo_decide.specs.Needs.{AreRightCounts, KeepsCounts}
 use Rattle.resolvo_decide.proofs.TrailEnds.{once_end, once_prefix, last_open, trues_end, falses_end, stays_false, was_false}
 
--- ---- a change for each use
+-- ---- a change for each occurrence
 
 one_more_is : (total n : ℕ) → n < total → one_more total n ≡ n + 1
 one_more_is total n h = go (nat_lt n total) refl
@@ -94,7 +94,7 @@ unmet_each k (u ∷ us) total trues falses passed = go (u.count == k) (λ n. unm
         more trues
         ∙ ap (λ (n : ℕ). record { total = total; trues = n; falses = falses; passed = passed }) sum
 
--- one use more, where the others are left
+-- one occurrence more, where the others are left
 module _ (change : CandidateChange) (place : ℕ) (f : CandidateCount → CandidateCount) (d : CandidateCount) where
   set_same : (ts : List CandidateCount) (n : ℕ) → slice_get (slice_set ts n (changed change place (get_or ts n d))) n ≡ option_map (changed change place) (slice_get ts n)
   set_same [] zero = refl
@@ -127,7 +127,7 @@ get_out [] k h = refl
 get_out (x ∷ ts) zero h = absurd (omega (arith, h))
 get_out (x ∷ ts) (suc k) h = get_out ts k (omega (arith, h))
 
--- one use more, whose count isn't there
+-- one occurrence more, whose count isn't there
 pub change_out : (change : CandidateChange) (k : ℕ) (ts : List CandidateCount) (u : Occurrence) (us : List Occurrence) → length ts ≤ u.count → option_map (changed_each change k us) (slice_get ts k) ≡ option_map (changed_each change k (u ∷ us)) (slice_get ts k)
 change_out change k ts u us out = go (u.count == k) refl
   where

@@ -173,7 +173,7 @@ pub no_more : (us : List Occurrence) → us ≡ us ++ []
 no_more [] = refl
 no_more (x ∷ us) = ap (λ vs. x ∷ vs) (no_more us)
 
--- a use was pushed to the list of an index
+-- an occurrence was pushed to the list of an index
 pub pushed_occurrence : (old room new : List (Vec Occurrence Global)) (index : ℕ) (v p : Vec Occurrence Global) (u : Occurrence) → ((j : ℕ) → occurrences_at room j ≡ occurrences_at old j) → index < length room → v ≡ get_or room index v → p.items ≡ v.items ++ u ∷ [] → new ≡ slice_set room index p
     → (j : ℕ) → occurrences_at new j ≡ occurrences_at old j ++ cond (index == j) (u ∷ []) []
 pushed_occurrence old room new index v p u same within read more is j = ap (λ us. occurrences_at us j) is ∙ elim (cases_Bool (index == j)) [
