@@ -92,3 +92,11 @@ plain score_of k = record {
   needs = k.needs;
   score = score_of k.scores;
 }
+
+-- the store is the old one after this change
+abbrev pub Becomes : {N S : Type 0} → (S → N → ℕ) → (Stored N → Stored N) → Kept N S → Kept N S → Type 0
+Becomes score_of change old new = Like (plain score_of new) (change (plain score_of old))
+
+-- the store is the old one
+abbrev pub Stays : {N S : Type 0} → (S → N → ℕ) → Kept N S → Kept N S → Type 0
+Stays score_of old new = Like (plain score_of new) (plain score_of old)

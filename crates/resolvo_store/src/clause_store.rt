@@ -1,7 +1,7 @@
 //! A clause store: the lists that clauses name, the clauses with their watched literals, the trail,
 //! the registered need clauses and the packages' scores.
-//! Its model is plain lists and functions (`plain`). Contracts describe its changes up to `Like`:
-//! equal lists, and functions that agree everywhere. `run` takes a list of calls.
+//! Its model is plain lists and functions (`plain`). Contracts describe what it becomes up to
+//! `Like`: equal lists, and functions that agree everywhere. `run` takes a list of calls.
 ghost use Rattle.std.specs.Prelude.{◌≡◌, ◌++◌, ◌∷◌, [], List, Option, Some, false, OnOk, OnErr, IfOk, IsErrOf, IsOkUnless, length, true, None};
 ghost use Rattle.std.specs.List.{list_all};
 ghost use Rattle.resolvo_pool_core.specs.declared.want.Want.TheVariants.{Memory, Ids};
@@ -11,7 +11,7 @@ ghost use Rattle.resolvo_store_core.specs.AddPairs.{set_for};
 ghost use Rattle.resolvo_store_core.specs.Signed.{Signed, same_literal};
 ghost use Rattle.resolvo_store_core.specs.Watches.{watchers, IsWatched, SameLists};
 ghost use Rattle.resolvo_store_core.specs.declared.watched_literals.WatchedLiterals.{WatchedLiterals};
-ghost use Rattle.resolvo_store.specs.Stored.{Like, plain, new_store};
+ghost use Rattle.resolvo_store.specs.Stored.{plain, new_store, Like, Becomes, Stays};
 ghost use Rattle.resolvo_store.specs.Changes.{versions_of, candidates_from, with_candidates, with_disjunction, with_learnt, with_watcher, with_clause, with_need, with_decision, undone, last_undone, undone_until, bumped, decayed, walked};
 ghost use Rattle.resolvo_store_core.specs.Clauses.{Fits, is_in_range, literals_of};
 ghost use Rattle.resolvo_store.specs.Calls.{has_clause, can_watch, can_fix, can_add, can_register, can_assign, can_decay, broken_in, picked_in};
@@ -125,11 +125,9 @@ impl<N: SolverId + Drop> ClauseStore<N> {
     ) -> R<()>
         requires { can_fix (plain N.Scores.score_of self.old) requirement groups.now ≡ true }
         ensures store { OnOk result
-            (Like (plain N.Scores.score_of self.new)
-            (with_candidates requirement (candidates_from groups.now)
-            (plain N.Scores.score_of self.old))) }
-        ensures err { OnErr result
-            (Like (plain N.Scores.score_of self.new) (plain N.Scores.score_of self.old)) }
+            (Becomes N.Scores.score_of (with_candidates requirement (candidates_from groups.now))
+            self.old self.new) }
+        ensures err { OnErr result (Stays N.Scores.score_of self.old self.new) }
         ensures ids { IsErrOf result Ids → index_in requirement ≡ 4294967295 }
     {
         let candidates = candidates_of(self.alloc, groups)?;
@@ -141,10 +139,8 @@ impl<N: SolverId + Drop> ClauseStore<N> {
         ensures number { IfOk result (λ id. id.raw ≡ length (plain N.Scores.score_of
             self.old).disjunctions) }
         ensures store { OnOk result
-            (Like (plain N.Scores.score_of self.new)
-            (with_disjunction literals.items (plain N.Scores.score_of self.old))) }
-        ensures err { OnErr result
-            (Like (plain N.Scores.score_of self.new) (plain N.Scores.score_of self.old)) }
+            (Becomes N.Scores.score_of (with_disjunction literals.items) self.old self.new) }
+        ensures err { OnErr result (Stays N.Scores.score_of self.old self.new) }
         ensures ids { IsErrOf result Ids
             → length (plain N.Scores.score_of self.old).disjunctions ≡ 4294967295 }
     {
@@ -156,10 +152,8 @@ impl<N: SolverId + Drop> ClauseStore<N> {
         ensures number { IfOk result (λ id. id.raw ≡ length (plain N.Scores.score_of
             self.old).learnt) }
         ensures store { OnOk result
-            (Like (plain N.Scores.score_of self.new)
-            (with_learnt literals.items (plain N.Scores.score_of self.old))) }
-        ensures err { OnErr result
-            (Like (plain N.Scores.score_of self.new) (plain N.Scores.score_of self.old)) }
+            (Becomes N.Scores.score_of (with_learnt literals.items) self.old self.new) }
+        ensures err { OnErr result (Stays N.Scores.score_of self.old self.new) }
         ensures ids { IsErrOf result Ids
             → length (plain N.Scores.score_of self.old).learnt ≡ 4294967295 }
     {
@@ -186,10 +180,8 @@ impl<N: SolverId + Drop> ClauseStore<N> {
         ensures number { IfOk result (λ id. id.0 ≡ length (plain N.Scores.score_of
             self.old).clauses) }
         ensures store { OnOk result
-            (Like (plain N.Scores.score_of self.new)
-            (with_clause clause watched (plain N.Scores.score_of self.old))) }
-        ensures err { OnErr result
-            (Like (plain N.Scores.score_of self.new) (plain N.Scores.score_of self.old)) }
+            (Becomes N.Scores.score_of (with_clause clause watched) self.old self.new) }
+        ensures err { OnErr result (Stays N.Scores.score_of self.old self.new) }
         ensures ids { IsErrOf result Ids
             → length (plain N.Scores.score_of self.old).clauses ≡ 4294967295 }
     {
@@ -217,11 +209,8 @@ impl<N: SolverId + Drop> ClauseStore<N> {
     /// Registers a need clause after the others.
     pub fn register(&mut self, need: NeedClause) -> R<()>
         requires { can_register (plain N.Scores.score_of self.old) need ≡ true }
-        ensures store { OnOk result
-            (Like (plain N.Scores.score_of self.new)
-            (with_need need (plain N.Scores.score_of self.old))) }
-        ensures err { OnErr result
-            (Like (plain N.Scores.score_of self.new) (plain N.Scores.score_of self.old)) }
+        ensures store { OnOk result (Becomes N.Scores.score_of (with_need need) self.old self.new) }
+        ensures err { OnErr result (Stays N.Scores.score_of self.old self.new) }
         ensures refusal { IsOkUnless result Memory }
     {
         self.queue.register_clause(need)
@@ -233,10 +222,8 @@ impl<N: SolverId + Drop> ClauseStore<N> {
         ensures met { IfOk result (λ v. v.items ≡ (plain N.Scores.score_of self.old).watchers
             literal) }
         ensures store { OnOk result
-            (Like (plain N.Scores.score_of self.new)
-            (walked literal moves.now (plain N.Scores.score_of self.old))) }
-        ensures err { OnErr result
-            (Like (plain N.Scores.score_of self.new) (plain N.Scores.score_of self.old)) }
+            (Becomes N.Scores.score_of (walked literal moves.now) self.old self.new) }
+        ensures err { OnErr result (Stays N.Scores.score_of self.old self.new) }
         ensures refusal { IsOkUnless result Memory }
     {
         self.watches
@@ -268,10 +255,8 @@ impl<N: SolverId + Drop> ClauseStore<N> {
             ≡ set_for decision.value
             (value_in (plain N.Scores.score_of self.old).trail decision.variable.0)) }
         ensures store { OnOk result
-            (Like (plain N.Scores.score_of self.new)
-            (with_decision decision level (plain N.Scores.score_of self.old))) }
-        ensures err { OnErr result
-            (Like (plain N.Scores.score_of self.new) (plain N.Scores.score_of self.old)) }
+            (Becomes N.Scores.score_of (with_decision decision level) self.old self.new) }
+        ensures err { OnErr result (Stays N.Scores.score_of self.old self.new) }
         ensures refusal { IsOkUnless result Memory }
     {
         self.tracker.try_add_decision(decision, level)
@@ -288,7 +273,7 @@ impl<N: SolverId + Drop> ClauseStore<N> {
     pub fn next_decision(&mut self) -> R<Option<NextDecision>>
         requires { broken_in (plain N.Scores.score_of self.old) ≡ None }
         ensures answer { IfOk result (λ d. d ≡ picked_in (plain N.Scores.score_of self.old)) }
-        ensures store { Like (plain N.Scores.score_of self.new) (plain N.Scores.score_of self.old) }
+        ensures store { Stays N.Scores.score_of self.old self.new }
         ensures refusal { IsOkUnless result Memory }
     {
         self.queue.sync(&self.lists, &mut self.tracker)?;
@@ -300,7 +285,7 @@ impl<N: SolverId + Drop> ClauseStore<N> {
 
     /// Sets whether scores are bumped at all. No answer depends on it.
     pub fn set_standard_activity_params(&mut self, is_standard: bool)
-        ensures { Like (plain N.Scores.score_of self.new) (plain N.Scores.score_of self.old) }
+        ensures { Stays N.Scores.score_of self.old self.new }
     {
         self.queue.set_standard_activity_params(is_standard);
     }
@@ -308,10 +293,8 @@ impl<N: SolverId + Drop> ClauseStore<N> {
     /// Bumps a package's score, to the highest number at most.
     pub fn bump_name(&mut self, name: N, add: u64) -> R<()>
         ensures store { OnOk result
-            (Like (plain N.Scores.score_of self.new)
-            (bumped N.eq name add (plain N.Scores.score_of self.old))) }
-        ensures err { OnErr result
-            (Like (plain N.Scores.score_of self.new) (plain N.Scores.score_of self.old)) }
+            (Becomes N.Scores.score_of (bumped N.eq name add) self.old self.new) }
+        ensures err { OnErr result (Stays N.Scores.score_of self.old self.new) }
         ensures refusal { IsOkUnless result Memory }
     {
         let score = self.scores.get(name).saturating_add(add);
@@ -325,8 +308,7 @@ impl<N: SolverId + Drop> ClauseStore<N> {
     /// Decays each score to this number of millionths, rounded down.
     pub fn decay(&mut self, per_million: u64)
         requires { can_decay per_million ≡ true }
-        ensures { Like (plain N.Scores.score_of self.new)
-            (decayed per_million (plain N.Scores.score_of self.old)) }
+        ensures { Becomes N.Scores.score_of (decayed per_million) self.old self.new }
     {
         self.scores.scale(per_million);
     }
@@ -335,8 +317,7 @@ impl<N: SolverId + Drop> ClauseStore<N> {
     /// where the trail is empty.
     pub fn undo_last(&mut self) -> Option<(Decision, u32)>
         ensures answer { result ≡ last_undone (plain N.Scores.score_of self.old).trail }
-        ensures store { Like (plain N.Scores.score_of self.new)
-            (undone (plain N.Scores.score_of self.old)) }
+        ensures store { Becomes N.Scores.score_of undone self.old self.new }
     {
         if self.tracker.stack().is_empty() {
             return None;
@@ -346,8 +327,7 @@ impl<N: SolverId + Drop> ClauseStore<N> {
 
     /// Removes assignments from the end of the trail, up to the first that is not above a level.
     pub fn undo_until(&mut self, level: u32)
-        ensures { Like (plain N.Scores.score_of self.new)
-            (undone_until level (plain N.Scores.score_of self.old)) }
+        ensures { Becomes N.Scores.score_of (undone_until level) self.old self.new }
     {
         self.tracker.undo_until(level);
     }

@@ -1,7 +1,7 @@
 //! Lists of calls of a clause store: `run`, one call of a list, and the plain lists in the calls.
 ghost use Rattle.std.specs.Prelude.{◌≡◌, map, cond, length, IfOk, IfErr, OnOk, OnErr, IsErrOf, IsOkUnless};
 ghost use Rattle.resolvo_pool_core.specs.declared.want.Want.TheVariants.{Memory, Ids};
-ghost use Rattle.resolvo_store.specs.Stored.{Like, plain};
+ghost use Rattle.resolvo_store.specs.Stored.{plain, Becomes, Stays};
 ghost use Rattle.resolvo_pool_core.specs.ByRequirement.{index_in};
 ghost use Rattle.resolvo_store_core.specs.Trail.{value_in};
 ghost use Rattle.resolvo_store_core.specs.AddPairs.{set_for};
@@ -35,8 +35,7 @@ impl<N: SolverId + Drop> ClauseStore<N> {
             (λ v. map plain_answer v.items
             ≡ answers_of N.eq (plain N.Scores.score_of self.old) calls.now) }
         ensures store { OnOk result
-            (Like (plain N.Scores.score_of self.new)
-            (after N.eq (plain N.Scores.score_of self.old) calls.now)) }
+            (Becomes N.Scores.score_of (λ s. after N.eq s calls.now) self.old self.new) }
         ensures stop { IfErr result
             (StopsAt N.eq calls.now (plain N.Scores.score_of self.old)
             (plain N.Scores.score_of self.new)) }
@@ -55,10 +54,8 @@ impl<N: SolverId + Drop> ClauseStore<N> {
             (λ a. plain_answer a ≡ answer_of (plain N.Scores.score_of self.old)
             call.now) }
         ensures store { OnOk result
-            (Like (plain N.Scores.score_of self.new)
-            (step N.eq (plain N.Scores.score_of self.old) call.now)) }
-        ensures err { OnErr result
-            (Like (plain N.Scores.score_of self.new) (plain N.Scores.score_of self.old)) }
+            (Becomes N.Scores.score_of (λ s. step N.eq s call.now) self.old self.new) }
+        ensures err { OnErr result (Stays N.Scores.score_of self.old self.new) }
         ensures ids { IsErrOf result Ids → LacksNumber (plain N.Scores.score_of self.old) call.now }
     {
         match call {
@@ -113,13 +110,13 @@ impl<N: SolverId + Drop> ClauseStore<N> {
             ≡ cond (can_fix (plain N.Scores.score_of self.old) requirement groups.now) (Done)
             Bad) }
         ensures store { OnOk result
-            (Like (plain N.Scores.score_of self.new)
-            (cond (can_fix (plain N.Scores.score_of self.old) requirement groups.now)
-            (with_candidates requirement (candidates_from groups.now)
-            (plain N.Scores.score_of self.old))
-            (plain N.Scores.score_of self.old))) }
-        ensures err { OnErr result
-            (Like (plain N.Scores.score_of self.new) (plain N.Scores.score_of self.old)) }
+            (Becomes N.Scores.score_of
+            (λ s.
+            cond (can_fix s requirement groups.now)
+            (with_candidates requirement (candidates_from groups.now) s)
+            s)
+            self.old self.new) }
+        ensures err { OnErr result (Stays N.Scores.score_of self.old self.new) }
         ensures ids { IsErrOf result Ids → index_in requirement ≡ 4294967295 }
     {
         if !self.can_fix(requirement, groups) {
@@ -133,10 +130,8 @@ impl<N: SolverId + Drop> ClauseStore<N> {
     fn copy_disjunction(&mut self, alloc: Global, literals: &[Literal]) -> R<StoreAnswer>
         ensures answer { IfOk result (λ a. plain_answer a ≡ Done) }
         ensures store { OnOk result
-            (Like (plain N.Scores.score_of self.new)
-            (with_disjunction literals.now (plain N.Scores.score_of self.old))) }
-        ensures err { OnErr result
-            (Like (plain N.Scores.score_of self.new) (plain N.Scores.score_of self.old)) }
+            (Becomes N.Scores.score_of (with_disjunction literals.now) self.old self.new) }
+        ensures err { OnErr result (Stays N.Scores.score_of self.old self.new) }
         ensures ids { IsErrOf result Ids
             → length (plain N.Scores.score_of self.old).disjunctions ≡ 4294967295 }
     {
@@ -148,10 +143,8 @@ impl<N: SolverId + Drop> ClauseStore<N> {
     fn copy_learnt(&mut self, alloc: Global, literals: &[Literal]) -> R<StoreAnswer>
         ensures answer { IfOk result (λ a. plain_answer a ≡ Done) }
         ensures store { OnOk result
-            (Like (plain N.Scores.score_of self.new)
-            (with_learnt literals.now (plain N.Scores.score_of self.old))) }
-        ensures err { OnErr result
-            (Like (plain N.Scores.score_of self.new) (plain N.Scores.score_of self.old)) }
+            (Becomes N.Scores.score_of (with_learnt literals.now) self.old self.new) }
+        ensures err { OnErr result (Stays N.Scores.score_of self.old self.new) }
         ensures ids { IsErrOf result Ids
             → length (plain N.Scores.score_of self.old).learnt ≡ 4294967295 }
     {
@@ -167,12 +160,10 @@ impl<N: SolverId + Drop> ClauseStore<N> {
             ≡ cond (can_add (plain N.Scores.score_of self.old) clause watched)
             (Added (record { 0 = length (plain N.Scores.score_of self.old).clauses })) Bad) }
         ensures store { OnOk result
-            (Like (plain N.Scores.score_of self.new)
-            (cond (can_add (plain N.Scores.score_of self.old) clause watched)
-            (with_clause clause watched (plain N.Scores.score_of self.old))
-            (plain N.Scores.score_of self.old))) }
-        ensures err { OnErr result
-            (Like (plain N.Scores.score_of self.new) (plain N.Scores.score_of self.old)) }
+            (Becomes N.Scores.score_of
+            (λ s. cond (can_add s clause watched) (with_clause clause watched s) s)
+            self.old self.new) }
+        ensures err { OnErr result (Stays N.Scores.score_of self.old self.new) }
         ensures ids { IsErrOf result Ids
             → length (plain N.Scores.score_of self.old).clauses ≡ 4294967295 }
     {
@@ -188,12 +179,10 @@ impl<N: SolverId + Drop> ClauseStore<N> {
             (λ a. plain_answer a
             ≡ cond (can_register (plain N.Scores.score_of self.old) need) (Done) Bad) }
         ensures store { OnOk result
-            (Like (plain N.Scores.score_of self.new)
-            (cond (can_register (plain N.Scores.score_of self.old) need)
-            (with_need need (plain N.Scores.score_of self.old))
-            (plain N.Scores.score_of self.old))) }
-        ensures err { OnErr result
-            (Like (plain N.Scores.score_of self.new) (plain N.Scores.score_of self.old)) }
+            (Becomes N.Scores.score_of
+            (λ s. cond (can_register s need) (with_need need s) s)
+            self.old self.new) }
+        ensures err { OnErr result (Stays N.Scores.score_of self.old self.new) }
         ensures refusal { IsOkUnless result Memory }
     {
         if !self.can_register(&need) {
@@ -219,13 +208,14 @@ impl<N: SolverId + Drop> ClauseStore<N> {
             (set_for value (value_in (plain N.Scores.score_of self.old).trail variable.0)))
             Bad) }
         ensures store { OnOk result
-            (Like (plain N.Scores.score_of self.new)
-            (cond (can_assign (plain N.Scores.score_of self.old) clause level)
+            (Becomes N.Scores.score_of
+            (λ s.
+            cond (can_assign s clause level)
             (with_decision (record { variable = variable; value = value; derived_from = clause })
-            level (plain N.Scores.score_of self.old))
-            (plain N.Scores.score_of self.old))) }
-        ensures err { OnErr result
-            (Like (plain N.Scores.score_of self.new) (plain N.Scores.score_of self.old)) }
+            level s)
+            s)
+            self.old self.new) }
+        ensures err { OnErr result (Stays N.Scores.score_of self.old self.new) }
         ensures refusal { IsOkUnless result Memory }
     {
         if !self.can_assign(clause, level) {
@@ -242,9 +232,9 @@ impl<N: SolverId + Drop> ClauseStore<N> {
     /// Decays each score, if none grows by it.
     fn try_decay(&mut self, per_million: u64) -> StoreAnswer
         ensures answer { plain_answer result ≡ cond (can_decay per_million) Done Bad }
-        ensures store { Like (plain N.Scores.score_of self.new)
-            (cond (can_decay per_million) (decayed per_million (plain N.Scores.score_of self.old))
-            (plain N.Scores.score_of self.old)) }
+        ensures store { Becomes N.Scores.score_of
+            (λ s. cond (can_decay per_million) (decayed per_million s) s)
+            self.old self.new }
     {
         if per_million > MILLION {
             return StoreAnswer::Bad;
@@ -260,7 +250,7 @@ impl<N: SolverId + Drop> ClauseStore<N> {
             plain_answer a
             ≡ broken_or_next (broken_in (plain N.Scores.score_of self.old))
             (picked_in (plain N.Scores.score_of self.old))) }
-        ensures store { Like (plain N.Scores.score_of self.new) (plain N.Scores.score_of self.old) }
+        ensures store { Stays N.Scores.score_of self.old self.new }
         ensures refusal { IsOkUnless result Memory }
     {
         match self.falsified() {
