@@ -16,7 +16,7 @@ use Rattle.resolvo_text.proofs.SpanLaws.{not_a_span}
 use Rattle.resolvo_text.proofs.PartLaws.{word_takes, skip_takes, skip_is, no_skip, chosen}
 use Rattle.resolvo_report.specs.Value.{Place, Step, Need, Gate, Shared, LimitBars, Limit, Outside, Matches, Lock, Exclude, Unknown, Digit, Any, Derive, Entry, Wished, LeftOut, ReportLine, InstallHead, RefusedHead, Answer, CatalogueLine, RequestLine, Numbered}
 use Rattle.resolvo_report.specs.Text.{version_text, place_text, clause_text, step_words, step_text, line_text, IsLineNumber, IsBit, IsPlace, AreAlternatives, IsStep, HasText}
-use Rattle.resolvo_report.specs.Parse.{pair_at, behind, whole, version_in, version_at, place_at, number_at, line_at, derived_in, limit_in, need_in, gate_in, shared_in, outside_in, matches_in, lock_in, line_in, digit_in, any_in, step_by, left_out_in, numbered_in, entry_in, line_by, is_message, line_read}
+use Rattle.resolvo_report.specs.Parse.{pair_at, behind, whole, version_in, version_at, place_at, number_at, line_at, derived_in, limit_in, need_in, gate_in, shared_in, outside_in, matches_in, lock_in, line_in, digit_in, any_in, definition_by, step_by, left_out_in, numbered_in, entry_in, line_by, is_message, line_read}
 use Rattle.resolvo_report.proofs.FormLaws.{Plain, ArePlain, number_is_plain, version_is_plain, Kind, pair_law, behind_law, whole_kind, number_law, line_number_law, bit_law, line_law, version_law, place_law, spec_law, specs_law, version_in_takes}
 use Rattle.resolvo_report.proofs.StepLaws.{NoSpace-plain, split_plain, is_keyword, at_end, behind_is, derived_takes, derived_again, derived_text, by_text}
 
@@ -128,41 +128,20 @@ lines_kind make = record {
   plain = λ n fits. line_kind.plain n fits;
 }
 
-pub step_takes : (k : List ℕ) (words : Words) (s : Step) → step_by k words ≡ Some s → StepBy k words s
-unfolding step_by
-step_takes k words s e =
-    elim (chosen (bytes_eq k (codes "need")) _ _ _ e) [
-      | inl h ↦ of_kind need_kind (codes "need") k words s (λ x fits. (refl, (fits.0, fits.1.0, fits.1.1))) h.0 h.1
-      | inr e1 ↦ elim (chosen (bytes_eq k (codes "gate")) _ _ _ e1.1) [
-        | inl h ↦ of_kind gate_kind (codes "gate") k words s (λ x fits. (refl, fits)) h.0 h.1
-        | inr e2 ↦ elim (chosen (bytes_eq k (codes "shared")) _ _ _ e2.1) [
-          | inl h ↦ of_kind shared_kind (codes "shared") k words s (λ x fits. (refl, fits)) h.0 h.1
-          | inr e3 ↦ elim (chosen (bytes_eq k (codes "limit")) _ _ _ e3.1) [
-            | inl h ↦ let t = limit_takes words s h.1 in by_words k words s (ap (λ (w : List ℕ). w ∷ words) (is_keyword k (codes "limit") h.0) ∙ t.0) t.1
-            | inr e4 ↦ elim (chosen (bytes_eq k (codes "outside")) _ _ _ e4.1) [
-              | inl h ↦ of_kind outside_kind (codes "outside") k words s (λ x fits. (refl, fits)) h.0 h.1
-              | inr em ↦ elim (chosen (bytes_eq k (codes "matches")) _ _ _ em.1) [
-                | inl h ↦ of_kind matches_kind (codes "matches") k words s (λ x fits. (refl, fits)) h.0 h.1
-                | inr e5 ↦ elim (chosen (bytes_eq k (codes "lock")) _ _ _ e5.1) [
-                  | inl h ↦ of_kind lock_kind (codes "lock") k words s (λ x fits. (refl, fits)) h.0 h.1
-                  | inr e6 ↦ elim (chosen (bytes_eq k (codes "exclude")) _ _ _ e6.1) [
-                    | inl h ↦ of_kind (lines_kind (λ n. Exclude n)) (codes "exclude") k words s (λ x fits. (refl, fits)) h.0 h.1
-                    | inr e7 ↦ elim (chosen (bytes_eq k (codes "unknown")) _ _ _ e7.1) [
-                      | inl h ↦ of_kind (lines_kind (λ n. Unknown n)) (codes "unknown") k words s (λ x fits. (refl, fits)) h.0 h.1
-                      | inr e8 ↦ elim (chosen (bytes_eq k (codes "digit")) _ _ _ e8.1) [
-                        | inl h ↦ of_kind digit_kind (codes "digit") k words s (λ x fits. (refl, (fits.0, fits.1.0, fits.1.1))) h.0 h.1
-                        | inr e9 ↦ elim (chosen (bytes_eq k (codes "any")) _ _ _ e9.1) [
-                          | inl h ↦ of_kind any_kind (codes "any") k words s (λ x fits. (refl, fits)) h.0 h.1
-                          | inr e10 ↦ elim (chosen (bytes_eq k (codes "derive")) _ _ _ e10.1) [
-                            | inl h ↦ derive_by k words s h.0 h.1
-                            | inr e11 ↦ absurd (none e11.1)
-                          ]
-                        ]
-                      ]
-                    ]
-                  ]
-                ]
-              ]
+definition_takes : (k : List ℕ) (words : Words) (s : Step) → definition_by k words ≡ Some s → StepBy k words s
+unfolding definition_by
+definition_takes k words s e =
+    elim (chosen (bytes_eq k (codes "shared")) _ _ _ e) [
+      | inl h ↦ of_kind shared_kind (codes "shared") k words s (λ x fits. (refl, fits)) h.0 h.1
+      | inr e1 ↦ elim (chosen (bytes_eq k (codes "outside")) _ _ _ e1.1) [
+        | inl h ↦ of_kind outside_kind (codes "outside") k words s (λ x fits. (refl, fits)) h.0 h.1
+        | inr e2 ↦ elim (chosen (bytes_eq k (codes "matches")) _ _ _ e2.1) [
+          | inl h ↦ of_kind matches_kind (codes "matches") k words s (λ x fits. (refl, fits)) h.0 h.1
+          | inr e3 ↦ elim (chosen (bytes_eq k (codes "digit")) _ _ _ e3.1) [
+            | inl h ↦ of_kind digit_kind (codes "digit") k words s (λ x fits. (refl, (fits.0, fits.1.0, fits.1.1))) h.0 h.1
+            | inr e4 ↦ elim (chosen (bytes_eq k (codes "any")) _ _ _ e4.1) [
+              | inl h ↦ of_kind any_kind (codes "any") k words s (λ x fits. (refl, fits)) h.0 h.1
+              | inr e5 ↦ absurd (none e5.1)
             ]
           ]
         ]
@@ -171,6 +150,32 @@ step_takes k words s e =
   where
     none : None ≡ Some s → ⊥
     none h = cc
+
+pub step_takes : (k : List ℕ) (words : Words) (s : Step) → step_by k words ≡ Some s → StepBy k words s
+unfolding step_by
+step_takes k words s e =
+    elim (chosen (bytes_eq k (codes "need")) _ _ _ e) [
+      | inl h ↦ of_kind need_kind (codes "need") k words s (λ x fits. (refl, (fits.0, fits.1.0, fits.1.1))) h.0 h.1
+      | inr e1 ↦ elim (chosen (bytes_eq k (codes "gate")) _ _ _ e1.1) [
+        | inl h ↦ of_kind gate_kind (codes "gate") k words s (λ x fits. (refl, fits)) h.0 h.1
+        | inr e2 ↦ elim (chosen (bytes_eq k (codes "limit")) _ _ _ e2.1) [
+          | inl h ↦ let t = limit_takes words s h.1 in by_words k words s (ap (λ (w : List ℕ). w ∷ words) (is_keyword k (codes "limit") h.0) ∙ t.0) t.1
+          | inr e3 ↦ elim (chosen (bytes_eq k (codes "lock")) _ _ _ e3.1) [
+            | inl h ↦ of_kind lock_kind (codes "lock") k words s (λ x fits. (refl, fits)) h.0 h.1
+            | inr e4 ↦ elim (chosen (bytes_eq k (codes "exclude")) _ _ _ e4.1) [
+              | inl h ↦ of_kind (lines_kind (λ n. Exclude n)) (codes "exclude") k words s (λ x fits. (refl, fits)) h.0 h.1
+              | inr e5 ↦ elim (chosen (bytes_eq k (codes "unknown")) _ _ _ e5.1) [
+                | inl h ↦ of_kind (lines_kind (λ n. Unknown n)) (codes "unknown") k words s (λ x fits. (refl, fits)) h.0 h.1
+                | inr e6 ↦ elim (chosen (bytes_eq k (codes "derive")) _ _ _ e6.1) [
+                  | inl h ↦ derive_by k words s h.0 h.1
+                  | inr e7 ↦ definition_takes k words s e7.1
+                ]
+              ]
+            ]
+          ]
+        ]
+      ]
+    ]
 
 -- a step's text is split so, and read so
 pub record StepAgain (s : Step) : Type 0 where
@@ -186,7 +191,7 @@ derive_split : (text : List ℕ) → slice_split is_space (codes "derive" ++ 32 
 derive_split text = slice_split_at is_space (codes "derive") 32 text (NoSpace-plain (codes "derive") refl) refl
 
 pub step_again : (s : Step) → IsStep s → StepAgain s
-unfolding step_by
+unfolding step_by definition_by
 step_again (Need p n k) fits = again_words (Need p n k) (codes "need") _ refl refl (need_kind.plain (p, (n, k)) (fits.0, (fits.1, fits.2))) (need_kind.again (p, (n, k)) (fits.0, (fits.1, fits.2)))
 step_again (Gate v n) fits = again_words (Gate v n) (codes "gate") _ refl refl (gate_kind.plain (v, n) fits) (gate_kind.again (v, n) fits)
 step_again (Shared ss) fits = again_words (Shared ss) (codes "shared") _ refl refl (shared_kind.plain ss fits) (shared_kind.again ss fits)

@@ -165,22 +165,27 @@ digit_in words = whole (pair_at version_at (pair_at (behind_at (codes "place") n
 unfoldable pub any_in : Words → Option Step
 any_in words = whole version_at (λ v. Any v) words
 
--- the step of this keyword and the words after it
+-- the step of this keyword and the words after it, if it defines an atom
+unfoldable pub definition_by : List ℕ → Words → Option Step
+definition_by k words =
+    if bytes_eq k (codes "shared") then shared_in words
+    else if bytes_eq k (codes "outside") then outside_in words
+    else if bytes_eq k (codes "matches") then matches_in words
+    else if bytes_eq k (codes "digit") then digit_in words
+    else if bytes_eq k (codes "any") then any_in words
+    else None
+
+-- the step of this keyword and the words after it: a line's rule, a derived clause, or a definition
 unfoldable pub step_by : List ℕ → Words → Option Step
 step_by k words =
     if bytes_eq k (codes "need") then need_in words
     else if bytes_eq k (codes "gate") then gate_in words
-    else if bytes_eq k (codes "shared") then shared_in words
     else if bytes_eq k (codes "limit") then limit_in words
-    else if bytes_eq k (codes "outside") then outside_in words
-    else if bytes_eq k (codes "matches") then matches_in words
     else if bytes_eq k (codes "lock") then lock_in words
     else if bytes_eq k (codes "exclude") then (line_in words >>= λ n. Some (Exclude n))
     else if bytes_eq k (codes "unknown") then (line_in words >>= λ n. Some (Unknown n))
-    else if bytes_eq k (codes "digit") then digit_in words
-    else if bytes_eq k (codes "any") then any_in words
     else if bytes_eq k (codes "derive") then derived_in (join_with_byte 32 words)
-    else None
+    else definition_by k words
 
 -- ---- lines
 

@@ -15,7 +15,7 @@ ghost use Rattle.resolvo_report.specs.View.{literals_of, step_of, report_line_of
 ghost use Rattle.resolvo_report.specs.Text.{line_text, HasText};
 ghost use Rattle.resolvo_report.specs.Shown.{Shows};
 ghost use Rattle.resolvo_report.specs.Pieces.{texts_of};
-ghost use Rattle.resolvo_report.specs.Parse.{is_semicolon, is_close, text_behind, literals_behind, pieces_in, literals_in, numbers_in, causes_in, causes_behind, derived_in, limit_in, need_in, gate_in, shared_in, outside_in, matches_in, lock_in, digit_in, any_in, step_by, left_out_in, numbered_in, entry_in, line_by, is_message, line_read};
+ghost use Rattle.resolvo_report.specs.Parse.{is_semicolon, is_close, text_behind, literals_behind, pieces_in, literals_in, numbers_in, causes_in, causes_behind, derived_in, limit_in, need_in, gate_in, shared_in, outside_in, matches_in, lock_in, digit_in, any_in, definition_by, step_by, left_out_in, numbered_in, entry_in, line_by, is_message, line_read};
 
 use crate::part::{
     behind, bit_at, line_at, line_in as last_line, line_number_at, literal_behind, number_at,
@@ -260,7 +260,31 @@ fn any_in(alloc: Global, words: &[u8]) -> Result<Step, LineFault>
     Ok(Step::Any { version })
 }
 
-/// The step, from its keyword and the words after it.
+/// The step that defines an atom, from its keyword and the words after it.
+#[tactic(auto, unfolding(crate::specs::Parse::definition_by))]
+fn definition_by(alloc: Global, keyword: &[u8], words: &[u8]) -> Result<Step, LineFault>
+    ensures { Gives (λ s. step_of s) result (definition_by keyword.now (words_in words.now)) }
+{
+    if keyword == b"shared".as_slice() {
+        return shared_in(alloc, words);
+    }
+    if keyword == b"outside".as_slice() {
+        return outside_in(alloc, words);
+    }
+    if keyword == b"matches".as_slice() {
+        return matches_in(alloc, words);
+    }
+    if keyword == b"digit".as_slice() {
+        return digit_in(alloc, words);
+    }
+    if keyword == b"any".as_slice() {
+        return any_in(alloc, words);
+    }
+    Err(LineFault::Fault)
+}
+
+/// The step, from its keyword and the words after it: the rule of a line, a derived clause, or the
+/// definition of an atom.
 #[tactic(auto, unfolding(crate::specs::Parse::step_by))]
 fn step_by(alloc: Global, keyword: &[u8], words: &[u8]) -> Result<Step, LineFault>
     ensures { Gives (λ s. step_of s) result (step_by keyword.now (words_in words.now)) }
@@ -271,17 +295,8 @@ fn step_by(alloc: Global, keyword: &[u8], words: &[u8]) -> Result<Step, LineFaul
     if keyword == b"gate".as_slice() {
         return gate_in(alloc, words);
     }
-    if keyword == b"shared".as_slice() {
-        return shared_in(alloc, words);
-    }
     if keyword == b"limit".as_slice() {
         return limit_in(alloc, words);
-    }
-    if keyword == b"outside".as_slice() {
-        return outside_in(alloc, words);
-    }
-    if keyword == b"matches".as_slice() {
-        return matches_in(alloc, words);
     }
     if keyword == b"lock".as_slice() {
         return lock_in(alloc, words);
@@ -294,16 +309,10 @@ fn step_by(alloc: Global, keyword: &[u8], words: &[u8]) -> Result<Step, LineFaul
         let line = last_line(words)?;
         return Ok(Step::Unknown { line });
     }
-    if keyword == b"digit".as_slice() {
-        return digit_in(alloc, words);
-    }
-    if keyword == b"any".as_slice() {
-        return any_in(alloc, words);
-    }
     if keyword == b"derive".as_slice() {
         return derived_in(alloc, text_of(words));
     }
-    Err(LineFault::Fault)
+    definition_by(alloc, keyword, words)
 }
 
 #[tactic(auto, unfolding(crate::specs::Parse::left_out_in))]
