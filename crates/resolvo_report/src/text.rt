@@ -17,32 +17,28 @@ use std::fmt;
 
 /// A version, as one word.
 #[derive(Clone, Copy)]
-struct OneWord<'a> {
-    version: &'a Version,
-}
+struct OneWord<'a>(&'a Version);
 
 impl fmt::Display for OneWord<'_> {
-    ghost output = { λ w. Some (version_text (version_of w.version.now)) };
+    ghost output = { λ w. Some (version_text (version_of w.0.now)) };
 
     fn fmt<W: fmt::Write>(&self, f: &mut fmt::Formatter<W>) -> fmt::Result {
-        let name = self.version.name.as_str();
-        let number = self.version.number;
+        let name = self.0.name.as_str();
+        let number = self.0.number;
         write!(f, "{name}={number}")
     }
 }
 
 /// A SPEC.
 #[derive(Clone, Copy)]
-struct Asked<'a> {
-    spec: &'a Spec,
-}
+struct Asked<'a>(&'a Spec);
 
 impl fmt::Display for Asked<'_> {
-    ghost output = { λ a. Some (join_with_byte 32 (spec_words (spec_of a.spec.now))) };
+    ghost output = { λ a. Some (join_with_byte 32 (spec_words (spec_of a.0.now))) };
 
     fn fmt<W: fmt::Write>(&self, f: &mut fmt::Formatter<W>) -> fmt::Result {
-        let name = self.spec.name.as_str();
-        match self.spec.span {
+        let name = self.0.name.as_str();
+        match self.0.span {
             Span::Any => write!(f, "{name}"),
             Span::One(number) => write!(f, "{name} {number}"),
             Span::Range(low, high) => write!(f, "{name} {low}..{high}"),
@@ -52,20 +48,16 @@ impl fmt::Display for Asked<'_> {
 
 /// SPECs, separated by `|`, after a space.
 #[derive(Clone, Copy)]
-struct Alternatives<'a> {
-    specs: &'a [Spec],
-}
+struct Alternatives<'a>(&'a [Spec]);
 
 impl fmt::Display for Alternatives<'_> {
-    ghost output = { λ a. Some (spaced (alternatives_words (specs_of a.specs.now))) };
+    ghost output = { λ a. Some (spaced (alternatives_words (specs_of a.0.now))) };
 
     fn fmt<W: fmt::Write>(&self, f: &mut fmt::Formatter<W>) -> fmt::Result {
-        if let Some((spec, others)) = self.specs.split_first() {
-            let first = Asked { spec };
-            write!(f, " {first}")?;
+        if let Some((spec, others)) = self.0.split_first() {
+            write!(f, " {}", Asked(spec))?;
             for spec in others {
-                let next = Asked { spec };
-                write!(f, " | {next}")?;
+                write!(f, " | {}", Asked(spec))?;
             }
         }
         Ok(())
@@ -78,10 +70,7 @@ impl fmt::Display for Place {
     fn fmt<W: fmt::Write>(&self, f: &mut fmt::Formatter<W>) -> fmt::Result {
         match self {
             Place::Request => write!(f, "request"),
-            Place::Version(version) => {
-                let word = OneWord { version };
-                write!(f, "{word}")
-            }
+            Place::Version(version) => write!(f, "{}", OneWord(version)),
         }
     }
 }
@@ -91,28 +80,14 @@ impl fmt::Display for Atom {
 
     fn fmt<W: fmt::Write>(&self, f: &mut fmt::Formatter<W>) -> fmt::Result {
         match self {
-            Atom::Version(version) => {
-                let word = OneWord { version };
-                write!(f, "{word}")
-            }
+            Atom::Version(version) => write!(f, "{}", OneWord(version)),
             Atom::Any { name } => {
                 let name = name.as_str();
                 write!(f, "any {name}")
             }
-            Atom::Shared { alternatives } => {
-                let specs = Alternatives {
-                    specs: alternatives,
-                };
-                write!(f, "shared{specs}")
-            }
-            Atom::Outside { spec } => {
-                let asked = Asked { spec };
-                write!(f, "outside {asked}")
-            }
-            Atom::Matches { spec } => {
-                let asked = Asked { spec };
-                write!(f, "matches {asked}")
-            }
+            Atom::Shared { alternatives } => write!(f, "shared{}", Alternatives(alternatives)),
+            Atom::Outside { spec } => write!(f, "outside {}", Asked(spec)),
+            Atom::Matches { spec } => write!(f, "matches {}", Asked(spec)),
             Atom::Bit { bit, name } => {
                 let name = name.as_str();
                 write!(f, "bit {bit} of {name}")
@@ -136,15 +111,13 @@ impl fmt::Display for Literal {
 
 /// A clause, in brackets.
 #[derive(Clone, Copy)]
-struct Clause<'a> {
-    literals: &'a [Literal],
-}
+struct Clause<'a>(&'a [Literal]);
 
 impl fmt::Display for Clause<'_> {
-    ghost output = { λ c. Some (clause_text (literals_of c.literals.now)) };
+    ghost output = { λ c. Some (clause_text (literals_of c.0.now)) };
 
     fn fmt<W: fmt::Write>(&self, f: &mut fmt::Formatter<W>) -> fmt::Result {
-        let Some((first, others)) = self.literals.split_first() else {
+        let Some((first, others)) = self.0.split_first() else {
             return write!(f, "[]");
         };
         write!(f, "[{first}")?;
@@ -157,15 +130,13 @@ impl fmt::Display for Clause<'_> {
 
 /// The numbers of steps, a space before each.
 #[derive(Clone, Copy)]
-struct Causes<'a> {
-    numbers: &'a [u32],
-}
+struct Causes<'a>(&'a [u32]);
 
 impl fmt::Display for Causes<'_> {
-    ghost output = { λ c. Some (causes_text c.numbers.now) };
+    ghost output = { λ c. Some (causes_text c.0.now) };
 
     fn fmt<W: fmt::Write>(&self, f: &mut fmt::Formatter<W>) -> fmt::Result {
-        for number in self.numbers {
+        for number in self.0 {
             write!(f, " {number}")?;
         }
         Ok(())
@@ -181,22 +152,15 @@ impl fmt::Display for AnswerLine {
                 version,
                 place,
                 line,
-            } => {
-                let word = OneWord { version };
-                write!(f, "{word} for {place} line {line}")
-            }
+            } => write!(f, "{} for {place} line {line}", OneWord(version)),
             AnswerLine::Wished { version, line } => {
-                let word = OneWord { version };
-                write!(f, "{word} wished line {line}")
+                write!(f, "{} wished line {line}", OneWord(version))
             }
             AnswerLine::LeftOut {
                 version,
                 line,
                 step,
-            } => {
-                let word = OneWord { version };
-                write!(f, "left out {word} line {line} by {step}")
-            }
+            } => write!(f, "left out {} line {line} by {step}", OneWord(version)),
         }
     }
 }
@@ -207,38 +171,22 @@ impl fmt::Display for Step {
     fn fmt<W: fmt::Write>(&self, f: &mut fmt::Formatter<W>) -> fmt::Result {
         match self {
             Step::Need { place, line, case } => write!(f, "need {place} line {line} case {case}"),
-            Step::Gate { version, line } => {
-                let word = OneWord { version };
-                write!(f, "gate {word} line {line}")
-            }
-            Step::Shared { alternatives } => {
-                let specs = Alternatives {
-                    specs: alternatives,
-                };
-                write!(f, "shared{specs}")
-            }
+            Step::Gate { version, line } => write!(f, "gate {} line {line}", OneWord(version)),
+            Step::Shared { alternatives } => write!(f, "shared{}", Alternatives(alternatives)),
             Step::LimitBars {
                 place,
                 line,
                 version,
-            } => {
-                let word = OneWord { version };
-                write!(f, "limit {place} line {line} bars {word}")
-            }
+            } => write!(f, "limit {place} line {line} bars {}", OneWord(version)),
             Step::Limit { place, line } => write!(f, "limit {place} line {line}"),
             Step::Outside { spec, version } => {
-                let asked = Asked { spec };
-                let word = OneWord { version };
-                write!(f, "outside {asked} holds {word}")
+                write!(f, "outside {} holds {}", Asked(spec), OneWord(version))
             }
             Step::Matches { spec, version } => {
-                let asked = Asked { spec };
-                let word = OneWord { version };
-                write!(f, "matches {asked} holds {word}")
+                write!(f, "matches {} holds {}", Asked(spec), OneWord(version))
             }
             Step::Lock { line, version } => {
-                let word = OneWord { version };
-                write!(f, "lock line {line} bars {word}")
+                write!(f, "lock line {line} bars {}", OneWord(version))
             }
             Step::Exclude { line } => write!(f, "exclude line {line}"),
             Step::Unknown { line } => write!(f, "unknown line {line}"),
@@ -246,18 +194,10 @@ impl fmt::Display for Step {
                 version,
                 place,
                 bit,
-            } => {
-                let word = OneWord { version };
-                write!(f, "digit {word} place {place} bit {bit}")
-            }
-            Step::Any { version } => {
-                let word = OneWord { version };
-                write!(f, "any {word}")
-            }
+            } => write!(f, "digit {} place {place} bit {bit}", OneWord(version)),
+            Step::Any { version } => write!(f, "any {}", OneWord(version)),
             Step::Derive { literals, causes } => {
-                let clause = Clause { literals };
-                let numbers = Causes { numbers: causes };
-                write!(f, "derive {clause} by{numbers}")
+                write!(f, "derive {} by{}", Clause(literals), Causes(causes))
             }
         }
     }
