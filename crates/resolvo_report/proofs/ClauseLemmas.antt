@@ -1,19 +1,13 @@
 -- Literals and numbers, one after the other, and the order of literals.
-use Rattle.std.proofs.Common.{◌≡◌, ℕ, zero, suc, Bool, true, false, not, cond, ◌&&◌, ◌||◌, drop, Bor, List, [], ◌∷◌, ◌++◌, ◌+◌, ◌<◌, ◌≤◌, length, map, get_or, subst, arith, Option, Some, None, refl, sym, ap, ◌∙◌}
+use Rattle.std.proofs.Common.{◌≡◌, ℕ, List, [], ◌∷◌, ◌++◌, ◌+◌, ◌<◌, length, Option, Some, None, refl, sym, ◌∙◌}
 use Rattle.resolvo_text.specs.Parse.{◌>>=◌}
 use Rattle.resolvo_report.specs.Value.{Literal}
-use Rattle.resolvo_report.specs.Parse.{numbers_in, atom_part}
-use Rattle.resolvo_report.specs.Text.{is_before, are_rising, are_once}
-use Rattle.std.specs.Str.{bytes_eq}
-use Rattle.std.specs.List.{list_any}
+use Rattle.resolvo_report.specs.Parse.{numbers_in}
 use Rattle.resolvo_text.specs.declared.line.LineFault.{LineFault}
 use Rattle.resolvo_text.specs.declared.line.LineFault.TheVariants.{Fault, Memory}
 use Rattle.resolvo_text.specs.Parse.{Fails, word_at, end_at, number_in, words_in}
 use Rattle.resolvo_text.proofs.WordLemmas.{not_at_end}
-use Rattle.resolvo_report.specs.Pieces.{texts_of}
-use Rattle.std.proofs.lemmas.List.{drop_more}
 use Rattle.resolvo_text.specs.Spelling.{Words}
-use Rattle.std.proofs.lemmas.Bool.{and_parts}
 
 -- the elements read so far, and the rest
 abbrev pub with_literals : List Literal → Option (List Literal) → Option (List Literal)

@@ -1,5 +1,5 @@
 -- Reading a line of a report from left to right.
-use Rattle.std.specs.Prelude.{ℕ, ◌+◌, take, drop, length, Bool, true, false, ◌&&◌, ◌==◌, nat_lt, if◌then◌else◌, List, [], ◌∷◌, Option, Some, None, map, codes}
+use Rattle.std.specs.Prelude.{ℕ, ◌+◌, take, drop, length, Bool, true, false, ◌==◌, nat_lt, if◌then◌else◌, List, [], ◌∷◌, Option, Some, None, map, codes}
 use Rattle.std.specs.List.{position, slice_split, join_with_byte}
 use Rattle.std.specs.Str.{bytes_eq}
 use Rattle.resolvo_text.specs.Line.{Version, Spec}

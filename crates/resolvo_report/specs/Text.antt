@@ -1,10 +1,7 @@
 -- The one text of a report and of each of its lines, and which values have one.
-use Rattle.std.specs.Prelude.{ℕ, ◌+◌, ◌<◌, ◌≤◌, Bool, true, false, not, ◌&&◌, IsTrue, ⊤, List, [], ◌∷◌, ◌++◌, length, map, codes}
-use Rattle.std.specs.List.{AllByRecursion, join_with_byte, flat_map, list_any, list_all}
+use Rattle.std.specs.Prelude.{ℕ, ◌+◌, ◌<◌, ◌≤◌, Bool, true, false, not, IsTrue, ⊤, List, [], ◌∷◌, ◌++◌, length, map, codes}
+use Rattle.std.specs.List.{AllByRecursion, join_with_byte, flat_map, list_all}
 use Rattle.std.specs.Fmt.{decimal}
-use Rattle.std.specs.Str.{bytes_eq}
-use Rattle.std.specs.Ordering.{is_lt, nat_cmp}
-use Rattle.std.specs.Cmp.Lexicographic.{slice_cmp}
 use Rattle.resolvo_text.specs.Line.{Version, Spec}
 use Rattle.resolvo_text.specs.Lines.{is_newline}
 use Rattle.resolvo_text.specs.Spelling.{Words, is_name, spec_words, alternatives_words, IsNumber, IsVersion, IsSpec}

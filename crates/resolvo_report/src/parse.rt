@@ -3,16 +3,13 @@
 //! A line is parsed from left to right, as in specs/Parse.antt. The reader of whole reports calls
 //! `line_shown`.
 
-ghost use Rattle.std.specs.Prelude.{◌≡◌, if◌then◌else◌, Some, None, Err, IfOk, length, map, drop};
+ghost use Rattle.std.specs.Prelude.{◌≡◌, if◌then◌else◌, Some, None, Err, IfOk, map, drop};
 ghost use Rattle.std.specs.Option.{option_map};
 ghost use Rattle.std.specs.List.{position, join_with_byte, slice_split};
 ghost use Rattle.resolvo_text.specs.declared.line.LineFault.TheVariants.{Fault};
-ghost use Rattle.resolvo_text.specs.Lines.{newlines};
 ghost use Rattle.resolvo_text.specs.View.{version_of};
 ghost use Rattle.resolvo_text.specs.Parse.{Gives, words_in};
-ghost use Rattle.resolvo_report.specs.Value as model;
 ghost use Rattle.resolvo_report.specs.View.{literals_of, step_of, report_line_of};
-ghost use Rattle.resolvo_report.specs.Text.{line_text, HasText};
 ghost use Rattle.resolvo_report.specs.Shown.{Shows};
 ghost use Rattle.resolvo_report.specs.Pieces.{texts_of};
 ghost use Rattle.resolvo_report.specs.Parse.{is_semicolon, is_close, text_behind, literals_behind, pieces_in, literals_in, numbers_in, causes_in, causes_behind, derived_in, limit_in, need_in, gate_in, shared_in, outside_in, matches_in, lock_in, digit_in, any_in, definition_by, step_by, left_out_in, numbered_in, entry_in, line_by, is_message, line_read};

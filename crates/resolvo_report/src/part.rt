@@ -2,12 +2,11 @@
 //!
 //! A part is parsed from the remaining words of a line, as in specs/Parse.antt.
 
-ghost use Rattle.std.specs.Prelude.{◌≡◌, length, map, IfOk};
+ghost use Rattle.std.specs.Prelude.{◌≡◌};
 ghost use Rattle.std.specs.List.{position};
-ghost use Rattle.std.specs.Option.{option_map};
 ghost use Rattle.resolvo_text.specs.View.{version_of, specs_of};
 ghost use Rattle.resolvo_text.specs.Parse.{Gives, words_in};
-ghost use Rattle.resolvo_report.specs.View.{place_of, atom_of, literal_of, literals_of};
+ghost use Rattle.resolvo_report.specs.View.{place_of, atom_of, literal_of};
 ghost use Rattle.resolvo_report.specs.Parse.{is_equals, behind, version_in, version_at, place_at, number_at, line_number_at, bit_at, line_at, specs_at, atom_by, atom_in, literal_in, literal_behind, line_in};
 
 use crate::step::{Atom, Literal, Place};

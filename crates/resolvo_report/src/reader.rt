@@ -4,7 +4,7 @@
 //! allowed. A line of a message has a copy of its bytes, or none.
 //! The judge takes one line after the other; `Report::read` keeps them all.
 
-ghost use Rattle.std.specs.Prelude.{◌≡◌, ℕ, ◌+◌, ◌≤◌, ◌++◌, ◌∷◌, [], Option, Some, None, IfOk, IfSome, IfNone, IfErr, OnOk, false};
+ghost use Rattle.std.specs.Prelude.{◌≡◌, ◌+◌, ◌≤◌, ◌∷◌, [], Option, Some, None, IfOk, IfSome, IfNone, IfErr, OnOk, false};
 ghost use Rattle.resolvo_text.specs.Device.{IfKnown};
 ghost use Rattle.resolvo_report.specs.View.{report_of, report_line_of};
 ghost use Rattle.resolvo_report.specs.Text.{report_lines, report_text};

@@ -2,8 +2,8 @@
 //!
 //! Each text is the one of specs/Text.antt. The writer of reports calls these.
 
-ghost use Rattle.std.specs.Prelude.{◌≡◌, Some, map};
-ghost use Rattle.std.specs.List.{join_with_byte, flat_map};
+ghost use Rattle.std.specs.Prelude.{Some};
+ghost use Rattle.std.specs.List.{join_with_byte};
 ghost use Rattle.resolvo_text.specs.Spelling.{spec_words, alternatives_words};
 ghost use Rattle.resolvo_text.specs.View.{version_of, spec_of, specs_of};
 ghost use Rattle.resolvo_report.specs.View.{place_of, atom_of, literal_of, literals_of, step_of, answer_line_of};
