@@ -102,31 +102,21 @@ impl Writing<'_> {
             ProofRule::Outside {
                 version_set,
                 solvable,
-            } => Ok(Step::Outside {
-                spec: self.provider.spec_of(*version_set)?,
-                version: self.version(*solvable)?,
-            }),
+            } => self.outside(*version_set, *solvable),
             ProofRule::Locked { barred, .. } => self.lock(*barred),
             ProofRule::Excluded { solvable, reason } => Ok(self.exclusion(*solvable, *reason)),
             ProofRule::Digit {
                 solvable,
                 place,
                 bit,
-            } => Ok(Step::Digit {
-                version: self.version(*solvable)?,
-                place: *place,
-                bit: *bit,
-            }),
+            } => self.digit(*solvable, *place, *bit),
             ProofRule::AtLeastOne { solvable, .. } => Ok(Step::Any {
                 version: self.version(*solvable)?,
             }),
             ProofRule::Matches {
                 version_set,
                 solvable,
-            } => Ok(Step::Matches {
-                spec: self.provider.spec_of(*version_set)?,
-                version: self.version(*solvable)?,
-            }),
+            } => self.matches(*version_set, *solvable),
         }
     }
 
@@ -312,6 +302,51 @@ impl Writing<'_> {
             Some(WordLine::Unknown(line)) => Step::Unknown { line },
             None => Step::Exclude { line: 0 },
         }
+    }
+
+    /// The step that defines a version outside a version set.
+    fn outside(self, version_set: VersionSetId, solvable: SolvableId) -> R<Step>
+        ensures outside { IfOk result
+            (λ w.
+            step_of w
+            ≡ in_report.Outside (spec_at self.entry.provider.now.ids version_set)
+            (version_at self.entry.texts.catalogue.now solvable)) }
+        ensures refusal { IsOkUnless result Memory }
+    {
+        Ok(Step::Outside {
+            spec: self.provider.spec_of(version_set)?,
+            version: self.version(solvable)?,
+        })
+    }
+
+    /// The step that defines a match of a version set.
+    fn matches(self, version_set: VersionSetId, solvable: SolvableId) -> R<Step>
+        ensures matches { IfOk result
+            (λ w.
+            step_of w
+            ≡ in_report.Matches (spec_at self.entry.provider.now.ids version_set)
+            (version_at self.entry.texts.catalogue.now solvable)) }
+        ensures refusal { IsOkUnless result Memory }
+    {
+        Ok(Step::Matches {
+            spec: self.provider.spec_of(version_set)?,
+            version: self.version(solvable)?,
+        })
+    }
+
+    /// The step of a binary digit of a version's place.
+    fn digit(self, solvable: SolvableId, place: u32, bit: u32) -> R<Step>
+        ensures digit { IfOk result
+            (λ w.
+            step_of w
+            ≡ in_report.Digit (version_at self.entry.texts.catalogue.now solvable) place bit) }
+        ensures refusal { IsOkUnless result Memory }
+    {
+        Ok(Step::Digit {
+            version: self.version(solvable)?,
+            place,
+            bit,
+        })
     }
 
     /// The number of a parent's version; the root has none.
