@@ -102,31 +102,17 @@ fn link<N: Copy + Exact + Hash + Debug, S: Copy + Exact + Hash + Debug>(
             parent,
             requirement,
             ..
-        } => {
-            link_need(offers, *parent, *requirement, links)?;
-        }
-        ProofRule::Shared { requirement } => {
-            link_gate(offers, shares.gates.get(*requirement), *requirement, links)?;
-        }
+        } => link_need(offers, *parent, *requirement, links)?,
+        ProofRule::Shared { requirement } => link_gate(offers, shares, *requirement, links)?,
         ProofRule::Limit {
             parent,
             version_set,
             barred,
-        } => {
-            let outsides = shares.outsides.get(*version_set);
-            link_limit(*parent, *version_set, *barred, outsides, links)?;
-        }
+        } => link_limit(shares, *parent, *version_set, *barred, links)?,
         ProofRule::Outside {
             version_set,
             solvable,
-        } => {
-            link_outside(
-                *version_set,
-                *solvable,
-                shares.limits.get(*version_set),
-                links,
-            )?;
-        }
+        } => link_outside(shares, *version_set, *solvable, links)?,
         ProofRule::Locked { locked, barred } => links.push(Link::Locked {
             locked: *locked,
             barred: *barred,
@@ -174,37 +160,40 @@ fn link_need<S: Copy + Exact + Hash + Debug>(
     Ok(())
 }
 
-/// Links each of these parents, which open the requirement's gate, to its candidates.
+/// Links each parent that opens the requirement's gate to its candidates.
 fn link_gate<S: Copy + Exact + Hash + Debug>(
     offers: &Offers<S>,
-    parents: &[S],
+    shares: &Shares<S>,
     requirement: Requirement,
     links: &mut Vec<Link<S>>,
 ) -> R<()>
     ensures links { OnOk result
         (links.new.items
         ≡ links.old.items ++ flat_map
-        (λ s. needed (Some s) requirement (offered_by offers.now requirement)) parents.now) }
+        (λ s. needed (Some s) requirement (offered_by offers.now requirement))
+        (parents_in shares.now requirement)) }
     ensures refusal { IsOkUnless result Memory }
 {
+    let parents = shares.gates.get(requirement);
     for parent in parents {
         link_need(offers, Some(*parent), requirement, links)?;
     }
     Ok(())
 }
 
-/// Links a parent to the solvable that its constraint bars, or to each of these, which are outside
-/// its version set.
+/// Links a parent to the solvable that its constraint bars, or to each that is outside its version
+/// set.
 fn link_limit<S: Copy + Exact + Hash + Debug>(
+    shares: &Shares<S>,
     parent: Option<S>,
     version_set: VersionSetId,
     barred: Option<S>,
-    outsides: &[S],
     links: &mut Vec<Link<S>>,
 ) -> R<()>
     ensures links { OnOk result
         (links.new.items
-        ≡ links.old.items ++ limited parent version_set outsides.now barred) }
+        ≡ links.old.items ++ limited parent version_set (outsiders_in shares.now version_set)
+        barred) }
     ensures refusal { IsOkUnless result Memory }
 {
     if let Some(solvable) = barred {
@@ -215,6 +204,7 @@ fn link_limit<S: Copy + Exact + Hash + Debug>(
         })?;
         return Ok(());
     }
+    let outsides = shares.outsides.get(version_set);
     for solvable in outsides {
         links.push(Link::Constrains {
             parent,
@@ -225,19 +215,20 @@ fn link_limit<S: Copy + Exact + Hash + Debug>(
     Ok(())
 }
 
-/// Links each of these parents, which have the version set, to a solvable that is outside it.
+/// Links each parent with the version set to a solvable that is outside it.
 fn link_outside<S: Copy + Exact + Hash + Debug>(
+    shares: &Shares<S>,
     version_set: VersionSetId,
     solvable: S,
-    parents: &[Option<S>],
     links: &mut Vec<Link<S>>,
 ) -> R<()>
     ensures links { OnOk result
         (links.new.items
         ≡ links.old.items ++ map (λ parent. Constrains parent version_set solvable)
-        parents.now) }
+        (limiters_in shares.now version_set)) }
     ensures refusal { IsOkUnless result Memory }
 {
+    let parents = shares.limits.get(version_set);
     for parent in parents {
         links.push(Link::Constrains {
             parent: *parent,
