@@ -11,7 +11,7 @@ use Rattle.std.proofs.lemmas.Bool.{and_from, and_parts, eq-eqb, lt-ltb}
 use Rattle.resolvo_catalogue_core.proofs.PlaceLemmas.{contains_from_at}
 use Rattle.resolvo_catalogue.proofs.MarkLemmas.{one_some}
 use Rattle.resolvo_sat.proofs.Lists.{contains_none, contains_cases, contains_first, contains_later, contains_map, map_contains, any_contained}
-use Rattle.resolvo_report.specs.Value.{Literal, Step, Report, ReportLine, RefusedHead, CatalogueLine, RequestLine, Numbered, Refused}
+use Rattle.resolvo_report.specs.Value.{Literal, Step, ReportLine, CatalogueLine, RequestLine, Numbered, Refused}
 use Rattle.resolvo_report.specs.Value as in_report
 use Rattle.resolvo_report.specs.Text.{atom_text, literal_text, numbered, are_rising, are_once, is_before, IsLineNumber, IsAtom, IsStep, HasText}
 use Rattle.resolvo_report.specs.Grammar.{next_part, part_after, AreLines, IsReport}

@@ -4,7 +4,7 @@ use Rattle.std.specs.Prelude.{Contains, nat_eq, ◌||◌}
 use Rattle.std.proofs.lemmas.Bool.{cases_Bool, false≢true}
 use Rattle.resolvo_pool_core.specs.declared.id.ClauseId.{ClauseId}
 use Rattle.resolvo_pool_core.specs.OnePass as Pass
-use Rattle.resolvo_pool_core.specs.OnePass.{Literal, negate, is_denied, is_broken, reading, learn, refutes, one_pass, IsFalseUnder, RefutesFrom, HasNoOpposites}
+use Rattle.resolvo_pool_core.specs.OnePass.{Literal, negate, is_denied, is_broken, reading, learn, refutes, one_pass, IsFalseUnder, HasNoOpposites}
 use Rattle.resolvo_pool_core.proofs.PassLearns.{literal_is, literal_own, refuted_from}
 use Rattle.resolvo_store_core.specs.Signed.{Signed, negation, same_literal, has}
 use Rattle.resolvo_store_core.specs.Clauses.{yes, no, root as root_variable}

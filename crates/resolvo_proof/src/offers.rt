@@ -1,6 +1,6 @@
 //! The candidates that were offered for requirements, each list in the order in which it is tried.
 //! The caller of `conflict_graph` fills it first, from the provider's cache.
-ghost use Rattle.std.specs.Prelude.{◌≡◌, [], IfOk, OnOk, OnErr, IsErrOf, IsOkUnless, true, false};
+ghost use Rattle.std.specs.Prelude.{◌≡◌, [], IfOk, OnOk, OnErr, IsErrOf, IsOkUnless, false};
 ghost use Rattle.resolvo_pool_core.specs.declared.requirement.Requirement.{Requirement};
 ghost use Rattle.resolvo_pool_core.specs.declared.want.Want.TheVariants.{Ids, Memory};
 ghost use Rattle.resolvo_pool_core.specs.ByRequirement.{index_in};
