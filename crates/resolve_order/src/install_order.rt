@@ -5,13 +5,12 @@
 //! on. Lines that wait for their condition are looked at again after each entry. Called by the
 //! writer of the report of a search.
 
-ghost use Rattle.std.specs.Prelude.{◌≡◌, ◌↔◌, ◌++◌, ◌∷◌, [], ◌+◌, ◌<◌, length, true, List, Option, Contains, map, slice_get, Some, IfOk, IfSome, OnOk};
+ghost use Rattle.std.specs.Prelude.{◌≡◌, ◌↔◌, ◌++◌, ◌∷◌, [], ◌+◌, ◌<◌, length, true, List, Option, Contains, slice_get, Some, IfOk, IfSome, OnOk};
 ghost use Rattle.std.specs.Option.{option_copied, option_map};
 ghost use Rattle.resolvo_text.specs.Line as content;
 ghost use Rattle.resolvo_text.specs.Matches.{Set};
 ghost use Rattle.resolvo_catalogue_core.specs.Answers.{IsReasoned, entries_of};
 ghost use Rattle.resolvo_catalogue_core.specs.Listed.{listed, members};
-ghost use Rattle.resolvo_catalogue_core.specs.Table.{nth};
 ghost use Rattle.resolve_order.specs.Order.{line_named, wish_entry, IsComplete, Chose, LeavesOut, AreTurns, AreReached, chosen_by, chosen_in, wishes_in};
 ghost use Rattle.resolve_order.specs.declared.entry.Answer.TheVariants as answer;
 ghost use Rattle.resolve_order.specs.View.{reason_of, answers_of, wish_at, turn_of, turns_of, IsAccepted, IsWishOf, AreNumbered, AreTurnsOf};
