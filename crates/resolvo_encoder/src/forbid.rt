@@ -149,7 +149,8 @@ impl<N: Copy + Exact + Hash + Debug + Drop, S: Copy + Exact + Hash + Debug> Enco
     /// Forbids each of these.
     fn forbid_each(&mut self, alloc: Global, barred: &[ForbiddenSolvable<S>]) -> R<()>
         requires { IsBuilt self.old }
-        ensures encodes { OnOk result (EncodesRules S.eq (forbid_rules barred.now) self.old self.new) }
+        ensures encodes { OnOk result
+            (EncodesRules S.eq (forbid_rules barred.now) self.old self.new) }
         ensures ids { IsErrOf result Ids → LacksNumber self.new.coding }
     {
         for one in barred {
@@ -186,7 +187,8 @@ impl<N: Copy + Exact + Hash + Debug + Drop, S: Copy + Exact + Hash + Debug> Enco
         outside: &[Offered<N, S>],
     ) -> R<()>
         requires { IsBuilt self.old }
-        ensures encodes { OnOk result (EncodesRules S.eq (out_rules version_set outside.now) self.old self.new) }
+        ensures encodes { OnOk result
+            (EncodesRules S.eq (out_rules version_set outside.now) self.old self.new) }
         ensures ids { IsErrOf result Ids → LacksNumber self.new.coding }
     {
         for one in outside {

@@ -1,6 +1,6 @@
-//! Clauses of matches, for the conditions' version sets of packages that are marked `many`: a chosen
-//! match makes the version set's variable true. One outside it may be chosen beside a match, so it
-//! says nothing of a case.
+//! Clauses of matches, for the conditions' version sets of packages that are marked `many`: a
+//! chosen match makes the version set's variable true. One outside it may be chosen beside a match,
+//! so it says nothing of a case.
 ghost use Rattle.std.specs.Prelude.{◌≡◌, ◌∷◌, [], true, OnOk, IfOk, IsErrOf, IsOkUnless};
 ghost use Rattle.resolvo_pool_core.specs.declared.want.Want.TheVariants.{Memory, Ids};
 ghost use Rattle.resolvo_sat.specs.RuleClauses.{Rule};
@@ -44,7 +44,8 @@ impl<N: Copy + Exact + Hash + Debug + Drop, S: Copy + Exact + Hash + Debug> Enco
     ) -> R<Vec<Literal>>
         requires built { IsBuilt self.old }
         requires many { set.now.many ≡ true }
-        ensures literals { IfOk result (λ v. CaseLiterals S.eq (set.now ∷ []) v.items self.old self.new) }
+        ensures literals { IfOk result
+            (λ v. CaseLiterals S.eq (set.now ∷ []) v.items self.old self.new) }
         ensures ids { IsErrOf result Ids → LacksNumber self.new.coding }
     {
         self.hold_matches(alloc, set.version_set, set.matching.as_slice())?;
