@@ -70,7 +70,9 @@ fn add_version(
     version: &Version,
     number: VersionNo,
 ) -> Result<bool, AllocError>
-    requires kept { (name : List ℕ) (p : Package) → get_by_text packages.old name ≡ Some p → IsNumbered p }
+    requires kept { (name : List ℕ) (p : Package)
+        → get_by_text packages.old name ≡ Some p
+        → IsNumbered p }
     ensures new { IfOk result
         (λ added.
         added
@@ -118,7 +120,8 @@ impl Table {
 
     pub fn find(&self, name: &str, number: u32) -> Option<VersionNo>
         requires { IsTable self.now }
-        ensures { option_map number_of result ≡ number_in (get_by_text self.now.packages name.now) number }
+        ensures { option_map number_of result
+            ≡ number_in (get_by_text self.now.packages name.now) number }
     {
         let package = self.packages.get(name)?;
         package.find(number)
@@ -157,7 +160,8 @@ impl Table {
     }
 
     pub fn rule(&self, line: u32) -> Option<&Rule>
-        ensures { option_copied result ≡ option_and_then rule_of (kind_at (kinds_in self.now) line) }
+        ensures { option_copied result
+            ≡ option_and_then rule_of (kind_at (kinds_in self.now) line) }
     {
         self.line_kinds.rule(line)
     }
@@ -236,8 +240,10 @@ impl Table {
     /// The number of a version that must be listed.
     pub fn listed(&self, version: &Version) -> Result<VersionNo, LineFault>
         requires { IsTable self.now }
-        ensures found { IfOk result (λ n. slice_get (versions_in self.now) n.0 ≡ Some (version_of version.now)) }
-        ensures absent { OnErr result (Contains (lines_in self.now) (parsed.Listed (version_of version.now)) → ⊥) }
+        ensures found { IfOk result
+            (λ n. slice_get (versions_in self.now) n.0 ≡ Some (version_of version.now)) }
+        ensures absent { OnErr result
+            (Contains (lines_in self.now) (parsed.Listed (version_of version.now)) → ⊥) }
     {
         match self.find(&version.name, version.number) {
             Some(number) => Ok(number),
@@ -305,7 +311,8 @@ impl Table {
         requires table { IsTable self.old }
         requires short { length (lines_in self.old) < 16777216 }
         ensures ok { OnOk result (Adds self.old (parsed.Listed (version_of version)) self.new) }
-        ensures placed { OnOk result (MayFollow (lines_in self.old) (parsed.Listed (version_of version))) }
+        ensures placed { OnOk result
+            (MayFollow (lines_in self.old) (parsed.Listed (version_of version))) }
         ensures fault { result ≡ Err Fault
             → MayFollow (lines_in self.old) (parsed.Listed (version_of version))
             → ⊥ }
@@ -357,8 +364,11 @@ impl Table {
         requires short { line < 16777217 }
         // After an answer.
         ensures ok { OnOk result (Adds self.old (parsed.Limits (spec_of spec)) self.new) }
-        ensures placed { OnOk result (MayFollow (lines_in self.old) (parsed.Limits (spec_of spec))) }
-        ensures fault { result ≡ Err Fault → MayFollow (lines_in self.old) (parsed.Limits (spec_of spec)) → ⊥ }
+        ensures placed { OnOk result
+            (MayFollow (lines_in self.old) (parsed.Limits (spec_of spec))) }
+        ensures fault { result ≡ Err Fault
+            → MayFollow (lines_in self.old) (parsed.Limits (spec_of spec))
+            → ⊥ }
     {
         let owner = self.owner()?;
         self.owned.add_line(owner, line)?;
@@ -375,7 +385,8 @@ impl Table {
         requires short { line < 16777217 }
         // After an answer.
         ensures ok { OnOk result (Adds self.old (parsed.Unknown (string_bytes word)) self.new) }
-        ensures placed { OnOk result (MayFollow (lines_in self.old) (parsed.Unknown (string_bytes word))) }
+        ensures placed { OnOk result
+            (MayFollow (lines_in self.old) (parsed.Unknown (string_bytes word))) }
         ensures fault { result ≡ Err Fault
             → MayFollow (lines_in self.old) (parsed.Unknown (string_bytes word))
             → ⊥ }
@@ -400,7 +411,8 @@ impl Table {
             (MayFollow (lines_in self.old)
             (parsed.Exclude (version_of version) (string_bytes word))) }
         ensures fault { result ≡ Err Fault
-            → MayFollow (lines_in self.old) (parsed.Exclude (version_of version) (string_bytes word))
+            → MayFollow (lines_in self.old)
+            (parsed.Exclude (version_of version) (string_bytes word))
             → ⊥ }
     {
         let version = self.listed(&version)?;
@@ -417,7 +429,8 @@ impl Table {
         requires table { IsTable self.old }
         requires line { line ≡ length (lines_in self.old) + 1 }
         ensures ok { OnOk result (Adds self.old (parsed.Favour (version_of version)) self.new) }
-        ensures placed { OnOk result (MayFollow (lines_in self.old) (parsed.Favour (version_of version))) }
+        ensures placed { OnOk result
+            (MayFollow (lines_in self.old) (parsed.Favour (version_of version))) }
         ensures fault { result ≡ Err Fault
             → MayFollow (lines_in self.old) (parsed.Favour (version_of version))
             → ⊥ }
@@ -436,8 +449,11 @@ impl Table {
         requires table { IsTable self.old }
         requires line { line ≡ length (lines_in self.old) + 1 }
         ensures ok { OnOk result (Adds self.old (parsed.Lock (version_of version)) self.new) }
-        ensures placed { OnOk result (MayFollow (lines_in self.old) (parsed.Lock (version_of version))) }
-        ensures fault { result ≡ Err Fault → MayFollow (lines_in self.old) (parsed.Lock (version_of version)) → ⊥ }
+        ensures placed { OnOk result
+            (MayFollow (lines_in self.old) (parsed.Lock (version_of version))) }
+        ensures fault { result ≡ Err Fault
+            → MayFollow (lines_in self.old) (parsed.Lock (version_of version))
+            → ⊥ }
     {
         let locked = self.listed(&version)?;
         if self.is_locked(&version.name) {
@@ -461,7 +477,8 @@ impl Table {
         requires table { IsTable self.old }
         requires line { line ≡ length (lines_in self.old) + 1 }
         ensures ok { OnOk result (Adds self.old (parsed.Many (string_bytes name)) self.new) }
-        ensures placed { OnOk result (MayFollow (lines_in self.old) (parsed.Many (string_bytes name))) }
+        ensures placed { OnOk result
+            (MayFollow (lines_in self.old) (parsed.Many (string_bytes name))) }
         ensures fault { result ≡ Err Fault
             → MayFollow (lines_in self.old) (parsed.Many (string_bytes name))
             → ⊥ }
