@@ -2,7 +2,7 @@
 //! The model of the set is its members among the listed versions. Used by `keeps` of catalogue and
 //! request.
 
-ghost use Rattle.std.specs.Prelude.{◌≡◌, ◌==◌, ◌||◌, ◌<◌, not, length, slice_get, Some, None, Option, List, true, false};
+ghost use Rattle.std.specs.Prelude.{◌≡◌, ◌==◌, ◌||◌, ◌<◌, not, slice_get, Some, None, Option, List, true, false};
 ghost use Rattle.std.specs.List.{list_any, list_all};
 ghost use Rattle.std.specs.Str.{bytes_eq};
 ghost use Rattle.std.specs.Option.{option_map_or, option_map, option_copied};

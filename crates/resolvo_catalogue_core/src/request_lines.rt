@@ -2,7 +2,7 @@
 //! The model is the list of lines, `asked_lines`; `AreAsks` is the invariant that map and wishes
 //! agree with it. Used by `request`.
 
-ghost use Rattle.std.specs.Prelude.{◌≡◌, ℕ, ◌+◌, ◌∷◌, ◌++◌, [], option_and_then, option_copied, length, is_some, slice_get, OnOk, IfOk, OnErr, Contains, Err, Some, List};
+ghost use Rattle.std.specs.Prelude.{◌≡◌, ◌+◌, [], option_and_then, option_copied, length, is_some, OnOk, Err, Some, List};
 ghost use Rattle.std.specs.BTreeMap.{get};
 ghost use Rattle.std.specs.Ordering.{nat_cmp};
 ghost use Rattle.resolvo_text.specs.Line as parsed;

@@ -2,7 +2,7 @@
 //! The model is the list of lines, `lines_in`; `IsTable` is the invariant that the maps agree with
 //! it. Used by `catalogue`.
 
-ghost use Rattle.std.specs.Prelude.{◌≡◌, ℕ, ◌+◌, ◌<◌, ◌==◌, ◌∷◌, ◌++◌, [], if◌then◌else◌, not, option_map, option_and_then, option_copied, map, is_some, length, slice_get, Contains, IsTrue, OnOk, OnErr, IfOk, Err, Some, None, List, true, false};
+ghost use Rattle.std.specs.Prelude.{◌≡◌, ℕ, ◌+◌, ◌<◌, ◌==◌, [], if◌then◌else◌, not, option_map, option_and_then, option_copied, map, is_some, length, slice_get, Contains, IsTrue, OnOk, OnErr, IfOk, Err, Some, None, List, true, false};
 ghost use Rattle.std.specs.BTreeMap.{get, get_by_text};
 ghost use Rattle.std.specs.Ordering.{nat_cmp};
 ghost use Rattle.std.specs.Option.{option_map_or};
@@ -10,7 +10,7 @@ ghost use Rattle.std.specs.String.{string_bytes};
 ghost use Rattle.resolvo_text.specs.Line as parsed;
 ghost use Rattle.resolvo_text.specs.View.{version_of, spec_of, specs_of, condition_of, view};
 ghost use Rattle.resolvo_text.specs.declared.line.LineFault.TheVariants.{Fault};
-ghost use Rattle.resolvo_catalogue_core.specs.Grammar.{MayFollow, IsCatalogueLine, line_at, owner_below};
+ghost use Rattle.resolvo_catalogue_core.specs.Grammar.{MayFollow, IsCatalogueLine, owner_below};
 ghost use Rattle.resolvo_catalogue_core.specs.Questions.{number_of, AreAll, IsOwner, IsOnly, LineIs, LocksAnother, Forbids};
 ghost use Rattle.resolvo_catalogue_core.specs.Picked.{IsPicked};
 ghost use Rattle.resolvo_catalogue_core.specs.Table.{AddsVersion, number_in};
