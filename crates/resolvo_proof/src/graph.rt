@@ -38,8 +38,8 @@ pub fn conflict_graph<I: Interner>(
         ≡ conflict_drawing I.NameId.eq I.SolvableId.eq (I.name_of_solvable interner.now)
         (offered_by offers.now) (conflict_rules steps.now)) }
     ensures truth { IfOk result
-        (IsTrueConflictGraph I.SolvableId.eq (I.name_of_solvable interner.now) (offered_by offers.now)
-        steps.now) }
+        (IsTrueConflictGraph I.SolvableId.eq (I.name_of_solvable interner.now)
+        (offered_by offers.now) steps.now) }
     ensures refusal { IsOkUnless result Memory }
 {
     let order = conflict_rules(alloc, steps)?;

@@ -122,7 +122,8 @@ impl ReportReader {
         source: &mut S,
     ) -> Result<Option<ReportLine>, ReportFault>
         ensures given { IfOk result (λ next. IfSome next (λ line.
-            TakesShown S.Source false self.old source.old (report_line_of line) self.new source.new)) }
+            TakesShown S.Source false self.old source.old (report_line_of line) self.new
+            source.new)) }
         ensures end { IfOk result
             (λ next. IfNone next (IsAtReportEnd S.Source self.old source.old)) }
         ensures failures { OnOk result (S.failures source.new ≡ S.failures source.old) }
@@ -139,7 +140,8 @@ impl ReportReader {
         keeps: bool,
     ) -> Result<Option<ReportLine>, ReportFault>
         ensures given { IfOk result (λ next. IfSome next (λ line.
-            TakesShown S.Source keeps self.old source.old (report_line_of line) self.new source.new)) }
+            TakesShown S.Source keeps self.old source.old (report_line_of line) self.new
+            source.new)) }
         ensures end { IfOk result
             (λ next. IfNone next (IsAtReportEnd S.Source self.old source.old)) }
         ensures failures { OnOk result (S.failures source.new ≡ S.failures source.old) }
