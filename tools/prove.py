@@ -4,8 +4,9 @@
 Usage: tools/prove.py [--anew] [CRATE]     (default: resolve)
 
 `rt run` proves one library after the other. This makes a copy of the crate with what lies below it, without wrong bodies and without
-the crates of tests, and runs the gate (`rt ci`) over the copy. As many proofs run side by side as there are processors. Processors that
-no other proof needs share one, as long as there are 3 GB for each. RT_JOBS may name a number of proofs; then each has one processor.
+the crates of tests, and runs the gate (`rt ci`) over the copy. As many proofs run side by side as there are processors with 3 GB each.
+The proof that the longest chain of others waits for has two of them, or all where it is alone; how long a chain is, tools/minutes.txt says.
+RT_JOBS may name a number of proofs; then each has one processor.
 What this machine has proved before is kept, and isn't proved again; with `--anew` it is. The proved program is then in
 crates/CRATE/out, beside its object file.
 The last lines are the verdict and the minutes. Status 1 where something isn't proved; then the repository is as it was.
@@ -18,12 +19,18 @@ import subprocess
 import sys
 import tempfile
 import time
-from typing import Dict, List, Set
+from concurrent.futures import FIRST_COMPLETED, Future, ThreadPoolExecutor, wait
+from typing import Any, Callable, Dict, List, Sequence, Set, Tuple
 
 TOP = os.path.dirname(os.path.dirname(os.path.abspath(__file__)))
 PARTS = ("src", "specs", "proofs", "c", "data")
 FILES = ("stdin", "stdout", "args", "status")
 MEMORY = 3_000_000_000  # bytes of a proof by one processor
+MOST = 4  # processors of one proof
+LINES = 1500  # lines that are proved in a minute, where no run is known
+
+# what it waits for, its lines, its memory, and what does it with so many processors
+Task = Tuple[Sequence[Any], int, int, Callable[[Dict[Any, Any], int], Any]]
 
 
 def lines_of(text: str) -> Dict[str, str]:
@@ -66,15 +73,68 @@ def copy(top: str, to: str, crate: str) -> List[str]:
     return names
 
 
+def minutes(text: str) -> Dict[str, float]:
+    """The minutes of the crates' proofs, by their names."""
+    rows = (line.split() for line in text.split("\n") if line and not line.startswith("#"))
+    return {name: float(number) for name, number in rows}
+
+
+def chains(tasks: Dict[Any, Task], weights: Dict[Any, float]) -> Dict[Any, float]:
+    """The weight of the longest chain of tasks that each begins."""
+    users: Dict[Any, List[Any]] = {key: [] for key in tasks}
+    for key, task in tasks.items():
+        for below in task[0]:
+            users[below].append(key)
+    found: Dict[Any, float] = {}
+
+    def chain(key: Any) -> float:
+        if key not in found:
+            found[key] = weights[key] + max(map(chain, users[key]), default=0)
+        return found[key]
+
+    return {key: chain(key) for key in tasks}
+
+
+def side_by_side(tasks: Dict[Any, Task], chain: Dict[Any, float], lanes: int, most: int) -> Dict[Any, Any]:
+    """Does each task once those that it waits for are done, those with the longest chain first; what each gave."""
+    left = sorted(tasks, key=lambda key: -chain[key])
+    running: Dict[Future, Tuple[Any, int]] = {}
+    given: Dict[Any, Any] = {}
+    with ThreadPoolExecutor(lanes) as pool:
+        while left or running:
+            ready = [key for key in left if all(below in given for below in tasks[key][0])]
+            for at, key in enumerate(ready):
+                idle = lanes - sum(jobs for _, jobs in running.values())
+                if not idle:
+                    break
+                is_longest = all(chain[key] >= chain[other] for other, _ in running.values())
+                jobs = min(most, idle, max(2, idle // (len(ready) - at))) if is_longest else 1
+                left.remove(key)
+                running[pool.submit(tasks[key][3], given, jobs)] = key, jobs
+            for future in wait(running, return_when=FIRST_COMPLETED).done:
+                given[running.pop(future)[0]] = future.result()
+    return given
+
+
 def gate(folder: str, flags: List[str]) -> int:
-    """Runs `rt ci` in a folder. rt reckons with more memory for a proof than these take, and would leave processors idle."""
+    """Runs `rt ci` in a folder. rt gives each proof one processor as long as others are ready, and the longest chain decides."""
     os.chdir(folder)
     path = os.path.realpath(shutil.which("rt") or "/opt/rattle/bin/rt")
     loader = importlib.machinery.SourceFileLoader("rt_main", path)
     module = importlib.util.module_from_spec(importlib.util.spec_from_loader("rt_main", loader))
     sys.dont_write_bytecode = True
     loader.exec_module(module)
-    module.need = lambda crate: MEMORY
+    number = os.environ.get("RT_JOBS", "")
+    lanes = int(number) if number.isdigit() else max(1, min(module.processors(), int(module.free() // MEMORY)))
+    most = 1 if number.isdigit() else MOST
+    with open(os.path.join(TOP, "tools", "minutes.txt"), encoding="utf-8") as file:
+        known = minutes(file.read())
+
+    def in_lanes(tasks: Dict[Any, Task]) -> Dict[Any, Any]:
+        weights = {key: known.get(key[0], task[1] / LINES) if key[1] == "proof" else 0.0 for key, task in tasks.items()}
+        return side_by_side(tasks, chains(tasks, weights), lanes, most)
+
+    module.in_lanes = in_lanes
     return module.main(["ci", *flags])
 
 

@@ -2,8 +2,9 @@
 import os
 import tempfile
 import unittest
+from typing import List, Tuple
 
-from tools.prove import TOP, closure, copy, lines_of
+from tools.prove import TOP, Task, chains, closure, copy, lines_of, minutes, side_by_side
 
 LISTED = """# the lowest
 low:
@@ -38,6 +39,37 @@ class Closures(unittest.TestCase):
             names = closure(lines_of(file.read()), "resolve")
         self.assertIn("resolvo_sat", names)
         self.assertFalse([name for name in names if "tests" in name or "rows" in name])
+
+
+class Order(unittest.TestCase):
+    """Which proof is next, and by how many processors."""
+
+    def run_by(self, lanes: int, most: int) -> List[Tuple[str, int]]:
+        done: List[Tuple[str, int]] = []
+        waits = {"low": [], "short": ["low"], "long": ["low"], "top": ["short", "long"]}
+        weights = {"low": 1.0, "short": 1.0, "long": 5.0, "top": 1.0}
+
+        def task(name: str) -> Task:
+            return waits[name], 0, 0, lambda given, jobs: done.append((name, jobs))
+
+        tasks = {name: task(name) for name in ("top", "short", "long", "low")}
+        side_by_side(tasks, chains(tasks, weights), lanes, most)
+        return done
+
+    def test_the_longest_chain_is_first_and_has_two(self) -> None:
+        done = dict(self.run_by(3, 4))
+        self.assertEqual(done, {"low": 3, "long": 2, "short": 1, "top": 3})
+
+    def test_one_processor_each(self) -> None:
+        self.assertEqual(self.run_by(1, 1), [("low", 1), ("long", 1), ("short", 1), ("top", 1)])
+
+    def test_each_crate_has_its_minutes(self) -> None:
+        with open(os.path.join(TOP, "tools", "minutes.txt"), encoding="utf-8") as file:
+            known = minutes(file.read())
+        with open(os.path.join(TOP, "crates.txt"), encoding="utf-8") as file:
+            lines = lines_of(file.read())
+        self.assertFalse(set(closure(lines, "resolve")) - set(known))
+        self.assertFalse(set(known) - set(lines))
 
 
 if __name__ == "__main__":
