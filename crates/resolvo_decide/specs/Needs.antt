@@ -65,6 +65,10 @@ pub record Fits (literals : Requirement → List Signed) (needs : UndecidedClaus
 abbrev pub KeepsFits : UndecidedClauses → UndecidedClauses → Type 0
 KeepsFits old new = (literals : Requirement → List Signed) (queue : List NeedClause) → Fits literals old queue → Fits literals new queue
 
+-- the new states fit each queue with this clause at the position that the old ones fit
+abbrev pub KeepsFitsAt : (Requirement → List Signed) → ℕ → NeedClause → UndecidedClauses → UndecidedClauses → Type 0
+KeepsFitsAt literals position q old new = (queue : List NeedClause) → slice_get queue position ≡ Some q → Fits literals old queue → Fits literals new queue
+
 -- a clause of this parent was added
 pub record AddsNeed (parent : VariableId) (old new : UndecidedClauses) : Type 0 where
   pub states : new.states ≡ old.states ++ Open ∷ []

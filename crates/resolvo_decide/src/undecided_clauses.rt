@@ -3,11 +3,11 @@
 //! those that a backjump removed.
 ghost use Rattle.std.specs.Prelude.{◌≡◌, ℕ, ◌<◌, ◌≤◌, ◌++◌, ◌∷◌, ◌⊎◌, [], take, drop, length, not, false, true, slice_get, Some, None, Contains, OnOk, IfOk, IfErr, IsOkUnless};
 ghost use Rattle.resolvo_pool_core.specs.declared.want.Want.TheVariants.{Memory};
-ghost use Rattle.std.specs.List.{find};
+ghost use Rattle.std.specs.List.{find, list_any};
 ghost use Rattle.std.specs.Option.{option_copied};
 ghost use Rattle.resolvo_store_core.specs.AtMostOne.{IsPrefixOf};
 ghost use Rattle.resolvo_store_core.specs.Lists.{candidates_in};
-ghost use Rattle.resolvo_store_core.specs.Signed.{value_under, is_false, is_open};
+ghost use Rattle.resolvo_store_core.specs.Signed.{value_under, is_false, is_true, is_open};
 ghost use Rattle.resolvo_store_core.specs.Values.{value_at};
 ghost use Rattle.resolvo_store_core.specs.Trail.{EachOnce, assigned, value_in};
 ghost use Rattle.resolvo_store_core.specs.Pick.{pick, offer, later};
@@ -15,7 +15,7 @@ ghost use Rattle.resolvo_store_core.specs.declared.decide_queue.NeedClause.{Need
 ghost use Rattle.resolvo_decide.specs.declared.clause_states.ClauseState.TheVariants.{Open};
 ghost use Rattle.resolvo_decide.specs.States.{state_at};
 ghost use Rattle.resolvo_decide.specs.CandidateCounts.{has_true_in, HasNoCount};
-ghost use Rattle.resolvo_decide.specs.Needs.{literals_in, places_at, IsMetNow, IsSoundState, Fits, KeepsFits, KeepsCounts, IsRightCountAt, OffersAtLeast, LeavesUndecided, IsPick, AddsNeed};
+ghost use Rattle.resolvo_decide.specs.Needs.{literals_in, places_at, IsMetNow, IsSoundState, Fits, KeepsFits, KeepsFitsAt, KeepsCounts, IsRightCountAt, OffersAtLeast, LeavesUndecided, IsPick, AddsNeed};
 
 use crate::candidate_count::CandidateCount;
 use crate::candidate_counts::CandidateCounts;
@@ -245,7 +245,7 @@ impl UndecidedClauses {
         let mut position = self.states.next_open(0);
         while position < queue.len() {
             if self.may_beat(best, position, queue, lists, values, scores) {
-                let next = self.offer_at(position, &queue[position], lists, values, scores);
+                let next = self.take_offer(position, &queue[position], lists, values, scores);
                 best = or_later(best, next);
                 if is_final(best, most, fewest) {
                     return best;
@@ -254,6 +254,57 @@ impl UndecidedClauses {
             position = self.states.next_open(position + 1);
         }
         best
+    }
+
+    /// The decision that the clause at this position offers. Stores that the clause is satisfied,
+    /// if it offers none since one of its candidates is true.
+    fn take_offer<N: Copy + Eq, C: ScoreMap<N>>(
+        &mut self,
+        position: usize,
+        need: &NeedClause,
+        lists: &FixedLists<N>,
+        values: &DecisionMap,
+        scores: &C,
+    ) -> Option<NextDecision>
+    where
+        N: Drop,
+        requires kept_count { IsRightCountAt (literals_in lists.now) self.old position need.now }
+        requires values { (v : ℕ) → value_at values.now v ≡ value_in self.old.seen.items v }
+        // What the call promises.
+        ensures offer { result
+            ≡ offer lists.now (value_at values.now) (C.score_of scores.now) need.now }
+        ensures fits { KeepsFitsAt (literals_in lists.now) position need.now self.old self.new }
+        ensures seen { self.new.seen ≡ self.old.seen }
+    {
+        match self.offer_at(position, need, lists, values, scores) {
+            Some(next) => Some(next),
+            None => {
+                self.close_met(position, need, lists, values);
+                None
+            }
+        }
+    }
+
+    /// Stores that the clause at this position is satisfied, if one of its candidates is true.
+    fn close_met<N: Copy>(
+        &mut self,
+        position: usize,
+        need: &NeedClause,
+        lists: &FixedLists<N>,
+        values: &DecisionMap,
+    )
+    where
+        N: Drop,
+        requires { (v : ℕ) → value_at values.now v ≡ value_in self.old.seen.items v }
+        ensures fits { KeepsFitsAt (literals_in lists.now) position need.now self.old self.new }
+        ensures seen { self.new.seen ≡ self.old.seen }
+    {
+        if let Some(candidates) = lists.candidates(need.requirement) {
+            if is_any_true(candidates, values) {
+                let state = self.met();
+                self.states.put(position, state);
+            }
+        }
     }
 
     /// The decision that the clause at this position offers.
@@ -389,6 +440,16 @@ fn first_possible<'a, N: Copy>(
     candidates
         .iter()
         .find(|candidate| !candidate.literal.is_false(values))
+}
+
+/// Whether one of the candidates is true.
+fn is_any_true<N: Copy>(candidates: &[Candidate<N>], values: &DecisionMap) -> bool
+    ensures { result
+        ≡ list_any (λ c. is_true (value_under (value_at values.now) c.literal)) candidates.now }
+{
+    candidates
+        .iter()
+        .any(|candidate| candidate.literal.is_true(values))
 }
 
 /// Whether no later decision with a score of at most `most`, and with at least `fewest` undecided

@@ -4,7 +4,7 @@ use Rattle.resolvo_store_core.specs.Trail.{value_in}
 use Rattle.resolvo_store_core.specs.Values.{value_at}
 use Rattle.resolvo_decide.specs.declared.undecided_clauses.UndecidedClauses.{UndecidedClauses}
 use Rattle.resolvo_decide.specs.Needs.{literals_in, Fits}
-use Rattle.resolvo_decide.proofs.FitLemmas.{fits_same, fits_marked, read_at, pick_taken, pick_beaten, pick_closed, pick_final, many_left}
+use Rattle.resolvo_decide.proofs.FitLemmas.{fits_same, read_at, pick_taken, pick_beaten, pick_closed, pick_final, many_left}
 use Rattle.resolvo_decide.proofs.undecided_clauses.UndecidedClauses.pick.Goals.{then-may_beat+else-is_final, else-may_beat}
 use Rattle.resolvo_decide.proofs.undecided_clauses.UndecidedClauses.pick.Goals as goal
 
@@ -27,15 +27,15 @@ loop-position-preserved g c =
     let next = c.next_open-position-in-loop-position in
     let same = c.may_beat.ensures.seen ∙ c.loop-position.invariant.seen in
     let here : pick_after lists values score best (drop i qs) ≡ pick_after lists values score more (drop (i + 1) qs) = elim c.if-may_beat.branch [
-      | then-may_beat+else-is_final w ↦ pick_taken lists values score best qs i _ c.loop-position-test.true ∙ ap (λ b. pick_after lists values score b (drop (i + 1) qs)) (sym (w.best-is ∙ w.or_later-best.ensures ∙ ap (later best) w.offer_at-next.ensures.offer))
+      | then-may_beat+else-is_final w ↦ pick_taken lists values score best qs i _ c.loop-position-test.true ∙ ap (λ b. pick_after lists values score b (drop (i + 1) qs)) (sym (w.best-is ∙ w.or_later-best.ensures ∙ ap (later best) w.take_offer-next.ensures.offer))
       | else-may_beat w ↦ pick_beaten lists values score best qs i c.loop-position-test.true (c.may_beat.ensures.nothing w.if-may_beat.false) ∙ ap (λ b. pick_after lists values score b (drop (i + 1) qs)) (sym w.best-is)
     ] in
     let after : Fits (literals_in lists) c.if-may_beat.self qs = elim c.if-may_beat.branch [
-      | then-may_beat+else-is_final w ↦ subst (λ (n : UndecidedClauses). Fits (literals_in lists) n qs) (sym (w.self-is ∙ w.offer_at-next.ensures.rest)) (fits_marked (literals_in lists) c.may_beat.new.self qs w.offer_at-next.new.self.counted c.may_beat.ensures.fits)
+      | then-may_beat+else-is_final w ↦ subst (λ (n : UndecidedClauses). Fits (literals_in lists) n qs) (sym w.self-is) (w.take_offer-next.ensures.fits qs (read_at qs i _ c.loop-position-test.true) c.may_beat.ensures.fits)
       | else-may_beat w ↦ subst (λ (n : UndecidedClauses). Fits (literals_in lists) n qs) (sym w.self-is) c.may_beat.ensures.fits
     ] in
     let stays : c.if-may_beat.self.seen ≡ c.args.self.now.seen = elim c.if-may_beat.branch [
-      | then-may_beat+else-is_final w ↦ ap (λ (n : UndecidedClauses). n.seen) (w.self-is ∙ w.offer_at-next.ensures.rest) ∙ same
+      | then-may_beat+else-is_final w ↦ ap (λ (n : UndecidedClauses). n.seen) w.self-is ∙ w.take_offer-next.ensures.seen ∙ same
       | else-may_beat w ↦ ap (λ (n : UndecidedClauses). n.seen) w.self-is ∙ same
     ] in
     let behind : pick_after lists values score more (drop (i + 1) qs) ≡ pick_after lists values score more (drop next.result qs) =
@@ -55,15 +55,15 @@ returns-then-is_final-clause-picked g c =
     let i = c.loop-position.position in
     let best = c.or_later-best.result in
     sym (c.loop-position.invariant.picked ∙ pick_taken lists values score c.loop-position.best qs i _ c.loop-position-test.true
-    ∙ ap (λ b. pick_after lists values score b (drop (i + 1) qs)) (sym (c.or_later-best.ensures ∙ ap (later c.loop-position.best) c.offer_at-next.ensures.offer))
+    ∙ ap (λ b. pick_after lists values score b (drop (i + 1) qs)) (sym (c.or_later-best.ensures ∙ ap (later c.loop-position.best) c.take_offer-next.ensures.offer))
     ∙ pick_final lists values score c.args.most c.requires.bounded c.args.fewest best (drop (i + 1) qs) (many_left lists values score c.args.most c.requires.bounded c.args.fewest (i + 1) qs c.requires.fewest) (c.is_final.ensures c.if-is_final.true))
 
 pub returns-then-is_final-clause-seen : goal.returns-then-is_final-clause-seen
-returns-then-is_final-clause-seen g c = ap (λ (n : UndecidedClauses). n.seen) c.offer_at-next.ensures.rest ∙ c.may_beat.ensures.seen ∙ c.loop-position.invariant.seen
+returns-then-is_final-clause-seen g c = c.take_offer-next.ensures.seen ∙ c.may_beat.ensures.seen ∙ c.loop-position.invariant.seen
 
 pub returns-then-is_final-clause-fits : goal.returns-then-is_final-clause-fits
 returns-then-is_final-clause-fits g c =
-    subst (λ (n : UndecidedClauses). Fits (literals_in c.args.lists.now) n c.args.queue.now) (sym c.offer_at-next.ensures.rest) (fits_marked (literals_in c.args.lists.now) c.may_beat.new.self c.args.queue.now c.offer_at-next.new.self.counted c.may_beat.ensures.fits)
+    c.take_offer-next.ensures.fits c.args.queue.now (read_at c.args.queue.now c.loop-position.position _ c.loop-position-test.true) c.may_beat.ensures.fits
 
-pub offer_at-next-requires-clause-kept_count : goal.offer_at-next-requires-clause-kept_count
-offer_at-next-requires-clause-kept_count g c = λ k number. c.may_beat.ensures.fits.kept_count.each c.loop-position.position _ k (read_at c.args.queue.now c.loop-position.position _ c.loop-position-test.true) number
+pub take_offer-next-requires-clause-kept_count : goal.take_offer-next-requires-clause-kept_count
+take_offer-next-requires-clause-kept_count g c = λ k number. c.may_beat.ensures.fits.kept_count.each c.loop-position.position _ k (read_at c.args.queue.now c.loop-position.position _ c.loop-position-test.true) number
