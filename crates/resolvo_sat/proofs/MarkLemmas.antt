@@ -159,7 +159,7 @@ pub count_unmarked : (seen : List Bool) (e : Entry) (older : List Entry) → is_
 count_unmarked seen e older m = ap (λ b. length (cond b (negation (literal_of e) ∷ denied seen older) (denied seen older))) m
 
 -- an entry's variable has no value before it
-unmade : (h : List Entry) (e : Entry) (l : Signed) → IsUndecided (made_true h) (literal_of e) → has (made_true h) l ≡ true → l.variable.0 ≡ e.decision.variable.0 → ⊥
+pub unmade : (h : List Entry) (e : Entry) (l : Signed) → IsUndecided (made_true h) (literal_of e) → has (made_true h) l ≡ true → l.variable.0 ≡ e.decision.variable.0 → ⊥
 unmade h e l u t same = elim (same_or_negated l (literal_of e) same) [
   | inl i ↦ both_ways _ u.not_true (subst (λ (x : Signed). has (made_true h) x ≡ true) i t)
   | inr i ↦ both_ways _ u.not_false (subst (λ (x : Signed). has (made_true h) x ≡ true) i t)

@@ -326,14 +326,35 @@ walk_learns s p d seen kept causes below x m marked level above low base_level i
       low = base_level;
     }
 
--- at the trail's start only the kept literals are left
-pub walk_ends : (s : SatState) (seen : List Bool) (kept : List Signed) (causes : List ClauseId) → Walks s [] 0 seen kept causes → IsRefusal s kept (reverse causes)
-walk_ends s seen kept causes w = record {
-  derived = w.derived;
-  caused = (let same : length (reverse causes) ≡ length causes = length-reverse causes in let some : 0 < length causes = w.caused in omega arith);
-  from = w.from;
-  denies = kept_alone s kept w.denies;
-}
+-- no literal is denied where none is counted
+none_denied : (seen : List Bool) (h : List Entry) → length (denied seen h) ≤ 0 → denied seen h ≡ []
+none_denied seen h few = go (denied seen h) few
+  where
+    go : (ls : List Signed) → length ls ≤ 0 → ls ≡ []
+    go [] few = refl
+    go (l ∷ ls) few = absurd (omega arith)
+
+-- no entry is before the first place
+pub none_first : (xs : List Entry) (p : ℕ) (seen : List Bool) → p ≤ 0 → length (denied seen (before xs p)) ≤ 0
+none_first xs zero seen le = omega arith
+none_first xs (suc p) seen le = absurd (omega arith)
+
+-- where no marked entry is left, only the kept literals are
+walk_rests : (s : SatState) (begun : List Signed) (p : ℕ) (seen : List Bool) (kept : List Signed) (causes : List ClauseId) → length (denied seen (before s.tracker.trail p)) ≤ 0 → Walks s begun p seen kept causes
+    → IsDerived (clauses_of s) kept (reverse causes) × AreFromClauses s kept
+walk_rests s begun p seen kept causes few w =
+    let none : denied seen (before s.tracker.trail p) ≡ [] = none_denied seen (before s.tracker.trail p) few in
+    (subst (λ (ls : List Signed). IsDerived (clauses_of s) (ls ++ kept) (reverse causes)) none w.derived, subst (λ (ls : List Signed). AreFromClauses s (ls ++ kept)) none w.from)
+
+pub walk_ends : (s : SatState) (p : ℕ) (seen : List Bool) (kept : List Signed) (causes : List ClauseId) → length (denied seen (before s.tracker.trail p)) ≤ 0 → Walks s [] p seen kept causes → IsRefusal s kept (reverse causes)
+walk_ends s p seen kept causes few w =
+    let (derived, from) = walk_rests s [] p seen kept causes few w in
+    record {
+      derived = derived;
+      caused = (let same : length (reverse causes) ≡ length causes = length-reverse causes in let some : 0 < length causes = w.caused in omega arith);
+      from = from;
+      denies = kept_alone s kept w.denies;
+    }
 
 -- a walk that begins at the reason of a literal that an entry made true
 pub walk_begins : (s : SatState) (p : ℕ) (d : Entry) (none seen : List Bool) → Meets s p d → has (made_true (before s.tracker.trail p)) (yes root) ≡ true → IsPropagated (clauses_of s) d (before s.tracker.trail p)
@@ -370,14 +391,16 @@ walk_begins s p d none seen m rooted propagated empty marked =
       rootless = still_rootless c none seen marked (ap (λ (xs : List Bool). slice_index_or xs 0 false) empty);
     }
 
--- at the trail's start only the kept literals are left, and that from which the walk began
-pub walk_explains : (s : SatState) (x : Signed) (seen : List Bool) (kept : List Signed) (causes : List ClauseId) → Walks s (x ∷ []) 0 seen kept causes → IsReason s x kept (reverse causes)
-walk_explains s x seen kept causes w = record {
-  derived = w.derived;
-  caused = (let same : length (reverse causes) ≡ length causes = length-reverse causes in let some : 0 < length causes = w.caused in omega arith);
-  from = w.from;
-  denies = w.denies;
-}
+-- where no marked entry is left, only the kept literals are, and that from which the walk began
+pub walk_explains : (s : SatState) (x : Signed) (p : ℕ) (seen : List Bool) (kept : List Signed) (causes : List ClauseId) → length (denied seen (before s.tracker.trail p)) ≤ 0 → Walks s (x ∷ []) p seen kept causes → IsReason s x kept (reverse causes)
+walk_explains s x p seen kept causes few w =
+    let (derived, from) = walk_rests s (x ∷ []) p seen kept causes few w in
+    record {
+      derived = derived;
+      caused = (let same : length (reverse causes) ≡ length causes = length-reverse causes in let some : 0 < length causes = w.caused in omega arith);
+      from = from;
+      denies = w.denies;
+    }
 
 -- the root is true before an entry that makes a variable false
 pub rooted_before_false : (s : SatState) (p : ℕ) (d : Entry) → IsState s → Meets s p d → d.decision.value ≡ false → has (made_true (before s.tracker.trail p)) (yes root) ≡ true

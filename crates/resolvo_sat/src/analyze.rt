@@ -91,7 +91,7 @@ impl Marked {
     }
 
     /// Both counts together.
-    fn plus(self, more: Marked) -> Marked
+    pub(crate) fn plus(self, more: Marked) -> Marked
         ensures { result.all ≡ min (self.all + more.all) usize.MAX }
     {
         Marked {
@@ -101,7 +101,7 @@ impl Marked {
     }
 
     /// One less of both, where a marked entry was passed.
-    fn passed(self) -> Marked
+    pub(crate) fn passed(self) -> Marked
         ensures { result.all ≡ self.all - 1 }
     {
         Marked {
@@ -114,8 +114,8 @@ impl Marked {
 impl SatState {
     /// Walks back along the trail from a falsified clause. Each marked entry of the turn is
     /// resolved with its reason, until only one is left of its level. The clause that denies the
-    /// marked entries is then learnt. Where the walk reaches the start of the trail, only choices
-    /// are left, which contradict each other.
+    /// marked entries is then learnt. Where no marked entry is left, only choices were kept, which
+    /// contradict each other.
     pub fn analyze(&self, alloc: Global, falsified: ClauseId) -> R<Analysis>
         requires state { IsState self.now }
         requires in_range { falsified.0 < length self.now.clauses }
@@ -131,7 +131,7 @@ impl SatState {
         causes.push(falsified)?;
         let mut kept = Vec::new(alloc);
         let mut place = self.tracker.stack().len();
-        while place > 0 {
+        while place > 0 && marked.all > 0 {
             place -= 1;
             let entry = self.entry(place);
             if seen.contains(entry.decision.variable) {

@@ -67,31 +67,28 @@ impl SatState {
     {
         let mut seen = IndexedSet::new(alloc);
         let values = self.tracker.map();
-        mark_seen(
-            &mut seen,
-            self.literals(entry.decision.derived_from),
-            values,
-            0,
-        )?;
+        let reason = self.literals(entry.decision.derived_from);
+        // The entry's own variable is among those of its reason.
+        let first = mark_seen(&mut seen, reason, values, 0)?;
+        let begun = first.passed();
+        let mut marked = begun;
         let mut causes = Vec::new(alloc);
         causes.push(entry.decision.derived_from)?;
         let mut kept = Vec::new(alloc);
         kept.push(literal_made_true(entry))?;
         let mut at = place;
-        while at > 0 {
+        while at > 0 && marked.all > 0 {
             at -= 1;
             let earlier = self.entry(at);
             if seen.contains(earlier.decision.variable) {
+                marked = marked.passed();
                 if self.is_decision(at, earlier) {
                     kept.push(literal_made_true(earlier).negate())?;
                 } else {
                     causes.push(earlier.decision.derived_from)?;
-                    mark_seen(
-                        &mut seen,
-                        self.literals(earlier.decision.derived_from),
-                        values,
-                        0,
-                    )?;
+                    let reason = self.literals(earlier.decision.derived_from);
+                    let more = mark_seen(&mut seen, reason, values, 0)?;
+                    marked = marked.plus(more);
                 }
             }
         }

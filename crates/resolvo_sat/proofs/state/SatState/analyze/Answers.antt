@@ -7,11 +7,12 @@ use Rattle.resolvo_sat.specs.declared.state.SatState.{SatState}
 use Rattle.resolvo_sat.specs.Entries.{before, top_level, IsPropagated, reason_of}
 use Rattle.resolvo_sat.specs.State.{count_of, clauses_of}
 use Rattle.resolvo_sat.specs.Known.{clause_at}
-use Rattle.resolvo_sat.specs.Analysis.{Walks, Seen, IsDecisionOrForced, is_seen, denied}
+use Rattle.resolvo_sat.specs.Analysis.{Walks, Seen, IsDecisionOrForced, IsRefusal, is_seen, denied}
 use Rattle.resolvo_sat.proofs.Clauses.{length-lists}
 use Rattle.resolvo_sat.proofs.MarkLemmas.{few_begun, few_passed, few_resolved}
 use Rattle.resolvo_sat.proofs.Trails.{trail_before}
-use Rattle.resolvo_sat.proofs.WalkLemmas.{Meets, came, meets, walk_starts, walk_keeps, walk_resolves, walk_at, rooted_before, kept_low, in_range_from, learnt_analysis, if_ok_more}
+use Rattle.resolvo_sat.proofs.WalkLemmas.{Meets, came, meets, walk_starts, walk_keeps, walk_resolves, walk_at, rooted_before, kept_low, in_range_from, learnt_analysis, if_ok_more, none_first, walk_ends}
+use Rattle.resolvo_sat.proofs.state.SatState.analyze.Goals.{then-loop-place-test+else-marked-gt0, else-loop-place-test}
 use Rattle.resolvo_sat.proofs.state.SatState.analyze.Goals as goal
 
 pub loop-place-init : goal.loop-place-init
@@ -97,3 +98,12 @@ assertion_level-requires-clause-marked c =
     let d : Entry = c.entry-entry.result in
     let marked : is_seen c.loop-place.seen d ≡ true = sym c.contains.ensures ∙ c.if-contains.true in
     few_passed c.loop-place.seen (before s.tracker.trail c.loop-place.place) d (before s.tracker.trail p) c.loop-place.marked.all c.passed-marked.result.all (came s.tracker.trail c.loop-place.place d (omega arith) c.entry-entry.ensures.next) marked c.loop-place.invariant.few c.passed-marked.ensures
+
+pub returns-clause-analysis : goal.returns-clause-analysis
+returns-clause-analysis c =
+    let s : SatState = c.args.self.now in
+    let none : length (denied c.loop-place.seen (before s.tracker.trail c.loop-place.place)) ≤ 0 = elim c.loop-place-test.branch [
+      | then-loop-place-test+else-marked-gt0 w ↦ omega (arith, c.loop-place.invariant.few, w.if-marked-gt0.false)
+      | else-loop-place-test w ↦ none_first s.tracker.trail c.loop-place.place c.loop-place.seen w.loop-place-test.false
+    ] in
+    subst (λ (causes : List ClauseId). IsRefusal s c.loop-place.kept.items causes) (sym c.reverse.ensures.items) (walk_ends s c.loop-place.place c.loop-place.seen c.loop-place.kept.items c.loop-place.causes.items none c.loop-place.invariant.walks)
