@@ -1,5 +1,6 @@
 pub mod Pushed
 pub mod Sorted
+pub mod PackageLemmas
 pub mod OwnedLemmas
 pub mod HeldLemmas
 pub mod NumberedLemmas

@@ -2,6 +2,7 @@
 use Rattle.std.proofs.Common.{◌≡◌, ◌==◌, if◌then◌else◌, inl, inr, is_some, ℕ, zero, suc, Bool, true, false, not, option_map, ◌+◌, List, [], ◌∷◌, ◌++◌, map, length, take, Option, Some, None, refl, sym, ap, subst, ◌∙◌, add-one, arith}
 use Rattle.std.specs.Prelude.{Contains, slice_get, string_bytes, nat_eq}
 use Rattle.resolvo_catalogue_core.specs.declared.package.Package.{Package}
+use Rattle.resolvo_catalogue_core.specs.Packages.{package_in, AreBehind}
 use Rattle.resolvo_catalogue_core.specs.Table.{AddsNumber, AddsVersion, numbers_in}
 use Rattle.resolvo_catalogue_core.specs.Questions.{IsOfPackage, number_of}
 use Rattle.std.specs.BTreeMap.{get, get_by_text}
@@ -67,6 +68,7 @@ skip t u keeps more =
       listing = listed_same lines Skipped refl ∙ keeps.listing;
       kinds = rw more (are_kinds_push vs lines (kinds_in t) Skipped line_kinds.Nothing (as_long t) keeps.kinds tt);
       packages = keeps.packages;
+      behind = keeps.behind;
       locks = λ name. only_other (keeps.locks name) (line_grows lines Skipped (Locks name)) (λ x. x);
       favoured = λ name. only_other (keeps.favoured name) (line_grows lines Skipped (Favours name)) (λ x. x);
       many = λ name. only_other (keeps.many name) (line_grows lines Skipped (MarksMany name)) (λ x. x);
@@ -91,6 +93,7 @@ lock t u line k v name keeps number at same absent more locked =
       listing = listed_same lines l refl ∙ keeps.listing;
       kinds = rw more (are_kinds_push vs lines (kinds_in t) l (line_kinds.Rule (rule.Lock k)) (as_long t) keeps.kinds (slice_get_within vs k.0 v at));
       packages = keeps.packages;
+      behind = keeps.behind;
       locks = keyed_new bytes_eq bytes_eq-Decides (get_by_text t.locks) (get_by_text u.locks) v.name line (λ name n. LineIs lines n (Locks name)) (λ name n. LineIs (lines ++ l ∷ []) n (Locks name)) (λ name. v.name ≡ name)
           locked none keeps.locks (λ name. rw number (line_grows lines l (Locks name))) refl (λ name same. same);
       favoured = λ name. only_other (keeps.favoured name) (line_grows lines l (Favours name)) (λ x. x);
@@ -117,6 +120,7 @@ mark_many t u line name keeps number absent more marked =
       listing = listed_same lines l refl ∙ keeps.listing;
       kinds = rw more (are_kinds_push vs lines (kinds_in t) l (line_kinds.Many name) (as_long t) keeps.kinds tt);
       packages = keeps.packages;
+      behind = keeps.behind;
       locks = λ nm. only_other (keeps.locks nm) (line_grows lines l (Locks nm)) (λ x. x);
       favoured = λ nm. only_other (keeps.favoured nm) (line_grows lines l (Favours nm)) (λ x. x);
       many = keyed_new bytes_eq bytes_eq-Decides (get_by_text t.many) (get_by_text u.many) (string_bytes name) line (λ nm n. LineIs lines n (MarksMany nm)) (λ nm n. LineIs (lines ++ l ∷ []) n (MarksMany nm)) (λ nm. string_bytes name ≡ nm)
@@ -148,6 +152,7 @@ need t u line k v vec condition keeps number at owner more recorded as_many =
       listing = listed_same lines l refl ∙ keeps.listing;
       kinds = rw more (are_kinds_push vs lines (kinds_in t) l (line_kinds.Rule (rule.Needs (Some k) vec condition)) (as_long t) keeps.kinds (v, at, owner));
       packages = keeps.packages;
+      behind = keeps.behind;
       locks = λ name. only_other (keeps.locks name) (line_grows lines l (Locks name)) (λ x. x);
       favoured = λ name. only_other (keeps.favoured name) (line_grows lines l (Favours name)) (λ x. x);
       many = λ name. only_other (keeps.many name) (line_grows lines l (MarksMany name)) (λ x. x);
@@ -171,6 +176,7 @@ limit t u line k v spec keeps number at owner more recorded as_many =
       listing = listed_same lines l refl ∙ keeps.listing;
       kinds = rw more (are_kinds_push vs lines (kinds_in t) l (line_kinds.Rule (rule.Limits (Some k) spec)) (as_long t) keeps.kinds (v, at, owner));
       packages = keeps.packages;
+      behind = keeps.behind;
       locks = λ name. only_other (keeps.locks name) (line_grows lines l (Locks name)) (λ x. x);
       favoured = λ name. only_other (keeps.favoured name) (line_grows lines l (Favours name)) (λ x. x);
       many = λ name. only_other (keeps.many name) (line_grows lines l (MarksMany name)) (λ x. x);
@@ -196,6 +202,7 @@ mark_unknown t u line k v word keeps number at owner absent more recorded as_man
       listing = listed_same lines l refl ∙ keeps.listing;
       kinds = rw more (are_kinds_push vs lines (kinds_in t) l (line_kinds.Rule (rule.Unknown k word)) (as_long t) keeps.kinds (v, at, owner));
       packages = keeps.packages;
+      behind = keeps.behind;
       locks = λ name. only_other (keeps.locks name) (line_grows lines l (Locks name)) (λ x. x);
       favoured = λ name. only_other (keeps.favoured name) (line_grows lines l (Favours name)) (λ x. x);
       many = λ name. only_other (keeps.many name) (line_grows lines l (MarksMany name)) (λ x. x);
@@ -221,6 +228,7 @@ exclude t u line k v word keeps number at absent more marked =
       listing = listed_same lines l refl ∙ keeps.listing;
       kinds = rw more (are_kinds_push vs lines (kinds_in t) l (line_kinds.Rule (rule.Exclude k word)) (as_long t) keeps.kinds (slice_get_within vs k.0 v at));
       packages = keeps.packages;
+      behind = keeps.behind;
       locks = λ name. only_other (keeps.locks name) (line_grows lines l (Locks name)) (λ x. x);
       favoured = λ name. only_other (keeps.favoured name) (line_grows lines l (Favours name)) (λ x. x);
       many = λ name. only_other (keeps.many name) (line_grows lines l (MarksMany name)) (λ x. x);
@@ -246,6 +254,7 @@ favour t u line k v name keeps number at same absent more favoured pushed =
       listing = listed_same lines l refl ∙ keeps.listing;
       kinds = rw more (are_kinds_push vs lines (kinds_in t) l (line_kinds.Favour k) (as_long t) keeps.kinds (slice_get_within vs k.0 v at));
       packages = keeps.packages;
+      behind = keeps.behind;
       locks = λ name. only_other (keeps.locks name) (line_grows lines l (Locks name)) (λ x. x);
       favoured = keyed_new bytes_eq bytes_eq-Decides (get_by_text t.favoured) (get_by_text u.favoured) v.name line (λ name n. LineIs lines n (Favours name)) (λ name n. LineIs (lines ++ l ∷ []) n (Favours name)) (λ name. v.name ≡ name)
           favoured none keeps.favoured (λ name. rw number (line_grows lines l (Favours name))) refl (λ name same. same);
@@ -350,10 +359,10 @@ of_package_grows vs v name = record {
   added = λ same. (v, get_new vs v, same);
 }
 
-pub list : (t u : Table) (k : VersionNo) (v : Version) → IsTable t → k.0 ≡ length (versions_in t) → (Contains (lines_in t) (Listed v) → ⊥) → AddsVersion (λ name. get_by_text t.packages name) v k (λ name. get_by_text u.packages name)
+pub list : (t u : Table) (k : VersionNo) (v : Version) → IsTable t → k.0 ≡ length (versions_in t) → (Contains (lines_in t) (Listed v) → ⊥) → AddsVersion (λ name. package_in t.packages name) v k (λ name. package_in u.packages name) → AreBehind u.packages
     → versions_in u ≡ versions_in t ++ v ∷ [] → kinds_in u ≡ kinds_in t ++ line_kinds.Listed k ∷ [] → ((j : ℕ) → kept_of u.owned j ≡ kept_of t.owned j) → length u.owned ≡ length t.owned + 1
     → Adds t (Listed v) (record t { versions = u.versions; line_kinds = u.line_kinds; packages = u.packages; owned = u.owned })
-list t u k v keeps number unlisted adds versions more kept as_many =
+list t u k v keeps number unlisted adds behind versions more kept as_many =
     let vs = versions_in t in
     let lines = lines_in t in
     let l : Line = Listed v in
@@ -369,12 +378,13 @@ list t u k v keeps number unlisted adds versions more kept as_many =
       listing = listed_more lines v ∙ rw keeps.listing refl;
       kinds = rw more (are_kinds_push (vs ++ v ∷ []) lines (kinds_in t) l (line_kinds.Listed k) (as_long t) (are_kinds_more vs v lines (kinds_in t) keeps.kinds) (slice_get_within (vs ++ v ∷ []) k.0 v here));
       packages = λ name. record {
-        kept = packages_kept (λ nm. get_by_text t.packages nm) (λ nm. get_by_text u.packages nm) v k adds (λ nm p is. (keeps.packages nm).kept p is) name;
-        numbers = λ q. keyed_new same_version same_version_is (λ x. number_in (get_by_text t.packages x.name) x.number) (λ x. number_in (get_by_text u.packages x.name) x.number) v (length vs) (λ x n. slice_get vs n ≡ Some x) (λ x n. slice_get (vs ++ v ∷ []) n ≡ Some x) (λ x. v ≡ x)
-            (λ x. rw (← number) (number_updated (λ nm. get_by_text t.packages nm) (λ nm. get_by_text u.packages nm) v k adds x)) (no_number t keeps v unlisted) (λ x. (keeps.packages x.name).numbers x.number) (λ x. get_grows vs v x) refl (λ x same. same) (record { name = name; number = q });
-        all = keyed_more bytes_eq bytes_eq-Decides (λ nm. numbers_in (get_by_text t.packages nm)) (λ nm. numbers_in (get_by_text u.packages nm)) v.name (length vs) (λ nm. IsOfPackage vs nm) (λ nm. IsOfPackage (vs ++ v ∷ []) nm) (λ nm. v.name ≡ nm)
-            (λ nm. rw (← number) (all_updated (λ x. get_by_text t.packages x) (λ x. get_by_text u.packages x) v k adds nm)) (λ nm. (keeps.packages nm).all) (of_package_grows vs v) (λ nm n h. slice_get_within vs n h.0 h.1) refl (λ nm same. same) name;
+        kept = packages_kept (λ nm. package_in t.packages nm) (λ nm. package_in u.packages nm) v k adds (λ nm p is. (keeps.packages nm).kept p is) name;
+        numbers = λ q. keyed_new same_version same_version_is (λ x. number_in (package_in t.packages x.name) x.number) (λ x. number_in (package_in u.packages x.name) x.number) v (length vs) (λ x n. slice_get vs n ≡ Some x) (λ x n. slice_get (vs ++ v ∷ []) n ≡ Some x) (λ x. v ≡ x)
+            (λ x. rw (← number) (number_updated (λ nm. package_in t.packages nm) (λ nm. package_in u.packages nm) v k adds x)) (no_number t keeps v unlisted) (λ x. (keeps.packages x.name).numbers x.number) (λ x. get_grows vs v x) refl (λ x same. same) (record { name = name; number = q });
+        all = keyed_more bytes_eq bytes_eq-Decides (λ nm. numbers_in (package_in t.packages nm)) (λ nm. numbers_in (package_in u.packages nm)) v.name (length vs) (λ nm. IsOfPackage vs nm) (λ nm. IsOfPackage (vs ++ v ∷ []) nm) (λ nm. v.name ≡ nm)
+            (λ nm. rw (← number) (all_updated (λ x. package_in t.packages x) (λ x. package_in u.packages x) v k adds nm)) (λ nm. (keeps.packages nm).all) (of_package_grows vs v) (λ nm n h. slice_get_within vs n h.0 h.1) refl (λ nm same. same) name;
       };
+      behind = behind;
       locks = λ name. only_other (keeps.locks name) (line_grows lines l (Locks name)) (λ x. x);
       favoured = λ name. only_other (keeps.favoured name) (line_grows lines l (Favours name)) (λ x. x);
       many = λ name. only_other (keeps.many name) (line_grows lines l (MarksMany name)) (λ x. x);
@@ -413,14 +423,15 @@ no_line Q zero h = absurd cc
 no_line Q (suc n) h = absurd cc
 
 -- a table of no line
-pub empty : (t : Table) → t.versions.items ≡ [] → kinds_in t ≡ [] → t.packages.entries ≡ [] → t.locks.entries ≡ [] → t.favoured.entries ≡ [] → t.many.entries ≡ [] → t.excluded.entries ≡ [] → t.unknown.entries ≡ [] → t.owned ≡ [] → t.favours.items ≡ [] → IsTable t
-empty t versions kinds packages locks favoured many excluded unknown owned favours =
+pub empty : (t : Table) → t.versions.items ≡ [] → kinds_in t ≡ [] → ((name : List ℕ) → package_in t.packages name ≡ None) → AreBehind t.packages → t.locks.entries ≡ [] → t.favoured.entries ≡ [] → t.many.entries ≡ [] → t.excluded.entries ≡ [] → t.unknown.entries ≡ [] → t.owned ≡ [] → t.favours.items ≡ [] → IsTable t
+empty t versions kinds packages behind locks favoured many excluded unknown owned favours =
     let vs : versions_in t ≡ [] = rw versions refl in
     let lines : lines_in t ≡ [] = rw kinds refl in
     let keeps : Keeps t [] [] = record {
       listing = refl;
       kinds = λ n s at. absurd (no_kind n s (rw kinds at at));
-      packages = λ name. record { kept = λ p is. no_package (get_by_text t.packages name) p (rw packages refl) is; numbers = λ k. no_only _ _ (rw packages refl) (λ n at. none_got n (record { name = name; number = k }) at); all = rw packages (no_all (IsOfPackage [] name) (λ n h. none_got n h.0 h.1)) };
+      packages = λ name. record { kept = λ p is. no_package (package_in t.packages name) p (packages name) is; numbers = λ k. no_only _ _ (ap (λ (o : Option Package). number_in o k) (packages name)) (λ n at. none_got n (record { name = name; number = k }) at); all = subst (λ (o : Option Package). AreAll (numbers_in o) (IsOfPackage [] name)) (sym (packages name)) (no_all (IsOfPackage [] name) (λ n h. none_got n h.0 h.1)) };
+      behind = behind;
       locks = λ name. no_only _ _ (rw locks refl) (no_line (Locks name));
       favoured = λ name. no_only _ _ (rw favoured refl) (no_line (Favours name));
       many = λ name. no_only _ _ (rw many refl) (no_line (MarksMany name));

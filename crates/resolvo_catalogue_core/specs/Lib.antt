@@ -1,4 +1,5 @@
 pub mod Grammar
+pub mod Hash
 pub mod Held
 pub mod Rules
 pub mod Sets
@@ -6,6 +7,7 @@ pub mod Answers
 pub mod Listed
 pub mod Numbered
 pub mod Questions
+pub mod Packages
 pub mod Picked
 pub mod Codes
 pub mod LinesByVersion

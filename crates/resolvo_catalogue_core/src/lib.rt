@@ -2,11 +2,13 @@
 #![tactic(auto)]
 
 mod catalogue;
+mod hash;
 mod laws;
 mod line_table;
 mod lines_by_version;
 mod obey;
 mod package;
+mod package_table;
 mod picked;
 mod request;
 mod request_lines;
@@ -14,6 +16,7 @@ mod rule;
 mod table;
 
 pub use catalogue::Catalogue;
+pub use hash::{hash_of, mixed};
 pub use laws::{
     catalogue_has_no_fault, request_has_no_fault, text_is_one_catalogue, text_is_one_request,
 };

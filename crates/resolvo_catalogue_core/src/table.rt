@@ -13,14 +13,13 @@ ghost use Rattle.resolvo_text.specs.declared.line.LineFault.TheVariants.{Fault};
 ghost use Rattle.resolvo_catalogue_core.specs.Grammar.{MayFollow, IsCatalogueLine, owner_below};
 ghost use Rattle.resolvo_catalogue_core.specs.Questions.{number_of, AreAll, IsOwner, IsOnly, LineIs, LocksAnother, Forbids};
 ghost use Rattle.resolvo_catalogue_core.specs.Picked.{IsPicked};
-ghost use Rattle.resolvo_catalogue_core.specs.Table.{AddsVersion, number_in};
-ghost use Rattle.resolvo_catalogue_core.specs.Numbered.{IsNumbered};
-ghost use Rattle.resolvo_catalogue_core.specs.declared.package.Package.{Package};
+ghost use Rattle.resolvo_catalogue_core.specs.Table.{number_in};
+ghost use Rattle.resolvo_catalogue_core.specs.Packages.{package_in};
 
 use crate::line_table::{LineKind, LineTable};
 use crate::lines_by_version::LinesByVersion;
 use crate::obey::version_at;
-use crate::package::Package;
+use crate::package_table::PackageTable;
 use crate::rule::{Rule, VersionNo};
 use resolvo_text::{Cond, Line, LineFault, Spec, Version, line_in};
 use std::alloc::{AllocError, Global};
@@ -29,7 +28,7 @@ use std::collections::{BTreeMap, BTreeSet};
 pub struct Table {
     pub versions: Vec<(String, u32)>,
     pub line_kinds: LineTable,
-    pub packages: BTreeMap<String, Package>,
+    pub packages: PackageTable,
     /// The line that locks a version of the package.
     pub locks: BTreeMap<String, u32>,
     /// The line that favours a version of the package.
@@ -63,38 +62,6 @@ impl Drop for Table {
     }
 }
 
-/// Adds a version to those of its package, if it isn't listed; returns whether it was added.
-fn add_version(
-    packages: &mut BTreeMap<String, Package>,
-    alloc: Global,
-    version: &Version,
-    number: VersionNo,
-) -> Result<bool, AllocError>
-    requires kept { (name : List ℕ) (p : Package)
-        → get_by_text packages.old name ≡ Some p
-        → IsNumbered p }
-    ensures new { IfOk result
-        (λ added.
-        added
-        ≡ not
-        (is_some
-        (number_in (get_by_text packages.old (string_bytes version.now.name))
-        version.now.number))) }
-    ensures put { IfOk result
-        (λ added.
-        IsTrue added
-        → AddsVersion (λ name. get_by_text packages.old name) (version_of version.now) number
-        (λ name. get_by_text packages.new name)) }
-{
-    if let Some(package) = packages.get_mut(version.name.as_str()) {
-        return package.add(version.number, number);
-    }
-    let mut package = Package::new(alloc);
-    package.add(version.number, number)?;
-    packages.insert(version.name.clone()?, package)?;
-    Ok(true)
-}
-
 impl Table {
     ghost use Rattle.resolvo_catalogue_core.specs.LinesByVersion.{kept_of};
     ghost use Rattle.resolvo_catalogue_core.specs.Table.{IsTable, Adds, lines_in, versions_in, kinds_in, numbers_in, is_lock_of_another};
@@ -107,7 +74,7 @@ impl Table {
         Table {
             versions: Vec::new(alloc),
             line_kinds: LineTable::new(alloc),
-            packages: BTreeMap::new(alloc),
+            packages: PackageTable::new(alloc),
             locks: BTreeMap::new(alloc),
             favoured: BTreeMap::new(alloc),
             many: BTreeMap::new(alloc),
@@ -121,14 +88,14 @@ impl Table {
     pub fn find(&self, name: &str, number: u32) -> Option<VersionNo>
         requires { IsTable self.now }
         ensures { option_map number_of result
-            ≡ number_in (get_by_text self.now.packages name.now) number }
+            ≡ number_in (package_in self.now.packages name.now) number }
     {
         let package = self.packages.get(name)?;
         package.find(number)
     }
 
     pub fn versions_of(&self, name: &str) -> &[VersionNo]
-        ensures { map number_of result.now ≡ numbers_in (get_by_text self.now.packages name.now) }
+        ensures { map number_of result.now ≡ numbers_in (package_in self.now.packages name.now) }
     {
         match self.packages.get(name) {
             Some(package) => package.versions(),
@@ -318,7 +285,7 @@ impl Table {
             → ⊥ }
     {
         let number = VersionNo(self.versions.len() as u32);
-        if !add_version(&mut self.packages, alloc, &version, number)? {
+        if !self.packages.add(alloc, &version, number)? {
             return Err(LineFault::Fault);
         }
         self.owned.add_version()?;
@@ -467,7 +434,7 @@ impl Table {
 
     /// Whether a line lists a version of the package.
     fn lists_package(&self, name: &str) -> bool
-        ensures { result ≡ not (length (numbers_in (get_by_text self.now.packages name.now)) == 0) }
+        ensures { result ≡ not (length (numbers_in (package_in self.now.packages name.now)) == 0) }
     {
         !self.versions_of(name).is_empty()
     }

@@ -10,7 +10,7 @@ use Rattle.resolvo_catalogue_core.specs.Numbered.{beside}
 use Rattle.resolvo_catalogue_core.specs.declared.package.Package.{Package}
 use Rattle.resolvo_catalogue_core.proofs.TableSteps.{adds_version, adds_to_new, new_number}
 use Rattle.resolvo_catalogue_core.proofs.CatalogueFacts.{ok_map}
-use Rattle.resolvo_catalogue_core.proofs.table.add_version.Goals as goal
+use Rattle.resolvo_catalogue_core.proofs.package_table.add_version.Goals as goal
 
 pub returns-in-Some-clause-new : goal.returns-in-Some-clause-new
 returns-in-Some-clause-new c =
@@ -49,4 +49,4 @@ returns-clause-put c = λ _.
 pub add-requires : goal.add-requires
 add-requires c =
     let found = c.in-Some.ensures.value ∙ ap (λ (x : List ℕ). get_by_text c.args.packages.now x) c.as_str.ensures.value in
-    c.requires.kept (string_bytes c.args.version.now.name) c.in-Some.package.now (sym found)
+    c.requires.kept c.in-Some.package.now (sym found)
