@@ -11,3 +11,4 @@ pub mod Alike
 pub mod RulesKept
 pub mod KeptAlike
 pub mod TryLemmas
+pub mod CountLemmas

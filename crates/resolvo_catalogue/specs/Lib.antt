@@ -1,4 +1,5 @@
 pub mod Ids
+pub mod IdCounts
 pub mod Found
 pub mod Dependencies
 pub mod Marked

@@ -1,11 +1,12 @@
 //! The marks of each version in the lines of a catalogue: locked, favoured, excluded.
 
-ghost use Rattle.std.specs.Prelude.{◌≡◌, ◌<◌, ◌++◌, ◌∷◌, [], IfOk, IsErrOf, IsOkUnless, OnOk, List, Option, Some, length, slice_get};
+ghost use Rattle.std.specs.Prelude.{◌≡◌, ◌≤◌, ◌<◌, ◌+◌, ◌++◌, ◌∷◌, [], IfOk, IsErrOf, IsOkUnless, OnOk, List, Option, Some, length, slice_get, sum_by};
 ghost use Rattle.resolvo_pool_core.specs.declared.want.Want.TheVariants.{Ids as NoIds, Memory};
 ghost use Rattle.resolvo_text.specs.Line.{Version, Line, Favour};
 ghost use Rattle.resolvo_catalogue_core.specs.Questions.{IsRuleLine};
 ghost use Rattle.resolvo_catalogue_core.specs.Listed.{listed, AreDistinct};
 ghost use Rattle.resolvo_catalogue.specs.Ids.{Ids, Interns, LacksNumber};
+ghost use Rattle.resolvo_catalogue.specs.IdCounts.{id_count, ids_for_mark, mark_ids};
 ghost use Rattle.resolvo_catalogue.specs.Marked.{AreMarked, AreMany};
 
 use crate::id_table::IdTable;
@@ -35,6 +36,7 @@ pub fn marks_of(alloc: Global, ids: &mut IdTable, catalogue: &Catalogue) -> R<Ve
         (λ marks.
         AreMarked ids.new catalogue.now catalogue.now (listed catalogue.now) marks.items) }
     ensures interns { Interns ids.old ids.new }
+    ensures few { id_count ids.new ≤ id_count ids.old + sum_by ids_for_mark catalogue.now }
     ensures ids { IsErrOf result NoIds → LacksNumber ids.new }
 {
     let mut marks = unmarked(alloc, catalogue.versions().len())?;
@@ -87,6 +89,7 @@ fn mark(ids: &mut IdTable, marks: &mut Vec<CandidateFlags>, rule: &Rule) -> R<()
         → AreMarked ids.old lines favours versions marks.old.items
         → AreMarked ids.new (lines ++ line ∷ []) favours versions marks.new.items) }
     ensures interns { Interns ids.old ids.new }
+    ensures few { id_count ids.new ≤ id_count ids.old + mark_ids rule.now }
     ensures ids { IsErrOf result NoIds → LacksNumber ids.new }
 {
     match rule {

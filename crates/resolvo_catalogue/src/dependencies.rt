@@ -1,6 +1,6 @@
 //! The requirements and constraints of lines, as ids: of the lines of a version, and of a request.
 
-ghost use Rattle.std.specs.Prelude.{◌≡◌, ◌++◌, ◌∷◌, [], IfOk, IsErrOf, OnOk, List, Option};
+ghost use Rattle.std.specs.Prelude.{◌≡◌, ◌≤◌, ◌+◌, ◌++◌, ◌∷◌, [], sum_by, IfOk, IsErrOf, OnOk, List, Option};
 ghost use Rattle.resolvo_pool_core.specs.declared.want.Want.TheVariants.{Ids};
 
 use crate::id_table::IdTable;
@@ -27,6 +27,7 @@ impl VersionDependencies {
     ghost use Rattle.resolvo_text.specs.Line.{Version, Line};
     ghost use Rattle.resolvo_catalogue_core.specs.Questions.{IsRuleLine};
     ghost use Rattle.resolvo_catalogue.specs.Ids.{Interns, LacksNumber};
+    ghost use Rattle.resolvo_catalogue.specs.IdCounts.{id_count, ids_for_dependency, dependency_ids};
     ghost use Rattle.resolvo_catalogue.specs.Dependencies.{AreDependenciesOf, deps_of, lines_at};
 
     fn new(alloc: Global) -> VersionDependencies
@@ -60,6 +61,7 @@ impl VersionDependencies {
             → AreDependenciesOf ids.old lines (deps_of self.old)
             → AreDependenciesOf ids.new (lines ++ line ∷ []) (deps_of self.new)) }
         ensures interns { Interns ids.old ids.new }
+        ensures few { id_count ids.new ≤ id_count ids.old + dependency_ids rule.now }
         ensures ids { IsErrOf result Ids → LacksNumber ids.new }
     {
         match rule {
@@ -94,6 +96,8 @@ impl VersionDependencies {
         ensures as_ids { IfOk result
             (λ deps. AreDependenciesOf ids.new (lines_at catalogue.now lines.now) (deps_of deps)) }
         ensures interns { Interns ids.old ids.new }
+        ensures few { id_count ids.new
+            ≤ id_count ids.old + sum_by ids_for_dependency (lines_at catalogue.now lines.now) }
         ensures ids { IsErrOf result Ids → LacksNumber ids.new }
     {
         let mut deps = VersionDependencies::with_room(alloc, lines.len().min(FEW))?;
@@ -109,6 +113,8 @@ impl VersionDependencies {
     pub fn of_request(alloc: Global, ids: &mut IdTable, request: &Request) -> R<VersionDependencies>
         ensures as_ids { IfOk result (λ deps. AreDependenciesOf ids.new request.now.lines (deps_of deps)) }
         ensures interns { Interns ids.old ids.new }
+        ensures few { id_count ids.new
+            ≤ id_count ids.old + sum_by ids_for_dependency request.now.lines }
         ensures ids { IsErrOf result Ids → LacksNumber ids.new }
     {
         let mut deps = VersionDependencies::new(alloc);

@@ -3,7 +3,7 @@
 //! each id. Ids are found through sorted maps, so no choice of names or numbers makes that slow.
 //! Filled by `versions`, `dependencies` and `candidate_flags`, read by `provider`.
 
-ghost use Rattle.std.specs.Prelude.{◌≡◌, ◌<◌, ◌≤◌, ◌+◌, ◌++◌, ◌∷◌, [], if◌then◌else◌, ℕ, List, bytes_eq, IfOk, IfSome, IsErrOf, OnOk, OnErr, length, slice_get, Some};
+ghost use Rattle.std.specs.Prelude.{◌≡◌, ◌<◌, ◌≤◌, ◌+◌, ◌*◌, ◌++◌, ◌∷◌, [], if◌then◌else◌, ℕ, List, bytes_eq, IfOk, IfSome, IsErrOf, OnOk, OnErr, length, slice_get, Some};
 ghost use Rattle.std.specs.Option.{option_copied};
 ghost use Rattle.resolvo_text.specs.View.{spec_of, specs_of, cond_of, condition_of};
 ghost use Rattle.resolvo_text.specs.Line.{Is};
@@ -11,6 +11,7 @@ ghost use Rattle.resolvo_pool_core.specs.declared.condition.Condition.TheVariant
 ghost use Rattle.resolvo_pool_core.specs.Provider.{OperandsBelow};
 ghost use Rattle.resolvo_pool_core.specs.declared.want.Want.TheVariants.{Ids};
 ghost use Rattle.resolvo_catalogue.specs.Ids.{Interns, Grows, IsPlaced, AreSound, LacksNumber, IsPackage, IsWord, IsSpec, AreEach, AreAlternatives, IsCondition, IsConditionOf, IsNeed};
+ghost use Rattle.resolvo_catalogue.specs.IdCounts.{id_count, ids_for_condition, ids_for_need};
 ghost use Rattle.resolvo_catalogue.specs.Found.{Key, key_eq, number_in, list_number_in, set_key, union_key, condition_key};
 
 use crate::guesses::{Guesses, mixed};
@@ -141,6 +142,7 @@ impl IdTable {
         ensures package { IfOk result (λ n. IsPackage self.new n name.now) }
         ensures place { IfOk result (λ n. IsPlaced self.old.names self.new.names n.raw) }
         ensures interns { Interns self.old self.new }
+        ensures few { id_count self.new ≤ id_count self.old + 1 }
         ensures ids { IsErrOf result Ids → LacksNumber self.new }
     {
         Ok(NameId::from_raw(self.names.intern(self.alloc, name)?))
@@ -158,6 +160,7 @@ impl IdTable {
             ∷ []) }
         // Whatever the answer.
         ensures grows { Grows self.old self.new }
+        ensures few { id_count self.new ≤ id_count self.old + 2 }
         // After a refusal.
         ensures ids { IsErrOf result Ids → LacksNumber self.new }
     {
@@ -174,6 +177,7 @@ impl IdTable {
     pub fn word(&mut self, word: &str) -> R<StringId>
         ensures word { IfOk result (λ w. IsWord self.new w word.now) }
         ensures interns { Interns self.old self.new }
+        ensures few { id_count self.new ≤ id_count self.old + 1 }
         ensures ids { IsErrOf result Ids → LacksNumber self.new }
     {
         Ok(StringId(self.words.intern(self.alloc, word)?))
@@ -184,6 +188,7 @@ impl IdTable {
     pub fn spec(&mut self, spec: &Spec) -> R<VersionSetId>
         ensures spec { IfOk result (λ v. IsSpec self.new v (spec_of spec.now)) }
         ensures interns { Interns self.old self.new }
+        ensures few { id_count self.new ≤ id_count self.old + 2 }
         ensures ids { IsErrOf result Ids → LacksNumber self.new }
     {
         let package = self.package(spec.name.as_str())?;
@@ -214,6 +219,7 @@ impl IdTable {
         ensures version_set { IfOk result
             (λ v. slice_get self.new.version_sets v.0 ≡ Some (name, record { 0 = span })) }
         ensures interns { Interns self.old self.new }
+        ensures few { id_count self.new ≤ id_count self.old + 1 }
         ensures ids { IsErrOf result Ids → LacksNumber self.new }
     {
         let key = key_of_set(name, span);
@@ -228,6 +234,7 @@ impl IdTable {
     fn specs(&mut self, specs: &[Spec]) -> R<Vec<VersionSetId>>
         ensures specs { IfOk result (λ vs. AreEach (IsSpec self.new) vs.items (specs_of specs.now)) }
         ensures interns { Interns self.old self.new }
+        ensures few { id_count self.new ≤ id_count self.old + 2 * length specs.now }
         ensures ids { IsErrOf result Ids → LacksNumber self.new }
     {
         let mut ids = Vec::new(self.alloc);
@@ -242,6 +249,7 @@ impl IdTable {
         requires several { (v : VersionSetId) → members.items ≡ v ∷ [] → ⊥ }
         ensures union { IfOk result (λ u. slice_get self.new.unions u.0 ≡ Some members.items) }
         ensures interns { Interns self.old self.new }
+        ensures few { id_count self.new ≤ id_count self.old + 1 }
         ensures ids { IsErrOf result Ids → LacksNumber self.new }
     {
         let key = key_of_union(self.alloc, &members)?;
@@ -257,6 +265,7 @@ impl IdTable {
     pub fn alternatives(&mut self, alternatives: &[Spec]) -> R<Requirement>
         ensures alternatives { IfOk result (λ r. AreAlternatives self.new r (specs_of alternatives.now)) }
         ensures interns { Interns self.old self.new }
+        ensures few { id_count self.new ≤ id_count self.old + 2 * length alternatives.now + 1 }
         ensures ids { IsErrOf result Ids → LacksNumber self.new }
     {
         if let [only] = alternatives {
@@ -271,6 +280,7 @@ impl IdTable {
     fn condition_of_spec(&mut self, spec: &Spec) -> R<ConditionId>
         ensures condition { IfOk result (λ c. IsCondition self.new c (Is (spec_of spec.now))) }
         ensures interns { Interns self.old self.new }
+        ensures few { id_count self.new ≤ id_count self.old + 3 }
         ensures ids { IsErrOf result Ids → LacksNumber self.new }
     {
         let version_set = self.spec(spec)?;
@@ -281,6 +291,7 @@ impl IdTable {
         requires { OperandsBelow condition (record { 0 = length self.old.conditions }) }
         ensures condition { IfOk result (λ c. slice_get self.new.conditions c.0 ≡ Some condition) }
         ensures interns { Interns self.old self.new }
+        ensures few { id_count self.new ≤ id_count self.old + 1 }
         ensures ids { IsErrOf result Ids → LacksNumber self.new }
     {
         let key = key_of_condition(condition);
@@ -296,6 +307,7 @@ impl IdTable {
     pub fn condition(&mut self, condition: &Cond) -> R<ConditionId>
         ensures condition { IfOk result (λ c. IsCondition self.new c (cond_of condition.now)) }
         ensures interns { Interns self.old self.new }
+        ensures few { id_count self.new ≤ id_count self.old + ids_for_condition (cond_of condition.now) }
         ensures ids { IsErrOf result Ids → LacksNumber self.new }
     {
         match condition {
@@ -325,6 +337,7 @@ impl IdTable {
         ensures joined { IfOk result
             (λ c. slice_get self.new.conditions c.0 ≡ Some (Binary operator left right)) }
         ensures interns { Interns self.old self.new }
+        ensures few { id_count self.new ≤ id_count self.old + 1 }
         ensures ids { IsErrOf result Ids → LacksNumber self.new }
     {
         self.intern_condition(Condition::Binary(operator, left, right))
@@ -342,6 +355,9 @@ impl IdTable {
             IsNeed self.new r
             (specs_of alternatives.now, condition_of (option_copied condition.entry))) }
         ensures interns { Interns self.old self.new }
+        ensures few { id_count self.new
+            ≤ id_count self.old
+            + ids_for_need (specs_of alternatives.now, condition_of (option_copied condition.entry)) }
         ensures ids { IsErrOf result Ids → LacksNumber self.new }
     {
         let requirement = self.alternatives(alternatives)?;

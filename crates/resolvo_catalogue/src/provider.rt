@@ -2,10 +2,12 @@
 //! Its model is the interned values, and the dependencies and marks of each version
 //! (`specs/Provider.antt`).
 
-ghost use Rattle.std.specs.Prelude.{◌≡◌, [], Bool, false, true, map, IfOk, IsErrOf, IsOkUnless};
+ghost use Rattle.std.specs.Prelude.{◌≡◌, ◌≤◌, ◌+◌, [], Bool, false, true, map, sum_by, IfOk, IsErrOf, IsOkUnless};
 ghost use Rattle.resolvo_pool_core.specs.declared.want.Want.TheVariants.{Ids, Memory};
 ghost use Rattle.resolvo_catalogue.specs.declared.provider.Hint.{Hint};
-ghost use Rattle.resolvo_catalogue.specs.Ids.{AreByPackage, Interns, LacksNumber};
+ghost use Rattle.resolvo_catalogue_core.specs.Listed.{listed};
+ghost use Rattle.resolvo_catalogue.specs.Ids.{AreByPackage, AreVersions, Interns, LacksNumber};
+ghost use Rattle.resolvo_catalogue.specs.IdCounts.{LacksNumberFor, id_count, ids_for_dependency, ids_for_line};
 ghost use Rattle.resolvo_catalogue.specs.Dependencies.{deps_of};
 ghost use Rattle.resolvo_catalogue.specs.Over.{AreDependencies, IsOver};
 
@@ -113,6 +115,8 @@ impl CatalogueProvider {
         ensures over { IfOk result (λ p. IsOver catalogue.now p) }
         ensures hint { IfOk result (λ p. p.hint ≡ hint) }
         ensures budget { IfOk result (λ p. p.has_budget ≡ false) }
+        ensures few { IfOk result (λ p. id_count p.ids ≤ sum_by ids_for_line catalogue.now) }
+        ensures ids { IsErrOf result Ids → LacksNumberFor catalogue.now }
     {
         let mut ids = IdTable::new(alloc);
         let Tables {
@@ -166,6 +170,8 @@ impl CatalogueProvider {
         ensures asked { IfOk result (λ asked. AreAsked self.new.ids request.now asked) }
         ensures interns { ChangesIds self.old self.new }
         ensures over { (catalogue : List parsed.Line) → IsOver catalogue self.old → IsOver catalogue self.new }
+        ensures few { id_count self.new.ids
+            ≤ id_count self.old.ids + sum_by ids_for_dependency request.now.lines }
         ensures ids { IsErrOf result Ids → LacksNumber self.new.ids }
         // Which sets keep the rules of the ids.
         ensures rules { IfOk result
@@ -277,6 +283,7 @@ impl CatalogueProvider {
 fn tables_of(alloc: Global, ids: &mut IdTable, catalogue: &Catalogue) -> R<Tables>
     requires names { ids.old.names ≡ [] }
     requires none { ids.old.solvables ≡ [] }
+    // After an answer.
     ensures over { IfOk result
         (λ t.
         (hint : Hint) (has_budget : Bool)
@@ -290,6 +297,10 @@ fn tables_of(alloc: Global, ids: &mut IdTable, catalogue: &Catalogue) -> R<Table
           has_budget = has_budget;
         })) }
     ensures packages { IfOk result (λ t. AreByPackage ids.new t.packages.items) }
+    // Whatever the answer.
+    ensures few { id_count ids.new ≤ id_count ids.old + sum_by ids_for_line catalogue.now }
+    // After a refusal.
+    ensures ids { IsErrOf result Ids → LacksNumber ids.new }
 {
     catalogue.lines_are_in_place();
     let packages = list_versions(alloc, ids, catalogue.versions())?;
@@ -313,6 +324,10 @@ fn deps_of_lines(
 ) -> R<Vec<VersionDependencies>>
     ensures deps { IfOk result (λ deps. AreDependencies ids.new catalogue.now (map deps_of deps.items)) }
     ensures interns { Interns ids.old ids.new }
+    ensures few { id_count ids.new ≤ id_count ids.old + sum_by ids_for_dependency catalogue.now }
+    ensures ids { IsErrOf result Ids
+        → AreVersions ids.old (listed catalogue.now)
+        → LacksNumber ids.new }
 {
     let mut deps = Vec::new(alloc);
     let Ok(count) = u32::try_from(catalogue.versions().len()) else {

@@ -2,7 +2,7 @@
 //! A text is found through a map that is sorted by hashes, and by texts where these are the same. So
 //! no choice of texts makes that slow. Used by `id_table`.
 
-ghost use Rattle.std.specs.Prelude.{◌≡◌, ◌≤◌, [], IfOk, IfSome, IsErrOf, ℕ, length, slice_get, Some, None};
+ghost use Rattle.std.specs.Prelude.{◌≡◌, ◌≤◌, ◌+◌, [], IfOk, IfSome, IsErrOf, ℕ, length, slice_get, Some, None};
 ghost use Rattle.resolvo_pool_core.specs.declared.want.Want.TheVariants.{Ids};
 ghost use Rattle.std.specs.Option.{option_map};
 ghost use Rattle.std.specs.String.{string_bytes};
@@ -88,6 +88,7 @@ impl TextIds {
         ensures text { IfOk result (λ i. slice_get self.new i ≡ Some text.now) }
         ensures place { IfOk result (λ i. IsPlaced self.old self.new i) }
         ensures extends { Extends self.old self.new }
+        ensures few { length self.new ≤ length self.old + 1 }
         ensures ids { IsErrOf result Ids → 4294967295 ≤ length self.new }
     {
         let index = next_index(self.texts.len())?;
@@ -103,6 +104,7 @@ impl TextIds {
         ensures text { IfOk result (λ i. slice_get self.new i ≡ Some text.now) }
         ensures place { IfOk result (λ i. IsPlaced self.old self.new i) }
         ensures extends { Extends self.old self.new }
+        ensures few { length self.new ≤ length self.old + 1 }
         ensures ids { IsErrOf result Ids → 4294967295 ≤ length self.new }
     {
         let hash = hash_of(text.as_bytes());

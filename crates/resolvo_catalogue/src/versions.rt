@@ -1,8 +1,9 @@
 //! The versions of a catalogue as solvables, in line order, and those of each package.
 
-ghost use Rattle.std.specs.Prelude.{◌≡◌, ◌≤◌, ◌+◌, ◌++◌, ◌∷◌, ◌==◌, [], IfOk, IsErrOf, IsOkUnless, OnOk, length, if◌then◌else◌, ℕ};
+ghost use Rattle.std.specs.Prelude.{◌≡◌, ◌≤◌, ◌+◌, ◌*◌, ◌++◌, ◌∷◌, ◌==◌, [], IfOk, IsErrOf, IsOkUnless, OnOk, length, if◌then◌else◌, ℕ};
 ghost use Rattle.resolvo_pool_core.specs.declared.want.Want.TheVariants.{Ids, Memory};
 ghost use Rattle.resolvo_catalogue_core.specs.Listed.{pair_versions};
+ghost use Rattle.resolvo_catalogue.specs.IdCounts.{id_count};
 ghost use Rattle.resolvo_catalogue.specs.Ids.{AreVersions, AreByPackage, IsPlaced, LacksNumber, list_at};
 
 use crate::id_table::IdTable;
@@ -20,6 +21,7 @@ pub fn list_versions(
     requires none { ids.old.solvables ≡ [] }
     ensures versions { IfOk result (λ _. AreVersions ids.new (pair_versions versions.now)) }
     ensures packages { IfOk result (λ lists. AreByPackage ids.new lists.items) }
+    ensures few { id_count ids.new ≤ id_count ids.old + 2 * length versions.now }
     ensures ids { IsErrOf result Ids → LacksNumber ids.new }
 {
     let mut lists = Vec::new(alloc);

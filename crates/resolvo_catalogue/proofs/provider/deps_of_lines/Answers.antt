@@ -1,9 +1,12 @@
-use Rattle.std.proofs.Common.{◌≡◌, refl, ap, ◌∙◌, ◌++◌, ◌∷◌, [], map, length}
-use Rattle.std.proofs.lemmas.List.{map-append, length-append}
+use Rattle.std.proofs.Common.{◌≡◌, refl, sym, ap, ◌∙◌, ◌++◌, ◌∷◌, [], map, length, arith}
+use Rattle.std.proofs.lemmas.List.{map-append, length-append, length-map}
+use Rattle.resolvo_catalogue_core.specs.Listed.{listed}
+use Rattle.resolvo_catalogue.specs.IdCounts.{id_count}
 use Rattle.resolvo_catalogue.specs.Dependencies.{deps_of}
 use Rattle.resolvo_catalogue.specs.Over.{AreDependenciesAt}
-use Rattle.resolvo_catalogue.proofs.GrowLemmas.{interns_on}
+use Rattle.resolvo_catalogue.proofs.GrowLemmas.{interns_on, interns_own}
 use Rattle.resolvo_catalogue.proofs.CoverLemmas.{deps_stay, deps_push}
+use Rattle.resolvo_catalogue.proofs.CountLemmas.{all_left, left_ends, left_next, too_many}
 use Rattle.resolvo_catalogue.proofs.provider.deps_of_lines.Goals as goal
 
 pub loop-number-preserved : goal.loop-number-preserved
@@ -18,4 +21,28 @@ loop-number-preserved c =
       rw (put, length-append before (x ∷ []), inv.0) refl,
       λ k t e. deps_push b c.args.catalogue.now before x (deps_stay c.loop-number.ids b grown.grows c.args.catalogue.now before inv.1) own k t (rw put at e),
       interns_on _ _ _ inv.2 grown,
+      left_next c.args.catalogue.now inv.3.0 c.loop-number.number _ _ _ c.lines_of-lines.result.now inv.3.1 c.lines_of-lines.ensures c.in_ok-of_lines.ensures.few c.versions.ensures.distinct,
     )
+
+pub loop-number-init : goal.loop-number-init
+loop-number-init c = (
+  rw c.new-deps.ensures.items refl,
+  λ k t e. let none = rw c.new-deps.ensures.items at e in absurd cc,
+  interns_own c.args.ids.now,
+  (c.args.catalogue.now, all_left c.args.catalogue.now (id_count c.args.ids.now)),
+)
+
+pub returns-in_default-clause-ids : goal.returns-in_default-clause-ids
+returns-in_default-clause-ids c = λ is are.
+    let count : length (listed c.args.catalogue.now) ≡ length c.versions.result.now = ap length (sym c.versions.ensures.listed) ∙ length-map c.versions.result.now _ in
+    too_many c.args.ids.now c.args.catalogue.now (listed c.args.catalogue.now) are (grind (arith, count))
+
+pub returns-in_err-of_lines-clause-few : goal.returns-in_err-of_lines-clause-few
+returns-in_err-of_lines-clause-few c =
+    let inv = c.loop-number.invariant in
+    left_ends c.args.catalogue.now inv.3.0 c.loop-number.number _ _ _ c.lines_of-lines.result.now inv.3.1 c.lines_of-lines.ensures c.in_err-of_lines.ensures.few
+
+pub returns-in_err-push-clause-few : goal.returns-in_err-push-clause-few
+returns-in_err-push-clause-few c =
+    let inv = c.loop-number.invariant in
+    left_ends c.args.catalogue.now inv.3.0 c.loop-number.number _ _ _ c.lines_of-lines.result.now inv.3.1 c.lines_of-lines.ensures c.in_ok-of_lines.ensures.few

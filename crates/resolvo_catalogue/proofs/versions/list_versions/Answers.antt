@@ -1,4 +1,4 @@
-use Rattle.std.proofs.Common.{refl, ◌∷◌, [], ◌∙◌}
+use Rattle.std.proofs.Common.{refl, ◌∷◌, [], ◌∙◌, arith}
 use Rattle.std.proofs.lemmas.List.{map_more}
 use Rattle.resolvo_catalogue_core.specs.Listed.{pair_version}
 use Rattle.resolvo_catalogue.specs.Ids.{IsSolvable}
@@ -15,4 +15,6 @@ loop-version-preserved c =
           (each_more (IsSolvable b) c.loop-version.ids.solvables (record { version = c.version-item.result.1; name = c.in_ok-package.package } ∷ []) _ (pair_version c.version-item.result ∷ []) (versions_stay c.loop-version.ids b interned.grows _ _ inv.0) ((refl, rw c.as_str.ensures.value at interned.«package»), tt)),
       λ n. c.in_ok-add.ensures.added n ∙ solvables_more c.loop-version.ids b _ c.in_ok-package.id _ n interned.added interned.id (inv.1 n),
       as_long c.loop-version.lists.items c.add.new.lists.items c.loop-version.ids.names b.names c.in_ok-package.package.raw inv.2 c.in_ok-add.ensures.place interned.place,
+      omega (arith, inv.3, interned.few),
+      omega (arith, c.loop-version-test.true),
     )

@@ -1,4 +1,4 @@
-use Rattle.std.proofs.Common.{[], ◌∷◌}
+use Rattle.std.proofs.Common.{[], ◌∷◌, arith}
 use Rattle.std.proofs.lemmas.List.{map_more}
 use Rattle.resolvo_text.specs.View.{spec_of}
 use Rattle.resolvo_catalogue.specs.Ids.{IsSpec}
@@ -14,4 +14,6 @@ loop-spec-preserved c =
       rw (map_more spec_of c.args.specs.now i c.spec-item.result c.loop-spec-test.true, ← c.spec-item.is, c.in_ok-push.ensures.items)
           (each_more (IsSpec b) c.loop-spec.ids.items (c.in_ok-spec.field-0 ∷ []) _ (spec_of c.spec-item.result ∷ []) before (c.in_ok-spec.ensures.spec, tt)),
       interns_on _ _ _ inv.1 c.in_ok-spec.ensures.interns,
+      omega (arith, inv.2, c.in_ok-spec.ensures.few),
+      omega (arith, c.loop-spec-test.true),
     )
