@@ -136,24 +136,28 @@ pub take_out : (f : Line → ℕ) → f Skipped ≡ 0 → (lines left : List Lin
 take_out f none lines left [] apart there = (left, record { sum = omega arith; others = λ n away. refl })
 take_out f none lines left (n ∷ numbers) apart there = elim (some_or_none (line_at lines n)) [
   | inl at ↦
-        let more = take_out f none lines left numbers apart.1 (λ m has. there m (later_element n numbers m has)) in
-        let same : lines_at lines (n ∷ numbers) ≡ lines_at lines numbers = flat_map-cons (λ (m : ℕ). option_to_list (line_at lines m)) n numbers ∙ ap (λ (p : Option Line). option_to_list p ++ lines_at lines numbers) at in
-        (more.0, record {
+      let more = take_out f none lines left numbers apart.1 (λ m has. there m (later_element n numbers m has)) in
+      let same : lines_at lines (n ∷ numbers) ≡ lines_at lines numbers = flat_map-cons (λ (m : ℕ). option_to_list (line_at lines m)) n numbers ∙ ap (λ (p : Option Line). option_to_list p ++ lines_at lines numbers) at in (
+        more.0,
+        record {
           sum = subst (λ (ls : List Line). sum_by f ls + sum_by f more.0 ≤ sum_by f left) (sym same) more.1.sum;
           others = λ m away. more.1.others m (λ has. away (later_element n numbers m has));
-        })
+        },
+      )
   | inr found ↦
-        let l : Line = found.0 in
-        let at : line_at lines n ≡ Some l = found.1 in
-        let here : line_at left n ≡ Some l = there n (first_element n numbers) ∙ at in
-        let differs : (m : ℕ) → Contains numbers m → n ≡ m → ⊥ = λ m has e. apart.0 (subst (λ (k : ℕ). Contains numbers k) (sym e) has) in
-        let more = take_out f none lines (skip left n) numbers apart.1 (λ m has. skip_others left n m (differs m has) ∙ there m (later_element n numbers m has)) in
-        let same : lines_at lines (n ∷ numbers) ≡ l ∷ lines_at lines numbers = flat_map-cons (λ (m : ℕ). option_to_list (line_at lines m)) n numbers ∙ ap (λ (p : Option Line). option_to_list p ++ lines_at lines numbers) at in
-        let sums : sum_by f (l ∷ lines_at lines numbers) + sum_by f more.0 ≤ sum_by f left = omega (arith, more.1.sum, skip_sum f none left n l here, sum_by-cons f l (lines_at lines numbers)) in
-        (more.0, record {
+      let l : Line = found.0 in
+      let at : line_at lines n ≡ Some l = found.1 in
+      let here : line_at left n ≡ Some l = there n (first_element n numbers) ∙ at in
+      let differs : (m : ℕ) → Contains numbers m → n ≡ m → ⊥ = λ m has e. apart.0 (subst (λ (k : ℕ). Contains numbers k) (sym e) has) in
+      let more = take_out f none lines (skip left n) numbers apart.1 (λ m has. skip_others left n m (differs m has) ∙ there m (later_element n numbers m has)) in
+      let same : lines_at lines (n ∷ numbers) ≡ l ∷ lines_at lines numbers = flat_map-cons (λ (m : ℕ). option_to_list (line_at lines m)) n numbers ∙ ap (λ (p : Option Line). option_to_list p ++ lines_at lines numbers) at in
+      let sums : sum_by f (l ∷ lines_at lines numbers) + sum_by f more.0 ≤ sum_by f left = omega (arith, more.1.sum, skip_sum f none left n l here, sum_by-cons f l (lines_at lines numbers)) in (
+        more.0,
+        record {
           sum = subst (λ (ls : List Line). sum_by f ls + sum_by f more.0 ≤ sum_by f left) (sym same) sums;
           others = λ m away. more.1.others m (λ has. away (later_element n numbers m has)) ∙ skip_others left n m (λ e. away (subst (λ (k : ℕ). Contains (n ∷ numbers) k) e (first_element n numbers)));
-        })
+        },
+      )
 ]
 
 -- What is left of the lines before version k: those of it and of later ones are there, and no more ids
@@ -191,12 +195,15 @@ module _ (lines left : List Line) (k old new more : ℕ) (numbers : List ℕ) (i
 
   -- the lines of one version more
   pub left_next : AreDistinct (listed lines) → (next : List Line) × IsLeftFor lines (k + 1) old more next
-  left_next distinct = (taken.0, record {
-    enough = omega (arith, few, taken.1.sum, is.enough);
-    there = λ j n after belongs.
-    let away : Contains numbers n → ⊥ = λ has. let same : k ≡ j = one_place lines k j n distinct ((all.all n).0 has) belongs in omega (arith, same, after) in
-    taken.1.others n away ∙ is.there j n (omega (arith, after)) belongs;
-  })
+  left_next distinct = (
+    taken.0,
+    record {
+      enough = omega (arith, few, taken.1.sum, is.enough);
+      there = λ j n after belongs.
+          let away : Contains numbers n → ⊥ = λ has. let same : k ≡ j = one_place lines k j n distinct ((all.all n).0 has) belongs in omega (arith, same, after) in
+          taken.1.others n away ∙ is.there j n (omega (arith, after)) belongs;
+    },
+  )
 
   -- no more ids are given than all lines need
   pub left_ends : more ≤ old + sum_by ids_for_dependency lines
