@@ -2,6 +2,9 @@
 use Rattle.std.specs.Prelude.{◌≡◌, ℕ, List, Option}
 use Rattle.resolvo_text.specs.Device.{IfKnown}
 use Rattle.resolvo_text.specs.Line.{Line}
+use Rattle.resolvo_text.specs.Sources.{SourceFailed, SinkFailed}
+use Rattle.resolvo_text.specs.declared.device.Source as source
+use Rattle.resolvo_text.specs.declared.device.Sink as sink
 use Rattle.resolvo_text.specs.Texts.{IsGrammatical, IsFaultyAt, IsTextFault}
 use Rattle.resolvo_text.specs.declared.lines.ReadFault.{ReadFault}
 use Rattle.resolvo_catalogue_core.specs.Grammar.{IsCatalogueLine, IsRequestLine}
@@ -17,6 +20,14 @@ reader_of before after Failed = record { before = before; after = after; Failed 
 
 abbrev pub writer_of : Option (List ℕ) → Option (List ℕ) → Type 0 → Device
 writer_of before after Failed = record { before = before; after = after; Failed = Failed }
+
+-- a source with these members, before a call and after it
+abbrev pub reader_at : {S : Type 0} → source.Ghosts S → S → S → Device
+reader_at d before after = reader_of (d.left before) (d.left after) (SourceFailed d before after)
+
+-- a sink with these members, before a call and after it
+abbrev pub writer_at : {S : Type 0} → sink.Ghosts S → S → S → Device
+writer_at d before after = writer_of (d.contents before) (d.contents after) (SinkFailed d before after)
 
 -- the most bytes of a catalogue or a request
 abbrev pub text_limit : ℕ

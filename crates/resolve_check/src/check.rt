@@ -2,8 +2,7 @@
 //! call `check`.
 
 ghost use Rattle.std.specs.Prelude.{◌≡◌, IfOk, IfErr};
-ghost use Rattle.resolvo_text.specs.Device.{DeviceFailed, WriterFailed};
-ghost use Rattle.resolve_check.specs.Devices.{IfCatalogueFaulty, IfRequestFaulty, reader_of, writer_of};
+ghost use Rattle.resolve_check.specs.Devices.{IfCatalogueFaulty, IfRequestFaulty, reader_at, writer_at};
 ghost use Rattle.resolve_check.specs.Check.{IsVerdictText, AnswersFault, ChecksTexts, StopsBeforeCheck, StopsCheck, WritesCheck};
 
 use crate::outcome::{Checked, RunFault};
@@ -67,15 +66,9 @@ fn answer<C: Source, R: Source, P: Source>(
     ensures err { IfErr result
         (λ e.
         StopsBeforeCheck e
-        (reader_of (C.left catalogue.old) (C.left catalogue.new)
-        (DeviceFailed (C.failures catalogue.old) (C.failures catalogue.new)
-        (C.interruptions catalogue.new)))
-        (reader_of (R.left request.old) (R.left request.new)
-        (DeviceFailed (R.failures request.old) (R.failures request.new)
-        (R.interruptions request.new)))
-        (reader_of (P.left report.old) (P.left report.new)
-        (DeviceFailed (P.failures report.old) (P.failures report.new)
-        (P.interruptions report.new)))) }
+        (reader_at C.Source catalogue.old catalogue.new)
+        (reader_at R.Source request.old request.new)
+        (reader_at P.Source report.old report.new)) }
     ensures catalogue_faulty { IfCatalogueFaulty (C.left catalogue.old)
         ((request.new ≡ request.old) × (report.new ≡ report.old)) }
     ensures request_faulty { IfRequestFaulty (C.left catalogue.old) (R.left request.old)
@@ -110,36 +103,18 @@ pub fn check<C: Source, R: Source, P: Source, W: Sink>(
     ensures written { IfOk result
         (λ checked.
         WritesCheck
-        (reader_of (C.left catalogue.old) (C.left catalogue.new)
-        (DeviceFailed (C.failures catalogue.old) (C.failures catalogue.new)
-        (C.interruptions catalogue.new)))
-        (reader_of (R.left request.old) (R.left request.new)
-        (DeviceFailed (R.failures request.old) (R.failures request.new)
-        (R.interruptions request.new)))
-        (reader_of (P.left report.old) (P.left report.new)
-        (DeviceFailed (P.failures report.old) (P.failures report.new)
-        (P.interruptions report.new)))
-        (writer_of (W.contents writer.old) (W.contents writer.new)
-        (WriterFailed (W.failures writer.old) (W.failures writer.new)
-        (W.interruptions writer.new) (W.empty_writes writer.old)
-        (W.empty_writes writer.new)))
+        (reader_at C.Source catalogue.old catalogue.new)
+        (reader_at R.Source request.old request.new)
+        (reader_at P.Source report.old report.new)
+        (writer_at W.Sink writer.old writer.new)
         checked) }
     ensures stopped { IfErr result
         (λ e.
         StopsCheck e
-        (reader_of (C.left catalogue.old) (C.left catalogue.new)
-        (DeviceFailed (C.failures catalogue.old) (C.failures catalogue.new)
-        (C.interruptions catalogue.new)))
-        (reader_of (R.left request.old) (R.left request.new)
-        (DeviceFailed (R.failures request.old) (R.failures request.new)
-        (R.interruptions request.new)))
-        (reader_of (P.left report.old) (P.left report.new)
-        (DeviceFailed (P.failures report.old) (P.failures report.new)
-        (P.interruptions report.new)))
-        (writer_of (W.contents writer.old) (W.contents writer.new)
-        (WriterFailed (W.failures writer.old) (W.failures writer.new)
-        (W.interruptions writer.new) (W.empty_writes writer.old)
-        (W.empty_writes writer.new)))) }
+        (reader_at C.Source catalogue.old catalogue.new)
+        (reader_at R.Source request.old request.new)
+        (reader_at P.Source report.old report.new)
+        (writer_at W.Sink writer.old writer.new)) }
     ensures catalogue_faulty { IfCatalogueFaulty (C.left catalogue.old)
         ((request.new ≡ request.old) × (report.new ≡ report.old)) }
     ensures request_faulty { IfRequestFaulty (C.left catalogue.old) (R.left request.old)

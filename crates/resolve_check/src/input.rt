@@ -5,7 +5,7 @@ ghost use Rattle.std.specs.Prelude.{◌≡◌, ◌==◌, ◌≤◌, ◌<◌, tru
 ghost use Rattle.std.specs.Option.{option_map};
 ghost use Rattle.std.specs.List.{position};
 ghost use Rattle.std.specs.Io.KnownBytes.{Consumes, IsAtEnd, Keeps};
-ghost use Rattle.resolvo_text.specs.Device.{DeviceFailed};
+ghost use Rattle.resolvo_text.specs.Sources.{SourceFailed};
 ghost use Rattle.resolve_check.specs.Input.{IsSplit, IsFirstLine, parting, IsInputFault};
 
 use crate::outcome::RunFault;
@@ -35,8 +35,7 @@ fn read_some<S: Source>(source: &mut S, buffer: &mut [u8]) -> Result<usize, RunF
     ensures fault { MatchResult result (λ _. ⊤)
         (λ e.
         IsInputFault e (S.left source.old) 0
-        (DeviceFailed (S.failures source.old) (S.failures source.new)
-        (S.interruptions source.new))) }
+        (SourceFailed S.Source source.old source.new)) }
     ensures read_fault { MatchResult result (λ _. ⊤) (λ e. e ≡ RunFault.Reader) }
 {
     for _try in 0..MOST_INTERRUPTIONS + 1 {
@@ -63,8 +62,7 @@ pub fn read_input<S: Source>(
     ensures fault { MatchResult result (λ _. ⊤)
         (λ e.
         IsInputFault e (S.left source.old) limit
-        (DeviceFailed (S.failures source.old) (S.failures source.new)
-        (S.interruptions source.new))) }
+        (SourceFailed S.Source source.old source.new)) }
 {
     let mut all = Vec::new(alloc);
     let mut piece = [0u8; PIECE];

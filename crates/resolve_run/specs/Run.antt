@@ -1,11 +1,9 @@
 -- The effect of a run on its devices: a text is written, or a prefix of one, or nothing, and why.
 use Rattle.std.specs.Prelude.{◌≡◌, ◌⊎◌, ◌<◌, ℕ, List, length, Option}
 use Rattle.std.specs.Io.KnownBytes.{Appends}
-use Rattle.resolvo_text.specs.Device.{IfKnown, TakesPrefix, DeviceFailed, WriterFailed}
+use Rattle.resolvo_text.specs.Device.{IfKnown, TakesPrefix}
 use Rattle.resolvo_text.specs.Line.{Line}
 use Rattle.resolvo_text.specs.Texts.{IsGrammatical}
-use Rattle.resolvo_text.specs.declared.device.Sink as sink
-use Rattle.resolvo_text.specs.declared.device.Source as source
 use Rattle.resolvo_text.specs.declared.lines.ReadFault.TheVariants as read
 use Rattle.resolvo_catalogue_core.specs.Grammar.{IsCatalogueLine, IsRequestLine}
 use Rattle.resolvo_report.specs.Value.{Report}
@@ -15,16 +13,8 @@ use Rattle.resolve_answer.specs.Reported.{HaveLongReport}
 use Rattle.resolve_check.specs.declared.outcome.Outcome.{Outcome}
 use Rattle.resolve_check.specs.declared.outcome.RunFault.{RunFault}
 use Rattle.resolve_check.specs.declared.outcome.RunFault.TheVariants.{Reader, TooLong, Memory, Ids, Writer}
-use Rattle.resolve_check.specs.Devices.{Device, reader_of, writer_of, IfCatalogueFaulty, StopsReading}
+use Rattle.resolve_check.specs.Devices.{Device, IfCatalogueFaulty, StopsReading}
 use Rattle.resolve_run.specs.Answer.{IsAnswer}
-
--- a reader with these members, before a call and after it
-abbrev pub reader_at : {S : Type 0} → source.Ghosts S → S → S → Device
-reader_at d before after = reader_of (d.left before) (d.left after) (DeviceFailed (d.failures before) (d.failures after) (d.interruptions after))
-
--- a writer with these members, before a call and after it
-abbrev pub writer_at : {S : Type 0} → sink.Ghosts S → S → S → Device
-writer_at d before after = writer_of (d.contents before) (d.contents after) (WriterFailed (d.failures before) (d.failures after) (d.interruptions after) (d.empty_writes before) (d.empty_writes after))
 
 -- Where the catalogue has a faulty line, the reader of the request stays as it was.
 abbrev pub LeavesRequest : {S : Type 0} → Option (List ℕ) → S → S → Type 0

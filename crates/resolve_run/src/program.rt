@@ -8,7 +8,8 @@ ghost use Rattle.resolvo_report.specs.Text.{report_text};
 ghost use Rattle.resolvo_report.specs.View.{report_of};
 ghost use Rattle.resolve_answer.specs.Wishes.{AreWishesAt};
 ghost use Rattle.resolve_run.specs.Answer.{IsAnswerOfLines, outcome_of};
-ghost use Rattle.resolve_run.specs.Run.{AnswersTexts, IsWriteLack, LeavesRequest, StopsRun, Writes, reader_at, writer_at};
+ghost use Rattle.resolve_check.specs.Devices.{reader_at, writer_at};
+ghost use Rattle.resolve_run.specs.Run.{AnswersTexts, IsWriteLack, LeavesRequest, StopsRun, Writes};
 ghost use Rattle.resolve_run.specs.Within.{within, IsLackWithin, StopsBeforeWithin, StopsWithin};
 
 use crate::report::report_text;

@@ -53,7 +53,8 @@ impl Catalogue {
     ghost use Rattle.resolvo_text.specs.Line as parsed;
     ghost use Rattle.resolvo_text.specs.View.{version_of, spec_of, cases_of};
     ghost use Rattle.resolvo_catalogue_core.specs.Grammar.{line_at, owner_of, IsCatalogueLine, AreCatalogueLines};
-    ghost use Rattle.resolvo_text.specs.Device.{IfKnown, DeviceFailed};
+    ghost use Rattle.resolvo_text.specs.Device.{IfKnown};
+    ghost use Rattle.resolvo_text.specs.Sources.{SourceFailed};
     ghost use Rattle.resolvo_text.specs.Texts.{IsGrammatical, IsTextFault};
     ghost use Rattle.resolvo_catalogue_core.specs.Rules.{keeps};
     ghost use Rattle.resolvo_catalogue_core.specs.Listed.{listed, version_at, members, is_match, pair_versions, AreDistinct};
@@ -204,8 +205,7 @@ impl Catalogue {
         ensures fault { IfErr result
             (λ e.
             IsTextFault IsCatalogueLine e (S.left source.old) (S.left source.new) 16777216
-            (DeviceFailed (S.failures source.old) (S.failures source.new)
-            (S.interruptions source.new))) }
+            (SourceFailed S.Source source.old source.new)) }
     {
         let mut table = Table::new(alloc);
         let mut reader = LineReader::new(alloc, MOST_BYTES)?;

@@ -47,7 +47,8 @@ impl Request {
     ghost use Rattle.std.specs.Prelude.{◌≡◌, ℕ, false, List, map, slice_get, option_map, option_copied, Some, None, length, IfOk, IfSome, IfNone, IfErr};
     ghost use Rattle.resolvo_text.specs.Line as parsed;
     ghost use Rattle.resolvo_text.specs.View.{version_of, cases_of};
-    ghost use Rattle.resolvo_text.specs.Device.{IfKnown, DeviceFailed};
+    ghost use Rattle.resolvo_text.specs.Device.{IfKnown};
+    ghost use Rattle.resolvo_text.specs.Sources.{SourceFailed};
     ghost use Rattle.resolvo_text.specs.Texts.{IsGrammatical, IsTextFault};
     ghost use Rattle.resolvo_catalogue_core.specs.Grammar.{line_at, IsRequestLine, AreRequestLines};
     ghost use Rattle.resolvo_catalogue_core.specs.Rules.{keeps_in_request};
@@ -130,8 +131,7 @@ impl Request {
             (λ e.
             IsTextFault (IsRequestLine catalogue.now) e (S.left source.old) (S.left source.new)
             16777216
-            (DeviceFailed (S.failures source.old) (S.failures source.new)
-            (S.interruptions source.new))) }
+            (SourceFailed S.Source source.old source.new)) }
     {
         let mut asks = RequestLines::new(alloc);
         let mut reader = LineReader::new(alloc, MOST_BYTES)?;

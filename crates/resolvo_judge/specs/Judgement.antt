@@ -1,6 +1,7 @@
 -- Whether a report holds for the lines of a catalogue and a request, and where its text is refused.
 use Rattle.std.specs.Prelude.{◌≡◌, ℕ, ◌+◌, ◌<◌, ◌⊎◌, ⊤, true, IsTrue, List, [], ◌++◌, length, map, Option, Some, codes}
-use Rattle.resolvo_text.specs.Device.{IfKnown, DeviceFailed}
+use Rattle.resolvo_text.specs.Device.{IfKnown}
+use Rattle.resolvo_text.specs.Sources.{SourceFailed}
 use Rattle.resolvo_text.specs.Line.{Line}
 use Rattle.resolvo_text.specs.Lines.{newlines}
 use Rattle.resolvo_text.specs.declared.device.Source as source
@@ -103,8 +104,8 @@ IsStop catalogue request read.Memory before after failed = ⊤
 
 -- The same of a device with these members, before a call and after it: there is no answer, for this fault.
 abbrev pub GivesNoAnswer : {S : Type 0} → source.Ghosts S → List Line → List Line → JudgeFault → S → S → Type 0
-GivesNoAnswer d catalogue request e before after = IsJudgeFault catalogue request e (d.left before) (d.left after) (DeviceFailed (d.failures before) (d.failures after) (d.interruptions after))
+GivesNoAnswer d catalogue request e before after = IsJudgeFault catalogue request e (d.left before) (d.left after) (SourceFailed d before after)
 
 -- No line is given, for this fault.
 abbrev pub StopsJudging : {S : Type 0} → source.Ghosts S → List Line → List Line → ReportFault → S → S → Type 0
-StopsJudging d catalogue request e before after = IsStop catalogue request e (d.left before) (d.left after) (DeviceFailed (d.failures before) (d.failures after) (d.interruptions after))
+StopsJudging d catalogue request e before after = IsStop catalogue request e (d.left before) (d.left after) (SourceFailed d before after)

@@ -1,7 +1,8 @@
 -- A reader of the lines of a report, with the device that it reads from.
 use Rattle.std.specs.Prelude.{◌≡◌, ℕ, ◌+◌, ◌<◌, ⊤, Bool, IsTrue, List, ◌++◌, length, take, Option, Some, codes}
 use Rattle.std.specs.Io.KnownBytes.{Consumes, IsAtEnd}
-use Rattle.resolvo_text.specs.Device.{IfKnown, DeviceFailed}
+use Rattle.resolvo_text.specs.Device.{IfKnown}
+use Rattle.resolvo_text.specs.Sources.{SourceFailed}
 use Rattle.resolvo_text.specs.Lines.{newlines}
 use Rattle.resolvo_text.specs.Reader as lines
 use Rattle.resolvo_text.specs.declared.device.Source as source
@@ -35,10 +36,6 @@ IsLineFault TooLong r before after failed = IfKnown before (λ bytes. (r.lines.r
 IsLineFault Memory r before after failed = ⊤
 
 -- ---- of a device with these members, before a call and after it
-
--- the device failed
-abbrev pub SourceFailed : {S : Type 0} → source.Ghosts S → S → S → Type 0
-SourceFailed d before after = DeviceFailed (d.failures before) (d.failures after) (d.interruptions after)
 
 -- The reader took this line, and then it is the second.
 abbrev pub TakesLine : {S : Type 0} → source.Ghosts S → ReportReader → S → ReportLine → ReportReader → S → Type 0

@@ -182,7 +182,7 @@ impl Report {
     ghost use Rattle.resolvo_report.specs.declared.place.Part.{Part};
     ghost use Rattle.resolvo_report.specs.declared.place.Part.TheVariants as part;
     ghost use Rattle.resolvo_report.specs.Draft.{Grows};
-    ghost use Rattle.resolvo_report.specs.Stream.{SourceFailed};
+    ghost use Rattle.resolvo_text.specs.Sources.{SourceFailed};
 
     /// Reads a report.
     pub fn read<S: Source>(alloc: Global, source: &mut S) -> Result<Report, ReportFault>

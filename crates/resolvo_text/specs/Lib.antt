@@ -5,6 +5,7 @@ pub mod Matches
 pub mod Cases
 pub mod Texts
 pub mod Device
+pub mod Sources
 pub mod Reader
 pub mod View
 pub mod Parse

@@ -7,7 +7,7 @@
 ghost use Rattle.std.specs.Prelude.{◌≡◌, ℕ, ◌+◌, ◌<◌, ◌≤◌, List, [], ◌∷◌, length, take, Option, Ok, Err, Some, None, IfOk, OnOk, IfNone, IsTrue, IfErr, vec_len, false};
 ghost use Rattle.std.specs.Option.{option_to_list};
 ghost use Rattle.std.specs.Io.KnownBytes.{Consumes, Keeps, IsAtEnd};
-ghost use Rattle.resolvo_text.specs.Device.{DeviceFailed};
+ghost use Rattle.resolvo_text.specs.Sources.{SourceFailed};
 ghost use Rattle.std.specs.List.{position};
 ghost use Rattle.resolvo_text.specs.Lines.{newlines, is_newline};
 
@@ -133,8 +133,7 @@ impl LineReader {
         ensures fault { IfErr result
             (λ e.
             IsReadFault e (left self.old (S.left source.old)) (S.left source.new) self.old.room
-            (DeviceFailed (S.failures source.old) (S.failures source.new)
-            (S.interruptions source.new))) }
+            (SourceFailed S.Source source.old source.new)) }
     {
         self.line.clear();
         loop {
@@ -195,8 +194,7 @@ impl LineReader {
         ensures fault { IfErr result
             (λ e.
             IsReadFault e (left self.old (S.left source.old)) (S.left source.new) self.old.room
-            (DeviceFailed (S.failures source.old) (S.failures source.new)
-            (S.interruptions source.new))) }
+            (SourceFailed S.Source source.old source.new)) }
     {
         self.refill(source)?;
         if self.at == self.end {
@@ -226,8 +224,7 @@ impl LineReader {
         ensures fault { IfErr result
             (λ e.
             IsReadFault e (left self.old (S.left source.old)) (S.left source.new) self.old.room
-            (DeviceFailed (S.failures source.old) (S.failures source.new)
-            (S.interruptions source.new))) }
+            (SourceFailed S.Source source.old source.new)) }
     {
         if self.at == self.end {
             self.fill(source)?;
@@ -248,8 +245,7 @@ impl LineReader {
         ensures fault { IfErr result
             (λ e.
             IsReadFault e (left self.old (S.left source.old)) (S.left source.new) self.old.room
-            (DeviceFailed (S.failures source.old) (S.failures source.new)
-            (S.interruptions source.new))) }
+            (SourceFailed S.Source source.old source.new)) }
     {
         for _try in 0..MOST_INTERRUPTIONS + 1 {
             match source.read(&mut self.piece) {

@@ -5,7 +5,8 @@
 
 ghost use Rattle.std.specs.Prelude.{◌≡◌, ◌<◌, ◌≤◌, length, take, IfOk, OnOk, OnErr, MatchResult};
 ghost use Rattle.std.specs.Io.KnownBytes.{Appends, Keeps};
-ghost use Rattle.resolvo_text.specs.Device.{WriterFailed, TakesPrefix};
+ghost use Rattle.resolvo_text.specs.Device.{TakesPrefix};
+ghost use Rattle.resolvo_text.specs.Sources.{SinkFailed};
 
 use crate::device::{IoFault, MOST_INTERRUPTIONS, Sink};
 use thiserror::Error;
@@ -22,8 +23,7 @@ pub fn write_all<S: Sink>(sink: &mut S, bytes: &[u8]) -> Result<(), WriteFault>
     ensures failures { OnOk result (S.failures sink.new ≡ S.failures sink.old) }
     ensures empty { OnOk result (S.empty_writes sink.new ≡ S.empty_writes sink.old) }
     ensures fault { OnErr result
-        (WriterFailed (S.failures sink.old) (S.failures sink.new) (S.interruptions sink.new)
-        (S.empty_writes sink.old) (S.empty_writes sink.new)) }
+        (SinkFailed S.Sink sink.old sink.new) }
 {
     let mut rest = bytes;
     while !rest.is_empty() {
@@ -47,8 +47,7 @@ fn write_some<S: Sink>(sink: &mut S, bytes: &[u8]) -> Result<usize, WriteFault>
     ensures empty { OnOk result (S.empty_writes sink.new ≡ S.empty_writes sink.old) }
     // After a refusal.
     ensures fault { OnErr result
-        (WriterFailed (S.failures sink.old) (S.failures sink.new) (S.interruptions sink.new)
-        (S.empty_writes sink.old) (S.empty_writes sink.new)) }
+        (SinkFailed S.Sink sink.old sink.new) }
 {
     for _try in 0..MOST_INTERRUPTIONS + 1 {
         match sink.write(bytes) {
