@@ -42,13 +42,29 @@ forbid_rule (Kind.Gated s r) = None
 forbid_rule (Kind.Shared r) = None
 forbid_rule (Kind.Limits parent v s) = Some (Limit parent v (Some s))
 forbid_rule (Kind.LimitsOutside parent v) = Some (Limit parent v None)
-forbid_rule (Kind.IsOut v s) = Some (Outside v s)
+forbid_rule (Kind.IsOut v s) = None
 forbid_rule (Kind.Locked locked s) = Some (Locked locked s)
 forbid_rule (Kind.Excluded s reason) = Some (Excluded s reason)
 forbid_rule (Kind.Digit n s place bit) = None
 forbid_rule (Kind.IsThere n s) = None
 forbid_rule (Kind.Matches v s) = None
 forbid_rule Kind.Learnt = None
+
+-- the rule of a clause of this kind that defines an atom
+abbrev pub definition_rule : {N S : Type 0} → ClauseKind N S → Option (ProofRule N S)
+definition_rule Kind.Root = None
+definition_rule (Kind.Needs parent need case) = None
+definition_rule (Kind.Gated s r) = None
+definition_rule (Kind.Shared r) = Some (Shared r)
+definition_rule (Kind.Limits parent v s) = None
+definition_rule (Kind.LimitsOutside parent v) = None
+definition_rule (Kind.IsOut v s) = Some (Outside v s)
+definition_rule (Kind.Locked locked s) = None
+definition_rule (Kind.Excluded s reason) = None
+definition_rule (Kind.Digit n s place bit) = Some (Digit s place bit)
+definition_rule (Kind.IsThere n s) = Some (AtLeastOne n s)
+definition_rule (Kind.Matches v s) = Some (Matches v s)
+definition_rule Kind.Learnt = None
 
 -- the rule that is written for a kind; the root's clause and a learnt one have none
 abbrev pub IsRuleOf : {N S : Type 0} → ClauseKind N S → Option (ProofRule N S) → Type 0

@@ -8,7 +8,7 @@ ghost use Rattle.resolvo_sat.specs.Numbered.{meanings};
 ghost use Rattle.resolvo_state.specs.Atoms.{origin};
 ghost use Rattle.resolvo_state.specs.SolverState.{IsCoding};
 ghost use Rattle.resolvo_proof.specs.Steps.{literal_in};
-ghost use Rattle.resolvo_proof.specs.Written.{places, atoms_of, forbid_rule, IsRuleOf, IsDerivation, IsStepAt};
+ghost use Rattle.resolvo_proof.specs.Written.{places, atoms_of, forbid_rule, definition_rule, IsRuleOf, IsDerivation, IsStepAt};
 
 use crate::step::{ProofLiteral, ProofRule, ProofStep};
 use resolvo_pool_core::id::{ClauseId, Exact, VariableId};
@@ -119,47 +119,68 @@ fn write_rule<N: Copy + Exact + Hash + Debug, S: Copy + Exact + Hash + Debug>(
     ensures encoded { IfOk result (IsRuleOf kind.now) }
     ensures refusal { IsOkUnless result Memory }
 {
-    let rule = match kind {
-        ClauseKind::Root | ClauseKind::Learnt => return Ok(None),
-        ClauseKind::Needs { parent, need, case } => ProofRule::Needs {
+    match kind {
+        ClauseKind::Root | ClauseKind::Learnt => Ok(None),
+        ClauseKind::Needs { parent, need, case } => Ok(Some(ProofRule::Needs {
             parent: *parent,
             requirement: need.requirement,
             case: case.clone()?,
-        },
+        })),
         ClauseKind::Gated {
             solvable,
             requirement,
-        } => ProofRule::GateOf {
+        } => Ok(Some(ProofRule::GateOf {
             parent: *solvable,
             requirement: *requirement,
-        },
-        ClauseKind::Shared { requirement } => ProofRule::Shared {
+        })),
+        ClauseKind::Limits { .. }
+        | ClauseKind::LimitsOutside { .. }
+        | ClauseKind::Locked { .. }
+        | ClauseKind::Excluded { .. } => Ok(forbid_rule(kind)),
+        kind => Ok(definition_rule(kind)),
+    }
+}
+
+/// The rule of a clause that defines an atom. Other clauses have none.
+fn definition_rule<N: Copy + Exact + Hash + Debug, S: Copy + Exact + Hash + Debug>(
+    kind: &ClauseKind<N, S>,
+) -> Option<ProofRule<N, S>>
+    ensures { result ≡ definition_rule kind.now }
+{
+    match kind {
+        ClauseKind::Shared { requirement } => Some(ProofRule::Shared {
             requirement: *requirement,
-        },
+        }),
+        ClauseKind::IsOut {
+            version_set,
+            solvable,
+        } => Some(ProofRule::Outside {
+            version_set: *version_set,
+            solvable: *solvable,
+        }),
         ClauseKind::Digit {
             solvable,
             place,
             bit,
             ..
-        } => ProofRule::Digit {
+        } => Some(ProofRule::Digit {
             solvable: *solvable,
             place: *place,
             bit: *bit,
-        },
-        ClauseKind::IsThere { name, solvable } => ProofRule::AtLeastOne {
+        }),
+        ClauseKind::IsThere { name, solvable } => Some(ProofRule::AtLeastOne {
             name: *name,
             solvable: *solvable,
-        },
+        }),
         ClauseKind::Matches {
             version_set,
             solvable,
-        } => ProofRule::Matches {
+        } => Some(ProofRule::Matches {
             version_set: *version_set,
             solvable: *solvable,
-        },
-        kind => return Ok(forbid_rule(kind)),
-    };
-    Ok(Some(rule))
+        }),
+        _ => None,
+    }
 }
 
 /// The rule by which a clause forbids a solvable, or whatever is outside a version set. Other
@@ -186,13 +207,6 @@ fn forbid_rule<N: Copy + Exact + Hash + Debug, S: Copy + Exact + Hash + Debug>(
             parent: *parent,
             version_set: *version_set,
             barred: None,
-        }),
-        ClauseKind::IsOut {
-            version_set,
-            solvable,
-        } => Some(ProofRule::Outside {
-            version_set: *version_set,
-            solvable: *solvable,
         }),
         ClauseKind::Locked { locked, barred } => Some(ProofRule::Locked {
             locked: *locked,
