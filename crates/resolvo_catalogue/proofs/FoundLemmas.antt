@@ -30,7 +30,8 @@ use Rattle.resolvo_catalogue_core.proofs.Pushed.{get_new, get_kept, get_push}
 use Rattle.resolvo_catalogue.specs.declared.id_table.Numbers.{Numbers}
 use Rattle.resolvo_catalogue.specs.Ids.{NameId, Extends, AreOnce, IsPlaced}
 use Rattle.resolvo_catalogue.specs.Known.{sound}
-use Rattle.resolvo_catalogue.specs.Found.{AreFound, AreKept, Key, key_eq, number_in, list_number_in, bytes_hash, text_key, pair_key, text_number_in, span_key, set_key, union_key, condition_key}
+use Rattle.resolvo_catalogue_core.specs.Hash.{bytes_hash}
+use Rattle.resolvo_catalogue.specs.Found.{AreFound, AreKept, Key, key_eq, number_in, list_number_in, text_key, pair_key, text_number_in, span_key, set_key, union_key, condition_key}
 
 -- ---- any values
 

@@ -1,7 +1,6 @@
 -- Values that are each found at their places, by keys that are four numbers, lists of numbers, or texts behind their hashes.
-use Rattle.std.specs.Prelude.{◌≡◌, ◌*◌, ◌/◌, ◌%◌, ◌^◌, ◌∷◌, ℕ, Bool, List, map, Option, Some, slice_get, bit_xor}
+use Rattle.std.specs.Prelude.{◌≡◌, ◌∷◌, ℕ, Bool, List, map, Option, Some, slice_get}
 use Rattle.std.specs.Global.{Global, Vec}
-use Rattle.std.specs.List.{fold}
 use Rattle.std.specs.String.{string_bytes}
 use Rattle.std.specs.declared.string.String.{String}
 use Rattle.std.specs.Map.{lookup}
@@ -15,6 +14,7 @@ use Rattle.resolvo_pool_core.specs.declared.condition.Condition.{Condition}
 use Rattle.resolvo_pool_core.specs.declared.condition.Condition.TheVariants.{Binary, Requirement}
 use Rattle.resolvo_pool_core.specs.declared.condition.LogicalOperator.TheVariants as joins
 use Rattle.resolvo_intern.specs.Intern.{AreBelow}
+use Rattle.resolvo_catalogue_core.specs.Hash.{bytes_hash}
 use Rattle.resolvo_catalogue.specs.declared.id_table.Numbers.{Numbers}
 use Rattle.resolvo_catalogue.specs.Ids.{NameId, AreSeveral}
 
@@ -42,18 +42,6 @@ abbrev pub list_number_in : List (Vec ℕ × ℕ) → List ℕ → Option ℕ
 list_number_in entries key = lookup (λ k. is_eq (slice_cmp nat_cmp key k.items)) entries
 
 -- ---- texts, by a hash and by themselves
-
--- the product that a hash is mixed by
-abbrev pub product : ℕ → ℕ → ℕ
-product hash number = (bit_xor hash number * 0x9E37_79B9_7F4A_7C15) % 2 ^ 64
-
--- the hash of what a hash is of, and one number more
-abbrev pub mix : ℕ → ℕ → ℕ
-mix hash number = bit_xor (product hash number) (product hash number / 2 ^ 32)
-
--- the hash of bytes
-unfoldable pub bytes_hash : List ℕ → ℕ
-bytes_hash bytes = fold mix 0 bytes
 
 -- the bytes of a text behind their hash
 abbrev pub text_key : List ℕ → List ℕ

@@ -2,9 +2,6 @@
 //! whoever takes one compares. A right guess saves a look-up in a sorted map. A wrong one costs a
 //! comparison, so no choice of values makes it slow. Used by `text_ids` and `id_table`.
 
-ghost use Rattle.std.specs.Prelude.{◌≡◌};
-ghost use Rattle.resolvo_catalogue.specs.Found.{mix, bytes_hash};
-
 use std::alloc::{AllocError, Global};
 
 /// How many guesses there is room for at first.
@@ -51,24 +48,4 @@ impl Guesses {
     fn place(&self, hash: usize) -> usize {
         hash & self.numbers.len().wrapping_sub(1)
     }
-}
-
-/// A hash of bytes.
-#[tactic(auto, unfolding(crate::specs::Found::bytes_hash))]
-pub fn hash_of(bytes: &[u8]) -> usize
-    ensures { result ≡ bytes_hash bytes.now }
-{
-    let mut hash = 0;
-    for byte in bytes {
-        hash = mixed(hash, *byte as usize);
-    }
-    hash
-}
-
-/// The hash of what a hash is of, and one number more.
-pub fn mixed(hash: usize, number: usize) -> usize
-    ensures { result ≡ mix hash number }
-{
-    let product = (hash ^ number).wrapping_mul(0x9E37_79B9_7F4A_7C15);
-    product ^ (product >> 32)
 }

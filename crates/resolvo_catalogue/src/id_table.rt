@@ -14,9 +14,9 @@ ghost use Rattle.resolvo_catalogue.specs.Ids.{Interns, Grows, IsPlaced, AreSound
 ghost use Rattle.resolvo_catalogue.specs.IdCounts.{id_count, ids_for_condition, ids_for_need};
 ghost use Rattle.resolvo_catalogue.specs.Found.{Key, key_eq, number_in, list_number_in, set_key, union_key, condition_key};
 
-use crate::guesses::{Guesses, mixed};
+use crate::guesses::Guesses;
 use crate::text_ids::TextIds;
-use resolvo_catalogue_core::{Cond, Span, Spec};
+use resolvo_catalogue_core::{Cond, Span, Spec, mixed};
 use resolvo_intern::pool::{Solvable, VersionSet};
 use resolvo_pool_core::condition::{Condition, LogicalOperator};
 use resolvo_pool_core::id::{

@@ -7,9 +7,10 @@ ghost use Rattle.resolvo_pool_core.specs.declared.want.Want.TheVariants.{Ids};
 ghost use Rattle.std.specs.Option.{option_map};
 ghost use Rattle.std.specs.String.{string_bytes};
 ghost use Rattle.resolvo_catalogue.specs.Ids.{Extends, IsPlaced, AreOnce};
-ghost use Rattle.resolvo_catalogue.specs.Found.{bytes_hash};
+ghost use Rattle.resolvo_catalogue_core.specs.Hash.{bytes_hash};
 
-use crate::guesses::{Guesses, hash_of};
+use crate::guesses::Guesses;
+use resolvo_catalogue_core::hash_of;
 use resolvo_pool_core::id::next_index;
 use resolvo_pool_core::want::R;
 use std::alloc::Global;

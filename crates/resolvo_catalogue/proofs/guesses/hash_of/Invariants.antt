@@ -1,7 +1,0 @@
-use Rattle.std.proofs.Common.{◌≡◌, take}
-use Rattle.std.specs.List.{fold}
-use Rattle.resolvo_catalogue.specs.Found.{mix}
-use Rattle.resolvo_catalogue.proofs.guesses.hash_of.Given as goal
-
-abbrev pub invariant-loop-byte : goal.invariant-loop-byte
-invariant-loop-byte l = l.hash ≡ fold mix 0 (take l.byte-index l.bytes)
