@@ -6,7 +6,7 @@ use Rattle.resolvo_graph.specs.Graph.{Graph}
 use Rattle.resolvo_graph.specs.Indent.{indent_text}
 use Rattle.resolvo_graph.specs.Message.{IsMessage, text_of}
 use Rattle.resolvo_graph.specs.Words.{line_text, sentence_words}
-use Rattle.resolvo_graph.specs.declared.wording.MessageLine.{MessageLine}
+use Rattle.resolvo_graph.specs.declared.display_line.MessageLine.{MessageLine}
 use Rattle.resolvo_proof.specs.declared.step.ProofStep.{ProofStep}
 use Rattle.resolvo_catalogue.specs.Ids.{NameId, SolvableId}
 use Rattle.resolvo_catalogue.specs.Known.{name_of}

@@ -6,7 +6,7 @@ use Rattle.resolvo_text.specs.Lines.{is_newline}
 use Rattle.resolvo_catalogue_core.specs.Questions.{ReadRequest}
 use Rattle.resolvo_graph.specs.Message.{IsMessage, text_of}
 use Rattle.resolvo_graph.specs.Words.{Meaning}
-use Rattle.resolvo_graph.specs.declared.wording.MessageLine.{MessageLine}
+use Rattle.resolvo_graph.specs.declared.display_line.MessageLine.{MessageLine}
 use Rattle.resolvo_pool_core.specs.declared.requirement.Requirement.{Requirement}
 use Rattle.resolvo_sat.specs.RuleClauses.{IsExact}
 use Rattle.resolvo_proof.specs.declared.step.ProofStep.{ProofStep}

@@ -12,7 +12,7 @@ use Rattle.resolvo_encoder.specs.declared.encoder.Encoder.{Encoder}
 use Rattle.resolvo.specs.Solution.{IsUnsolvable}
 use Rattle.resolvo_graph.specs.Graph.{Graph}
 use Rattle.resolvo_graph.specs.Message.{IsMessage}
-use Rattle.resolvo_graph.specs.declared.wording.MessageLine.{MessageLine}
+use Rattle.resolvo_graph.specs.declared.display_line.MessageLine.{MessageLine}
 use Rattle.resolvo_proof.specs.Draw.{conflict_drawing}
 use Rattle.resolvo_proof.specs.Offered.{offered_by}
 use Rattle.resolvo_proof.specs.Order.{conflict_rules}

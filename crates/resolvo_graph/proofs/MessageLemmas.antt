@@ -4,7 +4,7 @@ use Rattle.std.specs.Prelude.{◌==◌, Option}
 use Rattle.std.proofs.lemmas.Bool.{false≢true, eqb-true}
 use Rattle.resolvo_graph.specs.declared.graph.NodeIndex.{NodeIndex}
 use Rattle.resolvo_graph.specs.declared.graph.Edge.{Edge}
-use Rattle.resolvo_graph.specs.declared.wording.MessageLine.{MessageLine}
+use Rattle.resolvo_graph.specs.declared.display_line.MessageLine.{MessageLine}
 use Rattle.resolvo_graph.specs.Graph.{Graph, edges_of}
 use Rattle.resolvo_graph.specs.Merge.{IsMerged}
 use Rattle.resolvo_graph.specs.Outlook.{installable_in, missing_in}

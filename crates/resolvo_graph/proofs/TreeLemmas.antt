@@ -13,13 +13,13 @@ use Rattle.resolvo_pool_core.specs.declared.id.VersionSetId.{VersionSetId}
 use Rattle.resolvo_pool_core.specs.declared.requirement.Requirement.{Requirement as Need}
 use Rattle.resolvo_graph.specs.declared.graph.NodeIndex.{NodeIndex}
 use Rattle.resolvo_graph.specs.declared.graph.Edge.{Edge}
-use Rattle.resolvo_graph.specs.declared.wording.Outlook.{Outlook}
-use Rattle.resolvo_graph.specs.declared.wording.Outlook.TheVariants.{Missing, Installable, Hopeless}
-use Rattle.resolvo_graph.specs.declared.wording.Verdict.{Verdict}
-use Rattle.resolvo_graph.specs.declared.wording.Verdict.TheVariants.{Alone, Excluded, Conflicts, Constrains, Requires, Locked}
+use Rattle.resolvo_graph.specs.declared.display_line.Outlook.{Outlook}
+use Rattle.resolvo_graph.specs.declared.display_line.Outlook.TheVariants.{Missing, Installable, Hopeless}
+use Rattle.resolvo_graph.specs.declared.display_line.Verdict.{Verdict}
+use Rattle.resolvo_graph.specs.declared.display_line.Verdict.TheVariants.{Alone, Excluded, Conflicts, Constrains, Requires, Locked}
 use Rattle.resolvo_graph.specs.declared.indenter.ChildOrder.{ChildOrder}
 use Rattle.resolvo_graph.specs.declared.indenter.ChildOrder.TheVariants.{HasRemainingSiblings}
-use Rattle.resolvo_graph.specs.declared.wording.MessageLine.{MessageLine}
+use Rattle.resolvo_graph.specs.declared.display_line.MessageLine.{MessageLine}
 use Rattle.resolvo_graph.specs.declared.tree.DisplayOp.{DisplayOp}
 use Rattle.resolvo_graph.specs.declared.tree.DisplayOp.TheVariants.{Requirement, Candidate}
 use Rattle.resolvo_graph.specs.Graph.{Graph, same_node, leaves, edges_of, requirement_of, admitted_by, is_forbidden}

@@ -6,9 +6,9 @@ use Rattle.resolvo_graph.specs.declared.graph.Edge.{Edge}
 use Rattle.resolvo_graph.specs.declared.graph.ConflictCause.TheVariants as Causes
 use Rattle.resolvo_graph.specs.declared.graph.ConflictEdge.{ConflictEdge}
 use Rattle.resolvo_graph.specs.declared.graph.ConflictEdge.TheVariants as Edges
-use Rattle.resolvo_graph.specs.declared.wording.Verdict.TheVariants.{Locked}
-use Rattle.resolvo_graph.specs.declared.wording.Sentence.TheVariants as Sentences
-use Rattle.resolvo_graph.specs.declared.wording.MessageLine.{MessageLine}
+use Rattle.resolvo_graph.specs.declared.display_line.Verdict.TheVariants.{Locked}
+use Rattle.resolvo_graph.specs.declared.display_line.Sentence.TheVariants as Sentences
+use Rattle.resolvo_graph.specs.declared.display_line.MessageLine.{MessageLine}
 use Rattle.resolvo_graph.specs.Graph.{Graph, edges_of}
 use Rattle.resolvo_graph.specs.Indent.{Indent}
 use Rattle.resolvo_graph.specs.Merge.{IsMerged}

@@ -1,6 +1,6 @@
 -- What takes the lines of a message.
 use Rattle.std.specs.Prelude.{◌++◌, List}
-use Rattle.resolvo_graph.specs.declared.wording.MessageLine.{MessageLine}
+use Rattle.resolvo_graph.specs.declared.display_line.MessageLine.{MessageLine}
 
 module _ {W S : Type 0} (took : W → List (MessageLine S) → W → Type 0) where
   -- from one state to another it took these lines, after those that it took before

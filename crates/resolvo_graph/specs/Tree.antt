@@ -11,12 +11,12 @@ use Rattle.resolvo_graph.specs.declared.graph.ConflictNode.TheVariants as Nodes
 use Rattle.resolvo_graph.specs.declared.graph.Edge.{Edge}
 use Rattle.resolvo_graph.specs.declared.indenter.ChildOrder.{ChildOrder}
 use Rattle.resolvo_graph.specs.declared.indenter.ChildOrder.TheVariants.{HasRemainingSiblings, Last}
-use Rattle.resolvo_graph.specs.declared.wording.Outlook.{Outlook}
-use Rattle.resolvo_graph.specs.declared.wording.Outlook.TheVariants.{Missing, Installable, Hopeless}
-use Rattle.resolvo_graph.specs.declared.wording.Verdict.{Verdict}
-use Rattle.resolvo_graph.specs.declared.wording.Verdict.TheVariants.{Alone, Excluded, Conflicts, Constrains, Requires, Locked}
-use Rattle.resolvo_graph.specs.declared.wording.Sentence.TheVariants as Sentences
-use Rattle.resolvo_graph.specs.declared.wording.MessageLine.{MessageLine}
+use Rattle.resolvo_graph.specs.declared.display_line.Outlook.{Outlook}
+use Rattle.resolvo_graph.specs.declared.display_line.Outlook.TheVariants.{Missing, Installable, Hopeless}
+use Rattle.resolvo_graph.specs.declared.display_line.Verdict.{Verdict}
+use Rattle.resolvo_graph.specs.declared.display_line.Verdict.TheVariants.{Alone, Excluded, Conflicts, Constrains, Requires, Locked}
+use Rattle.resolvo_graph.specs.declared.display_line.Sentence.TheVariants as Sentences
+use Rattle.resolvo_graph.specs.declared.display_line.MessageLine.{MessageLine}
 use Rattle.resolvo_graph.specs.declared.tree.DisplayOp.{DisplayOp}
 use Rattle.resolvo_graph.specs.declared.tree.DisplayOp.TheVariants.{Requirement, Candidate}
 use Rattle.resolvo_graph.specs.Graph.{Graph, edges_of, is_unresolved_at, is_forbidden, is_exclusion, admitted_by}

@@ -6,13 +6,13 @@ use Rattle.resolvo_pool_core.specs.declared.id.VersionSetUnionId.{VersionSetUnio
 use Rattle.resolvo_pool_core.specs.declared.provider.Interner as interner
 use Rattle.resolvo_pool_core.specs.declared.requirement.Requirement.{Requirement}
 use Rattle.resolvo_pool_core.specs.Text.{set_text, requirement_text}
-use Rattle.resolvo_graph.specs.declared.wording.Outlook.{Outlook}
-use Rattle.resolvo_graph.specs.declared.wording.Outlook.TheVariants.{Missing, Installable, Hopeless}
-use Rattle.resolvo_graph.specs.declared.wording.Verdict.{Verdict}
-use Rattle.resolvo_graph.specs.declared.wording.Verdict.TheVariants.{Alone, Excluded, Conflicts, Constrains, Requires, Locked}
-use Rattle.resolvo_graph.specs.declared.wording.Sentence.{Sentence}
-use Rattle.resolvo_graph.specs.declared.wording.Sentence.TheVariants as Sentences
-use Rattle.resolvo_graph.specs.declared.wording.MessageLine.{MessageLine}
+use Rattle.resolvo_graph.specs.declared.display_line.Outlook.{Outlook}
+use Rattle.resolvo_graph.specs.declared.display_line.Outlook.TheVariants.{Missing, Installable, Hopeless}
+use Rattle.resolvo_graph.specs.declared.display_line.Verdict.{Verdict}
+use Rattle.resolvo_graph.specs.declared.display_line.Verdict.TheVariants.{Alone, Excluded, Conflicts, Constrains, Requires, Locked}
+use Rattle.resolvo_graph.specs.declared.display_line.Sentence.{Sentence}
+use Rattle.resolvo_graph.specs.declared.display_line.Sentence.TheVariants as Sentences
+use Rattle.resolvo_graph.specs.declared.display_line.MessageLine.{MessageLine}
 use Rattle.resolvo_graph.specs.Indent.{indent_text}
 
 -- the meaning of ids, and their texts

@@ -5,9 +5,9 @@ ghost use Rattle.resolvo_pool_core.specs.declared.want.Want.TheVariants.{Memory}
 ghost use Rattle.resolvo_graph.specs.Message.{text_of};
 ghost use Rattle.resolvo_graph.specs.Words.{meaning_by};
 
+use crate::display_line::MessageLine;
 use crate::display_unsat::DisplayUnsat;
 use crate::sink::LineSink;
-use crate::wording::MessageLine;
 use resolvo_pool_core::provider::Interner;
 use resolvo_pool_core::want::{R, Want};
 use std::fmt;

@@ -3,7 +3,7 @@
 //! counts their bytes first, and keeps none of them.
 ghost use Rattle.std.specs.Prelude.{◌≡◌, ◌++◌, List, IfOk, OnOk, Some, filter, IsOkUnless};
 ghost use Rattle.resolvo_pool_core.specs.declared.want.Want.TheVariants.{Memory};
-ghost use Rattle.resolvo_graph.specs.declared.wording.MessageLine.{MessageLine};
+ghost use Rattle.resolvo_graph.specs.declared.display_line.MessageLine.{MessageLine};
 ghost use Rattle.resolvo_graph.specs.Graph.{edges_of};
 ghost use Rattle.resolvo_graph.specs.Message.{IsMessage, IsLengthBelow, AreParts, IsSecondPart, conflict_line, conflict_lines, misses, fits, text_of};
 ghost use Rattle.resolvo_graph.specs.Kept.{findings};
@@ -11,13 +11,13 @@ ghost use Rattle.resolvo_graph.specs.Sink.{Adds};
 ghost use Rattle.resolvo_graph.specs.Words.{meaning_by};
 
 use crate::count::Count;
+use crate::display_line::{DisplayLine, MessageLine, Sentence, Verdict, Versions};
 use crate::graph::{ConflictCause, ConflictEdge, ConflictGraph, Edge, NodeIndex};
 use crate::indenter::Indenter;
 use crate::installability::{installable, missing};
 use crate::sink::LineSink;
 use crate::tree::{Findings, order_before};
 use crate::walk::post_order;
-use crate::wording::{DisplayLine, MessageLine, Sentence, Verdict, Versions};
 use indexmap::IndexSet;
 use resolvo_pool_core::id::Exact;
 use resolvo_pool_core::provider::Interner;

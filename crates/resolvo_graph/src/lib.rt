@@ -2,6 +2,7 @@
 #![tactic(auto)]
 
 mod count;
+mod display_line;
 pub mod display_unsat;
 pub mod graph;
 pub mod indenter;
@@ -12,12 +13,11 @@ mod runs;
 mod sink;
 mod tree;
 mod walk;
-mod wording;
 
+pub use display_line::MessageLine;
 pub use display_unsat::DisplayUnsat;
 pub use graph::{
     ConflictCause, ConflictEdge, ConflictGraph, ConflictNode, Edge, EdgeIndex, NodeIndex,
 };
 pub use indenter::{ChildOrder, Indenter};
 pub use merge::MergedConflictNode;
-pub use wording::MessageLine;

@@ -3,14 +3,14 @@ ghost use Rattle.std.specs.Prelude.{◌≡◌, ◌++◌, [], true, OnOk, IsOkUnl
 ghost use Rattle.resolvo_pool_core.specs.declared.want.Want.TheVariants.{Memory};
 ghost use Rattle.resolvo_graph.specs.Sink.{Adds, Stays};
 
-use crate::wording::MessageLine;
+use crate::display_line::MessageLine;
 use resolvo_pool_core::want::R;
 use std::vec::Vec;
 
 /// What takes lines, some at a time.
 pub(crate) trait LineSink<S: Copy> {
     ghost use Rattle.std.specs.Prelude.{List};
-    ghost use Rattle.resolvo_graph.specs.declared.wording.MessageLine.{MessageLine};
+    ghost use Rattle.resolvo_graph.specs.declared.display_line.MessageLine.{MessageLine};
 
     /// Its state before some lines, these lines, and its state after them.
     ghost took: { Self → List (MessageLine S) → Self → Type 0 };

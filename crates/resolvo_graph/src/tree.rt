@@ -5,7 +5,7 @@
 ghost use Rattle.std.specs.Prelude.{◌≡◌, ◌++◌, ◌∷◌, [], List, IfOk, OnOk, cond, filter, reverse, unwrap_or, slice_get, IsOkUnless};
 ghost use Rattle.std.specs.List.{list_any, dedup};
 ghost use Rattle.resolvo_pool_core.specs.declared.want.Want.TheVariants.{Memory};
-ghost use Rattle.resolvo_graph.specs.declared.wording.MessageLine.{MessageLine};
+ghost use Rattle.resolvo_graph.specs.declared.display_line.MessageLine.{MessageLine};
 ghost use Rattle.resolvo_graph.specs.declared.tree.DisplayOp.{DisplayOp};
 ghost use Rattle.resolvo_graph.specs.Graph.{edges_of, is_forbidden};
 ghost use Rattle.resolvo_graph.specs.Indent.{level_below};
@@ -15,13 +15,13 @@ ghost use Rattle.resolvo_graph.specs.Walk.{is_among};
 ghost use Rattle.resolvo_graph.specs.Runs.{runs_of};
 ghost use Rattle.resolvo_graph.specs.Tree.{siblings, is_missing, candidates_at, reason_in, is_admitting, admitted_in, same_set, verdict_in, admitted_lines, further_lines, outlook_of, shown_of, covered_with, is_covered, firsts_after, in_rank, verdict_of, needs_of, is_passed, lines_with, version_lines, lines_at, entries_below, covered_after, IsTree, solvable_at_node, order_before};
 
+use crate::display_line::{MessageLine, Outlook, Sentence, Verdict, Versions};
 use crate::graph::{ConflictGraph, ConflictNode, Edge, NodeIndex};
 use crate::indenter::{ChildOrder, Indenter};
 use crate::installability::has_some;
 use crate::merge::MergedConflictNode;
 use crate::runs::{Run, runs};
 use crate::sink::LineSink;
-use crate::wording::{MessageLine, Outlook, Sentence, Verdict, Versions};
 use indexmap::IndexSet;
 use resolvo_pool_core::id::{Exact, SolvableId, StringId, VersionSetId};
 use resolvo_pool_core::want::R;

@@ -1,5 +1,5 @@
 use Rattle.std.proofs.Common.{◌++◌, ◌∷◌, [], ◌∙◌, ap, sym, refl}
-use Rattle.resolvo_graph.specs.declared.wording.Sentence.TheVariants as Sentences
+use Rattle.resolvo_graph.specs.declared.display_line.Sentence.TheVariants as Sentences
 use Rattle.resolvo_graph.specs.Kept.{findings}
 use Rattle.resolvo_graph.specs.Message.{heading, conflict_lines}
 use Rattle.resolvo_graph.proofs.MessageLemmas.{no_second_part, second_part, headed}

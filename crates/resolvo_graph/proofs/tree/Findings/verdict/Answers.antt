@@ -1,6 +1,6 @@
 use Rattle.std.proofs.Common.{◌≡◌, ◌∙◌, ap, sym, cond, false, length, None}
 use Rattle.std.specs.Prelude.{◌==◌}
-use Rattle.resolvo_graph.specs.declared.wording.Verdict.TheVariants.{Conflicts, Constrains, Requires}
+use Rattle.resolvo_graph.specs.declared.display_line.Verdict.TheVariants.{Conflicts, Constrains, Requires}
 use Rattle.std.specs.List.{list_any}
 use Rattle.resolvo_graph.specs.Tree.{is_admitting, reason_in}
 use Rattle.resolvo_graph.proofs.TreeLemmas.{unexcluded}

@@ -1,6 +1,6 @@
 use Rattle.std.proofs.Common.{refl}
 use Rattle.std.proofs.lemmas.Grind.{put_two}
-use Rattle.resolvo_graph.proofs.wording.DisplayLine.write_admitted.Goals as goal
+use Rattle.resolvo_graph.proofs.display_line.DisplayLine.write_admitted.Goals as goal
 
 pub returns : goal.returns
 returns g c plain ok =
