@@ -1,9 +1,9 @@
 #!/usr/bin/env python3
 """Compares the documents with the sources.
 
-docs.py                      lists what is wrong: a module or a public call that the README of its room lacks, a name, file or
-                             crate that is missing, a dead link, a count of AUDIT.md, the example of README.md. Status 1 where
-                             anything is.
+docs.py                      lists what is wrong: a module or a public call that the README of its room lacks, an item of its door
+                             too, a name, file or crate that is missing, a dead link, a count of AUDIT.md, the example of README.md.
+                             Status 1 where anything is.
 docs.py --closure CRATE/SPEC ..  lists the files of specs/ that these import, all the way down, with their lines.
 """
 import glob
@@ -150,10 +150,14 @@ def is_edit(text: str) -> bool:
     return any(os.path.exists(os.path.join(ROOT, p)) for p in (f"crates/{crate}/must-fail/{name}.edit", f"checks/edits/{crate}/{name}.edit"))
 
 
-def known_words() -> Set[str]:
+LIBRARIES = ("crates/*/src/**/*.rt", "crates/*/specs/*.antt", "crates/*/proofs/**/*.antt")
+PROGRAMS = ("tools/*.py", "checks/*.py")
+
+
+def known_words(forms: Tuple[str, ...]) -> Set[str]:
     """Each word of the sources, comments apart, and each name of a file."""
     found: Set[str] = set()
-    for form in ("crates/*/src/**/*.rt", "crates/*/specs/*.antt", "crates/*/proofs/**/*.antt", "tools/*.py", "checks/*.py"):
+    for form in forms:
         for path in glob.glob(os.path.join(ROOT, form), recursive=True):
             text = read(path)
             found |= {w for line in code(text) for w in WORD.findall(line)}
@@ -187,16 +191,17 @@ def name_faults(page: str, words: Set[str]) -> Iterator[str]:
                 yield f"{page}: no path {item}"
 
 
-def word_faults(page: str, words: Set[str]) -> Iterator[str]:
-    """Types and calls of a page that no source has."""
+def word_faults(page: str, words: Set[str], in_libraries: Set[str]) -> Iterator[str]:
+    """Types and calls of a page that no source has. A path with `::` must be in a library."""
     text = read(page)
     if page.endswith("GLOSSARY.md"):
         text = "\n".join(line.split("|")[1] for line in text.split("\n") if line.startswith("|"))
     for item in quoted(text):
         if re.fullmatch(r"[A-Za-z_]\w*(?:::\w+)*", item) and ("_" in item or item[0].isupper()):
+            known = in_libraries if "::" in item else words
             for word in WORD.findall(item):
-                begins = word.endswith("_") and any(w.startswith(word) for w in words)
-                if word not in words and not begins and not re.fullmatch(r"[A-Z]+|NAME_tests", word):
+                begins = word.endswith("_") and any(w.startswith(word) for w in known)
+                if word not in known and not begins and not re.fullmatch(r"[A-Z]+|NAME_tests", word):
                     yield f"{page}: no source has {item}"
 
 
@@ -214,11 +219,11 @@ def count_faults() -> Iterator[str]:
             yield f"docs/AUDIT.md: {words} have {count} lines"
 
 
-def exports(crate: str) -> Set[str]:
-    """The names at the root of a library."""
+def exports(crate: str, kinds: str = "use|mod") -> Set[str]:
+    """The names at the root of a library, by the words that export them."""
     text = "\n".join(code(read(f"crates/{crate}/src/lib.rt")))
     found: Set[str] = set()
-    for path in re.findall(r"^pub (?:use|mod) ([^;]*);", text, re.M):
+    for path in re.findall(rf"^pub (?:{kinds}) ([^;]*);", text, re.M):
         inside = re.search(r"\{([^}]*)\}", path)
         names = inside[1].split(",") if inside else [path]
         found |= {words[-1] for words in map(WORD.findall, names) if words}
@@ -233,6 +238,17 @@ def import_faults(page: str) -> Iterator[str]:
                 yield f"{page}: {crate} exports no {name}"
 
 
+def door_faults() -> Iterator[str]:
+    """A room's README has a block with each name that its door re-exports. `import_faults` finds names that the door lacks."""
+    for room, crates in rooms().items():
+        if not room.startswith(TESTS):
+            for door in (c for c in crates if os.path.exists(os.path.join(ROOT, "crates", c, "README.md"))):
+                page = f"crates/{door}/README.md"
+                block = re.search(rf"^```\nuse {door}::\{{([^}}]*)\}};\n```$", read(page), re.M)
+                for name in sorted(exports(door, "use") - set(WORD.findall(block[1] if block else ""))):
+                    yield f"{page}: {door} exports {name}"
+
+
 def example_faults() -> Iterator[str]:
     """README.md has the example of checks/calls, from its first `use` on, as it is compiled there."""
     example = read(EXAMPLE)
@@ -244,13 +260,15 @@ def faults() -> Iterator[str]:
     """All that is wrong."""
     yield from room_faults()
     yield from count_faults()
+    yield from door_faults()
     yield from example_faults()
-    words = known_words()
+    in_libraries = known_words(LIBRARIES)
+    words = in_libraries | known_words(PROGRAMS)
     for page in pages():
         yield from name_faults(page, words)
         yield from import_faults(page)
         if page.startswith("crates/") or os.path.basename(page) in ("ARCHITECTURE.md", "CHANGING.md", "CLAIMS.md", "GLOSSARY.md", "AUDIT.md", "PROOFS.md", "WALK.md"):
-            yield from word_faults(page, words)
+            yield from word_faults(page, words, in_libraries)
 
 
 # ---- what a definition imports
