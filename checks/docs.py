@@ -2,8 +2,8 @@
 """Compares the documents with the sources.
 
 docs.py                      lists what is wrong: a module or a public call that the README of its room lacks, an item of its door
-                             too, a name, file or crate that is missing, a dead link, a count of AUDIT.md, the example of README.md.
-                             Status 1 where anything is.
+                             too, a name, file or crate that is missing, a dead link, a count of AUDIT.md or of the rows in
+                             CLAIMS.md, the example of README.md. Status 1 where anything is.
 docs.py --closure CRATE/SPEC ..  lists the files of specs/ that these import, all the way down, with their lines.
 """
 import glob
@@ -16,6 +16,10 @@ ROOT = os.path.dirname(os.path.dirname(os.path.abspath(__file__)))
 EXAMPLE = "checks/calls/example.rt.txt"
 PAGES = ("README.md", "CONTRIBUTING.md", "docs/*.md", "crates/*/README.md")
 TESTS = "Tests"
+ROW_KINDS = {
+    "installs": ("install", "list"), "refusals": ("refuse",), "texts": ("fault", "long", "conditions"),
+    "judged reports": ("judge",), "reports as texts": ("read",),
+}
 ITEM = re.compile(r"(?P<indent> *)pub (?:const )?(?:fn|struct|enum|trait|type|const|static) (?P<name>\w+)")
 BLOCK = re.compile(r"(?:pub )?(?P<kind>impl|trait)\b(?P<rest>.*)")
 MEMBER = re.compile(r" {4}(?:pub )?fn (?P<name>\w+)")
@@ -219,6 +223,16 @@ def count_faults() -> Iterator[str]:
             yield f"docs/AUDIT.md: {words} have {count} lines"
 
 
+def row_faults() -> Iterator[str]:
+    """CLAIMS.md counts the rows by kind, as COVERAGE.md counts them by file."""
+    files = re.findall(r"^\| `(\w+)` \| (\d+) \|", read("docs/COVERAGE.md"), re.M)
+    claims = read("docs/CLAIMS.md")
+    for words, begins in ROW_KINDS.items():
+        count = sum(int(rows) for name, rows in files if name.split("_")[0] in begins)
+        if f"| {count} {words} |" not in claims:
+            yield f"docs/CLAIMS.md: there are {count} {words}"
+
+
 def exports(crate: str, kinds: str = "use|mod") -> Set[str]:
     """The names at the root of a library, by the words that export them."""
     text = "\n".join(code(read(f"crates/{crate}/src/lib.rt")))
@@ -260,6 +274,7 @@ def faults() -> Iterator[str]:
     """All that is wrong."""
     yield from room_faults()
     yield from count_faults()
+    yield from row_faults()
     yield from door_faults()
     yield from example_faults()
     in_libraries = known_words(LIBRARIES)
