@@ -2,7 +2,8 @@
 """Compares the documents with the sources.
 
 docs.py                      lists what is wrong: a module or a public call that the README of its room lacks, an item of its door
-                             too, a name, file or crate that is missing, a dead link, a count of AUDIT.md or of the rows in
+                             too, a crate that `crates.txt` lists for another that does not name it, or the reverse; a name, file
+                             or crate that is missing, a dead link, a count of AUDIT.md or of the rows in
                              CLAIMS.md, the example of README.md. Status 1 where anything is.
 docs.py --closure CRATE/SPEC ..  lists the files of specs/ that these import, all the way down, with their lines.
 """
@@ -49,6 +50,24 @@ def rooms() -> Dict[str, List[str]]:
         elif ":" in line:
             found.setdefault(room, []).append(line.split(":")[0].split()[0])
     return found
+
+
+def crate_faults() -> Iterator[str]:
+    """A line of `crates.txt` has exactly the crates of this repository that the files of its crate name, and none of a later line."""
+    known: List[str] = [crate for crates in rooms().values() for crate in crates]
+    for line in read("crates.txt").split("\n"):
+        if ":" in line and not line.startswith("#"):
+            crate, listed = line.split(":")[0].split()[0], set(line.split(":")[1].split())
+            words: Set[str] = set()
+            for form in (f"crates/{crate}/{path}" for path in ("src/**/*.rt", "specs/**/*.antt", "proofs/**/*.antt")):
+                for path in glob.glob(os.path.join(ROOT, form), recursive=True):
+                    text = "\n".join(code(read(path)))
+                    words |= {a or b for a, b in re.findall(r"\b(resolv[eo]\w*)::|Rattle\.(resolv[eo]\w*)", text)}
+            for name in known:
+                if name != crate and (name in words) != (name in listed):
+                    yield f"crates.txt: {crate} {'names' if name in words else 'does not name'} {name}"
+                if name in listed and known.index(name) > known.index(crate):
+                    yield f"crates.txt: {crate} is above {name}"
 
 
 # ---- what a crate has
@@ -272,6 +291,7 @@ def example_faults() -> Iterator[str]:
 
 def faults() -> Iterator[str]:
     """All that is wrong."""
+    yield from crate_faults()
     yield from room_faults()
     yield from count_faults()
     yield from row_faults()
