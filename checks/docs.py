@@ -2,9 +2,9 @@
 """Compares the documents with the sources.
 
 docs.py                      lists what is wrong: a module or a public call that the README of its room lacks, an item of its door
-                             too, a crate that `crates.txt` lists for another that does not name it, or the reverse; a name, file
-                             or crate that is missing, a dead link, a count of AUDIT.md or of the rows in
-                             CLAIMS.md, the example of README.md. Status 1 where anything is.
+                             too; a crate that `crates.txt` lists for another that does not name it, or the reverse; a file with
+                             a lock that CHANGING.md lacks; a name, file or crate that is missing, a dead link, a count of AUDIT.md
+                             or of the rows in CLAIMS.md, the example of README.md. Status 1 where anything is.
 docs.py --closure CRATE/SPEC ..  lists the files of specs/ that these import, all the way down, with their lines.
 """
 import glob
@@ -242,6 +242,18 @@ def count_faults() -> Iterator[str]:
             yield f"docs/AUDIT.md: {words} have {count} lines"
 
 
+def changing_faults() -> Iterator[str]:
+    """CHANGING.md lists each file of the libraries and the program that names its example, the lock."""
+    page = read("docs/CHANGING.md")
+    for room, crates in rooms().items():
+        for crate in (crates if not room.startswith(TESTS) else []):
+            for form in (f"crates/{crate}/src/**/*.rt", f"crates/{crate}/specs/*.antt"):
+                for path in sorted(glob.glob(os.path.join(ROOT, form), recursive=True)):
+                    name = os.path.relpath(path, ROOT)
+                    if name not in page and any(re.search(r"\b(?:Lock|Locked)\b", line) for line in code(read(name))):
+                        yield f"docs/CHANGING.md: {name} has the lock"
+
+
 def row_faults() -> Iterator[str]:
     """CLAIMS.md counts the rows by kind, as COVERAGE.md counts them by file."""
     files = re.findall(r"^\| `(\w+)` \| (\d+) \|", read("docs/COVERAGE.md"), re.M)
@@ -294,6 +306,7 @@ def faults() -> Iterator[str]:
     yield from crate_faults()
     yield from room_faults()
     yield from count_faults()
+    yield from changing_faults()
     yield from row_faults()
     yield from door_faults()
     yield from example_faults()
