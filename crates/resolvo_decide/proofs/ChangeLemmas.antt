@@ -10,7 +10,7 @@ use Rattle.resolvo_store_core.specs.Signed.{Signed, negation, value_under, index
 use Rattle.resolvo_store_core.specs.SignLaws.{same_literal_true}
 use Rattle.resolvo_store_core.specs.Trail.{assigned, value_in}
 use Rattle.resolvo_store_core.specs.declared.decision.Entry.{Entry}
-use Rattle.resolvo_store_core.specs.declared.decide_queue.NeedClause.{NeedClause}
+use Rattle.resolvo_store_core.specs.declared.pick.NeedClause.{NeedClause}
 use Rattle.resolvo_decide.specs.declared.candidate_counts.CandidateCounts.{CandidateCounts}
 use Rattle.resolvo_decide.specs.declared.candidate_counts.Occurrence.{Occurrence}
 use Rattle.resolvo_decide.specs.declared.candidate_count.CandidateChange.{CandidateChange}

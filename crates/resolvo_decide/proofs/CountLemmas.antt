@@ -12,7 +12,7 @@ use Rattle.resolvo_store_core.specs.SignLaws.{same_is_index}
 use Rattle.resolvo_store_core.specs.Clauses.{candidate_literals}
 use Rattle.resolvo_store_core.specs.Trail.{EachOnce, value_in}
 use Rattle.resolvo_store_core.specs.declared.decision.Entry.{Entry}
-use Rattle.resolvo_store_core.specs.declared.decide_queue.NeedClause.{NeedClause}
+use Rattle.resolvo_store_core.specs.declared.pick.NeedClause.{NeedClause}
 use Rattle.resolvo_store_core.specs.declared.lists.Candidate.{Candidate}
 use Rattle.resolvo_decide.specs.declared.candidate_counts.CountState.{CountState}
 use Rattle.resolvo_decide.specs.declared.candidate_counts.CountState.TheVariants.{Never, Kept}

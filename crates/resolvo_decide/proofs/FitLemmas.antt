@@ -16,8 +16,8 @@ use Rattle.resolvo_store_core.specs.Lists.{items_or_none, named_by, candidates_i
 use Rattle.resolvo_store_core.specs.Pick.{offer, pick_after, offer_of, decision_for, is_eligible, later}
 use Rattle.resolvo_store_core.specs.Trail.{assigned, value_in, EachOnce}
 use Rattle.resolvo_store_core.specs.declared.decision.Entry.{Entry}
-use Rattle.resolvo_store_core.specs.declared.decide_queue.NeedClause.{NeedClause}
-use Rattle.resolvo_store_core.specs.declared.decide_queue.NextDecision.{NextDecision}
+use Rattle.resolvo_store_core.specs.declared.pick.NeedClause.{NeedClause}
+use Rattle.resolvo_store_core.specs.declared.pick.NextDecision.{NextDecision}
 use Rattle.resolvo_store_core.specs.declared.lists.Candidate.{Candidate}
 use Rattle.resolvo_store_core.specs.declared.lists.FixedLists.{FixedLists}
 use Rattle.resolvo_decide.specs.declared.clause_states.ClauseState.{ClauseState}

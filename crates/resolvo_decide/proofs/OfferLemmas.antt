@@ -11,7 +11,7 @@ use Rattle.resolvo_store_core.specs.Clauses.{candidate_literals}
 use Rattle.resolvo_store_core.specs.Lists.{named_by, candidates_in}
 use Rattle.resolvo_store_core.specs.Pick.{offer, offer_of, decision_for, is_eligible}
 use Rattle.resolvo_store_core.specs.Trail.{value_in}
-use Rattle.resolvo_store_core.specs.declared.decide_queue.NeedClause.{NeedClause}
+use Rattle.resolvo_store_core.specs.declared.pick.NeedClause.{NeedClause}
 use Rattle.resolvo_store_core.specs.declared.lists.FixedLists.{FixedLists}
 use Rattle.resolvo_store_core.specs.declared.lists.Candidate.{Candidate}
 use Rattle.resolvo_decide.specs.declared.candidate_count.CandidateCount.{CandidateCount}

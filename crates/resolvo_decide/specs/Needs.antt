@@ -12,8 +12,8 @@ use Rattle.resolvo_store_core.specs.Pick.{pick, offer}
 use Rattle.resolvo_store_core.specs.Trail.{assigned, value_in}
 use Rattle.resolvo_store_core.specs.Values.{value_at}
 use Rattle.resolvo_store_core.specs.declared.decision.Entry.{Entry}
-use Rattle.resolvo_store_core.specs.declared.decide_queue.NeedClause.{NeedClause}
-use Rattle.resolvo_store_core.specs.declared.decide_queue.NextDecision.{NextDecision}
+use Rattle.resolvo_store_core.specs.declared.pick.NeedClause.{NeedClause}
+use Rattle.resolvo_store_core.specs.declared.pick.NextDecision.{NextDecision}
 use Rattle.resolvo_store_core.specs.declared.decision_map.Assignment.{Assignment}
 use Rattle.resolvo_store_core.specs.declared.lists.FixedLists.{FixedLists}
 use Rattle.resolvo_decide.specs.declared.clause_states.ClauseState.{ClauseState}

@@ -11,10 +11,10 @@ ghost use Rattle.resolvo_decide.specs.CandidateCounts.{Counts, passed_by};
 
 use crate::candidate_count::CandidateCount;
 use resolvo_pool_core::id_map::ScoreMap;
-use resolvo_store_core::decide_queue::{NeedClause, NextDecision};
 use resolvo_store_core::decision_map::DecisionMap;
 use resolvo_store_core::lists::{Candidate, FixedLists};
 use resolvo_store_core::literal::Literal;
+use resolvo_store_core::pick::{NeedClause, NextDecision};
 
 /// The decision that a clause offers, if it is eligible.
 pub(crate) fn offered<N: Copy + Eq, C: ScoreMap<N>>(

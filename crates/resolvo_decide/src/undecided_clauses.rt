@@ -11,7 +11,7 @@ ghost use Rattle.resolvo_store_core.specs.Signed.{value_under, is_false, is_true
 ghost use Rattle.resolvo_store_core.specs.Values.{value_at};
 ghost use Rattle.resolvo_store_core.specs.Trail.{EachOnce, assigned, value_in};
 ghost use Rattle.resolvo_store_core.specs.Pick.{pick, offer, later};
-ghost use Rattle.resolvo_store_core.specs.declared.decide_queue.NeedClause.{NeedClause};
+ghost use Rattle.resolvo_store_core.specs.declared.pick.NeedClause.{NeedClause};
 ghost use Rattle.resolvo_decide.specs.declared.clause_states.ClauseState.TheVariants.{Open};
 ghost use Rattle.resolvo_decide.specs.States.{state_at};
 ghost use Rattle.resolvo_decide.specs.CandidateCounts.{has_true_in, HasNoCount};
@@ -26,11 +26,11 @@ use crate::scores::Scores;
 use resolvo_pool_core::id::VariableId;
 use resolvo_pool_core::id_map::ScoreMap;
 use resolvo_pool_core::want::R;
-use resolvo_store_core::decide_queue::{DecideQueue, NeedClause, NextDecision, or_later};
 use resolvo_store_core::decision::Entry;
 use resolvo_store_core::decision_map::DecisionMap;
 use resolvo_store_core::decision_tracker::DecisionTracker;
 use resolvo_store_core::lists::{Candidate, FixedLists};
+use resolvo_store_core::pick::{DecideQueue, NeedClause, NextDecision, or_later};
 use std::alloc::Global;
 
 /// The states of the need clauses of a queue.

@@ -16,12 +16,12 @@ use Rattle.resolvo_store_core.specs.Lists.{named_by, candidates_in, condition_in
 use Rattle.resolvo_store_core.specs.declared.lists.Disjunction.{Disjunction}
 use Rattle.resolvo_store_core.specs.declared.lists.FixedLists.{FixedLists}
 use Rattle.resolvo_store_core.specs.Pick.{pick_by}
-use Rattle.resolvo_store_core.specs.declared.decide_queue.NextDecision.{NextDecision}
+use Rattle.resolvo_store_core.specs.declared.pick.NextDecision.{NextDecision}
 use Rattle.resolvo_store_core.specs.declared.decision.Entry.{Entry}
 use Rattle.resolvo_decide.specs.Needs.{literals_in, Fits, KeepsFits}
 use Rattle.resolvo_decide.specs.declared.undecided_clauses.UndecidedClauses.{UndecidedClauses}
 use Rattle.resolvo_decide.proofs.FitLemmas.{fits_add, fits_more, fits_none}
-use Rattle.resolvo_store_core.specs.declared.decide_queue.NeedClause.{NeedClause}
+use Rattle.resolvo_store_core.specs.declared.pick.NeedClause.{NeedClause}
 use Rattle.resolvo_sat.specs.Entries.{made_true}
 use Rattle.resolvo_sat.specs.Known.{IsUndecided, clause_at}
 use Rattle.resolvo_sat.specs.State.{history, count_of, lists}

@@ -15,8 +15,8 @@ use Rattle.resolvo_store_core.specs.Clauses.{yes, no}
 use Rattle.resolvo_store_core.specs.Lists.{Named, named_by, candidates_in, condition_in}
 use Rattle.resolvo_store_core.specs.Pick.{beats, later, is_eligible_by, decision_for, offer_of, offer_by, pick_after_by, pick_by}
 use Rattle.resolvo_store_core.specs.declared.lists.Candidate.{Candidate}
-use Rattle.resolvo_store_core.specs.declared.decide_queue.NeedClause.{NeedClause}
-use Rattle.resolvo_store_core.specs.declared.decide_queue.NextDecision.{NextDecision}
+use Rattle.resolvo_store_core.specs.declared.pick.NeedClause.{NeedClause}
+use Rattle.resolvo_store_core.specs.declared.pick.NextDecision.{NextDecision}
 use Rattle.resolvo_pool_core.specs.declared.id.VariableId.{VariableId}
 use Rattle.resolvo_sat.specs.Known.{IsUndecided}
 use Rattle.resolvo_pool_core.specs.Slots.{at}

@@ -18,7 +18,7 @@ use Rattle.resolvo_store_core.specs.Clauses.{yes, no, root as root_variable, can
 use Rattle.resolvo_store_core.specs.AtMostOne.{IsPrefixOf}
 use Rattle.resolvo_store_core.specs.declared.lists.FixedLists.{FixedLists}
 use Rattle.resolvo_store_core.specs.Lists.{has_candidates, candidates_in, condition_in, items_or_none}
-use Rattle.resolvo_store_core.specs.declared.decide_queue.NeedClause.{NeedClause}
+use Rattle.resolvo_store_core.specs.declared.pick.NeedClause.{NeedClause}
 use Rattle.resolvo_store_core.specs.declared.lists.Candidate.{Candidate}
 use Rattle.resolvo_sat.specs.declared.clause.SatClause.{SatClause}
 use Rattle.resolvo_sat.specs.Known.{clause_at}

@@ -10,7 +10,7 @@ use Rattle.resolvo_pool_core.specs.RuleKeeping.{Packages, Rules, IsLawful}
 use Rattle.resolvo_store_core.specs.Signed.{Signed, has}
 use Rattle.resolvo_store_core.specs.Clauses.{yes}
 use Rattle.resolvo_store_core.specs.Lists.{has_candidates, candidates_in}
-use Rattle.resolvo_store_core.specs.declared.decide_queue.NeedClause.{NeedClause}
+use Rattle.resolvo_store_core.specs.declared.pick.NeedClause.{NeedClause}
 use Rattle.resolvo_sat.specs.declared.propagate_and_learn.StepResult.{StepResult}
 use Rattle.resolvo_sat.specs.declared.clause.SatClause.{SatClause}
 use Rattle.resolvo_sat.specs.declared.state.SatState.{SatState}

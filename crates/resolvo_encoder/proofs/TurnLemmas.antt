@@ -18,7 +18,7 @@ use Rattle.resolvo_store_core.specs.Signed.{Signed, negation, has, value_under, 
 use Rattle.resolvo_store_core.specs.Clauses.{yes, no, root as root_variable}
 use Rattle.resolvo_store_core.specs.Lists.{named_by, candidates_in, condition_in}
 use Rattle.resolvo_store_core.specs.Pick.{is_eligible_by, offer_by}
-use Rattle.resolvo_store_core.specs.declared.decide_queue.NeedClause.{NeedClause}
+use Rattle.resolvo_store_core.specs.declared.pick.NeedClause.{NeedClause}
 use Rattle.resolvo_store_core.specs.declared.lists.Candidate.{Candidate}
 use Rattle.resolvo_sat.specs.Known.{clause_at}
 use Rattle.resolvo_store_core.specs.declared.decision.Entry.{Entry}

@@ -2,7 +2,7 @@
 use Rattle.std.specs.Prelude.{◌≡◌, ℕ, ◌-◌, ◌<◌, ◌≤◌, Bool, true, false, Option, Some, None, length}
 use Rattle.resolvo_store_core.specs.Lists.{named_by}
 use Rattle.resolvo_store_core.specs.Pick.{pick_by}
-use Rattle.resolvo_store_core.specs.declared.decide_queue.NextDecision.{NextDecision}
+use Rattle.resolvo_store_core.specs.declared.pick.NextDecision.{NextDecision}
 use Rattle.resolvo_sat.specs.declared.analyze.FinalConflict.{FinalConflict}
 use Rattle.resolvo_sat.specs.PropagateAndLearn.{weight_left, KeepsUpTo}
 use Rattle.resolvo_sat.specs.Analysis.{IsRefusal}

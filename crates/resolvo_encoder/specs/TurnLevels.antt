@@ -4,7 +4,7 @@ use Rattle.resolvo_pool_core.specs.declared.solver_id.SolvableIdOrRoot.TheVarian
 use Rattle.resolvo_store_core.specs.Signed.{Signed, has}
 use Rattle.resolvo_store_core.specs.Lists.{named_by}
 use Rattle.resolvo_store_core.specs.Pick.{offer_by}
-use Rattle.resolvo_store_core.specs.declared.decide_queue.NeedClause.{NeedClause}
+use Rattle.resolvo_store_core.specs.declared.pick.NeedClause.{NeedClause}
 use Rattle.resolvo_encoder.specs.declared.encoder.Encoder.{Encoder}
 
 -- the variables' values are those that make these literals true

@@ -15,7 +15,7 @@ use resolvo_pool_core::id_map::ScoreMap;
 use resolvo_pool_core::want::R;
 use resolvo_sat::analyze::FinalConflict;
 use resolvo_sat::propagate_and_learn::StepResult;
-use resolvo_store_core::decide_queue::NextDecision;
+use resolvo_store_core::pick::NextDecision;
 use std::alloc::Global;
 use std::fmt::Debug;
 use std::hash::Hash;

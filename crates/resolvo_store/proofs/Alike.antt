@@ -18,8 +18,8 @@ use Rattle.resolvo_store.specs.Stored.{Stored, Like, names_in, condition_among}
 use Rattle.resolvo_store.specs.Changes.{candidates_from, same_requirement, all_but_last, last_undone, down_to, with_watcher, highest}
 use Rattle.resolvo_store.specs.Calls.{PlainAnswer, Became, Undone, Met, Falsified, Bad, Added, has_condition, has_candidates_for, has_learnt_in, has_clause, can_watch, can_add, can_register, can_assign, may, answer_to, changed_by, step, answer_of, after, answers_of, broken_in, picked_in, broken_or_next, LacksNumber}
 use Rattle.resolvo_store_core.specs.declared.decision.Entry.{Entry}
-use Rattle.resolvo_store_core.specs.declared.decide_queue.NeedClause.{NeedClause}
-use Rattle.resolvo_store_core.specs.declared.decide_queue.NextDecision.{NextDecision}
+use Rattle.resolvo_store_core.specs.declared.pick.NeedClause.{NeedClause}
+use Rattle.resolvo_store_core.specs.declared.pick.NextDecision.{NextDecision}
 use Rattle.resolvo_store_core.specs.declared.store_clause.Clause.{Clause}
 use Rattle.resolvo_store_core.specs.declared.watched_literals.WatchedLiterals.{WatchedLiterals}
 use Rattle.resolvo_store.specs.declared.store_call.StoreCall.{StoreCall}

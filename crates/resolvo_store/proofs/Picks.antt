@@ -11,8 +11,8 @@ use Rattle.resolvo_store_core.specs.Signed.{Signed, value_under, is_false, is_tr
 use Rattle.resolvo_store_core.specs.Lists.{Named}
 use Rattle.resolvo_store_core.specs.Pick.{is_eligible_by, is_broken_by, first_broken_by, decision_for, offer_of, offer_by, pick_after_by, pick_by, later}
 use Rattle.resolvo_store_core.specs.declared.lists.Candidate.{Candidate}
-use Rattle.resolvo_store_core.specs.declared.decide_queue.NeedClause.{NeedClause}
-use Rattle.resolvo_store_core.specs.declared.decide_queue.NextDecision.{NextDecision}
+use Rattle.resolvo_store_core.specs.declared.pick.NeedClause.{NeedClause}
+use Rattle.resolvo_store_core.specs.declared.pick.NextDecision.{NextDecision}
 
 -- ids name the same lists
 pub record SameNames {N : Type 0} (n m : Named N) : Type 0 where

@@ -3,10 +3,10 @@
 
 use resolvo_pool_core::id::{ClauseId, DisjunctionId, VariableId};
 use resolvo_pool_core::requirement::Requirement;
-use resolvo_store_core::decide_queue::NextDecision;
 use resolvo_store_core::decision::Decision;
 use resolvo_store_core::decision_tracker::Set;
 use resolvo_store_core::literal::Literal;
+use resolvo_store_core::pick::NextDecision;
 use resolvo_store_core::store_clause::Clause;
 use resolvo_store_core::watched_literals::WatchedLiterals;
 

@@ -7,8 +7,8 @@ use Rattle.resolvo_store_core.specs.Signed.{value_under, is_false, is_true, is_o
 use Rattle.resolvo_store_core.specs.declared.lists.Candidate.{Candidate}
 use Rattle.resolvo_store_core.specs.declared.lists.FixedLists.{FixedLists}
 use Rattle.resolvo_store_core.specs.Lists.{Named, named_by}
-use Rattle.resolvo_store_core.specs.declared.decide_queue.NeedClause.{NeedClause}
-use Rattle.resolvo_store_core.specs.declared.decide_queue.NextDecision.{NextDecision}
+use Rattle.resolvo_store_core.specs.declared.pick.NeedClause.{NeedClause}
+use Rattle.resolvo_store_core.specs.declared.pick.NextDecision.{NextDecision}
 
 -- the one decision takes the place of the other, an earlier one: a strictly higher score, strictly fewer undecided candidates, and the root's are not left for others
 abbrev pub beats : NextDecision → NextDecision → Bool

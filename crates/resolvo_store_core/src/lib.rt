@@ -6,13 +6,13 @@
 
 pub mod binary_encoding;
 pub mod conditions;
-pub mod decide_queue;
 pub mod decision;
 pub mod decision_map;
 pub mod decision_tracker;
 pub mod lists;
 pub mod literal;
 pub mod literals;
+pub mod pick;
 pub mod store_clause;
 pub mod watch_map;
 pub mod watched_literals;

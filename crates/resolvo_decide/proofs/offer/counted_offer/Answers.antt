@@ -3,7 +3,7 @@ use Rattle.std.specs.List.{find}
 use Rattle.resolvo_store_core.specs.Lists.{candidates_in}
 use Rattle.resolvo_store_core.specs.Signed.{value_under, is_open}
 use Rattle.resolvo_store_core.specs.Values.{value_at}
-use Rattle.resolvo_store_core.specs.declared.decide_queue.NextDecision.{NextDecision}
+use Rattle.resolvo_store_core.specs.declared.pick.NextDecision.{NextDecision}
 use Rattle.resolvo_decide.proofs.FitLemmas.{nothing_met, nothing_left}
 use Rattle.resolvo_decide.proofs.OfferLemmas.{count_true, count_none, count_open, count_first, offered_none, offered_first}
 use Rattle.resolvo_decide.proofs.offer.counted_offer.Goals.{then-count-gt0-via-then-count-gt0, then-count-gt0-via-else-count-gt0+then-not-is_needed}

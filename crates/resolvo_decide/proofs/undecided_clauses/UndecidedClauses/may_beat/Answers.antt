@@ -2,7 +2,7 @@ use Rattle.std.proofs.Common.{◌≡◌, ℕ, ◌≤◌, None, sym, ◌∙◌, a
 use Rattle.std.proofs.lemmas.Bool.{not-false}
 use Rattle.resolvo_store_core.specs.Pick.{offer, later}
 use Rattle.resolvo_store_core.specs.Values.{value_at}
-use Rattle.resolvo_store_core.specs.declared.decide_queue.NeedClause.{NeedClause}
+use Rattle.resolvo_store_core.specs.declared.pick.NeedClause.{NeedClause}
 use Rattle.resolvo_decide.specs.declared.undecided_clauses.UndecidedClauses.{UndecidedClauses}
 use Rattle.resolvo_decide.specs.Needs.{literals_in, Fits}
 use Rattle.resolvo_decide.proofs.FitLemmas.{fits_counted, read_at, read_is, read_fits, offer_beaten, later_none}

@@ -1,7 +1,7 @@
 use Rattle.std.proofs.Common.{List, sym, ◌∙◌, ap, subst}
 use Rattle.resolvo_store_core.specs.Pick.{pick}
 use Rattle.resolvo_store_core.specs.Values.{value_at}
-use Rattle.resolvo_store_core.specs.declared.decide_queue.NeedClause.{NeedClause}
+use Rattle.resolvo_store_core.specs.declared.pick.NeedClause.{NeedClause}
 use Rattle.resolvo_decide.specs.Needs.{literals_in, Fits}
 use Rattle.resolvo_decide.proofs.undecided_clauses.UndecidedClauses.next_decision.Goals as goal
 

@@ -1,6 +1,6 @@
 use Rattle.std.proofs.Common.{List, ◌∙◌, ap}
 use Rattle.resolvo_store_core.specs.declared.decision.Entry.{Entry}
-use Rattle.resolvo_store_core.specs.declared.decide_queue.NeedClause.{NeedClause}
+use Rattle.resolvo_store_core.specs.declared.pick.NeedClause.{NeedClause}
 use Rattle.resolvo_store_core.specs.Trail.{Tracked}
 use Rattle.resolvo_store.specs.Stored.{plain}
 use Rattle.resolvo_store.specs.Calls.{picked_in}

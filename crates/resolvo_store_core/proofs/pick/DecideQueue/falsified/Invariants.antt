@@ -1,7 +1,7 @@
 use Rattle.std.proofs.Common.{◌≡◌, drop}
 use Rattle.resolvo_store_core.specs.Values.{value_at}
 use Rattle.resolvo_store_core.specs.Pick.{first_broken}
-use Rattle.resolvo_store_core.proofs.decide_queue.DecideQueue.falsified.Given as goal
+use Rattle.resolvo_store_core.proofs.pick.DecideQueue.falsified.Given as goal
 
 -- none of the clauses before this one is wholly false
 abbrev pub invariant-loop-need : goal.invariant-loop-need

@@ -1,7 +1,7 @@
 use Rattle.std.proofs.Common.{◌≡◌, drop}
 use Rattle.resolvo_store_core.specs.Values.{value_at}
 use Rattle.resolvo_store_core.specs.Pick.{pick, pick_after}
-use Rattle.resolvo_store_core.proofs.decide_queue.DecideQueue.next_decision.Given as goal
+use Rattle.resolvo_store_core.proofs.pick.DecideQueue.next_decision.Given as goal
 
 -- the pick over all is the pick over the remaining clauses, after the decision so far
 abbrev pub invariant-loop-need : goal.invariant-loop-need

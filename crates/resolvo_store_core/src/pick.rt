@@ -56,7 +56,7 @@ pub struct DecideQueue {
 
 impl Model for DecideQueue {
     ghost use Rattle.std.specs.Prelude.{List};
-    ghost use Rattle.resolvo_store_core.specs.declared.decide_queue.NeedClause.{NeedClause};
+    ghost use Rattle.resolvo_store_core.specs.declared.pick.NeedClause.{NeedClause};
 
     ghost Value = { List NeedClause };
 
