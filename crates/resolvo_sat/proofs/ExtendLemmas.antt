@@ -34,13 +34,13 @@ pub set_true : (s t : SatState) (c : ClauseId) (l : Signed) → Sets c l s t →
 set_true s t c l set = subst (λ (h : List Entry). has (made_true h) l ≡ true) (sym (set_pushed s t c l set)) (has_here l (made_true (history s)) l refl)
 
 same_itself : (s : SatState) → SameBut s s
-same_itself s = record { variables = refl; base_level = refl; clauses = refl }
+same_itself s = record { variables = refl; base_level = refl; clauses = refl; seen = λ entries h. h }
 
 pub extends_nothing : (s : SatState) → IsState s → Extends s s
 extends_nothing s state = record { state = state; same = same_itself s; more = []; added = sym (append-nil s.tracker.trail); choices = λ e older present choice. present; guard = omega arith }
 
 pub same_more : (s t u : SatState) → SameBut s t → SameBut t u → SameBut s u
-same_more s t u a b = record { variables = b.variables ∙ a.variables; base_level = b.base_level ∙ a.base_level; clauses = b.clauses ∙ a.clauses }
+same_more s t u a b = record { variables = b.variables ∙ a.variables; base_level = b.base_level ∙ a.base_level; clauses = b.clauses ∙ a.clauses; seen = λ entries h. b.seen entries (a.seen entries h) }
 
 pub extends_more : (s t u : SatState) → Extends s t → Extends t u → Extends s u
 extends_more s t u a b = record {

@@ -1,7 +1,6 @@
 -- The search improves: the trail grows heavier, and its weight is bounded.
-use Rattle.std.proofs.Common.{◌≡◌, ℕ, ◌+◌, ◌-◌, ◌*◌, ◌^◌, ◌<◌, ◌≤◌, inl, inr, true, List, [], ◌∷◌, ◌++◌, reverse, take, length, Vec, Global, sym, ◌∙◌, ap, subst, arith, append_assoc}
-use Rattle.std.proofs.lemmas.Grind.{reverse_onto}
-use Rattle.std.proofs.lemmas.List.{reverse-append, reverse-reverse, length-append, take-append-le}
+use Rattle.std.proofs.Common.{◌≡◌, ℕ, ◌+◌, ◌-◌, ◌*◌, ◌^◌, ◌<◌, ◌≤◌, inl, inr, true, List, [], ◌∷◌, ◌++◌, reverse, length, Vec, Global, sym, ◌∙◌, ap, subst, arith, append_assoc}
+use Rattle.std.proofs.lemmas.List.{reverse-append}
 use Rattle.std.proofs.Math.Nat.{one-le-pow}
 use Rattle.resolvo_pool_core.specs.declared.id.ClauseId.{ClauseId}
 use Rattle.resolvo_pool_core.specs.declared.id.VariableId.{VariableId}
@@ -20,7 +19,7 @@ use Rattle.resolvo_sat.specs.Steps.{SameBut, Chooses, Undoes, choice_entry, forc
 use Rattle.resolvo_sat.specs.Propagation.{Extends}
 use Rattle.resolvo_sat.specs.AddClause.{Learns}
 use Rattle.resolvo_sat.specs.PropagateAndLearn.{Improves, weight_left}
-use Rattle.resolvo_sat.proofs.Trails.{known_from_level, undone_ends, undone_older}
+use Rattle.resolvo_sat.proofs.Trails.{known_from_level, undone_ends}
 use Rattle.resolvo_sat.proofs.Apart.{false_apart}
 use Rattle.resolvo_sat.proofs.Weights.{weight_bounded}
 use Rattle.resolvo_sat.proofs.StepLemmas.{reverse_push}
@@ -59,17 +58,6 @@ learns_earlier m b w x id learnt l base low (p, is) =
     let (q, ends) = undone_ends x.level (count_of m) (clauses_of m) p base l.base (subst (λ (h : List Entry). IsUndone x.level h l.base) is l.undone) (omega arith) in
     (forced_entry id x.asserting l.base ∷ q, l.pushed ∙ ap (λ (h : List Entry). forced_entry id x.asserting l.base ∷ h) ends)
 
--- the entries before the asserted literal's were there, as far as the trail went
-learns_kept : (s m b : SatState) (w : WatchLists) (x : Learnt) (id : ClauseId) → Extends s m → Learns x id m b w → (k : ℕ) → k < length b.tracker.trail → k ≤ length s.tracker.trail → take k b.tracker.trail ≡ take k s.tracker.trail
-learns_kept s m b w x id e l k below within =
-    let (gone, old) = undone_older x.level (history m) l.base l.undone in
-    let first : List Entry = reverse l.base in
-    let d : Entry = forced_entry id x.asserting l.base in
-    let trail : b.tracker.trail ≡ first ++ d ∷ [] = sym (reverse-reverse b.tracker.trail) ∙ ap reverse l.pushed ∙ reverse_onto l.base d [] in
-    let long : length b.tracker.trail ≡ length first + 1 = ap length trail ∙ length-append first (d ∷ []) in
-    let jumped : m.tracker.trail ≡ first ++ reverse gone = sym (reverse-reverse m.tracker.trail) ∙ ap reverse old ∙ reverse-append gone l.base in
-    ap (take k) trail ∙ take-append-le k first (d ∷ []) (omega arith) ∙ sym (ap (take k) jumped ∙ take-append-le k first (reverse gone) (omega arith)) ∙ ap (take k) e.added ∙ take-append-le k s.tracker.trail e.more within
-
 pub learning_improves : (s m b : SatState) (w : WatchLists) (x : Learnt) (id : ClauseId) → Extends s m → IsLearnt m x → Learns x id m b w → Improves id s b w
 learning_improves s m b w x id e learnt l =
     let count : count_of m ≡ count_of s = same_count s m e.same in
@@ -89,7 +77,7 @@ learning_improves s m b w x id e learnt l =
       apart = learnt_apart m x e.state learnt;
       heavier = omega arith;
       choices = λ d older present choice. e.choices d older (learns_choices m b w x id l d older present choice) choice;
-      kept = learns_kept s m b w x id e l;
+      seen = λ known h. l.seen known (e.same.seen known h);
       earlier = λ base low ends. learns_earlier m b w x id learnt l base (subst (λ (n : ℕ). top_level base ≤ n) (sym e.same.base_level) low) (extends_earlier s m base e ends);
     }
 

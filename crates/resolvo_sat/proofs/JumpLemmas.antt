@@ -2,7 +2,7 @@
 use Rattle.std.proofs.Common.{◌≡◌, ℕ, ◌+◌, ◌-◌, ◌^◌, ◌<◌, inl, inr, false, List, [], ◌∷◌, ◌++◌, reverse, length, sym, ◌∙◌, ap, subst}
 use Rattle.resolvo_pool_core.specs.declared.id.ClauseId.{ClauseId}
 use Rattle.resolvo_store_core.specs.Signed.{Signed, negation, has}
-use Rattle.resolvo_store_core.specs.Trail.{Tracked}
+use Rattle.resolvo_store_core.specs.Trail.{Tracked, IsSeenOf}
 use Rattle.resolvo_store_core.specs.declared.decision.Entry.{Entry}
 use Rattle.resolvo_sat.specs.declared.clause.SatClause.{SatClause}
 use Rattle.resolvo_sat.specs.declared.state.SatState.{SatState}
@@ -68,6 +68,7 @@ learns s t a b v w x c id u is addition set =
       undone = u.undone;
       low = u.low;
       pushed = set_pushed a b id x.asserting set ∙ ap (λ (h : List Entry). forced_entry id x.asserting h ∷ h) entries;
+      seen = λ known h. set.same.seen known (subst (λ (k : Tracked). IsSeenOf k known) (sym addition.adds.tracker) (u.same.seen known h));
     }
 
 -- the entries after a jump were there before it

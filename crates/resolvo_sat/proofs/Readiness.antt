@@ -92,7 +92,7 @@ walked_undone s t w level undoes state low same qhead within walked n p is =
     guard k l (j, le, present) below = (j, omega arith, kept level (history s) (history t) l j undoes.undone present (omega arith))
 
 -- the first entries that are left are the same
-pub entries_left : (s t : SatState) (level k : ℕ) → Undoes level s t → k ≤ length t.tracker.trail → take k t.tracker.trail ≡ take k s.tracker.trail
+entries_left : (s t : SatState) (level k : ℕ) → Undoes level s t → k ≤ length t.tracker.trail → take k t.tracker.trail ≡ take k s.tracker.trail
 entries_left s t level k undoes within =
     let (gone, old) = undone_older level (history s) (history t) undoes.undone in
     let trail : s.tracker.trail ≡ t.tracker.trail ++ reverse gone = sym (reverse-reverse s.tracker.trail) ∙ ap reverse old ∙ reverse-append gone (history t) ∙ ap (λ (xs : List Entry). xs ++ reverse gone) (reverse-reverse t.tracker.trail) in
@@ -120,11 +120,21 @@ ready_undone s t w level undoes ready = elim undoes.qhead [
   }
 ]
 
+-- the trail's least length alone was set
+pub ready_floored : (s : SatState) (w : WatchLists) (floor : ℕ) → IsReady s w → IsReady (record s { tracker = record s.tracker { floor = floor } }) w
+ready_floored s w floor ready = record {
+  state = record { trail = ready.state.trail; derived = ready.state.derived; in_range = ready.state.in_range; small = ready.state.small; floor_low = ready.state.floor_low; rooted = ready.state.rooted };
+  fits = fits_same s (record s { tracker = record s.tracker { floor = floor } }) w ready.fits refl;
+  qhead = ready.qhead;
+  walked = ready.walked;
+  done = record { each = ready.done.each; rising = ready.done.rising };
+}
+
 -- the propagation head alone was set
 pub qhead_extends : (s t : SatState) (qhead : ℕ) → Extends s t → Extends s (record t { qhead = qhead })
 qhead_extends s t qhead e = record {
   state = record { trail = e.state.trail; derived = e.state.derived; in_range = e.state.in_range; small = e.state.small; floor_low = e.state.floor_low; rooted = e.state.rooted };
-  same = record { variables = e.same.variables; base_level = e.same.base_level; clauses = e.same.clauses };
+  same = record { variables = e.same.variables; base_level = e.same.base_level; clauses = e.same.clauses; seen = e.same.seen };
   more = e.more;
   added = e.added;
   choices = e.choices;
@@ -136,7 +146,7 @@ pub guard_extends : (o s t : SatState) (l m : Signed) → Extends o s → Record
 guard_extends o s t l m e recorded =
     subst (Extends o) (sym recorded.same) (record {
       state = record { trail = e.state.trail; derived = e.state.derived; in_range = e.state.in_range; small = e.state.small; floor_low = e.state.floor_low; rooted = e.state.rooted };
-      same = record { variables = e.same.variables; base_level = e.same.base_level; clauses = e.same.clauses };
+      same = record { variables = e.same.variables; base_level = e.same.base_level; clauses = e.same.clauses; seen = e.same.seen };
       more = e.more;
       added = e.added;
       choices = e.choices;

@@ -7,7 +7,6 @@ use Rattle.resolvo_pool_core.specs.declared.id.ClauseId.{ClauseId}
 use Rattle.resolvo_store_core.specs.Signed.{Signed, negation, has}
 use Rattle.resolvo_store_core.specs.SignLaws.{same_literal_true}
 use Rattle.resolvo_store_core.specs.Pairs.{watches}
-use Rattle.resolvo_store_core.specs.Trail.{Tracked}
 use Rattle.resolvo_store_core.specs.Watches.{watchers, pair_at, count, IsWatched}
 use Rattle.resolvo_store_core.specs.declared.decision.Entry.{Entry}
 use Rattle.resolvo_store_core.specs.declared.watch_map.WatchMap.{WatchMap}
@@ -81,22 +80,16 @@ attaches_more s t u v w x a b = record { watching = watching_more v w x a.watchi
 pub conflicts_after : (n : ℕ) (s t u : SatState) (v w x : WatchLists) → Attaches s t v w → Conflicts n t u w x → Conflicts n s u v x
 conflicts_after n s t u v w x a c = conflicts_later n s t u v w x a.watching a.extends c
 
--- only the least length of the trail was taken
-pub floor_extends : (s : SatState) (tracker : Tracked) → IsState s → tracker.trail ≡ s.tracker.trail → Extends s (record s { tracker = tracker })
-floor_extends s tracker state same = go tracker.qhead tracker.floor (extends_of tracker.trail same)
-  where
-    extends_of : (trail : List Entry) → trail ≡ s.tracker.trail → (q f : ℕ) → Extends s (record s { tracker = record { trail = trail; qhead = q; floor = f } })
-    extends_of trail is q f = subst (λ (xs : List Entry). Extends s (record s { tracker = record { trail = xs; qhead = q; floor = f } })) (sym is) (record {
-      state = record { trail = state.trail; derived = state.derived; in_range = state.in_range; small = state.small; floor_low = state.floor_low; rooted = state.rooted };
-      same = record { variables = refl; base_level = refl; clauses = refl };
-      more = [];
-      added = sym (append-nil s.tracker.trail);
-      choices = λ e older present choice. present;
-      guard = omega arith;
-    })
-
-    go : (q f : ℕ) → ((x y : ℕ) → Extends s (record s { tracker = record { trail = tracker.trail; qhead = x; floor = y } })) → Extends s (record s { tracker = record { trail = tracker.trail; qhead = q; floor = f } })
-    go q f all = all q f
+-- only the number of noted places changed
+pub indexed_extends : (s : SatState) (indexed : ℕ) → IsState s → Extends s (record s { indexed = indexed })
+indexed_extends s indexed state = record {
+  state = record { trail = state.trail; derived = state.derived; in_range = state.in_range; small = state.small; floor_low = state.floor_low; rooted = state.rooted };
+  same = record { variables = refl; base_level = refl; clauses = refl; seen = λ entries h. h };
+  more = [];
+  added = sym (append-nil s.tracker.trail);
+  choices = λ e older present choice. present;
+  guard = omega arith;
+}
 
 -- the outcome of a visit to a pending clause
 pub visit_kept : (n : ℕ) (s t : SatState) (v : WatchLists) → IsReady s v → Extends s t → t.qhead ≡ s.qhead → Attaches s t v v
@@ -172,7 +165,7 @@ pub start_guards : (s u t : SatState) (p : WatchedLiterals) → IsState s → Ma
 start_guards s u t p state first second one two = (
   subst (Extends s) (sym whole) (record {
     state = record { trail = state.trail; derived = state.derived; in_range = state.in_range; small = state.small; floor_low = state.floor_low; rooted = state.rooted };
-    same = record { variables = refl; base_level = refl; clauses = refl };
+    same = record { variables = refl; base_level = refl; clauses = refl; seen = λ entries h. h };
     more = [];
     added = sym (append-nil s.tracker.trail);
     choices = λ e older present choice. present;

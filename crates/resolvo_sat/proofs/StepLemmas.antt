@@ -44,6 +44,9 @@ state_pushed s t e state follows pushed =
 added_new : (t u : Store.Tracked) (e : Entry) (x : Set) → Store.value_in t.trail e.decision.variable.0 ≡ None → x ≡ set_for e.decision.value (Store.value_in t.trail e.decision.variable.0) → u ≡ with_entry x e t → u ≡ record t { trail = t.trail ++ e ∷ [] }
 added_new t u e x none answer is = is ∙ ap (λ (y : Set). with_entry y e t) (answer ∙ ap (set_for e.decision.value) none)
 
+added_seen : (t u : Store.Tracked) (e : Entry) → u ≡ record t { trail = t.trail ++ e ∷ [] } → Store.KeepsSeen t u
+added_seen t u e is = subst (Store.KeepsSeen t) (sym is) (StoreTrails.seen_pushed t e)
+
 pub forced_added : (s : SatState) (u : Store.Tracked) (c : ClauseId) (l : Signed) (x : Set) (e : Entry) → IsState s → Forces (made_true (history s)) (clause_at (clauses_of s) c.0) l → e ≡ forced_entry c l (history s)
     → x ≡ set_for e.decision.value (Store.value_in s.tracker.trail e.decision.variable.0) → u ≡ with_entry x e s.tracker → Sets c l s (record s { tracker = u })
 forced_added s u c l x e state forces is answer with =
@@ -52,7 +55,7 @@ forced_added s u c l x e state forces is answer with =
     let pushed : u.trail ≡ s.tracker.trail ++ forced_entry c l (history s) ∷ [] = ap (λ (t : Store.Tracked). t.trail) added ∙ ap (λ (d : Entry). s.tracker.trail ++ d ∷ []) is in
     record {
       state = state_pushed s u (forced_entry c l (history s)) state (record { undecided = forces.undecided; in_range = state.in_range c.0 l forces.forced.present; reasoned = inr (record { level = refl; forced = forces.forced }) }) pushed;
-      same = record { variables = refl; base_level = refl; clauses = refl };
+      same = record { variables = refl; base_level = refl; clauses = refl; seen = added_seen s.tracker u e added };
       pushed = pushed;
       qhead = refl;
       guard = refl;
@@ -66,7 +69,7 @@ choice_added s u v c x e state in_range free is answer with =
     let pushed : u.trail ≡ s.tracker.trail ++ choice_entry v c (history s) ∷ [] = ap (λ (t : Store.Tracked). t.trail) added ∙ ap (λ (d : Entry). s.tracker.trail ++ d ∷ []) is in
     record {
       state = state_pushed s u (choice_entry v c (history s)) state (record { undecided = free; in_range = in_range; reasoned = inl (record { opens = refl; positive = refl }) }) pushed;
-      same = record { variables = refl; base_level = refl; clauses = refl };
+      same = record { variables = refl; base_level = refl; clauses = refl; seen = added_seen s.tracker u e added };
       pushed = pushed;
       qhead = refl;
       guard = refl;
@@ -102,10 +105,10 @@ undone_is level a b t =
     subst (λ (e : Entry). level < e.level) (sym (get_or-reverse t.undone i d within)) (t.above (length t.undone - 1 - i) d (omega arith))))
 
 -- entries were undone, and the propagation head was set
-pub state_undone : (s u : SatState) (level : ℕ) → IsState s → 1 ≤ level → Store.Undoes level s.tracker u.tracker → u ≡ record s { tracker = u.tracker; qhead = u.qhead; guard_level = u.guard_level } → IsQheadUndone level s u → Undoes level s u
+pub state_undone : (s u : SatState) (level : ℕ) → IsState s → 1 ≤ level → Store.Undoes level s.tracker u.tracker → u ≡ record s { tracker = u.tracker; qhead = u.qhead; guard_level = u.guard_level; indexed = u.indexed } → IsQheadUndone level s u → Undoes level s u
 state_undone s u level state one undoes same qhead =
     let undone : IsUndone level (history s) (history u) = undone_is level s.tracker u.tracker undoes.0 in
-    let here : IsState (record s { tracker = u.tracker; qhead = u.qhead; guard_level = u.guard_level }) = record {
+    let here : IsState (record s { tracker = u.tracker; qhead = u.qhead; guard_level = u.guard_level; indexed = u.indexed }) = record {
       trail = undone_trail level (count_of s) (clauses_of s) (history s) (history u) undone state.trail;
       derived = state.derived;
       in_range = state.in_range;
@@ -115,7 +118,7 @@ state_undone s u level state one undoes same qhead =
     } in
     record {
       state = subst IsState (sym same) here;
-      same = subst (SameBut s) (sym same) (record { variables = refl; base_level = refl; clauses = refl });
+      same = subst (SameBut s) (sym same) (record { variables = refl; base_level = refl; clauses = refl; seen = StoreTrails.seen_undone level s.tracker u.tracker undoes.0 });
       undone = undone;
       low = (
           let low : Store.last_level u.tracker.trail ≤ level = undoes.1 in

@@ -6,6 +6,7 @@ use Rattle.resolvo_sat.specs.declared.clause.SatClause.{SatClause}
 use Rattle.resolvo_sat.specs.declared.state.SatState.{SatState}
 use Rattle.resolvo_sat.specs.declared.watch_lists.WatchLists.{WatchLists}
 use Rattle.resolvo_sat.specs.declared.watch_lists.UnitClause.{UnitClause}
+use Rattle.resolvo_store_core.specs.Trail.{KeepsSeen}
 use Rattle.resolvo_store_core.specs.declared.decision.Entry.{Entry}
 use Rattle.resolvo_sat.specs.declared.analyze.Learnt.{Learnt}
 use Rattle.resolvo_sat.specs.Entries.{top_level, IsUndone}
@@ -51,3 +52,4 @@ pub record Learns (x : Learnt) (id : ClauseId) (old new : SatState) (w : WatchLi
   pub undone : IsUndone x.level (history old) base
   pub low : top_level base ≤ x.level
   pub pushed : history new ≡ forced_entry id x.asserting base ∷ base
+  pub seen : KeepsSeen old.tracker new.tracker

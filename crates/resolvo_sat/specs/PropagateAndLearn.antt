@@ -1,10 +1,11 @@
 -- One step of the search.
-use Rattle.std.specs.Prelude.{◌≡◌, ℕ, ◌+◌, ◌*◌, ◌-◌, ◌^◌, ◌<◌, ◌≤◌, List, [], ◌∷◌, ◌++◌, take, length}
+use Rattle.std.specs.Prelude.{◌≡◌, ℕ, ◌+◌, ◌*◌, ◌-◌, ◌^◌, ◌<◌, ◌≤◌, List, [], ◌∷◌, ◌++◌, length}
 use Rattle.resolvo_pool_core.specs.declared.id.ClauseId.{ClauseId}
 use Rattle.resolvo_sat.specs.declared.clause.SatClause.{SatClause}
 use Rattle.resolvo_sat.specs.declared.state.SatState.{SatState}
 use Rattle.resolvo_sat.specs.declared.watch_lists.WatchLists.{WatchLists}
 use Rattle.resolvo_sat.specs.declared.propagate_and_learn.StepResult.{StepResult}
+use Rattle.resolvo_store_core.specs.Trail.{KeepsSeen}
 use Rattle.resolvo_store_core.specs.declared.decision.Entry.{Entry}
 use Rattle.resolvo_sat.specs.Entries.{weight, top_level, EndsWith}
 use Rattle.resolvo_sat.specs.State.{count_of, history, clauses_of, IsDerived, AreApart}
@@ -26,8 +27,8 @@ abbrev pub KeepsUpTo : ℕ → SatState → SatState → Type 0
 KeepsUpTo level old new = (base : List Entry) → top_level base ≤ level → EndsWith base (history old) → EndsWith base (history new)
 
 -- A clause was learnt that follows from earlier ones. Its literals are among theirs, none beside its negation. The trail is
--- heavier than before, each of its decisions was there, and what was assigned before the turn is unchanged. Only entries at
--- the end were taken away, before the new last one was added.
+-- heavier than before, each of its decisions was there, and what was assigned before the turn is unchanged. What was seen of
+-- the trail, as far as its least length, is so still.
 pub record Improves (id : ClauseId) (old new : SatState) (w : WatchLists) : Type 0 where
   pub ready : IsReady new w
   pub covered : AreCovered new w
@@ -43,7 +44,7 @@ pub record Improves (id : ClauseId) (old new : SatState) (w : WatchLists) : Type
   pub heavier : weight (count_of old) (history old) < weight (count_of old) (history new)
   pub choices : KeepsChoices (history old) (history new)
   pub earlier : KeepsUpTo old.base_level old new
-  pub kept : (k : ℕ) → k < length new.tracker.trail → k ≤ length old.tracker.trail → take k new.tracker.trail ≡ take k old.tracker.trail
+  pub seen : KeepsSeen old.tracker new.tracker
 
 abbrev pub IsProgress : SatState → WatchLists → SatState → WatchLists → StepResult → Type 0
 IsProgress old v new w StepResult.Complete = Completes old new w

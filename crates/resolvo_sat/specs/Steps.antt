@@ -3,6 +3,7 @@ use Rattle.std.specs.Prelude.{◌≡◌, ℕ, suc, ◌<◌, ◌≤◌, ◌⊎◌
 use Rattle.resolvo_pool_core.specs.declared.id.ClauseId.{ClauseId}
 use Rattle.resolvo_pool_core.specs.declared.id.VariableId.{VariableId}
 use Rattle.resolvo_store_core.specs.Signed.{Signed, has}
+use Rattle.resolvo_store_core.specs.Trail.{KeepsSeen}
 use Rattle.resolvo_store_core.specs.declared.decision.Entry.{Entry}
 use Rattle.resolvo_sat.specs.declared.clause.SatClause.{SatClause}
 use Rattle.resolvo_sat.specs.declared.state.SatState.{SatState}
@@ -21,11 +22,12 @@ forced_entry c l older = record { decision = record { variable = l.variable; val
 abbrev pub choice_entry : VariableId → ClauseId → List Entry → Entry
 choice_entry v c older = record { decision = record { variable = v; value = true; derived_from = c }; level = suc (top_level older) }
 
--- only the trail changed
+-- only the trail changed; what was seen of it, as far as its least length, is so still
 pub record SameBut (old new : SatState) : Type 0 where
   pub variables : new.variables ≡ old.variables
   pub base_level : new.base_level ≡ old.base_level
   pub clauses : new.clauses ≡ old.clauses
+  pub seen : KeepsSeen old.tracker new.tracker
 
 -- each choice was one before, over the same older entries
 abbrev pub KeepsChoices : List Entry → List Entry → Type 0

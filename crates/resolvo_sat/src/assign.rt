@@ -75,11 +75,13 @@ impl SatState {
         ensures { Undoes level self.old self.new }
     {
         self.tracker.undo_until(level);
+        let left = self.tracker.stack().len();
+        self.indexed = self.indexed.min(left);
         if level < self.guard_level {
             self.qhead = 0;
             self.guard_level = 0;
         } else {
-            self.qhead = self.qhead.min(self.tracker.stack().len());
+            self.qhead = self.qhead.min(left);
         }
     }
 

@@ -43,6 +43,7 @@ pub fn begin(alloc: Global) -> R<(SatState, WatchLists)>
         base_level: 1,
         qhead: 0,
         guard_level: 0,
+        indexed: 0,
     };
     let watching = WatchLists {
         watched,

@@ -34,6 +34,8 @@ pub struct SatState {
     pub base_level: u32,
     pub qhead: usize,
     pub guard_level: u32,
+    /// The places of so many first entries of the trail are noted. A backjump lowers it.
+    pub indexed: usize,
 }
 
 // split for the prover: one drop
@@ -46,6 +48,7 @@ impl Drop for SatState {
             base_level: _,
             qhead: _,
             guard_level: _,
+            indexed: _,
         } = self;
     }
 }

@@ -61,17 +61,17 @@ impl SatState {
         Ok(None)
     }
 
-    /// Notes the places of the trail's entries that came since this was last called.
+    /// Notes the places of the trail's entries behind those that were noted.
     fn index_trail(&mut self, watching: &mut WatchLists) -> R<()>
         requires ready { IsReady self.old watching.old }
         ensures attaches { IfOk result (λ _. Attaches self.old self.new watching.old watching.new) }
         ensures refusal { IsOkUnless result Memory }
     {
-        let from = self.tracker.take_sync_floor();
         let trail = self.tracker.stack();
-        for place in from..trail.len() {
+        for place in self.indexed..trail.len() {
             watching.set_place(trail[place].decision.variable, place)?;
         }
+        self.indexed = trail.len();
         Ok(())
     }
 

@@ -1,7 +1,7 @@
 -- Lemmas on trails.
-use Rattle.std.proofs.Common.{◌≡◌, ℕ, zero, suc, ◌+◌, ◌<◌, ◌≤◌, min, length, List, [], ◌∷◌, ◌++◌, Bool, true, false, cond, ◌==◌, Option, Some, None, All, ◌⊎◌, inl, inr, refl, sym, ◌∙◌, ap, subst, arith, eqb-true, eq-eqb, append_assoc}
+use Rattle.std.proofs.Common.{◌≡◌, ℕ, zero, suc, ◌+◌, ◌<◌, ◌≤◌, min, length, take, drop, List, [], ◌∷◌, ◌++◌, Bool, true, false, cond, ◌==◌, Option, Some, None, All, ◌⊎◌, inl, inr, refl, sym, ◌∙◌, ap, subst, arith, eqb-true, eq-eqb, append_assoc}
 use Rattle.std.proofs.lemmas.Bool.{both_ways}
-use Rattle.std.proofs.lemmas.List.{length-append, append-nil}
+use Rattle.std.proofs.lemmas.List.{length-append, append-nil, take_all, take-append-drop, take-append-le, take-take}
 use Rattle.std.specs.Prelude.{slice_get}
 use Rattle.resolvo_pool_core.specs.Slots.{at, PutsSlot}
 use Rattle.resolvo_store_core.specs.declared.decision.Entry.{Entry}
@@ -9,7 +9,8 @@ use Rattle.resolvo_store_core.specs.declared.decision.Decision.{Decision}
 use Rattle.resolvo_store_core.specs.declared.decision_map.Assignment.{Assignment}
 use Rattle.std.specs.Option.{option_map}
 use Rattle.resolvo_store_core.specs.Values.{value_at}
-use Rattle.resolvo_store_core.specs.Trail.{assigned, assignment_of, last_level, EachOnce, IsTrail, Tracked, PopsLast, TakesAway}
+use Rattle.resolvo_store_core.specs.Trail.{assigned, assignment_of, last_level, EachOnce, IsTrail, Tracked, PopsLast, TakesAway, IsSeenOf, KeepsSeen}
+use Rattle.resolvo_store_core.specs.AtMostOne.{IsPrefixOf}
 
 pub last_level_end : (es : List Entry) (e : Entry) → last_level (es ++ e ∷ []) ≡ e.level
 last_level_end [] e = refl
@@ -149,3 +150,45 @@ takes_one_more level a b c d took pops above =
 
 pub popped_shorter : (b c : Tracked) (d : Decision) → PopsLast b c d → length c.trail + 1 ≡ length b.trail
 popped_shorter b c d pops = sym (ap length pops.trail ∙ length-append c.trail (record { decision = d; level = pops.level } ∷ []))
+
+-- ---- what was seen of the trail
+
+-- a prefix of the trail is seen of it, whatever its least length
+pub seen_prefix : (t : Tracked) (seen : List Entry) → IsPrefixOf seen t.trail → IsSeenOf t seen
+seen_prefix t seen (rest, is) = (
+  drop t.floor seen ++ rest,
+  is ∙ ap (λ (xs : List Entry). xs ++ rest) (sym (take-append-drop t.floor seen)) ∙ append_assoc (take t.floor seen) (drop t.floor seen) rest,
+)
+
+-- after an entry more
+pub seen_pushed : (t : Tracked) (e : Entry) → KeepsSeen t (record t { trail = t.trail ++ e ∷ [] })
+seen_pushed t e seen (rest, is) = (rest ++ e ∷ [], ap (λ (xs : List Entry). xs ++ e ∷ []) is ∙ append_assoc (take t.floor seen) rest (e ∷ []))
+
+-- the first of entries that begin a list begin its first ones
+prefix_take : {X : Type 0} (n : ℕ) (xs ys : List X) → IsPrefixOf xs ys → IsPrefixOf (take n xs) (take n ys)
+prefix_take {X} n xs ys (rest, is) = go n xs ys is
+  where
+    go : (m : ℕ) (as bs : List X) → bs ≡ as ++ rest → IsPrefixOf (take m as) (take m bs)
+    go zero as bs e = ([], refl)
+    go (suc m) [] bs e = (take (suc m) bs, refl)
+    go (suc m) (a ∷ as) bs e = let (more, at) = go m as (as ++ rest) refl in (more, ap (take (suc m)) e ∙ ap (λ (cs : List X). a ∷ cs) at)
+
+-- after entries were taken away from its end
+pub seen_taken : (old new : Tracked) (undone : List Entry) → old.trail ≡ new.trail ++ undone → new.floor ≡ min old.floor (length new.trail) → KeepsSeen old new
+seen_taken old new undone is floor seen h =
+    let n : ℕ = length new.trail in
+    let whole : take n old.trail ≡ new.trail = ap (take n) is ∙ take-append-le n new.trail undone (omega arith) ∙ take_all n new.trail (omega arith) in
+    let low : new.floor ≤ n = omega (arith, floor) in
+    let under : new.floor ≤ old.floor = omega (arith, floor) in
+    let first : take new.floor (take old.floor seen) ≡ take new.floor seen = take-take new.floor old.floor seen under in
+    let (rest, here) = prefix_take new.floor (take old.floor seen) old.trail h in
+    let same : take new.floor old.trail ≡ take new.floor new.trail = sym (take-take new.floor n old.trail low) ∙ ap (take new.floor) whole in (
+      rest ++ drop new.floor new.trail,
+      sym (take-append-drop new.floor new.trail) ∙ ap (λ (xs : List Entry). xs ++ drop new.floor new.trail) (sym same ∙ here ∙ ap (λ (xs : List Entry). xs ++ rest) first) ∙ append_assoc (take new.floor seen) rest (drop new.floor new.trail),
+    )
+
+pub seen_popped : (old new : Tracked) (d : Decision) → PopsLast old new d → KeepsSeen old new
+seen_popped old new d pops = seen_taken old new (record { decision = d; level = pops.level } ∷ []) pops.trail pops.floor
+
+pub seen_undone : (level : ℕ) (old new : Tracked) → TakesAway level old new → KeepsSeen old new
+seen_undone level old new took = seen_taken old new took.undone took.trail took.floor

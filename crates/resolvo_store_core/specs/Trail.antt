@@ -1,9 +1,10 @@
 -- The trail: the decisions in the order in which they were taken.
-use Rattle.std.specs.Prelude.{◌≡◌, ℕ, ◌<◌, ◌≤◌, ◌==◌, ⊤, Bool, List, [], ◌∷◌, ◌++◌, length, map, min, if◌then◌else◌, Option, Some, None, All}
+use Rattle.std.specs.Prelude.{◌≡◌, ℕ, ◌<◌, ◌≤◌, ◌==◌, ⊤, Bool, List, [], ◌∷◌, ◌++◌, length, map, min, take, if◌then◌else◌, Option, Some, None, All}
 use Rattle.std.specs.Option.{option_map}
 use Rattle.resolvo_pool_core.specs.declared.id.VariableId.{VariableId}
 use Rattle.resolvo_pool_core.specs.declared.id.ClauseId.{ClauseId}
 use Rattle.resolvo_pool_core.specs.Slots.{at}
+use Rattle.resolvo_store_core.specs.AtMostOne.{IsPrefixOf}
 use Rattle.resolvo_store_core.specs.declared.decision.Decision.{Decision}
 use Rattle.resolvo_store_core.specs.declared.decision.Entry.{Entry}
 use Rattle.resolvo_store_core.specs.declared.decision_map.Assignment.{Assignment}
@@ -70,6 +71,14 @@ pub record TakesAway (level : ℕ) (old new : Tracked) : Type 0 where
 -- the entries above the level were taken away from the end, up to the first that is not above it
 abbrev pub Undoes : ℕ → Tracked → Tracked → Type 0
 Undoes level old new = TakesAway level old new × (last_level new.trail ≤ level)
+
+-- the entries, as far as the trail's least length, are its first ones
+abbrev pub IsSeenOf : Tracked → List Entry → Type 0
+IsSeenOf t seen = IsPrefixOf (take t.floor seen) t.trail
+
+-- entries that were the trail's first ones, as far as its least length, are so still
+abbrev pub KeepsSeen : Tracked → Tracked → Type 0
+KeepsSeen old new = (seen : List Entry) → IsSeenOf old seen → IsSeenOf new seen
 
 -- the map agrees with the trail, no variable is assigned twice, and both numbers are within the trail
 pub record IsTrail (map : List (Option Assignment)) (trail : List Entry) (qhead floor : ℕ) : Type 0 where
