@@ -208,19 +208,19 @@ some_apart : (k n : ℕ) → Some k ≡ Some n → k ≡ n
 some_apart k n h = cc
 
 -- the numbers are the same
-pub counted_same : (values : ℕ → Option Bool) (position : ℕ) (ls : List Signed) (old new : CandidateCounts) → new.counts ≡ old.counts → new.occurrences ≡ old.occurrences → ((i : ℕ) → number_at new.count_states.items i ≡ number_at old.count_states.items i) → (trail : List Entry) → KeepsCounted trail values position ls old new
+pub counted_same : (values : ℕ → Option Bool) (position : ℕ) (ls : List Signed) (old new : CandidateCounts) → new.counts.items ≡ old.counts.items → new.occurrences ≡ old.occurrences → ((i : ℕ) → number_at new.count_states.items i ≡ number_at old.count_states.items i) → (trail : List Entry) → KeepsCounted trail values position ls old new
 counted_same values position ls old new ts us same trail = λ agree literals queue at h. record {
   each = λ i q k here number. (let one = h.each i q k here (sym (same i) ∙ number) in record {
     some = one.some;
     once = one.once;
     count = one.count;
-    there = ap (λ xs. slice_get xs.items k) ts ∙ one.there;
+    there = ap (λ xs. slice_get xs k) ts ∙ one.there;
     counts = one.counts;
     listed = subst (λ xs. AreListed (literals q.requirement) xs.items k) (sym us) one.listed;
   });
-  within = λ i k number. subst (λ xs. k < length xs.items) (sym ts) (h.within i k (sym (same i) ∙ number));
+  within = λ i k number. subst (λ xs. k < length xs) (sym ts) (h.within i k (sym (same i) ∙ number));
   apart = λ i j k a b. h.apart i j k (sym (same i) ∙ a) (sym (same j) ∙ b);
-  below = subst (λ xs. AreBelow (length xs.items) new.occurrences.items) (sym ts) (subst (λ xs. AreBelow (length old.counts.items) xs.items) (sym us) h.below);
+  below = subst (λ xs. AreBelow (length xs) new.occurrences.items) (sym ts) (subst (λ xs. AreBelow (length old.counts.items) xs.items) (sym us) h.below);
 }
 
 -- a clause was given a count

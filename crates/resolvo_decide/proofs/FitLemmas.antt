@@ -10,6 +10,7 @@ use Rattle.std.proofs.lemmas.List.{append_assoc, length-append, length-drop, len
 use Rattle.std.proofs.Math.Seq.{take-length}
 use Rattle.std.proofs.lemmas.List.Elements.{Contains-append_right}
 use Rattle.resolvo_pool_core.specs.declared.requirement.Requirement.{Requirement}
+use Rattle.resolvo_store_core.specs.AtMostOne.{IsPrefixOf}
 use Rattle.resolvo_store_core.specs.Signed.{Signed, value_under, is_true, is_false, is_open}
 use Rattle.resolvo_store_core.specs.Clauses.{candidate_literals}
 use Rattle.resolvo_store_core.specs.Lists.{items_or_none, named_by, candidates_in, condition_in}
@@ -26,7 +27,7 @@ use Rattle.resolvo_decide.specs.declared.candidate_counts.CandidateCounts.{Candi
 use Rattle.resolvo_decide.specs.declared.candidate_counts.Occurrence.{Occurrence}
 use Rattle.resolvo_decide.specs.declared.undecided_clauses.UndecidedClauses.{UndecidedClauses}
 use Rattle.resolvo_decide.specs.States.{state_at, reopened, is_open_state}
-use Rattle.resolvo_decide.specs.CandidateCounts.{IsRightCount, AreListed, AreBelow, HasNoCount, number_at}
+use Rattle.resolvo_decide.specs.CandidateCounts.{IsRightCount, AreListed, AreBelow, Begins, HasNoCount, number_at}
 use Rattle.resolvo_decide.specs.Needs.{literals_in, is_met, places_at, IsMetNow, IsSoundState, Fits, AreRightCounts, KeepsFits, KeepsCounts, KeepsCounted, OffersAtLeast, AddsNeed}
 use Rattle.resolvo_decide.proofs.Positions.{state_end, state_map, state_out, state_put, state_set_other}
 use Rattle.resolvo_decide.proofs.TrailEnds.{open_before}
@@ -92,6 +93,35 @@ fits_on e old new seen places long others opened counts = λ literals queue f. r
           (λ is parent. open_not (state_at new.states i) (opened is i (subst (λ v. Contains (places_at old.places.items v) i) (sym parent) (f.placed i q at))))
     ]
 
+-- a count that a clause has was its before another clause was added
+pub begun_numbers : (n : ℕ) (old new : CandidateCounts) → Begins n old new → (i k : ℕ) → number_at new.count_states.items i ≡ Some k → number_at old.count_states.items i ≡ Some k
+begun_numbers n old new b i k number = elim (cases_lt i n) [
+  | inl low ↦ sym (b.kept i low) ∙ number
+  | inr high ↦ (let no : None ≡ Some k = sym (b.fresh i high) ∙ number in absurd cc)
+]
+
+-- where parents have further places, and no clause has another count
+pub fits_widened : (old new : UndecidedClauses) → new.states ≡ old.states → new.seen.items ≡ old.seen.items → ((v i : ℕ) → Contains (places_at old.places.items v) i → Contains (places_at new.places.items v) i)
+    → ((i k : ℕ) → number_at new.counts.count_states.items i ≡ Some k → number_at old.counts.count_states.items i ≡ Some k) → new.counts.counts ≡ old.counts.counts → new.counts.occurrences ≡ old.counts.occurrences → KeepsFits old new
+fits_widened old new states seen places numbered counts occurrences = λ literals queue f. record {
+  count = ap length states ∙ f.count;
+  each = λ i q at. subst (λ (es : List Entry). IsSoundState literals es q (state_at new.states i)) (sym seen) (subst (λ (ss : List ClauseState). IsSoundState literals old.seen.items q (state_at ss i)) (sym states) (f.each i q at));
+  placed = λ i q at. places q.parent.0 i (f.placed i q at);
+  kept_count = record {
+    each = λ i q k at number. (let one = subst (λ (es : List Entry). IsRightCount (literals q.requirement) es old.counts k) (sym seen) (f.kept_count.each i q k at (numbered i k number)) in record {
+      some = one.some;
+      once = one.once;
+      count = one.count;
+      there = ap (λ ts. slice_get ts.items k) counts ∙ one.there;
+      counts = one.counts;
+      listed = subst (λ us. AreListed (literals q.requirement) us.items k) (sym occurrences) one.listed;
+    });
+    within = λ i k number. subst (λ ts. k < length ts.items) (sym counts) (f.kept_count.within i k (numbered i k number));
+    apart = λ i j k a b. f.kept_count.apart i j k (numbered i k a) (numbered j k b);
+    below = subst (λ ts. AreBelow (length ts.items) new.counts.occurrences.items) (sym counts) (subst (λ us. AreBelow (length old.counts.counts.items) us.items) (sym occurrences) f.kept_count.below);
+  };
+}
+
 -- after a new clause
 pub fits_add : (literals : Requirement → List Signed) (q : NeedClause) (old new : UndecidedClauses) (queue : List NeedClause) → Fits literals old queue → AddsNeed q.parent old new → Fits literals new (queue ++ q ∷ [])
 fits_add literals q old new queue f a = record {
@@ -100,8 +130,8 @@ fits_add literals q old new queue f a = record {
   placed = λ i r at. placed i r (at_end queue i r at);
   kept_count = record {
     each = λ i r k at number. kept_count i r k number (at_end queue i r at);
-    within = λ i k number. subst (λ ts. k < length ts.items) (sym a.counts.counts) (f.kept_count.within i k (numbered i k number));
-    apart = λ i j k here there. f.kept_count.apart i j k (numbered i k here) (numbered j k there);
+    within = λ i k number. subst (λ ts. k < length ts.items) (sym a.counts.counts) (f.kept_count.within i k (begun_numbers (length old.states) old.counts new.counts a.counts i k number));
+    apart = λ i j k here there. f.kept_count.apart i j k (begun_numbers (length old.states) old.counts new.counts a.counts i k here) (begun_numbers (length old.states) old.counts new.counts a.counts j k there);
     below = subst (λ ts. AreBelow (length ts.items) new.counts.occurrences.items) (sym a.counts.counts) (subst (λ us. AreBelow (length old.counts.counts.items) us.items) (sym a.counts.occurrences) f.kept_count.below);
   };
 }
@@ -122,12 +152,6 @@ fits_add literals q old new queue f a = record {
     placed : (i : ℕ) (r : NeedClause) → (slice_get queue i ≡ Some r) ⊎ ((i ≡ length queue) × (r ≡ q) × (slice_get queue i ≡ None)) → Contains (places_at new.places.items r.parent.0) i
     placed i r (inl before) = a.kept r.parent.0 i (f.placed i r before)
     placed i r (inr (last, is, none)) = subst (λ (s : NeedClause). Contains (places_at new.places.items s.parent.0) i) (sym is) (subst (λ j. Contains (places_at new.places.items q.parent.0) j) (f.count ∙ sym last) a.placed)
-
-    numbered : (i k : ℕ) → number_at new.counts.count_states.items i ≡ Some k → number_at old.counts.count_states.items i ≡ Some k
-    numbered i k number = elim (cases_lt i (length old.states)) [
-      | inl low ↦ sym (a.counts.kept i low) ∙ number
-      | inr high ↦ (let no : None ≡ Some k = sym (a.counts.fresh i high) ∙ number in absurd cc)
-    ]
 
     known : (i : ℕ) (r : NeedClause) → slice_get queue i ≡ Some r → i < length queue
     known i r at = inside queue i at
@@ -375,6 +399,14 @@ seen_all n i es seen low is end =
     let long : length (drop n es) ≡ length es - n = length-drop n es in
     is ∙ ap (λ xs. take n es ++ xs) (take_all i (take (length es - n) (drop n es)) end ∙ take_all (length es - n) (drop n es) (omega arith)) ∙ take-append-drop n es
 
+-- those so far are the trail's first ones
+pub seen_some : (n i : ℕ) (es seen : List Entry) → n ≤ length es → seen ≡ take n es ++ take i (take (length es - n) (drop n es)) → IsPrefixOf seen es
+seen_some n i es seen low is =
+    let rest = take (length es - n) (drop n es) in
+    let long : length (drop n es) ≡ length es - n = length-drop n es in
+    let all : rest ≡ drop n es = take_all (length es - n) (drop n es) (omega arith) in
+    (drop i rest, sym (take-append-drop n es) ∙ ap (λ xs. take n es ++ xs) (sym all ∙ sym (take-append-drop i rest)) ∙ sym (append_assoc (take n es) (take i rest) (drop i rest)) ∙ ap (λ xs. xs ++ drop i rest) (sym is))
+
 -- and its variable is in none of the seen ones
 pub seen_fresh : (n i : ℕ) (es seen : List Entry) (d : Entry) → n ≤ length es → seen ≡ take n es ++ take i (take (length es - n) (drop n es)) → i < length (take (length es - n) (drop n es)) → EachOnce es
     → assigned seen (get_or (take (length es - n) (drop n es)) i d).decision.variable.0 ≡ None
@@ -413,25 +445,29 @@ fits_more old new needs queue same f = record {
     so q (Satisfied within) h = more q.requirement (take within needs.seen.items) h
     so q Inactive h = h
 
+-- no clause has a count
+pub counts_none : (literals : Requirement → List Signed) (queue : List NeedClause) (trail : List Entry) (all : CandidateCounts) → HasNoCount all → AreRightCounts literals queue trail all
+counts_none literals queue trail all none = record {
+  each = λ i q k at number. absurd (unnumbered i k number);
+  within = λ i k number. absurd (unnumbered i k number);
+  apart = λ i j k here there. absurd (unnumbered i k here);
+  below = λ index u h. absurd (unused u (subst (λ us. Contains (items_or_none (slice_get us index)) u) none.occurrences h));
+}
+  where
+    unnumbered : (i k : ℕ) → number_at all.count_states.items i ≡ Some k → ⊥
+    unnumbered i k number = (let no : None ≡ Some k = ap (λ cs. number_at cs i) (sym none.count_states) ∙ number in absurd cc)
+
+    unused : (u : Occurrence) → Contains [] u → ⊥
+    unused u (i, low, at) = omega (arith, low)
+
 -- the empty queue
 pub fits_none : (literals : Requirement → List Signed) (needs : UndecidedClauses) → needs.states ≡ [] → HasNoCount needs.counts → Fits literals needs []
 fits_none literals needs none uncounted = record {
   count = ap length none;
   each = λ i q at. absurd (nothing i q at);
   placed = λ i q at. absurd (nothing i q at);
-  kept_count = record {
-    each = λ i q k at number. absurd (nothing i q at);
-    within = λ i k number. absurd (unnumbered i k number);
-    apart = λ i j k here there. absurd (unnumbered i k here);
-    below = λ index u h. absurd (unused u (subst (λ us. Contains (items_or_none (slice_get us index)) u) uncounted.occurrences h));
-  };
+  kept_count = counts_none literals [] needs.seen.items needs.counts uncounted;
 }
   where
     nothing : (i : ℕ) (q : NeedClause) → slice_get [] i ≡ Some q → ⊥
     nothing i q at = cc
-
-    unnumbered : (i k : ℕ) → number_at needs.counts.count_states.items i ≡ Some k → ⊥
-    unnumbered i k number = (let no : None ≡ Some k = ap (λ cs. number_at cs i) (sym uncounted.count_states) ∙ number in absurd cc)
-
-    unused : (u : Occurrence) → Contains [] u → ⊥
-    unused u (i, low, at) = omega (arith, low)

@@ -76,6 +76,13 @@ places_set_other (x ∷ ps) zero p (suc j) = inl refl
 places_set_other (x ∷ ps) (suc i) p zero = inl refl
 places_set_other (x ∷ ps) (suc i) p (suc j) = elim (places_set_other ps i p j) [ inl same ↦ inl same | inr is ↦ inr (ap suc is) ]
 
+-- what was listed is so still where one list has it
+pub places_more : (ps : List (Vec ℕ Global)) (i : ℕ) (p : Vec ℕ Global) → i < length ps → ((k : ℕ) → Contains (places_at ps i) k → Contains p.items k) → (j k : ℕ) → Contains (places_at ps j) k → Contains (places_at (slice_set ps i p) j) k
+places_more ps i p low more j k h = elim (places_set_other ps i p j) [
+  | inl same ↦ subst (λ (xs : List ℕ). Contains xs k) (sym same) h
+  | inr is ↦ subst (λ (xs : List ℕ). Contains xs k) (sym (ap (places_at (slice_set ps i p)) is ∙ places_set ps i p low)) (more k (subst (λ (n : ℕ). Contains (places_at ps n) k) is h))
+]
+
 -- states that are changed one by one are the changed list
 pub all_reopened : (common : ℕ) (old new : List ClauseState) → length new ≡ length old → ((i : ℕ) → i < length old → state_at new i ≡ reopened common (state_at old i)) → new ≡ map (reopened common) old
 all_reopened common old new long each = ext_get_or Open new (map (reopened common) old) (long ∙ sym (length-map old (reopened common))) (λ i low. each i (subst (λ n. i < n) long low) ∙ sym (state_map common old i))

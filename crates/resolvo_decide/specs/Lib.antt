@@ -1,3 +1,4 @@
 pub mod States
 pub mod CandidateCounts
 pub mod Needs
+pub mod Queue

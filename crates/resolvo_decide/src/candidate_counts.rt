@@ -68,7 +68,7 @@ impl CandidateCounts {
 
     /// Adds the clause at this position, without a count.
     pub fn begin(&mut self, position: usize) -> R<()>
-        ensures begun { OnOk result (Begins position self.old self.new) }
+        ensures begun { Begins position self.old self.new }
         ensures refusal { IsOkUnless result Memory }
     {
         self.count_states.truncate(position);
@@ -149,11 +149,10 @@ impl CandidateCounts {
         candidates: &[Candidate<N>],
         values: &DecisionMap,
     ) -> R<()>
-        ensures kept { OnOk result
-            ((trail : List Entry)
+        ensures kept { (trail : List Entry)
             → EachOnce trail
             → KeepsCounted trail (value_at values.now) position (candidate_literals candidates.now)
-            self.old self.new) }
+            self.old self.new }
         ensures refusal { IsOkUnless result Memory }
     {
         if candidates.len() < MANY || position >= self.count_states.len() {
@@ -169,7 +168,7 @@ impl CandidateCounts {
         }
     }
 
-    /// Gives a count to the clause at this position.
+    /// Gives a count to the clause at this position; without the memory for it, no clause keeps one.
     fn keep_count<N: Copy>(
         &mut self,
         position: usize,
@@ -178,18 +177,32 @@ impl CandidateCounts {
     ) -> R<()>
         requires within { position < length self.old.count_states.items }
         requires some { 0 < length candidates.now }
-        ensures kept { OnOk result
-            ((trail : List Entry)
+        ensures kept { (trail : List Entry)
             → EachOnce trail
             → KeepsCounted trail (value_at values.now) position (candidate_literals candidates.now)
-            self.old self.new) }
+            self.old self.new }
         ensures refusal { IsOkUnless result Memory }
     {
         let number = self.counts.len();
         self.counts.push(count_of(candidates, values))?;
-        list_occurrences(&mut self.occurrences, number, candidates)?;
-        self.count_states[position] = CountState::Kept(number);
-        Ok(())
+        match list_occurrences(&mut self.occurrences, number, candidates) {
+            Ok(()) => {
+                self.count_states[position] = CountState::Kept(number);
+                Ok(())
+            }
+            Err(want) => {
+                self.forget();
+                Err(want)
+            }
+        }
+    }
+
+    /// Forgets all counts, where one of them can't be listed.
+    fn forget(&mut self)
+        ensures { HasNoCount self.new }
+    {
+        self.count_states.clear();
+        self.occurrences.clear();
     }
 }
 

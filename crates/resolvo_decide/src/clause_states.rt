@@ -2,7 +2,7 @@
 //! Marks show which blocks of positions may have an open clause; the pick skips the others. Bounds
 //! show how long a prefix of the trail satisfies the clauses of a block. A backjump skips a block
 //! whose bound it keeps.
-ghost use Rattle.std.specs.Prelude.{◌≡◌, ℕ, ◌<◌, ◌≤◌, ◌/◌, ◌++◌, ◌∷◌, ◌⊎◌, [], List, Bool, map, max, length, false, true, slice_set, Contains, OnOk, IsOkUnless};
+ghost use Rattle.std.specs.Prelude.{◌≡◌, ℕ, ◌<◌, ◌≤◌, ◌/◌, ◌++◌, ◌∷◌, ◌⊎◌, [], List, Bool, map, max, length, false, true, slice_set, Contains, OnOk, OnErr, IsOkUnless};
 ghost use Rattle.resolvo_pool_core.specs.declared.want.Want.TheVariants.{Memory};
 ghost use Rattle.resolvo_decide.specs.declared.clause_states.ClauseState.TheVariants.{Open};
 ghost use Rattle.resolvo_decide.specs.States.{state_at, is_open_state, reopened, mark_at, met_within, bound_at};
@@ -204,6 +204,7 @@ impl ClauseStates {
     /// Appends an open clause.
     pub fn push(&mut self) -> R<()>
         ensures pushed { OnOk result (self.new ≡ self.old ++ Open ∷ []) }
+        ensures err { OnErr result (self.new ≡ self.old) }
         ensures refusal { IsOkUnless result Memory }
     {
         let block = self.states.len() / BLOCK;

@@ -9,10 +9,9 @@ use std::alloc::Global;
 /// Adds empty lists, up to this number of lists.
 pub fn make_room<T: Drop>(lists: &mut Vec<Vec<T>>, alloc: Global, count: usize) -> R<()>
     ensures long { OnOk result (count ≤ length lists.new.items) }
-    ensures same { OnOk result
-        ((v : ℕ)
+    ensures same { (v : ℕ)
         → items_or_none (slice_get lists.new.items v)
-        ≡ items_or_none (slice_get lists.old.items v)) }
+        ≡ items_or_none (slice_get lists.old.items v) }
     ensures refusal { IsOkUnless result Memory }
 {
     while lists.len() < count {

@@ -4,7 +4,7 @@ ghost use Rattle.std.specs.Option.{option_map, option_copied};
 ghost use Rattle.std.specs.List.{find, count_by, list_any, list_all};
 ghost use Rattle.resolvo_store_core.specs.Signed.{value_under, is_false, is_true, is_open};
 ghost use Rattle.resolvo_store_core.specs.Values.{value_at};
-ghost use Rattle.resolvo_store_core.specs.Pick.{is_eligible, offer};
+ghost use Rattle.resolvo_store_core.specs.Pick.{is_eligible, is_broken, offer};
 ghost use Rattle.resolvo_store_core.specs.Clauses.{candidate_literals};
 ghost use Rattle.resolvo_store_core.specs.Lists.{candidates_in};
 ghost use Rattle.resolvo_decide.specs.CandidateCounts.{Counts, passed_by};
@@ -95,6 +95,34 @@ where
         Some(literals) => are_false(literals, values),
         None => true,
     }
+}
+
+/// Whether all literals of a clause are false.
+pub(crate) fn is_falsified<N: Copy>(
+    need: &NeedClause,
+    lists: &FixedLists<N>,
+    values: &DecisionMap,
+) -> bool
+where
+    N: Drop,
+    ensures { result ≡ is_broken lists.now (value_at values.now) need.now }
+{
+    if !is_needed(need, lists, values) {
+        return false;
+    }
+    match lists.candidates(need.requirement) {
+        Some(candidates) => all_false(candidates, values),
+        None => true,
+    }
+}
+
+fn all_false<N: Copy>(candidates: &[Candidate<N>], values: &DecisionMap) -> bool
+    ensures { result
+        ≡ list_all (λ c. is_false (value_under (value_at values.now) c.literal)) candidates.now }
+{
+    candidates
+        .iter()
+        .all(|candidate| candidate.literal.is_false(values))
 }
 
 fn are_false(literals: &[Literal], values: &DecisionMap) -> bool

@@ -11,7 +11,7 @@ use std::marker::PhantomData;
 /// The scores of packages.
 #[derive(Drop)]
 pub struct Scores<N: Copy + Eq, C: ScoreMap<N>> {
-    pub(crate) map: C,
+    map: C,
     /// The upper bound of the scores.
     most: u64,
     of: PhantomData<N>,
@@ -28,6 +28,13 @@ impl<N: Copy + Eq, C: ScoreMap<N>> Scores<N, C> {
             most: 0,
             of: PhantomData,
         }
+    }
+
+    /// The scores, without their bound.
+    pub fn map(&self) -> &C
+        ensures { result.now ≡ self.now.map }
+    {
+        &self.map
     }
 
     /// The upper bound of the scores.

@@ -1,7 +1,7 @@
 //! The states of the need clauses of a queue: satisfied, inactive, or undecided.
-//! They hold for the trail in `seen`. Each pick adds the new entries of the trail; `truncate` drops
+//! They hold for the trail in `seen`. `sync` adds the new entries of the trail; `truncate` drops
 //! those that a backjump removed.
-ghost use Rattle.std.specs.Prelude.{◌≡◌, ℕ, ◌<◌, ◌≤◌, ◌++◌, ◌∷◌, ◌⊎◌, [], take, drop, length, not, false, true, slice_get, Some, None, Contains, OnOk, IfOk, IfErr, IsOkUnless};
+ghost use Rattle.std.specs.Prelude.{◌≡◌, ℕ, ◌<◌, ◌≤◌, ◌++◌, ◌∷◌, ◌⊎◌, [], take, drop, length, not, false, true, slice_get, Some, None, Contains, OnOk, OnErr, IfOk, IfErr, IsOkUnless};
 ghost use Rattle.resolvo_pool_core.specs.declared.want.Want.TheVariants.{Memory};
 ghost use Rattle.std.specs.List.{find, list_any};
 ghost use Rattle.std.specs.Option.{option_copied};
@@ -15,22 +15,20 @@ ghost use Rattle.resolvo_store_core.specs.declared.pick.NeedClause.{NeedClause};
 ghost use Rattle.resolvo_decide.specs.declared.clause_states.ClauseState.TheVariants.{Open};
 ghost use Rattle.resolvo_decide.specs.States.{state_at};
 ghost use Rattle.resolvo_decide.specs.CandidateCounts.{has_true_in, HasNoCount};
-ghost use Rattle.resolvo_decide.specs.Needs.{literals_in, places_at, IsMetNow, IsSoundState, Fits, KeepsFits, KeepsFitsAt, KeepsCounts, IsRightCountAt, OffersAtLeast, LeavesUndecided, IsPick, AddsNeed};
+ghost use Rattle.resolvo_decide.specs.Needs.{literals_in, places_at, IsMetNow, IsSoundState, Fits, KeepsFits, KeepsFitsAt, KeepsCounts, IsRightCountAt, OffersAtLeast, AddsNeed};
 
 use crate::candidate_count::CandidateCount;
 use crate::candidate_counts::CandidateCounts;
 use crate::clause_states::{ClauseState, ClauseStates};
 use crate::lists_by_index::make_room;
 use crate::offer::{behind_passed, counted_offer, offered};
-use crate::scores::Scores;
 use resolvo_pool_core::id::VariableId;
 use resolvo_pool_core::id_map::ScoreMap;
 use resolvo_pool_core::want::R;
 use resolvo_store_core::decision::Entry;
 use resolvo_store_core::decision_map::DecisionMap;
-use resolvo_store_core::decision_tracker::DecisionTracker;
 use resolvo_store_core::lists::{Candidate, FixedLists};
-use resolvo_store_core::pick::{DecideQueue, NeedClause, NextDecision, or_later};
+use resolvo_store_core::pick::{NeedClause, NextDecision, or_later};
 use std::alloc::Global;
 
 /// The states of the need clauses of a queue.
@@ -50,7 +48,7 @@ pub struct UndecidedClauses {
 
 impl UndecidedClauses {
     /// The states of an empty queue.
-    pub fn new(alloc: Global) -> UndecidedClauses
+    pub(crate) fn new(alloc: Global) -> UndecidedClauses
         ensures states { result.states ≡ [] }
         ensures seen { result.seen.items ≡ [] }
         ensures places { result.places.items ≡ [] }
@@ -66,54 +64,38 @@ impl UndecidedClauses {
     }
 
     /// Adds a clause with this parent.
-    pub fn add(&mut self, alloc: Global, parent: VariableId) -> R<()>
+    pub(crate) fn add(&mut self, parent: VariableId) -> R<()>
         ensures added { OnOk result (AddsNeed parent self.old self.new) }
+        ensures kept { OnErr result (KeepsFits self.old self.new) }
+        ensures seen { self.new.seen ≡ self.old.seen }
         ensures refusal { IsOkUnless result Memory }
     {
-        let index = parent.0 as usize;
-        make_room(&mut self.places, alloc, index + 1)?;
-        let position = self.states.len();
-        self.places[index].push(position)?;
-        self.counts.begin(position)?;
+        self.list_next(parent)?;
+        self.counts.begin(self.states.len())?;
         self.states.push()?;
         Ok(())
     }
 
-    /// The next decision under the trail: the pick over all clauses of the queue. The trail extends
-    /// the seen one; after a backjump, `truncate` must be called first. No clause offers a decision
-    /// with fewer than `fewest` undecided candidates: 0 always holds, and 2 after propagation.
-    pub fn next_decision<N: Copy + Eq, C: ScoreMap<N>>(
-        &mut self,
-        queue: &DecideQueue,
-        lists: &FixedLists<N>,
-        trail: &DecisionTracker,
-        scores: &Scores<N, C>,
-        fewest: usize,
-    ) -> R<Option<NextDecision>>
-    where
-        N: Drop,
-        requires fits { Fits (literals_in lists.now) self.old queue.now }
-        requires seen { IsPrefixOf self.old.seen.items trail.now.trail }
-        requires fewest { LeavesUndecided lists.now trail.now.trail queue.now fewest }
-        // After an answer.
-        ensures picked { IfOk result
-            (IsPick lists.now trail.now.trail (C.score_of scores.now.map) queue.now) }
-        ensures fits { OnOk result (Fits (literals_in lists.now) self.new queue.now) }
-        ensures seen { OnOk result (self.new.seen.items ≡ trail.now.trail) }
-        // After a refusal.
+    /// Lists the next clause among those of this parent.
+    fn list_next(&mut self, parent: VariableId) -> R<()>
+        ensures placed { OnOk result
+            (Contains (places_at self.new.places.items parent.0) (length self.old.states)) }
+        ensures kept { (v i : ℕ)
+            → Contains (places_at self.old.places.items v) i
+            → Contains (places_at self.new.places.items v) i }
+        ensures rest { self.new ≡ record self.old { places = self.new.places } }
         ensures refusal { IsOkUnless result Memory }
     {
-        self.sync(trail.stack())?;
-        let needs = queue.registered();
-        let values = trail.map();
-        let next = self.pick(needs, lists, values, &scores.map, scores.most(), fewest);
-        self.note_count(needs, lists, values)?;
-        Ok(next)
+        let alloc = *self.places.allocator();
+        let index = parent.0 as usize;
+        make_room(&mut self.places, alloc, index + 1)?;
+        self.places[index].push(self.states.len())?;
+        Ok(())
     }
 
     /// Drops the seen entries behind this many. The cost is that of the clauses that they
     /// satisfied.
-    pub fn truncate(&mut self, kept: usize)
+    pub(crate) fn truncate(&mut self, kept: usize)
         ensures seen { self.new.seen.items ≡ take kept self.old.seen.items }
         ensures fits { KeepsFits self.old self.new }
     {
@@ -141,7 +123,7 @@ impl UndecidedClauses {
     }
 
     /// Notes the clause whose candidates the pick counted by a walk, so that it may get a count.
-    fn note_count<N: Copy>(
+    pub(crate) fn note_count<N: Copy>(
         &mut self,
         queue: &[NeedClause],
         lists: &FixedLists<N>,
@@ -152,9 +134,9 @@ impl UndecidedClauses {
         requires fits { Fits (literals_in lists.now) self.old queue.now }
         requires values { (v : ℕ) → value_at values.now v ≡ value_in self.old.seen.items v }
         requires once { EachOnce self.old.seen.items }
-        // After an answer.
-        ensures fits { OnOk result (Fits (literals_in lists.now) self.new queue.now) }
-        ensures seen { OnOk result (self.new.seen ≡ self.old.seen) }
+        // Whatever the answer.
+        ensures fits { Fits (literals_in lists.now) self.new queue.now }
+        ensures seen { self.new.seen ≡ self.old.seen }
         // After a refusal.
         ensures refusal { IsOkUnless result Memory }
     {
@@ -171,12 +153,16 @@ impl UndecidedClauses {
     }
 
     /// Adds the new entries of this trail.
-    fn sync(&mut self, trail: &[Entry]) -> R<()>
+    pub(crate) fn sync(&mut self, trail: &[Entry]) -> R<()>
         requires seen { IsPrefixOf self.old.seen.items trail.now }
         requires once { EachOnce trail.now }
-        ensures seen { OnOk result (self.new.seen.items ≡ trail.now) }
-        ensures fits { OnOk result (KeepsFits self.old self.new) }
+        // After an answer.
+        ensures synced { OnOk result (self.new.seen.items ≡ trail.now) }
+        // After a refusal.
         ensures refusal { IsOkUnless result Memory }
+        // Whatever the answer.
+        ensures seen { IsPrefixOf self.new.seen.items trail.now }
+        ensures fits { KeepsFits self.old self.new }
     {
         let seen = self.seen.len();
         for entry in &trail[seen..] {
@@ -189,7 +175,8 @@ impl UndecidedClauses {
     fn sync_entry(&mut self, entry: Entry) -> R<()>
         requires { assigned self.old.seen.items entry.decision.variable.0 ≡ None }
         ensures seen { OnOk result (self.new.seen.items ≡ self.old.seen.items ++ entry ∷ []) }
-        ensures fits { OnOk result (KeepsFits self.old self.new) }
+        ensures err { OnErr result (self.new.seen.items ≡ self.old.seen.items) }
+        ensures fits { KeepsFits self.old self.new }
         ensures refusal { IsOkUnless result Memory }
     {
         self.seen.push(entry)?;
@@ -219,7 +206,7 @@ impl UndecidedClauses {
 
     /// The pick under the seen trail, where no score is above `most`, and no clause offers a
     /// decision with fewer than `fewest` undecided candidates.
-    fn pick<N: Copy + Eq, C: ScoreMap<N>>(
+    pub(crate) fn pick<N: Copy + Eq, C: ScoreMap<N>>(
         &mut self,
         queue: &[NeedClause],
         lists: &FixedLists<N>,

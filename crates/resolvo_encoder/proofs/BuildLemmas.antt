@@ -1,15 +1,16 @@
 -- Each step keeps the precondition of the calls.
-use Rattle.std.proofs.Common.{◌≡◌, ℕ, zero, suc, ◌+◌, ◌<◌, ◌≤◌, inl, inr, Bool, false, [], ◌∷◌, ◌++◌, List, take, drop, length, Option, Some, None, Vec, Global, refl, sym, ◌∙◌, ap, subst, arith, true}
-use Rattle.std.specs.Prelude.{Contains, min}
+use Rattle.std.proofs.Common.{◌≡◌, ℕ, ◌+◌, ◌<◌, ◌≤◌, inl, inr, Bool, false, [], ◌∷◌, ◌++◌, List, length, Option, Some, None, Vec, Global, refl, sym, ◌∙◌, ap, subst, arith, true}
+use Rattle.std.specs.Prelude.{Contains}
 use Rattle.resolvo_store_core.specs.Lists.{items_or_none}
 use Rattle.std.proofs.lemmas.Bool.{both_ways}
-use Rattle.std.proofs.lemmas.List.{length-append, take-append-le, take-append-drop, take_min}
+use Rattle.std.proofs.lemmas.List.{length-append}
 use Rattle.resolvo_pool_core.specs.declared.id.DenseId.{DenseId}
 use Rattle.resolvo_pool_core.specs.declared.id.DisjunctionTag.{DisjunctionTag}
 use Rattle.resolvo_pool_core.specs.declared.id.VariableId.{VariableId}
 use Rattle.resolvo_pool_core.specs.declared.requirement.Requirement.{Requirement}
 use Rattle.resolvo_pool_core.specs.ByRequirement.{slot_of, PutsAt}
-use Rattle.resolvo_store_core.specs.AtMostOne.{IsPrefixOf}
+use Rattle.resolvo_store_core.specs.Trail.{Tracked, IsSeenOf, KeepsSeen}
+use Rattle.resolvo_store_core.proofs.Trails.{seen_prefix}
 use Rattle.resolvo_store_core.specs.Signed.{Signed, has}
 use Rattle.resolvo_store_core.specs.Clauses.{yes, no, candidate_literals}
 use Rattle.resolvo_store_core.specs.Lists.{named_by, candidates_in, condition_in, FixesDisjunction}
@@ -18,9 +19,10 @@ use Rattle.resolvo_store_core.specs.declared.lists.FixedLists.{FixedLists}
 use Rattle.resolvo_store_core.specs.Pick.{pick_by}
 use Rattle.resolvo_store_core.specs.declared.pick.NextDecision.{NextDecision}
 use Rattle.resolvo_store_core.specs.declared.decision.Entry.{Entry}
-use Rattle.resolvo_decide.specs.Needs.{literals_in, Fits, KeepsFits}
-use Rattle.resolvo_decide.specs.declared.undecided_clauses.UndecidedClauses.{UndecidedClauses}
-use Rattle.resolvo_decide.proofs.FitLemmas.{fits_add, fits_more, fits_none}
+use Rattle.resolvo_decide.specs.Needs.{literals_in, Fits}
+use Rattle.resolvo_decide.specs.Queue.{needs_of, IsSound}
+use Rattle.resolvo_decide.specs.declared.decide_queue.DecideQueue.{DecideQueue}
+use Rattle.resolvo_decide.proofs.FitLemmas.{fits_more, fits_none}
 use Rattle.resolvo_store_core.specs.declared.pick.NeedClause.{NeedClause}
 use Rattle.resolvo_sat.specs.Entries.{made_true}
 use Rattle.resolvo_sat.specs.Known.{IsUndecided, clause_at}
@@ -36,8 +38,9 @@ use Rattle.resolvo_state.specs.Atoms.{Represents}
 use Rattle.resolvo_state.specs.declared.solver_state.SolverState.{SolverState}
 use Rattle.resolvo_state.specs.SolverState.{IsCoding, Grows, SameTrail, Gives}
 use Rattle.resolvo_state.specs.Registered.{AreTied}
-use Rattle.resolvo_state.proofs.Growth.{represents_grow, represents_in_range}
-use Rattle.resolvo_state.proofs.Positions.{prefix_equal, prefix_long, prefix_then}
+use Rattle.resolvo_state.proofs.Growth.{grows_same, represents_grow, represents_in_range}
+use Rattle.resolvo_state.proofs.KeepLemmas.{floored_kept}
+use Rattle.resolvo_state.proofs.Positions.{prefix_long}
 use Rattle.resolvo_state.proofs.RegisterLemmas.{KeepsDigits, digits_more, digits_same, ties_grow, nothing_tied}
 use Rattle.resolvo_sat.proofs.Lists.{contains_none, contains_one, contains_parts}
 use Rattle.resolvo_sat.proofs.Clauses.{length-lists}
@@ -51,40 +54,40 @@ use Rattle.resolvo_encoder.proofs.NeedClauses.{literals_grow, literals_widen, co
 use Rattle.resolvo_encoder.proofs.NeedLemmas.{literal_in}
 use Rattle.resolvo_encoder.proofs.RequireLemmas.{put_at, put_other, some_one}
 
--- the scanned part of the trail is unchanged where the trail is
-pub trail_on : {N S : Type 0} (old new : SolverState N S) → SameTrail old new → IsPrefixOf old.search.tracker.trail new.search.tracker.trail
-trail_on old new same = prefix_equal old.search.tracker.trail new.search.tracker.trail (ap (λ t. t.trail) same.tracker)
+-- what was seen of the trail is there still where the trail is unchanged
+pub trail_on : {N S : Type 0} (old new : SolverState N S) → SameTrail old new → KeepsSeen old.search.tracker new.search.tracker
+trail_on old new same = λ seen h. subst (λ (t : Tracked). IsSeenOf t seen) (sym same.tracker) h
 
-pub seen_same : {N S : Type 0} (old new : Encoder N S) → IsBuilt old → SameTrail old.coding new.coding → new.needs.seen ≡ old.needs.seen → IsPrefixOf new.needs.seen.items new.coding.search.tracker.trail
-seen_same old new b same seen = subst (λ (es : Vec Entry Global). IsPrefixOf es.items new.coding.search.tracker.trail) (sym seen) (prefix_then old.needs.seen.items old.coding.search.tracker.trail new.coding.search.tracker.trail b.seen (trail_on old.coding new.coding same))
+pub seen_same : {N S : Type 0} (old new : Encoder N S) → IsBuilt old → SameTrail old.coding new.coding → new.queue.undecided.seen ≡ old.queue.undecided.seen → IsSeenOf new.coding.search.tracker new.queue.undecided.seen.items
+seen_same old new b same seen = subst (λ (es : Vec Entry Global). IsSeenOf new.coding.search.tracker es.items) (sym seen) (trail_on old.coding new.coding same old.queue.undecided.seen.items b.seen)
 
 -- the clauses of the queue stay
-pub clauses_grow : {N S : Type 0} (old new : Encoder N S) → IsBuilt old → Grows old.coding new.coding → new.queue ≡ old.queue → (q : NeedClause) → Contains new.queue q → HasNeedLiterals old.lists new.coding.search.clauses q
+pub clauses_grow : {N S : Type 0} (old new : Encoder N S) → IsBuilt old → Grows old.coding new.coding → needs_of new.queue ≡ needs_of old.queue → (q : NeedClause) → Contains (needs_of new.queue) q → HasNeedLiterals old.lists new.coding.search.clauses q
 clauses_grow old new b grows queue q a = literals_grow old.lists old.coding.search.clauses new.coding.search.clauses q grows.clauses (b.clauses q (subst (λ (qs : List NeedClause). Contains qs q) queue a))
 
 -- where only clauses, variables and the queue change
 pub built_grows : {N S : Type 0} (old new : Encoder N S) → IsBuilt old → IsCoding new.coding → Grows old.coding new.coding → new.registry ≡ old.registry → new.lists ≡ old.lists → new.gates ≡ old.gates
     → new.parents ≡ old.parents → new.encoded ≡ old.encoded → KeepsDigits old.coding new.coding
-    → ((q : NeedClause) → Contains new.queue q → HasNeedLiterals old.lists new.coding.search.clauses q) → Fits (literals_in old.lists) new.needs new.queue → IsPrefixOf new.needs.seen.items new.coding.search.tracker.trail → IsBuilt new
-built_grows {N} {S} old new b coding grows registry lists gates parents encoded digits clauses needs seen = record {
+    → ((q : NeedClause) → Contains (needs_of new.queue) q → HasNeedLiterals old.lists new.coding.search.clauses q) → IsSound (literals_in old.lists) new.queue → IsSeenOf new.coding.search.tracker new.queue.undecided.seen.items → IsBuilt new
+built_grows {N} {S} old new b coding grows registry lists gates parents encoded digits clauses sound seen = record {
   coding = coding;
   tied = subst (λ (t : Registry N). AreTied t new.coding) (sym registry) (ties_grow old.registry old.coding new.coding grows digits b.tied);
   candidates = λ r c a. (let (positive, (s, present)) = b.candidates r c (subst (λ ls. Contains (candidates_in ls r) c) lists a) in (positive, (s, represents_grow old.coding new.coding c.literal.variable (Solvable s) grows present)));
   gates = λ r v at. represents_grow old.coding new.coding v (Gate r) grows (b.gates r v (sym (ap (λ gs. slot_of gs r) gates) ∙ at));
   within = subst (λ n. n ≤ length new.parents.keys) (sym encoded) (subst (λ ps. old.encoded ≤ length ps.keys) (sym parents) b.within);
   clauses = λ q a. subst (λ (ls : FixedLists N). HasNeedLiterals ls new.coding.search.clauses q) (sym lists) (clauses q a);
-  needs = subst (λ ls. Fits (literals_in ls) new.needs new.queue) (sym lists) needs;
+  queue = subst (λ ls. IsSound (literals_in ls) new.queue) (sym lists) sound;
   seen = seen;
 }
 
-pub built_rest : {N S : Type 0} (old new : Encoder N S) → IsBuilt old → IsCoding new.coding → Grows old.coding new.coding → KeepsDigits old.coding new.coding → SameButCoding old new → new.needs ≡ old.needs → IsPrefixOf old.coding.search.tracker.trail new.coding.search.tracker.trail → IsBuilt new
-built_rest old new b coding grows digits rest needs on = built_grows old new b coding grows rest.registry rest.lists rest.gates rest.parents rest.encoded digits (clauses_grow old new b grows rest.queue)
-    (subst (λ (n : UndecidedClauses). Fits (literals_in old.lists) n new.queue) (sym needs) (subst (λ qs. Fits (literals_in old.lists) old.needs qs) (sym rest.queue) b.needs))
-    (subst (λ (n : UndecidedClauses). IsPrefixOf n.seen.items new.coding.search.tracker.trail) (sym needs) (prefix_then old.needs.seen.items old.coding.search.tracker.trail new.coding.search.tracker.trail b.seen on))
+pub built_rest : {N S : Type 0} (old new : Encoder N S) → IsBuilt old → IsCoding new.coding → Grows old.coding new.coding → KeepsDigits old.coding new.coding → SameButCoding old new → new.queue ≡ old.queue → KeepsSeen old.coding.search.tracker new.coding.search.tracker → IsBuilt new
+built_rest old new b coding grows digits rest queue on = built_grows old new b coding grows rest.registry rest.lists rest.gates rest.parents rest.encoded digits (clauses_grow old new b grows rest.queue)
+    (subst (λ (q : DecideQueue). IsSound (literals_in old.lists) q) (sym queue) b.queue)
+    (subst (λ (q : DecideQueue). IsSeenOf new.coding.search.tracker q.undecided.seen.items) (sym queue) (on old.queue.undecided.seen.items b.seen))
 
 -- the clause of the new need is the last one
-clauses_end : {N S : Type 0} (x : ClauseKind N S) (v : VariableId) (condition : Option (DenseId DisjunctionTag ℕ)) (r : Requirement) (old new : Encoder N S) → IsBuilt old → EncodesNeed x v condition r old new → (q : NeedClause) → Contains new.queue q → HasNeedLiterals old.lists new.coding.search.clauses q
-clauses_end {N} {S} x v condition r old new b s q a = elim (contains_parts q old.queue (here ∷ []) (subst (λ (qs : List NeedClause). Contains qs q) s.queue a)) [
+clauses_end : {N S : Type 0} (x : ClauseKind N S) (v : VariableId) (condition : Option (DenseId DisjunctionTag ℕ)) (r : Requirement) (old new : Encoder N S) → IsBuilt old → EncodesNeed x v condition r old new → (q : NeedClause) → Contains (needs_of new.queue) q → HasNeedLiterals old.lists new.coding.search.clauses q
+clauses_end {N} {S} x v condition r old new b s q a = elim (contains_parts q (needs_of old.queue) (here ∷ []) (subst (λ (qs : List NeedClause). Contains qs q) s.queue a)) [
   | inl before ↦ literals_grow old.lists old.coding.search.clauses new.coding.search.clauses q s.states.grows.clauses (b.clauses q before)
   | inr last ↦ subst (λ (y : NeedClause). HasNeedLiterals old.lists new.coding.search.clauses y) (sym (contains_one q here last)) (record { in_range = below; each = λ l h. subst (λ (c : List Signed). has c l ≡ true) is h })
 ]
@@ -105,31 +108,13 @@ clauses_end {N} {S} x v condition r old new b s q a = elim (contains_parts q old
 
 pub built_encodes : {N S : Type 0} (x : ClauseKind N S) (v : VariableId) (condition : Option (DenseId DisjunctionTag ℕ)) (r : Requirement) (old new : Encoder N S) → IsBuilt old → ((name : N) (s : S) (place bit : ℕ) → x ≡ Digit name s place bit → ⊥) → EncodesNeed x v condition r old new → IsBuilt new
 built_encodes x v condition r old new b other s = built_grows old new b s.states.coding s.states.grows s.registry s.lists s.gates s.parents s.encoded (digits_more x old.coding new.coding s.states.kinds other) (clauses_end x v condition r old new b s)
-    (let q : NeedClause = record { parent = v; requirement = r; condition = condition; clause = s.number } in subst (λ qs. Fits (literals_in old.lists) new.needs qs) (sym s.queue) (fits_add (literals_in old.lists) q old.needs new.needs old.queue b.needs s.needs))
-    (seen_same old new b s.states.trail s.needs.seen)
+    (s.sound (literals_in old.lists) b.queue) (seen_same old new b s.states.trail s.seen)
 
 -- where a variable was added, or nothing
 pub built_gives : {N S : Type 0} (atom : ProofAtom N S) (v : VariableId) (old : Encoder N S) (c : SolverState N S) → IsBuilt old → Gives atom v old.coding c → IsBuilt (record old { coding = c })
 built_gives atom v old c b gives =
     let new : Encoder _ _ = record old { coding = c } in
-    built_grows old new b gives.coding gives.grows refl refl refl refl refl (digits_same old.coding c gives.kinds) (clauses_grow old new b gives.grows refl) b.needs (seen_same old new b gives.trail refl)
-
--- the seen entries that are left are a prefix of the trail
-pub seen_left : (seen old new : List Entry) (kept : ℕ) → IsPrefixOf seen old → ((k : ℕ) → k ≤ kept → k ≤ length old → take k new ≡ take k old) → IsPrefixOf (take kept seen) new
-seen_left seen old new kept (rest, is) same =
-    let k : ℕ = min kept (length seen) in
-    let long : length old ≡ length seen + length rest = ap length is ∙ length-append seen rest in
-    let first : take k new ≡ take kept seen = same k (omega arith) (omega arith) ∙ ap (take k) is ∙ take-append-le k seen rest (omega arith) ∙ take_min kept seen in
-    (drop k new, sym (take-append-drop k new) ∙ ap (λ (es : List Entry). es ++ drop k new) first)
-
--- where each kept prefix of one entry or more is the same, so is that of none
-pub kept_from_one : (old new : List Entry) (kept : ℕ) → ((k : ℕ) → 0 < k → k ≤ kept → k ≤ length old → take k new ≡ take k old) → (k : ℕ) → k ≤ kept → k ≤ length old → take k new ≡ take k old
-kept_from_one old new kept same zero low within = refl
-kept_from_one old new kept same (suc k) low within = same (suc k) (omega arith) low within
-
--- where entries were undone, and the states of requires clauses were reset to those left
-pub built_back : {N S : Type 0} (old : Encoder N S) (c : SolverState N S) (n : UndecidedClauses) → IsBuilt old → IsCoding c → Grows old.coding c → KeepsDigits old.coding c → KeepsFits old.needs n → IsPrefixOf n.seen.items c.search.tracker.trail → IsBuilt (record old { coding = c; needs = n })
-built_back old c n b coding grows digits fits seen = built_grows old (record old { coding = c; needs = n }) b coding grows refl refl refl refl refl digits (clauses_grow old (record old { coding = c; needs = n }) b grows refl) (fits (literals_in old.lists) old.queue b.needs) seen
+    built_grows old new b gives.coding gives.grows refl refl refl refl refl (digits_same old.coding c gives.kinds) (clauses_grow old new b gives.grows refl) b.queue (seen_same old new b gives.trail refl)
 
 -- where a disjunction was added
 pub built_disjunction : {N S : Type 0} (number : ℕ) (given : Disjunction) (old : Encoder N S) (ls : FixedLists N) → IsBuilt old → FixesDisjunction number given old.lists ls → IsBuilt (record old { lists = ls })
@@ -140,7 +125,7 @@ built_disjunction number given old ls b f = record {
   gates = b.gates;
   within = b.within;
   clauses = λ q a. literals_widen old.lists ls old.coding.search.clauses q (condition_widens old.lists ls (given ∷ [], f.put) q.condition) (λ l h. subst (λ cs. has (candidate_literals (items_or_none (slot_of cs q.requirement))) l ≡ true) (sym f.candidates) h) (b.clauses q a);
-  needs = fits_more (literals_in old.lists) (literals_in ls) old.needs old.queue (λ r some. ap (λ cs. candidate_literals (items_or_none (slot_of cs r))) f.candidates) b.needs;
+  queue = fits_more (literals_in old.lists) (literals_in ls) old.queue.undecided (needs_of old.queue) (λ r some. ap (λ cs. candidate_literals (items_or_none (slot_of cs r))) f.candidates) b.queue;
   seen = b.seen;
 }
 
@@ -157,7 +142,7 @@ built_gate {N} {S} old new r v b present puts is = subst (λ (x : Encoder N S). 
   ];
   within = b.within;
   clauses = b.clauses;
-  needs = b.needs;
+  queue = b.queue;
   seen = b.seen;
 })
 
@@ -170,20 +155,20 @@ built_parents {N} {S} old new b added = subst (λ (x : Encoder N S). IsBuilt x) 
   gates = b.gates;
   within = (let a : length old.parents.keys ≤ length new.parents.keys = prefix_long old.parents.keys new.parents.keys added.prefix in let c : old.encoded ≤ length old.parents.keys = b.within in omega arith);
   clauses = b.clauses;
-  needs = b.needs;
+  queue = b.queue;
   seen = b.seen;
 })
 
 -- where the requirements of the next parent were encoded
 pub built_next : {N S : Type 0} (e : Encoder N S) → IsBuilt e → e.encoded < length e.parents.keys → IsBuilt (record e { encoded = e.encoded + 1 })
-built_next e b below = record { coding = b.coding; tied = b.tied; candidates = b.candidates; gates = b.gates; within = omega arith; clauses = b.clauses; needs = b.needs; seen = b.seen }
+built_next e b below = record { coding = b.coding; tied = b.tied; candidates = b.candidates; gates = b.gates; within = omega arith; clauses = b.clauses; queue = b.queue; seen = b.seen }
 
 -- where cases were deferred, or one fired
 pub built_defers : {N S : Type 0} (old new : Encoder N S) → IsBuilt old → Defers old new → IsBuilt new
-built_defers {N} {S} old new b d = subst (λ (x : Encoder N S). IsBuilt x) (sym d.rest) (record { coding = b.coding; tied = b.tied; candidates = b.candidates; gates = b.gates; within = b.within; clauses = b.clauses; needs = b.needs; seen = b.seen })
+built_defers {N} {S} old new b d = subst (λ (x : Encoder N S). IsBuilt x) (sym d.rest) (record { coding = b.coding; tied = b.tied; candidates = b.candidates; gates = b.gates; within = b.within; clauses = b.clauses; queue = b.queue; seen = b.seen })
 
 pub built_fires : {N S : Type 0} (index : ℕ) (old new : Encoder N S) → IsBuilt old → Fires index old new → IsBuilt new
-built_fires {N} {S} index old new b f = subst (λ (x : Encoder N S). IsBuilt x) (sym f.rest) (record { coding = b.coding; tied = b.tied; candidates = b.candidates; gates = b.gates; within = b.within; clauses = b.clauses; needs = b.needs; seen = b.seen })
+built_fires {N} {S} index old new b f = subst (λ (x : Encoder N S). IsBuilt x) (sym f.rest) (record { coding = b.coding; tied = b.tied; candidates = b.candidates; gates = b.gates; within = b.within; clauses = b.clauses; queue = b.queue; seen = b.seen })
 
 -- at first
 pub built_begun : {N S : Type 0} (e : Encoder N S) → IsBegunEncoding e → IsBuilt e
@@ -193,14 +178,28 @@ built_begun {N} {S} e begun = record {
   candidates = λ r c a. absurd (contains_none c (subst (λ x. Contains (items_or_none x) c) (begun.lists.candidates r) a));
   gates = λ r v at. (let none : None ≡ Some v = sym (begun.gates r) ∙ at in absurd cc);
   within = (let none : e.encoded ≡ 0 = begun.encoded in omega arith);
-  clauses = λ q a. absurd (contains_none q (subst (λ (qs : List NeedClause). Contains qs q) begun.queue a));
-  needs = subst (λ qs. Fits (literals_in e.lists) e.needs qs) (sym begun.queue) (fits_none (literals_in e.lists) e.needs begun.needs begun.counts);
-  seen = subst (λ es. IsPrefixOf es e.coding.search.tracker.trail) (sym begun.seen) (e.coding.search.tracker.trail, refl);
+  clauses = λ q a. absurd (contains_none q (subst (λ (qs : List NeedClause). Contains qs q) begun.queue.registered a));
+  queue = subst (λ qs. Fits (literals_in e.lists) e.queue.undecided qs) (sym begun.queue.registered) (fits_none (literals_in e.lists) e.queue.undecided begun.queue.states begun.queue.counts);
+  seen = subst (λ es. IsSeenOf e.coding.search.tracker es) (sym begun.queue.seen) (seen_prefix e.coding.search.tracker [] (e.coding.search.tracker.trail, refl));
 }
 
--- where the states of requires clauses changed
-pub built_needs : {N S : Type 0} (e : Encoder N S) (n : UndecidedClauses) → IsBuilt e → Fits (literals_in e.lists) n e.queue → IsPrefixOf n.seen.items e.coding.search.tracker.trail → IsBuilt (record e { needs = n })
-built_needs e n b fits seen = record { coding = b.coding; tied = b.tied; candidates = b.candidates; gates = b.gates; within = b.within; clauses = b.clauses; needs = fits; seen = seen }
+-- where the queue was brought up to date with the trail, whose least length was taken
+abbrev pub synced : {N S : Type 0} → Encoder N S → DecideQueue → ℕ → Encoder N S
+synced e q floor = record e { queue = q; coding = record e.coding { search = record e.coding.search { tracker = record e.coding.search.tracker { floor = floor } } } }
+
+pub synced_grows : {N S : Type 0} (e : Encoder N S) (q : DecideQueue) (floor : ℕ) → Grows e.coding (synced e q floor).coding
+synced_grows e q floor = let same = grows_same e.coding in record { atoms = same.atoms; clauses = same.clauses; kinds = same.kinds; base_level = refl }
+
+pub built_synced : {N S : Type 0} (e : Encoder N S) (q : DecideQueue) (floor : ℕ) → IsBuilt e → needs_of q ≡ needs_of e.queue → IsSound (literals_in e.lists) q → IsSeenOf (synced e q floor).coding.search.tracker q.undecided.seen.items → IsBuilt (synced e q floor)
+built_synced e q floor b needs sound seen =
+    let new = synced e q floor in
+    built_grows e new b (floored_kept e.coding floor b.coding).coding (synced_grows e q floor) refl refl refl refl refl (digits_same e.coding new.coding refl) (clauses_grow e new b (synced_grows e q floor) needs) sound seen
+
+-- where the queue alone changed, but for its clauses
+pub built_queue : {N S : Type 0} (e : Encoder N S) (q : DecideQueue) → IsBuilt e → needs_of q ≡ needs_of e.queue → IsSound (literals_in e.lists) q → IsSeenOf e.coding.search.tracker q.undecided.seen.items → IsBuilt (record e { queue = q })
+built_queue {N} {S} e q b needs sound seen =
+    let new : Encoder N S = record e { queue = q } in
+    built_grows e new b b.coding (grows_same e.coding) refl refl refl refl refl (digits_same e.coding e.coding refl) (clauses_grow e new b (grows_same e.coding) needs) sound seen
 
 -- ---- preconditions of calls
 
@@ -223,10 +222,10 @@ pub none_in_range : (count : ℕ) → AreInRange count []
 none_in_range count l h = absurd (both_ways false refl h)
 
 -- the next decision is for an undecided variable of the search
-pub built_choice : {N S : Type 0} (e : Encoder N S) (values : ℕ → Option Bool) (score : N → ℕ) (d : NextDecision) → IsBuilt e → AreValues values (made_true (history e.coding.search)) → pick_by (named_by e.lists) values score e.queue ≡ Some d
+pub built_choice : {N S : Type 0} (e : Encoder N S) (values : ℕ → Option Bool) (score : N → ℕ) (d : NextDecision) → IsBuilt e → AreValues values (made_true (history e.coding.search)) → pick_by (named_by e.lists) values score (needs_of e.queue) ≡ Some d
     → IsUndecided (made_true (history e.coding.search)) (yes d.candidate) × (d.candidate.0 < count_of e.coding.search)
 built_choice e values score d b agree h =
-    let (q, present, offered) = picked (named_by e.lists) values score e.queue d h in
+    let (q, present, offered) = picked (named_by e.lists) values score (needs_of e.queue) d h in
     let (eligible, offer) = offers (named_by e.lists) values score q d offered in
     let c = offer.candidate in
     let (positive, (s, known)) = b.candidates q.requirement c (for_listed (named_by e.lists) values score (candidates_in e.lists q.requirement) d offer) in

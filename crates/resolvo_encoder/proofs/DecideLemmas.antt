@@ -18,6 +18,7 @@ use Rattle.resolvo_store_core.specs.declared.lists.Candidate.{Candidate}
 use Rattle.resolvo_store_core.specs.declared.pick.NeedClause.{NeedClause}
 use Rattle.resolvo_store_core.specs.declared.pick.NextDecision.{NextDecision}
 use Rattle.resolvo_pool_core.specs.declared.id.VariableId.{VariableId}
+use Rattle.resolvo_decide.specs.Queue.{needs_of}
 use Rattle.resolvo_sat.specs.Known.{IsUndecided}
 use Rattle.resolvo_pool_core.specs.Slots.{at}
 use Rattle.resolvo_store_core.specs.Trail.{assigned}
@@ -337,10 +338,10 @@ module _ {N S : Type 0} (same : S → S → Bool) (p : Packages N S) (root : Rul
 
   -- The next decision is justified: it is the first candidate that isn't false, of a requirement of
   -- a chosen parent.
-  pub choice_taken : IsEncoding same p root e → (values : ℕ → Option Bool) (score : N → ℕ) (d : NextDecision) → AreValues values (made_true (history e.coding.search)) → pick_by (named_by e.lists) values score e.queue ≡ Some d
+  pub choice_taken : IsEncoding same p root e → (values : ℕ → Option Bool) (score : N → ℕ) (d : NextDecision) → AreValues values (made_true (history e.coding.search)) → pick_by (named_by e.lists) values score (needs_of e.queue) ≡ Some d
       → IsFirstPick same p (HasOrder e) (E.rules_of e) (known_of (origin e.coding.atoms.keys) (history e.coding.search)) (meaning (origin e.coding.atoms.keys) (yes d.candidate))
   choice_taken holds values score d agree h =
-      let (q, present, offered) = picked (named_by e.lists) values score e.queue d h in
+      let (q, present, offered) = picked (named_by e.lists) values score (needs_of e.queue) d h in
       let (eligible, offer) = offers (named_by e.lists) values score q d offered in
       let c = offer.candidate in
       let (s, fits, meets_it) = holds.listed q.requirement c (for_listed (named_by e.lists) values score (candidates_in e.lists q.requirement) d offer) in

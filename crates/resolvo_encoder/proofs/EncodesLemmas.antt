@@ -122,7 +122,7 @@ module _ {N S : Type 0} (same : S → S → Bool) (exact : IsExact same) where
   pub pair_encodes : (x : ClauseKind N S) (rule : Rule N S) (a b : Signed) (old new : Encoder N S) → IsBuilt old → rule_of x ≡ Some rule → IsRestraint rule
       → ((p : Packages N S) (literals : List Signed) → IsPair a b literals → Spells (origin old.coding.atoms.keys) literals (literals_of same p rule)) → EncodesPair x a b old new → EncodesRules same (rule ∷ []) old new
   pair_encodes x rule a b old new built is denial spells new_clause = record {
-    built = built_rest old new built new_clause.states.coding new_clause.states.grows (digits_more x old.coding new.coding new_clause.states.kinds (not_digit x rule is denial)) new_clause.rest new_clause.needs (trail_on old.coding new.coding new_clause.states.trail);
+    built = built_rest old new built new_clause.states.coding new_clause.states.grows (digits_more x old.coding new.coding new_clause.states.kinds (not_digit x rule is denial)) new_clause.rest new_clause.same_queue (trail_on old.coding new.coding new_clause.states.trail);
     extends = record { grows = new_clause.states.grows; trail = new_clause.states.trail; softs = ap (λ (x : EncodedOnce N S). x.softs.items) new_clause.rest.recorded; parents = new_clause.rest.parents; encoded = new_clause.rest.encoded; deferred = new_clause.rest.deferred; fired = new_clause.rest.fired };
     lists = new_clause.rest.lists;
     registry = new_clause.rest.registry;
@@ -323,4 +323,4 @@ module _ {N S : Type 0} (same : S → S → Bool) (exact : IsExact same) where
         (λ t h. elim (only t h) [ inl b ↦ e.cases.there t b | inr is ↦ subst (λ y. E.rules_of old (Rule.is_there (p.package_of y) y)) (sym is) present ]) refl)
 
 pub built_recorded : {N S : Type 0} (e : Encoder N S) (x : EncodedOnce N S) → IsBuilt e → IsBuilt (record e { recorded = x })
-built_recorded e x b = record { coding = b.coding; tied = b.tied; candidates = b.candidates; gates = b.gates; within = b.within; clauses = b.clauses; needs = b.needs; seen = b.seen }
+built_recorded e x b = record { coding = b.coding; tied = b.tied; candidates = b.candidates; gates = b.gates; within = b.within; clauses = b.clauses; queue = b.queue; seen = b.seen }

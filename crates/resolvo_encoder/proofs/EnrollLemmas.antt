@@ -16,6 +16,7 @@ use Rattle.resolvo_decide.specs.Needs.{literals_in}
 use Rattle.resolvo_decide.proofs.FitLemmas.{fits_more}
 use Rattle.resolvo_store_core.specs.Signed.{Signed, has}
 use Rattle.resolvo_store_core.specs.Clauses.{candidate_literals}
+use Rattle.resolvo_decide.specs.Queue.{needs_of}
 use Rattle.resolvo_sat.specs.RuleClauses.{IsExact, Rule}
 use Rattle.resolvo_packages.specs.declared.package_source.Offered.{Offered}
 use Rattle.resolvo_packages.specs.PackageSource.{offered_solvables, AreOffered}
@@ -227,7 +228,7 @@ module _ {N S : Type 0} (same : S → S → Bool) where
     gates = λ r v at. represents_grow old.coding c v (Gate r) all.grows (b.gates r v at);
     within = b.within;
     clauses = clauses_grow old (enrolled old t c) b all.grows refl;
-    needs = b.needs;
+    queue = b.queue;
     seen = seen_same old (enrolled old t c) b all.trail refl;
   }
 
@@ -283,7 +284,7 @@ module _ {N S : Type 0} (same : S → S → Bool) where
       within = enrols.built.within;
       clauses = λ q a. literals_widen middle.lists new.lists middle.coding.search.clauses q (condition_widens middle.lists new.lists (prefix_equal middle.lists.disjunctions new.lists.disjunctions fixes.disjunctions) q.condition)
           (λ l. still_has (λ literals. has literals l) refl middle given fixes (ap (λ ls. has_candidates ls r) enrols.lists ∙ fresh) q.requirement) (enrols.built.clauses q a);
-      needs = fits_more (literals_in middle.lists) (literals_in new.lists) middle.needs middle.queue (still_same middle given fixes (ap (λ ls. has_candidates ls r) enrols.lists ∙ fresh)) enrols.built.needs;
+      queue = fits_more (literals_in middle.lists) (literals_in new.lists) middle.queue.undecided (needs_of middle.queue) (still_same middle given fixes (ap (λ ls. has_candidates ls r) enrols.lists ∙ fresh)) enrols.built.queue;
       seen = enrols.built.seen;
     })
   ]

@@ -145,7 +145,7 @@ module _ {N S : Type 0} (same : S → S → Bool) where
 
   pub package_marked : (name : N) (e : Encoder N S) (t : Registry N) → IsBuilt e → MarksMany name e.registry t → MarksPackage same name true e (record e { registry = t })
   package_marked name e t built marks = record {
-    built = record { coding = built.coding; tied = tied built.tied; candidates = built.candidates; gates = built.gates; within = built.within; clauses = built.clauses; needs = built.needs; seen = built.seen };
+    built = record { coding = built.coding; tied = tied built.tied; candidates = built.candidates; gates = built.gates; within = built.within; clauses = built.clauses; queue = built.queue; seen = built.seen };
     rest = ap (λ (r : Registry N). record e { registry = r }) marks.rest;
     keeps = marks.keeps;
     encoding = λ p root lawful h is. (subst (λ (r : Registry N). IsEncoding same p root (record e { registry = r })) (sym marks.rest) (marked_encoding p root h is), λ marked. marks.marked);

@@ -20,6 +20,7 @@ use Rattle.resolvo_store_core.specs.declared.lists.FixedLists.{FixedLists}
 use Rattle.resolvo_store_core.specs.Lists.{has_candidates, candidates_in, condition_in, items_or_none}
 use Rattle.resolvo_store_core.specs.declared.pick.NeedClause.{NeedClause}
 use Rattle.resolvo_store_core.specs.declared.lists.Candidate.{Candidate}
+use Rattle.resolvo_decide.specs.Queue.{needs_of}
 use Rattle.resolvo_sat.specs.declared.clause.SatClause.{SatClause}
 use Rattle.resolvo_sat.specs.Known.{clause_at}
 use Rattle.resolvo_sat.specs.State.{lists, clauses_of, history}
@@ -359,8 +360,8 @@ module _ {N S : Type 0} (same : S → S → Bool) (exact : IsExact same) (p : Pa
       next_queued : IsQueuedFor same p new.lists new.coding.atoms.keys (Some x) next
       next_queued = queued_grows same p old.lists new.lists old.coding new.coding lists_prefix new_clause.states.grows (Some x) next (need_queued old.lists old.coding.atoms.keys x v condition r new_clause.number need)
 
-      queued : (q : NeedClause) → Contains new.queue q → IsQueuedFor same p new.lists new.coding.atoms.keys (kind_at new.coding.kinds.items q.clause.0) q
-      queued q h = elim (contains_parts q old.queue (next ∷ []) (subst (λ qs. Contains qs q) new_clause.queue h)) [
+      queued : (q : NeedClause) → Contains (needs_of new.queue) q → IsQueuedFor same p new.lists new.coding.atoms.keys (kind_at new.coding.kinds.items q.clause.0) q
+      queued q h = elim (contains_parts q (needs_of old.queue) (next ∷ []) (subst (λ qs. Contains qs q) new_clause.queue h)) [
         | inl a ↦ queued_keeps same exact p root lawful old new e new_clause.states.grows lists_prefix q a
         | inr a ↦ subst (λ y. IsQueuedFor same p new.lists new.coding.atoms.keys (kind_at new.coding.kinds.items y.clause.0) y) (sym (contains_one q next a))
             (subst (λ (o : Option (ClauseKind N S)). IsQueuedFor same p new.lists new.coding.atoms.keys o next) (sym (ap (λ n. kind_at new.coding.kinds.items n) number ∙ kind_here)) next_queued)
@@ -392,8 +393,8 @@ module _ {N S : Type 0} (same : S → S → Bool) (exact : IsExact same) (p : Pa
         fixed = fixed;
         queued = queued;
         asked = λ n q at a. elim (rule_split old.coding new.coding e.coding new_clause.states.coding new_clause.states.grows n q at) [
-          | inl b ↦ (let (y, c, d) = e.asked n q b a in (y, subst (λ qs. Contains qs y) (sym new_clause.queue) (contains_left y old.queue (next ∷ []) c), d))
-          | inr (low, high) ↦ (next, subst (λ qs. Contains qs next) (sym new_clause.queue) (contains_right next old.queue (next ∷ []) (contains_only next)), number ∙ sym (place n low high))
+          | inl b ↦ (let (y, c, d) = e.asked n q b a in (y, subst (λ qs. Contains qs y) (sym new_clause.queue) (contains_left y (needs_of old.queue) (next ∷ []) c), d))
+          | inr (low, high) ↦ (next, subst (λ qs. Contains qs next) (sym new_clause.queue) (contains_right next (needs_of old.queue) (next ∷ []) (contains_only next)), number ∙ sym (place n low high))
         ];
         gates = gates_keep same exact p root lawful old new e new_clause.states.grows new_clause.gates;
         forbid = forbid;

@@ -157,7 +157,7 @@ module _ {N S : Type 0} where
     gates = λ r v at. represents_grow old.coding c v (Gate r) all.grows (b.gates r v at);
     within = b.within;
     clauses = clauses_grow old (enrolled old t c) b all.grows refl;
-    needs = b.needs;
+    queue = b.queue;
     seen = seen_same old (enrolled old t c) b all.trail refl;
   }
 
@@ -267,7 +267,7 @@ module _ {N S : Type 0} where
     -- all that waited is placed
     pub queue_ends : (list : List (Offered N S)) (old middle : Encoder N S) (t : Registry N) → AreWaiting old list → PlacesAll same list old middle → t ≡ record middle.registry { tied = length middle.registry.members.keys } → PlacesQueued same old (enrolled middle t middle.coding)
     queue_ends list old middle t waiting all is = subst (λ (r : Registry N). PlacesQueued same old (enrolled middle r middle.coding)) (sym is) (record {
-      built = record { coding = all.built.coding; tied = tied; candidates = all.built.candidates; gates = all.built.gates; within = all.built.within; clauses = all.built.clauses; needs = all.built.needs; seen = all.built.seen };
+      built = record { coding = all.built.coding; tied = tied; candidates = all.built.candidates; gates = all.built.gates; within = all.built.within; clauses = all.built.clauses; queue = all.built.queue; seen = all.built.seen };
       extends = record { grows = all.extends.grows; trail = all.extends.trail; softs = all.extends.softs; parents = all.extends.parents; encoded = all.extends.encoded; deferred = all.extends.deferred; fired = all.extends.fired };
       lists = all.lists;
       at_least_one = all.at_least_one;

@@ -21,6 +21,7 @@ use Rattle.resolvo_store_core.specs.Lists.{has_candidates, candidates_in, FixesC
 use Rattle.resolvo_store_core.specs.declared.pick.NeedClause.{NeedClause}
 use Rattle.resolvo_store_core.specs.declared.lists.Candidate.{Candidate}
 use Rattle.resolvo_store_core.specs.declared.lists.FixedLists.{FixedLists}
+use Rattle.resolvo_decide.specs.Queue.{needs_of}
 use Rattle.resolvo_sat.specs.Known.{clause_at}
 use Rattle.resolvo_sat.specs.State.{clauses_of}
 use Rattle.resolvo_sat.specs.RuleClauses.{IsExact, Atom, Rule, plus, minus, IsRule, literals_of}
@@ -77,8 +78,8 @@ module _ {N S : Type 0} (same : S → S → Bool) (exact : IsExact same) (p : Pa
     pub listed : (r : Requirement) (c : Candidate N) → Contains (candidates_in new.lists r) c → (s : S) × IsCandidate new (p.package_of s) s c × (meets same p r s ≡ true)
     pub offered : (r : Requirement) (s : S) → has_candidates new.lists r ≡ true → meets same p r s ≡ true → (c : Candidate N) × Contains (candidates_in new.lists r) c × IsCandidate new (p.package_of s) s c
     pub fixed : (r : Requirement) → HasClause same p (E.rules_of new) r → has_candidates new.lists r ≡ true
-    pub queued : (q : NeedClause) → Contains new.queue q → IsQueuedFor same p new.lists new.coding.atoms.keys (kind_at new.coding.kinds.items q.clause.0) q
-    pub asked : (n : ℕ) (r : Rule N S) → rule_at new.coding.kinds.items n ≡ Some r → IsRequiresRule r → (q : NeedClause) × Contains new.queue q × (q.clause.0 ≡ n)
+    pub queued : (q : NeedClause) → Contains (needs_of new.queue) q → IsQueuedFor same p new.lists new.coding.atoms.keys (kind_at new.coding.kinds.items q.clause.0) q
+    pub asked : (n : ℕ) (r : Rule N S) → rule_at new.coding.kinds.items n ≡ Some r → IsRequiresRule r → (q : NeedClause) × Contains (needs_of new.queue) q × (q.clause.0 ≡ n)
     pub gates : (r : Requirement) (v : VariableId) → slot_of new.gates r ≡ Some v → Represents new.coding.atoms.keys v (Gate r) × E.rules_of new (Rule.shared r)
     pub within : new.encoded ≤ length new.parents.keys
     pub forbid : (r : Requirement) → HasClause same p (E.rules_of new) r → IsGuarded same p (E.rules_of new) r
@@ -272,7 +273,7 @@ module _ {N S : Type 0} (same : S → S → Bool) (exact : IsExact same) (p : Pa
     | inr (o, c, e, f, queued) ↦ inr (o, c, e, some_one o.solvable s (sym (solvable_represents new.atoms.keys v o.solvable f) ∙ solvable_represents new.atoms.keys v s present), (v, present, queued))
   ]
 
-  pub queued_keeps : (old new : Encoder N S) → IsEncoding same p root old → Grows old.coding new.coding → IsPrefixOf old.lists.disjunctions new.lists.disjunctions → (q : NeedClause) → Contains old.queue q → IsQueuedFor same p new.lists new.coding.atoms.keys (kind_at new.coding.kinds.items q.clause.0) q
+  pub queued_keeps : (old new : Encoder N S) → IsEncoding same p root old → Grows old.coding new.coding → IsPrefixOf old.lists.disjunctions new.lists.disjunctions → (q : NeedClause) → Contains (needs_of old.queue) q → IsQueuedFor same p new.lists new.coding.atoms.keys (kind_at new.coding.kinds.items q.clause.0) q
   queued_keeps old new e grows prefix q c = go (kind_at old.coding.kinds.items q.clause.0) refl (e.queued q c)
     where
       go : (x : Option (ClauseKind N S)) → kind_at old.coding.kinds.items q.clause.0 ≡ x → IsQueuedFor same p old.lists old.coding.atoms.keys (kind_at old.coding.kinds.items q.clause.0) q → IsQueuedFor same p new.lists new.coding.atoms.keys (kind_at new.coding.kinds.items q.clause.0) q
@@ -305,8 +306,8 @@ module _ {N S : Type 0} (same : S → S → Bool) (exact : IsExact same) (p : Pa
     | inr (n, low, high, at) ↦ absurd (none n (Rule.shared r) low high at tt)
   ]
 
-  pub asked_keeps : (old new : Encoder N S) → IsEncoding same p root old → IsCoding new.coding → Grows old.coding new.coding → new.queue ≡ old.queue → NoneAsks old new
-      → (n : ℕ) (r : Rule N S) → rule_at new.coding.kinds.items n ≡ Some r → IsRequiresRule r → (q : NeedClause) × Contains new.queue q × (q.clause.0 ≡ n)
+  pub asked_keeps : (old new : Encoder N S) → IsEncoding same p root old → IsCoding new.coding → Grows old.coding new.coding → needs_of new.queue ≡ needs_of old.queue → NoneAsks old new
+      → (n : ℕ) (r : Rule N S) → rule_at new.coding.kinds.items n ≡ Some r → IsRequiresRule r → (q : NeedClause) × Contains (needs_of new.queue) q × (q.clause.0 ≡ n)
   asked_keeps old new e coding grows queue none n r at a = elim (rule_split old.coding new.coding e.coding coding grows n r at) [
     | inl b ↦ let (q, c, d) = e.asked n r b a in (q, subst (λ qs. Contains qs q) (sym queue) c, d)
     | inr (low, high) ↦ absurd (none n r low high at a)

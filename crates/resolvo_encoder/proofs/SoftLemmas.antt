@@ -43,7 +43,7 @@ retied e level h = record {
 }
 
 pub floor_built : {N S : Type 0} (e : Encoder N S) (level : ℕ) → IsCoding (floored e level).coding → IsBuilt e → IsBuilt (floored e level)
-floor_built e level coding b = record { coding = coding; tied = retied e level b.tied; candidates = b.candidates; gates = b.gates; within = b.within; clauses = b.clauses; needs = b.needs; seen = b.seen }
+floor_built e level coding b = record { coding = coding; tied = retied e level b.tied; candidates = b.candidates; gates = b.gates; within = b.within; clauses = b.clauses; queue = b.queue; seen = b.seen }
 
 -- it still satisfies the invariant
 pub floor_keeps : {N S : Type 0} (same : S → S → Bool) (p : Packages N S) (root : Rules) (e : Encoder N S) (level : ℕ) → IsCoding (floored e level).coding → IsEncoding same p root e → IsEncoding same p root (floored e level)

@@ -24,7 +24,8 @@ use Rattle.resolvo_sat.specs.Steps.{Chooses, Undoes}
 use Rattle.resolvo_sat.proofs.Clauses.{length-lists}
 use Rattle.resolvo_sat.proofs.ImproveLemmas.{extends_heavier, extends_earlier, choice_heavier, choice_earlier, undo_earlier, weight_falls}
 use Rattle.resolvo_sat.proofs.StepLemmas.{lists-append, clause_at_end}
-use Rattle.resolvo_decide.specs.declared.undecided_clauses.UndecidedClauses.{UndecidedClauses}
+use Rattle.resolvo_decide.specs.declared.decide_queue.DecideQueue.{DecideQueue}
+use Rattle.resolvo_decide.specs.Queue.{needs_of}
 use Rattle.resolvo_sat.specs.RuleClauses.{IsExact, Atom, Rule, plus}
 use Rattle.resolvo_sat.specs.SearchEnd.{HasClause}
 use Rattle.resolvo_sat.specs.Numbered.{meaning, Means, known_of, AreCalledFor}
@@ -39,6 +40,7 @@ use Rattle.resolvo_state.specs.SolverState.{IsCoding, Advances, KeepsClauses, le
 use Rattle.resolvo_state.specs.Registered.{AreTied, IsTracked, IsRegistered}
 use Rattle.resolvo_state.specs.Spelled.{AreRegistered}
 use Rattle.resolvo_state.specs.ClauseKinds.{kind_at, rule_at}
+use Rattle.resolvo_state.proofs.KeepLemmas.{floored_kept}
 use Rattle.resolvo_state.proofs.Growth.{grows_same, grows_then, trail_same, kind_grows, kind_split, rule_split, rules_split, spelled_grows, registered_grows, called_grows_trail, called_advances, called_undoes, called_chooses}
 use Rattle.resolvo_state.proofs.Positions.{prefix_equal, get_last}
 use Rattle.resolvo_state.proofs.RegisterLemmas.{KeepsDigits, ties_grow}
@@ -47,8 +49,9 @@ use Rattle.resolvo_encoder.specs.declared.encoder.Encoder.{Encoder}
 use Rattle.resolvo_encoder.specs.Encoded.{IsChosenFor, IsEncoding, Registered}
 use Rattle.resolvo_encoder.specs.Encoded as E
 use Rattle.resolvo_encoder.specs.declared.encoder.EncodedOnce.{EncodedOnce}
-use Rattle.resolvo_encoder.specs.Progress.{GoesOn}
+use Rattle.resolvo_encoder.specs.Progress.{GoesOn, Syncs}
 use Rattle.resolvo_encoder.specs.Steps.{SameButCoding}
+use Rattle.resolvo_encoder.proofs.BuildLemmas.{synced, synced_grows}
 use Rattle.resolvo_encoder.proofs.CarryLemmas.{split_at}
 use Rattle.resolvo_encoder.proofs.PickLemmas.{chosen_grows}
 use Rattle.resolvo_encoder.proofs.RequireLemmas.{candidate_grows, cases_keep, cased_stays, at_least_one_keeps, prefix_lists, queued_keeps, gates_keep, within_keeps, encoded_keeps, guard_grows, recorded_grows, marks_stay}
@@ -269,33 +272,33 @@ module _ {N S : Type 0} (old : Encoder N S) (c : SolverState N S) where
         (positive_on same exact p root lawful old went e goes (λ n l low high present. (let long : length c.search.clauses ≡ length old.coding.search.clauses = ap (λ (cs : List SatClause). length cs) kept.clauses in absurd (omega arith))))
         (called_undoes (IsChosenFor same p old) (IsChosenFor same p went) (chosen_grows old went goes.grows (λ r h. refl) refl same p) old.coding c level undoes kept e.called)
 
--- ---- only the states of requires clauses change
+-- ---- the queue is brought up to date with the trail
 
-module _ {N S : Type 0} (e : Encoder N S) (needs : UndecidedClauses) where
-  pub needs_go : IsCoding e.coding → GoesOn e (record e { needs = needs })
-  needs_go coding = record {
-    rest = record { registry = refl; lists = refl; queue = refl; gates = refl; recorded = refl; parents = refl; encoded = refl; deferred = refl; fired = refl };
-    coding = coding;
+module _ {N S : Type 0} (e : Encoder N S) (q : DecideQueue) (floor : ℕ) (needs : needs_of q ≡ needs_of e.queue) where
+  sync_goes : IsCoding e.coding → GoesOn e (synced e q floor)
+  sync_goes coding = record {
+    rest = record { registry = refl; lists = refl; queue = needs; gates = refl; recorded = refl; parents = refl; encoded = refl; deferred = refl; fired = refl };
+    coding = (floored_kept e.coding floor coding).coding;
     atoms = refl;
     variables = refl;
-    grows = grows_same e.coding;
+    grows = synced_grows e q floor;
     earlier = λ base low ends. ends;
     learnt = λ n low high. absurd (omega arith);
   }
 
-  pub needs_keep : (same : S → S → Bool) → IsExact same → (p : Packages N S) (root : Rules) → IsLawful p → IsEncoding same p root e → IsEncoding same p root (record e { needs = needs })
-  needs_keep same exact p root lawful h =
-      let recorded : Encoder N S = record e { needs = needs } in
-      let goes = needs_go h.coding in
-      stays same exact p root lawful e recorded h goes (positive_on same exact p root lawful e recorded h goes (λ n l low high present. absurd (omega arith)))
-      (called_grows_trail (IsChosenFor same p e) (IsChosenFor same p recorded) (chosen_grows e recorded goes.grows (λ r k. refl) refl same p) e.coding e.coding h.coding goes.grows (trail_same e.coding) h.called)
+  sync_keeps : (same : S → S → Bool) → IsExact same → (p : Packages N S) (root : Rules) → IsLawful p → IsEncoding same p root e → IsEncoding same p root (synced e q floor)
+  sync_keeps same exact p root lawful h =
+      let new : Encoder N S = synced e q floor in
+      let goes = sync_goes h.coding in
+      stays same exact p root lawful e new h goes (positive_on same exact p root lawful e new h goes (λ n l low high present. absurd (omega arith)))
+      (called_grows_trail (IsChosenFor same p e) (IsChosenFor same p new) (chosen_grows e new goes.grows (λ r k. refl) refl same p) e.coding e.coding h.coding (grows_same e.coding) (trail_same e.coding) h.called)
 
-module _ {N S : Type 0} (old new : Encoder N S) (is : new ≡ record old { needs = new.needs }) where
-  pub recorded_goes : IsCoding old.coding → GoesOn old new
-  recorded_goes coding = subst (λ (x : Encoder N S). GoesOn old x) (sym is) (needs_go old new.needs coding)
+module _ {N S : Type 0} (old new : Encoder N S) (syncs : Syncs old new) where
+  pub synced_goes : IsCoding old.coding → GoesOn old new
+  synced_goes coding = subst (λ (x : Encoder N S). GoesOn old x) (sym syncs.rest) (sync_goes old new.queue syncs.floor syncs.queue coding)
 
-  pub recorded_keeps : (same : S → S → Bool) → IsExact same → (p : Packages N S) (root : Rules) → IsLawful p → IsEncoding same p root old → IsEncoding same p root new
-  recorded_keeps same exact p root lawful h = subst (λ (x : Encoder N S). IsEncoding same p root x) (sym is) (needs_keep old new.needs same exact p root lawful h)
+  pub synced_keeps : (same : S → S → Bool) → IsExact same → (p : Packages N S) (root : Rules) → IsLawful p → IsEncoding same p root old → IsEncoding same p root new
+  synced_keeps same exact p root lawful h = subst (λ (x : Encoder N S). IsEncoding same p root x) (sym syncs.rest) (sync_keeps old new.queue syncs.floor syncs.queue same exact p root lawful h)
 
 -- ---- the trail gains weight
 

@@ -14,6 +14,7 @@ use Rattle.resolvo_store_core.specs.declared.lists.Candidate.{Candidate}
 use Rattle.resolvo_store_core.specs.declared.pick.NeedClause.{NeedClause}
 use Rattle.resolvo_store_core.specs.declared.pick.NextDecision.{NextDecision}
 use Rattle.resolvo_decide.specs.Needs.{LeavesUndecided}
+use Rattle.resolvo_decide.specs.Queue.{needs_of}
 use Rattle.resolvo_sat.specs.Entries.{made_true}
 use Rattle.resolvo_sat.specs.Known.{clause_at}
 use Rattle.resolvo_sat.specs.Propagation.{IsQuiet}
@@ -145,7 +146,7 @@ module _ {N : Type 0} (names : Named N) (values : ℕ → Option Bool) (score : 
       subst (λ n. 2 ≤ n) (sym o.counted) (count_two (λ (y : Candidate N). is_open (value_under values y.literal)) (names.candidates q.requirement) c x there here apart open_ unset)
 
 -- each clause of the queue that offers a decision has two undecided candidates
-pub leaves_undecided : {N S : Type 0} (e : Encoder N S) → IsBuilt e → AreQuiet e → LeavesUndecided e.lists e.coding.search.tracker.trail e.queue 2
+pub leaves_undecided : {N S : Type 0} (e : Encoder N S) → IsBuilt e → AreQuiet e → LeavesUndecided e.lists e.coding.search.tracker.trail (needs_of e.queue) 2
 leaves_undecided {N} {S} e b quiet = λ map mapped score q d a offered.
     let s = e.coding.search in
     let agree = trail_values (count_of s) (clauses_of s) s.tracker.trail map b.coding.ready.state.trail mapped in

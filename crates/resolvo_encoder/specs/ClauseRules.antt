@@ -39,7 +39,7 @@ pub record EncodesPair {N S : Type 0} (x : ClauseKind N S) (a b : Signed) (old n
   pub pair : IsPair a b literals
   pub states : AddsRule x literals number old.coding new.coding
   pub rest : SameButCoding old new
-  pub needs : new.needs ≡ old.needs
+  pub same_queue : new.queue ≡ old.queue
 
 -- Clauses that encode these rules were added, if the problem has these rules.
 pub record EncodesRules {N S : Type 0} (same : S → S → Bool) (rules : List (Rule N S)) (old new : Encoder N S) : Type 0 where

@@ -14,6 +14,7 @@ use Rattle.resolvo_pool_core.specs.Text.{solvable_of, alternatives_of}
 use Rattle.resolvo_pool_core.specs.RuleKeeping.{Packages, Rules, IsLawful, is_many, is_in, is_match, meets, rules_for, is_outside, is_unknown}
 use Rattle.resolvo_store_core.specs.Clauses.{root as root_variable}
 use Rattle.resolvo_store_core.specs.declared.pick.NeedClause.{NeedClause}
+use Rattle.resolvo_decide.specs.Queue.{needs_of}
 use Rattle.resolvo_store_core.specs.declared.lists.Candidate.{Candidate}
 use Rattle.resolvo_store_core.specs.declared.lists.FixedLists.{FixedLists}
 use Rattle.resolvo_store_core.specs.Lists.{has_candidates, candidates_in, condition_in, HasDisjunction}
@@ -215,8 +216,8 @@ module _ {N S : Type 0} (same : S → S → Bool) (p : Packages N S) (root : Rul
     -- the requirement of each requires clause has its candidates, and the clause is in the decision
     -- queue
     pub fixed : (r : Requirement) → HasClause same p (rules_of e) r → has_candidates e.lists r ≡ true
-    pub queued : (q : NeedClause) → Contains e.queue q → IsQueuedFor same p e.lists e.coding.atoms.keys (kind_at e.coding.kinds.items q.clause.0) q
-    pub asked : (n : ℕ) (r : Rule N S) → rule_at e.coding.kinds.items n ≡ Some r → IsRequiresRule r → (q : NeedClause) × Contains e.queue q × (q.clause.0 ≡ n)
+    pub queued : (q : NeedClause) → Contains (needs_of e.queue) q → IsQueuedFor same p e.lists e.coding.atoms.keys (kind_at e.coding.kinds.items q.clause.0) q
+    pub asked : (n : ℕ) (r : Rule N S) → rule_at e.coding.kinds.items n ≡ Some r → IsRequiresRule r → (q : NeedClause) × Contains (needs_of e.queue) q × (q.clause.0 ≡ n)
     -- each gate has its clause
     pub gates : (r : Requirement) (v : VariableId) → slot_of e.gates r ≡ Some v → Represents e.coding.atoms.keys v (Gate r) × rules_of e (Rule.shared r)
     -- the locks and exclusions of candidates of requires clauses are encoded, and so is all that is

@@ -3,6 +3,7 @@ use Rattle.std.specs.Prelude.{◌≡◌, ℕ, ◌-◌, ◌<◌, ◌≤◌, Bool,
 use Rattle.resolvo_store_core.specs.Lists.{named_by}
 use Rattle.resolvo_store_core.specs.Pick.{pick_by}
 use Rattle.resolvo_store_core.specs.declared.pick.NextDecision.{NextDecision}
+use Rattle.resolvo_decide.specs.Queue.{needs_of}
 use Rattle.resolvo_sat.specs.declared.analyze.FinalConflict.{FinalConflict}
 use Rattle.resolvo_sat.specs.PropagateAndLearn.{weight_left, KeepsUpTo}
 use Rattle.resolvo_sat.specs.Analysis.{IsRefusal}
@@ -22,7 +23,13 @@ use Rattle.resolvo_encoder.specs.declared.encoder.Encoder.{Encoder}
 pub record IsNext {N S : Type 0} (score : N → ℕ) (e : Encoder N S) (next : Option NextDecision) : Type 0 where
   pub values : ℕ → Option Bool
   pub agree : AreValues values (made_true (history e.coding.search))
-  pub picked : pick_by (named_by e.lists) values score e.queue ≡ next
+  pub picked : pick_by (named_by e.lists) values score (needs_of e.queue) ≡ next
+
+-- the queue was brought up to date with the trail, of which the least length alone changed
+pub record Syncs {N S : Type 0} (old new : Encoder N S) : Type 0 where
+  pub floor : ℕ
+  pub rest : new ≡ record old { queue = new.queue; coding = record old.coding { search = record old.coding.search { tracker = record old.coding.search.tracker { floor = floor } } } }
+  pub queue : needs_of new.queue ≡ needs_of old.queue
 
 -- Literals were assigned, and each added clause is learnt. The variables, their origins, all but
 -- the search, and the trail before the turn are unchanged.

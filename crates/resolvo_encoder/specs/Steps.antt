@@ -20,8 +20,9 @@ use Rattle.resolvo_pool_core.specs.Provider.{listed}
 use Rattle.resolvo_pool_core.specs.RuleKeeping.{Packages, Rules, IsLawful, is_in, rules_for, is_many}
 use Rattle.resolvo_pool_core.specs.declared.id.VersionSetId.{VersionSetId}
 use Rattle.resolvo_pool_core.specs.declared.requirement.ConditionalRequirement.{ConditionalRequirement}
-use Rattle.resolvo_decide.specs.Needs.{literals_in, Fits, AddsNeed}
-use Rattle.resolvo_decide.specs.CandidateCounts.{HasNoCount}
+use Rattle.resolvo_store_core.specs.Trail.{IsSeenOf}
+use Rattle.resolvo_decide.specs.Needs.{literals_in}
+use Rattle.resolvo_decide.specs.Queue.{needs_of, IsNew, IsSound, KeepsSound}
 use Rattle.resolvo_sat.specs.RuleClauses.{Rule, cases_for, AreMatched, IsRule}
 use Rattle.resolvo_sat.specs.Known.{clause_at}
 use Rattle.resolvo_sat.specs.State.{lists}
@@ -49,17 +50,17 @@ pub record HasNeedLiterals {N : Type 0} (ls : FixedLists N) (clauses : List SatC
 
 -- The precondition of the calls, for any packages: the search is ready, registered solvables are
 -- tied to their packages, candidates are positive literals of solvables, each gate is its
--- requirement's. The clauses of the queue have their needs' literals, and the states of these
--- clauses fit a prefix of the trail.
+-- requirement's. The clauses of the queue have their needs' literals, and what the queue knows of
+-- them is so. What it saw of the trail, as far as the trail's least length, is there.
 pub record IsBuilt {N S : Type 0} (e : Encoder N S) : Type 0 where
   pub coding : IsCoding e.coding
   pub tied : AreTied e.registry e.coding
   pub candidates : (r : Requirement) (c : Candidate N) → Contains (candidates_in e.lists r) c → (c.literal.positive ≡ true) × ((s : S) × Represents e.coding.atoms.keys c.literal.variable (Solvable s))
   pub gates : (r : Requirement) (v : VariableId) → slot_of e.gates r ≡ Some v → Represents e.coding.atoms.keys v (Gate r)
   pub within : e.encoded ≤ length e.parents.keys
-  pub clauses : (q : NeedClause) → Contains e.queue q → HasNeedLiterals e.lists e.coding.search.clauses q
-  pub needs : Fits (literals_in e.lists) e.needs e.queue
-  pub seen : IsPrefixOf e.needs.seen.items e.coding.search.tracker.trail
+  pub clauses : (q : NeedClause) → Contains (needs_of e.queue) q → HasNeedLiterals e.lists e.coding.search.clauses q
+  pub queue : IsSound (literals_in e.lists) e.queue
+  pub seen : IsSeenOf e.coding.search.tracker e.queue.undecided.seen.items
 
 -- No number is left for a variable, clause or disjunction that a call adds for a requirement. Or
 -- the requirement's own index exceeds those that can have candidates.
@@ -148,8 +149,9 @@ pub record Fixes {N S : Type 0} (same : S → S → Bool) (r : Requirement) (off
 pub record EncodesNeed {N S : Type 0} (kinds : ClauseKind N S) (v : VariableId) (condition : Option (DenseId DisjunctionTag ℕ)) (r : Requirement) (old new : Encoder N S) : Type 0 where
   pub number : ClauseId
   pub states : AddsRule kinds (no v ∷ (condition_in old.lists condition ++ candidate_literals (candidates_in old.lists r))) number old.coding new.coding
-  pub queue : new.queue ≡ old.queue ++ (let q : NeedClause = record { parent = v; requirement = r; condition = condition; clause = number } in q) ∷ []
-  pub needs : AddsNeed v old.needs new.needs
+  pub queue : needs_of new.queue ≡ needs_of old.queue ++ (let q : NeedClause = record { parent = v; requirement = r; condition = condition; clause = number } in q) ∷ []
+  pub sound : KeepsSound old.queue new.queue
+  pub seen : new.queue.undecided.seen ≡ old.queue.undecided.seen
   pub registry : new.registry ≡ old.registry
   pub lists : new.lists ≡ old.lists
   pub gates : new.gates ≡ old.gates
@@ -176,11 +178,11 @@ IsNeed same p root lists atoms (Kind.IsThere n s) v condition r = ⊥
 IsNeed same p root lists atoms (Kind.Matches w s) v condition r = ⊥
 IsNeed same p root lists atoms Kind.Learnt v condition r = ⊥
 
--- only the clauses, the variables, their origins, and the states of requires clauses changed
+-- only the clauses, the variables, their origins, and what the queue knows of its clauses changed
 pub record SameButCoding {N S : Type 0} (old new : Encoder N S) : Type 0 where
   pub registry : new.registry ≡ old.registry
   pub lists : new.lists ≡ old.lists
-  pub queue : new.queue ≡ old.queue
+  pub queue : needs_of new.queue ≡ needs_of old.queue
   pub gates : new.gates ≡ old.gates
   pub recorded : new.recorded ≡ old.recorded
   pub parents : new.parents ≡ old.parents
@@ -204,17 +206,14 @@ pub record Opens {N S : Type 0} (s : S) (v gate : VariableId) (r : Requirement) 
   pub number : ClauseId
   pub states : AddsRule (Kind.Gated s r) (no v ∷ yes gate ∷ []) number old.coding new.coding
   pub rest : SameButCoding old new
-  pub needs : new.needs ≡ old.needs
+  pub same_queue : new.queue ≡ old.queue
 
 -- there is only the root, whose requirements aren't encoded yet
 pub record IsBegunEncoding {N S : Type 0} (e : Encoder N S) : Type 0 where
   pub coding : IsBegun e.coding
   pub registry : IsNothing e.registry
   pub lists : IsEmpty e.lists
-  pub queue : e.queue ≡ []
-  pub needs : e.needs.states ≡ []
-  pub seen : e.needs.seen.items ≡ []
-  pub counts : HasNoCount e.needs.counts
+  pub queue : IsNew e.queue
   pub gates : (r : Requirement) → slot_of e.gates r ≡ None
   pub packages : e.recorded.packages.keys ≡ []
   pub version_sets : e.recorded.version_sets.keys ≡ []

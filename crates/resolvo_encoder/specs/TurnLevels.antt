@@ -5,6 +5,7 @@ use Rattle.resolvo_store_core.specs.Signed.{Signed, has}
 use Rattle.resolvo_store_core.specs.Lists.{named_by}
 use Rattle.resolvo_store_core.specs.Pick.{offer_by}
 use Rattle.resolvo_store_core.specs.declared.pick.NeedClause.{NeedClause}
+use Rattle.resolvo_decide.specs.Queue.{needs_of}
 use Rattle.resolvo_encoder.specs.declared.encoder.Encoder.{Encoder}
 
 -- the variables' values are those that make these literals true
@@ -14,7 +15,7 @@ pub record AreValues (values : ℕ → Option Bool) (known : List Signed) : Type
 
 -- no clause of the queue has anything to decide
 abbrev pub IsDecided : {N S : Type 0} → Encoder N S → (ℕ → Option Bool) → (N → ℕ) → Type 0
-IsDecided e values score = (q : NeedClause) → Contains e.queue q → offer_by (named_by e.lists) values score q ≡ None
+IsDecided e values score = (q : NeedClause) → Contains (needs_of e.queue) q → offer_by (named_by e.lists) values score q ≡ None
 
 -- the root and each of these solvables are among the encoded parents
 pub record AreAmongEncoded {N S : Type 0} (e : Encoder N S) (members : List S) : Type 0 where

@@ -22,7 +22,7 @@ ghost use Rattle.resolvo_state.specs.SolverState.{IsBegun, IsCoding, LacksNumber
 ghost use Rattle.resolvo_encoder.specs.Steps.{Fixes, EncodesNeed, IsBuilt, Needs, Extends, NeedsDirectly, Opens, AddsCandidates, IsBegunEncoding, AddsParent, IsNextEncoded, LacksNumberFor};
 
 use indexmap::IndexSet;
-use resolvo_decide::undecided_clauses::UndecidedClauses;
+use resolvo_decide::decide_queue::DecideQueue;
 use resolvo_packages::package_source::Offered;
 use resolvo_pool_core::id::{DisjunctionId, Exact, VariableId, VersionSetId};
 use resolvo_pool_core::requirement::{ConditionalRequirement, Requirement, RequirementMap};
@@ -35,7 +35,7 @@ use resolvo_state::solver_state::SolverState;
 use resolvo_store_core::conditions::DeferredConjunct;
 use resolvo_store_core::lists::{Candidate, FixedLists};
 use resolvo_store_core::literal::Literal;
-use resolvo_store_core::pick::{DecideQueue, NeedClause};
+use resolvo_store_core::pick::NeedClause;
 use std::alloc::Global;
 use std::fmt::Debug;
 use std::hash::Hash;
@@ -94,9 +94,6 @@ pub struct Encoder<N: Copy + Eq + Hash, S: Copy + Eq + Hash> {
     pub registry: Registry<N>,
     pub lists: FixedLists<N>,
     pub queue: DecideQueue,
-    /// The states of the queue's clauses, which spare the next decision a scan of each. They are
-    /// reset where entries are taken from the trail.
-    pub needs: UndecidedClauses,
     /// The gate of each requirement that has one.
     pub gates: RequirementMap<VariableId>,
     /// The packages, version sets and solvables that are encoded once.
@@ -119,7 +116,6 @@ impl<N: Copy + Eq + Hash, S: Copy + Eq + Hash> Drop for Encoder<N, S> {
             registry: _,
             lists: _,
             queue: _,
-            needs: _,
             gates: _,
             recorded: _,
             parents: _,
@@ -149,7 +145,6 @@ fn begun<N: Copy + Exact + Hash + Debug, S: Copy + Exact + Hash + Debug>(
         registry: Registry::new(alloc),
         lists,
         queue: DecideQueue::new(alloc),
-        needs: UndecidedClauses::new(alloc),
         gates,
         recorded: EncodedOnce {
             packages: IndexSet::new(alloc),
@@ -326,7 +321,6 @@ impl<N: Copy + Exact + Hash + Debug + Drop, S: Copy + Exact + Hash + Debug> Enco
             condition,
             clause,
         })?;
-        self.needs.add(alloc, variable)?;
         Ok(())
     }
 

@@ -1,11 +1,12 @@
 //! The steps of the search over the encoding: propagate, learn, decide.
 ghost use Rattle.std.specs.Prelude.{◌≡◌, ◌-◌, max, IfOk, OnOk, IsErrOf, IsOkUnless};
 ghost use Rattle.resolvo_pool_core.specs.declared.want.Want.TheVariants.{Memory, Ids};
+ghost use Rattle.resolvo_decide.specs.Queue.{IsSynced, IsHotBound};
 ghost use Rattle.resolvo_sat.specs.Steps.{Undoes};
 ghost use Rattle.resolvo_state.specs.SolverState.{LacksNumber};
 ghost use Rattle.resolvo_encoder.specs.Encoded.{StaysEncoding};
 ghost use Rattle.resolvo_encoder.specs.Steps.{IsBuilt};
-ghost use Rattle.resolvo_encoder.specs.Progress.{IsNext, GoesOn, AreQuiet, IsStep, IsChoice};
+ghost use Rattle.resolvo_encoder.specs.Progress.{IsNext, Syncs, GoesOn, AreQuiet, IsStep, IsChoice};
 ghost use Rattle.resolvo_encoder.specs.Base.{KeepsFirst, KeepsTurns};
 
 use crate::encoder::Encoder;
@@ -38,23 +39,40 @@ pub enum Step {
 }
 
 impl<N: Copy + Exact + Hash + Debug + Drop, S: Copy + Exact + Hash + Debug> Encoder<N, S> {
-    /// The next candidate to decide, if one is left. Updates the states of requires clauses.
+    /// The next candidate to decide, if one is left. Brings the queue up to date with the trail.
     fn next_decision<C: ScoreMap<N>>(&mut self, scores: &Scores<N, C>) -> R<Option<NextDecision>>
         requires built { IsBuilt self.old }
         requires quiet { AreQuiet self.old }
         // After an answer.
         ensures next { IfOk result (IsNext (C.score_of scores.now.map) self.new) }
         ensures built { OnOk result (IsBuilt self.new) }
-        ensures rest { OnOk result (self.new ≡ record self.old { needs = self.new.needs }) }
+        ensures syncs { OnOk result (Syncs self.old self.new) }
         // After a refusal.
         ensures refusal { IsOkUnless result Memory }
     {
+        self.sync_queue(scores)?;
         let trail = &self.coding.search.tracker;
         // split for the prover: error and answer
         let next = self
-            .needs
-            .next_decision(&self.queue, &self.lists, trail, scores, FEWEST)?;
+            .queue
+            .next_decision(&self.lists, trail, scores.map(), FEWEST)?;
         Ok(next)
+    }
+
+    /// Brings the queue up to date with the trail and the scores.
+    fn sync_queue<C: ScoreMap<N>>(&mut self, scores: &Scores<N, C>) -> R<()>
+        requires { IsBuilt self.old }
+        // After an answer.
+        ensures syncs { OnOk result (Syncs self.old self.new) }
+        ensures synced { OnOk result (IsSynced self.new.queue self.new.coding.search.tracker.trail) }
+        ensures hot { OnOk result (IsHotBound (C.score_of scores.now.map) self.new.queue) }
+        ensures built { OnOk result (IsBuilt self.new) }
+        // After a refusal.
+        ensures refusal { IsOkUnless result Memory }
+    {
+        self.queue.sync(&mut self.coding.search.tracker)?;
+        self.queue.set_hot_bound(scores.most());
+        Ok(())
     }
 
     /// Decides the next candidate. False where none is left.
@@ -92,8 +110,6 @@ impl<N: Copy + Exact + Hash + Debug + Drop, S: Copy + Exact + Hash + Debug> Enco
     {
         let level = self.coding.search.base_level.saturating_sub(1);
         self.coding.undo_until(level.max(1));
-        let kept = self.coding.search.tracker.stack().len();
-        self.needs.truncate(kept);
     }
 
     /// Propagates; then learns from a falsified clause, or decides where there is none.
@@ -110,12 +126,7 @@ impl<N: Copy + Exact + Hash + Debug + Drop, S: Copy + Exact + Hash + Debug> Enco
     {
         match self.coding.propagate_and_learn(alloc)? {
             StepResult::Refused(refusal) => Ok(Step::Refused(refusal)),
-            StepResult::Learnt(clause) => {
-                // The last entry is the asserted literal's; those before it were there.
-                let entries = self.coding.search.tracker.stack().len();
-                self.needs.truncate(entries.saturating_sub(1));
-                Ok(Step::Learnt(clause))
-            }
+            StepResult::Learnt(clause) => Ok(Step::Learnt(clause)),
             StepResult::Complete => {
                 let has_chosen = self.choose_next(scores)?;
                 if has_chosen {

@@ -3,4 +3,5 @@ pub mod FitLemmas
 pub mod InternLemmas
 pub mod Picks
 pub mod Plain
+pub mod QueueLemmas
 pub mod Undone

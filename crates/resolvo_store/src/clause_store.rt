@@ -16,6 +16,7 @@ ghost use Rattle.resolvo_store.specs.Changes.{versions_of, candidates_from, with
 ghost use Rattle.resolvo_store_core.specs.Clauses.{Fits, is_in_range, literals_of};
 ghost use Rattle.resolvo_store.specs.Calls.{has_clause, can_watch, can_fix, can_add, can_register, can_assign, can_decay, broken_in, picked_in};
 
+use resolvo_decide::decide_queue::DecideQueue;
 use resolvo_pool_core::id::{ClauseId, DenseIndex, DisjunctionId, LearntClauseId, VariableId};
 use resolvo_pool_core::id_map::ScoreMap;
 use resolvo_pool_core::requirement::Requirement;
@@ -25,7 +26,7 @@ use resolvo_store_core::decision::Decision;
 use resolvo_store_core::decision_tracker::{DecisionTracker, Set};
 use resolvo_store_core::lists::{Candidate, Disjunction, FixedLists};
 use resolvo_store_core::literal::{Literal, is_in_range};
-use resolvo_store_core::pick::{DecideQueue, NeedClause, NextDecision};
+use resolvo_store_core::pick::{NeedClause, NextDecision};
 use resolvo_store_core::store_clause::Clause;
 use resolvo_store_core::watch_map::WatchMap;
 use resolvo_store_core::watched_literals::WatchedLiterals;
@@ -65,7 +66,7 @@ impl<N: SolverId> Drop for ClauseStore<N> {
 
 impl<N: SolverId> Model for ClauseStore<N> {
     ghost use Rattle.std.specs.Prelude.{◌≡◌, ◌≤◌, length};
-    ghost use Rattle.resolvo_store.specs.Stored.{Kept};
+    ghost use Rattle.resolvo_store.specs.Stored.{Kept, IsQueueOf};
     ghost use Rattle.resolvo_store_core.specs.Watches.{watchers, IsWatched};
 
     ghost Value = { Kept N N.Scores };
@@ -77,14 +78,15 @@ impl<N: SolverId> Model for ClauseStore<N> {
           watched = s.watched.items;
           watches = s.watches;
           trail = s.tracker.trail;
-          needs = s.queue;
+          needs = s.queue.registered.items;
           scores = s.scores;
         } };
 
     ghost invariant = { λ s.
         IsWatched s.watched.items (watchers s.watches)
         × (length s.watched.items ≡ length s.clauses.items)
-        × (length s.clauses.items ≤ 4294967295) };
+        × (length s.clauses.items ≤ 4294967295)
+        × IsQueueOf s.lists s.tracker (N.Scores.score_of s.scores) s.queue };
 }
 
 impl<N: SolverId + Drop> ClauseStore<N> {
@@ -276,11 +278,12 @@ impl<N: SolverId + Drop> ClauseStore<N> {
         ensures store { Stays N.Scores.score_of self.old self.new }
         ensures refusal { IsOkUnless result Memory }
     {
-        self.queue.sync(&self.lists, &mut self.tracker)?;
-        Ok(
-            self.queue
-                .next_decision(&self.lists, self.tracker.map(), &self.scores),
-        )
+        self.queue.sync(&mut self.tracker)?;
+        // split for the prover: error and answer
+        let next = self
+            .queue
+            .next_decision(&self.lists, &self.tracker, &self.scores, 0)?;
+        Ok(next)
     }
 
     /// Sets whether scores are bumped at all. No answer depends on it.
@@ -298,7 +301,7 @@ impl<N: SolverId + Drop> ClauseStore<N> {
         ensures refusal { IsOkUnless result Memory }
     {
         let score = self.scores.get(name).saturating_add(add);
-        self.queue.mark_name_hot(name)?;
+        self.queue.mark_name_hot(score);
         match self.scores.set(name, score) {
             Ok(()) => Ok(()),
             Err(_) => Err(Want::Memory),

@@ -1,7 +1,7 @@
 //! The data structures of a CDCL solver: literals, clauses, the trail by decision levels, watch
-//! lists, at-most-one clauses, the decision queue. In resolvo: `clause.rs`, `decision_tracker.rs`,
-//! `decision_map.rs`, `watch_map.rs`, `binary_encoding.rs`, `conditions.rs` and `decide_queue.rs`
-//! of `src/solver/`.
+//! lists, at-most-one clauses, the better of two decisions. In resolvo: `clause.rs`,
+//! `decision_tracker.rs`, `decision_map.rs`, `watch_map.rs`, `binary_encoding.rs` and
+//! `conditions.rs` of `src/solver/`.
 #![tactic(auto)]
 
 pub mod binary_encoding;

@@ -1,27 +1,42 @@
-use Rattle.std.proofs.Common.{◌≡◌, ℕ, ◌<◌, inl, inr, List, [], ◌∷◌, ◌++◌, length, refl, sym, ◌∙◌, ap, subst, arith}
-use Rattle.std.specs.Prelude.{Contains}
-use Rattle.std.proofs.lemmas.List.Elements.{Contains-append_left, Contains-append_right}
-use Rattle.resolvo_decide.specs.Needs.{places_at}
-use Rattle.resolvo_decide.specs.CandidateCounts.{Begins}
-use Rattle.resolvo_decide.proofs.Positions.{places_read, places_set, places_set_other}
+use Rattle.std.proofs.Common.{◌≡◌, ◌∷◌, ◌++◌, [], ◌∙◌, length, ap, sym, subst}
+use Rattle.resolvo_decide.specs.declared.candidate_counts.CandidateCounts.{CandidateCounts}
+use Rattle.resolvo_decide.specs.declared.clause_states.ClauseState.TheVariants.{Open}
+use Rattle.resolvo_decide.specs.declared.undecided_clauses.UndecidedClauses.{UndecidedClauses}
+use Rattle.resolvo_decide.specs.CandidateCounts.{number_at, Begins}
+use Rattle.resolvo_decide.proofs.FitLemmas.{begun_numbers, fits_widened}
 use Rattle.resolvo_decide.proofs.undecided_clauses.UndecidedClauses.add.Goals as goal
 
 pub returns-clause-added : goal.returns-clause-added
 returns-clause-added c =
-    let old = c.make_room.new.lists.items in
-    let v = c.args.parent.0 in
-    let room : v < length old = omega (arith, c.in_ok-make_room.ensures.long) in
-    let n = length c.args.self.now.states in
-    let was : List ℕ = places_at old v in
-    let many : c.len-position.result ≡ n = omega arith in
-    let is : c.push.new.self.items ≡ was ++ n ∷ [] = c.in_ok-push.ensures.items ∙ ap (λ k. c.index_mut.result.now.items ++ k ∷ []) many ∙ ap (λ (xs : List ℕ). xs ++ n ∷ []) (sym (places_read old v c.index_mut.result.now room c.index_mut.ensures.value)) in
+    let old = c.args.self.now in
+    let rest = c.list_next.ensures.rest in
+    let many : c.len.result ≡ length old.states = c.len.ensures ∙ ap (λ (n : UndecidedClauses). length n.states) rest in
     record {
-      states = c.in_ok-push-2.ensures.pushed;
-      counts = subst (λ k. Begins k c.args.self.now.counts c.begin.new.self) many c.in_ok-begin.ensures.begun;
-      seen = refl;
-      placed = subst (λ (xs : List ℕ). Contains xs n) (sym (places_set old v c.push.new.self room ∙ is)) (Contains-append_right was (n ∷ []) n (0, omega arith, refl));
-      kept = λ u i h. elim (places_set_other old v c.push.new.self u) [
-        | inl same ↦ subst (λ (xs : List ℕ). Contains xs i) (sym (same ∙ c.in_ok-make_room.ensures.same u)) h
-        | inr here ↦ subst (λ (xs : List ℕ). Contains xs i) (sym (ap (places_at _) here ∙ places_set old v c.push.new.self room ∙ is)) (Contains-append_left was (n ∷ []) i (subst (λ (xs : List ℕ). Contains xs i) (sym (c.in_ok-make_room.ensures.same u) ∙ ap (places_at old) here) h))
-      ];
+      states = c.in_ok-push.ensures.pushed ∙ ap (λ (n : UndecidedClauses). n.states ++ Open ∷ []) rest;
+      seen = ap (λ (n : UndecidedClauses). n.seen) rest;
+      placed = c.in_ok-list_next.ensures.placed;
+      kept = c.list_next.ensures.kept;
+      counts = subst (λ k. Begins k old.counts c.begin.new.self) many (subst (λ (cs : CandidateCounts). Begins c.len.result cs c.begin.new.self) (ap (λ (n : UndecidedClauses). n.counts) rest) c.begin.ensures.begun);
     }
+
+pub returns-in_err-list_next-clause-kept : goal.returns-in_err-list_next-clause-kept
+returns-in_err-list_next-clause-kept c =
+    let rest = c.list_next.ensures.rest in
+    fits_widened c.args.self.now c.list_next.new.self (ap (λ (n : UndecidedClauses). n.states) rest) (ap (λ (n : UndecidedClauses). n.seen.items) rest) c.list_next.ensures.kept
+    (λ i k number. ap (λ (n : UndecidedClauses). number_at n.counts.count_states.items i) (sym rest) ∙ number) (ap (λ (n : UndecidedClauses). n.counts.counts) rest) (ap (λ (n : UndecidedClauses). n.counts.occurrences) rest)
+
+pub returns-in_err-begin-clause-kept : goal.returns-in_err-begin-clause-kept
+returns-in_err-begin-clause-kept c =
+    let old = c.args.self.now in
+    let rest = c.list_next.ensures.rest in
+    let begun : Begins c.len.result old.counts c.begin.new.self = subst (λ (cs : CandidateCounts). Begins c.len.result cs c.begin.new.self) (ap (λ (n : UndecidedClauses). n.counts) rest) c.begin.ensures.begun in
+    fits_widened old _ (ap (λ (n : UndecidedClauses). n.states) rest) (ap (λ (n : UndecidedClauses). n.seen.items) rest) c.list_next.ensures.kept
+    (begun_numbers c.len.result old.counts c.begin.new.self begun) begun.counts begun.occurrences
+
+pub returns-in_err-push-clause-kept : goal.returns-in_err-push-clause-kept
+returns-in_err-push-clause-kept c =
+    let old = c.args.self.now in
+    let rest = c.list_next.ensures.rest in
+    let begun : Begins c.len.result old.counts c.begin.new.self = subst (λ (cs : CandidateCounts). Begins c.len.result cs c.begin.new.self) (ap (λ (n : UndecidedClauses). n.counts) rest) c.begin.ensures.begun in
+    fits_widened old _ (c.in_err-push.ensures.err ∙ ap (λ (n : UndecidedClauses). n.states) rest) (ap (λ (n : UndecidedClauses). n.seen.items) rest) c.list_next.ensures.kept
+    (begun_numbers c.len.result old.counts c.begin.new.self begun) begun.counts begun.occurrences

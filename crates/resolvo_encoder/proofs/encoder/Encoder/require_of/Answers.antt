@@ -75,7 +75,7 @@ pub returns-clause-built : goal.returns-clause-built
 returns-clause-built g c =
     let opened = c.in_ok-open_gate.ensures.opened in
     built_rest c.gate.new.self c.open_gate.new.self c.in_ok-gate.ensures.built opened.states.coding opened.states.grows
-    (digits_more (Kind.Gated c.args.solvable c.args.need.requirement) c.gate.new.self.coding c.open_gate.new.self.coding opened.states.kinds (λ name s place bit h. absurd cc)) opened.rest opened.needs (trail_on c.gate.new.self.coding c.open_gate.new.self.coding opened.states.trail)
+    (digits_more (Kind.Gated c.args.solvable c.args.need.requirement) c.gate.new.self.coding c.open_gate.new.self.coding opened.states.kinds (λ name s place bit h. absurd cc)) opened.rest opened.same_queue (trail_on c.gate.new.self.coding c.open_gate.new.self.coding opened.states.trail)
 
 pub returns-then-count-lt-GATED-clause-built : goal.returns-then-count-lt-GATED-clause-built
 returns-then-count-lt-GATED-clause-built g c =

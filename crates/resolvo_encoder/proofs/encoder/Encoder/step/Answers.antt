@@ -1,14 +1,12 @@
-use Rattle.std.proofs.Common.{◌≡◌, ℕ, ◌-◌, ◌<◌, ◌≤◌, Bool, List, length, sym, ◌∙◌, ap, subst, arith, refl}
-use Rattle.resolvo_store_core.specs.AtMostOne.{IsPrefixOf}
-use Rattle.resolvo_store_core.specs.declared.decision.Entry.{Entry}
+use Rattle.std.proofs.Common.{◌<◌, ◌≤◌, Bool, subst, arith, refl}
 use Rattle.resolvo_sat.specs.declared.propagate_and_learn.StepResult.{StepResult}
 use Rattle.resolvo_sat.specs.PropagateAndLearn.{weight_left}
 use Rattle.resolvo_sat.specs.RuleClauses.{IsExact}
 use Rattle.resolvo_state.specs.SolverState.{Advances}
 use Rattle.resolvo_encoder.specs.declared.encoder.Encoder.{Encoder}
 use Rattle.resolvo_encoder.specs.Progress.{IsChoice}
-use Rattle.resolvo_encoder.proofs.BuildLemmas.{built_back, built_rest, kept_from_one, seen_left}
-use Rattle.resolvo_encoder.proofs.StayLemmas.{digits_kept, step_goes, step_keeps, learnt_heavier, complete_gains, goes_then, needs_go, needs_keep}
+use Rattle.resolvo_encoder.proofs.BuildLemmas.{built_rest}
+use Rattle.resolvo_encoder.proofs.StayLemmas.{digits_kept, step_goes, step_keeps, learnt_heavier, complete_gains, goes_then}
 use Rattle.resolvo_encoder.proofs.Bases.{step_first, first_then}
 use Rattle.resolvo_encoder.proofs.encoder.Encoder.step.Goals as goal
 
@@ -21,7 +19,7 @@ pub choose_next-requires-clause-built : goal.choose_next-requires-clause-built
 choose_next-requires-clause-built g c =
     let step : Advances c.args.self.now.coding c.propagate_and_learn.new.self StepResult.Complete = subst (λ (q : StepResult). Advances c.args.self.now.coding c.propagate_and_learn.new.self q) c.in-Complete.is c.in_ok-refusal.ensures.advanced in
     let goes = step_goes c.args.self.now c.propagate_and_learn.new.self c.in_ok-refusal.field-0 c.requires.coding c.in_ok-refusal.ensures.advanced in
-    built_rest c.args.self.now (record c.args.self.now { coding = c.propagate_and_learn.new.self }) c.requires goes.coding goes.grows (digits_kept c.args.self.now (record c.args.self.now { coding = c.propagate_and_learn.new.self }) c.requires.coding goes) goes.rest refl (step.progress.extends.more, step.progress.extends.added)
+    built_rest c.args.self.now (record c.args.self.now { coding = c.propagate_and_learn.new.self }) c.requires goes.coding goes.grows (digits_kept c.args.self.now (record c.args.self.now { coding = c.propagate_and_learn.new.self }) c.requires.coding goes) goes.rest refl step.progress.extends.same.seen
 
 pub returns-in-Refused-clause-stays : goal.returns-in-Refused-clause-stays
 returns-in-Refused-clause-stays g c = λ p root lawful e.
@@ -31,7 +29,7 @@ returns-in-Refused-clause-stays g c = λ p root lawful e.
 pub returns-in-Learnt-clause-stays : goal.returns-in-Learnt-clause-stays
 returns-in-Learnt-clause-stays g c = λ p root lawful e.
     let exact : IsExact g.S.PartialEq.eq = record { one = g.met.S.Exact.exact; own = g.met.S.Eq.laws.refl } in
-    needs_keep (record c.args.self.now { coding = c.propagate_and_learn.new.self }) c.truncate.new.self g.S.PartialEq.eq exact p root lawful (step_keeps c.args.self.now c.propagate_and_learn.new.self g.S.PartialEq.eq exact p root lawful c.in_ok-refusal.field-0 c.in_ok-refusal.ensures.advanced e)
+    step_keeps c.args.self.now c.propagate_and_learn.new.self g.S.PartialEq.eq exact p root lawful c.in_ok-refusal.field-0 c.in_ok-refusal.ensures.advanced e
 
 pub returns-in-Refused-clause-goes_on : goal.returns-in-Refused-clause-goes_on
 returns-in-Refused-clause-goes_on g c =
@@ -39,9 +37,7 @@ returns-in-Refused-clause-goes_on g c =
 
 pub returns-in-Learnt-clause-goes_on : goal.returns-in-Learnt-clause-goes_on
 returns-in-Learnt-clause-goes_on g c =
-    let went : Encoder _ _ = record c.args.self.now { coding = c.propagate_and_learn.new.self } in
-    let goes = step_goes c.args.self.now c.propagate_and_learn.new.self c.in_ok-refusal.field-0 c.requires.coding c.in_ok-refusal.ensures.advanced in
-    goes_then c.args.self.now went (record went { needs = c.truncate.new.self }) goes (needs_go went c.truncate.new.self goes.coding)
+    step_goes c.args.self.now c.propagate_and_learn.new.self c.in_ok-refusal.field-0 c.requires.coding c.in_ok-refusal.ensures.advanced
 
 pub returns-in-Learnt-clause-step : goal.returns-in-Learnt-clause-step
 returns-in-Learnt-clause-step g c =
@@ -83,17 +79,13 @@ pub returns-in-Refused-clause-built : goal.returns-in-Refused-clause-built
 returns-in-Refused-clause-built g c =
     let step : Advances c.args.self.now.coding c.propagate_and_learn.new.self (StepResult.Refused c.in-Refused.refusal) = subst (λ (q : StepResult). Advances c.args.self.now.coding c.propagate_and_learn.new.self q) c.in-Refused.is c.in_ok-refusal.ensures.advanced in
     let goes = step_goes c.args.self.now c.propagate_and_learn.new.self c.in_ok-refusal.field-0 c.requires.coding c.in_ok-refusal.ensures.advanced in
-    built_rest c.args.self.now (record c.args.self.now { coding = c.propagate_and_learn.new.self }) c.requires goes.coding goes.grows (digits_kept c.args.self.now (record c.args.self.now { coding = c.propagate_and_learn.new.self }) c.requires.coding goes) goes.rest refl (step.progress.2.more, step.progress.2.added)
+    built_rest c.args.self.now (record c.args.self.now { coding = c.propagate_and_learn.new.self }) c.requires goes.coding goes.grows (digits_kept c.args.self.now (record c.args.self.now { coding = c.propagate_and_learn.new.self }) c.requires.coding goes) goes.rest refl step.progress.2.same.seen
 
 pub returns-in-Learnt-clause-built : goal.returns-in-Learnt-clause-built
 returns-in-Learnt-clause-built g c =
     let step : Advances c.args.self.now.coding c.propagate_and_learn.new.self (StepResult.Learnt c.in-Learnt.clause) = subst (λ (q : StepResult). Advances c.args.self.now.coding c.propagate_and_learn.new.self q) c.in-Learnt.is c.in_ok-refusal.ensures.advanced in
     let goes = step_goes c.args.self.now c.propagate_and_learn.new.self c.in_ok-refusal.field-0 c.requires.coding c.in_ok-refusal.ensures.advanced in
-    let trail = c.propagate_and_learn.new.self.search.tracker.trail in
-    let long : c.saturating_sub.result ≡ length trail - 1 = c.saturating_sub.ensures ∙ ap (λ (n : ℕ). n - 1) (ap length c.stack-entries.ensures.trail) in
-    built_back c.args.self.now c.propagate_and_learn.new.self c.truncate.new.self c.requires goes.coding goes.grows (digits_kept c.args.self.now (record c.args.self.now { coding = c.propagate_and_learn.new.self }) c.requires.coding goes) c.truncate.ensures.fits
-    (subst (λ (es : List Entry). IsPrefixOf es trail) (sym c.truncate.ensures.seen)
-    (seen_left c.args.self.now.needs.seen.items c.args.self.now.coding.search.tracker.trail trail c.saturating_sub.result c.requires.seen (kept_from_one c.args.self.now.coding.search.tracker.trail trail c.saturating_sub.result (λ k some low within. step.progress.kept k (omega arith) within))))
+    built_rest c.args.self.now (record c.args.self.now { coding = c.propagate_and_learn.new.self }) c.requires goes.coding goes.grows (digits_kept c.args.self.now (record c.args.self.now { coding = c.propagate_and_learn.new.self }) c.requires.coding goes) goes.rest refl step.progress.seen
 
 pub returns-in-Refused-clause-first : goal.returns-in-Refused-clause-first
 returns-in-Refused-clause-first g c = step_first c.args.self.now c.propagate_and_learn.new.self c.in_ok-refusal.field-0 c.in_ok-refusal.ensures.advanced

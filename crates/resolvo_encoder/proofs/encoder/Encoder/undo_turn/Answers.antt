@@ -1,13 +1,10 @@
-use Rattle.std.proofs.Common.{◌≡◌, ℕ, ◌-◌, ◌≤◌, List, length, sym, ◌∙◌, ap, subst, arith}
-use Rattle.resolvo_store_core.specs.AtMostOne.{IsPrefixOf}
-use Rattle.resolvo_store_core.specs.declared.decision.Entry.{Entry}
+use Rattle.std.proofs.Common.{◌≡◌, ℕ, ◌-◌, ◌≤◌, refl, ◌∙◌, ap, subst}
 use Rattle.std.specs.Prelude.{max}
 use Rattle.resolvo_sat.specs.Steps.{Undoes}
 use Rattle.resolvo_sat.specs.RuleClauses.{IsExact}
-use Rattle.resolvo_sat.proofs.Readiness.{entries_left}
 use Rattle.resolvo_encoder.specs.declared.encoder.Encoder.{Encoder}
-use Rattle.resolvo_encoder.proofs.BuildLemmas.{built_back, seen_left}
-use Rattle.resolvo_encoder.proofs.StayLemmas.{digits_kept, goes_then, needs_go, needs_keep, undo_goes, undo_keeps}
+use Rattle.resolvo_encoder.proofs.BuildLemmas.{built_rest}
+use Rattle.resolvo_encoder.proofs.StayLemmas.{digits_kept, undo_goes, undo_keeps}
 use Rattle.resolvo_encoder.proofs.Bases.{turn_undone}
 use Rattle.resolvo_encoder.proofs.encoder.Encoder.undo_turn.Goals as goal
 
@@ -21,15 +18,13 @@ the_level base_level below level is one = one ∙ ap (λ n. max n 1) is
 pub returns-clause-stays : goal.returns-clause-stays
 returns-clause-stays g c = λ p root lawful e.
     let exact : IsExact g.S.PartialEq.eq = record { one = g.met.S.Exact.exact; own = g.met.S.Eq.laws.refl } in
-    needs_keep (record c.args.self.now { coding = c.undo_until.new.self }) c.truncate.new.self g.S.PartialEq.eq exact p root lawful (undo_keeps c.args.self.now c.undo_until.new.self g.S.PartialEq.eq exact p root lawful c.max.result
-    (above_earlier c.args.self.now.coding.search.base_level c.saturating_sub-level.result c.max.result c.saturating_sub-level.ensures c.max.ensures) c.undo_until.ensures.undone c.undo_until.ensures.kept e)
+    undo_keeps c.args.self.now c.undo_until.new.self g.S.PartialEq.eq exact p root lawful c.max.result
+    (above_earlier c.args.self.now.coding.search.base_level c.saturating_sub-level.result c.max.result c.saturating_sub-level.ensures c.max.ensures) c.undo_until.ensures.undone c.undo_until.ensures.kept e
 
 pub returns-clause-goes_on : goal.returns-clause-goes_on
 returns-clause-goes_on g c =
-    let went : Encoder _ _ = record c.args.self.now { coding = c.undo_until.new.self } in
-    let goes = undo_goes c.args.self.now c.undo_until.new.self c.max.result
-    (above_earlier c.args.self.now.coding.search.base_level c.saturating_sub-level.result c.max.result c.saturating_sub-level.ensures c.max.ensures) c.undo_until.ensures.undone c.undo_until.ensures.kept in
-    goes_then c.args.self.now went (record went { needs = c.truncate.new.self }) goes (needs_go went c.truncate.new.self goes.coding)
+    undo_goes c.args.self.now c.undo_until.new.self c.max.result
+    (above_earlier c.args.self.now.coding.search.base_level c.saturating_sub-level.result c.max.result c.saturating_sub-level.ensures c.max.ensures) c.undo_until.ensures.undone c.undo_until.ensures.kept
 
 pub returns-clause-undone : goal.returns-clause-undone
 returns-clause-undone g c =
@@ -38,12 +33,9 @@ returns-clause-undone g c =
 
 pub returns-clause-built : goal.returns-clause-built
 returns-clause-built g c =
+    let went : Encoder _ _ = record c.args.self.now { coding = c.undo_until.new.self } in
     let goes = returns-clause-goes_on g c in
-    let trail = c.undo_until.new.self.search.tracker.trail in
-    built_back c.args.self.now c.undo_until.new.self c.truncate.new.self c.requires goes.coding goes.grows (digits_kept c.args.self.now _ c.requires.coding goes) c.truncate.ensures.fits
-    (subst (λ (es : List Entry). IsPrefixOf es trail) (sym c.truncate.ensures.seen)
-    (seen_left c.args.self.now.needs.seen.items c.args.self.now.coding.search.tracker.trail trail _ c.requires.seen
-    (λ k low within. entries_left c.args.self.now.coding.search c.undo_until.new.self.search c.max.result k c.undo_until.ensures.undone (omega (arith, ap length c.stack-kept.ensures.trail)))))
+    built_rest c.args.self.now went c.requires goes.coding goes.grows (digits_kept c.args.self.now went c.requires.coding goes) goes.rest refl c.undo_until.ensures.undone.same.seen
 
 pub returns-clause-turn : goal.returns-clause-turn
-returns-clause-turn g c = turn_undone c.args.self.now (record c.args.self.now { coding = c.undo_until.new.self; needs = c.truncate.new.self }) (returns-clause-goes_on g c) (returns-clause-undone g c)
+returns-clause-turn g c = turn_undone c.args.self.now (record c.args.self.now { coding = c.undo_until.new.self }) (returns-clause-goes_on g c) (returns-clause-undone g c)

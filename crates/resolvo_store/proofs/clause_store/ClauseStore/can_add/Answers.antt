@@ -11,7 +11,7 @@ pub returns : goal.returns
 returns g c =
     let score = g.N.Scores.ScoreMap.score_of in
     let in_it = c.self.inside in
-    let k : Kept _ _ = record { lists = in_it.lists; clauses = in_it.clauses.items; watched = in_it.watched.items; watches = in_it.watches; trail = in_it.tracker.trail; needs = in_it.queue; scores = in_it.scores } in
+    let k : Kept _ _ = record { lists = in_it.lists; clauses = in_it.clauses.items; watched = in_it.watched.items; watches = in_it.watches; trail = in_it.tracker.trail; needs = in_it.queue.registered.items; scores = in_it.scores } in
     let s = plain score k in
     let own : is_own_in_range c.args.clause.now ≡ true = sym c.is_in_range.ensures ∙ c.if-not-is_in_range.false in
     let there : lists_exist (has_condition s) (has_candidates_for s) (has_learnt_in s) c.args.clause.now ≡ true = sym (lists_plain score k c.args.clause.now) ∙ sym c.has_lists.ensures ∙ c.if-not-has_lists.false in

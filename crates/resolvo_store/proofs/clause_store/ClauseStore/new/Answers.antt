@@ -2,6 +2,7 @@ use Rattle.std.proofs.Common.{◌≡◌, ◌∷◌, ◌++◌, [], List, Option, 
 use Rattle.resolvo_store_core.specs.declared.watched_literals.WatchedLiterals.{WatchedLiterals}
 use Rattle.resolvo_store_core.specs.Watches.{watchers, IsWatched}
 use Rattle.resolvo_store_core.proofs.Watched.{unwatched_well}
+use Rattle.resolvo_store.proofs.QueueLemmas.{queue_new}
 use Rattle.resolvo_store.proofs.clause_store.ClauseStore.new.Goals as goal
 
 pub invariant_of-result : goal.invariant_of-result
@@ -11,4 +12,4 @@ invariant_of-result g c =
     let b = c.in_ok-push-2.ensures.len in
     let d = c.new-clauses.ensures.len in
     let e = c.new-watched.ensures.len in
-    (subst (λ (ps : List (Option WatchedLiterals)). IsWatched ps (watchers c.new-2.result)) (sym none) (unwatched_well [] (watchers c.new-2.result) c.new-2.ensures.fits), omega arith, omega arith)
+    (subst (λ (ps : List (Option WatchedLiterals)). IsWatched ps (watchers c.new-2.result)) (sym none) (unwatched_well [] (watchers c.new-2.result) c.new-2.ensures.fits), omega arith, omega arith, queue_new _ _ (g.N.Scores.ScoreMap.score_of c.new-5.result) c.new-4.result c.new-4.ensures c.new-5.ensures)

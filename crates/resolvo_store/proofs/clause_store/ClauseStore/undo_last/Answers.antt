@@ -3,6 +3,7 @@ use Rattle.resolvo_store.specs.Stored.{Kept, plain, Like}
 use Rattle.resolvo_store.specs.Changes.{all_but_last, last_undone, undone}
 use Rattle.resolvo_store.proofs.Plain.{trail_like}
 use Rattle.resolvo_store.proofs.Undone.{all_but_last_is, last_undone_is}
+use Rattle.resolvo_store_core.proofs.Trails.{seen_popped}
 use Rattle.resolvo_store.proofs.clause_store.ClauseStore.undo_last.Goals as goal
 
 pub returns-clause-answer : goal.returns-clause-answer
@@ -15,7 +16,12 @@ pub returns-clause-store : goal.returns-clause-store
 returns-clause-store g c =
     let score = g.N.Scores.ScoreMap.score_of in
     let in_it = c.self.inside in
-    let k : Kept _ _ = record { lists = in_it.lists; clauses = in_it.clauses.items; watched = in_it.watched.items; watches = in_it.watches; trail = in_it.tracker.trail; needs = in_it.queue; scores = in_it.scores } in
+    let k : Kept _ _ = record { lists = in_it.lists; clauses = in_it.clauses.items; watched = in_it.watched.items; watches = in_it.watches; trail = in_it.tracker.trail; needs = in_it.queue.registered.items; scores = in_it.scores } in
     let popped = c.undo_last.ensures.popped in
     let left : c.undo_last.new.self.trail ≡ all_but_last in_it.tracker.trail = sym (ap all_but_last popped.trail ∙ all_but_last_is c.undo_last.new.self.trail (record { decision = c.undo_last.result.0; level = popped.level })) in
     subst (λ o. Like (plain score (record k { trail = c.undo_last.new.self.trail })) (undone (plain score o))) c.self.view_is (trail_like score k c.undo_last.new.self.trail _ left)
+
+pub invariant_of-self : goal.invariant_of-self
+invariant_of-self g c =
+    let inv = c.self.invariant in
+    (inv.0, inv.1, inv.2, record { sound = inv.3.sound; seen = seen_popped c.self.inside.tracker c.undo_last.new.self c.undo_last.result.0 c.undo_last.ensures.popped c.self.inside.queue.undecided.seen.items inv.3.seen; hot = inv.3.hot })

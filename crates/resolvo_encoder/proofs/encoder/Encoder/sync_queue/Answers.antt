@@ -1,0 +1,36 @@
+use Rattle.std.proofs.Common.{◌≡◌, ◌∙◌, ◌≤◌, ap, length, refl, sym, subst}
+use Rattle.resolvo_store_core.specs.Trail.{IsSeenOf, Tracked}
+use Rattle.resolvo_decide.specs.Needs.{literals_in}
+use Rattle.resolvo_decide.specs.Queue.{needs_of, IsSound, IsSynced}
+use Rattle.resolvo_decide.specs.declared.decide_queue.DecideQueue.{DecideQueue}
+use Rattle.resolvo_encoder.specs.declared.encoder.Encoder.{Encoder}
+use Rattle.resolvo_encoder.specs.Steps.{IsBuilt}
+use Rattle.resolvo_encoder.proofs.BuildLemmas.{built_synced}
+use Rattle.resolvo_encoder.proofs.encoder.Encoder.sync_queue.Goals as goal
+
+pub returns-clause-syncs : goal.returns-clause-syncs
+returns-clause-syncs g c =
+    let e = c.args.self.now in
+    record {
+      floor = length e.coding.search.tracker.trail;
+      rest = ap (λ (t : Tracked). record e { queue = c.set_hot_bound.new.self; coding = record e.coding { search = record e.coding.search { tracker = t } } }) c.sync.ensures.trail;
+      queue = ap needs_of c.set_hot_bound.ensures ∙ ap needs_of c.sync.ensures.rest;
+    }
+
+pub returns-clause-built : goal.returns-clause-built
+returns-clause-built g c =
+    let e = c.args.self.now in
+    let q = c.set_hot_bound.new.self in
+    let sound = subst (λ (r : DecideQueue). IsSound (literals_in e.lists) r) (sym c.set_hot_bound.ensures) (c.sync.ensures.sound (literals_in e.lists) c.requires.queue) in
+    let seen = subst (λ (r : DecideQueue). IsSeenOf c.sync.new.trail r.undecided.seen.items) (sym c.set_hot_bound.ensures) c.sync.ensures.seen in
+    let needs = ap needs_of c.set_hot_bound.ensures ∙ ap needs_of c.sync.ensures.rest in
+    subst (λ (t : Tracked). IsBuilt (record e { queue = q; coding = record e.coding { search = record e.coding.search { tracker = t } } })) (sym c.sync.ensures.trail)
+    (built_synced e q (length e.coding.search.tracker.trail) c.requires needs sound (subst (λ (t : Tracked). IsSeenOf t q.undecided.seen.items) c.sync.ensures.trail seen))
+
+pub returns-clause-synced : goal.returns-clause-synced
+returns-clause-synced g c =
+    let done = c.in_ok-sync.ensures.synced in
+    subst (λ (q : DecideQueue). IsSynced q c.sync.new.trail.trail) (sym c.set_hot_bound.ensures) (record { seen = done.seen; once = done.once })
+
+pub returns-clause-hot : goal.returns-clause-hot
+returns-clause-hot g c = subst (λ (q : DecideQueue). (name : g.N) → g.C.ScoreMap.score_of c.args.scores.now.map name ≤ q.most) (sym c.set_hot_bound.ensures) c.most.ensures.bounded
