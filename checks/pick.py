@@ -1,5 +1,5 @@
 #!/usr/bin/env python3
-"""Compares the pick over the kept states of need clauses with the plain scan's, over random calls.
+"""Compares the pick of the decision queue with the plain scan's, over random calls.
 
 Usage: checks/pick.py [RT]     (default: `rt`)
 `rt try` builds checks/pick/main.rt.txt without proofs in a copy of the repository. In each of 599 runs it adds needs with candidates of
