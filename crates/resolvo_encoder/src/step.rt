@@ -1,5 +1,5 @@
 //! The steps of the search over the encoding: propagate, learn, decide.
-ghost use Rattle.std.specs.Prelude.{◌≡◌, ◌-◌, max, IfOk, OnOk, IsErrOf, IsOkUnless};
+ghost use Rattle.std.specs.Prelude.{◌-◌, max, IfOk, OnOk, IsErrOf, IsOkUnless};
 ghost use Rattle.resolvo_pool_core.specs.declared.want.Want.TheVariants.{Memory, Ids};
 ghost use Rattle.resolvo_decide.specs.Queue.{IsSynced, IsHotBound};
 ghost use Rattle.resolvo_sat.specs.Steps.{Undoes};

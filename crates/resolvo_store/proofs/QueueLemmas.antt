@@ -2,6 +2,7 @@
 use Rattle.std.proofs.Common.{◌≡◌, ℕ, ◌+◌, ◌*◌, ◌/◌, ◌<◌, ◌≤◌, ◌⊎◌, inl, inr, Bool, true, false, List, [], length, max, cond, Option, Some, None, Result, Ok, Err, OnOk, OnErr, Unit, Vec, Global, option_map, not, is_some, refl, sym, ◌∙◌, ap, subst, arith, eqb-true, eq-eqb}
 use Rattle.std.specs.Prelude.{◌==◌, nat_lt, IfOk}
 use Rattle.std.proofs.lemmas.Bool.{and_parts, both_ways, cases_Bool, ltb-false}
+use Rattle.std.proofs.lemmas.List.{append-nil}
 use Rattle.std.proofs.lemmas.Nat.{mul-le, div_below}
 use Rattle.resolvo_pool_core.specs.declared.id.DenseId.{DenseId}
 use Rattle.resolvo_pool_core.specs.declared.id.DisjunctionTag.{DisjunctionTag}
@@ -24,7 +25,7 @@ use Rattle.resolvo_store_core.specs.declared.lists.Disjunction.{Disjunction}
 use Rattle.resolvo_store_core.specs.declared.lists.FixedLists.{FixedLists}
 use Rattle.resolvo_store_core.proofs.Trails.{seen_prefix, seen_pushed}
 use Rattle.resolvo_decide.specs.Needs.{literals_in, Fits}
-use Rattle.resolvo_decide.specs.Queue.{needs_of, IsNew, IsSound}
+use Rattle.resolvo_decide.specs.Queue.{needs_of, IsNew, IsSound, IsSynced, KeepsSound}
 use Rattle.resolvo_decide.specs.declared.decide_queue.DecideQueue.{DecideQueue}
 use Rattle.resolvo_decide.proofs.FitLemmas.{fits_more, fits_none}
 use Rattle.resolvo_store.specs.Stored.{Kept, plain, IsQueueOf}
@@ -135,3 +136,37 @@ not_above p h = go (nat_lt 1000000 p) refl h
     go : (b : Bool) → nat_lt 1000000 p ≡ b → not b ≡ true → p ≤ 1000000
     go true is e = absurd (both_ways false refl e)
     go false is e = ltb-false 1000000 p is
+
+-- ---- the queue itself
+
+-- a clause was registered, or refused
+pub queue_registered : {N : Type 0} (lists : FixedLists N) (t : Tracked) (score : N → ℕ) (old new : DecideQueue) → KeepsSound old new → new.undecided.seen ≡ old.undecided.seen → new.most ≡ old.most → IsQueueOf lists t score old → IsQueueOf lists t score new
+queue_registered lists t score old new sound seen most h = record {
+  sound = sound (literals_in lists) h.sound;
+  seen = subst (λ (es : Vec Entry Global). IsSeenOf t es.items) (sym seen) h.seen;
+  hot = λ n. subst (λ (m : ℕ). score n ≤ m) (sym most) (h.hot n);
+}
+
+-- the trail was seen, or a part of it
+pub queue_synced : {N : Type 0} (lists : FixedLists N) (before after : Tracked) (score : N → ℕ) (old new : DecideQueue) → KeepsSound old new → IsSeenOf after new.undecided.seen.items → new ≡ record old { undecided = new.undecided } → IsQueueOf lists before score old → IsQueueOf lists after score new
+queue_synced lists before after score old new sound seen rest h = record {
+  sound = sound (literals_in lists) h.sound;
+  seen = seen;
+  hot = λ n. subst (λ (q : DecideQueue). score n ≤ q.most) (sym rest) (h.hot n);
+}
+
+-- a decision was picked, or refused
+pub queue_picked : {N : Type 0} (lists : FixedLists N) (t : Tracked) (score : N → ℕ) (old new : DecideQueue) → IsSound (literals_in lists) new → IsSynced new t.trail → new ≡ record old { undecided = new.undecided } → IsQueueOf lists t score old → IsQueueOf lists t score new
+queue_picked lists t score old new sound synced rest h = record {
+  sound = sound;
+  seen = seen_prefix t new.undecided.seen.items ([], sym synced.seen ∙ sym (append-nil new.undecided.seen.items));
+  hot = λ n. subst (λ (q : DecideQueue). score n ≤ q.most) (sym rest) (h.hot n);
+}
+
+-- a package was marked as hot, and its score raised
+pub queue_hot : {N : Type 0} (lists : FixedLists N) (t : Tracked) (before after : N → ℕ) (old new : DecideQueue) (most : ℕ) → new ≡ record old { most = most } → ((n : N) → after n ≤ most) → IsQueueOf lists t before old → IsQueueOf lists t after new
+queue_hot {N} lists t before after old new most is below h = subst (λ (q : DecideQueue). IsQueueOf lists t after q) (sym is) (record { sound = h.sound; seen = h.seen; hot = below })
+
+-- it was set whether scores are bumped as usual
+pub queue_standard : {N : Type 0} (lists : FixedLists N) (t : Tracked) (score : N → ℕ) (old new : DecideQueue) (is_standard : Bool) → new ≡ record old { is_standard = is_standard } → IsQueueOf lists t score old → IsQueueOf lists t score new
+queue_standard lists t score old new is_standard is h = subst (λ (q : DecideQueue). IsQueueOf lists t score q) (sym is) (record { sound = h.sound; seen = h.seen; hot = h.hot })

@@ -1,4 +1,4 @@
-use Rattle.std.proofs.Common.{◌≡◌, ◌∙◌, OnOk, length, arith, ap, refl, subst}
+use Rattle.std.proofs.Common.{◌≡◌, OnOk, length, arith, ap, refl, subst}
 use Rattle.std.specs.Prelude.{slice_set}
 use Rattle.resolvo_store_core.specs.Clauses.{candidate_literals}
 use Rattle.resolvo_store_core.specs.Values.{value_at}

@@ -1,4 +1,4 @@
-use Rattle.std.proofs.Common.{◌≡◌, ◌≤◌, List, arith, sym, ◌∙◌, ap, subst}
+use Rattle.std.proofs.Common.{List, arith, sym, ◌∙◌, ap, subst}
 use Rattle.resolvo_store_core.specs.Pick.{pick}
 use Rattle.resolvo_store_core.specs.Values.{value_at}
 use Rattle.resolvo_store_core.specs.declared.pick.NeedClause.{NeedClause}
@@ -28,3 +28,9 @@ returns-clause-sound g c = subst (λ (qs : List NeedClause). Fits (literals_in c
 
 pub returns-clause-synced : goal.returns-clause-synced
 returns-clause-synced g c = record { seen = ap (λ es. es.items) c.note_count.ensures.seen ∙ ap (λ es. es.items) c.pick-next.ensures.seen ∙ c.requires.synced.seen; once = c.requires.synced.once }
+
+pub returns-in_err-note_count-clause-sound : goal.returns-in_err-note_count-clause-sound
+returns-in_err-note_count-clause-sound g c = subst (λ (qs : List NeedClause). Fits (literals_in c.args.lists.now) c.note_count.new.self qs) c.as_slice-needs.ensures.value c.note_count.ensures.fits
+
+pub returns-in_err-note_count-clause-synced : goal.returns-in_err-note_count-clause-synced
+returns-in_err-note_count-clause-synced g c = record { seen = ap (λ es. es.items) c.note_count.ensures.seen ∙ ap (λ es. es.items) c.pick-next.ensures.seen ∙ c.requires.synced.seen; once = c.requires.synced.once }

@@ -20,3 +20,9 @@ returns-clause-sound c = λ literals h. c.sync.ensures.fits literals (needs_of c
 
 pub returns-clause-seen : goal.returns-clause-seen
 returns-clause-seen c = seen_prefix c.take_sync_floor-floor.new.self c.sync.new.self.seen.items (subst (λ (es : List Entry). IsPrefixOf c.sync.new.self.seen.items es) c.stack.ensures.trail c.sync.ensures.seen)
+
+pub returns-in_err-sync-clause-sound : goal.returns-in_err-sync-clause-sound
+returns-in_err-sync-clause-sound c = λ literals h. c.sync.ensures.fits literals (needs_of c.args.self.now) (c.truncate.ensures.fits literals (needs_of c.args.self.now) h)
+
+pub returns-in_err-sync-clause-seen : goal.returns-in_err-sync-clause-seen
+returns-in_err-sync-clause-seen c = seen_prefix c.take_sync_floor-floor.new.self c.sync.new.self.seen.items (subst (λ (es : List Entry). IsPrefixOf c.sync.new.self.seen.items es) c.stack.ensures.trail c.sync.ensures.seen)

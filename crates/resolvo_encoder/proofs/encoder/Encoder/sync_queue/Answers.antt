@@ -1,9 +1,8 @@
-use Rattle.std.proofs.Common.{◌≡◌, ◌∙◌, ◌≤◌, ap, length, refl, sym, subst}
+use Rattle.std.proofs.Common.{◌∙◌, ◌≤◌, ap, length, sym, subst}
 use Rattle.resolvo_store_core.specs.Trail.{IsSeenOf, Tracked}
 use Rattle.resolvo_decide.specs.Needs.{literals_in}
 use Rattle.resolvo_decide.specs.Queue.{needs_of, IsSound, IsSynced}
 use Rattle.resolvo_decide.specs.declared.decide_queue.DecideQueue.{DecideQueue}
-use Rattle.resolvo_encoder.specs.declared.encoder.Encoder.{Encoder}
 use Rattle.resolvo_encoder.specs.Steps.{IsBuilt}
 use Rattle.resolvo_encoder.proofs.BuildLemmas.{built_synced}
 use Rattle.resolvo_encoder.proofs.encoder.Encoder.sync_queue.Goals as goal

@@ -1,6 +1,5 @@
 use Rattle.std.proofs.Common.{◌∙◌, inl, inr, length, refl, ap}
 use Rattle.std.specs.Prelude.{min}
-use Rattle.resolvo_store_core.specs.declared.decision.Entry.{Entry}
 use Rattle.resolvo_sat.proofs.StepLemmas.{state_undone}
 use Rattle.resolvo_sat.proofs.state.SatState.undo_until.Goals as goal
 

@@ -1,6 +1,7 @@
-use Rattle.std.proofs.Common.{List, subst}
+use Rattle.std.proofs.Common.{◌≡◌, List, true, sym, subst}
 use Rattle.resolvo_store_core.specs.declared.lists.Candidate.{Candidate}
 use Rattle.resolvo_store.specs.Stored.{Kept, plain, Like}
+use Rattle.resolvo_store.specs.Calls.{can_fix}
 use Rattle.resolvo_store.specs.Changes.{candidates_from, with_candidates}
 use Rattle.resolvo_store.proofs.Plain.{on_ok, candidates_like}
 use Rattle.resolvo_store.proofs.QueueLemmas.{sound_tried, can_fix_fresh}
