@@ -1,7 +1,7 @@
 //! The decision queue: the registered need clauses, with what is known of them under the trail that
 //! was seen last. `sync` brings it up to date; then `next_decision` is the pick over all clauses. It
 //! looks at those alone that may be undecided, and ends where no later clause can beat the best one.
-ghost use Rattle.std.specs.Prelude.{◌≡◌, ◌≤◌, ◌++◌, ◌∷◌, IfOk, OnOk, OnErr, IsOkUnless, length, max};
+ghost use Rattle.std.specs.Prelude.{◌≡◌, ◌≤◌, ◌++◌, ◌∷◌, [], IfOk, OnOk, OnErr, IsOkUnless, length, max};
 ghost use Rattle.resolvo_pool_core.specs.declared.want.Want.TheVariants.{Memory};
 ghost use Rattle.resolvo_store_core.specs.Pick.{first_broken};
 ghost use Rattle.resolvo_store_core.specs.Trail.{IsSeenOf};
@@ -156,11 +156,8 @@ impl DecideQueue {
     fn bound(&self) -> u64
         ensures { self.now.most ≤ result }
     {
-        if self.is_standard {
-            self.most
-        } else {
-            u64::MAX
-        }
+        let most = self.most;
+        if self.is_standard { most } else { u64::MAX }
     }
 
     /// The first clause whose literals are all false.
