@@ -168,10 +168,10 @@ seen_pushed t e seen (rest, is) = (rest ++ e ∷ [], ap (λ (xs : List Entry). x
 prefix_take : {X : Type 0} (n : ℕ) (xs ys : List X) → IsPrefixOf xs ys → IsPrefixOf (take n xs) (take n ys)
 prefix_take {X} n xs ys (rest, is) = go n xs ys is
   where
-    go : (m : ℕ) (as bs : List X) → bs ≡ as ++ rest → IsPrefixOf (take m as) (take m bs)
-    go zero as bs e = ([], refl)
-    go (suc m) [] bs e = (take (suc m) bs, refl)
-    go (suc m) (a ∷ as) bs e = let (more, at) = go m as (as ++ rest) refl in (more, ap (take (suc m)) e ∙ ap (λ (cs : List X). a ∷ cs) at)
+    go : (m : ℕ) (us vs : List X) → vs ≡ us ++ rest → IsPrefixOf (take m us) (take m vs)
+    go zero us vs e = ([], refl)
+    go (suc m) [] vs e = (take (suc m) vs, refl)
+    go (suc m) (u ∷ us) vs e = let (more, at) = go m us (us ++ rest) refl in (more, ap (take (suc m)) e ∙ ap (λ (ws : List X). u ∷ ws) at)
 
 -- after entries were taken away from its end
 pub seen_taken : (old new : Tracked) (undone : List Entry) → old.trail ≡ new.trail ++ undone → new.floor ≡ min old.floor (length new.trail) → KeepsSeen old new
