@@ -1,4 +1,4 @@
-use Rattle.std.proofs.Common.{◌≡◌, ◌∷◌, ◌++◌, [], ◌∙◌, length, ap, sym, subst}
+use Rattle.std.proofs.Common.{◌≡◌, ◌∷◌, ◌++◌, [], ◌∙◌, OnErr, Ok, Err, Result, length, ap, sym, subst}
 use Rattle.resolvo_decide.specs.declared.candidate_counts.CandidateCounts.{CandidateCounts}
 use Rattle.resolvo_decide.specs.declared.clause_states.ClauseState.TheVariants.{Open}
 use Rattle.resolvo_decide.specs.declared.undecided_clauses.UndecidedClauses.{UndecidedClauses}
@@ -19,24 +19,29 @@ returns-clause-added c =
       counts = subst (λ k. Begins k old.counts c.begin.new.self) many (subst (λ (cs : CandidateCounts). Begins c.len.result cs c.begin.new.self) (ap (λ (n : UndecidedClauses). n.counts) rest) c.begin.ensures.begun);
     }
 
+-- a fact holds where there is an error, too
+on_err : {T E P : Type 0} (r : Result T E) → P → OnErr r P
+on_err (Ok x) p = tt
+on_err (Err e) p = p
+
 pub returns-in_err-list_next-clause-kept : goal.returns-in_err-list_next-clause-kept
 returns-in_err-list_next-clause-kept c =
     let rest = c.list_next.ensures.rest in
-    fits_widened c.args.self.now c.list_next.new.self (ap (λ (n : UndecidedClauses). n.states) rest) (ap (λ (n : UndecidedClauses). n.seen.items) rest) c.list_next.ensures.kept
-    (λ i k number. ap (λ (n : UndecidedClauses). number_at n.counts.count_states.items i) (sym rest) ∙ number) (ap (λ (n : UndecidedClauses). n.counts.counts) rest) (ap (λ (n : UndecidedClauses). n.counts.occurrences) rest)
+    on_err _ (fits_widened c.args.self.now c.list_next.new.self (ap (λ (n : UndecidedClauses). n.states) rest) (ap (λ (n : UndecidedClauses). n.seen.items) rest) c.list_next.ensures.kept
+    (λ i k number. ap (λ (n : UndecidedClauses). number_at n.counts.count_states.items i) (sym rest) ∙ number) (ap (λ (n : UndecidedClauses). n.counts.counts) rest) (ap (λ (n : UndecidedClauses). n.counts.occurrences) rest))
 
 pub returns-in_err-begin-clause-kept : goal.returns-in_err-begin-clause-kept
 returns-in_err-begin-clause-kept c =
     let old = c.args.self.now in
     let rest = c.list_next.ensures.rest in
     let begun : Begins c.len.result old.counts c.begin.new.self = subst (λ (cs : CandidateCounts). Begins c.len.result cs c.begin.new.self) (ap (λ (n : UndecidedClauses). n.counts) rest) c.begin.ensures.begun in
-    fits_widened old _ (ap (λ (n : UndecidedClauses). n.states) rest) (ap (λ (n : UndecidedClauses). n.seen.items) rest) c.list_next.ensures.kept
-    (begun_numbers c.len.result old.counts c.begin.new.self begun) begun.counts begun.occurrences
+    on_err _ (fits_widened old _ (ap (λ (n : UndecidedClauses). n.states) rest) (ap (λ (n : UndecidedClauses). n.seen.items) rest) c.list_next.ensures.kept
+    (begun_numbers c.len.result old.counts c.begin.new.self begun) begun.counts begun.occurrences)
 
 pub returns-in_err-push-clause-kept : goal.returns-in_err-push-clause-kept
 returns-in_err-push-clause-kept c =
     let old = c.args.self.now in
     let rest = c.list_next.ensures.rest in
     let begun : Begins c.len.result old.counts c.begin.new.self = subst (λ (cs : CandidateCounts). Begins c.len.result cs c.begin.new.self) (ap (λ (n : UndecidedClauses). n.counts) rest) c.begin.ensures.begun in
-    fits_widened old _ (c.in_err-push.ensures.err ∙ ap (λ (n : UndecidedClauses). n.states) rest) (ap (λ (n : UndecidedClauses). n.seen.items) rest) c.list_next.ensures.kept
-    (begun_numbers c.len.result old.counts c.begin.new.self begun) begun.counts begun.occurrences
+    on_err _ (fits_widened old _ (c.in_err-push.ensures.err ∙ ap (λ (n : UndecidedClauses). n.states) rest) (ap (λ (n : UndecidedClauses). n.seen.items) rest) c.list_next.ensures.kept
+    (begun_numbers c.len.result old.counts c.begin.new.self begun) begun.counts begun.occurrences)

@@ -33,5 +33,5 @@ returns-in_err-push-clause-kept c =
     let old = c.make_room.new.lists.items in
     let v = c.args.parent.0 in
     let room : v < length old = omega (arith, c.in_ok-make_room.ensures.long) in
-    let is = c.in_err-push.ensures.items ∙ sym (places_read old v c.index_mut.result.now room c.index_mut.ensures.value) in
+    let is : c.push.new.self.items ≡ places_at old v = c.in_err-push.ensures.items ∙ sym (places_read old v c.index_mut.result.now room c.index_mut.ensures.value) in
     λ u i h. places_more old v c.push.new.self room (λ j there. subst (λ (xs : List ℕ). Contains xs j) (sym is) there) u i (subst (λ (xs : List ℕ). Contains xs i) (sym (c.make_room.ensures.same u)) h)
