@@ -554,7 +554,7 @@ module _ {N S : Type 0} (same : S → S → Bool) (exact : IsExact same) (p : Pa
     listed = λ r c h. absurd (contains_none c (subst (λ o. Contains (items_or_none o) c) (b.lists.candidates r) h));
     offered = λ r s h m. absurd (both_ways false refl (sym (ap is_some (b.lists.candidates r)) ∙ h));
     fixed = λ r h. absurd (elim h [ inl (parent, need, case, (n, at), is) ↦ no_rule n (Rule.needs parent need case) at | inr (n, at) ↦ no_rule n (Rule.shared r) at ]);
-    queued = λ q h. absurd (contains_none q (subst (λ qs. Contains qs q) b.queue h));
+    queued = λ q h. absurd (contains_none q (subst (λ qs. Contains qs q) b.queue.registered h));
     asked = λ n r h a. absurd (no_rule n r h);
     gates = λ r v at. absurd (none_some v (sym (b.gates r) ∙ at));
     within = (let none : e.encoded ≡ 0 = b.encoded in omega arith);

@@ -28,7 +28,7 @@ returns-clause-goes_on g c = choice_goes c.args.self.now c.choose.new.self c.arg
 pub returns-clause-built : goal.returns-clause-built
 returns-clause-built g c =
     let goes = choice_goes c.args.self.now c.choose.new.self c.args.variable _ c.in_ok-choose.ensures.chosen c.in_ok-choose.ensures.kept in
-    built_rest c.args.self.now (record c.args.self.now { coding = c.choose.new.self }) c.requires.built goes.coding goes.grows (digits_kept c.args.self.now (record c.args.self.now { coding = c.choose.new.self }) c.requires.built.coding goes) goes.rest refl (_ ∷ [], c.in_ok-choose.ensures.chosen.pushed)
+    built_rest c.args.self.now (record c.args.self.now { coding = c.choose.new.self }) c.requires.built goes.coding goes.grows (digits_kept c.args.self.now (record c.args.self.now { coding = c.choose.new.self }) c.requires.built.coding goes) goes.rest refl c.in_ok-choose.ensures.chosen.same.seen
 
 pub returns-clause-turn : goal.returns-clause-turn
 returns-clause-turn g c = turn_chosen c.args.self.now (record c.args.self.now { coding = c.choose.new.self }) c.args.variable _ (returns-clause-goes_on g c) c.in_ok-choose.ensures.chosen c.requires.above

@@ -11,8 +11,8 @@ use Rattle.resolvo_encoder.proofs.DecideLemmas.{trail_values}
 use Rattle.resolvo_encoder.proofs.UndecidedLemmas.{leaves_undecided}
 use Rattle.resolvo_encoder.proofs.encoder.Encoder.next_decision.Goals as goal
 
-pub next_decision-next-requires-clause-fewest : goal.next_decision-next-requires-clause-fewest
-next_decision-next-requires-clause-fewest g c =
+pub next_decision-requires-clause-fewest : goal.next_decision-requires-clause-fewest
+next_decision-requires-clause-fewest g c =
     leaves_undecided c.sync_queue.new.self c.in_ok-sync_queue.ensures.built (subst (λ (x : Encoder g.N g.S). AreQuiet x) (sym c.in_ok-sync_queue.ensures.syncs.rest) c.requires.quiet)
 
 pub returns-clause-next : goal.returns-clause-next
@@ -20,7 +20,7 @@ returns-clause-next g c =
     let e = c.sync_queue.new.self in
     let s = e.coding.search in
     let pick = c.in_ok-next.ensures.picked in
-    let needs : needs_of c.next_decision-next.new.self ≡ needs_of e.queue = ap needs_of c.next_decision-next.ensures.rest in
+    let needs : needs_of c.next_decision.new.self ≡ needs_of e.queue = ap needs_of c.next_decision.ensures.rest in
     record {
       values = value_at pick.values;
       agree = trail_values (count_of s) (clauses_of s) s.tracker.trail pick.values c.in_ok-sync_queue.ensures.built.coding.ready.state.trail pick.agree;
@@ -30,16 +30,16 @@ returns-clause-next g c =
 pub returns-clause-built : goal.returns-clause-built
 returns-clause-built g c =
     let e = c.sync_queue.new.self in
-    let q = c.next_decision-next.new.self in
-    built_queue e q c.in_ok-sync_queue.ensures.built (ap needs_of c.next_decision-next.ensures.rest) c.next_decision-next.ensures.sound
-    (seen_prefix e.coding.search.tracker q.undecided.seen.items (prefix_equal q.undecided.seen.items e.coding.search.tracker.trail (sym c.next_decision-next.ensures.synced.seen)))
+    let q = c.next_decision.new.self in
+    built_queue e q c.in_ok-sync_queue.ensures.built (ap needs_of c.next_decision.ensures.rest) c.next_decision.ensures.sound
+    (seen_prefix e.coding.search.tracker q.undecided.seen.items (prefix_equal q.undecided.seen.items e.coding.search.tracker.trail (sym c.next_decision.ensures.synced.seen)))
 
 pub returns-clause-syncs : goal.returns-clause-syncs
 returns-clause-syncs g c =
     let first = c.in_ok-sync_queue.ensures.syncs in
-    let q = c.next_decision-next.new.self in
+    let q = c.next_decision.new.self in
     record {
       floor = first.floor;
       rest = ap (λ (x : Encoder g.N g.S). record x { queue = q }) first.rest;
-      queue = ap needs_of c.next_decision-next.ensures.rest ∙ first.queue;
+      queue = ap needs_of c.next_decision.ensures.rest ∙ first.queue;
     }

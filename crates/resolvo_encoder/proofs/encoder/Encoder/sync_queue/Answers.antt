@@ -1,7 +1,7 @@
 use Rattle.std.proofs.Common.{◌∙◌, ◌≤◌, ap, length, sym, subst}
 use Rattle.resolvo_store_core.specs.Trail.{IsSeenOf, Tracked}
 use Rattle.resolvo_decide.specs.Needs.{literals_in}
-use Rattle.resolvo_decide.specs.Queue.{needs_of, IsSound, IsSynced}
+use Rattle.resolvo_decide.specs.Queue.{needs_of, IsSound, IsSynced, IsHotBound}
 use Rattle.resolvo_decide.specs.declared.decide_queue.DecideQueue.{DecideQueue}
 use Rattle.resolvo_encoder.specs.Steps.{IsBuilt}
 use Rattle.resolvo_encoder.proofs.BuildLemmas.{built_synced}
@@ -32,4 +32,4 @@ returns-clause-synced g c =
     subst (λ (q : DecideQueue). IsSynced q c.sync.new.trail.trail) (sym c.set_hot_bound.ensures) (record { seen = done.seen; once = done.once })
 
 pub returns-clause-hot : goal.returns-clause-hot
-returns-clause-hot g c = subst (λ (q : DecideQueue). (name : g.N) → g.C.ScoreMap.score_of c.args.scores.now.map name ≤ q.most) (sym c.set_hot_bound.ensures) c.most.ensures.bounded
+returns-clause-hot g c = subst (λ (q : DecideQueue). IsHotBound (g.C.ScoreMap.score_of c.args.scores.now.map) q) (sym c.set_hot_bound.ensures) c.most.ensures.bounded
