@@ -60,7 +60,7 @@ put_other m n (Union u) (Union w) x f = elim (cases_Bool (w.0 == u.0)) [
 
 no_slot : {X : Type 0} (o : Option X) → is_some o ≡ false → o ≡ None
 no_slot None h = refl
-no_slot (Some x) h = absurd (both_ways true refl h)
+no_slot (Some x) h = absurd (both_ways true h refl)
 
 -- where a requirement without candidates got some
 pub sound_fixed : {N : Type 0} (r : Requirement) (given : Vec (Candidate N) Global) (old new : FixedLists N) (q : DecideQueue) → has_candidates old r ≡ false → FixesCandidates r given old new → IsSound (literals_in old) q → IsSound (literals_in new) q
