@@ -21,7 +21,7 @@ use Rattle.resolvo_sat.specs.State.{history, clauses_of}
 use Rattle.resolvo_sat.specs.Propagation.{IsReady, IsFit, IsOwnPair, GuardsTo, RecordsGuard, IsPending, SameWatching, Extends}
 use Rattle.resolvo_sat.specs.Attach.{AreFalseBut, IsBestBeside, IsBestSoFar, IsBestPair, IsFirstSet, IsLast, Starts, IsStart, Attaches, IsAttachment, IsPendingEnd}
 use Rattle.resolvo_sat.proofs.Trails.{known_from_level}
-use Rattle.resolvo_sat.proofs.ExtendLemmas.{extends_nothing, level_by_now}
+use Rattle.resolvo_sat.proofs.ExtendLemmas.{extends_nothing, extends_more, level_by_now}
 use Rattle.resolvo_sat.proofs.Guards.{guards_first, guards_recorded}
 use Rattle.resolvo_sat.proofs.DoneLemmas.{done_same}
 use Rattle.resolvo_sat.proofs.Readiness.{fits_same, ready_extends, guard_extends, watching_more}
@@ -272,7 +272,7 @@ turned s v w ready rest back =
     counts : (n : ℕ) → count n w.pending.items ≡ count n v.pending.items
     counts n = ap (count n) back ∙ count_reverse n v.pending.items
 
--- first their order was turned, then they were gone over
-pub turned_first : (s t : SatState) (v w x : WatchLists) (o : Option ClauseId) → Attaches s s v w → IsPendingEnd s t w x o → IsPendingEnd s t v x o
-turned_first s t v w x None a (b, none) = (record { watching = watching_more v w x a.watching b.watching; ready = b.ready; extends = b.extends; qhead = b.qhead }, none)
-turned_first s t v w x (Some n) a b = record { watching = watching_more v w x a.watching b.watching; ready = b.ready; extends = b.extends; falsified = b.falsified }
+-- first some began to watch, or their order was turned; then they were gone over
+pub attached_first : (s t u : SatState) (v w x : WatchLists) (o : Option ClauseId) → Attaches s t v w → IsPendingEnd t u w x o → IsPendingEnd s u v x o
+attached_first s t u v w x None a (b, none) = (record { watching = watching_more v w x a.watching b.watching; ready = b.ready; extends = extends_more s t u a.extends b.extends; qhead = b.qhead ∙ a.qhead }, none)
+attached_first s t u v w x (Some n) a b = record { watching = watching_more v w x a.watching b.watching; ready = b.ready; extends = extends_more s t u a.extends b.extends; falsified = b.falsified }

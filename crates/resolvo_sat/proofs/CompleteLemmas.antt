@@ -24,7 +24,7 @@ use Rattle.resolvo_sat.specs.UnitsDone.{NotesDone}
 use Rattle.resolvo_sat.proofs.Literals.{negation-negation}
 use Rattle.resolvo_sat.proofs.Trails.{consistent, before_all, length_le, root_known}
 use Rattle.resolvo_sat.proofs.Clauses.{length-lists}
-use Rattle.resolvo_sat.proofs.ExtendLemmas.{extends_nothing, extends_more, still_true, same_clauses, before_kept}
+use Rattle.resolvo_sat.proofs.ExtendLemmas.{extends_more, still_true, same_clauses, before_kept}
 use Rattle.resolvo_sat.proofs.Guards.{guards_known}
 use Rattle.resolvo_sat.proofs.DoneLemmas.{within_same, done_further, done_noted}
 use Rattle.resolvo_sat.proofs.Readiness.{fits_same, ready_extends, qhead_extends, same_watching, watching_more}

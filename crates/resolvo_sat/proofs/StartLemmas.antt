@@ -1,12 +1,11 @@
 -- Visits to pending clauses, and the literals that they are to watch.
-use Rattle.std.proofs.Common.{◌≡◌, ℕ, ◌+◌, ◌<◌, ◌≤◌, ◌⊎◌, inl, inr, Bool, true, false, List, [], ◌∷◌, take, reverse, length, Option, Some, None, Vec, Global, refl, sym, ◌∙◌, ap, subst, arith}
+use Rattle.std.proofs.Common.{◌≡◌, ℕ, ◌<◌, ◌≤◌, ◌⊎◌, inl, inr, true, false, List, [], take, reverse, length, Option, Some, None, Vec, Global, refl, sym, ◌∙◌, ap, subst, arith}
 use Rattle.std.specs.Prelude.{slice_get}
-use Rattle.std.proofs.lemmas.Bool.{both_ways, or_cases, cases_Bool}
+use Rattle.std.proofs.lemmas.Bool.{both_ways, or_cases}
 use Rattle.std.proofs.lemmas.List.{append-nil, take-take}
 use Rattle.resolvo_pool_core.specs.declared.id.ClauseId.{ClauseId}
 use Rattle.resolvo_store_core.specs.Signed.{Signed, negation, has}
 use Rattle.resolvo_store_core.specs.SignLaws.{same_literal_true}
-use Rattle.resolvo_store_core.specs.Pairs.{watches}
 use Rattle.resolvo_store_core.specs.Watches.{watchers, pair_at, count, IsWatched}
 use Rattle.resolvo_store_core.specs.declared.decision.Entry.{Entry}
 use Rattle.resolvo_store_core.specs.declared.watch_map.WatchMap.{WatchMap}
@@ -14,12 +13,11 @@ use Rattle.resolvo_store_core.specs.declared.watched_literals.WatchedLiterals.{W
 use Rattle.resolvo_store_core.proofs.ClauseLists.{count_at}
 use Rattle.resolvo_sat.specs.declared.state.SatState.{SatState}
 use Rattle.resolvo_sat.specs.declared.watch_lists.WatchLists.{WatchLists}
-use Rattle.resolvo_sat.specs.Known.{IsFalseUnder, clause_at}
+use Rattle.resolvo_sat.specs.Known.{IsFalseUnder}
 use Rattle.resolvo_sat.specs.Entries.{made_true, literal_of, before, IsTrueAt}
-use Rattle.resolvo_sat.specs.State.{history, clauses_of, IsState}
-use Rattle.resolvo_sat.specs.Propagation.{IsReady, IsFit, IsFree, IsGuard, GuardsTo, IsFalsified, Extends, Conflicts, IsPending}
-use Rattle.resolvo_sat.specs.Attach.{AreFalseBut, IsAhead, MayWatch, GuardsBy, KeepsLists, Attaches, IsStartVisit, IsPendingVisit}
-use Rattle.resolvo_sat.proofs.Literals.{negation-negation}
+use Rattle.resolvo_sat.specs.State.{history, IsState}
+use Rattle.resolvo_sat.specs.Propagation.{IsReady, IsFree, IsGuard, GuardsTo, IsFalsified, Extends, Conflicts, IsPending}
+use Rattle.resolvo_sat.specs.Attach.{AreFalseBut, IsAhead, MayWatch, GuardsBy, KeepsLists, Attaches}
 use Rattle.resolvo_sat.proofs.Trails.{known_from_level, same_or_negated, false_unless}
 use Rattle.resolvo_sat.proofs.ExtendLemmas.{extends_nothing, extends_more, true_by_now, level_by_now}
 use Rattle.resolvo_sat.proofs.Guards.{guard_more}

@@ -6,6 +6,7 @@ use Rattle.resolvo_sat.specs.Entries.{made_true}
 use Rattle.resolvo_sat.specs.State.{count_of, history}
 use Rattle.resolvo_sat.specs.Attach.{IsPendingEnd}
 use Rattle.resolvo_sat.proofs.Readiness.{ready_extends, same_watching}
+use Rattle.resolvo_sat.proofs.ExtendLemmas.{extends_more}
 use Rattle.resolvo_sat.proofs.CompleteLemmas.{entries_bounded, running_starts, running_goes_on, running_smaller, units_ready, units_falsified, conflicts_later, all_true_more}
 use Rattle.resolvo_sat.proofs.state.SatState.propagate_from.Goals as goal
 
@@ -35,6 +36,14 @@ attach_pending-requires c = record {
       (subst (IsUnitsEnd c.as_slice.result.now c.args.self.now c.assign_units_from.new.self) c.in_default.is c.in_ok-clause.ensures.set)
       (subst (IsUnitsEnd c.as_slice-2.result.now c.assign_units_from.new.self c.assign_units_from-2.new.self) c.in_default-2.is c.in_ok-clause-2.ensures.set);
 }
+
+pub returns-in-Some-3-clause-run : goal.returns-in-Some-3-clause-run
+returns-in-Some-3-clause-run c =
+    let s : SatState = c.assign_units_from-2.new.self in
+    let rules : AssignsUnits c.as_slice.result.now c.args.self.now c.assign_units_from.new.self = subst (IsUnitsEnd c.as_slice.result.now c.args.self.now c.assign_units_from.new.self) c.in_default.is c.in_ok-clause.ensures.set in
+    let learnt : AssignsUnits c.as_slice-2.result.now c.assign_units_from.new.self s = subst (IsUnitsEnd c.as_slice-2.result.now c.assign_units_from.new.self s) c.in_default-2.is c.in_ok-clause-2.ensures.set in
+    conflicts_later c.in-Some-3.clause.0 c.args.self.now s c.attach_pending.new.self c.args.watching.now c.args.watching.now c.attach_pending.new.watching (same_watching c.args.watching.now) (extends_more c.args.self.now c.assign_units_from.new.self s rules.extends learnt.extends)
+    (subst (IsPendingEnd s c.attach_pending.new.self c.args.watching.now c.attach_pending.new.watching) c.in-Some-3.is c.in_ok-clause-3.ensures.attached)
 
 pub returns-in-Some-4-clause-run : goal.returns-in-Some-4-clause-run
 returns-in-Some-4-clause-run c =

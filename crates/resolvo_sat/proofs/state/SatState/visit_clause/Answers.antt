@@ -4,7 +4,7 @@ use Rattle.resolvo_store_core.specs.Pairs.{other_of}
 use Rattle.resolvo_sat.specs.Known.{Forces, clause_at}
 use Rattle.resolvo_sat.specs.State.{history, clauses_of}
 use Rattle.resolvo_sat.specs.Entries.{made_true}
-use Rattle.resolvo_sat.proofs.ExtendLemmas.{extends_nothing}
+use Rattle.resolvo_sat.proofs.ExtendLemmas.{extends_nothing, set_extends}
 use Rattle.resolvo_sat.proofs.VisitLemmas.{pair_watches, forces_other, falls_whole, keeps_recorded}
 use Rattle.resolvo_sat.proofs.state.SatState.visit_clause.Goals as goal
 
@@ -37,3 +37,9 @@ returns-then-is_false-clause-met c =
 pub returns-then-is_true-clause-met : goal.returns-then-is_true-clause-met
 returns-then-is_true-clause-met c =
     keeps_recorded c.args.cursor.literal c.other-other.result c.args.watched c.args.self.now c.args.self.now c.record_guard.new.self c.args.watching.now c.other-other.ensures (extends_nothing c.args.self.now c.requires.state) refl c.record_guard.ensures
+
+pub returns-in_ok-assign-in-None-clause-met : goal.returns-in_ok-assign-in-None-clause-met
+returns-in_ok-assign-in-None-clause-met c =
+    let set = c.in_ok-assign-in-None.ensures.set in
+    keeps_recorded c.args.cursor.literal c.other-other.result c.args.watched c.args.self.now c.assign.new.self c.record_guard-else-is_false.new.self c.args.watching.now c.other-other.ensures
+    (set_extends c.args.self.now c.assign.new.self c.args.clause c.other-other.result set) set.qhead c.record_guard-else-is_false.ensures
