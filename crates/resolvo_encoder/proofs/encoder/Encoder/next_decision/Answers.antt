@@ -1,4 +1,6 @@
 use Rattle.std.proofs.Common.{◌≡◌, ◌∙◌, ap, sym, subst}
+use Rattle.resolvo_store_core.specs.Lists.{named_by}
+use Rattle.resolvo_store_core.specs.Pick.{pick_by}
 use Rattle.resolvo_store_core.specs.Values.{value_at}
 use Rattle.resolvo_store_core.proofs.Trails.{seen_prefix}
 use Rattle.resolvo_decide.specs.Queue.{needs_of}
@@ -13,7 +15,7 @@ use Rattle.resolvo_encoder.proofs.encoder.Encoder.next_decision.Goals as goal
 
 pub next_decision-requires-clause-fewest : goal.next_decision-requires-clause-fewest
 next_decision-requires-clause-fewest g c =
-    leaves_undecided c.sync_queue.new.self c.in_ok-sync_queue.ensures.built (subst (λ (x : Encoder g.N g.S). AreQuiet x) (sym c.in_ok-sync_queue.ensures.syncs.rest) c.requires.quiet)
+    leaves_undecided c.sync_queue.new.self c.in_ok-sync_queue.ensures.built (subst (λ (x : Encoder _ _). AreQuiet x) (sym c.in_ok-sync_queue.ensures.syncs.rest) c.requires.quiet)
 
 pub returns-clause-next : goal.returns-clause-next
 returns-clause-next g c =
@@ -24,7 +26,7 @@ returns-clause-next g c =
     record {
       values = value_at pick.values;
       agree = trail_values (count_of s) (clauses_of s) s.tracker.trail pick.values c.in_ok-sync_queue.ensures.built.coding.ready.state.trail pick.agree;
-      picked = pick.picked;
+      picked = ap (pick_by (named_by e.lists) (value_at pick.values) (g.C.ScoreMap.score_of c.args.scores.now.map)) needs ∙ ap (λ m. pick_by (named_by e.lists) (value_at pick.values) (g.C.ScoreMap.score_of m) (needs_of e.queue)) (sym c.map.ensures) ∙ pick.picked;
     }
 
 pub returns-clause-built : goal.returns-clause-built
@@ -40,6 +42,6 @@ returns-clause-syncs g c =
     let q = c.next_decision.new.self in
     record {
       floor = first.floor;
-      rest = ap (λ (x : Encoder g.N g.S). record x { queue = q }) first.rest;
+      rest = ap (λ (x : Encoder _ _). record x { queue = q }) first.rest;
       queue = ap needs_of c.next_decision.ensures.rest ∙ first.queue;
     }
