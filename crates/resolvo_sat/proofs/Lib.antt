@@ -4,6 +4,7 @@ pub mod Apart
 pub mod Weights
 pub mod Refutations
 pub mod MarkLemmas
+pub mod FlagLemmas
 pub mod WalkLemmas
 pub mod Clauses
 pub mod Values
@@ -15,6 +16,7 @@ pub mod Readiness
 pub mod VisitLemmas
 pub mod AttachLemmas
 pub mod StartLemmas
+pub mod FreeLemmas
 pub mod CompleteLemmas
 pub mod PendingLemmas
 pub mod JumpLemmas

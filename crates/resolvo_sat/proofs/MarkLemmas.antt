@@ -8,6 +8,7 @@ use Rattle.resolvo_store_core.specs.declared.decision.Entry.{Entry}
 use Rattle.resolvo_pool_core.specs.declared.id.VariableId.{VariableId}
 use Rattle.resolvo_sat.specs.Known.{IsUndecided}
 use Rattle.resolvo_sat.specs.Entries.{literal_of, made_true, before, top_level, IsTrail, IsTrueAt}
+use Rattle.resolvo_sat.specs.Marks.{AreNone}
 use Rattle.resolvo_sat.specs.Analysis.{is_seen, denied, Seen, MarksAtMost, IsMarkedLevel}
 use Rattle.resolvo_sat.proofs.Literals.{negation-negation, has-cons, has_here, has_later, has_more, more_has_old, more_has_new}
 use Rattle.resolvo_sat.proofs.Trails.{level_le_last, level_steps, same_or_negated}
@@ -234,15 +235,15 @@ few_more n m last v old mid new is_new was put more low few = (λ count cs h t. 
         omega (arith, one)
 
 -- nothing is denied where nothing is marked
-unmarked_none : (h : List Entry) → denied [] h ≡ []
-unmarked_none [] = refl
-unmarked_none (e ∷ older) = unmarked_none older
+unmarked_none : (none : List Bool) (h : List Entry) → AreNone none → denied none h ≡ []
+unmarked_none none [] empty = refl
+unmarked_none none (e ∷ older) empty = ap (λ b. cond b (negation (literal_of e) ∷ denied none older) (denied none older)) (empty e.decision.variable.0) ∙ unmarked_none none older empty
 
 -- no more entries are marked than were counted
-pub few_begun : (n count : ℕ) (cs : List (List Signed)) (none seen : List Bool) (h : List Entry) → IsTrail count cs h → none ≡ [] → MarksAtMost n none seen → length (denied seen h) ≤ n
+pub few_begun : (n count : ℕ) (cs : List (List Signed)) (none seen : List Bool) (h : List Entry) → IsTrail count cs h → AreNone none → MarksAtMost n none seen → length (denied seen h) ≤ n
 few_begun n count cs none seen h t empty few =
     let a : length (denied seen h) ≤ length (denied none h) + n = few count cs h t in
-    let b : length (denied none h) ≡ 0 = ap length (ap (λ (xs : List Bool). denied xs h) empty ∙ unmarked_none h) in
+    let b : length (denied none h) ≡ 0 = ap length (unmarked_none none h empty) in
     omega arith
 
 -- a marked entry was passed

@@ -15,6 +15,7 @@ use Rattle.resolvo_sat.specs.declared.analyze.Learnt.{Learnt}
 use Rattle.resolvo_sat.specs.Known.{IsFalseUnder, IsUndecided, IsForced, clause_at}
 use Rattle.resolvo_sat.specs.Entries.{literal_of, reason_of, made_true, before, top_level, IsChoice, IsPropagated, IsReasoned, Follows, IsTrail, IsTrueAt, IsOnTrail, IsRooted}
 use Rattle.resolvo_sat.specs.State.{count_of, history, clauses_of, named, IsDerived, IsState}
+use Rattle.resolvo_sat.specs.Marks.{AreNone}
 use Rattle.resolvo_sat.specs.Analysis.{is_seen, denied, Seen, IsMarkedLevel, IsSolvable, IsAssumption, IsDecisionOrForced, AreFromClauses, IsLearnt, IsLearntOf, IsAnalysis, IsRefusal, IsReason, DenyAssumptions, DenyAssumptionsBut, Walks}
 use Rattle.resolvo_sat.proofs.Literals.{negation-negation, has-cons, has_here, has_later, has-append, has_left, has_right}
 use Rattle.resolvo_sat.proofs.Refutations.{exact, own, refutes_more, refutes_falsified, refutes_step}
@@ -254,7 +255,7 @@ walk_resolves s begun p d old new kept causes more m rooted propagated marked pu
     some_pushed [] y = omega arith
     some_pushed (x ∷ xs) y = omega arith
 
-pub walk_starts : (s : SatState) (falsified : ClauseId) (none seen : List Bool) → IsState s → falsified.0 < length (clauses_of s) → IsFalseUnder (made_true (history s)) (clause_at (clauses_of s) falsified.0) → none ≡ [] → Seen (clause_at (clauses_of s) falsified.0) none seen
+pub walk_starts : (s : SatState) (falsified : ClauseId) (none seen : List Bool) → IsState s → falsified.0 < length (clauses_of s) → IsFalseUnder (made_true (history s)) (clause_at (clauses_of s) falsified.0) → AreNone none → Seen (clause_at (clauses_of s) falsified.0) none seen
     → Walks s [] (length s.tracker.trail) seen [] (falsified ∷ [])
 walk_starts s falsified none seen state bound falls empty marked =
     let all : before s.tracker.trail (length s.tracker.trail) ≡ history s = before_all s.tracker.trail in
@@ -273,14 +274,14 @@ walk_starts s falsified none seen state bound falls empty marked =
       caused = omega arith;
       from = subst (λ (h : List Entry). AreFromClauses s (denied seen h ++ [])) (sym all) from';
       denies = λ l h. absurd (both_ways false refl h);
-      rootless = still_rootless c none seen marked (ap (λ (xs : List Bool). slice_index_or xs 0 false) empty);
+      rootless = still_rootless c none seen marked (empty 0);
     }
   where
     denied_from : (l : Signed) → has (denied seen (history s)) l ≡ true → (n : ℕ) × (has (clause_at (clauses_of s) n) l ≡ true)
     denied_from l a =
         let (k, at) = denied_level seen (history s) l a in
         elim (marked.only l.variable.0 (denied_marked seen (history s) l a)) [
-          | inl o ↦ absurd (both_ways false refl (subst (λ (xs : List Bool). slice_index_or xs l.variable.0 false ≡ true) empty o))
+          | inl o ↦ absurd (both_ways (slice_index_or none l.variable.0 false) (empty l.variable.0) o)
           | inr o ↦
               let (x, present, same) = o.1 in
               (falsified.0, subst (λ (y : Signed). has (clause_at (clauses_of s) falsified.0) y ≡ true) (false_same (count_of s) (clauses_of s) (history s) x l state.trail (falls x present) (known_from_level (history s) (negation l) k at) same) present)
@@ -358,7 +359,7 @@ walk_ends s p seen kept causes few w =
 
 -- a walk that begins at the reason of a literal that an entry made true
 pub walk_begins : (s : SatState) (p : ℕ) (d : Entry) (none seen : List Bool) → Meets s p d → has (made_true (before s.tracker.trail p)) (yes root) ≡ true → IsPropagated (clauses_of s) d (before s.tracker.trail p)
-    → none ≡ [] → Seen (clause_at (clauses_of s) (reason_of d)) none seen → Walks s (literal_of d ∷ []) p seen (literal_of d ∷ []) (d.decision.derived_from ∷ [])
+    → AreNone none → Seen (clause_at (clauses_of s) (reason_of d)) none seen → Walks s (literal_of d ∷ []) p seen (literal_of d ∷ []) (d.decision.derived_from ∷ [])
 walk_begins s p d none seen m rooted propagated empty marked =
     let older : List Entry = before s.tracker.trail p in
     let c : List Signed = clause_at (clauses_of s) (reason_of d) in
@@ -379,7 +380,7 @@ walk_begins s p d none seen m rooted propagated empty marked =
       caused = omega arith;
       from = λ l h. elim (has-append (denied seen older) (literal_of d ∷ []) l h) [
         | inl a ↦ elim (from_reason s p d c none seen m forced marked l a) [
-          | inl o ↦ absurd (both_ways false refl (subst (λ (xs : List Bool). slice_index_or xs l.variable.0 false ≡ true) empty (denied_marked none older l o)))
+          | inl o ↦ absurd (both_ways (slice_index_or none l.variable.0 false) (empty l.variable.0) (denied_marked none older l o))
           | inr o ↦ (reason_of d, o)
         ]
         | inr a ↦ elim (has-cons (literal_of d) [] l a) [
@@ -388,7 +389,7 @@ walk_begins s p d none seen m rooted propagated empty marked =
         ]
       ];
       denies = λ l h. inl h;
-      rootless = still_rootless c none seen marked (ap (λ (xs : List Bool). slice_index_or xs 0 false) empty);
+      rootless = still_rootless c none seen marked (empty 0);
     }
 
 -- where no marked entry is left, only the kept literals are, and that from which the walk began

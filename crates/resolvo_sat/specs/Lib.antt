@@ -2,6 +2,7 @@ pub mod Known
 pub mod Entries
 pub mod AnalyzeFinal
 pub mod State
+pub mod Marks
 pub mod Analysis
 pub mod Steps
 pub mod Propagation

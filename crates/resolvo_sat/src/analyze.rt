@@ -7,9 +7,9 @@ ghost use Rattle.resolvo_sat.specs.Entries.{made_true, before, literal_of};
 ghost use Rattle.resolvo_sat.specs.State.{IsState, history, clauses_of};
 ghost use Rattle.resolvo_sat.specs.Analysis.{Seen, MarksAtMost, denied, IsMarkedLevel, IsAssertion, IsAnalysis, IsLearntOf, IsDecisionOrForced};
 
+use crate::marks::Marks;
 use crate::state::SatState;
-use resolvo_pool_core::id::{ClauseId, VariableId};
-use resolvo_pool_core::indexed_set::IndexedSet;
+use resolvo_pool_core::id::ClauseId;
 use resolvo_pool_core::want::R;
 use resolvo_store_core::decision::Entry;
 use resolvo_store_core::decision_map::DecisionMap;
@@ -53,7 +53,7 @@ pub(crate) struct Marked {
 /// Marks the variables of the literals, except the root's. Returns how many weren't marked before,
 /// and how many of these are of this level.
 pub(crate) fn mark_seen(
-    seen: &mut IndexedSet<VariableId>,
+    seen: &mut Marks,
     literals: &[Literal],
     values: &DecisionMap,
     level: u32,
@@ -116,17 +116,17 @@ impl SatState {
     /// resolved with its reason, until only one is left of its level. The clause that denies the
     /// marked entries is then learnt. Where no marked entry is left, only choices were kept, which
     /// contradict each other.
-    pub fn analyze(&self, alloc: Global, falsified: ClauseId) -> R<Analysis>
+    pub fn analyze(&self, alloc: Global, seen: &mut Marks, falsified: ClauseId) -> R<Analysis>
         requires state { IsState self.now }
         requires in_range { falsified.0 < length self.now.clauses }
         requires falls { IsFalseUnder (made_true (history self.now)) (clause_at (clauses_of self.now) falsified.0) }
         ensures analysis { IfOk result (IsAnalysis self.now) }
         ensures refusal { IsOkUnless result Memory }
     {
-        let mut seen = IndexedSet::new(alloc);
+        seen.begin();
         let values = self.tracker.map();
         let level = self.top_level();
-        let mut marked = mark_seen(&mut seen, self.literals(falsified), values, level)?;
+        let mut marked = mark_seen(seen, self.literals(falsified), values, level)?;
         let mut causes = Vec::new(alloc);
         causes.push(falsified)?;
         let mut kept = Vec::new(alloc);
@@ -136,8 +136,8 @@ impl SatState {
             let entry = self.entry(place);
             if seen.contains(entry.decision.variable) {
                 marked = marked.passed();
-                if let Some(below) = self.assertion_level(place, entry, marked, &seen) {
-                    let literals = self.denied(alloc, place, marked.all, &seen)?;
+                if let Some(below) = self.assertion_level(place, entry, marked, seen) {
+                    let literals = self.denied(alloc, place, marked.all, seen)?;
                     return self.learnt(literals, kept, causes, entry, below);
                 }
                 if self.is_decision(place, entry) {
@@ -145,7 +145,7 @@ impl SatState {
                 } else {
                     causes.push(entry.decision.derived_from)?;
                     let reason = self.literals(entry.decision.derived_from);
-                    let more = mark_seen(&mut seen, reason, values, level)?;
+                    let more = mark_seen(seen, reason, values, level)?;
                     marked = marked.plus(more);
                 }
             }
@@ -165,7 +165,7 @@ impl SatState {
         place: usize,
         entry: Entry,
         marked: Marked,
-        seen: &IndexedSet<VariableId>,
+        seen: &Marks,
     ) -> Option<u32>
         requires state { IsState self.now }
         requires in_range { place ≤ length self.now.tracker.trail }
@@ -231,13 +231,7 @@ impl SatState {
 
     /// The negated literals of the marked entries among the first `place`, from the newest on.
     /// The walk ends behind the last one: not more than `marked` of them are marked.
-    fn denied(
-        &self,
-        alloc: Global,
-        place: usize,
-        marked: usize,
-        seen: &IndexedSet<VariableId>,
-    ) -> R<Vec<Literal>>
+    fn denied(&self, alloc: Global, place: usize, marked: usize, seen: &Marks) -> R<Vec<Literal>>
         requires state { IsState self.now }
         requires in_range { place ≤ length self.now.tracker.trail }
         requires marked { length (denied seen.now (before self.now.tracker.trail place)) ≤ marked }
@@ -259,7 +253,7 @@ impl SatState {
 
     /// The highest level of the marked entries among the first `place`, or 0. Not more than
     /// `marked` of them are marked.
-    fn backjump_level(&self, place: usize, marked: usize, seen: &IndexedSet<VariableId>) -> u32
+    fn backjump_level(&self, place: usize, marked: usize, seen: &Marks) -> u32
         requires state { IsState self.now }
         requires in_range { place ≤ length self.now.tracker.trail }
         requires marked { length (denied seen.now (before self.now.tracker.trail place)) ≤ marked }

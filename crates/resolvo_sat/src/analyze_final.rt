@@ -9,9 +9,9 @@ ghost use Rattle.resolvo_sat.specs.State.{IsState, history};
 ghost use Rattle.resolvo_sat.specs.Analysis.{IsReason, IsRefuted};
 
 use crate::analyze::{FinalConflict, literal_made_true, mark_seen};
+use crate::marks::Marks;
 use crate::state::SatState;
 use resolvo_pool_core::id::VariableId;
-use resolvo_pool_core::indexed_set::IndexedSet;
 use resolvo_pool_core::want::R;
 use resolvo_store_core::decision::Entry;
 use std::alloc::Global;
@@ -65,7 +65,7 @@ impl SatState {
         // After a refusal.
         ensures refusal { IsOkUnless result Memory }
     {
-        let mut seen = IndexedSet::new(alloc);
+        let mut seen = Marks::new(alloc);
         let values = self.tracker.map();
         let reason = self.literals(entry.decision.derived_from);
         // The entry's own variable is among those of its reason.

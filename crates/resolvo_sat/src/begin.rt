@@ -6,6 +6,7 @@ ghost use Rattle.resolvo_sat.specs.Propagation.{IsReady, AreCovered};
 ghost use Rattle.resolvo_sat.specs.Begin.{Begun, AddsVariable, IsRootClause};
 
 use crate::clause::SatClause;
+use crate::marks::Marks;
 use crate::state::{SatState, VariableKind};
 use crate::watch_lists::WatchLists;
 use resolvo_pool_core::arena::Arena;
@@ -54,6 +55,8 @@ pub fn begin(alloc: Global) -> R<(SatState, WatchLists)>
         pending: Vec::new(alloc),
         starts: Vec::new(alloc),
         places: Vec::new(alloc),
+        passed: Vec::new(alloc),
+        seen: Marks::new(alloc),
     };
     Ok((state, watching))
 }

@@ -12,6 +12,7 @@ pub mod backjump;
 pub mod begin;
 pub mod clause;
 pub mod guard;
+pub mod marks;
 pub mod propagate;
 pub mod propagate_and_learn;
 pub mod state;

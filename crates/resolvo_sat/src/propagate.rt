@@ -8,6 +8,7 @@ ghost use Rattle.resolvo_store_core.specs.Watches.{watchers, pair_at};
 ghost use Rattle.resolvo_sat.specs.Known.{clause_at};
 ghost use Rattle.resolvo_sat.specs.Entries.{made_true};
 ghost use Rattle.resolvo_sat.specs.State.{IsState, history, clauses_of};
+ghost use Rattle.resolvo_sat.specs.Attach.{KeepsLists};
 ghost use Rattle.resolvo_sat.specs.Propagation.{IsReady, IsFit, AreCovered, AreUnits, AllTrue, AreDone, AreWithin, HasDone, IsFree, FellAt, IsMeeting, IsVisit, IsWalkedTo, IsOnly, IsUnitAssigned, IsUnitsEnd, IsNextFallen, IsRun, IsPropagation};
 
 use crate::state::SatState;
@@ -30,24 +31,71 @@ pub enum WatchVisit {
 }
 
 impl SatState {
-    /// A literal of the clause to watch in place of a false one.
+    /// A literal of the clause to watch in place of a false one. The first ones, so many, are looked
+    /// at last: they are likely false.
     pub(crate) fn free_literal(
         &self,
         clause: ClauseId,
         watched: &WatchedLiterals,
+        passed: usize,
     ) -> Option<Literal>
         requires state { IsState self.now }
         requires in_range { clause.0 < length self.now.clauses }
         ensures { IsFree (made_true (history self.now)) (clause_at (clauses_of self.now) clause.0)
             watched.now result }
     {
-        for literal in self.literals(clause) {
-            let is_watched = watched.watches(*literal);
-            if !is_watched && !self.is_false(*literal) {
+        let literals = self.literals(clause);
+        let passed = passed.min(literals.len());
+        match self.free_among(&literals[passed..], watched) {
+            Some(free) => Some(free),
+            None => self.free_among(&literals[..passed], watched),
+        }
+    }
+
+    /// The first of these literals that is neither watched nor false.
+    fn free_among(&self, literals: &[Literal], watched: &WatchedLiterals) -> Option<Literal>
+        requires { IsState self.now }
+        ensures { IsFree (made_true (history self.now)) literals.now watched.now result }
+    {
+        for literal in literals {
+            let is_false = self.is_false(*literal);
+            if !is_false && !watched.watches(*literal) {
                 return Some(*literal);
             }
         }
         None
+    }
+
+    /// How many of a clause's first literals are false, of these at least.
+    fn false_ones(&self, clause: ClauseId, passed: usize) -> usize
+        requires state { IsState self.now }
+        requires in_range { clause.0 < length self.now.clauses }
+    {
+        let literals = self.literals(clause);
+        for place in passed..literals.len() {
+            if !self.is_false(literals[place]) {
+                return place;
+            }
+        }
+        passed.max(literals.len())
+    }
+
+    /// Notes how many of a clause's first literals are false for good: those that are false while
+    /// there is no second level.
+    fn note_passed(&self, watching: &mut WatchLists, clause: ClauseId) -> R<()>
+        requires state { IsState self.now }
+        requires in_range { clause.0 < length self.now.clauses }
+        ensures kept { KeepsLists watching.old watching.new }
+        ensures refusal { IsOkUnless result Memory }
+    {
+        if self.top_level() > 1 {
+            return Ok(());
+        }
+        let passed = self.false_ones(clause, watching.passed_of(clause));
+        if passed > 0 {
+            watching.set_passed(clause, passed)?;
+        }
+        Ok(())
     }
 
     /// Visits the clause at a cursor, one of whose watched literals became false.
@@ -75,9 +123,11 @@ impl SatState {
             self.record_guard(cursor.literal, other);
             return Ok(WatchVisit::Kept);
         }
-        match self.free_literal(clause, &watched) {
+        let passed = watching.passed_of(clause);
+        match self.free_literal(clause, &watched, passed) {
             Some(to) => {
                 cursor.update(&mut watching.watches, watching.watched.as_mut_slice(), to)?;
+                self.note_passed(watching, clause)?;
                 Ok(WatchVisit::Moved)
             }
             None => {
@@ -111,7 +161,7 @@ impl SatState {
     {
         let mut cursor = watching.watches.cursor(literal);
         while let Some(clause) = cursor.clause_id(&watching.watches) {
-            let watched = cursor.watched_literals(&watching.watches, watching.watched.as_slice());
+            let watched = watching.pair(cursor, clause);
             match self.visit_clause(watching, cursor, clause, watched)? {
                 WatchVisit::Kept => cursor.next(),
                 WatchVisit::Moved => {}

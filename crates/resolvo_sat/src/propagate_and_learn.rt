@@ -34,7 +34,7 @@ impl SatState {
     {
         match self.propagate(watching)? {
             None => Ok(StepResult::Complete),
-            Some(falsified) => match self.analyze(alloc, falsified)? {
+            Some(falsified) => match self.analyze(alloc, &mut watching.seen, falsified)? {
                 Analysis::Refused(refusal) => Ok(StepResult::Refused(refusal)),
                 Analysis::Learnt(learnt) => {
                     let clause = self.learn(watching, learnt)?;

@@ -154,7 +154,7 @@ impl SatState {
         if self.is_true(start.other(fallen)) {
             return Ok(StartVisit::Kept);
         }
-        match self.free_literal(clause, start) {
+        match self.free_literal(clause, start, 0) {
             Some(to) => Ok(StartVisit::Moved(to)),
             None => self.force_one(clause, start),
         }

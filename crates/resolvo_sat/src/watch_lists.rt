@@ -1,8 +1,14 @@
 //! The watch lists, the unit clauses, and the pending clauses.
+ghost use Rattle.std.specs.Prelude.{◌≡◌, slice_get, Some, IsOkUnless};
+ghost use Rattle.resolvo_pool_core.specs.declared.want.Want.TheVariants.{Memory};
+ghost use Rattle.resolvo_store_core.specs.Watches.{watchers, pair_at, IsWatched};
+ghost use Rattle.resolvo_sat.specs.Attach.{KeepsLists};
 
-use resolvo_pool_core::id::ClauseId;
+use crate::marks::Marks;
+use resolvo_pool_core::id::{ClauseId, DenseIndex};
+use resolvo_pool_core::want::R;
 use resolvo_store_core::literal::Literal;
-use resolvo_store_core::watch_map::WatchMap;
+use resolvo_store_core::watch_map::{WatchMap, WatchMapCursor};
 use resolvo_store_core::watched_literals::WatchedLiterals;
 
 /// A unit clause.
@@ -38,4 +44,58 @@ pub struct WatchLists {
     pub starts: Vec<WatchedLiterals>,
     /// The place on the trail at which each variable was last seen. No proof rests on it either.
     pub places: Vec<usize>,
+    /// How many of each clause's first literals are false at the first level, as far as it is known.
+    /// A search for a free literal skips them. No proof rests on it either.
+    pub passed: Vec<usize>,
+    /// The variables that the present analysis marked. No proof rests on those of earlier ones.
+    pub seen: Marks,
+}
+
+impl WatchLists {
+    /// The watched literals of the clause at a cursor.
+    pub(crate) fn pair(&self, cursor: WatchMapCursor, clause: ClauseId) -> WatchedLiterals
+        requires fit { IsWatched self.now.watched.items (watchers self.now.watches) }
+        requires present { slice_get (watchers self.now.watches cursor.literal) cursor.place
+            ≡ Some clause }
+        ensures { pair_at self.now.watched.items clause.0 ≡ Some result }
+    {
+        self.pair_of(clause).unwrap()
+    }
+
+    /// The watched literals of a clause, if it has any.
+    fn pair_of(&self, clause: ClauseId) -> Option<WatchedLiterals>
+        ensures { result ≡ pair_at self.now.watched.items clause.0 }
+    {
+        let index = clause.to_index();
+        if index < self.watched.len() {
+            self.watched[index]
+        } else {
+            None
+        }
+    }
+
+    /// How many of a clause's first literals are known to be false for good.
+    pub(crate) fn passed_of(&self, clause: ClauseId) -> usize {
+        let index = clause.to_index();
+        if index < self.passed.len() {
+            self.passed[index]
+        } else {
+            0
+        }
+    }
+
+    /// Notes how many of a clause's first literals are false for good.
+    pub(crate) fn set_passed(&mut self, clause: ClauseId, passed: usize) -> R<()>
+        ensures kept { KeepsLists self.old self.new }
+        ensures refusal { IsOkUnless result Memory }
+    {
+        let index = clause.to_index();
+        for _ in self.passed.len()..index + 1 {
+            self.passed.push(0)?;
+        }
+        if index < self.passed.len() {
+            self.passed[index] = passed;
+        }
+        Ok(())
+    }
 }

@@ -22,13 +22,13 @@ loop-place-init c =
     chosen _ _ _ _ c.push.ensures.items (ap is_ok c.in_ok-push.was) ∙ ap (λ (l : List ClauseId). l ++ c.args.falsified ∷ []) c.new-causes.ensures.items in
     let whole : length c.stack-place.result.now ≡ length s.tracker.trail = ap length c.stack-place.ensures.trail in
     let bound : c.args.falsified.0 < length (clauses_of s) = omega (arith, length-lists s.clauses, c.requires.in_range) in
-    let marked : Seen (clause_at (clauses_of s) c.args.falsified.0) c.new-seen.result c.mark_seen.new.seen = subst (λ (l : List Signed). Seen l c.new-seen.result c.mark_seen.new.seen) c.literals.ensures c.in_ok-marked.ensures.marked in
+    let marked : Seen (clause_at (clauses_of s) c.args.falsified.0) c.begin.new.self c.mark_seen.new.seen = subst (λ (l : List Signed). Seen l c.begin.new.self c.mark_seen.new.seen) c.literals.ensures c.in_ok-marked.ensures.marked in
     record {
-      few = few_begun c.in_ok-marked.marked.all (count_of s) (clauses_of s) c.new-seen.result c.mark_seen.new.seen (before s.tracker.trail (length c.stack-place.result.now)) (trail_before (count_of s) (clauses_of s) s.tracker.trail (length c.stack-place.result.now) c.requires.state.trail) c.new-seen.ensures c.in_ok-marked.ensures.few;
+      few = few_begun c.in_ok-marked.marked.all (count_of s) (clauses_of s) c.begin.new.self c.mark_seen.new.seen (before s.tracker.trail (length c.stack-place.result.now)) (trail_before (count_of s) (clauses_of s) s.tracker.trail (length c.stack-place.result.now) c.requires.state.trail) c.begin.ensures c.in_ok-marked.ensures.few;
       walks = subst (λ (n : ℕ). Walks s [] n c.mark_seen.new.seen c.new-kept.result.items c.push.new.self.items) (sym whole)
           (subst (λ (k : List Signed). Walks s [] (length s.tracker.trail) c.mark_seen.new.seen k c.push.new.self.items) (sym c.new-kept.ensures.items)
           (subst (λ (r : List ClauseId). Walks s [] (length s.tracker.trail) c.mark_seen.new.seen [] r) (sym pushed)
-          (walk_starts s c.args.falsified c.new-seen.result c.mark_seen.new.seen c.requires.state bound c.requires.falls c.new-seen.ensures marked)));
+          (walk_starts s c.args.falsified c.begin.new.self c.mark_seen.new.seen c.requires.state bound c.requires.falls c.begin.ensures marked)));
     }
 
 pub returns-in-Some-clause-analysis : goal.returns-in-Some-clause-analysis

@@ -1,4 +1,4 @@
-use Rattle.std.proofs.Common.{◌≡◌, ◌<◌, ◌≤◌, ◌+◌, ◌-◌, ◌^◌, ℕ, inl, inr, List, ◌∷◌, [], ◌++◌, true, length, is_ok, sym, ◌∙◌, ap, subst, arith}
+use Rattle.std.proofs.Common.{slice_index_or, false, Bool, ◌≡◌, ◌<◌, ◌≤◌, ◌+◌, ◌-◌, ◌^◌, ℕ, inl, inr, List, ◌∷◌, [], ◌++◌, true, length, is_ok, sym, ◌∙◌, ap, subst, arith}
 use Rattle.std.proofs.ResultArms.{chosen}
 use Rattle.resolvo_pool_core.specs.declared.id.ClauseId.{ClauseId}
 use Rattle.resolvo_store_core.specs.Signed.{Signed, negation}
@@ -47,11 +47,11 @@ loop-at-init c =
       | inl z ↦ absurd (unmade (before s.tracker.trail c.args.place) d (yes root) m.follows.undecided rooted (sym z))
       | inr k ↦ k
     ] in
-    let all = few_begun c.in_ok-first.first.all (count_of s) (clauses_of s) c.new-seen.result c.mark_seen.new.seen (before s.tracker.trail (c.args.place + 1)) (trail_before (count_of s) (clauses_of s) s.tracker.trail (c.args.place + 1) c.requires.state.trail) c.new-seen.ensures c.in_ok-first.ensures.few in
+    let all = few_begun c.in_ok-first.first.all (count_of s) (clauses_of s) c.new-seen.result c.mark_seen.new.seen (before s.tracker.trail (c.args.place + 1)) (trail_before (count_of s) (clauses_of s) s.tracker.trail (c.args.place + 1) c.requires.state.trail) (λ v. ap (λ (xs : List Bool). slice_index_or xs v false) c.new-seen.ensures) c.in_ok-first.ensures.few in
     record {
       walks = subst (λ (k : List Signed). Walks s (literal_of d ∷ []) c.args.place c.mark_seen.new.seen k c.push.new.self.items) (sym kept)
           (subst (λ (r : List ClauseId). Walks s (literal_of d ∷ []) c.args.place c.mark_seen.new.seen (literal_of d ∷ []) r) (sym causes)
-          (walk_begins s c.args.place d c.new-seen.result c.mark_seen.new.seen m rooted forced c.new-seen.ensures marked));
+          (walk_begins s c.args.place d c.new-seen.result c.mark_seen.new.seen m rooted forced (λ v. ap (λ (xs : List Bool). slice_index_or xs v false) c.new-seen.ensures) marked));
       few = few_passed c.mark_seen.new.seen (before s.tracker.trail (c.args.place + 1)) d (before s.tracker.trail c.args.place) c.in_ok-first.first.all c.passed-begun.result.all c.requires.next own all c.passed-begun.ensures;
     }
 

@@ -1,0 +1,5 @@
+use Rattle.resolvo_sat.specs.Attach.{KeepsLists}
+use Rattle.resolvo_sat.proofs.watch_lists.WatchLists.set_passed.Given as goal
+
+abbrev pub invariant-loop : goal.invariant-loop
+invariant-loop l = KeepsLists l.fn.self l.self
