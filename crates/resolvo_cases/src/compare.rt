@@ -10,7 +10,7 @@ use resolvo_catalogue::{Catalogue, Hint};
 use resolvo_pool::{R, Want};
 use std::alloc::Global;
 
-/// Tells an answer that isn't the one that is wanted.
+/// Reports an answer that differs from the wanted one.
 fn compare(case: &str, what: &str, found: &str, wanted: &str, tally: &mut Tally) -> R<()> {
     if found == wanted {
         return Ok(());

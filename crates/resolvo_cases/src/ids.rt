@@ -84,7 +84,7 @@ fn specs_have_one_id(alloc: Global) -> R<bool> {
     listed_have_one_id(alloc, &catalogue)
 }
 
-/// Tells where SPECs have other ids.
+/// Reports where SPECs have other ids.
 pub fn compare_ids(alloc: Global, tally: &mut Tally) -> R<()> {
     if !specs_have_one_id(alloc)? {
         tally.differ();

@@ -334,10 +334,13 @@ impl IdTable {
     ) -> R<ConditionId>
         requires left { left.0 < length self.old.conditions }
         requires right { right.0 < length self.old.conditions }
+        // After an answer.
         ensures joined { IfOk result
             (λ c. slice_get self.new.conditions c.0 ≡ Some (Binary operator left right)) }
+        // Whatever the answer.
         ensures interns { Interns self.old self.new }
         ensures few { id_count self.new ≤ id_count self.old + 1 }
+        // After a refusal.
         ensures ids { IsErrOf result Ids → LacksNumber self.new }
     {
         self.intern_condition(Condition::Binary(operator, left, right))

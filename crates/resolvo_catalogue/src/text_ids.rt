@@ -86,10 +86,13 @@ impl TextIds {
         requires hash { key.0 ≡ bytes_hash text.now }
         requires text { string_bytes key.1 ≡ text.now }
         requires absent { (i : ℕ) → slice_get self.old i ≡ Some text.now → ⊥ }
+        // After an answer.
         ensures text { IfOk result (λ i. slice_get self.new i ≡ Some text.now) }
         ensures place { IfOk result (λ i. IsPlaced self.old self.new i) }
+        // Whatever the answer.
         ensures extends { Extends self.old self.new }
         ensures few { length self.new ≤ length self.old + 1 }
+        // After a refusal.
         ensures ids { IsErrOf result Ids → 4294967295 ≤ length self.new }
     {
         let index = next_index(self.texts.len())?;

@@ -19,9 +19,12 @@ pub fn list_versions(
 ) -> R<Vec<Vec<SolvableId>>>
     requires names { ids.old.names ≡ [] }
     requires none { ids.old.solvables ≡ [] }
+    // After an answer.
     ensures versions { IfOk result (λ _. AreVersions ids.new (pair_versions versions.now)) }
     ensures packages { IfOk result (λ lists. AreByPackage ids.new lists.items) }
+    // Whatever the answer.
     ensures few { id_count ids.new ≤ id_count ids.old + 2 * length versions.now }
+    // After a refusal.
     ensures ids { IsErrOf result Ids → LacksNumber ids.new }
 {
     let mut lists = Vec::new(alloc);

@@ -1,4 +1,4 @@
-//! The turn of a soft requirement: it is decided at the turn's first level, or denied by a clause
+//! The turn of a soft requirement. It is decided at the turn's first level, or a clause denies it
 //! that explains its conflict with earlier turns.
 ghost use Rattle.std.specs.Prelude.{◌≡◌, ◌<◌, length, Some, IfOk, OnOk, IsErrOf, IsOkUnless};
 ghost use Rattle.resolvo_pool_core.specs.declared.want.Want.TheVariants.{Memory, Ids};

@@ -185,20 +185,24 @@ fn take_line(
             let alternative = judging
                 .alternatives
                 .place_of(alloc, catalogue, request, answer)?;
+            // split for the prover: error and answer
             let fine = judging
                 .entries
                 .take(alloc, catalogue, request, answer, alternative)?;
             Ok(fine)
         }
         ReportLine::Catalogue { line } => {
+            // split for the prover: error and answer
             let fine = take_catalogue_line(catalogue, &mut judging.log, *line)?;
             Ok(fine)
         }
         ReportLine::Request { line } => {
+            // split for the prover: error and answer
             let fine = take_request_line(request, &mut judging.log, *line)?;
             Ok(fine)
         }
         ReportLine::Step { step, .. } => {
+            // split for the prover: error and answer
             let fine = take_numbered(alloc, catalogue, request, judging, clauses, step)?;
             Ok(fine)
         }
@@ -259,8 +263,8 @@ pub fn take(
     Ok(true)
 }
 
-/// Whether an `install` report may end after its lines: the entries keep all rules, each wish is
-/// an entry or left out, and the step of each left-out wish exists and forbids it.
+/// Whether an `install` report may end after its lines. The entries must keep all rules, and each
+/// wish must be an entry or left out. The step of each left-out wish must exist and forbid it.
 fn installs(
     catalogue: &Catalogue,
     request: &Request,

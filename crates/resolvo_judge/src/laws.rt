@@ -53,8 +53,8 @@ pub fn accepted_refusal_is_true()
         → ClaimsRefusal catalogue request (catalogue_lines_in lines) (request_lines_in lines) }
 {}
 
-/// If the lines and the end of an install report pass, its entries are a rule-keeping set, each for
-/// the reason that it names, and each wish is an entry or rightly left out.
+/// If the lines and the end of an install report pass, its entries are a rule-keeping set. Each is
+/// there for the reason that it names, and each wish is an entry or rightly left out.
 pub fn accepted_install_is_true()
     ensures { (catalogue request : List Line) (lines : List ReportLine)
         → IsAccepted catalogue request (InstallHead ∷ lines)

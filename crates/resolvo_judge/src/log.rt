@@ -101,6 +101,7 @@ pub fn take_step(
     ensures read { IfPassed result (ReadsMore clauses.old.readings (causes_in (step_of step.now))
         clauses.new.readings) }
 {
+    // split for the prover: error and answer
     let fine = advance(
         alloc,
         catalogue,
@@ -128,6 +129,7 @@ pub fn take_catalogue_line(
         → AddsNamed catalogue.now request log.old (CatalogueLine line) log.new) }
     ensures checker { log.new.checker ≡ log.old.checker }
 {
+    // split for the prover: error and answer
     let fine = name_catalogue(catalogue, &mut log.scope, line)?;
     Ok(fine)
 }
@@ -146,6 +148,7 @@ pub fn take_request_line(
         → AddsNamed catalogue request.now.lines log.old (RequestLine line) log.new) }
     ensures checker { log.new.checker ≡ log.old.checker }
 {
+    // split for the prover: error and answer
     let fine = name_request(request, &mut log.scope, line)?;
     Ok(fine)
 }

@@ -34,7 +34,7 @@ pub struct FinalConflict {
 }
 
 /// A learnt clause, with its antecedents in the order of a RUP check. After a jump to the level,
-/// all its literals but the asserted one are false.
+/// all its literals but the asserting one are false.
 #[derive(Debug, Drop)]
 pub struct Learnt {
     pub literals: Vec<Literal>,

@@ -83,8 +83,8 @@ impl SatState {
         }
     }
 
-    /// The literals that the last pending clause is to watch, if it may: they are two of its own,
-    /// and one that is false has a true one beside it, or wasn't propagated yet.
+    /// The literals that the last pending clause is to watch, if it may. They are two of its own. One
+    /// that is false has a true one beside it, or wasn't propagated yet.
     fn start_of(&mut self, watching: &WatchLists, clause: ClauseId) -> Option<WatchedLiterals>
         requires state { IsState self.old }
         requires in_range { clause.0 < length self.old.clauses }
@@ -115,7 +115,7 @@ impl SatState {
         first != second && is_among(literals, first) && is_among(literals, second)
     }
 
-    /// Whether a clause may watch a literal beside another one: it isn't false, or the other one is
+    /// Whether a clause may watch a literal beside another one. It isn't false, or the other one is
     /// true, or it became false behind the propagation head.
     fn may_watch(&self, watching: &WatchLists, literal: Literal, other: Literal) -> bool
         requires state { IsState self.now }

@@ -14,7 +14,7 @@ use resolvo_pool_core::id::ClauseId;
 use resolvo_pool_core::want::R;
 
 impl SatState {
-    /// Jumps to the level of a learnt clause, adds the clause as pending, and assigns its asserted
+    /// Jumps to the level of a learnt clause, adds the clause as pending, and assigns its asserting
     /// literal.
     pub fn learn(&mut self, watching: &mut WatchLists, learnt: Learnt) -> R<ClauseId>
         requires ready { IsReady self.old watching.old }

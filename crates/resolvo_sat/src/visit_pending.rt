@@ -1,7 +1,7 @@
-//! Visits to the pending clauses. A new clause watches two of its literals from the start, at the
-//! front of their lists, and propagation begins anew at the front of the trail. Over what was
-//! propagated before, that walk changes something at new clauses alone. So these are visited, in
-//! the order in which that walk would meet them, and the walk itself goes on where it was.
+//! Visits to the pending clauses. By the rules a new clause watches two of its literals at once, at
+//! the front of their lists. Propagation then begins anew at the front of the trail. Over what was
+//! propagated before, that walk changes something at new clauses alone. So only these are visited,
+//! in the order in which that walk would meet them.
 ghost use Rattle.std.specs.Prelude.{◌≡◌, ◌<◌, length, slice_get, true, None, IfOk, IfSome, IsOkUnless};
 ghost use Rattle.resolvo_pool_core.specs.declared.want.Want.TheVariants.{Memory};
 ghost use Rattle.resolvo_sat.specs.Known.{clause_at};

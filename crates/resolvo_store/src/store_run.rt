@@ -26,10 +26,14 @@ const MILLION: u64 = 1_000_000;
 
 impl<N: SolverId + Drop> ClauseStore<N> {
     /// Carries out the calls in turn. A call whose condition doesn't hold has the answer `Bad` and
-    /// changes nothing. The conditions: a requirement gets candidates once; the lists that a call
-    /// names exist; the watched literals of a clause are two of its own; no assignment is below the
-    /// last one's level; no decay raises a score. After a refusal the store is that before the
-    /// refused call.
+    /// changes nothing. These are the conditions:
+    /// - a requirement gets candidates once;
+    /// - the lists that a call names exist;
+    /// - the watched literals of a clause are two of its own;
+    /// - no assignment is below the last one's level;
+    /// - no decay raises a score.
+    ///
+    /// After a refusal the store is that before the refused call.
     pub fn run(&mut self, alloc: Global, calls: &[StoreCall<N>]) -> R<Vec<StoreAnswer>>
         ensures answers { IfOk result
             (λ v. map plain_answer v.items
