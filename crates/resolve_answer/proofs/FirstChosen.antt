@@ -31,7 +31,8 @@ use Rattle.resolvo_catalogue.proofs.PassLemmas.{any_from}
 use Rattle.resolvo_catalogue.proofs.Places.{no_element, element_cases}
 use Rattle.resolvo_catalogue.proofs.RulesKept.{not_false}
 use Rattle.resolve_answer.specs.Flat.{AllLines}
-use Rattle.resolve_answer.specs.First.{IsFirstMatchOf, IsMatch, IsNeeded, HoldsFirst, IsFirstChoices, is_flat_listing, is_flat_need, AreNewest, AreFirstChosen, orders_of}
+use Rattle.resolve_answer.specs.First.{IsFirstMatchOf, IsMatch, IsNeeded, HoldsFirst, IsFirstChoices, is_flat_listing, is_flat_need, AreNewest, AreFirstChosen}
+use Rattle.resolve_answer.specs.TryOrder.{orders_of}
 use Rattle.resolve_answer.proofs.FirstMatches.{IsSooner, first_match, none_sooner, needed_grows}
 use Rattle.resolve_answer.proofs.FirstTried.{sooner_from}
 use Rattle.resolve_answer.proofs.FirstNeeds.{solvables_for, found, held, needed_by, needed_met, one_each, keeps_rules}

@@ -21,3 +21,4 @@ pub mod MessageLemmas
 pub mod Verdicts
 pub mod TrimRules
 pub mod StopLemmas
+pub mod HeadlineLemmas

@@ -50,7 +50,8 @@ use Rattle.resolvo.specs.Turns.{AreInTurn, AreSolvedByTurn, accepted_by, first_o
 use Rattle.resolvo.specs.Solve.{HasProof}
 use Rattle.resolvo.specs.SoftTurns.{AreCandidates, IsCandidate}
 use Rattle.resolvo.proofs.Forward.{end_after, end_is, turns_in_order}
-use Rattle.resolve_answer.specs.First.{AreFirstChosen, orders_of}
+use Rattle.resolve_answer.specs.First.{AreFirstChosen}
+use Rattle.resolve_answer.specs.TryOrder.{orders_of}
 use Rattle.resolve_answer.specs.Reported.{AreKept}
 use Rattle.resolve_answer.specs.Wishes.{AreWishesOf, asked_by, free_of, unless_forbidden}
 use Rattle.resolve_answer.specs.ReportTurns.{Solved, AreTurnsFor, AreWanted, IsBetween, IsFirstTurn, IsWishedTurn, first_end, number_at, past}

@@ -60,7 +60,8 @@ use Rattle.resolvo.specs.Turns.{first_of}
 use Rattle.resolve_answer.specs.Wishes.{AreWishesAt, AreWishesOf, free_of}
 use Rattle.resolve_answer.specs.ReportTurns.{AreTurnsFor, AreWanted, IsFirstTurn}
 use Rattle.resolve_answer.specs.declared.wishes.Wish.{Wish}
-use Rattle.resolve_answer.specs.First.{orders_of, AreFirstChosen}
+use Rattle.resolve_answer.specs.First.{AreFirstChosen}
+use Rattle.resolve_answer.specs.TryOrder.{orders_of}
 use Rattle.resolve_answer.specs.Message.{IsMessageOf, IsPlain, IsTextOf, joined}
 use Rattle.resolve_answer.specs.Solved.{IsInstalledOver, IsRefutedOver}
 use Rattle.resolve_answer.specs.Verdict.{Verdict}

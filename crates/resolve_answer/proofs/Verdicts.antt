@@ -11,7 +11,7 @@ use Rattle.resolvo_catalogue.proofs.KeptAlike.{kept_alike}
 use Rattle.resolvo.specs.Solver.{IsAnswer}
 use Rattle.resolvo.specs.Turns.{first_of}
 use Rattle.resolvo.specs.declared.solver.UnsolvableOrCancelled.TheVariants.{Unsolvable}
-use Rattle.resolve_answer.specs.First.{orders_of}
+use Rattle.resolve_answer.specs.TryOrder.{orders_of}
 use Rattle.resolve_answer.specs.Verdict.{IsChosen, IsGivenOver, IsRefused, Verdict}
 use Rattle.resolve_answer.proofs.FirstNeeds.{solvables_for}
 use Rattle.resolve_answer.proofs.WalkLemmas.{keeps_lines}

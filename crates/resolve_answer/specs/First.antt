@@ -2,17 +2,11 @@
 use Rattle.std.specs.Prelude.{◌≡◌, ◌↔◌, ◌⊎◌, ℕ, ◌≤◌, IsTrue, Bool, true, false, not, ◌&&◌, ◌||◌, is_some, List, [], ◌∷◌, Option, Some, None, Contains}
 use Rattle.resolvo_text.specs.Line.{Version, Spec, Cond, Line, Listed, Needs, Favour, Many}
 use Rattle.resolvo_text.specs.Matches.{Set, matches, condition_holds}
+use Rattle.resolvo_catalogue_core.specs.Answers.{Answer, entries_of}
 use Rattle.resolvo_catalogue_core.specs.Grammar.{line_at, owner_of}
 use Rattle.resolvo_catalogue_core.specs.Questions.{is_rule}
 use Rattle.resolvo_catalogue_core.specs.Rules.{binds}
 use Rattle.resolvo_catalogue_core.specs.Sets.{IsRuleKeeping, is_many}
-use Rattle.resolvo_pool_core.specs.declared.requirement.Requirement.{Requirement}
-use Rattle.resolvo_pool_core.specs.Provider.{IsTriedFor, tried_first}
-use Rattle.resolvo_pool_core.specs.Text.{alternatives_of}
-use Rattle.resolvo_catalogue.specs.Ids.{SolvableId}
-use Rattle.resolvo_catalogue.specs.Known.{set_at, members_of}
-use Rattle.resolvo_catalogue.specs.Provider.{Provider, candidates_of, IsSorted}
-use Rattle.resolvo_catalogue.specs.CandidateOrder.{matching}
 use Rattle.resolve_answer.specs.Flat.{AllLines, wishes_nothing}
 
 -- ---- the first match of a SPEC
@@ -110,8 +104,10 @@ pub record AreFirstChosen (catalogue request : List Line) (entries : Set) : Type
   -- of flat texts the entries are the newest versions that fit
   pub newest : AllLines is_flat_listing catalogue → AllLines is_flat_need request → AreNewest catalogue request entries
 
--- ---- over a provider
-
--- The orders in which a catalogue's provider lets the candidates of a requirement be tried.
-abbrev pub orders_of : (SolvableId → SolvableId → Bool) → Provider → Requirement → List SolvableId → Type 0
-orders_of same p r list = IsTriedFor (IsSorted p) same (tried_first (λ v. (set_at p.ids v).0) (candidates_of p)) (matching p) (alternatives_of (members_of p.ids) r) list
+-- The first choices of a search are entries. Where the request has no wish, all entries are first
+-- choices.
+pub record HasFirstChosen (catalogue request : List Line) (answers : List Answer) : Type 0 where
+  pub chosen : Set
+  pub first : AreFirstChosen catalogue request chosen
+  pub entries : (v : Version) → Contains chosen v → Contains (entries_of answers) v
+  pub all : AllLines wishes_nothing request → (v : Version) → Contains (entries_of answers) v → Contains chosen v

@@ -2,7 +2,9 @@ pub mod Wishes
 pub mod ReportTurns
 pub mod Flat
 pub mod First
+pub mod TryOrder
 pub mod Solved
+pub mod Headline
 pub mod Reported
 pub mod Message
 pub mod Verdict

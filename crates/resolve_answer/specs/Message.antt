@@ -21,7 +21,7 @@ use Rattle.resolvo_proof.specs.Order.{conflict_rules}
 use Rattle.resolvo_proof.specs.Offered.{offered_by}
 use Rattle.resolvo_proof.specs.declared.offers.Offers.{Offers}
 use Rattle.resolvo.specs.Conflicts.{AreOffers}
-use Rattle.resolve_answer.specs.First.{orders_of}
+use Rattle.resolve_answer.specs.TryOrder.{orders_of}
 
 -- the line has no newline
 abbrev pub IsPlain : List ℕ → Type 0

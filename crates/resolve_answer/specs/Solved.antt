@@ -18,7 +18,7 @@ use Rattle.resolvo.specs.declared.turns.Turn.{Turn}
 use Rattle.resolvo.specs.Solve.{AreRightSteps, HasProof}
 use Rattle.resolvo.specs.Solver.{Kept}
 use Rattle.resolvo.specs.Turns.{AreSolvedByTurn, first_of}
-use Rattle.resolve_answer.specs.First.{orders_of}
+use Rattle.resolve_answer.specs.TryOrder.{orders_of}
 use Rattle.resolvo_report.specs.Grammar.{most_bytes}
 use Rattle.resolve_answer.specs.Message.{IsTextOf, joined}
 use Rattle.resolve_answer.specs.Wishes.{AreWishesOf, free_of}

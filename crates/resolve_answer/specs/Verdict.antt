@@ -15,7 +15,7 @@ use Rattle.resolvo.specs.Solver.{IsAnswer, Kept}
 use Rattle.resolvo.specs.declared.conflict.Conflict.{Conflict}
 use Rattle.resolvo.specs.declared.solver.UnsolvableOrCancelled.{UnsolvableOrCancelled}
 use Rattle.resolvo.specs.declared.solver.UnsolvableOrCancelled.TheVariants.{Unsolvable}
-use Rattle.resolve_answer.specs.First.{orders_of}
+use Rattle.resolve_answer.specs.TryOrder.{orders_of}
 
 -- The result of a call of a solver over a catalogue's provider. It is cancelled only where there is
 -- a budget.

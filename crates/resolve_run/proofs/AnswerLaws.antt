@@ -23,11 +23,11 @@ use Rattle.resolve_check.specs.Check as check
 use Rattle.resolve_check.specs.Check.{IsCheck, IsVerdictText, yes_text}
 use Rattle.resolve_check.specs.declared.outcome.Outcome.{Outcome}
 use Rattle.resolve_check.specs.declared.outcome.Outcome.TheVariants as outcome
-use Rattle.resolve_run.specs.Answer as answer
-use Rattle.resolve_run.specs.Answer.{IsAnswer, IsAnswerOfLines, outcome_of}
+use Rattle.resolve_run.specs.Headline as answer
+use Rattle.resolve_run.specs.Headline.{IsHeadline, IsRightText, outcome_of}
 
-pub installs_if_any : (catalogue request : List Line) (ended : Outcome) (output : List ℕ) → IsAnswerOfLines catalogue request ended output → (ended ≡ outcome.Installed) ↔ ((set : Set) × IsRuleKeeping catalogue request set)
-installs_if_any catalogue request ended output a = go a.report a.ends a.reported.claim
+pub installs_if_any : (catalogue request : List Line) (ended : Outcome) (output : List ℕ) → IsRightText catalogue request ended output → (ended ≡ outcome.Installed) ↔ ((set : Set) × IsRuleKeeping catalogue request set)
+installs_if_any catalogue request ended output a = go a.report a.ends a.right.claim
   where
     go : (r : Report) → ended ≡ outcome_of r → IsClaimTrue catalogue request r → (ended ≡ outcome.Installed) ↔ ((set : Set) × IsRuleKeeping catalogue request set)
     go (Install lines steps) ends claim = (λ e. (_, claim.keeps_rules), λ any. ends)
@@ -39,14 +39,14 @@ installs_if_any catalogue request ended output a = go a.report a.ends a.reported
 -- ---- the judge
 
 -- no line of the report is refused
-pub refused_nowhere : (catalogue request : List Line) (ended : Outcome) (output : List ℕ) (n : ℕ) → IsAnswerOfLines catalogue request ended output → IsRefusedAt catalogue request output n → ⊥
-refused_nowhere catalogue request ended output n a refused = upheld_nowhere catalogue request (report_text a.report) a.report n a.reported.upheld (subst (λ (text : List ℕ). IsRefusedAt catalogue request text n) a.is_text refused)
+pub refused_nowhere : (catalogue request : List Line) (ended : Outcome) (output : List ℕ) (n : ℕ) → IsRightText catalogue request ended output → IsRefusedAt catalogue request output n → ⊥
+refused_nowhere catalogue request ended output n a refused = upheld_nowhere catalogue request (report_text a.report) a.report n a.right.upheld (subst (λ (text : List ℕ). IsRefusedAt catalogue request text n) a.is_text refused)
 
-pub judged_yes : (catalogue request : List Line) (ended : Outcome) (output : List ℕ) (v : Verdict) → IsAnswerOfLines catalogue request ended output → IsVerdict catalogue request output v → v ≡ verdict.Yes
+pub judged_yes : (catalogue request : List Line) (ended : Outcome) (output : List ℕ) (v : Verdict) → IsRightText catalogue request ended output → IsVerdict catalogue request output v → v ≡ verdict.Yes
 judged_yes catalogue request ended output verdict.Yes a is = refl
 judged_yes catalogue request ended output (verdict.No n) a refused = absurd (refused_nowhere catalogue request ended output n a refused)
 
-pub not_too_long : (catalogue request : List Line) (ended : Outcome) (output : List ℕ) (after : Option (List ℕ)) → IsAnswerOfLines catalogue request ended output → IsJudgeFault catalogue request TooLong (Some output) after (Unit {0}) → ⊥
+pub not_too_long : (catalogue request : List Line) (ended : Outcome) (output : List ℕ) (after : Option (List ℕ)) → IsRightText catalogue request ended output → IsJudgeFault catalogue request TooLong (Some output) after (Unit {0}) → ⊥
 not_too_long catalogue request ended output after a fault =
     let (taken, rest, most, more, right) = fault output refl in
     let parts : length output ≡ length taken + length rest = ap length right.parts ∙ length-append taken rest in
@@ -54,7 +54,7 @@ not_too_long catalogue request ended output after a fault =
     omega (arith, most, more, parts, few)
 
 -- the text of a check for the report of a run over the same texts
-pub accepted : (c r : List ℕ) (ended : Outcome) (output : List ℕ) (checked : Checked) (verdict_text : List ℕ) → IsAnswer c r ended output → (ended ≡ outcome.Faulty → ⊥) → IsCheck c r output checked verdict_text → (checked ≡ Accepted) × (verdict_text ≡ yes_text)
+pub accepted : (c r : List ℕ) (ended : Outcome) (output : List ℕ) (checked : Checked) (verdict_text : List ℕ) → IsHeadline c r ended output → (ended ≡ outcome.Faulty → ⊥) → IsCheck c r output checked verdict_text → (checked ≡ Accepted) × (verdict_text ≡ yes_text)
 accepted c r ended output checked verdict_text (answer.catalogue_fault n faulty ends is) sound found = absurd (sound ends)
 accepted c r ended output checked verdict_text (answer.request_fault catalogue n grammatical faulty ends is) sound found = absurd (sound ends)
 accepted c r ended output checked verdict_text (answer.grammatical catalogue request is_c is_r a) sound (check.catalogue_fault n faulty how text_is) = absurd (catalogue_fault c catalogue n is_c faulty)

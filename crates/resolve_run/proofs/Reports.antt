@@ -8,7 +8,8 @@ use Rattle.resolvo_catalogue_core.specs.Grammar.{AreRequestLines, IsCatalogueLin
 use Rattle.resolve_check.specs.declared.outcome.Outcome.{Outcome}
 use Rattle.resolve_check.specs.declared.outcome.Outcome.TheVariants.{Faulty}
 use Rattle.resolve_check.specs.Texts.{fault_text}
-use Rattle.resolve_run.specs.Answer.{IsAnswerOfLines, catalogue_fault, request_fault, grammatical}
+use Rattle.resolve_run.specs.Headline.{catalogue_fault, request_fault, grammatical}
+use Rattle.resolve_run.specs.Answer.{IsAnswerOfLines}
 use Rattle.resolvo_text.specs.Texts.{IsTextFault}
 use Rattle.resolvo_text.specs.declared.lines.ReadFault.{ReadFault}
 use Rattle.resolvo_text.specs.declared.lines.ReadFault.TheVariants as read

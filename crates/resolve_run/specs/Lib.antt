@@ -1,3 +1,4 @@
+pub mod Headline
 pub mod Answer
 pub mod Run
 pub mod Within

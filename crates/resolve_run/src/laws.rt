@@ -13,13 +13,13 @@ ghost use Rattle.resolve_check.specs.declared.outcome.Checked.TheVariants.{Yes a
 ghost use Rattle.resolve_check.specs.declared.outcome.Outcome.{Outcome};
 ghost use Rattle.resolve_check.specs.declared.outcome.Outcome.TheVariants.{Faulty, Installed};
 ghost use Rattle.resolve_check.specs.Check.{IsCheck, yes_text};
-ghost use Rattle.resolve_run.specs.Answer.{IsAnswer, IsAnswerOfLines};
+ghost use Rattle.resolve_run.specs.Headline.{IsHeadline, IsRightText};
 
 /// Over the lines of grammatical texts, a run installs exactly if some set of versions keeps the
 /// rules of both.
 pub fn installs_exactly_if_some_set_keeps_the_rules()
     ensures { (catalogue request : List Line) (ended : Outcome) (output : List ℕ)
-        → IsAnswerOfLines catalogue request ended output
+        → IsRightText catalogue request ended output
         → (ended ≡ Installed) ↔ ((set : Set) × IsRuleKeeping catalogue request set) }
 {}
 
@@ -29,22 +29,22 @@ pub fn installs_exactly_if_some_set_keeps_the_rules()
 pub fn the_judge_accepts_each_report()
     ensures judged { (catalogue request : List Line) (ended : Outcome) (output : List ℕ)
         (verdict : Verdict)
-        → IsAnswerOfLines catalogue request ended output
+        → IsRightText catalogue request ended output
         → IsVerdict catalogue request output verdict
         → verdict ≡ Yes }
     ensures refused_nowhere { (catalogue request : List Line) (ended : Outcome) (output : List ℕ)
         (n : ℕ)
-        → IsAnswerOfLines catalogue request ended output
+        → IsRightText catalogue request ended output
         → IsRefusedAt catalogue request output n
         → ⊥ }
     ensures not_too_long { (catalogue request : List Line) (ended : Outcome) (output : List ℕ)
         (after : Option (List ℕ))
-        → IsAnswerOfLines catalogue request ended output
+        → IsRightText catalogue request ended output
         → IsJudgeFault catalogue request TooLong (Some output) after (Unit {0})
         → ⊥ }
     ensures checked { (c r : List ℕ) (ended : Outcome) (output : List ℕ) (checked : Checked)
         (verdict_text : List ℕ)
-        → IsAnswer c r ended output
+        → IsHeadline c r ended output
         → (ended ≡ Faulty → ⊥)
         → IsCheck c r output checked verdict_text
         → (checked ≡ Accepted) × (verdict_text ≡ yes_text) }

@@ -7,8 +7,9 @@ ghost use Rattle.resolvo_report.specs.Grammar.{most_bytes};
 ghost use Rattle.resolvo_report.specs.Text.{report_text};
 ghost use Rattle.resolvo_report.specs.View.{report_of};
 ghost use Rattle.resolve_answer.specs.Wishes.{AreWishesAt};
-ghost use Rattle.resolve_run.specs.Answer.{IsAnswerOfLines, outcome_of};
+ghost use Rattle.resolve_run.specs.Answer.{IsAnswerOfLines};
 ghost use Rattle.resolve_check.specs.Devices.{reader_at, writer_at};
+ghost use Rattle.resolve_run.specs.Headline.{WritesHeadline, outcome_of};
 ghost use Rattle.resolve_run.specs.Run.{AnswersTexts, IsWriteLack, LeavesRequest, StopsRun, Writes};
 ghost use Rattle.resolve_run.specs.Within.{within, IsLackWithin, StopsBeforeWithin, StopsWithin};
 
@@ -122,9 +123,16 @@ pub fn run_within<C: Source, R: Source, W: Sink>(
     writer: &mut W,
     budget: Option<u64>,
 ) -> Result<Outcome, RunStop>
+    // The headline: the judge accepts the report, its claim is true, and it has the first choices.
+    ensures headline { IfOk result (WritesHeadline
+        (reader_at C.Source catalogue.old catalogue.new)
+        (reader_at R.Source request.old request.new)
+        (writer_at W.Sink writer.old writer.new)) }
+    // What explains it: the turns of the search, the steps in use, and the message.
     ensures written { IfOk result (Writes (reader_at C.Source catalogue.old catalogue.new)
         (reader_at R.Source request.old request.new)
         (writer_at W.Sink writer.old writer.new)) }
+    // After a refusal.
     ensures stopped { IfErr result (λ e. StopsWithin budget e
         (reader_at C.Source catalogue.old catalogue.new)
         (reader_at R.Source request.old request.new)
@@ -148,9 +156,16 @@ pub fn run<C: Source, R: Source, W: Sink>(
     request: &mut R,
     writer: &mut W,
 ) -> Result<Outcome, RunFault>
+    // The headline: the judge accepts the report, its claim is true, and it has the first choices.
+    ensures headline { IfOk result (WritesHeadline
+        (reader_at C.Source catalogue.old catalogue.new)
+        (reader_at R.Source request.old request.new)
+        (writer_at W.Sink writer.old writer.new)) }
+    // What explains it: the turns of the search, the steps in use, and the message.
     ensures written { IfOk result (Writes (reader_at C.Source catalogue.old catalogue.new)
         (reader_at R.Source request.old request.new)
         (writer_at W.Sink writer.old writer.new)) }
+    // After a refusal.
     ensures stopped { IfErr result (λ e. StopsRun e
         (reader_at C.Source catalogue.old catalogue.new)
         (reader_at R.Source request.old request.new)

@@ -13,7 +13,7 @@ use Rattle.resolvo.specs.declared.conflict.Conflict.{Conflict}
 use Rattle.resolvo.specs.declared.solver.UnsolvableOrCancelled.{UnsolvableOrCancelled}
 use Rattle.resolvo.specs.SoftTurns.{AreCandidates}
 use Rattle.resolvo.specs.declared.solver.UnsolvableOrCancelled.TheVariants.{Unsolvable}
-use Rattle.resolve_answer.specs.First.{orders_of}
+use Rattle.resolve_answer.specs.TryOrder.{orders_of}
 use Rattle.resolve_answer.specs.Solved.{IsInstalledOver, IsRefutedOver}
 use Rattle.resolve_answer.specs.Verdict.{Verdict}
 use Rattle.resolve_answer.specs.Wishes.{AreWishesAt, free_of}
