@@ -10,6 +10,7 @@ use Rattle.resolvo_proof.specs.declared.step.ProofStep.{ProofStep}
 use Rattle.resolvo_sat.specs.declared.analyze.FinalConflict.{FinalConflict}
 use Rattle.resolvo_encoder.specs.declared.encoder.Encoder.{Encoder}
 use Rattle.resolvo.specs.Solution.{IsUnsolvable}
+use Rattle.resolvo.specs.SoftTurns.{AreCandidates}
 use Rattle.resolvo_graph.specs.Graph.{Graph}
 use Rattle.resolvo_graph.specs.Message.{IsMessage}
 use Rattle.resolvo_graph.specs.declared.display_line.MessageLine.{MessageLine}
@@ -99,6 +100,10 @@ module _ {N S : Type 0} (same : S → S → Bool) (p : Packages N S) (root : Rul
   IsAnswer (Err (Cancelled value)) k = ⊤
   IsAnswer (Err Memory) k = ⊤
   IsAnswer (Err Ids) k = ⊤
+
+  -- The answer, where the soft requirements are solvables that the packages have.
+  abbrev pub AnswersCandidates : {C P : Type 0} → Result (Vec S) (UnsolvableOrCancelled C) → Kept P N S → Type 0
+  AnswersCandidates result k = AreCandidates same p softs → IsAnswer result k
 
 -- The results: a step for each clause but the root's. Without a solution there is one more, which
 -- has no literals, no turn, and the conflict, whose clauses are its causes. After a stop there is

@@ -7,9 +7,8 @@ ghost use Rattle.std.specs.Iterator.Runs.{WholeRun};
 ghost use Rattle.resolvo_packages.specs.PackageSource.{packages_by, orders_by};
 ghost use Rattle.resolvo_state.specs.Keys.{AreOnce};
 ghost use Rattle.resolvo.specs.Solve.{AskNothing};
-ghost use Rattle.resolvo.specs.SoftTurns.{AreCandidates};
 ghost use Rattle.resolvo.specs.Conflicts.{Left, left_of};
-ghost use Rattle.resolvo.specs.Solver.{HoldsConflict, Kept, IfEnded, IsAnswer, IsStopped, Keeps, Leaves, root_of, stopped_by};
+ghost use Rattle.resolvo.specs.Solver.{HoldsConflict, Kept, AnswersCandidates, IfEnded, IsStopped, Keeps, Leaves, root_of, stopped_by};
 
 use crate::conflict::{Conflict, KeptConflict, solve_to_conflict};
 use crate::problem::Problem;
@@ -265,18 +264,13 @@ impl<D: DependencyProvider> Solver<D> {
         ensures answer { IfEnded result
             ((softs : List D.SolvableId)
             × WholeRun I.next_gives problem.soft_requirements (λ p. softs ≡ p.items)
-            × (AreCandidates D.SolvableId.eq
+            × AnswersCandidates D.SolvableId.eq
             (packages_by D.name_of_solvable D.name_of_version_set D.members_of
             D.condition_of D.candidates_of D.matches D.dependencies_of self.old.provider)
-            softs
-            → IsAnswer D.SolvableId.eq
-            (packages_by D.name_of_solvable D.name_of_version_set D.members_of
-            D.condition_of D.candidates_of D.matches D.dependencies_of
-            self.old.provider)
             (root_of problem)
-            (orders_by D.name_of_version_set D.members_of D.candidates_of D.matches
-            D.sorts D.SolvableId.eq self.old.provider)
-            softs result self.new)
+            (orders_by D.name_of_version_set D.members_of D.candidates_of D.matches D.sorts
+            D.SolvableId.eq self.old.provider)
+            softs result self.new
             × (AskNothing problem.requirements.items problem.constraints.items softs
             → self.new.clause_count ≡ 1)) }
         ensures once { IfOk result (λ v. AreOnce v.items) }
