@@ -151,23 +151,11 @@ module _ (versions : List Version) (distinct : AreDistinct versions) where
 -- ---- numbered clauses as they grow
 
 module _ (versions : List Version) where
-  named_kept : (old new : List (Vec ℕ × ℕ)) → Keeps old new → (ms : Clause) (ls : List (pass.Literal ℕ)) → AreNamed (Names versions old) ms ls → AreNamed (Names versions new) ms ls
+  pub named_kept : (old new : List (Vec ℕ × ℕ)) → Keeps old new → (ms : Clause) (ls : List (pass.Literal ℕ)) → AreNamed (Names versions old) ms ls → AreNamed (Names versions new) ms ls
   named_kept old new k [] [] n = tt
   named_kept old new k [] (l ∷ ls) n = absurd n
   named_kept old new k (m ∷ ms) [] n = absurd n
   named_kept old new k (m ∷ ms) (l ∷ ls) n = ((n.0.0, n.0.1, k n.0.0 l.atom n.0.2), n.1, named_kept old new k ms ls n.2)
-
-  pub clauses_kept : (old new : List (Vec ℕ × ℕ)) → Keeps old new → (ds : List Clause) (cs : List (List (pass.Literal ℕ))) → AreNamedClauses (Names versions old) ds cs → AreNamedClauses (Names versions new) ds cs
-  clauses_kept old new k [] [] n = tt
-  clauses_kept old new k [] (c ∷ cs) n = absurd n
-  clauses_kept old new k (d ∷ ds) [] n = absurd n
-  clauses_kept old new k (d ∷ ds) (c ∷ cs) n = (named_kept old new k d c n.0, clauses_kept old new k ds cs n.1)
-
-  pub clauses_push : (entries : List (Vec ℕ × ℕ)) (ds : List Clause) (cs : List (List (pass.Literal ℕ))) (d : Clause) (c : List (pass.Literal ℕ)) → AreNamedClauses (Names versions entries) ds cs → AreNamed (Names versions entries) d c → AreNamedClauses (Names versions entries) (ds ++ d ∷ []) (cs ++ c ∷ [])
-  clauses_push entries [] [] d c n h = (h, tt)
-  clauses_push entries [] (b ∷ bs) d c n h = absurd n
-  clauses_push entries (e ∷ es) [] d c n h = absurd n
-  clauses_push entries (e ∷ es) (b ∷ bs) d c n h = (n.0, clauses_push entries es bs d c n.1 h)
 
   named_push : (entries : List (Vec ℕ × ℕ)) (ms : Clause) (ls : List (pass.Literal ℕ)) (m : pass.Literal Atom) (l : pass.Literal ℕ) → AreNamed (Names versions entries) ms ls → Names versions entries m.atom l.atom → l.positive ≡ m.positive
       → AreNamed (Names versions entries) (ms ++ m ∷ []) (ls ++ l ∷ [])

@@ -1,14 +1,14 @@
 -- How a pass goes on by one literal or one clause.
-use Rattle.std.proofs.Common.{◌≡◌, ℕ, ◌+◌, ◌<◌, Bool, true, false, List, [], ◌∷◌, ◌++◌, length, take, drop, map, get_or, ◌-◌, Option, Some, refl, sym, ap, ◌∙◌, cond, nat_eq}
-use Rattle.std.specs.Prelude.{not, ◌&&◌, filter, ◌||◌, slice_get}
+use Rattle.std.proofs.Common.{◌≡◌, ℕ, ◌+◌, ◌<◌, Bool, true, false, List, [], ◌∷◌, ◌++◌, length, take, drop, map, get_or, ◌-◌, Option, refl, sym, ap, ◌∙◌, cond, nat_eq}
+use Rattle.std.specs.Prelude.{not, ◌&&◌, filter, ◌||◌}
 use Rattle.std.specs.List.{list_all}
 use Rattle.std.proofs.lemmas.List.{take_more, append-nil, drop_more, map-append}
-use Rattle.std.proofs.lemmas.Option.{get_or_from_slice_get}
 use Rattle.std.proofs.lemmas.List.Folds.{list_all-append}
 use Rattle.resolvo_pool_core.specs.OnePass.Rest.{last, more}
 use Rattle.resolvo_pool_core.specs.OnePass as pass
 use Rattle.resolvo_pool_core.specs.OnePass.{is_denied, is_broken, same_literal, rest_of, without_false, reading, refutes, learn}
 use Rattle.resolvo_checker.specs.declared.literal.Literal.{Literal}
+use Rattle.resolvo_checker.specs.Kept.{Kept, literals_at}
 use Rattle.resolvo_checker.specs.Literals.{literal_of, literals_of, clause_at}
 use Rattle.resolvo_checker.specs.Rup.{with_literal}
 
@@ -59,9 +59,9 @@ or_swap true b c = refl
 or_swap false b c = refl
 
 -- one more clause of a pass
-pub refutes-more : (clauses : List (List Literal)) (causes : List ℕ) (i d : ℕ) (known : ℕ → Option Bool) (clause : List Literal) (refuted : Bool) → i < length causes → slice_get clauses (get_or causes i d - 1) ≡ Some clause →
+pub refutes-more : (clauses : List Kept) (causes : List ℕ) (i d : ℕ) (known : ℕ → Option Bool) (clause : List Literal) (refuted : Bool) → i < length causes → clause ≡ literals_at clauses (get_or causes i d - 1) →
     ((refuted || is_broken (reading nat_eq known (literals_of clause))) || refutes nat_eq (learn nat_eq known (reading nat_eq known (literals_of clause))) (map (clause_at clauses) (drop (i + 1) causes))) ≡ (refuted || refutes nat_eq known (map (clause_at clauses) (drop i causes)))
 refutes-more clauses causes i d known clause refuted h g =
     or_swap refuted _ _
-    ∙ (ap (λ c. refuted || (is_broken (reading nat_eq known (literals_of c)) || refutes nat_eq (learn nat_eq known (reading nat_eq known (literals_of c))) (map (clause_at clauses) (drop (i + 1) causes)))) (sym (get_or_from_slice_get clauses (get_or causes i d - 1) clause [] g))
+    ∙ (ap (λ c. refuted || (is_broken (reading nat_eq known (literals_of c)) || refutes nat_eq (learn nat_eq known (reading nat_eq known (literals_of c))) (map (clause_at clauses) (drop (i + 1) causes)))) g
     ∙ ap (λ ns. refuted || refutes nat_eq known (map (clause_at clauses) ns)) (sym (drop_more causes i d h)))

@@ -5,7 +5,7 @@ use Rattle.std.specs.Global.{Vec}
 use Rattle.std.specs.List.{flat_map}
 use Rattle.std.specs.Str.{bytes_eq}
 use Rattle.std.specs.Cmp.Lexicographic.{bytes_decides}
-use Rattle.std.proofs.lemmas.Bool.{cases_Bool, cond-true, cond-false}
+use Rattle.std.proofs.lemmas.Bool.{false≢true, cases_Bool, cond-true, cond-false}
 use Rattle.std.proofs.lemmas.Option.{none-some, same_Some}
 use Rattle.resolvo_text.specs.Line.{Version, Spec, Line}
 use Rattle.resolvo_catalogue_core.proofs.Pushed.{get_new, get_kept}
@@ -16,6 +16,7 @@ use Rattle.resolvo_checker.specs.Keys.{spec_key}
 use Rattle.resolvo_checker.specs.StepClauses.{clause_of}
 use Rattle.resolvo_checker.specs.Proof.{allows_place, follows}
 use Rattle.resolvo_checker.specs.CheckStep.{causes_in}
+use Rattle.resolvo_checker.specs.Kept.{is_long}
 use Rattle.resolvo_checker.specs.StepKeys.{key_of, Recorded}
 use Rattle.resolvo_checker.proofs.NameLemmas.{specs_key_is, tail}
 
@@ -86,6 +87,21 @@ plain (step.Unknown line) key e = absurd (none-some key e)
 plain (step.Digit v place bit) key e = absurd (none-some key e)
 plain (step.Any v) key e = absurd (none-some key e)
 plain (step.Derive literals causes) key e = absurd (none-some key e)
+
+pub plain_long : (s : Step) → is_long s ≡ true → IsPlain s
+plain_long (step.Need p line case) h = record { follows = λ c r before. refl; allows = λ v place. refl; causes = refl }
+plain_long (step.Shared ss) h = record { follows = λ c r before. refl; allows = λ v place. refl; causes = refl }
+plain_long (step.Gate w line) h = absurd (false≢true h)
+plain_long (step.Limit p line) h = absurd (false≢true h)
+plain_long (step.LimitBars p line v) h = absurd (false≢true h)
+plain_long (step.Outside s v) h = absurd (false≢true h)
+plain_long (step.Matches s v) h = absurd (false≢true h)
+plain_long (step.Lock line v) h = absurd (false≢true h)
+plain_long (step.Exclude line) h = absurd (false≢true h)
+plain_long (step.Unknown line) h = absurd (false≢true h)
+plain_long (step.Digit v place bit) h = absurd (false≢true h)
+plain_long (step.Any v) h = absurd (false≢true h)
+plain_long (step.Derive literals causes) h = absurd (false≢true h)
 
 -- ---- one step more
 

@@ -10,7 +10,7 @@ use Rattle.resolvo_catalogue_core.proofs.Pushed.{get_push}
 use Rattle.resolvo_report.specs.Value.{Step}
 use Rattle.resolvo_report.specs.View.{step_of, steps_of}
 use Rattle.resolvo_report.specs.declared.step.Step.{Step as CodeStep}
-use Rattle.resolvo_checker.specs.declared.literal.Literal.{Literal}
+use Rattle.resolvo_checker.specs.Kept.{Kept}
 use Rattle.resolvo_checker.specs.Numbers.{number_in}
 use Rattle.resolvo_checker.specs.Proof.{is_valid_step, IsProof, IsWrongAt}
 use Rattle.resolvo_checker.specs.CheckStep.{allows, causes_in, count_causes, CheckerInvariant}
@@ -21,11 +21,11 @@ none_given zero v place = refl
 none_given (suc n) zero place = refl
 none_given (suc n) (suc v) place = none_given n v place
 
-pub invariant_empty : (catalogue request : List Line) (entries : List (Vec ℕ × ℕ)) (clauses : List (List Literal)) (places : List (Option ℕ)) (rules : List (Vec ℕ × ℕ)) (n : ℕ) → clauses ≡ [] → places ≡ replicate n None → rules ≡ [] → CheckerInvariant catalogue request entries clauses places rules []
+pub invariant_empty : (catalogue request : List Line) (entries : List (Vec ℕ × ℕ)) (clauses : List Kept) (places : List (Option ℕ)) (rules : List (Vec ℕ × ℕ)) (n : ℕ) → clauses ≡ [] → places ≡ replicate n None → rules ≡ [] → CheckerInvariant catalogue request entries clauses places rules []
 invariant_empty catalogue request entries clauses places rules n e f g =
-    subst (λ (cs : List (List Literal)). CheckerInvariant catalogue request entries cs places rules []) (sym e)
+    subst (λ (cs : List Kept). CheckerInvariant catalogue request entries cs places rules []) (sym e)
     (subst (λ (ps : List (Option ℕ)). CheckerInvariant catalogue request entries [] ps rules []) (sym f)
-    (record { numbered = tt; placed = λ v k place at. sym (none_given n k place); recorded = λ s k known. absurd (none-some k (ap (λ (rs : List (Vec ℕ × ℕ)). number_in rs known.0) (sym g) ∙ known.2)) }))
+    (record { kept = tt; placed = λ v k place at. sym (none_given n k place); recorded = λ s k known. absurd (none-some k (ap (λ (rs : List (Vec ℕ × ℕ)). number_in rs known.0) (sym g) ∙ known.2)) }))
 
 -- one step more
 pub steps_more : (steps : List CodeStep) (i : ℕ) (s : CodeStep) → i < length steps → s ≡ get_or steps i s → steps_of (take (i + 1) steps) ≡ steps_of (take i steps) ++ step_of s ∷ []

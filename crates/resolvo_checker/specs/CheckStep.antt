@@ -1,19 +1,18 @@
 -- The state of the checker of a proof.
-use Rattle.std.specs.Prelude.{◌≡◌, ℕ, ◌+◌, Bool, true, false, ◌==◌, List, [], ◌∷◌, map, length, Option, Some, None, slice_get, unwrap_or}
+use Rattle.std.specs.Prelude.{◌≡◌, ⊤, ℕ, ◌+◌, Bool, true, false, ◌==◌, List, [], ◌∷◌, length, Option, Some, None, slice_get, is_some, unwrap_or}
 use Rattle.std.specs.Global.{Vec}
 use Rattle.std.specs.List.{list_all}
 use Rattle.resolvo_text.specs.Line.{Version, Line}
 use Rattle.resolvo_catalogue_core.specs.Listed.{listed}
-use Rattle.resolvo_pool_core.specs.OnePass.{AreNamedClauses}
 use Rattle.resolvo_report.specs.Value.{Step}
 use Rattle.resolvo_report.specs.Value as step
 use Rattle.resolvo_checker.specs.declared.literal.Literal.{Literal}
 use Rattle.resolvo_checker.specs.declared.check_step.Premises.{Premises}
 use Rattle.resolvo_checker.specs.declared.check_step.Premises.TheVariants.{All, Named}
-use Rattle.resolvo_checker.specs.Literals.{literals_of}
+use Rattle.resolvo_checker.specs.Kept.{Kept, Ready, Deferred, is_ready}
 use Rattle.resolvo_checker.specs.StepClauses.{Clause, clause_of}
 use Rattle.resolvo_checker.specs.Proof.{allows_place}
-use Rattle.resolvo_checker.specs.Keys.{Names, Extends}
+use Rattle.resolvo_checker.specs.Keys.{Numbered, Extends}
 use Rattle.resolvo_checker.specs.StepKeys.{Recorded}
 
 abbrev pub flag_at : List Bool → ℕ → Bool
@@ -37,6 +36,11 @@ allows None place = true
 abbrev pub clause_or_none : List Line → List Line → Step → Clause
 clause_or_none catalogue request s = unwrap_or (clause_of catalogue request s) []
 
+-- the numbers of the steps whose clauses a step names
+abbrev pub causes_of : Step → List ℕ
+causes_of (step.Derive literals causes) = causes
+causes_of s = []
+
 -- how many clauses a step names
 abbrev pub causes_in : Step → ℕ
 causes_in (step.Derive literals causes) = length causes
@@ -56,8 +60,23 @@ AtomIds (Some clause) there versions old new ids = (there ≡ true) × Extends v
 abbrev pub Given : List Line → List (Option ℕ) → List Step → Type 0
 Given catalogue places earlier = (v : Version) (n place : ℕ) → slice_get (listed catalogue) n ≡ Some v → list_all (allows_place v place) earlier ≡ allows (slice_get places n) place
 
+-- the literals are those of the step's clause, or the step itself is kept, and has a clause
+abbrev pub IsKept : List Line → List Line → List (Vec ℕ × ℕ) → Step → Kept → Type 0
+IsKept catalogue request entries s (Ready ls) = Numbered (listed catalogue) entries (clause_or_none catalogue request s) ls
+IsKept catalogue request entries s (Deferred t) = (t ≡ s) × (is_some (clause_of catalogue request s) ≡ true)
+
+abbrev pub AreKept : List Line → List Line → List (Vec ℕ × ℕ) → List Step → List Kept → Type 0
+AreKept catalogue request entries [] [] = ⊤
+AreKept catalogue request entries [] (k ∷ kept) = ⊥
+AreKept catalogue request entries (s ∷ earlier) [] = ⊥
+AreKept catalogue request entries (s ∷ earlier) (k ∷ kept) = IsKept catalogue request entries s k × AreKept catalogue request entries earlier kept
+
+-- no clause that the step names is deferred
+abbrev pub NamesReady : List Kept → Step → Type 0
+NamesReady kept s = list_all (is_ready kept) (causes_of s) ≡ true
+
 -- the checker's state is that after the earlier steps
-pub record CheckerInvariant (catalogue request : List Line) (entries : List (Vec ℕ × ℕ)) (clauses : List (List Literal)) (places : List (Option ℕ)) (rules : List (Vec ℕ × ℕ)) (earlier : List Step) : Type 0 where
-  pub numbered : AreNamedClauses (Names (listed catalogue) entries) (map (clause_or_none catalogue request) earlier) (map literals_of clauses)
+pub record CheckerInvariant (catalogue request : List Line) (entries : List (Vec ℕ × ℕ)) (clauses : List Kept) (places : List (Option ℕ)) (rules : List (Vec ℕ × ℕ)) (earlier : List Step) : Type 0 where
+  pub kept : AreKept catalogue request entries earlier clauses
   pub placed : Given catalogue places earlier
   pub recorded : Recorded catalogue request rules earlier

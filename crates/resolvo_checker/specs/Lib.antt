@@ -1,4 +1,5 @@
 pub mod Truth
+pub mod Kept
 pub mod Pieces
 pub mod Literals
 pub mod Rup

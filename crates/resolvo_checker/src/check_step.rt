@@ -1,7 +1,7 @@
 //! The check of a proof, step by step.
 //! Its invariant is `CheckerInvariant` of specs/CheckStep.antt.
 
-ghost use Rattle.std.specs.Prelude.{◌≡◌, ◌+◌, ◌^◌, ◌<◌, ◌≤◌, ◌&&◌, [], ◌∷◌, ◌++◌, ℕ, List, IfOk, IsTrue, length, map, is_some, slice_get, slice_index_or, true};
+ghost use Rattle.std.specs.Prelude.{◌≡◌, ◌+◌, ◌^◌, ◌<◌, ◌≤◌, ◌&&◌, [], ◌∷◌, ◌++◌, ℕ, List, Option, IfOk, OnOk, IsTrue, None, length, map, is_some, slice_get, slice_index_or, true};
 ghost use Rattle.std.specs.Global.{Vec};
 ghost use Rattle.std.specs.Bool.{nat_eq};
 ghost use Rattle.std.specs.List.{list_all};
@@ -17,7 +17,8 @@ ghost use Rattle.resolvo_checker.specs.StepClauses.{is_atom, fits_mark, is_liste
 ghost use Rattle.resolvo_checker.specs.Proof.{rests_on_named, allows_place, follows as follows_lem, is_valid_step};
 ghost use Rattle.resolvo_checker.specs.Keys.{Extends, Numbered};
 ghost use Rattle.resolvo_checker.specs.Numbers.{AreNumbers};
-ghost use Rattle.resolvo_checker.specs.CheckStep.{flag_at, names_catalogue, names_request, allows, causes_in, clause_or_none, AtomIds as NumbersOf, CheckerInvariant, Given};
+ghost use Rattle.resolvo_checker.specs.Kept.{Ready, deferred_at, is_ready};
+ghost use Rattle.resolvo_checker.specs.CheckStep.{flag_at, names_catalogue, names_request, allows, causes_in, causes_of as causes_of_lem, clause_or_none, AtomIds as NumbersOf, CheckerInvariant, Given, NamesReady};
 ghost use Rattle.resolvo_checker.specs.Built.{rule_clause_of};
 
 use crate::assignment::Assignment;
@@ -26,10 +27,11 @@ use crate::clause_atoms::{
     number_all, push_any, push_bit, push_match, push_outside, push_shared, push_version,
 };
 use crate::clauses::Clauses;
+use crate::kept::long_step;
 use crate::literal::Literal;
 use crate::rule_steps::RuleSteps;
 use crate::rup::is_rup;
-use crate::steps::{clause_of, number_of};
+use crate::steps::{clause_of, has_clause, number_of};
 use resolvo_catalogue_core::{Catalogue, Request, Version, VersionNo};
 use resolvo_report as report;
 use resolvo_report::{Atom, Place, Step};
@@ -224,6 +226,70 @@ fn number_step(
     number_rule(alloc, catalogue, request, numbers, out, step)
 }
 
+/// Builds the clause of a step, from 0, if it is deferred.
+fn build(
+    alloc: Global,
+    catalogue: &Catalogue,
+    request: &Request,
+    numbers: &mut AtomIds,
+    out: &mut Vec<Literal>,
+    clauses: &mut Clauses,
+    place: usize,
+) -> Result<(), AllocError>
+    ensures represents { OnOk result
+        ((places : List (Option ℕ)) (rules : List (Vec ℕ × ℕ)) (earlier : List StepValue)
+        → CheckerInvariant catalogue.now request.now.lines numbers.old clauses.old.kept places rules earlier
+        → CheckerInvariant catalogue.now request.now.lines numbers.new clauses.new.kept places rules earlier) }
+    ensures ready { OnOk result (deferred_at clauses.new.kept place ≡ None) }
+    ensures stays { OnOk result
+        ((n : ℕ) → deferred_at clauses.old.kept n ≡ None → deferred_at clauses.new.kept n ≡ None) }
+    ensures count { OnOk result (length clauses.new.kept ≡ length clauses.old.kept) }
+    ensures readings { clauses.new.readings ≡ clauses.old.readings }
+{
+    let Some(step) = clauses.deferred(place) else {
+        return Ok(());
+    };
+    // Each deferred step has a clause.
+    let _has_clause = number_step(alloc, catalogue, request, numbers, out, step)?;
+    clauses.build(place, out)?;
+    Ok(())
+}
+
+/// Builds the clauses that the step names, where they are deferred.
+fn build_causes(
+    alloc: Global,
+    catalogue: &Catalogue,
+    request: &Request,
+    numbers: &mut AtomIds,
+    out: &mut Vec<Literal>,
+    clauses: &mut Clauses,
+    causes: &[u32],
+) -> Result<(), AllocError>
+    ensures represents { OnOk result
+        ((places : List (Option ℕ)) (rules : List (Vec ℕ × ℕ)) (earlier : List StepValue)
+        → CheckerInvariant catalogue.now request.now.lines numbers.old clauses.old.kept places rules earlier
+        → CheckerInvariant catalogue.now request.now.lines numbers.new clauses.new.kept places rules earlier) }
+    ensures ready { OnOk result (list_all (is_ready clauses.new.kept) causes.now ≡ true) }
+    ensures count { OnOk result (length clauses.new.kept ≡ length clauses.old.kept) }
+    ensures readings { clauses.new.readings ≡ clauses.old.readings }
+{
+    for cause in causes {
+        let place = (*cause as usize).saturating_sub(1);
+        build(alloc, catalogue, request, numbers, out, clauses, place)?;
+    }
+    Ok(())
+}
+
+/// The numbers of the steps whose clauses a step names.
+fn causes_of(step: &Step) -> &[u32]
+    ensures { result.now ≡ causes_of_lem (step_of step.now) }
+{
+    match step {
+        Step::Derive { causes, .. } => causes,
+        _ => &[],
+    }
+}
+
 /// Whether the version has this place, or none yet.
 fn may_have(places: &[Option<u32>], version: VersionNo, place: u32) -> bool
     ensures { result ≡ allows (slice_get places.now version.0) place }
@@ -330,6 +396,7 @@ fn follows(
         → CheckerInvariant catalogue.now request entries clauses.old.kept places.now rules earlier
         → Numbered (listed catalogue.now) entries
         (clause_or_none catalogue.now request (step_of step.now)) literals.now
+        → NamesReady clauses.old.kept (step_of step.now)
         → fine ≡ follows_lem catalogue.now request earlier (step_of step.now)) }
     // Whatever the answer.
     ensures pass { truth.new.pass ≤ length clauses.old.kept + 1 }
@@ -377,7 +444,7 @@ fn record_place(catalogue: &Catalogue, places: &mut Vec<Option<u32>>, step: &Ste
     }
 }
 
-/// Checks a step that isn't there yet, and adds its clause if it is valid.
+/// Checks a step whose causes are built, and adds its clause if it is valid.
 fn add(
     alloc: Global,
     catalogue: &Catalogue,
@@ -391,6 +458,7 @@ fn add(
     requires long { length checker.old.places.items ≡ length (listed catalogue.now) }
     requires short { length clauses.old.kept + 1 < 2 ^ 32 }
     requires room { clauses.old.readings.read + causes_in (step_of step.now) < 2 ^ 64 }
+    requires ready { NamesReady clauses.old.kept (step_of step.now) }
     // After an answer.
     ensures answer { IfOk result
         (λ fine.
@@ -453,6 +521,72 @@ fn add(
     Ok(true)
 }
 
+/// Checks a step that isn't there yet, and adds it if it is valid. Its clause isn't built if it may
+/// be long, and those that it names are.
+fn defer_or_add(
+    alloc: Global,
+    catalogue: &Catalogue,
+    request: &Request,
+    scope: &Premises,
+    checker: &mut Checker,
+    clauses: &mut Clauses,
+    step: &Step,
+) -> Result<bool, AllocError>
+    requires later { checker.old.truth.pass ≤ length clauses.old.kept }
+    requires long { length checker.old.places.items ≡ length (listed catalogue.now) }
+    requires short { length clauses.old.kept + 1 < 2 ^ 32 }
+    requires room { clauses.old.readings.read + causes_in (step_of step.now) < 2 ^ 64 }
+    // After an answer.
+    ensures answer { IfOk result
+        (λ fine.
+        (earlier : List StepValue)
+        → CheckerInvariant catalogue.now request.now.lines checker.old.numbers clauses.old.kept
+        checker.old.places.items checker.old.rules earlier
+        → fine
+        ≡ is_valid_step catalogue.now request.now.lines (names_catalogue scope.now)
+        (names_request scope.now) earlier (step_of step.now)) }
+    ensures represents { IfOk result
+        (λ fine.
+        IsTrue fine
+        → (earlier : List StepValue)
+        → CheckerInvariant catalogue.now request.now.lines checker.old.numbers clauses.old.kept
+        checker.old.places.items checker.old.rules earlier
+        → CheckerInvariant catalogue.now request.now.lines checker.new.numbers clauses.new.kept
+        checker.new.places.items checker.new.rules (earlier ++ step_of step.now ∷ [])) }
+    ensures later { IfOk result (λ fine. IsTrue fine → checker.new.truth.pass ≤ length clauses.new.kept) }
+    ensures long { IfOk result
+        (λ fine. IsTrue fine → length checker.new.places.items ≡ length (listed catalogue.now)) }
+    ensures count { IfOk result (λ fine. IsTrue fine → length clauses.new.kept ≡ length clauses.old.kept + 1) }
+    ensures read { IfOk result
+        (λ fine.
+        IsTrue fine
+        → clauses.new.readings
+        ≡ record clauses.old.readings
+        { read = clauses.old.readings.read + causes_in (step_of step.now) }) }
+{
+    let copy = long_step(alloc, step)?;
+    let Some(long) = copy else {
+        build_causes(
+            alloc,
+            catalogue,
+            request,
+            &mut checker.numbers,
+            &mut checker.literals,
+            clauses,
+            causes_of(step),
+        )?;
+        return add(alloc, catalogue, request, scope, checker, clauses, step);
+    };
+    let there = has_clause(alloc, catalogue, request, step)?;
+    if !there || !is_named(scope, step) {
+        return Ok(false);
+    }
+    let place = clauses.len();
+    clauses.defer(long)?;
+    checker.rules.record(alloc, step, place)?;
+    Ok(true)
+}
+
 /// Adds the clause of the same earlier step, from 0, if the step may name its line.
 fn repeat(
     scope: &Premises,
@@ -469,7 +603,7 @@ fn repeat(
         (λ fine.
         IsTrue fine
         → clauses.new.kept
-        ≡ clauses.old.kept ++ slice_index_or clauses.old.kept earlier [] ∷ []) }
+        ≡ clauses.old.kept ++ slice_index_or clauses.old.kept earlier (Ready []) ∷ []) }
     ensures count { IfOk result (λ fine. IsTrue fine → length clauses.new.kept ≡ length clauses.old.kept + 1) }
     ensures readings { clauses.new.readings ≡ clauses.old.readings }
 {
@@ -483,7 +617,8 @@ fn repeat(
 /// Checks the next step, and adds its clause if it is valid.
 ///
 /// The steps are numbered from 1. A step that is there already, whose clause may be longer than the
-/// step, has the clause of the earlier one.
+/// step, has the clause of the earlier one. The clause of a `need` or `shared` step is built only as
+/// a later step names it.
 pub fn advance(
     alloc: Global,
     catalogue: &Catalogue,
@@ -528,6 +663,6 @@ pub fn advance(
     let earlier = checker.rules.earlier(alloc, step, clauses.len())?;
     match earlier {
         Some(place) => repeat(scope, clauses, step, place),
-        None => add(alloc, catalogue, request, scope, checker, clauses, step),
+        None => defer_or_add(alloc, catalogue, request, scope, checker, clauses, step),
     }
 }

@@ -70,7 +70,7 @@ pub fn push_bit(
     Ok(())
 }
 
-fn copies_of(alloc: Global, specs: &[Spec]) -> Result<Vec<Spec>, AllocError>
+pub fn copies_of(alloc: Global, specs: &[Spec]) -> Result<Vec<Spec>, AllocError>
     ensures { IfOk result (λ v. specs_of v.items ≡ specs_of specs.now) }
 {
     let mut copies = Vec::new(alloc);

@@ -8,6 +8,7 @@ pub mod check_step;
 mod clause_atoms;
 mod clause_parts;
 pub mod clauses;
+mod kept;
 pub mod literal;
 pub mod of_line;
 pub mod proof;

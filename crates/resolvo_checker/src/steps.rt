@@ -9,7 +9,8 @@ ghost use Rattle.resolvo_catalogue_core.specs.Grammar.{line_at, owner_of};
 ghost use Rattle.resolvo_catalogue_core.specs.Listed.{listed, version_at, pair_version, pair_versions};
 ghost use Rattle.resolvo_report.specs.Value.{Place as PlaceValue, OfVersion};
 ghost use Rattle.resolvo_report.specs.View.{place_of, step_of};
-ghost use Rattle.resolvo_checker.specs.StepClauses.{is_listed, is_outside as is_outside_lem, is_locked_out as is_locked_out_lem, place_fails, case_fails, some_match, case_at as case_at_lem, line_of, need_clause, gate_clause, limit_bars_clause, limit_clause, lock_clause, exclude_clause, unknown_clause, shared_clause, outside_clause, matches_clause, digit_clause, any_clause};
+ghost use Rattle.resolvo_checker.specs.StepClauses.{is_listed, is_outside as is_outside_lem, is_locked_out as is_locked_out_lem, place_fails, case_fails, some_match, case_at as case_at_lem, line_of, need_clause, gate_clause, limit_bars_clause, limit_clause, lock_clause, exclude_clause, unknown_clause, shared_clause, outside_clause, matches_clause, digit_clause, any_clause, clause_of as clause_of_lem};
+ghost use Rattle.resolvo_checker.specs.Kept.{is_long};
 ghost use Rattle.resolvo_checker.specs.Built.{literals_in, member_of, somes, seen, rule_clause_of};
 ghost use Rattle.resolvo_checker.specs.RuleLines.{line_of_rule, owner_in, owner_literals, IsValid};
 
@@ -591,5 +592,42 @@ pub fn clause_of(
         } => digit(alloc, catalogue, version, *place, *bit),
         Step::Any { version } => any(alloc, catalogue, version),
         Step::Derive { .. } => Ok(None),
+    }
+}
+
+/// Whether a `needs` rule has the case of this number, from 1.
+fn has_case(alloc: Global, rule: Option<&Rule>, case: u32) -> Result<bool, AllocError>
+    ensures { (catalogue : List spelled.Line) (p : PlaceValue) (versions : List spelled.Version)
+        → IfOk result
+        (λ fine.
+        fine
+        ≡ is_some
+        (need_clause catalogue p case
+        (option_and_then (line_of_rule versions) (option_copied rule.entry)))) }
+{
+    match rule {
+        Some(Rule::Needs { condition, .. }) => Ok(case_at(alloc, condition, case)?.is_some()),
+        _ => Ok(false),
+    }
+}
+
+/// Whether a long step has a clause. None is built.
+pub fn has_clause(
+    alloc: Global,
+    catalogue: &Catalogue,
+    request: &Request,
+    step: &Step,
+) -> Result<bool, AllocError>
+    ensures { is_long (step_of step.now) ≡ true
+        → IfOk result
+        (λ fine.
+        fine ≡ is_some (clause_of_lem catalogue.now request.now.lines (step_of step.now))) }
+{
+    match step {
+        Step::Need { place, line, case } => {
+            let rule = rule_at(catalogue, request, place, *line);
+            has_case(alloc, rule, *case)
+        }
+        _ => Ok(true),
     }
 }

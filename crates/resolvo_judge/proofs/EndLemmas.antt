@@ -18,14 +18,14 @@ use Rattle.resolvo_judge.specs.EndRules.{KeepsAll}
 use Rattle.resolvo_judge.specs.KeptAnswers.{forbidden_from, AreWishesAnswered, KeepsAnswers, KeepsLines}
 use Rattle.resolvo_judge.specs.Forbids.{is_forbidden, is_forbidden_so_far}
 use Rattle.resolvo_judge.specs.JudgeState.{JudgeInvariant, DecidesEnd}
-use Rattle.resolvo_checker.specs.declared.literal.Literal.{Literal}
+use Rattle.resolvo_checker.specs.Kept.{Kept}
 use Rattle.resolvo_checker.specs.Rup.{is_earlier}
 use Rattle.resolvo_checker.proofs.CheckLemmas.{same_length}
 use Rattle.resolvo_judge.proofs.ForbidLemmas.{all_forbidden, answers_first}
 use Rattle.resolvo_judge.proofs.ForbiddenLemmas.{forbidden_each, forbidden_all}
 
 -- the last step of a refusal
-pub refused_ends : (catalogue request : List Line) (j : JudgeState) (clauses : List (List Literal)) (r : Report) → j.refused ≡ true → JudgeInvariant catalogue request j clauses (report_lines r) → DecidesEnd catalogue request (report_lines r) j.log.ends_empty
+pub refused_ends : (catalogue request : List Line) (j : JudgeState) (clauses : List Kept) (r : Report) → j.refused ≡ true → JudgeInvariant catalogue request j clauses (report_lines r) → DecidesEnd catalogue request (report_lines r) j.log.ends_empty
 refused_ends catalogue request j clauses (Install ls ss) refused represents = absurd (false≢true (sym represents.refused ∙ refused))
 refused_ends catalogue request j clauses (Refused cs rs ss ms) refused represents = one j.log.ends_empty represents.log.ends where
   one : (b : Bool) → b ≡ ends_empty (steps_in (report_lines (Refused cs rs ss ms))) → DecidesEnd catalogue request (report_lines (Refused cs rs ss ms)) b
@@ -45,7 +45,7 @@ by_answer catalogue request rest false keeps answered all = λ ends. false≢tru
 
 -- an install report: the entries keep all rules, each wish is answered, and left-out ones are
 -- forbidden
-pub install_ends : (catalogue request : List Line) (j : JudgeState) (clauses : List (List Literal)) (r : Report) (fine : Bool) → is_refusal (report_lines r) ≡ false → JudgeInvariant catalogue request j clauses (report_lines r)
+pub install_ends : (catalogue request : List Line) (j : JudgeState) (clauses : List Kept) (r : Report) (fine : Bool) → is_refusal (report_lines r) ≡ false → JudgeInvariant catalogue request j clauses (report_lines r)
     → KeepsAll catalogue request (entries_of (answers_in (report_lines r))) true → AreWishesAnswered request (answers_in (report_lines r)) true
     → fine ≡ (j.forbidden && list_all (is_earlier (length clauses)) j.entries.forbidden.steps.items) → DecidesEnd catalogue request (report_lines r) fine
 install_ends catalogue request j clauses (Refused cs rs ss ms) fine install represents keeps answered forbidden = absurd (false≢true (sym install))
@@ -53,7 +53,7 @@ install_ends catalogue request j clauses (Install ls ss) fine install represents
     let rest : List ReportLine = map (λ a. Answer a) ls ++ numbered 1 ss in
     let answers : List AnswerLine = answers_in rest in
     let steps : List Step = steps_in rest in
-    let many : length clauses ≡ length steps = same_length catalogue request j.log.checker.numbers steps clauses represents.log.steps.numbered in
+    let many : length clauses ≡ length steps = same_length catalogue request j.log.checker.numbers steps clauses represents.log.steps.kept in
     let all : fine ≡ list_all (is_forbidden catalogue request steps (entries_of answers)) (forbidden_from 0 answers) =
     forbidden
     ∙ ap (λ (b : Bool). b && list_all (is_earlier (length clauses)) j.entries.forbidden.steps.items) (represents.forbidden (answers_first ls ss))

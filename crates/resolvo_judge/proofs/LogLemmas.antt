@@ -8,7 +8,7 @@ use Rattle.std.proofs.lemmas.List.Concat.{flat_map-append}
 use Rattle.resolvo_text.specs.Line.{Line}
 use Rattle.resolvo_report.specs.Value.{AnswerLine, ReportLine, InstallHead, RefusedHead, CatalogueLine, RequestLine, Numbered, Message, Step}
 use Rattle.resolvo_report.specs.Value as line
-use Rattle.resolvo_checker.specs.declared.literal.Literal.{Literal}
+use Rattle.resolvo_checker.specs.Kept.{Kept}
 use Rattle.resolvo_checker.specs.declared.check_step.Premises.{Premises}
 use Rattle.resolvo_checker.specs.Proof.{is_valid_step, is_named, derives_empty, ends_empty}
 use Rattle.resolvo_checker.specs.CheckStep.{names_catalogue, names_request, CheckerInvariant}
@@ -39,14 +39,14 @@ rest_more above n s f none k =
     ap (λ xs. may_rest (above ++ Numbered n s ∷ []) xs k) (one_more f above (Numbered n s) [] none ∙ append-nil (flat_map f above))
     ∙ ap (λ b. cond b (is_named (flat_map f above) k) true) (refusal_more above (Numbered n s) refl)
 
-module _ (catalogue request : List Line) (entries : List (Vec ℕ × ℕ)) (clauses : List (List Literal)) (places : List (Option ℕ)) (rules : List (Vec ℕ × ℕ)) (scope : Premises) (empty : Bool) (above : List ReportLine) (represents : LogInvariant catalogue request entries clauses places rules scope empty above) where
+module _ (catalogue request : List Line) (entries : List (Vec ℕ × ℕ)) (clauses : List Kept) (places : List (Option ℕ)) (rules : List (Vec ℕ × ℕ)) (scope : Premises) (empty : Bool) (above : List ReportLine) (represents : LogInvariant catalogue request entries clauses places rules scope empty above) where
   -- a step passes exactly where it is valid after the steps so far
   pub passes_so : (n : ℕ) (s : Step) → is_valid_step catalogue request (names_catalogue scope) (names_request scope) (steps_in above) s ≡ passes catalogue request above (Numbered n s)
   passes_so n s =
       ap (λ (c : ℕ → Bool). is_valid_step catalogue request c (names_request scope) (steps_in above) s) (λ i k. represents.catalogue_lines k i)
       ∙ ap (λ (r : ℕ → Bool). is_valid_step catalogue request (may_rest above (catalogue_lines_in above)) r (steps_in above) s) (λ i k. represents.request_lines k i)
 
-  pub step_more : (new : List (Vec ℕ × ℕ)) (more : List (List Literal)) (after : List (Option ℕ)) (found : List (Vec ℕ × ℕ)) (n : ℕ) (s : Step) → CheckerInvariant catalogue request new more after found (steps_in above ++ s ∷ []) → LogInvariant catalogue request new more after found scope (derives_empty s) (above ++ Numbered n s ∷ [])
+  pub step_more : (new : List (Vec ℕ × ℕ)) (more : List Kept) (after : List (Option ℕ)) (found : List (Vec ℕ × ℕ)) (n : ℕ) (s : Step) → CheckerInvariant catalogue request new more after found (steps_in above ++ s ∷ []) → LogInvariant catalogue request new more after found scope (derives_empty s) (above ++ Numbered n s ∷ [])
   step_more new more after found n s kept = record {
     steps = subst (λ (xs : List Step). CheckerInvariant catalogue request new more after found xs) (sym (one_more step_in above (Numbered n s) (s ∷ []) refl)) kept;
     catalogue_lines = λ k. represents.catalogue_lines k ∙ sym (rest_more above n s catalogue_line_in refl k);

@@ -9,7 +9,7 @@ use Rattle.resolvo_report.specs.Value.{AnswerLine, Step, ReportLine, Message}
 use Rattle.resolvo_report.specs.Value as line
 use Rattle.resolvo_report.specs.Grammar.{next_part}
 use Rattle.resolvo_report.specs.Shown.{IsShown}
-use Rattle.resolvo_checker.specs.declared.literal.Literal.{Literal}
+use Rattle.resolvo_checker.specs.Kept.{Kept}
 use Rattle.resolvo_checker.specs.Proof.{ends_empty}
 use Rattle.resolvo_checker.specs.CheckStep.{CheckerInvariant}
 use Rattle.resolvo_judge.specs.declared.judge_state.JudgeState.{JudgeState}
@@ -78,7 +78,7 @@ module _ (bytes other : List ℕ) (above : List ReportLine) where
   same_answers : answers_in one ≡ answers_in two
   same_answers = same_lists bytes other answer_in refl above []
 
-  invariant_message : (catalogue request : List Line) (j : JudgeState) (clauses : List (List Literal)) → JudgeInvariant catalogue request j clauses one → JudgeInvariant catalogue request j clauses two
+  invariant_message : (catalogue request : List Line) (j : JudgeState) (clauses : List Kept) → JudgeInvariant catalogue request j clauses one → JudgeInvariant catalogue request j clauses two
   invariant_message catalogue request j clauses s = record {
     refused = s.refused ∙ same_refusal bytes other above [];
     log = record {
@@ -95,7 +95,7 @@ module _ (bytes other : List ℕ) (above : List ReportLine) where
         ∙ ap (λ (xs : List AnswerLine). list_all (is_forbidden_so_far catalogue request (steps_in two) (entries_of xs)) (forbidden_from 0 xs)) same_answers);
   }
 
-pub invariant_shown : (written l : ReportLine) → IsShown false written l → (catalogue request : List Line) (above : List ReportLine) (j : JudgeState) (clauses : List (List Literal)) → JudgeInvariant catalogue request j clauses (above ++ l ∷ []) → JudgeInvariant catalogue request j clauses (above ++ written ∷ [])
+pub invariant_shown : (written l : ReportLine) → IsShown false written l → (catalogue request : List Line) (above : List ReportLine) (j : JudgeState) (clauses : List Kept) → JudgeInvariant catalogue request j clauses (above ++ l ∷ []) → JudgeInvariant catalogue request j clauses (above ++ written ∷ [])
 invariant_shown written l shown catalogue request above j clauses s = ⊎_elim
     (λ e. subst (λ (x : ReportLine). JudgeInvariant catalogue request j clauses (above ++ x ∷ [])) (sym e) s)
     (λ m. subst (λ (x : ReportLine). JudgeInvariant catalogue request j clauses (above ++ x ∷ [])) (sym m.1) (invariant_message [] m.0 above catalogue request j clauses (subst (λ (x : ReportLine). JudgeInvariant catalogue request j clauses (above ++ x ∷ [])) m.2 s)))

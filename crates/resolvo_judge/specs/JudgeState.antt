@@ -2,7 +2,7 @@
 use Rattle.std.specs.Prelude.{◌≡◌, Bool, true, false, List, [], ◌∷◌, ◌++◌}
 use Rattle.resolvo_text.specs.Line.{Line}
 use Rattle.resolvo_report.specs.Value.{ReportLine}
-use Rattle.resolvo_checker.specs.declared.literal.Literal.{Literal}
+use Rattle.resolvo_checker.specs.Kept.{Kept}
 use Rattle.resolvo_judge.specs.declared.judge_state.JudgeState.{JudgeState}
 use Rattle.resolvo_judge.specs.Refusal.{answers_in, is_refusal, Ends}
 use Rattle.resolvo_judge.specs.Log.{KeepsLog}
@@ -10,7 +10,7 @@ use Rattle.resolvo_judge.specs.Forbids.{FlagsForbidden}
 use Rattle.resolvo_judge.specs.KeptAnswers.{KeepsAnswers, KeepsLines}
 
 -- The state is that after these lines.
-pub record JudgeInvariant (catalogue request : List Line) (j : JudgeState) (clauses : List (List Literal)) (above : List ReportLine) : Type 0 where
+pub record JudgeInvariant (catalogue request : List Line) (j : JudgeState) (clauses : List Kept) (above : List ReportLine) : Type 0 where
   pub refused : j.refused ≡ is_refusal above
   pub log : KeepsLog catalogue request j.log clauses above
   pub entries : KeepsAnswers j.entries (answers_in above)
@@ -18,7 +18,7 @@ pub record JudgeInvariant (catalogue request : List Line) (j : JudgeState) (clau
   pub forbidden : FlagsForbidden catalogue request j.forbidden above
 
 -- Below these lines, with one more, the flag is still whether the steps forbid the left-out wishes.
-abbrev pub FlagsNext : List Line → List Line → JudgeState → List (List Literal) → List ReportLine → ReportLine → Bool → Type 0
+abbrev pub FlagsNext : List Line → List Line → JudgeState → List Kept → List ReportLine → ReportLine → Bool → Type 0
 FlagsNext catalogue request j clauses above line forbidden =
     KeepsLog catalogue request j.log clauses above → KeepsAnswers j.entries (answers_in above) → FlagsForbidden catalogue request j.forbidden above
     → FlagsForbidden catalogue request forbidden (above ++ line ∷ [])

@@ -1,13 +1,22 @@
-use Rattle.std.proofs.Common.{length}
+use Rattle.std.proofs.Common.{◌∙◌, ap, Some}
 use Rattle.std.proofs.lemmas.Option.{slice_get-get_or}
-use Rattle.resolvo_checker.proofs.PieceLemmas.{range_at, get-pieces}
+use Rattle.resolvo_checker.proofs.PieceLemmas.{ready_range, long_range, long_literals_at}
 use Rattle.resolvo_checker.proofs.clauses.part.Goals as goal
 
-pub returns-clause-rising : goal.returns-clause-rising
-returns-clause-rising c = (range_at (length c.args.flat.now) c.args.ranges.now c.args.n _ c.requires.inside (slice_get-get_or c.args.ranges.now c.args.n _ c.requires.within)).rising
+pub returns-in-Ready-clause-rising : goal.returns-in-Ready-clause-rising
+returns-in-Ready-clause-rising c = (ready_range c.args.flat.now c.args.longs.now c.args.kept.now c.args.n _ _ c.requires.inside (slice_get-get_or c.args.kept.now c.args.n _ c.requires.within ∙ ap Some c.in-Ready.is)).rising
 
-pub returns-clause-inside : goal.returns-clause-inside
-returns-clause-inside c = (range_at (length c.args.flat.now) c.args.ranges.now c.args.n _ c.requires.inside (slice_get-get_or c.args.ranges.now c.args.n _ c.requires.within)).within
+pub returns-in-Ready-clause-inside : goal.returns-in-Ready-clause-inside
+returns-in-Ready-clause-inside c = (ready_range c.args.flat.now c.args.longs.now c.args.kept.now c.args.n _ _ c.requires.inside (slice_get-get_or c.args.kept.now c.args.n _ c.requires.within ∙ ap Some c.in-Ready.is)).within
 
-pub returns-clause-piece : goal.returns-clause-piece
-returns-clause-piece c = get-pieces c.args.flat.now c.args.ranges.now c.args.n _ (slice_get-get_or c.args.ranges.now c.args.n _ c.requires.within)
+pub returns-in-Long-clause-rising : goal.returns-in-Long-clause-rising
+returns-in-Long-clause-rising c =
+    rw c.long_part.ensures ((long_range c.args.flat.now c.args.longs.now c.in-Long.place c.requires.inside.long).rising)
+
+pub returns-in-Long-clause-inside : goal.returns-in-Long-clause-inside
+returns-in-Long-clause-inside c =
+    rw c.long_part.ensures ((long_range c.args.flat.now c.args.longs.now c.in-Long.place c.requires.inside.long).within)
+
+pub returns-in-Long-clause-literals : goal.returns-in-Long-clause-literals
+returns-in-Long-clause-literals c =
+    rw c.long_part.ensures (long_literals_at c.args.flat.now c.args.longs.now c.args.kept.now c.args.n c.in-Long.place (slice_get-get_or c.args.kept.now c.args.n _ c.requires.within ∙ ap Some c.in-Long.is))

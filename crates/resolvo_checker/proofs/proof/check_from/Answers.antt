@@ -1,7 +1,7 @@
 use Rattle.std.proofs.Common.{◌≡◌, ◌≤◌, ◌+◌, List, length, ap, sym, subst, ◌∙◌, arith, take}
 use Rattle.resolvo_report.specs.View.{step_of, steps_of}
 use Rattle.resolvo_checker.specs.declared.clauses.Readings.{Readings}
-use Rattle.resolvo_checker.specs.declared.literal.Literal.{Literal}
+use Rattle.resolvo_checker.specs.Kept.{Kept}
 use Rattle.resolvo_checker.specs.Proof.{IsProof}
 use Rattle.resolvo_checker.specs.CheckStep.{names_catalogue, names_request, CheckerInvariant}
 use Rattle.resolvo_checker.proofs.WholeProofs.{steps_more, count_more, room_for, proof_push, wrong_at}
@@ -33,11 +33,11 @@ loop-at-preserved c =
     let advanced = c.in_ok-advance.ensures.read c.if-not-branch.false in
     let same : c.name.new.self.kept ≡ c.advance.new.clauses.kept = c.name.ensures.kept in
     record {
-      represents = subst (λ (ks : List (List Literal)). CheckerInvariant cat req c.advance.new.checker.numbers ks c.advance.new.checker.places.items c.advance.new.checker.rules (steps_of (take (c.loop-at.at + 1) c.args.steps.now))) (sym same)
+      represents = subst (λ (ks : List Kept). CheckerInvariant cat req c.advance.new.checker.numbers ks c.advance.new.checker.places.items c.advance.new.checker.rules (steps_of (take (c.loop-at.at + 1) c.args.steps.now))) (sym same)
           (subst (CheckerInvariant cat req c.advance.new.checker.numbers c.advance.new.clauses.kept c.advance.new.checker.places.items c.advance.new.checker.rules) (sym more) (c.in_ok-advance.ensures.represents c.if-not-branch.false before c.loop-at.invariant.represents));
       proof = subst (IsProof cat req ct rt) (sym more) (proof_push cat req ct rt before s c.loop-at.invariant.proof (sym (c.in_ok-advance.ensures.answer before c.loop-at.invariant.represents) ∙ c.if-not-branch.false));
-      later = subst (λ (ks : List (List Literal)). c.advance.new.checker.truth.pass ≤ length ks) (sym same) (c.in_ok-advance.ensures.later c.if-not-branch.false);
-      count = omega (arith, ap (λ (ks : List (List Literal)). length ks) same, c.in_ok-advance.ensures.count c.if-not-branch.false, c.loop-at.invariant.count);
+      later = subst (λ (ks : List Kept). c.advance.new.checker.truth.pass ≤ length ks) (sym same) (c.in_ok-advance.ensures.later c.if-not-branch.false);
+      count = omega (arith, ap (λ (ks : List Kept). length ks) same, c.in_ok-advance.ensures.count c.if-not-branch.false, c.loop-at.invariant.count);
       long = c.in_ok-advance.ensures.long c.if-not-branch.false;
       named = omega (arith, ap (λ (r : Readings). r.named) c.name.ensures.named, ap (λ (r : Readings). r.named) advanced, c.loop-at.invariant.named, c.causes_in.ensures, counted);
       read = omega (arith, ap (λ (r : Readings). r.read) c.name.ensures.named, ap (λ (r : Readings). r.read) advanced, c.loop-at.invariant.read, counted);

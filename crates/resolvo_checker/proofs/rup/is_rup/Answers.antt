@@ -1,7 +1,6 @@
-use Rattle.std.proofs.Common.{◌≡◌, ap, sym, ◌∙◌, ◌+◌, ◌-◌, ℕ, List, get_or, arith, Some}
-use Rattle.std.specs.Prelude.{slice_get}
+use Rattle.std.proofs.Common.{◌≡◌, ap, ◌∙◌, ◌+◌, ◌-◌, ℕ, List, get_or, arith}
 use Rattle.resolvo_checker.specs.declared.clauses.Readings.{Readings}
-use Rattle.resolvo_checker.specs.declared.literal.Literal.{Literal}
+use Rattle.resolvo_checker.specs.Kept.{Kept, literals_at}
 use Rattle.resolvo_checker.specs.Truth.{known_in}
 use Rattle.resolvo_checker.proofs.ReadLemmas.{refutes-more}
 use Rattle.resolvo_checker.proofs.rup.is_rup.Goals as goal
@@ -10,8 +9,8 @@ pub loop-cause-preserved : goal.loop-cause-preserved
 loop-cause-preserved c =
     let more : c.args.clauses.now.readings.read + c.loop-cause.cause-index + 1 ≡ c.args.clauses.now.readings.read + (c.loop-cause.cause-index + 1) = omega arith in
     let step = get_or c.args.causes.now c.loop-cause.cause-index 0 - 1 in
-    let given : slice_get c.args.clauses.now.kept step ≡ Some c.deref.result.now =
-    ap (λ (ks : List (List Literal)). slice_get ks step) (sym c.loop-cause.invariant.kept) ∙ (c.in_ok-clause.ensures.clause ∙ ap Some (sym c.deref.ensures.value)) in
+    let given : c.deref.result.now ≡ literals_at c.args.clauses.now.kept step =
+    c.deref.ensures.value ∙ (c.in_ok-clause.ensures.clause ∙ ap (λ (ks : List Kept). literals_at ks step) c.loop-cause.invariant.kept) in
     record {
       answer = rw (c.in_ok-refuted.ensures.broken, c.in_ok-refuted.ensures.known)
           (refutes-more c.args.clauses.now.kept c.args.causes.now c.loop-cause.cause-index 0 (known_in c.loop-cause.truth.marks.items c.loop-cause.truth.pass) c.deref.result.now c.loop-cause.refuted c.loop-cause-test.true given

@@ -27,7 +27,7 @@ returns-clause-forbidden c = λ fine above n s kept flags first.
     let bs = forbidden_from 0 (answers_in above) in
     let forbids = c.in_ok-forbids.forbids in
     let there = has_clause cat req above n st (sym (c.in_ok-take_step.ensures.answer above n s) ∙ c.if-not-branch.false) in
-    let many : c.len.result ≡ length (steps_in above) = c.len.ensures ∙ same_length cat req c.args.judging.now.log.checker.numbers (steps_in above) c.args.clauses.now.kept s.steps.numbered in
+    let many : c.len.result ≡ length (steps_in above) = c.len.ensures ∙ same_length cat req c.args.judging.now.log.checker.numbers (steps_in above) c.args.clauses.now.kept s.steps.kept in
     let asked = c.in_ok-forbids.ensures set there.0 kept.chosen there.1
     ∙ ap (λ (ws : List ForbiddenWish). list_all (clause_forbids set there.0) ws) (c.of-wishes.ensures ∙ (kept.forbidden.by_step (c.len.result + 1) ∙ ap (λ (k : ℕ). named_by bs (k + 1)) many)) in
     let joined : c.if-judging.judging ≡ (c.args.judging.now.forbidden && forbids) = elim c.if-judging.branch [

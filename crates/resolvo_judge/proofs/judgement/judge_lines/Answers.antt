@@ -11,7 +11,7 @@ use Rattle.resolvo_report.specs.Grammar.{next_part, may_end}
 use Rattle.resolvo_report.specs.Shown.{IsShown}
 use Rattle.resolvo_report.specs.Stream.{left, GivesLine}
 use Rattle.resolvo_report.proofs.StreamLemmas.{read_nothing}
-use Rattle.resolvo_checker.specs.declared.literal.Literal.{Literal}
+use Rattle.resolvo_checker.specs.Kept.{Kept}
 use Rattle.resolvo_judge.specs.JudgeState.{JudgeInvariant, DecidesEnd}
 use Rattle.resolvo_judge.proofs.JudgeLemmas.{head_first, reached_first, few_causes, reached_more, is_no_head, refusal_kept, refused_here, line_refused, end_refused, upheld, stops}
 use Rattle.resolvo_judge.proofs.ShownLemmas.{first_shown, passes_shown, causes_shown, head_shown, invariant_shown}
@@ -39,7 +39,7 @@ loop-judging-init g c =
     let is = first_shown c.in_ok-reader.reader.part c.next_without_message.new.self.part given.0 (report_line_of c.in-Some.first) r.part given.1 given.2.placed in
     let first = subst (λ (l : LineValue). GivesLine (left c.in_ok-reader.reader (g.S.Source.left c.args.source.now)) c.in_ok-reader.reader l (left c.next_without_message.new.self (g.S.Source.left c.next_without_message.new.source)) c.next_without_message.new.self) is given.2 in
     let j = c.in_ok-judging.ensures in
-    (reached_first c.args.catalogue.now c.args.request.now.lines _ _ _ c.in_ok-reader.reader c.next_without_message.new.self (report_line_of c.in-Some.first) c.in_ok-judging.judging c.args.clauses.now nothing r.part first (subst (λ (ks : List (List Literal)). JudgeInvariant c.args.catalogue.now c.args.request.now.lines c.in_ok-judging.judging ks (report_line_of c.in-Some.first ∷ [])) (sym c.requires.kept) j.represents) (omega (arith, j.pass)) j.long (ap length c.requires.kept) j.few c.requires.named c.requires.read, c.in_ok-first.ensures.failures)
+    (reached_first c.args.catalogue.now c.args.request.now.lines _ _ _ c.in_ok-reader.reader c.next_without_message.new.self (report_line_of c.in-Some.first) c.in_ok-judging.judging c.args.clauses.now nothing r.part first (subst (λ (ks : List Kept). JudgeInvariant c.args.catalogue.now c.args.request.now.lines c.in_ok-judging.judging ks (report_line_of c.in-Some.first ∷ [])) (sym c.requires.kept) j.represents) (omega (arith, j.pass)) j.long (ap length c.requires.kept) j.few c.requires.named c.requires.read, c.in_ok-first.ensures.failures)
 
 pub returns-in_err-line-clause-fault : goal.returns-in_err-line-clause-fault
 returns-in_err-line-clause-fault g c =
