@@ -69,6 +69,13 @@ def spans(size):
     return catalogue, ["needs a 1"], report
 
 
+def named(size):
+    """Different steps with long clauses, and one step that names each once."""
+    catalogue, request, report = spans(size)
+    step = f"step {size + 1} derive [a=0; a=1; not shared a 0..1] by " + " ".join(str(k + 1) for k in range(size))
+    return catalogue, request, [*report, step]
+
+
 def gates(size):
     """Steps that name one line with many alternatives by its gate."""
     catalogue = ["version p 1", "needs " + " | ".join(f"q{k}" for k in range(size)), "version q0 1"]
@@ -76,7 +83,7 @@ def gates(size):
     return catalogue, ["needs p"], report + [f"step {k + 1} gate p=1 line 2" for k in range(size)]
 
 
-SHAPES = ((entries, 1000), (versions, 1000), (unnamed, 250), (spans, 250), (gates, 500))
+SHAPES = ((entries, 1000), (versions, 1000), (unnamed, 250), (spans, 250), (named, 250), (gates, 500))
 
 
 def write(path, lines):
