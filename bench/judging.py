@@ -48,10 +48,20 @@ def entries(size):
     return catalogue, request, ["install"] + [f"p{k}=1 for request line 1" for k in range(size)]
 
 
+def spelled(size):
+    """Each version of a package that is marked `many` is an entry because of its own alternative of one need."""
+    catalogue = ["many a"] + [f"version a {k}" for k in range(size)]
+    request = ["needs " + " | ".join(f"a {k}" for k in range(size))]
+    return catalogue, request, ["install"] + [f"a={k} for request line 1" for k in range(size)]
+
+
 def versions(size):
-    """Steps that name one version of a package that has many, and that nothing names."""
+    """Different steps that name one version each of a package that has many, and steps that name their clauses."""
     catalogue = [f"version a {k}" for k in range(size)]
-    report = ["install", "a=1 for request line 1"] + [f"step {k + 1} shared a 1" for k in range(size)]
+    report = ["install", "a=1 for request line 1"]
+    for k in range(size):
+        report.append(f"step {2 * k + 1} shared a {k}")
+        report.append(f"step {2 * k + 2} derive [a={k}; not shared a {k}] by {2 * k + 1}")
     return catalogue, ["needs a 1"], report
 
 
@@ -83,7 +93,7 @@ def gates(size):
     return catalogue, ["needs p"], report + [f"step {k + 1} gate p=1 line 2" for k in range(size)]
 
 
-SHAPES = ((entries, 1000), (versions, 1000), (unnamed, 250), (spans, 250), (named, 250), (gates, 500))
+SHAPES = ((entries, 1000), (spelled, 1000), (versions, 1000), (unnamed, 250), (spans, 250), (gates, 500), (named, 250))
 
 
 def write(path, lines):
