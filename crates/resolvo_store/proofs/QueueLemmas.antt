@@ -1,5 +1,5 @@
 -- What the queue of a store knows stays so.
-use Rattle.std.proofs.Common.{◌≡◌, ℕ, ◌+◌, ◌*◌, ◌/◌, ◌<◌, ◌≤◌, ◌⊎◌, inl, inr, Bool, true, false, List, [], length, max, cond, Option, Some, None, Result, Ok, Err, OnOk, OnErr, Unit, Vec, Global, option_map, not, is_some, refl, sym, ◌∙◌, ap, subst, arith, eqb-true, eq-eqb}
+use Rattle.std.proofs.Common.{◌≡◌, ℕ, ◌+◌, ◌*◌, ◌/◌, ◌<◌, ◌≤◌, ◌⊎◌, inl, inr, Bool, true, false, List, [], length, max, cond, Option, Some, None, Result, Ok, Err, OnOk, OnErr, Vec, Global, option_map, not, is_some, refl, sym, ◌∙◌, ap, subst, arith, eqb-true, eq-eqb}
 use Rattle.std.specs.Prelude.{◌==◌, nat_lt, IfOk}
 use Rattle.std.proofs.lemmas.Bool.{and_parts, both_ways, cases_Bool, ltb-false}
 use Rattle.std.proofs.lemmas.List.{append-nil}

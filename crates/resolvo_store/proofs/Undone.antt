@@ -1,5 +1,5 @@
 -- Lemmas on entries that are removed from the end of a trail.
-use Rattle.std.proofs.Common.{◌≡◌, ℕ, ◌<◌, ◌≤◌, cond, List, [], ◌∷◌, ◌++◌, Some, option_map, All, refl, ◌∙◌, ap, lt-ltb, le-ltb}
+use Rattle.std.proofs.Common.{◌≡◌, ℕ, ◌<◌, ◌≤◌, ◌==◌, true, length, arith, eqb-true, cond, List, [], ◌∷◌, ◌++◌, Some, option_map, All, refl, ◌∙◌, ap, lt-ltb, le-ltb}
 use Rattle.std.proofs.lemmas.List.Elements.{All-head, All-tail}
 use Rattle.resolvo_store_core.specs.declared.decision.Entry.{Entry}
 use Rattle.resolvo_store_core.specs.Trail.{last_level}
@@ -28,3 +28,8 @@ down_to_is level (e ∷ d ∷ es) gone h k = ap (unless_above level e) (down_to_
 
 pub last_undone_is : (es : List Entry) (e : Entry) → last_undone (es ++ e ∷ []) ≡ Some (e.decision, last_level es)
 last_undone_is es e = ap (λ o. option_map (λ (d : Entry). (d.decision, last_level (all_but_last (es ++ e ∷ [])))) o) (last_entry_is es e) ∙ ap (λ (ds : List Entry). Some (e.decision, last_level ds)) (all_but_last_is es e)
+
+-- nothing is undone where the trail is empty
+pub empty_undone : (es : List Entry) → (length es == 0) ≡ true → es ≡ all_but_last es
+empty_undone [] h = refl
+empty_undone (e ∷ es) h = let none : length (e ∷ es) ≡ 0 = eqb-true (length (e ∷ es)) 0 h in absurd (omega arith)
