@@ -1,9 +1,9 @@
-use Rattle.std.proofs.Common.{◌≤◌, List, ◌∙◌, ap, arith, sym, subst}
+use Rattle.std.proofs.Common.{List, ◌∙◌, ap, arith, sym, subst}
 use Rattle.resolvo_store_core.specs.declared.decision.Entry.{Entry}
 use Rattle.resolvo_store_core.specs.declared.pick.NeedClause.{NeedClause}
 use Rattle.resolvo_store_core.specs.Trail.{Tracked}
 use Rattle.resolvo_decide.specs.Needs.{literals_in}
-use Rattle.resolvo_decide.specs.Queue.{needs_of}
+use Rattle.resolvo_decide.specs.Queue.{needs_of, IsHotBound}
 use Rattle.resolvo_decide.specs.declared.decide_queue.DecideQueue.{DecideQueue}
 use Rattle.resolvo_store.specs.Stored.{plain}
 use Rattle.resolvo_store.specs.Calls.{picked_in}
@@ -11,15 +11,15 @@ use Rattle.resolvo_store.proofs.Plain.{picked_plain}
 use Rattle.resolvo_store.proofs.QueueLemmas.{queue_synced, queue_picked}
 use Rattle.resolvo_store.proofs.clause_store.ClauseStore.next_decision.Goals as goal
 
-pub next_decision-next-requires-clause-sound : goal.next_decision-next-requires-clause-sound
-next_decision-next-requires-clause-sound g c = c.sync.ensures.sound (literals_in c.self.inside.lists) c.self.invariant.3.sound
+pub next_decision-requires-clause-sound : goal.next_decision-requires-clause-sound
+next_decision-requires-clause-sound g c = c.sync.ensures.sound (literals_in c.self.inside.lists) c.self.invariant.3.sound
 
-pub next_decision-next-requires-clause-hot : goal.next_decision-next-requires-clause-hot
-next_decision-next-requires-clause-hot g c =
-    subst (λ (q : DecideQueue). (n : g.N) → g.N.Scores.ScoreMap.score_of c.self.inside.scores n ≤ q.most) (sym c.sync.ensures.rest) c.self.invariant.3.hot
+pub next_decision-requires-clause-hot : goal.next_decision-requires-clause-hot
+next_decision-requires-clause-hot g c =
+    subst (λ (q : DecideQueue). IsHotBound (g.N.Scores.ScoreMap.score_of c.self.inside.scores) q) (sym c.sync.ensures.rest) c.self.invariant.3.hot
 
-pub next_decision-next-requires-clause-fewest : goal.next_decision-next-requires-clause-fewest
-next_decision-next-requires-clause-fewest g c = λ values agree score q d a offered. omega arith
+pub next_decision-requires-clause-fewest : goal.next_decision-requires-clause-fewest
+next_decision-requires-clause-fewest g c = λ values agree score q d a offered. omega arith
 
 pub returns-clause-answer : goal.returns-clause-answer
 returns-clause-answer g c =
@@ -32,26 +32,17 @@ returns-clause-answer g c =
     ∙ ap (λ (rs : List NeedClause). picked_in (plain score (record { lists = in_it.lists; clauses = in_it.clauses.items; watched = in_it.watched.items; watches = in_it.watches; trail = in_it.tracker.trail; needs = rs; scores = in_it.scores }))) (ap needs_of c.sync.ensures.rest)
     ∙ ap (λ k. picked_in (plain score k)) c.self.view_is
 
-pub invariant_of-self : goal.invariant_of-self
-invariant_of-self g c =
-    let in_it = c.self.inside in
-    let inv = c.self.invariant in
-    let score = g.N.Scores.ScoreMap.score_of in_it.scores in
-    let synced = queue_synced in_it.lists in_it.tracker c.sync.new.trail score in_it.queue c.sync.new.self c.sync.ensures.sound c.sync.ensures.seen c.sync.ensures.rest inv.3 in
-    let picked = c.next_decision-next.ensures in
-    (inv.0, inv.1, inv.2, queue_picked in_it.lists c.sync.new.trail score c.sync.new.self c.next_decision-next.new.self picked.sound picked.synced picked.rest synced)
-
 pub invariant_of-self-in_err-next : goal.invariant_of-self-in_err-next
 invariant_of-self-in_err-next g c =
     let in_it = c.self.inside in
     let inv = c.self.invariant in
     let score = g.N.Scores.ScoreMap.score_of in_it.scores in
     let synced = queue_synced in_it.lists in_it.tracker c.sync.new.trail score in_it.queue c.sync.new.self c.sync.ensures.sound c.sync.ensures.seen c.sync.ensures.rest inv.3 in
-    let picked = c.next_decision-next.ensures in
-    (inv.0, inv.1, inv.2, queue_picked in_it.lists c.sync.new.trail score c.sync.new.self c.next_decision-next.new.self picked.sound picked.synced picked.rest synced)
+    let picked = c.next_decision.ensures in
+    (inv.0, inv.1, inv.2, queue_picked in_it.lists c.sync.new.trail score c.sync.new.self c.next_decision.new.self picked.sound picked.synced picked.rest synced)
 
-pub invariant_of-self-in_err-sync : goal.invariant_of-self-in_err-sync
-invariant_of-self-in_err-sync g c =
+pub invariant_of-self : goal.invariant_of-self
+invariant_of-self g c =
     let in_it = c.self.inside in
     let inv = c.self.invariant in
     let score = g.N.Scores.ScoreMap.score_of in_it.scores in
