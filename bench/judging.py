@@ -7,7 +7,6 @@ line by valgrind's callgrind, if that is there. Files are made anew in a tempora
 lines cost more than their bytes. Each shape has three sizes, each four times the one before.
 """
 import os
-import sys
 import tempfile
 
 import measure
@@ -148,8 +147,7 @@ def instructions(program, paths):
 
 def main():
     """Prints the tables."""
-    here = os.path.dirname(os.path.abspath(__file__))
-    program = sys.argv[1] if len(sys.argv) > 1 else os.path.join(here, "../crates/resolve/out/resolve")
+    program = measure.program(__doc__)
     with tempfile.TemporaryDirectory() as folder:
         paths = [os.path.join(folder, part) for part in ("catalogue", "request", "report")]
         long_reports(program, paths)

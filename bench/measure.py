@@ -9,6 +9,7 @@ import shutil
 import signal
 import statistics
 import subprocess
+import sys
 import tempfile
 from dataclasses import dataclass
 
@@ -27,6 +28,14 @@ class Run:
     status: int
     ended: bool  # false where the limit of time ended it
     output: str = ""  # its beginning
+
+
+def program(usage, default="../crates/resolve/out/resolve"):
+    """The path of the program: the first argument, else the default. Ends with the usage where no program is there."""
+    path = sys.argv[1] if len(sys.argv) > 1 else os.path.join(os.path.dirname(os.path.abspath(__file__)), default)
+    if not os.access(path, os.X_OK) or os.path.isdir(path):
+        sys.exit(f"{usage}\n{path} is no program")
+    return path
 
 
 @functools.cache

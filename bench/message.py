@@ -77,8 +77,7 @@ def chain_row(program, count, folder):
 
 def main():
     """Prints the tables."""
-    here = os.path.dirname(os.path.abspath(__file__))
-    program = sys.argv[1] if len(sys.argv) > 1 else os.path.join(here, "../crates/resolve/out/resolve")
+    program = measure.program(__doc__)
     count = int(sys.argv[2]) if len(sys.argv) > 2 else 5000
     with tempfile.TemporaryDirectory() as folder:
         print("| refusal | steps | lines of message | resolve, s | message, % of the instructions |\n|---|---|---|---|---|")

@@ -8,7 +8,6 @@ the difference of two lengths, over as many lines. Files are made anew in a temp
 """
 import os
 import random
-import sys
 import tempfile
 
 import measure
@@ -107,8 +106,7 @@ def instructions(name, lines, commands):
 
 def main():
     """Prints the tables."""
-    here = os.path.dirname(os.path.abspath(__file__))
-    program = sys.argv[1] if len(sys.argv) > 1 else os.path.join(here, "../crates/resolve/out/resolve")
+    program = measure.program(__doc__)
     with tempfile.TemporaryDirectory() as folder:
         commands = Commands(program, folder)
         own = "/ awk | memory / text | status"
