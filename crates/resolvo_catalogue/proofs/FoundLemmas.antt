@@ -1,6 +1,6 @@
 -- Values that are each found at their places, with one more.
-use Rattle.std.proofs.Common.{Ordering, ◌≡◌, ℕ, zero, suc, Bool, true, false, cond, List, [], ◌∷◌, ◌++◌, map, length, get_or, Option, Some, None, refl, sym, ap, subst, ◌∙◌, inl, inr, arith}
-use Rattle.std.specs.Prelude.{slice_get, slice_index_or, nat_lt, IfSome}
+use Rattle.std.proofs.Common.{Ordering, ◌≡◌, ℕ, zero, suc, Bool, true, false, cond, List, [], ◌∷◌, ◌++◌, map, length, Option, Some, None, refl, sym, ap, subst, ◌∙◌, inl, inr, arith}
+use Rattle.std.specs.Prelude.{slice_get, slice_index_or, nat_lt, nat_eq, IfSome}
 use Rattle.std.specs.Option.{option_map_or}
 use Rattle.std.specs.Global.{Global, Vec}
 use Rattle.std.specs.String.{string_bytes}
@@ -28,10 +28,10 @@ use Rattle.resolvo_pool_core.specs.Provider.{OperandsBelow}
 use Rattle.resolvo_intern.specs.Intern.{AreBelow}
 use Rattle.resolvo_catalogue_core.proofs.Pushed.{get_new, get_kept, get_push}
 use Rattle.resolvo_catalogue.specs.declared.id_table.Numbers.{Numbers}
-use Rattle.resolvo_catalogue.specs.Ids.{NameId, Extends, AreOnce, IsPlaced}
+use Rattle.resolvo_catalogue.specs.Ids.{NameId, Extends, AreOnce, AreSeveral, IsPlaced}
 use Rattle.resolvo_catalogue.specs.Known.{sound}
 use Rattle.resolvo_catalogue_core.specs.Hash.{bytes_hash}
-use Rattle.resolvo_catalogue.specs.Found.{AreFound, AreKept, Key, key_eq, number_in, list_number_in, text_key, pair_key, text_number_in, span_key, set_key, union_key, condition_key}
+use Rattle.resolvo_catalogue.specs.Found.{AreFound, AreKept, Key, key_eq, list_number_in, text_key, pair_key, text_number_in, span_key, set_key, union_key, few_key, number_by, union_number, condition_key}
 
 -- ---- any values
 
@@ -165,7 +165,7 @@ texts_more old new texts kept key text h none is_kept is_key is_hash set =
 same_number : (x y : ℕ) → is_eq (nat_cmp x y) ≡ true → x ≡ y
 same_number x y e = (unsigned_Decides x y).0 (unsigned_ties x y ∙ e)
 
-keys_exact : (x y : Key) → key_eq x y ≡ true → x ≡ y
+pub keys_exact : (x y : Key) → key_eq x y ≡ true → x ≡ y
 keys_exact x y e =
     let a : Ordering = nat_cmp x.0 y.0 in
     let b : Ordering = nat_cmp x.1 y.1 in
@@ -180,7 +180,7 @@ keys_exact x y e =
     let fourth = same_number x.3 y.3 (second_so (is_eq (ordering_then (ordering_then a b) c)) (is_eq d) all) in
     λ i. (first i, second i, third i, fourth i)
 
-keys_own : (x : Key) → key_eq x x ≡ true
+pub keys_own : (x : Key) → key_eq x x ≡ true
 keys_own x = rw (tied_itself nat_cmp_total x.0, tied_itself nat_cmp_total x.1, tied_itself nat_cmp_total x.2, tied_itself nat_cmp_total x.3) refl
 
 -- the values after one more, whose key had no number
@@ -188,12 +188,6 @@ keyed_more : {V : Type 0} (key : V → Key) → ((x y : V) → key x ≡ key y �
     → ((other : Key) → new other ≡ cond (key_eq (key v) other) (Some (length vs)) (old other)) → AreFound (λ x. new (key x)) (vs ++ v ∷ [])
 keyed_more key exact old new vs v h none put =
     found_more (λ x y. key_eq (key x) (key y)) (λ x y e. exact x y (keys_exact (key x) (key y) e)) (λ x. keys_own (key x)) (λ x. old (key x)) (λ x. new (key x)) vs v h none (λ x. put (key x))
-
--- the same where the keys are lists
-listed_more : {V : Type 0} (key : V → List ℕ) → ((x y : V) → key x ≡ key y → x ≡ y) → (old new : List ℕ → Option ℕ) (vs : List V) (v : V) → AreFound (λ x. old (key x)) vs → old (key v) ≡ None
-    → ((other : List ℕ) → new other ≡ cond (bytes_eq (key v) other) (Some (length vs)) (old other)) → AreFound (λ x. new (key x)) (vs ++ v ∷ [])
-listed_more key exact old new vs v h none put =
-    found_more (λ x y. bytes_eq (key x) (key y)) (λ x y e. exact x y ((bytes_decides (key x) (key y)).0 e)) (λ x. (bytes_decides (key x) (key x)).1 refl) (λ x. old (key x)) (λ x. new (key x)) vs v h none (λ x. put (key x))
 
 -- ---- values of one key are one
 
@@ -227,6 +221,50 @@ unions_exact (x ∷ xs) (y ∷ ys) e =
     let tails : union_key xs ≡ union_key ys = cc in
     ap (λ (n : ℕ). let v : VersionSetId = record { 0 = n } in v ∷ xs) heads ∙ ap (λ (zs : List VersionSetId). y ∷ zs) (unions_exact xs ys tails)
 
+abbrev key_in : Option Key → Key
+key_in None = (0, 0, 0, 0)
+key_in (Some k) = k
+
+-- the list of up to three that has a key
+abbrev list_of : Key → List VersionSetId
+list_of k = cond (nat_eq k.0 0) [] (cond (nat_eq k.0 1) (record { 0 = k.1 } ∷ []) (cond (nat_eq k.0 2) (record { 0 = k.1 } ∷ record { 0 = k.2 } ∷ []) (record { 0 = k.1 } ∷ record { 0 = k.2 } ∷ record { 0 = k.3 } ∷ [])))
+
+list_back : (xs : List VersionSetId) (k : Key) → few_key xs ≡ Some k → list_of k ≡ xs
+list_back [] k e = sym (ap (λ (o : Option Key). list_of (key_in o)) e)
+list_back (a ∷ []) k e = sym (ap (λ (o : Option Key). list_of (key_in o)) e)
+list_back (a ∷ b ∷ []) k e = sym (ap (λ (o : Option Key). list_of (key_in o)) e)
+list_back (a ∷ b ∷ c ∷ []) k e = sym (ap (λ (o : Option Key). list_of (key_in o)) e)
+list_back (a ∷ b ∷ c ∷ d ∷ rest) k e = absurd cc
+
+few_exact : (xs ys : List VersionSetId) (k : Key) → few_key xs ≡ Some k → few_key ys ≡ Some k → xs ≡ ys
+few_exact xs ys k x y = sym (list_back xs k x) ∙ list_back ys k y
+
+-- whether two lists are one, by their keys, or by their numbers where neither has one
+abbrev agree : Option Key → Option Key → Bool → Bool
+agree None None same = same
+agree None (Some b) same = false
+agree (Some a) None same = false
+agree (Some a) (Some b) same = key_eq a b
+
+abbrev union_eq : List VersionSetId → List VersionSetId → Bool
+union_eq v w = agree (few_key v) (few_key w) (bytes_eq (union_key v) (union_key w))
+
+union_eq_exact : (v w : List VersionSetId) → union_eq v w ≡ true → v ≡ w
+union_eq_exact v w = go (few_key v) (few_key w) refl refl
+  where
+    go : (a b : Option Key) → few_key v ≡ a → few_key w ≡ b → agree a b (bytes_eq (union_key v) (union_key w)) ≡ true → v ≡ w
+    go None None x y e = unions_exact v w ((bytes_decides (union_key v) (union_key w)).0 e)
+    go None (Some b) x y e = absurd cc
+    go (Some a) None x y e = absurd cc
+    go (Some a) (Some b) x y e = few_exact v w b (x ∙ ap (λ (k : Key). Some k) (keys_exact a b e)) y
+
+union_eq_own : (v : List VersionSetId) → union_eq v v ≡ true
+union_eq_own v = go (few_key v)
+  where
+    go : (a : Option Key) → agree a a (bytes_eq (union_key v) (union_key v)) ≡ true
+    go None = (bytes_decides (union_key v) (union_key v)).1 refl
+    go (Some a) = keys_own a
+
 joined : (op : LogicalOperator) (a b c d : ConditionId) → a.0 ≡ c.0 → b.0 ≡ d.0 → Binary op a b ≡ Binary op c d
 joined op a b c d left right = ap (λ (n : ℕ). Binary op (record { 0 = n }) b) left ∙ ap (λ (n : ℕ). Binary op c (record { 0 = n })) right
 
@@ -249,24 +287,56 @@ conditions_exact (Binary Or a b) (Binary And c d) e = let head : 2 ≡ 1 = ap (�
 
 -- ---- one more of each kind
 
-module _ (ss : List (NameId × Numbers)) (si : List (Key × ℕ)) (us : List (List VersionSetId)) (ui : List (Vec ℕ × ℕ)) (cs : List Condition) (ci : List (Key × ℕ)) (h : AreKept ss si us ui cs ci) where
-  pub sets_more : (s : NameId × Numbers) (new : List (Key × ℕ)) → number_in si (set_key s) ≡ None → ((other : Key) → number_in new other ≡ cond (key_eq (set_key s) other) (Some (length ss)) (number_in si other)) → AreKept (ss ++ s ∷ []) new us ui cs ci
-  sets_more s new none put = record { sets = keyed_more set_key sets_exact (number_in si) (number_in new) ss s h.sets none put; unions = h.unions; conditions = h.conditions; below = h.below; several = h.several }
+module _ (ss : List (NameId × Numbers)) (si : Key → Option ℕ) (us : List (List VersionSetId)) (short : Key → Option ℕ) (long : List (Vec ℕ × ℕ)) (cs : List Condition) (ci : Key → Option ℕ) (h : AreKept ss si us short long cs ci) where
+  pub sets_more : (s : NameId × Numbers) (new : Key → Option ℕ) → si (set_key s) ≡ None → ((other : Key) → new other ≡ cond (key_eq (set_key s) other) (Some (length ss)) (si other)) → AreKept (ss ++ s ∷ []) new us short long cs ci
+  sets_more s new none put = record { sets = keyed_more set_key sets_exact si new ss s h.sets none put; unions = h.unions; conditions = h.conditions; below = h.below; several = h.several }
 
-  pub unions_more : (u : List VersionSetId) (new : List (Vec ℕ × ℕ)) → ((v : VersionSetId) → u ≡ v ∷ [] → ⊥) → list_number_in ui (union_key u) ≡ None → ((other : List ℕ) → list_number_in new other ≡ cond (bytes_eq (union_key u) other) (Some (length us)) (list_number_in ui other)) → AreKept ss si (us ++ u ∷ []) new cs ci
-  unions_more u new several none put = record {
+  still_several : (u : List VersionSetId) → ((v : VersionSetId) → u ≡ v ∷ [] → ⊥) → AreSeveral (us ++ u ∷ [])
+  still_several u several k v e = elim (get_push us u (v ∷ []) k e) [ inl old ↦ h.several k v old | inr last ↦ several v last.1 ]
+
+  pub short_unions_more : (u : List VersionSetId) (key : Key) (new : Key → Option ℕ) → ((v : VersionSetId) → u ≡ v ∷ [] → ⊥) → few_key u ≡ Some key → short key ≡ None → ((other : Key) → new other ≡ cond (key_eq key other) (Some (length us)) (short other)) → AreKept ss si (us ++ u ∷ []) new long cs ci
+  short_unions_more u key new several is none put = record {
     sets = h.sets;
-    unions = listed_more union_key unions_exact (list_number_in ui) (list_number_in new) us u h.unions none put;
+    unions = found_more union_eq union_eq_exact union_eq_own (union_number short long) (union_number new long) us u h.unions unset step;
     conditions = h.conditions;
     below = h.below;
-    several = λ k v e. elim (get_push us u (v ∷ []) k e) [ inl old ↦ h.several k v old | inr last ↦ several v last.1 ];
+    several = still_several u several;
   }
+    where
+      unset : union_number short long u ≡ None
+      unset = ap (λ (o : Option Key). number_by short (list_number_in long (union_key u)) o) is ∙ none
 
-  pub conditions_more : (c : Condition) (new : List (Key × ℕ)) → OperandsBelow c (record { 0 = length cs }) → number_in ci (condition_key c) ≡ None → ((other : Key) → number_in new other ≡ cond (key_eq (condition_key c) other) (Some (length cs)) (number_in ci other)) → AreKept ss si us ui (cs ++ c ∷ []) new
+      step : (w : List VersionSetId) → union_number new long w ≡ cond (union_eq u w) (Some (length us)) (union_number short long w)
+      step w = subst (λ (o : Option Key). number_by new (list_number_in long (union_key w)) (few_key w) ≡ cond (agree o (few_key w) (bytes_eq (union_key u) (union_key w))) (Some (length us)) (number_by short (list_number_in long (union_key w)) (few_key w))) (sym is) (go (few_key w))
+        where
+          go : (b : Option Key) → number_by new (list_number_in long (union_key w)) b ≡ cond (agree (Some key) b (bytes_eq (union_key u) (union_key w))) (Some (length us)) (number_by short (list_number_in long (union_key w)) b)
+          go None = refl
+          go (Some b) = put b
+
+  pub long_unions_more : (u : List VersionSetId) (new : List (Vec ℕ × ℕ)) → ((v : VersionSetId) → u ≡ v ∷ [] → ⊥) → few_key u ≡ None → list_number_in long (union_key u) ≡ None → ((other : List ℕ) → list_number_in new other ≡ cond (bytes_eq (union_key u) other) (Some (length us)) (list_number_in long other)) → AreKept ss si (us ++ u ∷ []) short new cs ci
+  long_unions_more u new several is none put = record {
+    sets = h.sets;
+    unions = found_more union_eq union_eq_exact union_eq_own (union_number short long) (union_number short new) us u h.unions unset step;
+    conditions = h.conditions;
+    below = h.below;
+    several = still_several u several;
+  }
+    where
+      unset : union_number short long u ≡ None
+      unset = ap (λ (o : Option Key). number_by short (list_number_in long (union_key u)) o) is ∙ none
+
+      step : (w : List VersionSetId) → union_number short new w ≡ cond (union_eq u w) (Some (length us)) (union_number short long w)
+      step w = subst (λ (o : Option Key). number_by short (list_number_in new (union_key w)) (few_key w) ≡ cond (agree o (few_key w) (bytes_eq (union_key u) (union_key w))) (Some (length us)) (number_by short (list_number_in long (union_key w)) (few_key w))) (sym is) (go (few_key w))
+        where
+          go : (b : Option Key) → number_by short (list_number_in new (union_key w)) b ≡ cond (agree None b (bytes_eq (union_key u) (union_key w))) (Some (length us)) (number_by short (list_number_in long (union_key w)) b)
+          go None = put (union_key w)
+          go (Some b) = refl
+
+  pub conditions_more : (c : Condition) (new : Key → Option ℕ) → OperandsBelow c (record { 0 = length cs }) → ci (condition_key c) ≡ None → ((other : Key) → new other ≡ cond (key_eq (condition_key c) other) (Some (length cs)) (ci other)) → AreKept ss si us short long (cs ++ c ∷ []) new
   conditions_more c new under none put = record {
     sets = h.sets;
     unions = h.unions;
-    conditions = keyed_more condition_key conditions_exact (number_in ci) (number_in new) cs c h.conditions none put;
+    conditions = keyed_more condition_key conditions_exact ci new cs c h.conditions none put;
     below = λ i x e. elim (get_push cs c x i e) [
       | inl old ↦ h.below i x old
       | inr last ↦ subst (λ (y : Condition). OperandsBelow y (record { 0 = i })) last.1 (subst (λ (n : ℕ). OperandsBelow c (record { 0 = n })) (sym last.0) under)

@@ -1,5 +1,5 @@
 -- Values that are each found at their places, by keys that are four numbers, lists of numbers, or texts behind their hashes.
-use Rattle.std.specs.Prelude.{◌≡◌, ◌∷◌, ℕ, Bool, List, map, Option, Some, slice_get}
+use Rattle.std.specs.Prelude.{◌≡◌, ◌∷◌, [], ◌==◌, ◌%◌, if◌then◌else◌, ℕ, Bool, List, length, map, Option, Some, None, slice_get}
 use Rattle.std.specs.Global.{Global, Vec}
 use Rattle.std.specs.String.{string_bytes}
 use Rattle.std.specs.declared.string.String.{String}
@@ -14,7 +14,7 @@ use Rattle.resolvo_pool_core.specs.declared.condition.Condition.{Condition}
 use Rattle.resolvo_pool_core.specs.declared.condition.Condition.TheVariants.{Binary, Requirement}
 use Rattle.resolvo_pool_core.specs.declared.condition.LogicalOperator.TheVariants as joins
 use Rattle.resolvo_intern.specs.Intern.{AreBelow}
-use Rattle.resolvo_catalogue_core.specs.Hash.{bytes_hash}
+use Rattle.resolvo_catalogue_core.specs.Hash.{bytes_hash, mix}
 use Rattle.resolvo_catalogue.specs.declared.id_table.Numbers.{Numbers}
 use Rattle.resolvo_catalogue.specs.Ids.{NameId, AreSeveral}
 
@@ -40,6 +40,43 @@ number_in entries key = lookup (key_eq key) entries
 -- the same where the keys are vectors
 abbrev pub list_number_in : List (Vec ℕ × ℕ) → List ℕ → Option ℕ
 list_number_in entries key = lookup (λ k. is_eq (slice_cmp nat_cmp key k.items)) entries
+
+-- ---- places
+
+-- what lies at each place, and the entries of the sorted map of the others
+pub record KeyNumbers : Type 0 where
+  pub places : List (Option (Key × ℕ))
+  pub others : List (Key × ℕ)
+
+-- a hash of a key
+abbrev pub key_hash : Key → ℕ
+key_hash key = mix (mix (mix key.0 key.1) key.2) key.3
+
+-- the place of a key among so many
+abbrev pub place_of : ℕ → Key → ℕ
+place_of count key = if count == 0 then 0 else key_hash key % count
+
+-- what lies at the place of a key
+abbrev pub slot_of : List (Option (Key × ℕ)) → Key → Option (Option (Key × ℕ))
+slot_of places key = slice_get places (place_of (length places) key)
+
+-- the number of a key: none if its place is free, that of its place if it lies there, else another one
+abbrev pub number_beside : Option (Option (Key × ℕ)) → Option ℕ → Key → Option ℕ
+number_beside None other key = other
+number_beside (Some None) other key = None
+number_beside (Some (Some first)) other key = if key_eq first.0 key then Some first.1 else other
+
+-- the number of a key
+abbrev pub number_at : KeyNumbers → Key → Option ℕ
+number_at m key = number_beside (slot_of m.places key) (number_in m.others key) key
+
+-- no key whose place is free is among the others
+abbrev pub AreBehind : KeyNumbers → Type 0
+AreBehind m = (key : Key) → slot_of m.places key ≡ Some None → number_in m.others key ≡ None
+
+-- each place is free
+abbrev pub AreFree : List (Option (Key × ℕ)) → Type 0
+AreFree places = (i : ℕ) (s : Option (Key × ℕ)) → slice_get places i ≡ Some s → s ≡ None
 
 -- ---- texts, by a hash and by themselves
 
@@ -68,15 +105,31 @@ set_key s = (s.0.raw, (span_key s.1.0).0, (span_key s.1.0).1, (span_key s.1.0).2
 abbrev pub union_key : List VersionSetId → List ℕ
 union_key members = map (λ v. v.0) members
 
+-- the key of a list of up to three
+abbrev pub few_key : List VersionSetId → Option Key
+few_key [] = Some (0, 0, 0, 0)
+few_key (a ∷ []) = Some (1, a.0, 0, 0)
+few_key (a ∷ b ∷ []) = Some (2, a.0, b.0, 0)
+few_key (a ∷ b ∷ c ∷ []) = Some (3, a.0, b.0, c.0)
+few_key (a ∷ b ∷ c ∷ d ∷ rest) = None
+
+-- the number of a list by its key, or by its numbers where it has none
+abbrev pub number_by : (Key → Option ℕ) → Option ℕ → Option Key → Option ℕ
+number_by short long None = long
+number_by short long (Some key) = short key
+
+abbrev pub union_number : (Key → Option ℕ) → List (Vec ℕ × ℕ) → List VersionSetId → Option ℕ
+union_number short long u = number_by short (list_number_in long (union_key u)) (few_key u)
+
 abbrev pub condition_key : Condition → Key
 condition_key (Requirement v) = (0, v.0, 0, 0)
 condition_key (Binary joins.And a b) = (1, a.0, b.0, 0)
 condition_key (Binary joins.Or a b) = (2, a.0, b.0, 0)
 
 -- Version sets, unions and conditions are found by their keys; no union is of one version set, and operands come first.
-pub record AreKept (ss : List (NameId × Numbers)) (si : List (Key × ℕ)) (us : List (List VersionSetId)) (ui : List (Vec ℕ × ℕ)) (cs : List Condition) (ci : List (Key × ℕ)) : Type 0 where
-  pub sets : AreFound (λ s. number_in si (set_key s)) ss
-  pub unions : AreFound (λ u. list_number_in ui (union_key u)) us
-  pub conditions : AreFound (λ c. number_in ci (condition_key c)) cs
+pub record AreKept (ss : List (NameId × Numbers)) (si : Key → Option ℕ) (us : List (List VersionSetId)) (short : Key → Option ℕ) (long : List (Vec ℕ × ℕ)) (cs : List Condition) (ci : Key → Option ℕ) : Type 0 where
+  pub sets : AreFound (λ s. si (set_key s)) ss
+  pub unions : AreFound (union_number short long) us
+  pub conditions : AreFound (λ c. ci (condition_key c)) cs
   pub below : AreBelow cs
   pub several : AreSeveral us

@@ -1,6 +1,6 @@
 //! Guesses of the numbers of values, each found by a hash of its value. Values may share a guess, so
 //! whoever takes one compares. A right guess saves a look-up in a sorted map. A wrong one costs a
-//! comparison, so no choice of values makes it slow. Used by `text_ids` and `id_table`.
+//! comparison, so no choice of values makes it slow. Used by `text_ids`.
 
 use std::alloc::{AllocError, Global};
 

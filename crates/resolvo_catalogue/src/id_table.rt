@@ -1,9 +1,9 @@
 //! The ids of packages, versions, SPECs, lists of alternatives, conditions and words.
 //! The model is one list of each, in the order of first interning; `specs/Ids.antt` has the text of
-//! each id. Ids are found through sorted maps, so no choice of names or numbers makes that slow.
+//! each id. No choice of names or numbers makes it slow to find an id: hashes that collide are sorted.
 //! Filled by `versions`, `dependencies` and `candidate_flags`, read by `provider`.
 
-ghost use Rattle.std.specs.Prelude.{◌≡◌, ◌<◌, ◌≤◌, ◌+◌, ◌*◌, ◌++◌, ◌∷◌, [], if◌then◌else◌, ℕ, List, bytes_eq, IfOk, IfSome, IsErrOf, OnOk, OnErr, length, slice_get, Some};
+ghost use Rattle.std.specs.Prelude.{◌≡◌, ◌<◌, ◌≤◌, ◌+◌, ◌*◌, ◌++◌, ◌∷◌, [], if◌then◌else◌, ℕ, List, bytes_eq, IfOk, IsErrOf, OnOk, OnErr, length, slice_get, Some, None};
 ghost use Rattle.std.specs.Option.{option_copied};
 ghost use Rattle.resolvo_text.specs.View.{spec_of, specs_of, cond_of, condition_of};
 ghost use Rattle.resolvo_text.specs.Line.{Is};
@@ -12,11 +12,11 @@ ghost use Rattle.resolvo_pool_core.specs.Provider.{OperandsBelow};
 ghost use Rattle.resolvo_pool_core.specs.declared.want.Want.TheVariants.{Ids};
 ghost use Rattle.resolvo_catalogue.specs.Ids.{Interns, Grows, IsPlaced, AreSound, LacksNumber, IsPackage, IsWord, IsSpec, AreEach, AreAlternatives, IsCondition, IsConditionOf, IsNeed};
 ghost use Rattle.resolvo_catalogue.specs.IdCounts.{id_count, ids_for_condition, ids_for_need};
-ghost use Rattle.resolvo_catalogue.specs.Found.{Key, key_eq, number_in, list_number_in, set_key, union_key, condition_key};
+ghost use Rattle.resolvo_catalogue.specs.Found.{Key, key_eq, list_number_in, set_key, union_key, few_key, condition_key, number_at};
 
-use crate::guesses::Guesses;
+use crate::key_map::{Key, KeyMap};
 use crate::text_ids::TextIds;
-use resolvo_catalogue_core::{Cond, Span, Spec, mixed};
+use resolvo_catalogue_core::{Cond, Span, Spec};
 use resolvo_intern::pool::{Solvable, VersionSet};
 use resolvo_pool_core::condition::{Condition, LogicalOperator};
 use resolvo_pool_core::id::{
@@ -37,13 +37,10 @@ impl VersionSet for Numbers {
     type V = u32;
 }
 
-/// The key of a version set or a condition. It owns no memory, so that a look-up allocates nothing.
-type Key = (u32, u32, u32, u32);
-
 /// Values in the order in which they were added, and the number of each by its key.
 struct Numbered<T: Drop> {
     values: Vec<T>,
-    ids: BTreeMap<Key, u32>,
+    ids: KeyMap,
 }
 
 // split for the prover: one drop for each
@@ -56,14 +53,29 @@ impl<T: Drop> Drop for Numbered<T> {
 /// Lists of alternatives, each once, in the order in which they were added, and the number of each.
 struct Unions {
     values: Vec<Vec<VersionSetId>>,
-    ids: BTreeMap<Vec<u32>, u32>,
+    /// The numbers of the lists of up to three.
+    short: KeyMap,
+    /// The numbers of the others.
+    long: BTreeMap<Vec<u32>, u32>,
 }
 
 // split for the prover: one drop for each
 impl Drop for Unions {
     fn drop(self) {
-        let Unions { values: _, ids: _ } = self;
+        let Unions {
+            values: _,
+            short: _,
+            long: _,
+        } = self;
     }
+}
+
+/// For how many ids of each kind there is room at first.
+#[derive(Clone, Copy, Debug)]
+pub struct Room {
+    pub version_sets: usize,
+    pub unions: usize,
+    pub conditions: usize,
 }
 
 /// The interned values.
@@ -72,8 +84,6 @@ pub struct IdTable {
     words: TextIds,
     solvables: Vec<Solvable<u32>>,
     version_sets: Numbered<(NameId, Numbers)>,
-    /// Guesses of the ids of version sets.
-    set_guesses: Guesses,
     unions: Unions,
     conditions: Numbered<Condition>,
     alloc: Global,
@@ -87,7 +97,6 @@ impl Drop for IdTable {
             words: _,
             solvables: _,
             version_sets: _,
-            set_guesses: _,
             unions: _,
             conditions: _,
             alloc: _,
@@ -98,7 +107,7 @@ impl Drop for IdTable {
 impl Model for IdTable {
     ghost use Rattle.std.specs.Prelude.{map};
     ghost use Rattle.resolvo_catalogue.specs.Ids.{Ids};
-    ghost use Rattle.resolvo_catalogue.specs.Found.{AreKept};
+    ghost use Rattle.resolvo_catalogue.specs.Found.{AreKept, number_at};
 
     ghost Value = { Ids };
 
@@ -113,28 +122,27 @@ impl Model for IdTable {
         } };
 
     ghost invariant = { λ t.
-        AreKept t.version_sets.values.items t.version_sets.ids.entries
-        (map (λ u. u.items) t.unions.values.items) t.unions.ids.entries
-        t.conditions.values.items t.conditions.ids.entries };
+        AreKept t.version_sets.values.items (number_at t.version_sets.ids)
+        (map (λ u. u.items) t.unions.values.items) (number_at t.unions.short) t.unions.long.entries
+        t.conditions.values.items (number_at t.conditions.ids) };
 }
 
 impl IdTable {
-    /// An empty table.
-    pub fn new(alloc: Global) -> IdTable
-        ensures { result
+    /// An empty table, with room for some ids.
+    pub fn new(alloc: Global, room: Room) -> Result<IdTable, AllocError>
+        ensures { IfOk result (λ t. t
             ≡ record
-            { names = []; words = []; solvables = []; version_sets = []; unions = []; conditions = [] } }
+            { names = []; words = []; solvables = []; version_sets = []; unions = []; conditions = [] }) }
     {
-        IdTable {
+        Ok(IdTable {
             names: TextIds::new(alloc),
             words: TextIds::new(alloc),
             solvables: Vec::new(alloc),
-            version_sets: Numbered::new(alloc),
-            set_guesses: Guesses::new(alloc),
-            unions: Unions::new(alloc),
-            conditions: Numbered::new(alloc),
+            version_sets: Numbered::new(alloc, room.version_sets)?,
+            unions: Unions::new(alloc, room.unions)?,
+            conditions: Numbered::new(alloc, room.conditions)?,
             alloc,
-        }
+        })
     }
 
     /// The id of a package.
@@ -192,26 +200,7 @@ impl IdTable {
         ensures ids { IsErrOf result Ids → LacksNumber self.new }
     {
         let package = self.package(spec.name.as_str())?;
-        let hash = hash_of_set(package, spec.span);
-        if let Some(id) = self.guessed_set(hash, package, spec.span) {
-            return Ok(VersionSetId(id));
-        }
-        let version_set = self.version_set(package, spec.span)?;
-        self.set_guesses.note(self.alloc, hash, version_set.0)?;
-        Ok(version_set)
-    }
-
-    /// The id that is guessed for a span of a package, if it is right.
-    fn guessed_set(&self, hash: usize, name: NameId, span: Span) -> Option<u32>
-        ensures { IfSome result (λ i. slice_get self.now.version_sets i ≡ Some (name, record { 0 = span })) }
-    {
-        let id = self.set_guesses.at(hash)?;
-        let set = self.version_sets.values.get(id as usize)?;
-        if set.0 == name && set.1.0 == span {
-            Some(id)
-        } else {
-            None
-        }
+        self.version_set(package, spec.span)
     }
 
     /// The id of a span of a package.
@@ -252,11 +241,42 @@ impl IdTable {
         ensures few { id_count self.new ≤ id_count self.old + 1 }
         ensures ids { IsErrOf result Ids → LacksNumber self.new }
     {
-        let key = key_of_union(self.alloc, &members)?;
-        if let Some(id) = self.unions.number(key.as_slice()) {
+        match key_of_few(&members) {
+            Some(key) => self.short_union(members, key),
+            None => self.long_union(members),
+        }
+    }
+
+    /// The id of a list of SPECs that has a key.
+    fn short_union(&mut self, members: Vec<VersionSetId>, key: Key) -> R<VersionSetUnionId>
+        requires several { (v : VersionSetId) → members.items ≡ v ∷ [] → ⊥ }
+        requires key { few_key members.items ≡ Some key }
+        ensures union { IfOk result (λ u. slice_get self.new.unions u.0 ≡ Some members.items) }
+        ensures interns { Interns self.old self.new }
+        ensures few { id_count self.new ≤ id_count self.old + 1 }
+        ensures ids { IsErrOf result Ids → LacksNumber self.new }
+    {
+        if let Some(id) = self.unions.short.number(&key) {
             return Ok(VersionSetUnionId(id));
         }
-        let id = self.unions.add(members, key)?;
+        let id = self.unions.add_short(members, key)?;
+        Ok(VersionSetUnionId(id))
+    }
+
+    /// The id of a longer list of SPECs.
+    fn long_union(&mut self, members: Vec<VersionSetId>) -> R<VersionSetUnionId>
+        requires several { (v : VersionSetId) → members.items ≡ v ∷ [] → ⊥ }
+        requires long { few_key members.items ≡ None }
+        ensures union { IfOk result (λ u. slice_get self.new.unions u.0 ≡ Some members.items) }
+        ensures interns { Interns self.old self.new }
+        ensures few { id_count self.new ≤ id_count self.old + 1 }
+        ensures ids { IsErrOf result Ids → LacksNumber self.new }
+    {
+        let key = key_of_union(self.alloc, &members)?;
+        if let Some(id) = self.unions.long_number(key.as_slice()) {
+            return Ok(VersionSetUnionId(id));
+        }
+        let id = self.unions.add_long(members, key)?;
         Ok(VersionSetUnionId(id))
     }
 
@@ -469,41 +489,42 @@ impl IdTable {
 
 impl<T: Drop> Numbered<T> {
     /// No values.
-    fn new(alloc: Global) -> Numbered<T>
-        ensures values { result.values.items ≡ [] }
-        ensures ids { result.ids.entries ≡ [] }
+    fn new(alloc: Global, room: usize) -> Result<Numbered<T>, AllocError>
+        ensures values { IfOk result (λ t. t.values.items ≡ []) }
+        ensures ids { IfOk result (λ t. (key : Key) → number_at t.ids key ≡ None) }
     {
-        Numbered {
+        Ok(Numbered {
             values: Vec::new(alloc),
-            ids: BTreeMap::new(alloc),
-        }
+            ids: KeyMap::new(alloc, room)?,
+        })
     }
 
     /// The number of a key, if it has one.
     fn number(&self, key: &Key) -> Option<u32>
-        ensures { result ≡ number_in self.now.ids.entries key.now }
+        ensures { result ≡ number_at self.now.ids key.now }
     {
-        self.ids.get(key).copied()
+        self.ids.number(key)
     }
 
     /// Appends a value that has no number, and maps its key to its number.
     fn add(&mut self, value: T, key: Key) -> R<u32>
+        requires { number_at self.old.ids key ≡ None }
         // After an answer.
         ensures id { IfOk result (λ i. i ≡ length self.old.values.items) }
         ensures value { OnOk result (self.new.values.items ≡ self.old.values.items ++ value ∷ []) }
         ensures key { OnOk result
             ((other : Key)
-            → number_in self.new.ids.entries other
+            → number_at self.new.ids other
             ≡ (if key_eq key other then Some (length self.old.values.items)
-            else number_in self.old.ids.entries other)) }
+            else number_at self.old.ids other)) }
         // After a refusal.
         ensures kept { OnErr result (self.new.values.items ≡ self.old.values.items) }
-        ensures keys { OnErr result (self.new.ids.entries ≡ self.old.ids.entries) }
+        ensures keys { OnErr result (self.new.ids ≡ self.old.ids) }
         ensures ids { IsErrOf result Ids → 4294967295 ≤ length self.new.values.items }
     {
         let index = next_index(self.values.len())?;
         self.values.reserve(1)?;
-        self.ids.insert(key, index as u32)?;
+        self.ids.add(key, index as u32)?;
         self.values.push_reserved(value);
         Ok(index as u32)
     }
@@ -511,41 +532,70 @@ impl<T: Drop> Numbered<T> {
 
 impl Unions {
     /// No lists.
-    fn new(alloc: Global) -> Unions
-        ensures values { result.values.items ≡ [] }
-        ensures ids { result.ids.entries ≡ [] }
+    fn new(alloc: Global, room: usize) -> Result<Unions, AllocError>
+        ensures values { IfOk result (λ t. t.values.items ≡ []) }
+        ensures short { IfOk result (λ t. (key : Key) → number_at t.short key ≡ None) }
+        ensures long { IfOk result (λ t. t.long.entries ≡ []) }
     {
-        Unions {
+        Ok(Unions {
             values: Vec::new(alloc),
-            ids: BTreeMap::new(alloc),
-        }
+            short: KeyMap::new(alloc, room)?,
+            long: BTreeMap::new(alloc),
+        })
     }
 
-    /// The number of a key, if it has one.
-    fn number(&self, key: &[u32]) -> Option<u32>
-        ensures { result ≡ list_number_in self.now.ids.entries key.now }
+    /// The number of a list that is longer than three, by its numbers, if it has one.
+    fn long_number(&self, key: &[u32]) -> Option<u32>
+        ensures { result ≡ list_number_in self.now.long.entries key.now }
     {
-        self.ids.get(key).copied()
+        self.long.get(key).copied()
     }
 
     /// Appends a list that has no number, and maps its key to its number.
-    fn add(&mut self, value: Vec<VersionSetId>, key: Vec<u32>) -> R<u32>
+    fn add_short(&mut self, value: Vec<VersionSetId>, key: Key) -> R<u32>
+        requires { number_at self.old.short key ≡ None }
+        // After an answer.
+        ensures id { IfOk result (λ i. i ≡ length self.old.values.items) }
+        ensures value { OnOk result (self.new.values.items ≡ self.old.values.items ++ value ∷ []) }
+        ensures key { OnOk result
+            ((other : Key)
+            → number_at self.new.short other
+            ≡ (if key_eq key other then Some (length self.old.values.items)
+            else number_at self.old.short other)) }
+        // After a refusal.
+        ensures kept { OnErr result (self.new.values.items ≡ self.old.values.items) }
+        ensures keys { OnErr result (self.new.short ≡ self.old.short) }
+        ensures ids { IsErrOf result Ids → 4294967295 ≤ length self.new.values.items }
+        // Whatever the answer.
+        ensures long { self.new.long ≡ self.old.long }
+    {
+        let index = next_index(self.values.len())?;
+        self.values.reserve(1)?;
+        self.short.add(key, index as u32)?;
+        self.values.push_reserved(value);
+        Ok(index as u32)
+    }
+
+    /// Appends a long list that has no number, and maps its key to its number.
+    fn add_long(&mut self, value: Vec<VersionSetId>, key: Vec<u32>) -> R<u32>
         // After an answer.
         ensures id { IfOk result (λ i. i ≡ length self.old.values.items) }
         ensures value { OnOk result (self.new.values.items ≡ self.old.values.items ++ value ∷ []) }
         ensures key { OnOk result
             ((other : List ℕ)
-            → list_number_in self.new.ids.entries other
+            → list_number_in self.new.long.entries other
             ≡ (if bytes_eq key.items other then Some (length self.old.values.items)
-            else list_number_in self.old.ids.entries other)) }
+            else list_number_in self.old.long.entries other)) }
         // After a refusal.
         ensures kept { OnErr result (self.new.values.items ≡ self.old.values.items) }
-        ensures keys { OnErr result (self.new.ids.entries ≡ self.old.ids.entries) }
+        ensures keys { OnErr result (self.new.long.entries ≡ self.old.long.entries) }
         ensures ids { IsErrOf result Ids → 4294967295 ≤ length self.new.values.items }
+        // Whatever the answer.
+        ensures short { self.new.short ≡ self.old.short }
     {
         let index = next_index(self.values.len())?;
         self.values.reserve(1)?;
-        self.ids.insert(key, index as u32)?;
+        self.long.insert(key, index as u32)?;
         self.values.push_reserved(value);
         Ok(index as u32)
     }
@@ -567,13 +617,16 @@ fn key_of_set(name: NameId, span: Span) -> Key
     }
 }
 
-/// A hash of a span of a package.
-fn hash_of_set(name: NameId, span: Span) -> usize {
-    let hash = name.to_index();
-    match span {
-        Span::Any => mixed(hash, 0),
-        Span::One(number) => mixed(mixed(hash, 1), number as usize),
-        Span::Range(low, high) => mixed(mixed(hash, low as usize), high as usize),
+/// The key of a list of up to three.
+fn key_of_few(members: &[VersionSetId]) -> Option<Key>
+    ensures { result ≡ few_key members.now }
+{
+    match members {
+        [] => Some((0, 0, 0, 0)),
+        [a] => Some((1, a.0, 0, 0)),
+        [a, b] => Some((2, a.0, b.0, 0)),
+        [a, b, c] => Some((3, a.0, b.0, c.0)),
+        _ => None,
     }
 }
 

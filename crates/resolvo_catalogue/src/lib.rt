@@ -6,6 +6,7 @@ mod dependencies;
 pub mod dependency_provider;
 mod guesses;
 mod id_table;
+mod key_map;
 pub mod provider;
 mod text_ids;
 mod versions;

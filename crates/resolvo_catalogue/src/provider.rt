@@ -13,9 +13,9 @@ ghost use Rattle.resolvo_catalogue.specs.Over.{AreDependencies, IsOver};
 
 use crate::candidate_flags::{CandidateFlags, many_of, marks_of};
 use crate::dependencies::VersionDependencies;
-use crate::id_table::IdTable;
+use crate::id_table::{IdTable, Room};
 use crate::versions::list_versions;
-use resolvo_catalogue_core::{Catalogue, Request, Spec, VersionNo};
+use resolvo_catalogue_core::{Catalogue, Request, Rule, Spec, VersionNo};
 use resolvo_pool_core::id::{NameId, SolvableId, StringId, VersionSetId};
 use resolvo_pool_core::requirement::{ConditionalRequirement, Requirement};
 use resolvo_pool_core::want::{R, Want};
@@ -118,7 +118,7 @@ impl CatalogueProvider {
         ensures few { IfOk result (λ p. id_count p.ids ≤ sum_by ids_for_line catalogue.now) }
         ensures ids { IsErrOf result Ids → LacksNumberFor catalogue.now }
     {
-        let mut ids = IdTable::new(alloc);
+        let mut ids = IdTable::new(alloc, room_for(catalogue))?;
         let Tables {
             packages,
             deps,
@@ -338,4 +338,33 @@ fn deps_of_lines(
         deps.push(VersionDependencies::of_lines(alloc, ids, catalogue, lines)?)?;
     }
     Ok(deps)
+}
+
+/// For how many ids there is room at first: for one version set a rule, and for the lists of
+/// alternatives and the conditions of needs.
+fn room_for(catalogue: &Catalogue) -> Room {
+    let mut room = Room {
+        version_sets: 0,
+        unions: 0,
+        conditions: 0,
+    };
+    for line in 0..catalogue.line_count() {
+        if let Some(rule) = catalogue.rule(line + 1) {
+            room.version_sets = room.version_sets.saturating_add(1);
+            if let Rule::Needs {
+                alternatives,
+                condition,
+                ..
+            } = rule
+            {
+                if alternatives.len() > 1 {
+                    room.unions = room.unions.saturating_add(1);
+                }
+                if condition.is_some() {
+                    room.conditions = room.conditions.saturating_add(3);
+                }
+            }
+        }
+    }
+    room
 }

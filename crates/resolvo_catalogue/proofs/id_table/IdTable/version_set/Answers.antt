@@ -1,8 +1,8 @@
-use Rattle.std.proofs.Common.{◌≡◌, ◌∙◌, ℕ, List, Some, cond, map, length, refl, sym, ap, subst}
+use Rattle.std.proofs.Common.{◌≡◌, ◌∙◌, List, Some, cond, map, length, refl, sym, ap, subst}
 use Rattle.std.specs.Prelude.{slice_get}
 use Rattle.resolvo_catalogue.specs.declared.id_table.Numbers.{Numbers}
 use Rattle.resolvo_catalogue.specs.Ids.{Ids, NameId}
-use Rattle.resolvo_catalogue.specs.Found.{AreKept, Key, key_eq, number_in, set_key}
+use Rattle.resolvo_catalogue.specs.Found.{AreKept, Key, key_eq, set_key, number_at}
 use Rattle.resolvo_catalogue.proofs.FoundLemmas.{sets_more, last_there, extends_to}
 use Rattle.resolvo_catalogue.proofs.id_table.IdTable.version_set.Goals as goal
 
@@ -10,17 +10,17 @@ pub returns-in-Some-clause-version_set : goal.returns-in-Some-clause-version_set
 returns-in-Some-clause-version_set c =
     let s : NameId × Numbers = (c.args.name, record { 0 = c.args.span }) in
     let key : c.key_of_set-key.result ≡ set_key (c.args.name, record { 0 = c.args.span }) = c.key_of_set-key.ensures in
-    let at = ap (λ (k : Key). number_in c.self.inside.version_sets.ids.entries k) (sym key) ∙ sym c.in-Some.ensures in
+    let at = ap (λ (k : Key). number_at c.self.inside.version_sets.ids k) (sym key) ∙ sym c.in-Some.ensures in
     subst (λ (ids : Ids). slice_get ids.version_sets c.in-Some.id ≡ Some s) c.self.view_is (c.self.invariant.sets.found s c.in-Some.id at)
 
 pub invariant_of-self-2 : goal.invariant_of-self-2
 invariant_of-self-2 c =
     let s : NameId × Numbers = (c.args.name, record { 0 = c.args.span }) in
     let key : c.key_of_set-key.result ≡ set_key (c.args.name, record { 0 = c.args.span }) = c.key_of_set-key.ensures in
-    let none = ap (λ (k : Key). number_in c.self.inside.version_sets.ids.entries k) (sym key) ∙ sym c.in_default.ensures in
-    let put = subst (λ (k : Key). (other : Key) → number_in c.add.new.self.ids.entries other ≡ cond (key_eq k other) (Some (length c.self.inside.version_sets.values.items)) (number_in c.self.inside.version_sets.ids.entries other)) c.key_of_set-key.ensures c.in_ok-id.ensures.key in
-    subst (λ (ss : List (NameId × Numbers)). AreKept ss c.add.new.self.ids.entries (map (λ u. u.items) c.self.inside.unions.values.items) c.self.inside.unions.ids.entries c.self.inside.conditions.values.items c.self.inside.conditions.ids.entries) (sym c.in_ok-id.ensures.value)
-    (sets_more c.self.inside.version_sets.values.items c.self.inside.version_sets.ids.entries (map (λ u. u.items) c.self.inside.unions.values.items) c.self.inside.unions.ids.entries c.self.inside.conditions.values.items c.self.inside.conditions.ids.entries c.self.invariant s c.add.new.self.ids.entries none put)
+    let none = ap (λ (k : Key). number_at c.self.inside.version_sets.ids k) (sym key) ∙ sym c.in_default.ensures in
+    let put = subst (λ (k : Key). (other : Key) → number_at c.add.new.self.ids other ≡ cond (key_eq k other) (Some (length c.self.inside.version_sets.values.items)) (number_at c.self.inside.version_sets.ids other)) c.key_of_set-key.ensures c.in_ok-id.ensures.key in
+    subst (λ (ss : List (NameId × Numbers)). AreKept ss (number_at c.add.new.self.ids) (map (λ u. u.items) c.self.inside.unions.values.items) (number_at c.self.inside.unions.short) c.self.inside.unions.long.entries c.self.inside.conditions.values.items (number_at c.self.inside.conditions.ids)) (sym c.in_ok-id.ensures.value)
+    (sets_more c.self.inside.version_sets.values.items (number_at c.self.inside.version_sets.ids) (map (λ u. u.items) c.self.inside.unions.values.items) (number_at c.self.inside.unions.short) c.self.inside.unions.long.entries c.self.inside.conditions.values.items (number_at c.self.inside.conditions.ids) c.self.invariant s (number_at c.add.new.self.ids) none put)
 
 pub returns-clause-version_set : goal.returns-clause-version_set
 returns-clause-version_set c = last_there c.self.inside.version_sets.values.items c.add.new.self.values.items (c.args.name, record { 0 = c.args.span }) c.in_ok-id.ensures.value c.in_ok-id.id c.in_ok-id.ensures.id
