@@ -1,17 +1,18 @@
 -- The number that a word spells.
-use Rattle.std.proofs.Common.{◌≡◌, ℕ, zero, suc, ◌^◌, ◌<◌, ◌≤◌, true, ltb, ◌&&◌, List, [], ◌∷◌, length, get_or, Option, Some, None, Result, Ok, Err, refl, sym, ap, subst, ◌∙◌, arith, ◌≢◌, slice_get, Bor}
-use Rattle.std.specs.Prelude.{MatchResult}
+use Rattle.std.proofs.Common.{◌≡◌, ℕ, zero, suc, ◌^◌, ◌<◌, ◌≤◌, true, ltb, ◌&&◌, ◌+◌, ◌*◌, take, List, [], ◌∷◌, length, get_or, Option, Some, None, Result, Ok, Err, refl, sym, ap, subst, ◌∙◌, arith, slice_get, Bor}
+use Rattle.std.specs.Prelude.{MatchResult, IfSome, IfNone}
 use Rattle.std.specs.Option.{option_map, option_map_or}
 use Rattle.std.specs.Fmt.{decimal}
-use Rattle.std.specs.Str.{bytes_eq, IsAscii, IsUtf8}
-use Rattle.std.specs.Result.{result_ok, is_ok}
-use Rattle.std.specs.Str.Parse.{digits_value, AllDigits, IsNumeral, ParsesUnsigned, without_leading_plus}
-use Rattle.std.proofs.lemmas.Bool.{and_parts, lt-ltb, ltb-true, false≢true}
+use Rattle.std.specs.Str.{bytes_eq}
+use Rattle.std.specs.Result.{result_ok}
+use Rattle.std.specs.Char.{digit_value}
+use Rattle.std.proofs.lemmas.Int.Digits.{digits_more, digits_value_more}
+use Rattle.std.specs.Str.Parse.{digits_value, AllDigits}
+use Rattle.std.proofs.lemmas.Bool.{and_parts, lt-ltb, ltb-true}
 use Rattle.std.proofs.lemmas.Slice.Eq.{bytes_eq-Decides}
-use Rattle.std.proofs.lemmas.Fmt.{digits_value-decimal, decimal-digits_value, decimal_nonempty, first_decimal, decimal_digit, digits_decimal, parse-decimal, IsAscii-decimal}
-use Rattle.std.proofs.lemmas.Str.Parse.{IsNumeralModel, numerals_by_value, tells_digits, digit_at, without_leading_plus_none}
-use Rattle.std.proofs.lemmas.Option.{cond_some, same_Some, get_or_from_slice_get}
-use Rattle.std.proofs.lemmas.Str.{IsUtf8-from_ascii}
+use Rattle.std.proofs.lemmas.Fmt.{digits_value-decimal, decimal-digits_value, decimal_nonempty, first_decimal, decimal_digit, digits_decimal}
+use Rattle.std.proofs.lemmas.Str.Parse.{digits_value-take-le, IsNumeralModel, numerals_by_value, tells_digits, digit_at}
+use Rattle.std.proofs.lemmas.Option.{slice_get_within, cond_some, same_Some, get_or_from_slice_get}
 use Rattle.resolvo_text.specs.Parse.{number_in}
 
 own : IsNumeralModel (AllDigits 10) (digits_value 10)
@@ -46,6 +47,31 @@ none_from_no_some (Some n) h = absurd (h n refl)
 pub number_in_none : (word : List ℕ) → ((n : ℕ) → n < 2 ^ 32 → word ≡ decimal n → ⊥) → number_in word ≡ None
 number_in_none word none = none_from_no_some (number_in word) (λ n e. let h = number_in_spells word n e in none n h.1 h.0)
 
+-- ---- digits, one after the other
+
+-- one more digit of a word
+pub one_digit_more : (word : List ℕ) (i n : ℕ) → i < length word → AllDigits 10 (take i word) → n ≡ digits_value 10 (take i word)
+    → digit_value (get_or word i 0) < 10
+    → AllDigits 10 (take (i + 1) word) × (n * 10 + digit_value (get_or word i 0) ≡ digits_value 10 (take (i + 1) word))
+one_digit_more word i n l all value digit =
+    (digits_more 10 word i l all digit, ap (λ (m : ℕ). m * 10 + digit_value (get_or word i 0)) value ∙ sym (digits_value_more 10 word i l))
+
+digit_below : (word : List ℕ) (i : ℕ) → AllDigits 10 word → i < length word → digit_value (get_or word i 0) < 10
+digit_below [] i all l = absurd (omega (arith, l))
+digit_below (c ∷ cs) zero all l = all.0
+digit_below (c ∷ cs) (suc i) all l = digit_below cs i all.1 (omega (arith, l))
+
+-- a byte that is no digit
+pub no_digit_at : (word : List ℕ) (i : ℕ) → i < length word → (digit_value (get_or word i 0) < 10 → ⊥) → AllDigits 10 word → ⊥
+no_digit_at word i l none all = none (digit_below word i all l)
+
+-- the digits so far have no room
+pub too_large_at : (word : List ℕ) (i n : ℕ) → i < length word → n ≡ digits_value 10 (take i word) → 2 ^ 32 ≤ n * 10 + digit_value (get_or word i 0)
+    → 2 ^ 32 ≤ digits_value 10 word
+too_large_at word i n l value large =
+    let more : n * 10 + digit_value (get_or word i 0) ≡ digits_value 10 (take (i + 1) word) = ap (λ (m : ℕ). m * 10 + digit_value (get_or word i 0)) value ∙ sym (digits_value_more 10 word i l) in
+    omega (arith, large, more, digits_value-take-le 10 word (i + 1) (omega arith))
+
 -- ---- why a word spells no number
 
 pub digits : (n : ℕ) → n < 2 ^ 32 → AllDigits 10 (decimal n)
@@ -67,22 +93,19 @@ pub no_number_zero : (word : List ℕ) → slice_get word 0 ≡ Some 48 → 1 < 
 no_number_zero [] h long = absurd cc
 no_number_zero (b ∷ bs) h long = number_in_none (b ∷ bs) (λ n lt e. not_after_zero b bs n (same_Some b 48 h) long lt e)
 
-pub no_number_bytes : (word : List ℕ) → (IsUtf8 word → ⊥) → number_in word ≡ None
-no_number_bytes word not_text = number_in_none word (λ n lt e. not_text (IsUtf8-from_ascii word (subst IsAscii (sym e) (IsAscii-decimal n (omega arith)))))
-
--- `parse` gives the number, where the word begins as a number does
-pub number_from_parse : {E : Type 0} (word : List ℕ) (first : ℕ) (r : Result ℕ E) → slice_get word 0 ≡ Some first → first ≢ 43 → (first ≡ 48 → length word ≤ 1)
-    → ParsesUnsigned 32 10 word r → result_ok r ≡ number_in word
-number_from_parse word first (Ok n) at no_plus no_zero parsed =
+-- the digits of a word, where it begins as a number does
+pub number_from_digits : (word : List ℕ) (first : ℕ) (r : Option ℕ) → slice_get word 0 ≡ Some first → (first ≡ 48 → length word ≤ 1)
+    → IfSome r (λ n. n < 2 ^ 32) → IfSome r (λ _. AllDigits 10 word) → IfSome r (λ n. n ≡ digits_value 10 word)
+    → IfNone r (AllDigits 10 word → 2 ^ 32 ≤ digits_value 10 word) → r ≡ number_in word
+number_from_digits word first (Some n) at no_zero small all value none =
     let head : get_or word 0 0 ≡ first = get_or_from_slice_get word 0 first 0 at in
-    let plain : without_leading_plus word ≡ word = without_leading_plus_none word (λ e. no_plus (sym head ∙ e)) in
-    let value : n ≡ digits_value 10 word = parsed.1 ∙ ap (λ (xs : List ℕ). digits_value 10 xs) plain in
-    let numeral : IsNumeral 10 word = subst (λ (xs : List ℕ). IsNumeral 10 xs) plain parsed.0.0 in
-    let small : n < 2 ^ 32 = omega (arith, parsed.0.1, parsed.1) in
-    let spelled : decimal (digits_value 10 word) ≡ word = decimal-digits_value own word numeral.1 numeral.0 (λ e. omega (arith, numeral.0, no_zero (sym head ∙ e))) (omega (arith, value, small)) in
+    let some : 0 < length word = slice_get_within word 0 first at in
+    let spelled : decimal (digits_value 10 word) ≡ word = decimal-digits_value own word all some (λ e. omega (arith, some, no_zero (sym head ∙ e))) (omega (arith, value, small)) in
     sym (number_in_is word n small (sym spelled ∙ ap decimal (sym value)))
-number_from_parse {E} word first (Err e) at no_plus no_zero parsed =
-    sym (number_in_none word (λ n lt is. false≢true (ap (λ (r : Result ℕ E). is_ok r) (parse-decimal 32 n word (Err e) lt (omega arith) is parsed))))
+number_from_digits word first None at no_zero small all value none =
+    sym (number_in_none word (λ n lt e.
+    let spelled : digits_value 10 word ≡ n = ap (digits_value 10) e ∙ digits_value-decimal own n (omega arith) in
+    omega (arith, lt, spelled, none (subst (AllDigits 10) (sym e) (digits n lt)))))
 
 -- ---- text
 

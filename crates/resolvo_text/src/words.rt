@@ -3,7 +3,9 @@
 //! A word is its bytes; a parser of a word returns the one value that the word spells. The parsers
 //! of parts of lines call these.
 
-ghost use Rattle.std.specs.Prelude.{◌≡◌, ◌==◌, map, IfOk, IfSome, MatchOption, option_copied};
+ghost use Rattle.std.specs.Prelude.{◌≡◌, ◌==◌, ◌*◌, ◌+◌, ◌^◌, ◌<◌, ◌≤◌, SomeIff, map, IfOk, IfSome, IfNone, MatchOption, option_copied};
+ghost use Rattle.std.specs.Char.{digit_value};
+ghost use Rattle.std.specs.Str.Parse.{AllDigits, digits_value};
 ghost use Rattle.std.specs.Option.{option_map};
 ghost use Rattle.std.specs.List.{position, list_all};
 ghost use Rattle.resolvo_text.specs.Spelling.{starts_name, continues_name, is_word, is_reserved, is_name};
@@ -62,20 +64,45 @@ pub fn name_in(word: &[u8]) -> Option<&str>
     std::str::from_utf8(word).ok()
 }
 
+/// The digit that a byte is.
+fn digit_of(byte: u8) -> Option<u32>
+    ensures { SomeIff result (digit_value byte < 10) (digit_value byte) }
+{
+    char::from(byte).to_digit(10)
+}
+
+/// One more digit of a number, where there is room for it.
+fn with_digit(value: u32, digit: u32) -> Option<u32>
+    ensures value { IfSome result (λ n. n ≡ value * 10 + digit) }
+    ensures full { IfNone result (2 ^ 32 ≤ value * 10 + digit) }
+{
+    value.checked_mul(10)?.checked_add(digit)
+}
+
+/// The number that digits spell. None, where a byte is no digit, or the number has no room.
+#[tactic(auto, using(crate::proofs::NumberLemmas::one_digit_more, crate::proofs::NumberLemmas::no_digit_at, crate::proofs::NumberLemmas::too_large_at))]
+fn digits_in(word: &[u8]) -> Option<u32>
+    ensures digits { IfSome result (λ _. AllDigits 10 word.now) }
+    ensures value { IfSome result (λ n. n ≡ digits_value 10 word.now) }
+    ensures small { IfSome result (λ n. n < 2 ^ 32) }
+    ensures none { IfNone result (AllDigits 10 word.now → 2 ^ 32 ≤ digits_value 10 word.now) }
+{
+    let mut value = 0;
+    for byte in word {
+        value = with_digit(value, digit_of(*byte)?)?;
+    }
+    Some(value)
+}
+
 /// The number that the word spells, in digits with no zero before them.
-#[tactic(auto, unfolding(crate::specs::Parse::number_in))]
 pub fn number_in(word: &[u8]) -> Option<u32>
     ensures { result ≡ number_in word.now }
 {
     let first = *word.first()?;
-    if first == b'+' {
-        return None;
-    }
     if first == b'0' && word.len() > 1 {
         return None;
     }
-    let text = std::str::from_utf8(word).ok()?;
-    text.parse::<u32>().ok()
+    digits_in(word)
 }
 
 #[tactic(auto, unfolding(crate::specs::Parse::number_after_dot))]
