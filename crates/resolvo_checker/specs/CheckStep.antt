@@ -1,5 +1,5 @@
 -- The state of the checker of a proof.
-use Rattle.std.specs.Prelude.{◌≡◌, ⊤, ℕ, ◌+◌, Bool, true, false, ◌==◌, List, [], ◌∷◌, length, Option, Some, None, slice_get, is_some, unwrap_or}
+use Rattle.std.specs.Prelude.{◌≡◌, ⊤, ℕ, ◌+◌, Bool, true, false, ◌==◌, List, [], ◌∷◌, ◌++◌, length, Option, Some, None, slice_get, is_some, unwrap_or}
 use Rattle.std.specs.Global.{Vec}
 use Rattle.std.specs.List.{list_all}
 use Rattle.resolvo_text.specs.Line.{Version, Line}
@@ -8,10 +8,12 @@ use Rattle.resolvo_report.specs.Value.{Step}
 use Rattle.resolvo_report.specs.Value as step
 use Rattle.resolvo_checker.specs.declared.literal.Literal.{Literal}
 use Rattle.resolvo_checker.specs.declared.check_step.Premises.{Premises}
+use Rattle.resolvo_checker.specs.declared.check_step.Checker.{Checker}
+use Rattle.resolvo_checker.specs.declared.clauses.Readings.{Readings}
 use Rattle.resolvo_checker.specs.declared.check_step.Premises.TheVariants.{All, Named}
 use Rattle.resolvo_checker.specs.Kept.{Kept, Ready, Deferred, is_ready}
 use Rattle.resolvo_checker.specs.StepClauses.{Clause, clause_of}
-use Rattle.resolvo_checker.specs.Proof.{allows_place}
+use Rattle.resolvo_checker.specs.Proof.{allows_place, is_valid_step}
 use Rattle.resolvo_checker.specs.Keys.{Numbered, Extends}
 use Rattle.resolvo_checker.specs.StepKeys.{Recorded}
 
@@ -80,3 +82,19 @@ pub record CheckerInvariant (catalogue request : List Line) (entries : List (Vec
   pub kept : AreKept catalogue request entries earlier clauses
   pub placed : Given catalogue places earlier
   pub recorded : Recorded catalogue request rules earlier
+
+-- whether the step is valid after the earlier ones that the checker's state is of
+abbrev pub TellsValid : List Line → List Line → Premises → Step → Checker → List Kept → Bool → Type 0
+TellsValid catalogue request scope s checker kept fine = (earlier : List Step)
+    → CheckerInvariant catalogue request checker.numbers kept checker.places.items checker.rules earlier
+    → fine ≡ is_valid_step catalogue request (names_catalogue scope) (names_request scope) earlier s
+
+-- the second state is that after one step more
+abbrev pub AddsStep : List Line → List Line → Step → Checker → List Kept → Checker → List Kept → Type 0
+AddsStep catalogue request s old kept new more = (earlier : List Step)
+    → CheckerInvariant catalogue request old.numbers kept old.places.items old.rules earlier
+    → CheckerInvariant catalogue request new.numbers more new.places.items new.rules (earlier ++ s ∷ [])
+
+-- the clauses that the step names were read, each once for each time that it is named
+abbrev pub ReadsCauses : Step → Readings → Readings → Type 0
+ReadsCauses s old new = new ≡ record old { read = old.read + causes_in s }

@@ -14,11 +14,11 @@ ghost use Rattle.resolvo_report.specs.View.{step_of, atom_of, literal_of, litera
 ghost use Rattle.resolvo_checker.specs.Literals.{literals_of, clause_at};
 ghost use Rattle.resolvo_checker.specs.Rup.{is_earlier};
 ghost use Rattle.resolvo_checker.specs.StepClauses.{is_atom, fits_mark, is_listed, literal_of as plain_literal, clause_of as clause_of_lem};
-ghost use Rattle.resolvo_checker.specs.Proof.{rests_on_named, allows_place, follows as follows_lem, is_valid_step};
+ghost use Rattle.resolvo_checker.specs.Proof.{rests_on_named, allows_place, follows as follows_lem};
 ghost use Rattle.resolvo_checker.specs.Keys.{Extends, Numbered};
 ghost use Rattle.resolvo_checker.specs.Numbers.{AreNumbers};
 ghost use Rattle.resolvo_checker.specs.Kept.{Ready, deferred_at, is_ready};
-ghost use Rattle.resolvo_checker.specs.CheckStep.{flag_at, names_catalogue, names_request, allows, causes_in, causes_of as causes_of_lem, clause_or_none, AtomIds as NumbersOf, CheckerInvariant, Given, NamesReady};
+ghost use Rattle.resolvo_checker.specs.CheckStep.{flag_at, names_catalogue, names_request, allows, causes_in, causes_of as causes_of_lem, clause_or_none, AtomIds as NumbersOf, CheckerInvariant, TellsValid, AddsStep, ReadsCauses, Given, NamesReady};
 ghost use Rattle.resolvo_checker.specs.Built.{rule_clause_of};
 
 use crate::assignment::Assignment;
@@ -461,21 +461,13 @@ fn add(
     requires ready { NamesReady clauses.old.kept (step_of step.now) }
     // After an answer.
     ensures answer { IfOk result
-        (λ fine.
-        (earlier : List StepValue)
-        → CheckerInvariant catalogue.now request.now.lines checker.old.numbers clauses.old.kept
-        checker.old.places.items checker.old.rules earlier
-        → fine
-        ≡ is_valid_step catalogue.now request.now.lines (names_catalogue scope.now)
-        (names_request scope.now) earlier (step_of step.now)) }
+        (TellsValid catalogue.now request.now.lines scope.now (step_of step.now)
+        checker.old clauses.old.kept) }
     ensures represents { IfOk result
         (λ fine.
         IsTrue fine
-        → (earlier : List StepValue)
-        → CheckerInvariant catalogue.now request.now.lines checker.old.numbers clauses.old.kept
-        checker.old.places.items checker.old.rules earlier
-        → CheckerInvariant catalogue.now request.now.lines checker.new.numbers clauses.new.kept
-        checker.new.places.items checker.new.rules (earlier ++ step_of step.now ∷ [])) }
+        → AddsStep catalogue.now request.now.lines (step_of step.now)
+        checker.old clauses.old.kept checker.new clauses.new.kept) }
     ensures later { IfOk result (λ fine. IsTrue fine → checker.new.truth.pass ≤ length clauses.new.kept) }
     ensures long { IfOk result
         (λ fine. IsTrue fine → length checker.new.places.items ≡ length (listed catalogue.now)) }
@@ -483,9 +475,7 @@ fn add(
     ensures read { IfOk result
         (λ fine.
         IsTrue fine
-        → clauses.new.readings
-        ≡ record clauses.old.readings
-        { read = clauses.old.readings.read + causes_in (step_of step.now) }) }
+        → ReadsCauses (step_of step.now) clauses.old.readings clauses.new.readings) }
 {
     let there = number_step(
         alloc,
@@ -538,21 +528,13 @@ fn defer_or_add(
     requires room { clauses.old.readings.read + causes_in (step_of step.now) < 2 ^ 64 }
     // After an answer.
     ensures answer { IfOk result
-        (λ fine.
-        (earlier : List StepValue)
-        → CheckerInvariant catalogue.now request.now.lines checker.old.numbers clauses.old.kept
-        checker.old.places.items checker.old.rules earlier
-        → fine
-        ≡ is_valid_step catalogue.now request.now.lines (names_catalogue scope.now)
-        (names_request scope.now) earlier (step_of step.now)) }
+        (TellsValid catalogue.now request.now.lines scope.now (step_of step.now)
+        checker.old clauses.old.kept) }
     ensures represents { IfOk result
         (λ fine.
         IsTrue fine
-        → (earlier : List StepValue)
-        → CheckerInvariant catalogue.now request.now.lines checker.old.numbers clauses.old.kept
-        checker.old.places.items checker.old.rules earlier
-        → CheckerInvariant catalogue.now request.now.lines checker.new.numbers clauses.new.kept
-        checker.new.places.items checker.new.rules (earlier ++ step_of step.now ∷ [])) }
+        → AddsStep catalogue.now request.now.lines (step_of step.now)
+        checker.old clauses.old.kept checker.new clauses.new.kept) }
     ensures later { IfOk result (λ fine. IsTrue fine → checker.new.truth.pass ≤ length clauses.new.kept) }
     ensures long { IfOk result
         (λ fine. IsTrue fine → length checker.new.places.items ≡ length (listed catalogue.now)) }
@@ -560,9 +542,7 @@ fn defer_or_add(
     ensures read { IfOk result
         (λ fine.
         IsTrue fine
-        → clauses.new.readings
-        ≡ record clauses.old.readings
-        { read = clauses.old.readings.read + causes_in (step_of step.now) }) }
+        → ReadsCauses (step_of step.now) clauses.old.readings clauses.new.readings) }
 {
     let copy = long_step(alloc, step)?;
     let Some(long) = copy else {
@@ -634,21 +614,13 @@ pub fn advance(
     requires room { clauses.old.readings.read + causes_in (step_of step.now) < 2 ^ 64 }
     // After an answer.
     ensures answer { IfOk result
-        (λ fine.
-        (earlier : List StepValue)
-        → CheckerInvariant catalogue.now request.now.lines checker.old.numbers clauses.old.kept
-        checker.old.places.items checker.old.rules earlier
-        → fine
-        ≡ is_valid_step catalogue.now request.now.lines (names_catalogue scope.now)
-        (names_request scope.now) earlier (step_of step.now)) }
+        (TellsValid catalogue.now request.now.lines scope.now (step_of step.now)
+        checker.old clauses.old.kept) }
     ensures represents { IfOk result
         (λ fine.
         IsTrue fine
-        → (earlier : List StepValue)
-        → CheckerInvariant catalogue.now request.now.lines checker.old.numbers clauses.old.kept
-        checker.old.places.items checker.old.rules earlier
-        → CheckerInvariant catalogue.now request.now.lines checker.new.numbers clauses.new.kept
-        checker.new.places.items checker.new.rules (earlier ++ step_of step.now ∷ [])) }
+        → AddsStep catalogue.now request.now.lines (step_of step.now)
+        checker.old clauses.old.kept checker.new clauses.new.kept) }
     ensures later { IfOk result (λ fine. IsTrue fine → checker.new.truth.pass ≤ length clauses.new.kept) }
     ensures long { IfOk result
         (λ fine. IsTrue fine → length checker.new.places.items ≡ length (listed catalogue.now)) }
@@ -656,9 +628,7 @@ pub fn advance(
     ensures read { IfOk result
         (λ fine.
         IsTrue fine
-        → clauses.new.readings
-        ≡ record clauses.old.readings
-        { read = clauses.old.readings.read + causes_in (step_of step.now) }) }
+        → ReadsCauses (step_of step.now) clauses.old.readings clauses.new.readings) }
 {
     let earlier = checker.rules.earlier(alloc, step, clauses.len())?;
     match earlier {
