@@ -4,7 +4,7 @@
 ghost use Rattle.std.specs.Prelude.{◌≡◌, ◌<◌, ◌≤◌, ◌+◌, slice_get, take, length, Some, true, IfOk, IsOkUnless};
 ghost use Rattle.resolvo_pool_core.specs.declared.want.Want.TheVariants.{Memory};
 ghost use Rattle.resolvo_store_core.specs.Signed.{negation, has};
-ghost use Rattle.resolvo_store_core.specs.Watches.{watchers, pair_at};
+ghost use Rattle.resolvo_store_core.specs.Watches.{watchers, pair_at, IsAt};
 ghost use Rattle.resolvo_sat.specs.Known.{clause_at};
 ghost use Rattle.resolvo_sat.specs.Entries.{made_true};
 ghost use Rattle.resolvo_sat.specs.State.{IsState, history, clauses_of};
@@ -102,19 +102,25 @@ impl SatState {
     fn visit_clause(
         &mut self,
         watching: &mut WatchLists,
-        cursor: WatchMapCursor,
+        cursor: &mut WatchMapCursor,
         clause: ClauseId,
         watched: WatchedLiterals,
     ) -> R<WatchVisit>
         requires state { IsState self.old }
         requires fits { IsFit self.old watching.old }
-        requires known { has (made_true (history self.old)) (negation cursor.literal) ≡ true }
-        requires present { slice_get (watchers watching.old.watches cursor.literal) cursor.place ≡ Some clause }
+        requires at { IsAt watching.old.watches cursor.old }
+        requires known { has (made_true (history self.old)) (negation cursor.old.literal) ≡ true }
+        requires present { slice_get (watchers watching.old.watches cursor.old.literal)
+            cursor.old.place
+            ≡ Some clause }
         requires pair { pair_at watching.old.watched.items clause.0 ≡ Some watched }
         // After an answer.
         ensures met { IfOk result
-            (IsMeeting cursor.literal cursor.place clause.0 watched self.old watching.old self.new
-            watching.new) }
+            (IsMeeting cursor.old.literal cursor.old.place clause.0 watched self.old watching.old
+            self.new watching.new) }
+        ensures literal { IfOk result (λ _. cursor.new.literal ≡ cursor.old.literal) }
+        ensures place { IfOk result (λ _. cursor.new.place ≡ cursor.old.place) }
+        ensures at { IfOk result (λ _. IsAt watching.new.watches cursor.new) }
         // After a refusal.
         ensures refusal { IsOkUnless result Memory }
     {
@@ -162,8 +168,8 @@ impl SatState {
         let mut cursor = watching.watches.cursor(literal);
         while let Some(clause) = cursor.clause_id(&watching.watches) {
             let watched = watching.pair(cursor, clause);
-            match self.visit_clause(watching, cursor, clause, watched)? {
-                WatchVisit::Kept => cursor.next(),
+            match self.visit_clause(watching, &mut cursor, clause, watched)? {
+                WatchVisit::Kept => cursor.next(&watching.watches),
                 WatchVisit::Moved => {}
                 WatchVisit::Falsified => return Ok(Some(clause)),
             }

@@ -2,6 +2,7 @@ pub mod CaseLaws
 pub mod ClauseLists
 pub mod ClauseValues
 pub mod Digits
+pub mod LinkLemmas
 pub mod Rooms
 pub mod Seconds
 pub mod Ties

@@ -1,33 +1,168 @@
 -- Lemmas on the lists that the calls of a watch map write, as functions of a literal.
-use Rattle.std.proofs.Common.{◌≡◌, ℕ, suc, ◌-◌, ◌<◌, ◌⊎◌, inl, inr, true, false, List, [], ◌∷◌, ◌++◌, take, drop, reverse, length, get_or, set, Option, Some, Vec, Global, sym, ◌∙◌, ap, subst}
+use Rattle.std.proofs.Common.{◌≡◌, ℕ, zero, suc, ◌+◌, ◌<◌, ◌≤◌, ◌⊎◌, inl, inr, true, false, cond, List, [], ◌∷◌, ◌++◌, take, drop, map, length, Option, Some, None, refl, sym, ◌∙◌, ap, subst, arith, eqb, eq-eqb, ne_eqb, length-append}
 use Rattle.std.specs.Prelude.{slice_get, slice_set}
+use Rattle.std.proofs.lemmas.List.{length-map}
 use Rattle.resolvo_pool_core.specs.declared.id.ClauseId.{ClauseId}
 use Rattle.resolvo_store_core.specs.Signed.{Signed, same_literal, index_in}
 use Rattle.resolvo_store_core.specs.Pairs.{watches, moved_pair}
 use Rattle.resolvo_store_core.specs.declared.watched_literals.WatchedLiterals.{WatchedLiterals}
-use Rattle.resolvo_store_core.specs.Watches.{list_at, pair_at, IsWatched, StartsIn, MovesIn, Moves, PutsFirst, TakesOut, SameLists}
-use Rattle.resolvo_store_core.proofs.ClauseLists.{list_at-read, list_at-set_same, list_at-set_other, list_same, reverse_push, reverse_taken}
+use Rattle.resolvo_store_core.specs.declared.watch_map.WatchMap.{WatchMap}
+use Rattle.resolvo_store_core.specs.declared.watch_map.WatchMapCursor.{WatchMapCursor}
+use Rattle.resolvo_store_core.specs.declared.watch_map.WatchLink.{WatchLink}
+use Rattle.resolvo_store_core.specs.Links.{first_at, next_at, clause_of, chain, list_in, before_in, watchers_in, AreLists, IsPlaced, IsUnlinked, KeepsLinks}
+use Rattle.resolvo_store_core.specs.Watches.{links, watchers, pair_at, IsAt, IsWatched, StartsIn, MovesIn, Moves, PutsFirst, TakesOut, SameLists}
+use Rattle.resolvo_store_core.proofs.LinkLemmas.{got, got_within, chain_length, added_lists, clause_of-push, taken, up, up_in, not_up, put_in, taken_in, put_here, put_there, taken_here, taken_there, taken_was, taken_before, taken_behind, lists_are}
 use Rattle.resolvo_store_core.proofs.Watched.{differs_sym, both_false, cases_literal, index_differs, moved_well, pair_of_watcher, not_same_watch}
 
-pub wrote_first : (ls mid new : List (Vec ClauseId Global)) (l : Signed) (i : ℕ) (c : ClauseId) (v v' : Vec ClauseId Global) → i ≡ index_in l → ((j : ℕ) → list_at mid j ≡ list_at ls j) → i < length mid → v ≡ get_or mid i v → v'.items ≡ v.items ++ c ∷ [] → new ≡ set mid i v'
-    → PutsFirst c l (λ m. list_at ls (index_in m)) (λ m. list_at new (index_in m))
-wrote_first ls mid new l i c v v' at same within read put is = record {
-  put = ap (λ j. list_at new j) (sym at) ∙ ap (λ (xs : List (Vec ClauseId Global)). list_at xs i) is ∙ list_at-set_same mid i v' within ∙ ap reverse put ∙ reverse_push v.items c ∙ ap (λ (xs : List ClauseId). c ∷ xs) (sym (list_at-read mid i v within read) ∙ same i ∙ ap (λ j. list_at ls j) at);
-  others = λ m n. ap (λ (xs : List (Vec ClauseId Global)). list_at xs (index_in m)) is ∙ list_at-set_other mid i (index_in m) v' (λ e. index_differs l m n (sym at ∙ e)) ∙ same (index_in m);
+map_kept : {A : Type 0} (f g : ℕ → A) (xs : List ℕ) → ((a n : ℕ) → slice_get xs a ≡ Some n → f n ≡ g n) → map f xs ≡ map g xs
+map_kept f g [] h = refl
+map_kept f g (x ∷ xs) h = ap (λ y. y ∷ map f xs) (h 0 x refl) ∙ ap (λ ys. g x ∷ ys) (map_kept f g xs (λ a n e. h (suc a) n e))
+
+map_taken : {A : Type 0} (f : ℕ → A) (p : ℕ) (xs : List ℕ) → map f (taken p xs) ≡ take p (map f xs) ++ drop (suc p) (map f xs)
+map_taken f zero [] = refl
+map_taken f (suc p) [] = refl
+map_taken f zero (x ∷ xs) = refl
+map_taken f (suc p) (x ∷ xs) = ap (λ ys. f x ∷ ys) (map_taken f p xs)
+
+pub map_got : {A : Type 0} (f : ℕ → A) (xs : List ℕ) (a n : ℕ) → slice_get xs a ≡ Some n → slice_get (map f xs) a ≡ Some (f n)
+map_got f [] a n e = cc
+map_got f (x ∷ xs) zero n e = let same : x ≡ n = cc in ap (λ y. Some (f y)) same
+map_got f (x ∷ xs) (suc a) n e = map_got f xs a n e
+
+pub map_none : {A : Type 0} (f : ℕ → A) (xs : List ℕ) (a : ℕ) → slice_get xs a ≡ None → slice_get (map f xs) a ≡ None
+map_none f [] a e = refl
+map_none f (x ∷ xs) zero e = cc
+map_none f (x ∷ xs) (suc a) e = map_none f xs a e
+
+-- where all links are in the lists as before, so are the clauses
+pub same_watchers : (old : WatchMap) (fs' : List (Option ℕ)) (ls' : List WatchLink) → KeepsLinks old.firsts.items old.links.items fs' ls' → SameLists (watchers old) (watchers_in fs' ls')
+same_watchers old fs' ls' same l =
+    ap (map (clause_of ls')) (same.lists (index_in l))
+    ∙ map_kept (clause_of ls') (clause_of old.links.items) (links old l) (λ a n e. same.clauses n (old.linked.in_range (index_in l) a n e))
+
+other_index : (l m : Signed) → same_literal l m ≡ false → eqb (index_in l) (index_in m) ≡ false
+other_index l m d = ne_eqb (index_in l) (index_in m) (index_differs l m d)
+
+-- a link that was added is in no list
+pub same_added : (old : WatchMap) (fs' : List (Option ℕ)) (ls' : List WatchLink) (x : WatchLink) → fs' ≡ old.firsts.items → ls' ≡ old.links.items ++ x ∷ [] → KeepsLinks old.firsts.items old.links.items fs' ls'
+same_added old fs' ls' x firsts more =
+    let longer : length (old.links.items ++ x ∷ []) ≡ length old.links.items + 1 = length-append old.links.items (x ∷ []) in
+    let long : length ls' ≡ length (old.links.items ++ x ∷ []) = ap length more in
+    record {
+      lists = λ i. ap (λ (fs : List (Option ℕ)). list_in fs ls' i) firsts ∙ ap (λ (ls : List WatchLink). list_in old.firsts.items ls i) more ∙ lists_are old.firsts.items (old.links.items ++ x ∷ []) _ (added_lists old.firsts.items old.links.items x old.linked) i;
+      clauses = λ n h. ap (λ (ls : List WatchLink). clause_of ls n) more ∙ clause_of-push old.links.items x n h;
+      more = omega arith;
+    }
+
+pub added_free : (old : WatchMap) (fs' : List (Option ℕ)) (ls' : List WatchLink) (x : WatchLink) (n : ℕ) → KeepsLinks old.firsts.items old.links.items fs' ls' → ls' ≡ old.links.items ++ x ∷ [] → n ≡ length old.links.items → IsUnlinked fs' ls' n
+added_free old fs' ls' x n same more at =
+    let longer : length (old.links.items ++ x ∷ []) ≡ length old.links.items + 1 = length-append old.links.items (x ∷ []) in
+    let long : length ls' ≡ length (old.links.items ++ x ∷ []) = ap length more in
+    record {
+      in_range = omega arith;
+      free = λ i a h. let k : n < length old.links.items = old.linked.in_range i a n (ap (λ (xs : List ℕ). slice_get xs a) (sym (same.lists i)) ∙ h) in omega arith;
+    }
+
+-- there are more lists, which are empty
+pub same_more : (old : WatchMap) (fs' : List (Option ℕ)) (ls' : List WatchLink) → ((i : ℕ) → first_at fs' i ≡ first_at old.firsts.items i) → ls' ≡ old.links.items → KeepsLinks old.firsts.items old.links.items fs' ls'
+same_more old fs' ls' firsts links = record {
+  lists = λ i. ap (λ (ls : List WatchLink). list_in fs' ls i) links ∙ ap (chain old.links.items (length old.links.items)) (firsts i);
+  clauses = λ n h. ap (λ (ls : List WatchLink). clause_of ls n) links;
+  more = let e = ap length links in omega arith;
 }
 
-pub wrote_same : (ls mid new : List (Vec ClauseId Global)) (i : ℕ) (v v' : Vec ClauseId Global) → ((j : ℕ) → list_at mid j ≡ list_at ls j) → i < length mid → v ≡ get_or mid i v → v'.items ≡ v.items → new ≡ set mid i v'
-    → SameLists (λ m. list_at ls (index_in m)) (λ m. list_at new (index_in m))
-wrote_same ls mid new i v v' same within read items is m = ap (λ (xs : List (Vec ClauseId Global)). list_at xs (index_in m)) is ∙ list_same mid i (index_in m) v v' within read items ∙ same (index_in m)
+-- a cursor in a list is not at its end
+pub not_at_end : (m : WatchMap) (k : WatchMapCursor) → IsAt m k → k.place < length (watchers m k.literal) → k.current ≡ None → ⊥
+not_at_end m k at within end =
+    let size : length (watchers m k.literal) ≡ length (links m k.literal) = length-map (links m k.literal) (clause_of m.links.items) in
+    let g = got (links m k.literal) k.place (omega arith) in
+    let both : Some g.0 ≡ None = sym g.1 ∙ sym at.current ∙ end in
+    cc
 
-pub took_out : (ls new : List (Vec ClauseId Global)) (l : Signed) (i place at : ℕ) (v v' : Vec ClauseId Global) → i ≡ index_in l → i < length ls → v ≡ get_or ls i v → place < length v.items → at ≡ length v.items - 1 - place → v'.items ≡ take at v.items ++ drop (suc at) v.items → new ≡ set ls i v'
-    → TakesOut l place (λ m. list_at ls (index_in m)) (λ m. list_at new (index_in m))
-took_out ls new l i place at v v' index within read below from_end taken is =
-    let here : reverse v.items ≡ list_at ls (index_in l) = sym (list_at-read ls i v within read) ∙ ap (λ j. list_at ls j) index in
+-- places of lists are fewer than the links
+pub place_small : (m : WatchMap) (l : Signed) (place : ℕ) → place < length (watchers m l) → place < length m.links.items
+place_small m l place within =
+    let size : length (watchers m l) ≡ length (links m l) = length-map (links m l) (clause_of m.links.items) in
+    let few : length (links m l) ≤ length m.links.items = chain_length m.links.items (length m.links.items) (first_at m.firsts.items (index_in l)) in
+    omega arith
+
+-- the link before a cursor is there
+pub before_in_range : (m : WatchMap) (k : WatchMapCursor) (b : ℕ) → IsAt m k → k.before ≡ Some b → b < length m.links.items
+before_in_range m k b at is = go k.place (sym at.before ∙ is)
+  where
+    go : (p : ℕ) → before_in (links m k.literal) p ≡ Some b → b < length m.links.items
+    go zero e = cc
+    go (suc q) e = m.linked.in_range (index_in k.literal) q b e
+
+-- the clause at a cursor
+pub clause_here : (m : WatchMap) (k : WatchMapCursor) (n : ℕ) → IsAt m k → k.current ≡ Some n → slice_get (watchers m k.literal) k.place ≡ Some (clause_of m.links.items n)
+clause_here m k n at is = map_got (clause_of m.links.items) (links m k.literal) k.place n (sym at.current ∙ is)
+
+pub within_from : (m : WatchMap) (k : WatchMapCursor) (n : ℕ) → IsAt m k → k.current ≡ Some n → k.place < length (watchers m k.literal)
+within_from m k n at is =
+    let size : length (watchers m k.literal) ≡ length (links m k.literal) = length-map (links m k.literal) (clause_of m.links.items) in
+    let h : k.place < length (links m k.literal) = got_within (links m k.literal) k.place n (sym at.current ∙ is) in
+    omega arith
+
+-- the cursor behind one
+pub next_at_cursor : (m : WatchMap) (k : WatchMapCursor) (n : ℕ) (o : Option ℕ) → IsAt m k → k.current ≡ Some n → o ≡ next_at m.links.items n → IsPlaced (links m k.literal) (k.place + 1) o (Some n)
+next_at_cursor m k n o at is next =
+    let here : slice_get (links m k.literal) k.place ≡ Some n = sym at.current ∙ is in
+    let step : suc k.place ≡ k.place + 1 = omega arith in
     record {
-      taken = ap (λ j. list_at new j) (sym index) ∙ ap (λ (xs : List (Vec ClauseId Global)). list_at xs i) is ∙ list_at-set_same ls i v' within ∙ ap reverse taken ∙ reverse_taken v.items place at below from_end ∙ ap (λ (xs : List ClauseId). take place xs ++ drop (suc place) xs) here;
-      others = λ m n. ap (λ (xs : List (Vec ClauseId Global)). list_at xs (index_in m)) is ∙ list_at-set_other ls i (index_in m) v' (λ e. index_differs l m n (sym index ∙ e));
+      current = next ∙ m.linked.next (index_in k.literal) k.place n here ∙ ap (λ p. slice_get (links m k.literal) p) step;
+      before = sym here ∙ ap (λ p. before_in (links m k.literal) p) step;
     }
+
+-- the lists after a link was put first, and their clauses
+pub put_others : (old : WatchMap) (fs' : List (Option ℕ)) (ls' : List WatchLink) (l : Signed) (i n : ℕ) → i ≡ index_in l → AreLists fs' ls' (put_in i n (list_in old.firsts.items old.links.items)) → (m : Signed) → same_literal l m ≡ false → list_in fs' ls' (index_in m) ≡ links old m
+put_others old fs' ls' l i n at are m d =
+    lists_are fs' ls' _ are (index_in m) ∙ put_there i (index_in m) n (list_in old.firsts.items old.links.items) (ap (λ (k : ℕ). eqb k (index_in m)) at ∙ other_index l m d)
+
+pub put_watchers : (old : WatchMap) (fs' : List (Option ℕ)) (ls' : List WatchLink) (l : Signed) (i n : ℕ) → i ≡ index_in l → AreLists fs' ls' (put_in i n (list_in old.firsts.items old.links.items)) → ((m : ℕ) → clause_of ls' m ≡ clause_of old.links.items m)
+    → PutsFirst (clause_of old.links.items n) l (watchers old) (watchers_in fs' ls')
+put_watchers old fs' ls' l i n at are same = record {
+  put = map_kept (clause_of ls') (clause_of old.links.items) (list_in fs' ls' (index_in l)) (λ a m e. same m)
+      ∙ ap (map (clause_of old.links.items)) (subst (λ (k : ℕ). list_in fs' ls' (index_in l) ≡ n ∷ list_in old.firsts.items old.links.items k) at (ap (list_in fs' ls') (sym at) ∙ lists_are fs' ls' _ are i ∙ put_here i n (list_in old.firsts.items old.links.items)));
+  others = λ m d. map_kept (clause_of ls') (clause_of old.links.items) (list_in fs' ls' (index_in m)) (λ a k e. same k) ∙ ap (map (clause_of old.links.items)) (put_others old fs' ls' l i n at are m d);
+}
+
+-- the lists after a link was taken out, and their clauses
+pub taken_watchers : (old : WatchMap) (fs' : List (Option ℕ)) (ls' : List WatchLink) (l : Signed) (p : ℕ) → AreLists fs' ls' (taken_in (index_in l) p (list_in old.firsts.items old.links.items)) → ((m : ℕ) → clause_of ls' m ≡ clause_of old.links.items m)
+    → TakesOut l p (watchers old) (watchers_in fs' ls')
+taken_watchers old fs' ls' l p are same = record {
+  taken = map_kept (clause_of ls') (clause_of old.links.items) (list_in fs' ls' (index_in l)) (λ a m e. same m)
+      ∙ ap (map (clause_of old.links.items)) (lists_are fs' ls' _ are (index_in l) ∙ taken_here (index_in l) p (list_in old.firsts.items old.links.items))
+      ∙ map_taken (clause_of old.links.items) p (links old l);
+  others = λ m d. map_kept (clause_of ls') (clause_of old.links.items) (list_in fs' ls' (index_in m)) (λ a k e. same k)
+      ∙ ap (map (clause_of old.links.items)) (lists_are fs' ls' _ are (index_in m) ∙ taken_there (index_in l) (index_in m) p (list_in old.firsts.items old.links.items) (other_index l m d));
+}
+
+-- the link that was taken out is in no list
+pub taken_free : (old : WatchMap) (fs' : List (Option ℕ)) (ls' : List WatchLink) (l : Signed) (p n : ℕ) → AreLists fs' ls' (taken_in (index_in l) p (list_in old.firsts.items old.links.items)) → slice_get (links old l) p ≡ Some n → length ls' ≡ length old.links.items → IsUnlinked fs' ls' n
+taken_free old fs' ls' l p n are at long = record {
+  in_range = let h : n < length old.links.items = old.linked.in_range (index_in l) p n at in omega arith;
+  free = λ j a h.
+      let was = sym (taken_was (list_in old.firsts.items old.links.items) (index_in l) p j a) ∙ ap (λ (xs : List ℕ). slice_get xs a) (sym (lists_are fs' ls' _ are j)) ∙ h in
+      let one = old.linked.once (index_in l) j p (up_in (index_in l) p j a) n at was in
+      let here : up_in (index_in l) p j a ≡ up p a = ap (λ t. cond t (up p a) a) (eq-eqb (index_in l) j one.0) in
+      not_up p a (one.1 ∙ here);
+}
+
+-- a cursor whose link was taken out is at the next one
+pub taken_at : (old : WatchMap) (fs' : List (Option ℕ)) (ls' : List WatchLink) (k : WatchMapCursor) (n : ℕ) (o : Option ℕ) → AreLists fs' ls' (taken_in (index_in k.literal) k.place (list_in old.firsts.items old.links.items)) → IsAt old k → k.current ≡ Some n → o ≡ next_at old.links.items n → IsPlaced (list_in fs' ls' (index_in k.literal)) k.place o k.before
+taken_at old fs' ls' k n o are at is next =
+    let i = index_in k.literal in
+    let lists = list_in old.firsts.items old.links.items in
+    let here : list_in fs' ls' (index_in k.literal) ≡ taken k.place (lists i) = lists_are fs' ls' _ are i ∙ taken_here i k.place lists in
+    record {
+      current = next ∙ old.linked.next i k.place n (sym at.current ∙ is) ∙ sym (taken_behind (lists i) k.place k.place (omega arith)) ∙ ap (λ (xs : List ℕ). slice_get xs k.place) (sym here);
+      before = at.before ∙ sym (before k.place) ∙ ap (λ (xs : List ℕ). before_in xs k.place) (sym here);
+    }
+  where
+    before : (p : ℕ) → before_in (taken p (links old k.literal)) p ≡ before_in (links old k.literal) p
+    before zero = refl
+    before (suc q) = taken_before (links old k.literal) (suc q) q (omega arith)
 
 -- a clause that was inserted first into two lists
 pub starts_in : (c : ClauseId) (p : WatchedLiterals) (a b d : Signed → List ClauseId) → same_literal p.first p.second ≡ false → PutsFirst c p.first a b → PutsFirst c p.second b d → StartsIn c p a d
@@ -45,27 +180,38 @@ put_and_taken c l a b b' d put same out m = go (cases_literal l m)
     go (inl e) = subst (λ (x : Signed). d x ≡ a x) e (out.taken ∙ ap (λ (xs : List ClauseId). drop 1 xs) (same l ∙ put.put))
     go (inr n) = out.others m n ∙ same m ∙ put.others m n
 
-pub moved_between : (c : ClauseId) (from to : Signed) (place : ℕ) (a b d : Signed → List ClauseId) → same_literal from to ≡ false → slice_get (a from) place ≡ Some c → PutsFirst c to a b → TakesOut from place b d → MovesIn c from place to a d
-moved_between c from to place a b d apart was_in put out =
-    let here : b from ≡ a from = put.others from (differs_sym from to apart) in
-    record {
-      was_in = was_in;
-      taken = out.taken ∙ ap (λ (xs : List ClauseId). take place xs ++ drop (suc place) xs) here;
-      put = out.others to apart ∙ put.put;
-      others = λ l n m. out.others l n ∙ put.others l m;
-    }
+pub moved_between : (c : ClauseId) (from to : Signed) (place : ℕ) (a b d : Signed → List ClauseId) → same_literal from to ≡ false → slice_get (a from) place ≡ Some c → TakesOut from place a b → PutsFirst c to b d → MovesIn c from place to a d
+moved_between c from to place a b d apart was_in out put = record {
+  was_in = was_in;
+  taken = put.others from (differs_sym from to apart) ∙ out.taken;
+  put = put.put ∙ ap (λ (xs : List ClauseId). c ∷ xs) (out.others to apart);
+  others = λ l n m. put.others l m ∙ out.others l n;
+}
+
+-- where the lists are the same, the link is at its place still
+pub still_at : (old : WatchMap) (fs' : List (Option ℕ)) (ls' : List WatchLink) (k : WatchMapCursor) → KeepsLinks old.firsts.items old.links.items fs' ls' → IsAt old k → IsPlaced (list_in fs' ls' (index_in k.literal)) k.place k.current k.before
+still_at old fs' ls' k same at = subst (λ (xs : List ℕ). IsPlaced xs k.place k.current k.before) (sym (same.lists (index_in k.literal))) at
+
+pub out_same : (l : Signed) (p : ℕ) (a a' b : Signed → List ClauseId) → SameLists a a' → TakesOut l p a' b → TakesOut l p a b
+out_same l p a a' b same out = record { taken = out.taken ∙ ap (λ (xs : List ClauseId). take p xs ++ drop (suc p) xs) (same l); others = λ m n. out.others m n ∙ same m }
+
+-- a literal that a clause does not watch is another than one that it watches
+pub apart_from : (c : ClauseId) (from to : Signed) (place : ℕ) (pairs : List (Option WatchedLiterals)) (a : Signed → List ClauseId) → IsWatched pairs a → slice_get (a from) place ≡ Some c → watches (pair_at pairs c.0) to ≡ false → same_literal from to ≡ false
+apart_from c from to place pairs a fit was_in free =
+    let found = pair_of_watcher pairs a from place c fit was_in in
+    not_same_watch found.0 from to found.2 (subst (λ (o : Option WatchedLiterals). watches o to ≡ false) found.1 free)
 
 -- the clause at the cursor watches the other literal now
 pub updated : (c : ClauseId) (p : WatchedLiterals) (from to : Signed) (place : ℕ) (pairs new_pairs : List (Option WatchedLiterals)) (a b d : Signed → List ClauseId)
-    → IsWatched pairs a → slice_get (a from) place ≡ Some c → pair_at pairs c.0 ≡ Some p → watches (pair_at pairs c.0) to ≡ false → PutsFirst c to a b → TakesOut from place b d → new_pairs ≡ slice_set pairs c.0 (Some (moved_pair p from to)) → Moves from place to pairs new_pairs a d
-updated c p from to place pairs new_pairs a b d fit was_in is free put out wrote =
+    → IsWatched pairs a → slice_get (a from) place ≡ Some c → pair_at pairs c.0 ≡ Some p → watches (pair_at pairs c.0) to ≡ false → TakesOut from place a b → PutsFirst c to b d → new_pairs ≡ slice_set pairs c.0 (Some (moved_pair p from to)) → Moves from place to pairs new_pairs a d
+updated c p from to place pairs new_pairs a b d fit was_in is free out put wrote =
     let found = pair_of_watcher pairs a from place c fit was_in in
     let both : Some found.0 ≡ Some p = sym found.1 ∙ is in
     let same : found.0 ≡ p = cc in
     let watching : watches (Some p) from ≡ true = subst (λ (x : WatchedLiterals). watches (Some x) from ≡ true) same found.2 in
     let not_to : watches (Some p) to ≡ false = subst (λ (o : Option WatchedLiterals). watches o to ≡ false) is free in
     let apart : same_literal from to ≡ false = not_same_watch p from to watching not_to in
-    let lists : MovesIn c from place to a d = moved_between c from to place a b d apart was_in put out in
+    let lists : MovesIn c from place to a d = moved_between c from to place a b d apart was_in out put in
     record {
       clause = c;
       pair = p;

@@ -1,6 +1,7 @@
 pub mod AddPairs
 pub mod ClauseParts
 pub mod Clauses
+pub mod Links
 pub mod Lists
 pub mod Pairs
 pub mod ReadClause

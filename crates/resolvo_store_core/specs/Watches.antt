@@ -1,42 +1,47 @@
 -- The clauses that watch a literal.
-use Rattle.std.specs.Prelude.{◌≡◌, ℕ, zero, suc, ◌+◌, ◌-◌, ◌≤◌, ⊤, vec_len, vec_capacity, Bool, true, false, nat_eq, List, [], ◌∷◌, ◌++◌, take, drop, reverse, slice_set, slice_get, slice_index_or, length, not, ◌==◌, Vec, Option, Some, None}
+use Rattle.std.specs.Prelude.{◌≡◌, ℕ, suc, ◌+◌, ◌<◌, ⊤, Bool, true, false, nat_eq, List, [], ◌∷◌, ◌++◌, take, drop, slice_set, slice_get, slice_index_or, length, Option, Some, None, is_some}
 use Rattle.std.specs.List.{count_by}
-use Rattle.std.specs.declared.alloc.Global.{Global}
 use Rattle.resolvo_pool_core.specs.declared.id.ClauseId.{ClauseId}
 use Rattle.resolvo_store_core.specs.Signed.{Signed, same_literal, index_in}
 use Rattle.resolvo_store_core.specs.Pairs.{watches, moved_pair}
 use Rattle.resolvo_store_core.specs.declared.watched_literals.WatchedLiterals.{WatchedLiterals}
 use Rattle.resolvo_store_core.specs.declared.watch_map.WatchMap.{WatchMap}
+use Rattle.resolvo_store_core.specs.declared.watch_map.WatchMapCursor.{WatchMapCursor}
+use Rattle.resolvo_store_core.specs.Links.{list_in, watchers_in, IsPlaced, IsUnlinked, KeepsLinks}
 
--- the list of an index, which is its vector reversed; empty past the lists
-abbrev pub list_at : List (Vec ClauseId Global) → ℕ → List ClauseId
-list_at [] n = []
-list_at (v ∷ vs) zero = reverse v.items
-list_at (v ∷ vs) (suc n) = list_at vs n
+-- the numbers of the links in the literal's list, the latest first
+abbrev pub links : WatchMap → Signed → List ℕ
+links m l = list_in m.firsts.items m.links.items (index_in l)
 
 -- the clauses that watch the literal, the latest first
 abbrev pub watchers : WatchMap → Signed → List ClauseId
-watchers m l = list_at m.lists.items (index_in l)
+watchers m = watchers_in m.firsts.items m.links.items
 
--- how many clauses more the list of an index has room for; none beyond the lists
-abbrev pub room_at : List (Vec ClauseId Global) → ℕ → ℕ
-room_at [] n = 0
-room_at (v ∷ vs) zero = vec_capacity v - vec_len v
-room_at (v ∷ vs) (suc n) = room_at vs n
+-- clauses can move to the literal without a refusal
+abbrev pub HasPlace : WatchMap → Signed → Type 0
+HasPlace m l = index_in l < length m.firsts.items
 
--- how many clauses more can begin to watch the literal without a growth
-abbrev pub room : WatchMap → Signed → ℕ
-room m l = room_at m.lists.items (index_in l)
-
--- there is room for so many clauses at each of the literals
-abbrev pub HasRoom : ℕ → WatchMap → List (Option Signed) → Type 0
-HasRoom n m [] = ⊤
-HasRoom n m (None ∷ os) = HasRoom n m os
-HasRoom n m (Some l ∷ os) = (n ≤ room m l) × HasRoom n m os
+-- clauses can move to each of the literals
+abbrev pub HasRoom : WatchMap → List (Option Signed) → Type 0
+HasRoom m [] = ⊤
+HasRoom m (None ∷ os) = HasRoom m os
+HasRoom m (Some l ∷ os) = HasPlace m l × HasRoom m os
 
 -- how many literals some clause watches
 abbrev pub watched_count : WatchMap → ℕ
-watched_count m = count_by (λ (v : Vec ClauseId Global). not (length v.items == 0)) m.lists.items
+watched_count m = count_by (λ (o : Option ℕ). is_some o) m.firsts.items
+
+-- the link is there, and in no list
+abbrev pub IsFreeLink : WatchMap → ℕ → Type 0
+IsFreeLink m n = IsUnlinked m.firsts.items m.links.items n
+
+-- all links are in the lists as before, and no clause of one has changed
+abbrev pub SameLinks : WatchMap → WatchMap → Type 0
+SameLinks old new = KeepsLinks old.firsts.items old.links.items new.firsts.items new.links.items
+
+-- the cursor has the link at its place of the map's list, and the one before it
+abbrev pub IsAt : WatchMap → WatchMapCursor → Type 0
+IsAt m k = IsPlaced (links m k.literal) k.place k.current k.before
 
 -- the watched literals of the clause of this number, if any
 abbrev pub pair_at : List (Option WatchedLiterals) → ℕ → Option WatchedLiterals

@@ -1,47 +1,62 @@
-//! For each literal the clauses that watch it, and walks over them.
+//! For each literal the clauses that watch it, in a linked list, and walks over them.
+//! The map keeps the first link of each literal's list. Each link has a clause and the next link,
+//! so a clause is inserted at the front, or removed at a cursor, in constant time.
 //! The watched literals of each clause are kept beside the clauses, in a list that the calls take.
 //! The map and that list agree (`IsWatched`): each clause is once in the list of each of its two
 //! literals, and in no other. A clause that begins to watch a literal is put at the front of its
-//! list. A walk is a cursor that the caller advances. The front of a list is the end of its vector,
-//! where an insertion takes constant time.
-ghost use Rattle.std.specs.Prelude.{◌≡◌, ℕ, ◌<◌, ◌≤◌, ◌+◌, ◌-◌, ◌++◌, ◌∷◌, [], List, Option, length, slice_get, false, Some, drop, OnOk, OnErr, IfOk, IsOk, IsOkUnless, IfSome, vec_capacity};
-ghost use Rattle.resolvo_pool_core.specs.declared.want.Want.TheVariants.{Memory};
-ghost use Rattle.resolvo_pool_core.specs.declared.id.ClauseId.{ClauseId};
-ghost use Rattle.resolvo_store_core.specs.Signed.{Signed, same_literal};
-ghost use Rattle.resolvo_store_core.specs.Pairs.{watches, side_of};
-ghost use Rattle.resolvo_store_core.specs.declared.watched_literals.WatchedLiterals.{WatchedLiterals};
-ghost use Rattle.resolvo_store_core.specs.Watches.{list_at, room_at, room, HasRoom, watchers, watched_count, pair_at, IsWatched, StartsIn, Moves, PutsFirst, TakesOut, SameLists};
-ghost use Rattle.resolvo_store_core.specs.Walk.{pairs_after, lists_after, new_watch, first_target};
+//! list. A walk is a cursor that the caller advances.
+ghost use Rattle.std.specs.Prelude.{ℕ};
+ghost use Rattle.resolvo_store_core.specs.Links.{AreLinked};
 
 use crate::literal::Literal;
 use crate::watched_literals::{Watch, WatchedLiterals};
 use resolvo_pool_core::id::{ClauseId, DenseIndex};
-use resolvo_pool_core::want::R;
+use resolvo_pool_core::want::{R, Want};
 use std::alloc::Global;
+
+/// A clause in the list of a literal, and the link after it.
+#[derive(Clone, Copy, Debug)]
+pub struct WatchLink {
+    pub clause: ClauseId,
+    pub next: Option<u32>,
+}
 
 /// For each literal the clauses that watch it.
 #[derive(Drop)]
 pub struct WatchMap {
-    lists: Vec<Vec<ClauseId>>,
-    alloc: Global,
+    /// The first link of each literal's list.
+    firsts: Vec<Option<u32>>,
+    links: Vec<WatchLink>,
+    ghost linked: { AreLinked firsts.items links.items },
 }
 
-/// A place in the list of a literal's clauses.
+/// A place in the list of a literal's clauses: the link there, and the one before it.
 #[derive(Clone, Copy, Debug)]
 pub struct WatchMapCursor {
     pub literal: Literal,
     pub place: usize,
+    pub current: Option<u32>,
+    pub before: Option<u32>,
 }
 
 impl WatchMap {
+    ghost use Rattle.std.specs.Prelude.{◌≡◌, ℕ, ◌<◌, ◌≤◌, ◌+◌, ◌++◌, ◌∷◌, [], List, Option, length, slice_get, false, Some, drop, OnOk, OnErr, IfOk, IsOk, IsOkUnless, vec_capacity};
+    ghost use Rattle.resolvo_pool_core.specs.declared.want.Want.TheVariants.{Memory};
+    ghost use Rattle.resolvo_pool_core.specs.declared.id.ClauseId.{ClauseId};
+    ghost use Rattle.resolvo_store_core.specs.Signed.{Signed, same_literal};
+    ghost use Rattle.resolvo_store_core.specs.declared.watched_literals.WatchedLiterals.{WatchedLiterals};
+    ghost use Rattle.resolvo_store_core.specs.Links.{clause_of, IsPlaced};
+    ghost use Rattle.resolvo_store_core.specs.Watches.{HasPlace, HasRoom, links, watchers, watched_count, IsFreeLink, IsAt, IsWatched, StartsIn, PutsFirst, TakesOut, SameLists, SameLinks};
+    ghost use Rattle.resolvo_store_core.specs.Walk.{pairs_after, lists_after, first_target};
+
     /// A map in which no clause watches a literal.
     pub fn new(alloc: Global) -> WatchMap
         ensures empty { (l : Signed) → watchers result l ≡ [] }
         ensures fits { IsWatched [] (watchers result) }
     {
         WatchMap {
-            lists: Vec::new(alloc),
-            alloc,
+            firsts: Vec::new(alloc),
+            links: Vec::new(alloc),
         }
     }
 
@@ -49,7 +64,7 @@ impl WatchMap {
     pub fn len(&self) -> usize
         ensures { result ≡ watched_count self.now }
     {
-        self.lists.iter().filter(|list| !list.is_empty()).count()
+        self.firsts.iter().filter(|first| first.is_some()).count()
     }
 
     /// Lets a new clause watch two different literals. It is put at the front of both lists.
@@ -69,7 +84,8 @@ impl WatchMap {
         match self.put_first(watched.second, clause) {
             Ok(()) => Ok(()),
             Err(want) => {
-                self.take_out(watched.first, 0);
+                let cursor = self.cursor(watched.first);
+                self.take_out(&cursor);
                 Err(want)
             }
         }
@@ -77,9 +93,16 @@ impl WatchMap {
 
     /// A cursor at the start of the clauses that watch a literal.
     pub fn cursor(&self, literal: Literal) -> WatchMapCursor
-        ensures { result ≡ record { literal = literal; place = 0 } }
+        ensures literal { result.literal ≡ literal }
+        ensures place { result.place ≡ 0 }
+        ensures at { IsAt self.now result }
     {
-        WatchMapCursor { literal, place: 0 }
+        WatchMapCursor {
+            literal,
+            place: 0,
+            current: self.first(literal),
+            before: None,
+        }
     }
 
     /// Walks over the clauses that watch a literal. The clause at each step then watches the
@@ -128,7 +151,7 @@ impl WatchMap {
         requires fit { IsWatched clauses.old (watchers self.old) }
         requires none_met { met.old.items ≡ [] }
         requires met_room { length (watchers self.old literal) ≤ vec_capacity met.old }
-        requires room { HasRoom (length moves.now) self.old moves.now }
+        requires room { HasRoom self.old moves.now }
         // What the call promises.
         ensures met { met.new.items ≡ watchers self.old literal }
         ensures moved { clauses.new ≡ pairs_after literal clauses.old met.new.items moves.now }
@@ -141,39 +164,53 @@ impl WatchMap {
         let mut rest = moves;
         while let Some(clause) = cursor.clause_id(self) {
             met.push(clause).unwrap();
-            let (target, others) = first_of(rest);
+            let (target, others) = WatchMap::first_of(rest);
             rest = others;
             match cursor.target(self, clauses, target) {
                 Some(to) => cursor.update(self, clauses, to).unwrap(),
-                None => cursor.next(),
+                None => cursor.next(self),
             }
         }
     }
 
-    /// Reserves room at each of these literals for as many clauses as there are literals.
+    /// The first of the literals to move to, and the others.
+    fn first_of(moves: &[Option<Literal>]) -> (Option<Literal>, &[Option<Literal>])
+        ensures first { result.0 ≡ first_target moves.now }
+        ensures rest { result.1.now ≡ drop 1 moves.now }
+    {
+        match moves.split_first() {
+            Some((first, rest)) => (*first, rest),
+            None => (None, moves),
+        }
+    }
+
+    /// Reserves a list for each of these literals.
     fn make_room(&mut self, moves: &[Option<Literal>]) -> R<()>
         ensures same { SameLists (watchers self.old) (watchers self.new) }
-        ensures room { OnOk result (HasRoom (length moves.now) self.new moves.now) }
+        ensures room { OnOk result (HasRoom self.new moves.now) }
         ensures refusal { IsOkUnless result Memory }
     {
         for target in moves {
             if let Some(literal) = target {
-                self.reserve(*literal, moves.len())?;
+                self.reserve(*literal)?;
             }
         }
         Ok(())
     }
 
-    /// Reserves room for so many more clauses at a literal.
-    fn reserve(&mut self, literal: Literal, count: usize) -> R<()>
+    /// Reserves a list for a literal, to which clauses can then move without a refusal.
+    fn reserve(&mut self, literal: Literal) -> R<()>
         ensures same { SameLists (watchers self.old) (watchers self.new) }
-        ensures room { OnOk result (count ≤ room self.new literal) }
-        ensures others { OnOk result ((l : Signed) → room self.old l ≤ room self.new l) }
+        ensures links { SameLinks self.old self.new }
+        ensures room { OnOk result (HasPlace self.new literal) }
+        ensures others { (l : Signed) → HasPlace self.old l → HasPlace self.new l }
+        ensures succeeds { HasPlace self.old literal → IsOk result }
         ensures refusal { IsOkUnless result Memory }
     {
-        let index = literal.to_index();
-        add_lists(&mut self.lists, index + 1, self.alloc)?;
-        self.lists[index].reserve(count)?;
+        let count = literal.to_index() + 1;
+        while self.firsts.len() < count {
+            self.firsts.push(None)?;
+        }
         Ok(())
     }
 
@@ -181,70 +218,137 @@ impl WatchMap {
     fn count(&self, literal: Literal) -> usize
         ensures { result ≡ length (watchers self.now literal) }
     {
-        let index = literal.to_index();
-        if index < self.lists.len() {
-            self.lists[index].len()
-        } else {
-            0
+        let mut cursor = self.cursor(literal);
+        while let Some(_) = cursor.current {
+            cursor.next(self);
         }
+        cursor.place
     }
 
-    /// The clause at a place of a literal's list.
-    fn clause_at(&self, literal: Literal, place: usize) -> Option<ClauseId>
-        ensures clause { result ≡ slice_get (watchers self.now literal) place }
-        ensures small { IfSome result (λ _. place < usize.MAX) }
+    /// The first link of a literal's list, if it has one.
+    fn first(&self, literal: Literal) -> Option<u32>
+        ensures { result ≡ slice_get (links self.now literal) 0 }
     {
         let index = literal.to_index();
-        if index < self.lists.len() {
-            let list = &self.lists[index];
-            if place < list.len() {
-                return Some(list[from_end(list.len(), place)]);
-            }
+        if index < self.firsts.len() {
+            self.firsts[index]
+        } else {
+            None
         }
-        None
     }
 
     /// Inserts a clause at the front of a literal's list.
     fn put_first(&mut self, literal: Literal, clause: ClauseId) -> R<()>
         ensures put { OnOk result (PutsFirst clause literal (watchers self.old)
             (watchers self.new)) }
-        ensures room { OnOk result ((l : Signed) → room self.old l ≤ room self.new l + 1) }
         ensures err { OnErr result (SameLists (watchers self.old) (watchers self.new)) }
-        ensures succeeds { 1 ≤ room self.old literal → IsOk result }
         ensures refusal { IsOkUnless result Memory }
     {
-        let index = literal.to_index();
-        add_lists(&mut self.lists, index + 1, self.alloc)?;
-        self.lists[index].push(clause)?;
+        self.reserve(literal)?;
+        let link = self.add_link(clause)?;
+        self.link_first(literal, link);
         Ok(())
     }
 
-    /// Removes the clause at a place of a literal's list.
-    fn take_out(&mut self, literal: Literal, place: usize)
-        requires { place < length (watchers self.old literal) }
-        ensures taken { TakesOut literal place (watchers self.old) (watchers self.new) }
-        ensures room { (l : Signed) → room self.old l ≤ room self.new l }
+    /// Adds a link that is in no list. A map has fewer than 2^32 links, and refuses one more as it
+    /// does for want of memory.
+    fn add_link(&mut self, clause: ClauseId) -> R<u32>
+        ensures same { SameLists (watchers self.old) (watchers self.new) }
+        ensures links { SameLinks self.old self.new }
+        ensures free { IfOk result (λ n. IsFreeLink self.new n) }
+        ensures clause { IfOk result (λ n. clause_of self.new.links.items n ≡ clause) }
+        ensures room { (l : Signed) → HasPlace self.old l → HasPlace self.new l }
+        ensures refusal { IsOkUnless result Memory }
     {
-        let list = &mut self.lists[literal.to_index()];
-        list.remove(from_end(list.len(), place));
+        let link = self.links.len();
+        if link >= 4_294_967_295 {
+            return Err(Want::Memory);
+        }
+        self.links.push(WatchLink { clause, next: None })?;
+        Ok(link as u32)
+    }
+
+    /// Puts a link that is in no list at the front of a literal's list.
+    fn link_first(&mut self, literal: Literal, link: u32)
+        requires room { HasPlace self.old literal }
+        requires free { IsFreeLink self.old link }
+        ensures put { PutsFirst (clause_of self.old.links.items link) literal (watchers self.old)
+            (watchers self.new) }
+        ensures others { (l : Signed)
+            → same_literal literal l ≡ false
+            → links self.new l ≡ links self.old l }
+        ensures room { (l : Signed) → HasPlace self.old l → HasPlace self.new l }
+    {
+        let index = literal.to_index();
+        self.links[link as usize].next = self.firsts[index];
+        self.firsts[index] = Some(link);
+    }
+
+    /// Takes the link at a cursor out of its list, and returns the next one.
+    fn take_out(&mut self, cursor: &WatchMapCursor) -> Option<u32>
+        requires at { IsAt self.old cursor.now }
+        requires in_list { cursor.now.place < length (watchers self.old cursor.now.literal) }
+        ensures taken { TakesOut cursor.now.literal cursor.now.place (watchers self.old)
+            (watchers self.new) }
+        ensures at { IsPlaced (links self.new cursor.now.literal) cursor.now.place result
+            cursor.now.before }
+        ensures free { (n : ℕ) → cursor.now.current ≡ Some n → IsFreeLink self.new n }
+        ensures clauses { (n : ℕ)
+            → clause_of self.new.links.items n
+            ≡ clause_of self.old.links.items n }
+        ensures room { (l : Signed) → HasPlace self.old l → HasPlace self.new l }
+    {
+        match cursor.current {
+            Some(link) => {
+                let next = self.links[link as usize].next;
+                match cursor.before {
+                    Some(before) => self.links[before as usize].next = next,
+                    None => self.firsts[cursor.literal.to_index()] = next,
+                }
+                next
+            }
+            None => unreachable!(),
+        }
     }
 }
 
 impl WatchMapCursor {
+    ghost use Rattle.std.specs.Prelude.{◌≡◌, ◌<◌, ◌+◌, Option, length, slice_get, false, Some, OnOk, OnErr, IfSome, IsOk, IsOkUnless};
+    ghost use Rattle.resolvo_pool_core.specs.declared.want.Want.TheVariants.{Memory};
+    ghost use Rattle.resolvo_pool_core.specs.declared.id.ClauseId.{ClauseId};
+    ghost use Rattle.resolvo_store_core.specs.Signed.{Signed};
+    ghost use Rattle.resolvo_store_core.specs.Pairs.{watches, side_of};
+    ghost use Rattle.resolvo_store_core.specs.Watches.{HasPlace, watchers, pair_at, IsAt, IsWatched, Moves, SameLists};
+    ghost use Rattle.resolvo_store_core.specs.Walk.{new_watch};
+
     /// The clause at the cursor, or none at the end of the list.
     pub fn clause_id(&self, map: &WatchMap) -> Option<ClauseId>
+        requires { IsAt map.now self.now }
         ensures clause { result ≡ slice_get (watchers map.now self.now.literal) self.now.place }
         ensures small { IfSome result (λ _. self.now.place < usize.MAX) }
     {
-        map.clause_at(self.literal, self.place)
+        match self.current {
+            Some(link) => Some(map.links[link as usize].clause),
+            None => None,
+        }
     }
 
     /// Advances past the clause, which keeps its watch.
-    pub fn next(&mut self)
-        requires { self.old.place < usize.MAX }
-        ensures { self.new ≡ record self.old { place = self.old.place + 1 } }
+    pub fn next(&mut self, map: &WatchMap)
+        requires at { IsAt map.now self.old }
+        requires in_list { self.old.place < length (watchers map.now self.old.literal) }
+        ensures literal { self.new.literal ≡ self.old.literal }
+        ensures place { self.new.place ≡ self.old.place + 1 }
+        ensures at { IsAt map.now self.new }
     {
-        self.place += 1;
+        match self.current {
+            Some(link) => {
+                self.place += 1;
+                self.before = Some(link);
+                self.current = map.links[link as usize].next;
+            }
+            None => unreachable!(),
+        }
     }
 
     /// The watched literals of the clause at the cursor.
@@ -254,13 +358,14 @@ impl WatchMapCursor {
         clauses: &[Option<WatchedLiterals>],
     ) -> WatchedLiterals
         requires fit { IsWatched clauses.now (watchers map.now) }
+        requires at { IsAt map.now self.now }
         requires in_list { self.now.place < length (watchers map.now self.now.literal) }
         ensures { (c : ClauseId)
             → slice_get (watchers map.now self.now.literal) self.now.place ≡ Some c
             → pair_at clauses.now c.0 ≡ Some result }
     {
         match self.clause_id(map) {
-            Some(clause) => pair_of(clauses, clause).unwrap(),
+            Some(clause) => WatchMapCursor::pair_of(clauses, clause).unwrap(),
             None => unreachable!(),
         }
     }
@@ -273,6 +378,7 @@ impl WatchMapCursor {
         to: Option<Literal>,
     ) -> Option<Literal>
         requires fit { IsWatched clauses.now (watchers map.now) }
+        requires at { IsAt map.now self.now }
         requires in_list { self.now.place < length (watchers map.now self.now.literal) }
         ensures { (c : ClauseId)
             → slice_get (watchers map.now self.now.literal) self.now.place ≡ Some c
@@ -295,82 +401,54 @@ impl WatchMapCursor {
     /// Lets the clause at the cursor watch another literal in place of this one. The cursor is then
     /// at the clause after it. A refusal leaves the clause where it was.
     pub fn update(
-        &self,
+        &mut self,
         map: &mut WatchMap,
         clauses: &mut [Option<WatchedLiterals>],
         to: Literal,
     ) -> R<()>
         requires fit { IsWatched clauses.old (watchers map.old) }
-        requires in_list { self.now.place < length (watchers map.old self.now.literal) }
+        requires at { IsAt map.old self.old }
+        requires in_list { self.old.place < length (watchers map.old self.old.literal) }
         requires free { (c : ClauseId)
-            → slice_get (watchers map.old self.now.literal) self.now.place ≡ Some c
+            → slice_get (watchers map.old self.old.literal) self.old.place ≡ Some c
             → watches (pair_at clauses.old c.0) to ≡ false }
         // What the call promises.
         ensures moved { OnOk result
-            (Moves self.now.literal self.now.place to clauses.old clauses.new (watchers map.old)
+            (Moves self.old.literal self.old.place to clauses.old clauses.new (watchers map.old)
             (watchers map.new)) }
+        ensures literal { self.new.literal ≡ self.old.literal }
+        ensures place { self.new.place ≡ self.old.place }
+        ensures at { IsAt map.new self.new }
         ensures err { OnErr result (SameLists (watchers map.old) (watchers map.new)) }
-        ensures room { OnOk result ((l : Signed) → room map.old l ≤ room map.new l + 1) }
+        ensures room { (l : Signed) → HasPlace map.old l → HasPlace map.new l }
         ensures err_clauses { OnErr result (clauses.new ≡ clauses.old) }
-        ensures succeeds { 1 ≤ room map.old to → IsOk result }
+        ensures succeeds { HasPlace map.old to → IsOk result }
         // After a refusal.
         ensures refusal { IsOkUnless result Memory }
     {
-        let WatchMapCursor { literal, place } = *self;
         let watched = self.watched_literals(map, clauses);
-        match map.clause_at(literal, place) {
-            Some(clause) => {
-                map.put_first(to, clause)?;
-                map.take_out(literal, place);
-                clauses[clause.to_index()] = Some(watched.moved(literal, to));
+        map.reserve(to)?;
+        match self.current {
+            Some(link) => {
+                let clause = map.links[link as usize].clause;
+                self.current = map.take_out(self);
+                map.link_first(to, link);
+                clauses[clause.to_index()] = Some(watched.moved(self.literal, to));
                 Ok(())
             }
             None => unreachable!(),
         }
     }
-}
 
-/// The index in the vector of a place of its list; the vector's end is the list's front.
-fn from_end(len: usize, place: usize) -> usize
-    requires { place < len }
-    ensures { result ≡ len - 1 - place }
-{
-    len - 1 - place
-}
-
-/// The watched literals of a clause, if it has any.
-fn pair_of(clauses: &[Option<WatchedLiterals>], clause: ClauseId) -> Option<WatchedLiterals>
-    ensures { result ≡ pair_at clauses.now clause.0 }
-{
-    let index = clause.to_index();
-    if index < clauses.len() {
-        clauses[index]
-    } else {
-        None
-    }
-}
-
-/// Adds empty lists until there are `count`.
-fn add_lists(lists: &mut Vec<Vec<ClauseId>>, count: usize, alloc: Global) -> R<()>
-    ensures same { (i : ℕ) → list_at lists.new.items i ≡ list_at lists.old.items i }
-    ensures enough { OnOk result (count ≤ length lists.new.items) }
-    ensures room { (i : ℕ) → room_at lists.old.items i ≤ room_at lists.new.items i }
-    ensures succeeds { count ≤ length lists.old.items → IsOk result }
-    ensures refusal { IsOkUnless result Memory }
-{
-    while lists.len() < count {
-        lists.push(Vec::new(alloc))?;
-    }
-    Ok(())
-}
-
-/// The first of the literals to move to, and the others.
-fn first_of(moves: &[Option<Literal>]) -> (Option<Literal>, &[Option<Literal>])
-    ensures first { result.0 ≡ first_target moves.now }
-    ensures rest { result.1.now ≡ drop 1 moves.now }
-{
-    match moves.split_first() {
-        Some((first, rest)) => (*first, rest),
-        None => (None, moves),
+    /// The watched literals of a clause, if it has any.
+    fn pair_of(clauses: &[Option<WatchedLiterals>], clause: ClauseId) -> Option<WatchedLiterals>
+        ensures { result ≡ pair_at clauses.now clause.0 }
+    {
+        let index = clause.to_index();
+        if index < clauses.len() {
+            clauses[index]
+        } else {
+            None
+        }
     }
 }

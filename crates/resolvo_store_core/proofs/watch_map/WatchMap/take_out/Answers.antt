@@ -1,38 +1,79 @@
-use Rattle.std.proofs.Common.{◌≡◌, ◌<◌, length, refl, arith}
+use Rattle.std.proofs.Common.{◌≡◌, ℕ, Some, set, length-set, refl, sym, ◌∙◌, subst}
+use Rattle.std.specs.Prelude.{slice_get}
 use Rattle.resolvo_store_core.specs.Signed.{index_in}
-use Rattle.resolvo_store_core.proofs.ClauseLists.{list_in_range, read_length}
-use Rattle.resolvo_store_core.proofs.WatchLemmas.{took_out}
-use Rattle.resolvo_store_core.proofs.Rooms.{room_set}
+use Rattle.resolvo_store_core.specs.Links.{list_in, AreLists}
+use Rattle.resolvo_store_core.specs.Watches.{links}
+use Rattle.resolvo_store_core.proofs.LinkLemmas.{taken_in, linked, out_behind, out_front, next_at-read, clause_of-set}
+use Rattle.resolvo_store_core.proofs.WatchLemmas.{before_in_range, not_at_end, taken_at, taken_free, taken_watchers}
 use Rattle.resolvo_store_core.proofs.watch_map.WatchMap.take_out.Goals as goal
 
-pub index_mut-list-requires : goal.index_mut-list-requires
-index_mut-list-requires c =
-    let h : index_in c.args.literal < length c.args.self.now.lists.items = list_in_range c.args.self.now.lists.items (index_in c.args.literal) c.args.place c.requires in
-    let e : c.to_index.result ≡ index_in c.args.literal = c.to_index.ensures.index in
-    omega arith
+pub invariant_of-self : goal.invariant_of-self
+invariant_of-self c =
+    let s = c.args.self.now in
+    let k = c.args.cursor.now in
+    let are = out_behind s.firsts.items s.links.items (index_in k.literal) k.place c.in-Some.link c.in-Some-before.before c.index.result.now c.index_mut.result.now s.linked (sym c.requires.at.current ∙ c.in-Some.is) (sym c.requires.at.before ∙ c.in-Some-before.is) c.index.ensures in
+    record { linked = linked _ _ _ are }
 
-pub from_end-requires : goal.from_end-requires
-from_end-requires c =
-    let h : c.args.place < length c.index_mut-list.result.now.items = read_length c.args.self.now.lists.items c.to_index.result (index_in c.args.literal) c.args.place c.index_mut-list.result.now c.to_index.ensures.index c.requires c.index_mut-list.ensures.value in
-    omega arith
+pub invariant_of-self-in-None-before : goal.invariant_of-self-in-None-before
+invariant_of-self-in-None-before c =
+    let s = c.args.self.now in
+    let k = c.args.cursor.now in
+    let are = subst (λ (i : ℕ). AreLists (set s.firsts.items i c.index.result.now.next) s.links.items (taken_in (index_in k.literal) k.place (list_in s.firsts.items s.links.items))) (sym c.to_index.ensures.index)
+    (out_front s.firsts.items s.links.items (index_in k.literal) k.place c.in-Some.link c.index.result.now s.linked (sym c.requires.at.current ∙ c.in-Some.is) (sym c.requires.at.before ∙ c.in-None-before.is) c.index.ensures) in
+    record { linked = linked _ _ _ are }
 
-pub remove-requires : goal.remove-requires
-remove-requires c =
-    let h : c.args.place < length c.index_mut-list.result.now.items = read_length c.args.self.now.lists.items c.to_index.result (index_in c.args.literal) c.args.place c.index_mut-list.result.now c.to_index.ensures.index c.requires c.index_mut-list.ensures.value in
-    omega arith
+pub unreachable-requires : goal.unreachable-requires
+unreachable-requires c = not_at_end c.args.self.now c.args.cursor.now c.requires.at c.requires.in_list c.in-None.is
 
-pub returns-clause-taken : goal.returns-clause-taken
-returns-clause-taken c =
-    let h : index_in c.args.literal < length c.args.self.now.lists.items = list_in_range c.args.self.now.lists.items (index_in c.args.literal) c.args.place c.requires in
-    let e : c.to_index.result ≡ index_in c.args.literal = c.to_index.ensures.index in
-    let below : c.args.place < length c.index_mut-list.result.now.items = read_length c.args.self.now.lists.items c.to_index.result (index_in c.args.literal) c.args.place c.index_mut-list.result.now c.to_index.ensures.index c.requires c.index_mut-list.ensures.value in
-    took_out c.args.self.now.lists.items _ c.args.literal c.to_index.result c.args.place _ c.index_mut-list.result.now c.remove.new.self e (omega arith) c.index_mut-list.ensures.value below (omega arith) c.remove.ensures.items refl
+pub returns-in-Some-before-clause-taken : goal.returns-in-Some-before-clause-taken
+returns-in-Some-before-clause-taken c =
+    let s = c.args.self.now in
+    let k = c.args.cursor.now in
+    let are = out_behind s.firsts.items s.links.items (index_in k.literal) k.place c.in-Some.link c.in-Some-before.before c.index.result.now c.index_mut.result.now s.linked (sym c.requires.at.current ∙ c.in-Some.is) (sym c.requires.at.before ∙ c.in-Some-before.is) c.index.ensures in
+    taken_watchers s _ _ k.literal k.place are (λ m. clause_of-set s.links.items c.in-Some-before.before m c.index_mut.result.now _ (before_in_range s k c.in-Some-before.before c.requires.at c.in-Some-before.is) c.index_mut.ensures.value refl)
 
-pub returns-clause-room : goal.returns-clause-room
-returns-clause-room c = λ l.
-    let h : index_in c.args.literal < length c.args.self.now.lists.items = list_in_range c.args.self.now.lists.items (index_in c.args.literal) c.args.place c.requires in
-    let e : c.to_index.result ≡ index_in c.args.literal = c.to_index.ensures.index in
-    let len = c.remove.ensures.len in
-    let cap = c.remove.ensures.capacity in
-    let less = room_set c.args.self.now.lists.items c.to_index.result (index_in l) 0 c.index_mut-list.result.now c.remove.new.self (omega arith) c.index_mut-list.ensures.value (omega arith) in
-    omega arith
+pub returns-in-Some-before-clause-at : goal.returns-in-Some-before-clause-at
+returns-in-Some-before-clause-at c =
+    let s = c.args.self.now in
+    let k = c.args.cursor.now in
+    let are = out_behind s.firsts.items s.links.items (index_in k.literal) k.place c.in-Some.link c.in-Some-before.before c.index.result.now c.index_mut.result.now s.linked (sym c.requires.at.current ∙ c.in-Some.is) (sym c.requires.at.before ∙ c.in-Some-before.is) c.index.ensures in
+    let at : slice_get (links s k.literal) k.place ≡ Some c.in-Some.link = sym c.requires.at.current ∙ c.in-Some.is in
+    taken_at s _ _ k c.in-Some.link c.index.result.now.next are c.requires.at c.in-Some.is (sym (next_at-read s.links.items c.in-Some.link c.index.result.now (s.linked.in_range (index_in k.literal) k.place c.in-Some.link at) c.index.ensures))
+
+pub returns-in-Some-before-clause-free : goal.returns-in-Some-before-clause-free
+returns-in-Some-before-clause-free c = λ n is.
+    let s = c.args.self.now in
+    let k = c.args.cursor.now in
+    let are = out_behind s.firsts.items s.links.items (index_in k.literal) k.place c.in-Some.link c.in-Some-before.before c.index.result.now c.index_mut.result.now s.linked (sym c.requires.at.current ∙ c.in-Some.is) (sym c.requires.at.before ∙ c.in-Some-before.is) c.index.ensures in
+    taken_free s _ _ k.literal k.place n are (sym c.requires.at.current ∙ is) (length-set s.links.items c.in-Some-before.before _)
+
+pub returns-in-Some-before-clause-clauses : goal.returns-in-Some-before-clause-clauses
+returns-in-Some-before-clause-clauses c = λ m.
+    let s = c.args.self.now in
+    let k = c.args.cursor.now in
+    clause_of-set s.links.items c.in-Some-before.before m c.index_mut.result.now _ (before_in_range s k c.in-Some-before.before c.requires.at c.in-Some-before.is) c.index_mut.ensures.value refl
+
+pub returns-in-None-before-clause-taken : goal.returns-in-None-before-clause-taken
+returns-in-None-before-clause-taken c =
+    let s = c.args.self.now in
+    let k = c.args.cursor.now in
+    let are = subst (λ (i : ℕ). AreLists (set s.firsts.items i c.index.result.now.next) s.links.items (taken_in (index_in k.literal) k.place (list_in s.firsts.items s.links.items))) (sym c.to_index.ensures.index)
+    (out_front s.firsts.items s.links.items (index_in k.literal) k.place c.in-Some.link c.index.result.now s.linked (sym c.requires.at.current ∙ c.in-Some.is) (sym c.requires.at.before ∙ c.in-None-before.is) c.index.ensures) in
+    taken_watchers s _ _ k.literal k.place are (λ m. refl)
+
+pub returns-in-None-before-clause-at : goal.returns-in-None-before-clause-at
+returns-in-None-before-clause-at c =
+    let s = c.args.self.now in
+    let k = c.args.cursor.now in
+    let are = subst (λ (i : ℕ). AreLists (set s.firsts.items i c.index.result.now.next) s.links.items (taken_in (index_in k.literal) k.place (list_in s.firsts.items s.links.items))) (sym c.to_index.ensures.index)
+    (out_front s.firsts.items s.links.items (index_in k.literal) k.place c.in-Some.link c.index.result.now s.linked (sym c.requires.at.current ∙ c.in-Some.is) (sym c.requires.at.before ∙ c.in-None-before.is) c.index.ensures) in
+    let at : slice_get (links s k.literal) k.place ≡ Some c.in-Some.link = sym c.requires.at.current ∙ c.in-Some.is in
+    taken_at s _ _ k c.in-Some.link c.index.result.now.next are c.requires.at c.in-Some.is (sym (next_at-read s.links.items c.in-Some.link c.index.result.now (s.linked.in_range (index_in k.literal) k.place c.in-Some.link at) c.index.ensures))
+
+pub returns-in-None-before-clause-free : goal.returns-in-None-before-clause-free
+returns-in-None-before-clause-free c = λ n is.
+    let s = c.args.self.now in
+    let k = c.args.cursor.now in
+    let are = subst (λ (i : ℕ). AreLists (set s.firsts.items i c.index.result.now.next) s.links.items (taken_in (index_in k.literal) k.place (list_in s.firsts.items s.links.items))) (sym c.to_index.ensures.index)
+    (out_front s.firsts.items s.links.items (index_in k.literal) k.place c.in-Some.link c.index.result.now s.linked (sym c.requires.at.current ∙ c.in-Some.is) (sym c.requires.at.before ∙ c.in-None-before.is) c.index.ensures) in
+    taken_free s _ _ k.literal k.place n are (sym c.requires.at.current ∙ is) (refl)

@@ -1,0 +1,28 @@
+use Rattle.std.proofs.Common.{refl, arith}
+use Rattle.resolvo_store_core.proofs.LinkLemmas.{first_linked, linked, clause_of-set}
+use Rattle.resolvo_store_core.proofs.WatchLemmas.{put_others, put_watchers}
+use Rattle.resolvo_store_core.proofs.watch_map.WatchMap.link_first.Goals as goal
+
+pub invariant_of-self : goal.invariant_of-self
+invariant_of-self c =
+    let s = c.args.self.now in
+    let room = c.requires.room in
+    let at = c.to_index-index.ensures.index in
+    record { linked = linked _ _ _ (first_linked s.firsts.items s.links.items c.to_index-index.result c.args.link c.index.result.now c.index_mut.result.now s.linked c.requires.free.free (omega arith) c.requires.free.in_range c.index.ensures) }
+
+pub returns-clause-put : goal.returns-clause-put
+returns-clause-put c =
+    let s = c.args.self.now in
+    let room = c.requires.room in
+    let at = c.to_index-index.ensures.index in
+    put_watchers s _ _ c.args.literal c.to_index-index.result c.args.link at
+    (first_linked s.firsts.items s.links.items c.to_index-index.result c.args.link c.index.result.now c.index_mut.result.now s.linked c.requires.free.free (omega arith) c.requires.free.in_range c.index.ensures)
+    (λ m. clause_of-set s.links.items c.args.link m c.index_mut.result.now _ c.requires.free.in_range c.index_mut.ensures.value refl)
+
+pub returns-clause-others : goal.returns-clause-others
+returns-clause-others c =
+    let s = c.args.self.now in
+    let room = c.requires.room in
+    let at = c.to_index-index.ensures.index in
+    put_others s _ _ c.args.literal c.to_index-index.result c.args.link at
+    (first_linked s.firsts.items s.links.items c.to_index-index.result c.args.link c.index.result.now c.index_mut.result.now s.linked c.requires.free.free (omega arith) c.requires.free.in_range c.index.ensures)
