@@ -11,7 +11,7 @@ use Rattle.resolvo_pool_core.specs.declared.solver_id.SolvableIdOrRoot.TheVarian
 use Rattle.resolvo_pool_core.specs.RuleKeeping.{Packages, Rules, is_in, is_member, rules_for, IsReached, IsRuleKeeping}
 use Rattle.resolvo_pool_core.specs.Text.{solvable_of}
 use Rattle.resolvo_sat.specs.Begin.{IsRootClause}
-use Rattle.resolvo_sat.specs.declared.clause.SatClause.{SatClause}
+use Rattle.resolvo_sat.specs.Clauses.{SatClause}
 use Rattle.resolvo_sat.specs.First.{ArePreferred}
 use Rattle.resolvo_sat.proofs.Lists.{contains_none}
 use Rattle.resolvo_state.specs.Chosen.{choices}

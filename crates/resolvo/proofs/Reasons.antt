@@ -3,7 +3,7 @@ use Rattle.std.proofs.Common.{◌≡◌, ℕ, suc, ◌+◌, ◌<◌, inl, inr, t
 use Rattle.std.specs.Prelude.{Contains, slice_get}
 use Rattle.std.proofs.lemmas.Option.{same_Some, slice_get_within}
 use Rattle.resolvo_store_core.specs.Signed.{Signed, has}
-use Rattle.resolvo_sat.specs.declared.clause.SatClause.{SatClause}
+use Rattle.resolvo_sat.specs.Clauses.{SatClause}
 use Rattle.resolvo_pool_core.specs.OnePass.{Literal}
 use Rattle.resolvo_sat.specs.RuleClauses.{Atom}
 use Rattle.resolvo_sat.specs.Numbered.{meanings, Means}
@@ -35,20 +35,20 @@ module _ {N S : Type 0} (c : SolverState N S) (steps : List (ProofStep N S)) (ar
   )
 
   -- a derived step of such a clause
-  denies_only : (among : S → Type 0) (k : ℕ) (step : ProofStep N S) → slice_get steps k ≡ Some step → (held : SatClause) → ((l : Signed) → has held.literals.items l ≡ true → DeniesOne c among l) → IsDerivation c.atoms.keys held.literals.items held.causes.items step
+  denies_only : (among : S → Type 0) (k : ℕ) (step : ProofStep N S) → slice_get steps k ≡ Some step → (held : SatClause) → ((l : Signed) → has held.literals l ≡ true → DeniesOne c among l) → IsDerivation c.atoms.keys held.literals held.causes step
       → DeniesOnly steps among k
   denies_only among k step at held denies d = record {
     literals = d.literals;
     causes = d.causes;
     derived = at ∙ ap Some d.derived;
     denies = λ l h. (
-        let present : Contains (meanings (origin c.atoms.keys) held.literals.items) (literal_in l) = subst (λ ms. Contains ms (literal_in l)) d.means (contains_map literal_in l d.literals.items h) in
-        let (x, known, means) = meaning_from (origin c.atoms.keys) held.literals.items (literal_in l) present in
+        let present : Contains (meanings (origin c.atoms.keys) held.literals) (literal_in l) = subst (λ ms. Contains ms (literal_in l)) d.means (contains_map literal_in l d.literals.items h) in
+        let (x, known, means) = meaning_from (origin c.atoms.keys) held.literals (literal_in l) present in
         denies_one among x l (denies x known) means);
   }
 
   -- a learnt clause encodes no rule
-  learnt_step : (x : ClauseKind N S) (held : SatClause) (step : ProofStep N S) → x ≡ Kind.Learnt → IsStepOf c.atoms.keys x held step → IsDerivation c.atoms.keys held.literals.items held.causes.items step
+  learnt_step : (x : ClauseKind N S) (held : SatClause) (step : ProofStep N S) → x ≡ Kind.Learnt → IsStepOf c.atoms.keys x held step → IsDerivation c.atoms.keys held.literals held.causes step
   learnt_step x held step is (inl (r, rule, encodes)) = absurd (let none : Some r ≡ None = subst (λ (y : ClauseKind N S). IsRuleOf y (Some r)) is encodes in cc)
   learnt_step x held step is (inr (learnt, derivation)) = derivation
 
@@ -61,7 +61,7 @@ module _ {N S : Type 0} (c : SolverState N S) (steps : List (ProofStep N S)) (ar
       let its : IsStepAt c (suc k) step = are.each k step at in
       let is : its.kinds ≡ Kind.Learnt = same_Some its.kinds Kind.Learnt (sym its.kind_is ∙ reason.learnt) in
       let held : its.clause ≡ reason.held = same_Some its.clause reason.held (sym its.present ∙ reason.present) in
-      denies_only among k step at its.clause (λ l h. reason.denies l (subst (λ (x : SatClause). has x.literals.items l ≡ true) held h)) (learnt_step its.kinds its.clause step is its.writes)
+      denies_only among k step at its.clause (λ l h. reason.denies l (subst (λ (x : SatClause). has x.literals l ≡ true) held h)) (learnt_step its.kinds its.clause step is its.writes)
 
   pub reason_proof : (chosen : List S) (t : Turn S) → HasReason c chosen t → HasProof steps chosen t
   reason_proof chosen t r = record {

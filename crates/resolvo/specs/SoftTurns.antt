@@ -8,7 +8,7 @@ use Rattle.resolvo_pool_core.specs.RuleKeeping.{Packages, Rules, is_in, IsRuleKe
 use Rattle.resolvo_store_core.specs.AtMostOne.{IsPrefixOf}
 use Rattle.resolvo_store_core.specs.Clauses.{yes, no, root as root_variable}
 use Rattle.resolvo_store_core.specs.Signed.{Signed, has}
-use Rattle.resolvo_sat.specs.declared.clause.SatClause.{SatClause}
+use Rattle.resolvo_sat.specs.Clauses.{SatClause}
 use Rattle.resolvo_sat.specs.Analysis.{IsRefusal}
 use Rattle.resolvo_sat.specs.Entries.{made_true, EndsWith}
 use Rattle.resolvo_sat.specs.State.{history}
@@ -52,7 +52,7 @@ pub record IsReasonOf {N S : Type 0} (c : SolverState N S) (among : S → Type 0
   pub held : SatClause
   pub present : slice_get c.search.clauses number ≡ Some held
   pub learnt : kind_at c.kinds.items number ≡ Some Learnt
-  pub denies : (l : Signed) → has held.literals.items l ≡ true → DeniesOne c among l
+  pub denies : (l : Signed) → has held.literals l ≡ true → DeniesOne c among l
 
 -- The trail is kept, its newest entries aside. Clauses and parents were added at the end, no fewer
 -- are encoded, and the root is still the first parent.
@@ -87,7 +87,7 @@ pub record IsLearntAs {N S : Type 0} (c : SolverState N S) (literals : List Sign
   pub held : SatClause
   pub present : slice_get c.search.clauses clause.0 ≡ Some held
   pub learnt : kind_at c.kinds.items clause.0 ≡ Some Learnt
-  pub is : held.literals.items ≡ literals
+  pub is : held.literals ≡ literals
 
 -- A conflict with literals is learnt, the trail is that before the turn, and the soft requirement
 -- is no longer recorded. Otherwise nothing changed.

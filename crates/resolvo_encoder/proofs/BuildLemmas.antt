@@ -102,8 +102,8 @@ clauses_end {N} {S} x v condition r old new b s q a = elim (contains_parts q (ne
     is =
         ap (λ cs. clause_at (lists cs) s.number.0) s.states.added
         ∙ ap (λ (cs : List (List Signed)). clause_at cs s.number.0) (lists-append old.coding.search.clauses (s.states.clause ∷ []))
-        ∙ ap (clause_at (lists old.coding.search.clauses ++ s.states.clause.literals.items ∷ [])) (s.states.number ∙ sym (length-lists old.coding.search.clauses))
-        ∙ clause_at_end (lists old.coding.search.clauses) s.states.clause.literals.items
+        ∙ ap (clause_at (lists old.coding.search.clauses ++ s.states.clause.literals ∷ [])) (s.states.number ∙ sym (length-lists old.coding.search.clauses))
+        ∙ clause_at_end (lists old.coding.search.clauses) s.states.clause.literals
         ∙ s.states.literals
 
 pub built_encodes : {N S : Type 0} (x : ClauseKind N S) (v : VariableId) (condition : Option (DenseId DisjunctionTag ℕ)) (r : Requirement) (old new : Encoder N S) → IsBuilt old → ((name : N) (s : S) (place bit : ℕ) → x ≡ Digit name s place bit → ⊥) → EncodesNeed x v condition r old new → IsBuilt new

@@ -21,7 +21,7 @@ use Rattle.resolvo_store_core.specs.Lists.{has_candidates, candidates_in, condit
 use Rattle.resolvo_store_core.specs.declared.pick.NeedClause.{NeedClause}
 use Rattle.resolvo_store_core.specs.declared.lists.Candidate.{Candidate}
 use Rattle.resolvo_decide.specs.Queue.{needs_of}
-use Rattle.resolvo_sat.specs.declared.clause.SatClause.{SatClause}
+use Rattle.resolvo_sat.specs.Clauses.{SatClause}
 use Rattle.resolvo_sat.specs.Known.{clause_at}
 use Rattle.resolvo_sat.specs.State.{lists, clauses_of, history}
 use Rattle.resolvo_store_core.specs.declared.decision.Entry.{Entry}

@@ -12,7 +12,7 @@ use Rattle.resolvo_store_core.specs.Clauses.{yes}
 use Rattle.resolvo_store_core.specs.Lists.{has_candidates, candidates_in}
 use Rattle.resolvo_store_core.specs.declared.pick.NeedClause.{NeedClause}
 use Rattle.resolvo_sat.specs.declared.propagate_and_learn.StepResult.{StepResult}
-use Rattle.resolvo_sat.specs.declared.clause.SatClause.{SatClause}
+use Rattle.resolvo_sat.specs.Clauses.{SatClause}
 use Rattle.resolvo_sat.specs.declared.state.SatState.{SatState}
 use Rattle.resolvo_sat.specs.declared.state.VariableKind.{VariableKind}
 use Rattle.resolvo_sat.specs.declared.watch_lists.WatchLists.{WatchLists}
@@ -186,8 +186,8 @@ module _ {N S : Type 0} (old : Encoder N S) (c : SolverState N S) where
       let long : length c.search.clauses ≡ length old.coding.search.clauses + 1 = ap (λ (cs : List SatClause). length cs) h.added ∙ length-append old.coding.search.clauses (h.clause ∷ []) in
       let all : length (lists old.coding.search.clauses) ≡ length old.coding.search.clauses = length-lists old.coding.search.clauses in
       let place : n ≡ length (lists old.coding.search.clauses) = omega arith in
-      let added : clauses_of c.search ≡ lists old.coding.search.clauses ++ h.clause.literals.items ∷ [] = ap (λ (cs : List SatClause). lists cs) h.added ∙ lists-append old.coding.search.clauses (h.clause ∷ []) in
-      let here : clause_at (clauses_of c.search) n ≡ h.clause.literals.items = ap (λ (cs : List (List Signed)). clause_at cs n) added ∙ ap (λ (k : ℕ). clause_at (lists old.coding.search.clauses ++ h.clause.literals.items ∷ []) k) place ∙ clause_at_end (lists old.coding.search.clauses) h.clause.literals.items in
+      let added : clauses_of c.search ≡ lists old.coding.search.clauses ++ h.clause.literals ∷ [] = ap (λ (cs : List SatClause). lists cs) h.added ∙ lists-append old.coding.search.clauses (h.clause ∷ []) in
+      let here : clause_at (clauses_of c.search) n ≡ h.clause.literals = ap (λ (cs : List (List Signed)). clause_at cs n) added ∙ ap (λ (k : ℕ). clause_at (lists old.coding.search.clauses ++ h.clause.literals ∷ []) k) place ∙ clause_at_end (lists old.coding.search.clauses) h.clause.literals in
       h.from l (subst (λ (ls : List Signed). has ls l ≡ true) here present)
 
   -- where clauses, variables, origins and kinds are unchanged
@@ -230,8 +230,8 @@ module _ {N S : Type 0} (old : Encoder N S) (c : SolverState N S) where
       let long : length c.search.clauses ≡ length old.coding.search.clauses + 1 = ap (λ (cs : List SatClause). length cs) forbids.added ∙ length-append old.coding.search.clauses (forbids.clause ∷ []) in
       let all : length (lists old.coding.search.clauses) ≡ length old.coding.search.clauses = length-lists old.coding.search.clauses in
       let place : n ≡ length (lists old.coding.search.clauses) = omega arith in
-      let added : clauses_of c.search ≡ lists old.coding.search.clauses ++ forbids.clause.literals.items ∷ [] = ap (λ (cs : List SatClause). lists cs) forbids.added ∙ lists-append old.coding.search.clauses (forbids.clause ∷ []) in
-      let here : clause_at (clauses_of c.search) n ≡ forbids.clause.literals.items = ap (λ (cs : List (List Signed)). clause_at cs n) added ∙ ap (λ (k : ℕ). clause_at (lists old.coding.search.clauses ++ forbids.clause.literals.items ∷ []) k) place ∙ clause_at_end (lists old.coding.search.clauses) forbids.clause.literals.items in
+      let added : clauses_of c.search ≡ lists old.coding.search.clauses ++ forbids.clause.literals ∷ [] = ap (λ (cs : List SatClause). lists cs) forbids.added ∙ lists-append old.coding.search.clauses (forbids.clause ∷ []) in
+      let here : clause_at (clauses_of c.search) n ≡ forbids.clause.literals = ap (λ (cs : List (List Signed)). clause_at cs n) added ∙ ap (λ (k : ℕ). clause_at (lists old.coding.search.clauses ++ forbids.clause.literals ∷ []) k) place ∙ clause_at_end (lists old.coding.search.clauses) forbids.clause.literals in
       from l (subst (λ (ls : List Signed). has ls l ≡ true) (here ∙ forbids.literals) present)
 
   pub choice_goes : (v : VariableId) (clause : ClauseId) → Chooses v clause old.coding.search c.search → KeepsClauses old.coding c → GoesOn old went

@@ -24,7 +24,7 @@ use std::hash::Hash;
 
 impl<N: Copy + Exact + Hash + Debug + Drop, S: Copy + Exact + Hash + Debug> Encoder<N, S> {
     /// Adds the at-least-one clause of a solvable, once.
-    pub(crate) fn add_at_least_one(&mut self, alloc: Global, one: Offered<N, S>) -> R<()>
+    pub(crate) fn add_at_least_one(&mut self, one: Offered<N, S>) -> R<()>
         requires { IsBuilt self.old }
         ensures added { OnOk result (AddsAtLeastOne S.eq (one ∷ []) self.old self.new) }
         ensures ids { IsErrOf result Ids → LacksNumber self.new.coding }
@@ -32,13 +32,13 @@ impl<N: Copy + Exact + Hash + Debug + Drop, S: Copy + Exact + Hash + Debug> Enco
         if self.recorded.there.contains(&one.solvable) {
             return Ok(());
         }
-        self.encode_at_least_one(alloc, one)?;
+        self.encode_at_least_one(one)?;
         add_key(&mut self.recorded.there, one.solvable)?;
         Ok(())
     }
 
     /// The at-least-one clause: a chosen solvable makes its package's at-least-one variable true.
-    fn encode_at_least_one(&mut self, alloc: Global, one: Offered<N, S>) -> R<()>
+    fn encode_at_least_one(&mut self, one: Offered<N, S>) -> R<()>
         requires { IsBuilt self.old }
         ensures encodes { OnOk result
             (EncodesRules S.eq (Rule.is_there one.name one.solvable ∷ [])
@@ -51,18 +51,18 @@ impl<N: Copy + Exact + Hash + Debug + Drop, S: Copy + Exact + Hash + Debug> Enco
             name: one.name,
             solvable: one.solvable,
         };
-        self.encode_pair(alloc, kind, first, Literal::new(second, false))?;
+        self.encode_pair(kind, first, Literal::new(second, false))?;
         Ok(())
     }
 
     /// Adds the at-least-one clause of each of these.
-    fn add_at_least_ones(&mut self, alloc: Global, list: &[Offered<N, S>]) -> R<()>
+    fn add_at_least_ones(&mut self, list: &[Offered<N, S>]) -> R<()>
         requires { IsBuilt self.old }
         ensures added { OnOk result (AddsAtLeastOne S.eq list.now self.old self.new) }
         ensures ids { IsErrOf result Ids → LacksNumber self.new.coding }
     {
         for one in list {
-            self.add_at_least_one(alloc, *one)?;
+            self.add_at_least_one(*one)?;
         }
         Ok(())
     }
@@ -94,7 +94,7 @@ impl<N: Copy + Exact + Hash + Debug + Drop, S: Copy + Exact + Hash + Debug> Enco
             return Ok(());
         }
         let registered = self.registered(alloc, name)?;
-        self.add_at_least_ones(alloc, registered.as_slice())?;
+        self.add_at_least_ones(registered.as_slice())?;
         add_key(&mut self.recorded.at_least_one, name)?;
         Ok(())
     }

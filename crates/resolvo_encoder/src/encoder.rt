@@ -249,7 +249,7 @@ impl<N: Copy + Exact + Hash + Debug + Drop, S: Copy + Exact + Hash + Debug> Enco
             return Ok(());
         }
         let gate = self.gate(alloc, need.requirement)?;
-        self.open_gate(alloc, solvable, variable, gate, need.requirement)?;
+        self.open_gate(solvable, variable, gate, need.requirement)?;
         Ok(())
     }
 
@@ -314,7 +314,7 @@ impl<N: Copy + Exact + Hash + Debug + Drop, S: Copy + Exact + Hash + Debug> Enco
         ensures ids { IsErrOf result Ids → LacksNumber self.new.coding }
     {
         let literals = self.literals_of(alloc, variable, condition, requirement)?;
-        let clause = self.coding.add_clause(kind, literals)?;
+        let clause = self.coding.add_clause(kind, literals.as_slice())?;
         self.queue.register_clause(NeedClause {
             parent: variable,
             requirement,
@@ -361,7 +361,6 @@ impl<N: Copy + Exact + Hash + Debug + Drop, S: Copy + Exact + Hash + Debug> Enco
     /// Adds the clause from a solvable to a gate.
     fn open_gate(
         &mut self,
-        alloc: Global,
         solvable: S,
         variable: VariableId,
         gate: VariableId,
@@ -373,14 +372,12 @@ impl<N: Copy + Exact + Hash + Debug + Drop, S: Copy + Exact + Hash + Debug> Enco
         ensures opened { OnOk result (Opens solvable variable gate requirement self.old self.new) }
         ensures ids { IsErrOf result Ids → LacksNumber self.new.coding }
     {
-        let mut literals = Vec::new(alloc);
-        literals.push(Literal::new(variable, true))?;
-        literals.push(Literal::new(gate, false))?;
+        let literals = [Literal::new(variable, true), Literal::new(gate, false)];
         let kind = ClauseKind::Gated {
             solvable,
             requirement,
         };
-        self.coding.add_clause(kind, literals)?;
+        self.coding.add_clause(kind, &literals)?;
         Ok(())
     }
 

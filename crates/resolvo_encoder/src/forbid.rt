@@ -23,7 +23,6 @@ use resolvo_pool_core::want::R;
 use resolvo_state::atom::ProofAtom;
 use resolvo_state::clause_kind::ClauseKind;
 use resolvo_store_core::literal::Literal;
-use std::alloc::Global;
 use std::fmt::Debug;
 use std::hash::Hash;
 
@@ -43,7 +42,7 @@ impl<N: Copy + Exact + Hash + Debug + Drop, S: Copy + Exact + Hash + Debug> Enco
     }
 
     /// Encodes the locks and exclusions of a package.
-    pub fn forbid(&mut self, alloc: Global, name: N, barred: &[ForbiddenSolvable<S>]) -> R<()>
+    pub fn forbid(&mut self, name: N, barred: &[ForbiddenSolvable<S>]) -> R<()>
         requires { IsBuilt self.old }
         // After an answer.
         ensures encoded { OnOk result
@@ -61,20 +60,20 @@ impl<N: Copy + Exact + Hash + Debug + Drop, S: Copy + Exact + Hash + Debug> Enco
         // After a refusal.
         ensures ids { IsErrOf result Ids → LacksNumber self.new.coding }
     {
-        self.forbid_each(alloc, barred)?;
+        self.forbid_each(barred)?;
         add_key(&mut self.recorded.packages, name)?;
         Ok(())
     }
 
     /// Forbids a solvable, since its dependencies are unknown.
-    pub fn exclude(&mut self, alloc: Global, solvable: S, reason: StringId) -> R<()>
+    pub fn exclude(&mut self, solvable: S, reason: StringId) -> R<()>
         requires { IsBuilt self.old }
         ensures encodes { OnOk result
             (EncodesRules S.eq (Rule.forbids (ForbidReason.word reason) solvable ∷ [])
             self.old self.new) }
         ensures ids { IsErrOf result Ids → LacksNumber self.new.coding }
     {
-        self.deny(alloc, solvable, ClauseKind::Excluded { solvable, reason })?;
+        self.deny(solvable, ClauseKind::Excluded { solvable, reason })?;
         Ok(())
     }
 
@@ -82,7 +81,6 @@ impl<N: Copy + Exact + Hash + Debug + Drop, S: Copy + Exact + Hash + Debug> Enco
     /// are many, the clauses share an auxiliary variable.
     pub fn limit(
         &mut self,
-        alloc: Global,
         parent: Option<S>,
         version_set: VersionSetId,
         outside: &[Offered<N, S>],
@@ -104,21 +102,16 @@ impl<N: Copy + Exact + Hash + Debug + Drop, S: Copy + Exact + Hash + Debug> Enco
         ensures ids { IsErrOf result Ids → LacksNumber self.new.coding }
     {
         if outside.len() < GATED {
-            self.limit_each(alloc, parent, version_set, outside)?;
+            self.limit_each(parent, version_set, outside)?;
             return Ok(());
         }
-        self.leave_out(alloc, version_set, outside)?;
-        self.limit_outside(alloc, parent, version_set)?;
+        self.leave_out(version_set, outside)?;
+        self.limit_outside(parent, version_set)?;
         Ok(())
     }
 
     /// Encodes which candidates are outside a version set, once for all parents.
-    fn leave_out(
-        &mut self,
-        alloc: Global,
-        version_set: VersionSetId,
-        outside: &[Offered<N, S>],
-    ) -> R<()>
+    fn leave_out(&mut self, version_set: VersionSetId, outside: &[Offered<N, S>]) -> R<()>
         requires { IsBuilt self.old }
         // After an answer.
         ensures encoded { OnOk result
@@ -141,20 +134,20 @@ impl<N: Copy + Exact + Hash + Debug + Drop, S: Copy + Exact + Hash + Debug> Enco
         if self.is_left_out(version_set) {
             return Ok(());
         }
-        self.encode_outside(alloc, version_set, outside)?;
+        self.encode_outside(version_set, outside)?;
         add_key(&mut self.recorded.version_sets, version_set)?;
         Ok(())
     }
 
     /// Forbids each of these.
-    fn forbid_each(&mut self, alloc: Global, barred: &[ForbiddenSolvable<S>]) -> R<()>
+    fn forbid_each(&mut self, barred: &[ForbiddenSolvable<S>]) -> R<()>
         requires { IsBuilt self.old }
         ensures encodes { OnOk result
             (EncodesRules S.eq (forbid_rules barred.now) self.old self.new) }
         ensures ids { IsErrOf result Ids → LacksNumber self.new.coding }
     {
         for one in barred {
-            self.deny(alloc, one.solvable, forbid_kind(*one))?;
+            self.deny(one.solvable, forbid_kind(*one))?;
         }
         Ok(())
     }
@@ -162,7 +155,6 @@ impl<N: Copy + Exact + Hash + Debug + Drop, S: Copy + Exact + Hash + Debug> Enco
     /// Encodes that a parent's version set forbids each of these.
     fn limit_each(
         &mut self,
-        alloc: Global,
         parent: Option<S>,
         version_set: VersionSetId,
         outside: &[Offered<N, S>],
@@ -174,31 +166,26 @@ impl<N: Copy + Exact + Hash + Debug + Drop, S: Copy + Exact + Hash + Debug> Enco
         ensures ids { IsErrOf result Ids → LacksNumber self.new.coding }
     {
         for one in outside {
-            self.limit_one(alloc, parent, version_set, one.solvable)?;
+            self.limit_one(parent, version_set, one.solvable)?;
         }
         Ok(())
     }
 
     /// Encodes that each of these is outside a version set.
-    fn encode_outside(
-        &mut self,
-        alloc: Global,
-        version_set: VersionSetId,
-        outside: &[Offered<N, S>],
-    ) -> R<()>
+    fn encode_outside(&mut self, version_set: VersionSetId, outside: &[Offered<N, S>]) -> R<()>
         requires { IsBuilt self.old }
         ensures encodes { OnOk result
             (EncodesRules S.eq (out_rules version_set outside.now) self.old self.new) }
         ensures ids { IsErrOf result Ids → LacksNumber self.new.coding }
     {
         for one in outside {
-            self.encode_out(alloc, version_set, one.solvable)?;
+            self.encode_out(version_set, one.solvable)?;
         }
         Ok(())
     }
 
     /// Forbids a solvable: by a unit clause, or beside the root where another one is locked.
-    fn deny(&mut self, alloc: Global, solvable: S, kind: ClauseKind<N, S>) -> R<()>
+    fn deny(&mut self, solvable: S, kind: ClauseKind<N, S>) -> R<()>
         requires built { IsBuilt self.old }
         requires rule { IsSome (rule_of kind) }
         ensures encodes { OnOk result
@@ -209,18 +196,12 @@ impl<N: Copy + Exact + Hash + Debug + Drop, S: Copy + Exact + Hash + Debug> Enco
     {
         let variable = self.give(ProofAtom::Solvable(solvable))?;
         let first = beside(&kind, variable);
-        self.encode_pair(alloc, kind, first, Literal::new(variable, true))?;
+        self.encode_pair(kind, first, Literal::new(variable, true))?;
         Ok(())
     }
 
     /// Encodes that a parent's version set forbids a solvable.
-    fn limit_one(
-        &mut self,
-        alloc: Global,
-        parent: Option<S>,
-        version_set: VersionSetId,
-        barred: S,
-    ) -> R<()>
+    fn limit_one(&mut self, parent: Option<S>, version_set: VersionSetId, barred: S) -> R<()>
         requires { IsBuilt self.old }
         ensures encodes { OnOk result
             (EncodesRules S.eq (Rule.limits parent version_set barred ∷ [])
@@ -234,18 +215,13 @@ impl<N: Copy + Exact + Hash + Debug + Drop, S: Copy + Exact + Hash + Debug> Enco
             version_set,
             barred,
         };
-        self.encode_pair(alloc, kind, first, Literal::new(second, true))?;
+        self.encode_pair(kind, first, Literal::new(second, true))?;
         Ok(())
     }
 
     /// Encodes that a parent's version set forbids all candidates outside it. Where clauses encode
     /// which these are, its constraint is encoded then.
-    pub fn limit_outside(
-        &mut self,
-        alloc: Global,
-        parent: Option<S>,
-        version_set: VersionSetId,
-    ) -> R<()>
+    pub fn limit_outside(&mut self, parent: Option<S>, version_set: VersionSetId) -> R<()>
         requires { IsBuilt self.old }
         // After an answer.
         ensures encodes { OnOk result
@@ -268,12 +244,12 @@ impl<N: Copy + Exact + Hash + Debug + Drop, S: Copy + Exact + Hash + Debug> Enco
             parent,
             version_set,
         };
-        self.encode_pair(alloc, kind, first, Literal::new(second, true))?;
+        self.encode_pair(kind, first, Literal::new(second, true))?;
         Ok(())
     }
 
     /// Encodes that a solvable is outside a version set.
-    fn encode_out(&mut self, alloc: Global, version_set: VersionSetId, solvable: S) -> R<()>
+    fn encode_out(&mut self, version_set: VersionSetId, solvable: S) -> R<()>
         requires { IsBuilt self.old }
         ensures encodes { OnOk result
             (EncodesRules S.eq (Rule.is_out version_set solvable ∷ [])
@@ -286,7 +262,7 @@ impl<N: Copy + Exact + Hash + Debug + Drop, S: Copy + Exact + Hash + Debug> Enco
             version_set,
             solvable,
         };
-        self.encode_pair(alloc, kind, first, Literal::new(second, false))?;
+        self.encode_pair(kind, first, Literal::new(second, false))?;
         Ok(())
     }
 
@@ -323,7 +299,6 @@ impl<N: Copy + Exact + Hash + Debug + Drop, S: Copy + Exact + Hash + Debug> Enco
     /// literal true.
     pub(crate) fn encode_pair(
         &mut self,
-        alloc: Global,
         kind: ClauseKind<N, S>,
         first: VariableId,
         second: Literal,
@@ -337,26 +312,20 @@ impl<N: Copy + Exact + Hash + Debug + Drop, S: Copy + Exact + Hash + Debug> Enco
         // After a refusal.
         ensures ids { IsErrOf result Ids → LacksNumber self.new.coding }
     {
-        let literals = pair_of(alloc, first, second)?;
-        self.coding.add_clause(kind, literals)?;
+        let pair = [Literal::new(first, true), second];
+        self.coding.add_clause(kind, distinct(&pair))?;
         Ok(())
     }
 }
 
-/// The denial of the first, and the second literal, unless it is the same.
-fn pair_of(alloc: Global, first: VariableId, second: Literal) -> R<Vec<Literal>>
-    requires { first.0 < 2147483648 }
-    ensures pair { IfOk result (λ v. IsPair (no first) second v.items) }
-    ensures refusal { IsOkUnless result Memory }
+/// Both literals, or one where they are the same.
+fn distinct(pair: &[Literal; 2]) -> &[Literal]
+    ensures { (x y : Literal) → pair.now ≡ x ∷ y ∷ [] → IsPair x y result.now }
 {
-    let denied = Literal::new(first, true);
-    let mut literals = Vec::new(alloc);
-    literals.push(denied)?;
-    if denied == second {
-        return Ok(literals);
+    if pair[0] == pair[1] {
+        return &pair[..1];
     }
-    literals.push(second)?;
-    Ok(literals)
+    pair
 }
 
 /// The variable that is denied beside that of a forbidden solvable: the root's for a lock, else the

@@ -48,7 +48,7 @@ impl<N: Copy + Exact + Hash + Debug + Drop, S: Copy + Exact + Hash + Debug> Enco
             (λ v. CaseLiterals S.eq (set.now ∷ []) v.items self.old self.new) }
         ensures ids { IsErrOf result Ids → LacksNumber self.new.coding }
     {
-        self.hold_matches(alloc, set.version_set, set.matching.as_slice())?;
+        self.hold_matches(set.version_set, set.matching.as_slice())?;
         let matches = self.give(ProofAtom::Matches(set.version_set))?;
         let mut literals = Vec::new(alloc);
         literals.push(Literal::new(matches, true))?;
@@ -56,12 +56,7 @@ impl<N: Copy + Exact + Hash + Debug + Drop, S: Copy + Exact + Hash + Debug> Enco
     }
 
     /// Encodes which candidates match a version set, once for all cases.
-    fn hold_matches(
-        &mut self,
-        alloc: Global,
-        version_set: VersionSetId,
-        matching: &[Offered<N, S>],
-    ) -> R<()>
+    fn hold_matches(&mut self, version_set: VersionSetId, matching: &[Offered<N, S>]) -> R<()>
         requires { IsBuilt self.old }
         ensures held { OnOk result (HoldsMatches S.eq version_set matching.now self.old self.new) }
         ensures ids { IsErrOf result Ids → LacksNumber self.new.coding }
@@ -69,18 +64,13 @@ impl<N: Copy + Exact + Hash + Debug + Drop, S: Copy + Exact + Hash + Debug> Enco
         if self.recorded.matches.contains(&version_set) {
             return Ok(());
         }
-        self.encode_matches(alloc, version_set, matching)?;
+        self.encode_matches(version_set, matching)?;
         add_key(&mut self.recorded.matches, version_set)?;
         Ok(())
     }
 
     /// Encodes that each of these matches a version set.
-    fn encode_matches(
-        &mut self,
-        alloc: Global,
-        version_set: VersionSetId,
-        matching: &[Offered<N, S>],
-    ) -> R<()>
+    fn encode_matches(&mut self, version_set: VersionSetId, matching: &[Offered<N, S>]) -> R<()>
         requires { IsBuilt self.old }
         ensures encodes { OnOk result
             (EncodesRules S.eq (match_rules version_set matching.now)
@@ -88,13 +78,13 @@ impl<N: Copy + Exact + Hash + Debug + Drop, S: Copy + Exact + Hash + Debug> Enco
         ensures ids { IsErrOf result Ids → LacksNumber self.new.coding }
     {
         for one in matching {
-            self.encode_match(alloc, version_set, one.solvable)?;
+            self.encode_match(version_set, one.solvable)?;
         }
         Ok(())
     }
 
     /// Encodes that a solvable matches a version set.
-    fn encode_match(&mut self, alloc: Global, version_set: VersionSetId, solvable: S) -> R<()>
+    fn encode_match(&mut self, version_set: VersionSetId, solvable: S) -> R<()>
         requires { IsBuilt self.old }
         ensures encodes { OnOk result
             (EncodesRules S.eq (Rule.matches version_set solvable ∷ [])
@@ -107,7 +97,7 @@ impl<N: Copy + Exact + Hash + Debug + Drop, S: Copy + Exact + Hash + Debug> Enco
             version_set,
             solvable,
         };
-        self.encode_pair(alloc, kind, first, Literal::new(second, false))?;
+        self.encode_pair(kind, first, Literal::new(second, false))?;
         Ok(())
     }
 }

@@ -45,7 +45,7 @@ impl<N: Copy + Exact + Hash + Debug + Drop, S: Copy + Exact + Hash + Debug> Enco
         ensures ids { IsErrOf result Ids → LacksNumber self.new.coding }
     {
         let waiting = self.queued_solvables(alloc)?;
-        self.place_each(alloc, waiting.as_slice())?;
+        self.place_each(waiting.as_slice())?;
         self.registry.end_queue();
         Ok(())
     }
@@ -69,7 +69,7 @@ impl<N: Copy + Exact + Hash + Debug + Drop, S: Copy + Exact + Hash + Debug> Enco
     }
 
     /// Adds the digits of these, and the at-least-one clauses of those whose package is recorded.
-    fn place_each(&mut self, alloc: Global, list: &[Offered<N, S>]) -> R<()>
+    fn place_each(&mut self, list: &[Offered<N, S>]) -> R<()>
         requires built { IsBuilt self.old }
         requires registered { (o : One N S)
             → Contains list.now o
@@ -78,37 +78,37 @@ impl<N: Copy + Exact + Hash + Debug + Drop, S: Copy + Exact + Hash + Debug> Enco
         ensures ids { IsErrOf result Ids → LacksNumber self.new.coding }
     {
         for one in list {
-            self.place_one(alloc, *one)?;
+            self.place_one(*one)?;
         }
         Ok(())
     }
 
     /// Adds the digits of a registered solvable, unless its package is marked `many`, and its
     /// at-least-one clause if its package is recorded.
-    fn place_one(&mut self, alloc: Global, one: Offered<N, S>) -> R<()>
+    fn place_one(&mut self, one: Offered<N, S>) -> R<()>
         requires built { IsBuilt self.old }
         requires registered { IsRegistered self.old.registry self.old.coding one.name one.solvable }
         ensures placed { OnOk result (PlacesAll S.eq (one ∷ []) self.old self.new) }
         ensures ids { IsErrOf result Ids → LacksNumber self.new.coding }
     {
         if self.registry.is_many(one.name) {
-            self.admit_one(alloc, one)?;
+            self.admit_one(one)?;
             return Ok(());
         }
         self.registry
             .place(&mut self.coding, one.name, one.solvable)?;
-        self.admit_one(alloc, one)?;
+        self.admit_one(one)?;
         Ok(())
     }
 
     /// Adds the at-least-one clause of a solvable, if its package is recorded.
-    fn admit_one(&mut self, alloc: Global, one: Offered<N, S>) -> R<()>
+    fn admit_one(&mut self, one: Offered<N, S>) -> R<()>
         requires { IsBuilt self.old }
         ensures admitted { OnOk result (Admits S.eq (one ∷ []) self.old self.new) }
         ensures ids { IsErrOf result Ids → LacksNumber self.new.coding }
     {
         if self.recorded.at_least_one.contains(&one.name) {
-            self.add_at_least_one(alloc, one)?;
+            self.add_at_least_one(one)?;
         }
         Ok(())
     }

@@ -69,10 +69,10 @@ one_sign {N} {S} of count once literals in_range apart l m a b same =
 
 module _ {N S : Type 0} (c : SolverState N S) (coding : IsCoding c) where
   -- a derived step of a clause has the meanings of a learnt one's literals
-  learnt_at : (n : ℕ) (literals : Vec (ProofLiteral N S) Global) (causes : Vec ℕ Global) → (at : IsStepAt c n (Derived literals causes)) → (kind_at c.kinds.items n ≡ Some Kind.Learnt) × (map literal_in literals.items ≡ meanings (origin c.atoms.keys) at.clause.literals.items)
+  learnt_at : (n : ℕ) (literals : Vec (ProofLiteral N S) Global) (causes : Vec ℕ Global) → (at : IsStepAt c n (Derived literals causes)) → (kind_at c.kinds.items n ≡ Some Kind.Learnt) × (map literal_in literals.items ≡ meanings (origin c.atoms.keys) at.clause.literals)
   learnt_at n literals causes at = go at.writes
     where
-      go : IsStepOf c.atoms.keys at.kinds at.clause (Derived literals causes) → (kind_at c.kinds.items n ≡ Some Kind.Learnt) × (map literal_in literals.items ≡ meanings (origin c.atoms.keys) at.clause.literals.items)
+      go : IsStepOf c.atoms.keys at.kinds at.clause (Derived literals causes) → (kind_at c.kinds.items n ≡ Some Kind.Learnt) × (map literal_in literals.items ≡ meanings (origin c.atoms.keys) at.clause.literals)
       go (inl (r, e, encoded)) = absurd (not_rule r literals causes e)
       go (inr (e, d)) = (at.kind_is ∙ ap Some e, ap (λ (v : Vec (ProofLiteral N S) Global). map literal_in v.items) (same_literals literals d.literals causes d.causes d.derived) ∙ d.means)
 
@@ -96,7 +96,7 @@ module _ {N S : Type 0} (c : SolverState N S) (coding : IsCoding c) where
     steps_drawn n literals causes here l a =
         let at = are.each n (Derived literals causes) here in
         let (learnt, means) = learnt_at (suc n) literals causes at in
-        let (x, h, (other, is)) = meaning_from (origin c.atoms.keys) at.clause.literals.items (literal_in l) (subst (λ (xs : List (Literal (Atom N S))). Contains xs (literal_in l)) means (contains_map literal_in l literals.items a)) in
+        let (x, h, (other, is)) = meaning_from (origin c.atoms.keys) at.clause.literals (literal_in l) (subst (λ (xs : List (Literal (Atom N S))). Contains xs (literal_in l)) means (contains_map literal_in l literals.items a)) in
         let (m, below, there) = coding.drawn (suc n) at.clause learnt at.present x h in
         let (k, before, present) = in_earlier_step n x m below other there in
         (k, before, subst (Contains (step_at same p steps k)) (sym is) present)
@@ -107,7 +107,7 @@ module _ {N S : Type 0} (c : SolverState N S) (coding : IsCoding c) where
       let at = are.each n (Derived literals causes) here in
       let (learnt, means) = learnt_at (suc n) literals causes at in
       subst (λ (xs : List (Literal (Atom N S))). HaveOneSign xs) (sym means)
-      (one_sign (origin c.atoms.keys) (count_of c.search) (coding_once c coding) at.clause.literals.items (clause_in_range c coding (suc n) at.clause at.present) (coding.apart (suc n) at.clause learnt at.present))
+      (one_sign (origin c.atoms.keys) (count_of c.search) (coding_once c coding) at.clause.literals (clause_in_range c coding (suc n) at.clause at.present) (coding.apart (suc n) at.clause learnt at.present))
 
   module _ (spelled : List Signed) (from : List ClauseId) (steps : List (ProofStep N S)) (are : AreStepsThen c spelled from steps) where
     -- a derived step is a clause's, or the refusal's

@@ -8,7 +8,7 @@ use Rattle.resolvo_pool_core.specs.declared.id.ClauseId.{ClauseId}
 use Rattle.resolvo_pool_core.specs.OnePass.{Literal}
 use Rattle.std.specs.List.{AllZip}
 use Rattle.resolvo_store_core.specs.Signed.{Signed, has}
-use Rattle.resolvo_sat.specs.declared.clause.SatClause.{SatClause}
+use Rattle.resolvo_sat.specs.Clauses.{SatClause, causes_at}
 use Rattle.resolvo_sat.specs.State.{count_of}
 use Rattle.resolvo_sat.specs.Steps.{AreInRange}
 use Rattle.resolvo_sat.proofs.Clauses.{literals_at}
@@ -108,8 +108,14 @@ some_clause c coding =
     omega arith
 
 -- the literals of a clause are of variables that are there
-pub clause_in_range : {N S : Type 0} (c : SolverState N S) → IsCoding c → (n : ℕ) (clause : SatClause) → slice_get c.search.clauses n ≡ Some clause → AreInRange (count_of c.search) clause.literals.items
+pub clause_in_range : {N S : Type 0} (c : SolverState N S) → IsCoding c → (n : ℕ) (clause : SatClause) → slice_get c.search.clauses n ≡ Some clause → AreInRange (count_of c.search) clause.literals
 clause_in_range c coding n clause at l h = coding.ready.state.in_range n l (subst (λ xs. has xs l ≡ true) (sym (literals_at c.search.clauses n clause at)) h)
+
+-- the causes of a clause
+pub causes_are : (cs : List SatClause) (n : ℕ) (clause : SatClause) → slice_get cs n ≡ Some clause → causes_at cs n ≡ clause.causes
+causes_are [] n clause at = absurd cc
+causes_are (d ∷ cs) zero clause at = let same : d ≡ clause = cc in ap (λ (x : SatClause). x.causes) same
+causes_are (d ∷ cs) (suc n) clause at = causes_are cs n clause at
 
 -- the step of a clause that encodes a rule
 pub rule_step : {N S : Type 0} (c : SolverState N S) (n : ℕ) (x : ClauseKind N S) (r : ProofRule N S) → n < length c.search.clauses → kind_at c.kinds.items n ≡ Some x → IsRuleOf x (Some r) → IsStepAt c n (Rule r)
@@ -117,7 +123,7 @@ rule_step c n x r below kind_is encoded = let (clause, at) = get_below c.search.
 
 -- the step of a clause after the root's that encodes none
 pub learnt_step : {N S : Type 0} (c : SolverState N S) → IsCoding c → (n : ℕ) (x : ClauseKind N S) (clause : SatClause) (step : ProofStep N S) → 0 < n → kind_at c.kinds.items n ≡ Some x → slice_get c.search.clauses n ≡ Some clause → IsRuleOf x None
-    → IsDerivation c.atoms.keys clause.literals.items clause.causes.items step → IsStepAt c n step
+    → IsDerivation c.atoms.keys clause.literals clause.causes step → IsStepAt c n step
 learnt_step {N} {S} c coding n x clause step behind kind_is at encoded d = record { kinds = x; clause = clause; kind_is = kind_is; present = at; writes = inr (go x kind_is encoded, d) }
   where
     go : (y : ClauseKind N S) → kind_at c.kinds.items n ≡ Some y → IsRuleOf y None → y ≡ Kind.Learnt

@@ -9,7 +9,7 @@ use Rattle.resolvo_pool_core.specs.OnePass.{Literal, one_pass, deny, nothing}
 use Rattle.resolvo_pool_core.specs.RuleKeeping.{Packages, Rules}
 use Rattle.resolvo_store_core.specs.Signed.{Signed, negation, has}
 use Rattle.resolvo_store_core.specs.Clauses.{yes, no, root as root_variable}
-use Rattle.resolvo_sat.specs.declared.clause.SatClause.{SatClause}
+use Rattle.resolvo_sat.specs.Clauses.{SatClause}
 use Rattle.resolvo_sat.specs.declared.state.SatState.{SatState}
 use Rattle.resolvo_sat.specs.Known.{clause_at}
 use Rattle.resolvo_sat.specs.AnalyzeFinal.{Refutes}
@@ -70,14 +70,14 @@ below_more m n [] le below = tt
 below_more m n (c ∷ causes) le below = ((let one : c.0 < m = below.0 in omega arith), below_more m n causes le below.1)
 
 -- A clause with causes follows from them, and they are before it.
-derived_at : (cs : List SatClause) (n : ℕ) (c : SatClause) → AreDerived (reverse cs) → slice_get cs n ≡ Some c → 0 < length c.causes.items → AllBelow n c.causes.items × Refutes (no root_variable ∷ c.literals.items) (named (lists cs) c.causes.items)
+derived_at : (cs : List SatClause) (n : ℕ) (c : SatClause) → AreDerived (reverse cs) → slice_get cs n ≡ Some c → 0 < length c.causes → AllBelow n c.causes × Refutes (no root_variable ∷ c.literals) (named (lists cs) c.causes)
 derived_at cs n c derived at some =
     let (prefix, rest, e, long) = split_at cs n c at in
     let newest : reverse cs ≡ reverse rest ++ (c ∷ reverse prefix) = ap reverse e ∙ reverse-append prefix (c ∷ rest) ∙ ap (λ xs. xs ++ reverse prefix) (reverse-append (c ∷ []) rest) ∙ append_assoc (reverse rest) (c ∷ []) (reverse prefix) in
-    let d : IsDerived (lists (reverse (reverse prefix))) c.literals.items c.causes.items = (derived_older (reverse rest) (c ∷ reverse prefix) (subst AreDerived newest derived)).0 some in
-    let own : IsDerived (lists prefix) c.literals.items c.causes.items = subst (λ xs. IsDerived (lists xs) c.literals.items c.causes.items) (Rattle.std.proofs.lemmas.List.reverse-reverse prefix) d in
-    let same : named (lists cs) c.causes.items ≡ named (lists prefix) c.causes.items = ap (λ xs. named (lists xs) c.causes.items) e ∙ named_prefix prefix (c ∷ rest) c.causes.items own.in_range in
-    (subst (λ k. AllBelow k c.causes.items) (length-lists prefix ∙ long) own.in_range, subst (Refutes (no root_variable ∷ c.literals.items)) (sym same) own.refuted)
+    let d : IsDerived (lists (reverse (reverse prefix))) c.literals c.causes = (derived_older (reverse rest) (c ∷ reverse prefix) (subst AreDerived newest derived)).0 some in
+    let own : IsDerived (lists prefix) c.literals c.causes = subst (λ xs. IsDerived (lists xs) c.literals c.causes) (Rattle.std.proofs.lemmas.List.reverse-reverse prefix) d in
+    let same : named (lists cs) c.causes ≡ named (lists prefix) c.causes = ap (λ xs. named (lists xs) c.causes) e ∙ named_prefix prefix (c ∷ rest) c.causes own.in_range in
+    (subst (λ k. AllBelow k c.causes) (length-lists prefix ∙ long) own.in_range, subst (Refutes (no root_variable ∷ c.literals)) (sym same) own.refuted)
 
 -- a clause that denies choices of the trail is false on it
 pub kept_false : (s : SatState) (literals : List Signed) → DenyAssumptions s literals → (l : Signed) → has literals l ≡ true → has (made_true (history s)) (negation l) ≡ true
@@ -157,7 +157,7 @@ module _ {N S : Type 0} (same : S → S → Bool) (p : Packages N S) where
     spells_clause : (n : ℕ) (step : ProofStep N S) → IsStepAt c n step → Spells (origin c.atoms.keys) (clause_at (clauses_of c.search) n) (clause_of same p step)
     spells_clause n step at = go at.writes
       where
-        literals : clause_at (clauses_of c.search) n ≡ at.clause.literals.items
+        literals : clause_at (clauses_of c.search) n ≡ at.clause.literals
         literals = literals_at c.search.clauses n at.clause at.present
 
         go : IsStepOf c.atoms.keys at.kinds at.clause step → Spells (origin c.atoms.keys) (clause_at (clauses_of c.search) n) (clause_of same p step)
@@ -167,8 +167,8 @@ module _ {N S : Type 0} (same : S → S → Bool) (p : Packages N S) where
             subst (λ (x : ProofStep N S). Spells (origin c.atoms.keys) (clause_at (clauses_of c.search) n) (clause_of same p x)) (sym e)
             (subst (λ (xs : List (Literal (Atom N S))). Spells (origin c.atoms.keys) (clause_at (clauses_of c.search) n) xs) (under_any condition r) own)
         go (inr (e, d)) =
-            let a : AreApart at.clause.literals.items = coding.apart n at.clause (at.kind_is ∙ ap Some e) at.present in
-            let own : Spells (origin c.atoms.keys) at.clause.literals.items (map literal_in d.literals.items) = subst (λ (xs : List (Literal (Atom N S))). Spells (origin c.atoms.keys) at.clause.literals.items xs) (sym d.means) (apart_spells (origin c.atoms.keys) at.clause.literals.items a) in
+            let a : AreApart at.clause.literals = coding.apart n at.clause (at.kind_is ∙ ap Some e) at.present in
+            let own : Spells (origin c.atoms.keys) at.clause.literals (map literal_in d.literals.items) = subst (λ (xs : List (Literal (Atom N S))). Spells (origin c.atoms.keys) at.clause.literals xs) (sym d.means) (apart_spells (origin c.atoms.keys) at.clause.literals a) in
             subst (λ (x : ProofStep N S). Spells (origin c.atoms.keys) (clause_at (clauses_of c.search) n) (clause_of same p x)) (sym d.derived)
             (subst (λ (xs : List Signed). Spells (origin c.atoms.keys) xs (map literal_in d.literals.items)) (sym literals) own)
 
@@ -211,9 +211,9 @@ module _ {N S : Type 0} (same : S → S → Bool) (p : Packages N S) where
           go (inr (e, d)) =
               let learnt : kind_at c.kinds.items (suc place) ≡ Some Kind.Learnt = at.kind_is ∙ ap Some e in
               let (earlier, refuted) = derived_at c.search.clauses (suc place) at.clause coding.ready.state.derived at.present (coding.learnt (suc place) at.clause learnt at.present) in
-              let in_range : (l : Signed) → has at.clause.literals.items l ≡ true → l.variable.0 < count_of c.search = λ l h. coding.ready.state.in_range (suc place) l (subst (λ xs. has xs l ≡ true) (sym (literals_at c.search.clauses (suc place) at.clause at.present)) h) in
+              let in_range : (l : Signed) → has at.clause.literals l ≡ true → l.variable.0 < count_of c.search = λ l h. coding.ready.state.in_range (suc place) l (subst (λ xs. has xs l ≡ true) (sym (literals_at c.search.clauses (suc place) at.clause at.present)) h) in
               subst (IsStep same_atom same p root steps place) (sym d.derived)
-              (derivation_refuted place at.clause.literals.items at.clause.causes.items step (omega arith) earlier refuted in_range (coding.apart (suc place) at.clause learnt at.present) d)
+              (derivation_refuted place at.clause.literals at.clause.causes step (omega arith) earlier refuted in_range (coding.apart (suc place) at.clause learnt at.present) d)
 
 -- each clause after the root's has its step
 has_step : {N S : Type 0} (c : SolverState N S) (steps more : List (ProofStep N S)) → AreSteps c steps → (place : ℕ) → suc place < length c.search.clauses → (step : ProofStep N S) × (slice_get (steps ++ more) place ≡ Some step) × IsStepAt c (suc place) step

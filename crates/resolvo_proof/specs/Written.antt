@@ -4,7 +4,7 @@ use Rattle.std.proofs.Common.{Vec, Global}
 use Rattle.resolvo_pool_core.specs.declared.id.ClauseId.{ClauseId}
 use Rattle.resolvo_pool_core.specs.declared.id.VersionSetId.{VersionSetId}
 use Rattle.resolvo_store_core.specs.Signed.{Signed}
-use Rattle.resolvo_sat.specs.declared.clause.SatClause.{SatClause}
+use Rattle.resolvo_sat.specs.Clauses.{SatClause}
 use Rattle.resolvo_sat.specs.Numbered.{meanings}
 use Rattle.resolvo_state.specs.declared.atom.ProofAtom.{ProofAtom}
 use Rattle.resolvo_state.specs.declared.solver_state.SolverState.{SolverState}
@@ -92,7 +92,7 @@ pub record IsDerivation {N S : Type 0} (atoms : List (ProofAtom N S)) (spelled :
 
 -- the step is the rule that the clause encodes, or is derived as the clause was
 abbrev pub IsStepOf : {N S : Type 0} → List (ProofAtom N S) → ClauseKind N S → SatClause → ProofStep N S → Type 0
-IsStepOf {N} {S} atoms kinds clause step = ((r : ProofRule N S) × (step ≡ Rule r) × IsRuleOf kinds (Some r)) ⊎ ((kinds ≡ Kind.Learnt) × IsDerivation atoms clause.literals.items clause.causes.items step)
+IsStepOf {N} {S} atoms kinds clause step = ((r : ProofRule N S) × (step ≡ Rule r) × IsRuleOf kinds (Some r)) ⊎ ((kinds ≡ Kind.Learnt) × IsDerivation atoms clause.literals clause.causes step)
 
 -- the step of the clause of this number
 pub record IsStepAt {N S : Type 0} (c : SolverState N S) (n : ℕ) (step : ProofStep N S) : Type 0 where

@@ -36,10 +36,10 @@ pub(crate) fn write_step<N: Copy + Exact + Hash + Debug, S: Copy + Exact + Hash 
     match write_rule(&coding.kinds[number])? {
         Some(rule) => Ok(ProofStep::Rule(rule)),
         None => {
-            let clause = &coding.search.clauses.iter().rest[number];
-            let literals = clause.literals.as_slice();
+            let literals = coding.search.clauses.literals(number);
+            let causes = coding.search.clauses.causes(number);
             // split for the prover: error and answer
-            let step = write_derived(alloc, coding, literals, clause.causes.as_slice())?;
+            let step = write_derived(alloc, coding, literals, causes)?;
             Ok(step)
         }
     }

@@ -10,7 +10,7 @@ use Rattle.resolvo_store_core.specs.declared.watched_literals.WatchedLiterals.{W
 use Rattle.resolvo_store_core.specs.declared.decision.Entry.{Entry}
 use Rattle.resolvo_store_core.proofs.Watched.{not_same}
 use Rattle.resolvo_sat.specs.declared.state.SatState.{SatState}
-use Rattle.resolvo_sat.specs.declared.clause.SatClause.{SatClause}
+use Rattle.resolvo_sat.specs.Clauses.{SatClause}
 use Rattle.resolvo_sat.specs.declared.state.VariableKind.{VariableKind}
 use Rattle.resolvo_sat.specs.declared.watch_lists.WatchLists.{WatchLists}
 use Rattle.resolvo_sat.specs.declared.watch_lists.UnitClause.{UnitClause}

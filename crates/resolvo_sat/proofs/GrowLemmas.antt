@@ -9,7 +9,7 @@ use Rattle.resolvo_pool_core.specs.RuleKeeping.{Packages}
 use Rattle.resolvo_store_core.specs.Signed.{Signed, has}
 use Rattle.resolvo_store_core.specs.Clauses.{yes, root as root_variable}
 use Rattle.resolvo_store_core.specs.declared.decision.Entry.{Entry}
-use Rattle.resolvo_sat.specs.declared.clause.SatClause.{SatClause}
+use Rattle.resolvo_sat.specs.Clauses.{SatClause}
 use Rattle.resolvo_sat.specs.Known.{clause_at}
 use Rattle.resolvo_sat.specs.Entries.{literal_of, made_true, IsOnTrail, IsTrail}
 use Rattle.resolvo_sat.specs.State.{lists, AreDerived}
@@ -32,10 +32,10 @@ trail_under count cs (d ∷ rest) e older t (inl (same, before)) = subst (λ (xs
 trail_under count cs (d ∷ rest) e older t (inr s) = trail_under count cs rest e older t.1 s
 
 -- a clause that is held is at some place
-pub place_of_held : (cs : List SatClause) (c : SatClause) → Contains cs c → (n : ℕ) × (n < length cs) × (clause_at (lists cs) n ≡ c.literals.items)
+pub place_of_held : (cs : List SatClause) (c : SatClause) → Contains cs c → (n : ℕ) × (n < length cs) × (clause_at (lists cs) n ≡ c.literals)
 place_of_held [] c h = absurd (contains_none c h)
 place_of_held (d ∷ cs) c h = elim (contains_cases c d cs h) [
-  | inl e ↦ (0, omega arith, ap (λ (x : SatClause). x.literals.items) (sym e))
+  | inl e ↦ (0, omega arith, ap (λ (x : SatClause). x.literals) (sym e))
   | inr a ↦ let (n, below, e) = place_of_held cs c a in (suc n, omega arith, e)
 ]
 
@@ -131,7 +131,7 @@ module _ {N S : Type 0} (origin other : ℕ → Atom N S) (count : ℕ) (agree :
       old c a (inr (inl here)) = inr (inl here)
       old c a (inr (inr (r, present, spells))) =
           let (n, below, e) = place_of_held cs c a in
-          inr (inr (r, adds r present, spells_agree c.literals.items (literals_of same p r) (λ l h. coded.in_range n l (subst (λ (x : List Signed). has x l ≡ true) (sym e) h)) spells))
+          inr (inr (r, adds r present, spells_agree c.literals (literals_of same p r) (λ l h. coded.in_range n l (subst (λ (x : List Signed). has x l ≡ true) (sym e) h)) spells))
 
       kept : (r : Rule N S) → (n : ℕ) × (n < length cs) × Spells origin (clause_at (lists cs) n) (literals_of same p r) → (n : ℕ) × (n < length (cs ++ ds)) × Spells other (clause_at (lists (cs ++ ds)) n) (literals_of same p r)
       kept r (n, below, spells) =
@@ -142,19 +142,19 @@ module _ {N S : Type 0} (origin other : ℕ → Atom N S) (count : ℕ) (agree :
 
 -- A learnt clause, each literal of which is in a clause before it, leaves all coded.
 pub coded_learnt : {N S : Type 0} (origin : ℕ → Atom N S) (same : S → S → Bool) (p : Packages N S) (rules : Rule N S → Type 0) (registered : S → Type 0) (count : ℕ) (cs : List SatClause) (c : SatClause)
-    → 0 < length c.causes.items → ((l : Signed) → has c.literals.items l ≡ true → (n : ℕ) × (has (clause_at (lists cs) n) l ≡ true)) → AreDerived (reverse (cs ++ c ∷ []))
+    → 0 < length c.causes → ((l : Signed) → has c.literals l ≡ true → (n : ℕ) × (has (clause_at (lists cs) n) l ≡ true)) → AreDerived (reverse (cs ++ c ∷ []))
     → AreCoded origin same p rules registered count cs → AreCoded origin same p rules registered count (cs ++ c ∷ [])
 coded_learnt origin same p rules registered count cs c caused from derived coded =
     coded_grows origin origin count (λ n a b. refl) same p rules rules registered registered count cs (c ∷ []) coded.once (λ r h. h) (λ s h. h) in_range derived
     (λ d a. subst (IsAccounted origin same p rules) (sym (contains_one d c a)) (inl caused)) (λ r h. inl h)
     (λ n l s h m. (let (k, a) = from l (here n l h) in coded.positive k l s a m)) coded
   where
-    here : (n : ℕ) (l : Signed) → has (clause_at (c.literals.items ∷ []) n) l ≡ true → has c.literals.items l ≡ true
+    here : (n : ℕ) (l : Signed) → has (clause_at (c.literals ∷ []) n) l ≡ true → has c.literals l ≡ true
     here zero l h = h
     here (suc n) l h = absurd (both_ways false refl h)
 
     in_range : (n : ℕ) (l : Signed) → has (clause_at (lists (cs ++ c ∷ [])) n) l ≡ true → l.variable.0 < count
-    in_range n l h = elim (has_in_more (lists cs) (c.literals.items ∷ []) n l (subst (λ (xs : List (List Signed)). has (clause_at xs n) l ≡ true) (lists-append cs (c ∷ [])) h)) [
+    in_range n l h = elim (has_in_more (lists cs) (c.literals ∷ []) n l (subst (λ (xs : List (List Signed)). has (clause_at xs n) l ≡ true) (lists-append cs (c ∷ [])) h)) [
       | inl a ↦ coded.in_range n l a
       | inr (k, a) ↦ let (j, b) = from l (here k l a) in coded.in_range j l b
     ]
@@ -166,12 +166,12 @@ coded_begins origin same p registered (c ∷ d ∷ cs) h = absurd h
 coded_begins origin same p registered (c ∷ []) (is, none) = record {
   once = λ m n a b x y e. omega arith;
   in_range = λ n l h. (let z : l.variable.0 ≡ 0 = ap (λ (x : Signed). x.variable.0) (of_root n l h) in omega arith);
-  derived = ((λ some. let z : length c.causes.items ≡ 0 = ap length none in absurd (omega arith)), tt);
+  derived = ((λ some. let z : length c.causes ≡ 0 = ap length none in absurd (omega arith)), tt);
   accounted = λ d a. subst (IsAccounted origin same p (λ r. ⊥)) (sym (contains_one d c a)) (inr (inl (subst (λ (x : List Signed). has x (yes root_variable) ≡ true) (sym is) refl)));
   spelled = λ r f. absurd f;
   positive = λ n l s h m. (let z : l.variable.0 ≡ 0 = ap (λ (x : Signed). x.variable.0) (of_root n l h) in let other : 0 < l.variable.0 = m.0 in absurd (omega arith));
 }
   where
-    of_root : (n : ℕ) (l : Signed) → has (clause_at (c.literals.items ∷ []) n) l ≡ true → l ≡ yes root_variable
+    of_root : (n : ℕ) (l : Signed) → has (clause_at (c.literals ∷ []) n) l ≡ true → l ≡ yes root_variable
     of_root zero l h = elim (has-cons (yes root_variable) [] l (subst (λ (x : List Signed). has x l ≡ true) is h)) [ inl e ↦ sym e | inr f ↦ absurd (both_ways false refl f) ]
     of_root (suc n) l h = absurd (both_ways false refl h)

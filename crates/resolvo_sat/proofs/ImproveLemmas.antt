@@ -6,7 +6,7 @@ use Rattle.resolvo_pool_core.specs.declared.id.ClauseId.{ClauseId}
 use Rattle.resolvo_pool_core.specs.declared.id.VariableId.{VariableId}
 use Rattle.resolvo_store_core.specs.Signed.{Signed, negation, has}
 use Rattle.resolvo_store_core.specs.declared.decision.Entry.{Entry}
-use Rattle.resolvo_sat.specs.declared.clause.SatClause.{SatClause}
+use Rattle.resolvo_sat.specs.Clauses.{SatClause}
 use Rattle.resolvo_sat.specs.declared.state.SatState.{SatState}
 use Rattle.resolvo_sat.specs.declared.state.VariableKind.{VariableKind}
 use Rattle.resolvo_sat.specs.declared.analyze.Learnt.{Learnt}
@@ -69,8 +69,8 @@ learning_improves s m b w x id e learnt l =
       variables = l.variables ∙ e.same.variables;
       base_level = l.base_level ∙ e.same.base_level;
       number = l.number ∙ ap (λ (cs : List SatClause). length cs) e.same.clauses;
-      clause = record { literals = x.literals; causes = x.causes };
-      added = l.added ∙ ap (λ (cs : List SatClause). cs ++ record { literals = x.literals; causes = x.causes } ∷ []) e.same.clauses;
+      clause = record { literals = x.literals.items; causes = x.causes.items };
+      added = l.added ∙ ap (λ (cs : List SatClause). cs ++ record { literals = x.literals.items; causes = x.causes.items } ∷ []) e.same.clauses;
       derived = subst (λ (cs : List (List Signed)). IsDerived cs x.literals.items x.causes.items) (same_clauses s m e) learnt.derived;
       caused = learnt.caused;
       from = λ k h. let (n, present) = learnt.from k h in (n, subst (λ (cs : List (List Signed)). has (clause_at cs n) k ≡ true) (same_clauses s m e) present);

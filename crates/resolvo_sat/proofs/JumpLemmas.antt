@@ -4,7 +4,7 @@ use Rattle.resolvo_pool_core.specs.declared.id.ClauseId.{ClauseId}
 use Rattle.resolvo_store_core.specs.Signed.{Signed, negation, has}
 use Rattle.resolvo_store_core.specs.Trail.{Tracked, IsSeenOf}
 use Rattle.resolvo_store_core.specs.declared.decision.Entry.{Entry}
-use Rattle.resolvo_sat.specs.declared.clause.SatClause.{SatClause}
+use Rattle.resolvo_sat.specs.Clauses.{SatClause}
 use Rattle.resolvo_sat.specs.declared.state.SatState.{SatState}
 use Rattle.resolvo_sat.specs.declared.analyze.Learnt.{Learnt}
 use Rattle.resolvo_sat.specs.declared.watch_lists.WatchLists.{WatchLists}
@@ -40,21 +40,21 @@ learnt_forces s t x state learnt u =
       };
     }
 
-pub added_forces : (s t a : SatState) (v w : WatchLists) (x : Learnt) (c : SatClause) (id : ClauseId) → IsState s → IsLearnt s x → Undoes x.level s t → c ≡ record { literals = x.literals; causes = x.causes } → AddsPending c id t v a w
+pub added_forces : (s t a : SatState) (v w : WatchLists) (x : Learnt) (c : SatClause) (id : ClauseId) → IsState s → IsLearnt s x → Undoes x.level s t → c ≡ record { literals = x.literals.items; causes = x.causes.items } → AddsPending c id t v a w
     → Forces (made_true (history a)) (clause_at (clauses_of a) id.0) x.asserting
 added_forces s t a v w x c id state learnt u is addition =
     let forces : Forces (made_true (history t)) x.literals.items x.asserting = learnt_forces s t x state learnt u in
-    let added : clauses_of a ≡ clauses_of t ++ c.literals.items ∷ [] = ap lists addition.adds.added ∙ lists-append t.clauses (c ∷ []) in
+    let added : clauses_of a ≡ clauses_of t ++ c.literals ∷ [] = ap lists addition.adds.added ∙ lists-append t.clauses (c ∷ []) in
     let clause : clause_at (clauses_of a) id.0 ≡ x.literals.items =
     ap (λ (cs : List (List Signed)). clause_at cs id.0) added
-    ∙ ap (λ (n : ℕ). clause_at (clauses_of t ++ c.literals.items ∷ []) n) (addition.adds.number ∙ sym (length-lists t.clauses))
-    ∙ clause_at_end (clauses_of t) c.literals.items
-    ∙ ap (λ (h : SatClause). h.literals.items) is in
+    ∙ ap (λ (n : ℕ). clause_at (clauses_of t ++ c.literals ∷ []) n) (addition.adds.number ∙ sym (length-lists t.clauses))
+    ∙ clause_at_end (clauses_of t) c.literals
+    ∙ ap (λ (h : SatClause). h.literals) is in
     let entries : history a ≡ history t = ap (λ (k : Tracked). reverse k.trail) addition.adds.tracker in
     subst (λ (h : List Entry). Forces (made_true h) (clause_at (clauses_of a) id.0) x.asserting) (sym entries)
     (subst (λ (l : List Signed). Forces (made_true (history t)) l x.asserting) (sym clause) forces)
 
-pub learns : (s t a b : SatState) (v w : WatchLists) (x : Learnt) (c : SatClause) (id : ClauseId) → Undoes x.level s t → c ≡ record { literals = x.literals; causes = x.causes } → AddsPending c id t v a w → Sets id x.asserting a b → Learns x id s b w
+pub learns : (s t a b : SatState) (v w : WatchLists) (x : Learnt) (c : SatClause) (id : ClauseId) → Undoes x.level s t → c ≡ record { literals = x.literals.items; causes = x.causes.items } → AddsPending c id t v a w → Sets id x.asserting a b → Learns x id s b w
 learns s t a b v w x c id u is addition set =
     let entries : history a ≡ history t = ap (λ (k : Tracked). reverse k.trail) addition.adds.tracker in
     record {

@@ -7,6 +7,7 @@ pub mod MarkLemmas
 pub mod FlagLemmas
 pub mod WalkLemmas
 pub mod Clauses
+pub mod ArenaLemmas
 pub mod Values
 pub mod StepLemmas
 pub mod ExtendLemmas

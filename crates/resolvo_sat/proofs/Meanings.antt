@@ -11,7 +11,7 @@ use Rattle.resolvo_store_core.specs.Signed.{Signed, negation, has, same_literal}
 use Rattle.resolvo_store_core.specs.SignLaws.{same_literal-self}
 use Rattle.resolvo_store_core.specs.Clauses.{yes, no, root as root_variable}
 use Rattle.resolvo_store_core.specs.declared.decision.Entry.{Entry}
-use Rattle.resolvo_sat.specs.declared.clause.SatClause.{SatClause}
+use Rattle.resolvo_sat.specs.Clauses.{SatClause}
 use Rattle.resolvo_sat.specs.Known.{clause_at, holds, Satisfies, SatisfiesAll, IsForced as IsForcedBy}
 use Rattle.resolvo_sat.specs.Entries.{literal_of, reason_of, made_true, IsTrail, IsRooted}
 use Rattle.resolvo_sat.specs.Propagation.{IsQuiet}
@@ -36,7 +36,7 @@ pub reverse_contains : {X : Type 0} (x : X) (xs : List X) → Contains (reverse 
 reverse_contains x xs h = subst (λ zs. Contains zs x) (reverse-reverse xs) (contains_reverse x (reverse xs) h)
 
 -- the clause of a place is one that is held
-pub held_at : (cs : List SatClause) (n : ℕ) → n < length (lists cs) → (c : SatClause) × Contains cs c × (clause_at (lists cs) n ≡ c.literals.items)
+pub held_at : (cs : List SatClause) (n : ℕ) → n < length (lists cs) → (c : SatClause) × Contains cs c × (clause_at (lists cs) n ≡ c.literals)
 held_at [] n below = absurd (omega arith)
 held_at (c ∷ cs) zero below = (c, contains_first c c cs refl, refl)
 held_at (c ∷ cs) (suc n) below = let (d, a, e) = held_at cs n (omega arith) in (d, contains_later d c cs a, e)
@@ -53,7 +53,7 @@ named_true v earlier [] below all = tt
 named_true v earlier (c ∷ cs) below all = (all c.0 below.0, named_true v earlier cs below.1 all)
 
 -- a clause that follows from clauses that are true is true
-pub derived_true : (v : ℕ → Bool) (cs : List SatClause) (literals : List Signed) (causes : List ClauseId) → v 0 ≡ true → ((c : SatClause) → Contains cs c → Satisfies v c.literals.items) → IsDerived (lists cs) literals causes → Satisfies v literals
+pub derived_true : (v : ℕ → Bool) (cs : List SatClause) (literals : List Signed) (causes : List ClauseId) → v 0 ≡ true → ((c : SatClause) → Contains cs c → Satisfies v c.literals) → IsDerived (lists cs) literals causes → Satisfies v literals
 derived_true v cs literals causes rooted all d = refuted_holds v literals (named (lists cs) causes) rooted d.refuted (named_true v (lists cs) causes d.in_range (λ n below.
     let (c, a, e) = held_at cs n below in
     subst (Satisfies v) (sym e) (all c a)))
@@ -192,21 +192,21 @@ module _ {N S : Type 0} (origin : ℕ → Atom N S) where
   module _ (same : S → S → Bool) (p : Packages N S) (rules : Rule N S → Type 0) where
     -- clauses that are accounted for are true where the rules' clauses are
     pub accounted_true : (v : Atom N S → Bool) (cs : List SatClause) → ((r : Rule N S) → rules r → clause_true v (literals_of same p r) ≡ true)
-        → AreDerived cs → ((c : SatClause) → Contains cs c → IsAccounted origin same p rules c) → (c : SatClause) → Contains cs c → Satisfies (values_by origin v) c.literals.items
+        → AreDerived cs → ((c : SatClause) → Contains cs c → IsAccounted origin same p rules c) → (c : SatClause) → Contains cs c → Satisfies (values_by origin v) c.literals
     accounted_true v [] all d each c a = absurd (contains_none c a)
     accounted_true v (x ∷ older) all d each c a = go (contains_cases c x older a) (accounted_true v older all d.1 (λ y b. each y (contains_later y x older b)))
       where
-        own : ((y : SatClause) → Contains older y → Satisfies (values_by origin v) y.literals.items) → IsAccounted origin same p rules x → Satisfies (values_by origin v) x.literals.items
-        own ih (inl some) = derived_true (values_by origin v) (reverse older) x.literals.items x.causes.items refl (λ y b. ih y (reverse_contains y older b)) (d.0 some)
+        own : ((y : SatClause) → Contains older y → Satisfies (values_by origin v) y.literals) → IsAccounted origin same p rules x → Satisfies (values_by origin v) x.literals
+        own ih (inl some) = derived_true (values_by origin v) (reverse older) x.literals x.causes refl (λ y b. ih y (reverse_contains y older b)) (d.0 some)
         own ih (inr (inl here)) = (yes root_variable, here, refl)
-        own ih (inr (inr (r, present, spells))) = spelled_true v x.literals.items (literals_of same p r) spells (all r present)
+        own ih (inr (inr (r, present, spells))) = spelled_true v x.literals (literals_of same p r) spells (all r present)
 
-        go : (c ≡ x) ⊎ Contains older c → ((y : SatClause) → Contains older y → Satisfies (values_by origin v) y.literals.items) → Satisfies (values_by origin v) c.literals.items
-        go (inl e) ih = subst (λ (y : SatClause). Satisfies (values_by origin v) y.literals.items) (sym e) (own ih (each x (contains_first x x older refl)))
+        go : (c ≡ x) ⊎ Contains older c → ((y : SatClause) → Contains older y → Satisfies (values_by origin v) y.literals) → Satisfies (values_by origin v) c.literals
+        go (inl e) ih = subst (λ (y : SatClause). Satisfies (values_by origin v) y.literals) (sym e) (own ih (each x (contains_first x x older refl)))
         go (inr b) ih = ih c b
 
     module _ (registered : S → Type 0) (count : ℕ) (clauses : List SatClause) (coded : AreCoded origin same p rules registered count clauses) where
-      pub each_true : (v : Atom N S → Bool) → ((r : Rule N S) → rules r → clause_true v (literals_of same p r) ≡ true) → (c : SatClause) → Contains clauses c → Satisfies (values_by origin v) c.literals.items
+      pub each_true : (v : Atom N S → Bool) → ((r : Rule N S) → rules r → clause_true v (literals_of same p r) ≡ true) → (c : SatClause) → Contains clauses c → Satisfies (values_by origin v) c.literals
       each_true v all c a = accounted_true v (reverse clauses) all coded.derived (λ y b. coded.accounted y (reverse_contains y clauses b)) c (contains_reverse c clauses a)
 
       -- a clause that does not say that the root is true follows from the rules

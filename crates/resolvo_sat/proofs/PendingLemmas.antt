@@ -13,7 +13,7 @@ use Rattle.resolvo_store_core.specs.declared.watch_map.WatchMap.{WatchMap}
 use Rattle.resolvo_store_core.specs.declared.watched_literals.WatchedLiterals.{WatchedLiterals}
 use Rattle.resolvo_store_core.proofs.Watched.{pair_past, unwatched_well}
 use Rattle.resolvo_store_core.proofs.ClauseLists.{count-append, one_same}
-use Rattle.resolvo_sat.specs.declared.clause.SatClause.{SatClause}
+use Rattle.resolvo_sat.specs.Clauses.{SatClause}
 use Rattle.resolvo_sat.specs.declared.state.SatState.{SatState}
 use Rattle.resolvo_sat.specs.declared.watch_lists.WatchLists.{WatchLists}
 use Rattle.resolvo_sat.specs.declared.watch_lists.UnitClause.{UnitClause}
@@ -153,7 +153,7 @@ two_if : (literals : List Signed) (l : Signed) (is_long : Bool) → HasAnother l
 two_if literals l true h e = h
 two_if literals l false h e = absurd (both_ways false refl e)
 
-pub clause_pending : (c : SatClause) (id : ClauseId) (literal : Signed) (is_long is_rule : Bool) (s t : SatState) (v w : WatchLists) → IsReady s v → AreCovered s v → HasAnother c.literals.items literal is_long
+pub clause_pending : (c : SatClause) (id : ClauseId) (literal : Signed) (is_long is_rule : Bool) (s t : SatState) (v w : WatchLists) → IsReady s v → AreCovered s v → HasAnother c.literals literal is_long
     → Adds c id s t → Begins (record { clause = id; literal = literal }) is_long is_rule v w → AddsPending c id s v t w
 clause_pending c id literal is_long is_rule s t v w ready covers another adds begun = record {
   adds = adds;
@@ -179,14 +179,14 @@ clause_pending c id literal is_long is_rule s t v w ready covers another adds be
     assertions = subst (AreUnits (clauses_of t)) (sym begun.assertions) (units_with (clauses_of t) (not is_long && is_rule) x v.assertions.items (kept v.assertions.items covers.assertions) (only is_rule));
     learnt = subst (AreUnits (clauses_of t)) (sym begun.learnt) (units_with (clauses_of t) (not is_long && not is_rule) x v.learnt.items (kept v.learnt.items covers.learnt) (only (not is_rule)));
     covered = λ n below none. covered n below none (cases_number n (length v.watched.items));
-    first = subst (λ (l : List Signed). has l (yes root) ≡ true) (sym (ap (λ (cs : List (List Signed)). clause_at cs 0) added ∙ clause_at_kept (clauses_of s) (c.literals.items ∷ []) 0 (yes root) covers.first)) covers.first;
+    first = subst (λ (l : List Signed). has l (yes root) ≡ true) (sym (ap (λ (cs : List (List Signed)). clause_at cs 0) added ∙ clause_at_kept (clauses_of s) (c.literals ∷ []) 0 (yes root) covers.first)) covers.first;
   };
 }
   where
     x : UnitClause
     x = record { clause = id; literal = literal }
 
-    added : clauses_of t ≡ clauses_of s ++ c.literals.items ∷ []
+    added : clauses_of t ≡ clauses_of s ++ c.literals ∷ []
     added = ap lists adds.added ∙ lists-append s.clauses (c ∷ [])
 
     at_end : id.0 ≡ length v.watched.items
@@ -195,8 +195,8 @@ clause_pending c id literal is_long is_rule s t v w ready covers another adds be
     long : length t.clauses ≡ length s.clauses + 1
     long = ap length adds.added ∙ length-append s.clauses (c ∷ [])
 
-    last_clause : clause_at (clauses_of t) id.0 ≡ c.literals.items
-    last_clause = ap (λ (cs : List (List Signed)). clause_at cs id.0) added ∙ ap (clause_at (clauses_of s ++ c.literals.items ∷ [])) (adds.number ∙ sym (length-lists s.clauses)) ∙ clause_at_end (clauses_of s) c.literals.items
+    last_clause : clause_at (clauses_of t) id.0 ≡ c.literals
+    last_clause = ap (λ (cs : List (List Signed)). clause_at cs id.0) added ∙ ap (clause_at (clauses_of s ++ c.literals ∷ [])) (adds.number ∙ sym (length-lists s.clauses)) ∙ clause_at_end (clauses_of s) c.literals
 
     below_end : id.0 < length (clauses_of t)
     below_end =
@@ -206,13 +206,13 @@ clause_pending c id literal is_long is_rule s t v w ready covers another adds be
         omega arith
 
     only : (wanted : Bool) → (not is_long && wanted) ≡ true → (id.0 < length (clauses_of t)) × IsOnly (clause_at (clauses_of t) id.0) literal
-    only wanted e = (below_end, subst (λ (l : List Signed). IsOnly l literal) (sym last_clause) (only_if c.literals.items literal is_long wanted another e))
+    only wanted e = (below_end, subst (λ (l : List Signed). IsOnly l literal) (sym last_clause) (only_if c.literals literal is_long wanted another e))
 
     kept : (xs : List UnitClause) → AreUnits (clauses_of s) xs → AreUnits (clauses_of t) xs
-    kept xs a = subst (λ (cs : List (List Signed)). AreUnits cs xs) (sym added) (units_kept (clauses_of s) (c.literals.items ∷ []) xs a)
+    kept xs a = subst (λ (cs : List (List Signed)). AreUnits cs xs) (sym added) (units_kept (clauses_of s) (c.literals ∷ []) xs a)
 
     same_clause : (n : ℕ) (l : Signed) → has (clause_at (clauses_of s) n) l ≡ true → clause_at (clauses_of t) n ≡ clause_at (clauses_of s) n
-    same_clause n l h = ap (λ (cs : List (List Signed)). clause_at cs n) added ∙ clause_at_kept (clauses_of s) (c.literals.items ∷ []) n l h
+    same_clause n l h = ap (λ (cs : List (List Signed)). clause_at cs n) added ∙ clause_at_kept (clauses_of s) (c.literals ∷ []) n l h
 
     pair : (n : ℕ) → pair_at w.watched.items n ≡ pair_at v.watched.items n
     pair n = ap (λ (ps : List (Option WatchedLiterals)). pair_at ps n) begun.watched ∙ none_more v.watched.items n
@@ -229,7 +229,7 @@ clause_pending c id literal is_long is_rule s t v w ready covers another adds be
     two n (inl h) =
         let both : HasTwo (clause_at (clauses_of s) n) = ready.fits.two n h in
         subst HasTwo (sym (same_clause n both.0 both.2)) both
-    two n (inr (is, here)) = subst (λ (k : ℕ). HasTwo (clause_at (clauses_of t) k)) (sym here) (subst HasTwo (sym last_clause) (two_if c.literals.items literal is_long another is))
+    two n (inr (is, here)) = subst (λ (k : ℕ). HasTwo (clause_at (clauses_of t) k)) (sym here) (subst HasTwo (sym last_clause) (two_if c.literals literal is_long another is))
 
     fits : IsFit t w
     fits = record {

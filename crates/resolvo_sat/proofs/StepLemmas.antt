@@ -11,7 +11,7 @@ use Rattle.resolvo_store_core.specs.declared.decision_tracker.Set.{Set}
 use Rattle.resolvo_store_core.specs.AddPairs.{set_for, with_entry}
 use Rattle.resolvo_store_core.specs.Trail as Store
 use Rattle.resolvo_store_core.proofs.Trails as StoreTrails
-use Rattle.resolvo_sat.specs.declared.clause.SatClause.{SatClause}
+use Rattle.resolvo_sat.specs.Clauses.{SatClause}
 use Rattle.resolvo_sat.specs.declared.state.SatState.{SatState}
 use Rattle.resolvo_sat.specs.Known.{IsUndecided, Forces, clause_at}
 use Rattle.resolvo_sat.specs.Entries.{made_true, top_level, Follows, IsTrail, IsUndone, IsRooted}
@@ -129,7 +129,7 @@ state_undone s u level state one undoes same qhead =
 
 pub lists-append : (xs ys : List SatClause) → lists (xs ++ ys) ≡ lists xs ++ lists ys
 lists-append [] ys = refl
-lists-append (c ∷ xs) ys = ap (λ (l : List (List Signed)). c.literals.items ∷ l) (lists-append xs ys)
+lists-append (c ∷ xs) ys = ap (λ (l : List (List Signed)). c.literals ∷ l) (lists-append xs ys)
 
 has_in_push : (cs : List (List Signed)) (c : List Signed) (n : ℕ) (l : Signed) → has (clause_at (cs ++ c ∷ []) n) l ≡ true → (has (clause_at cs n) l ≡ true) ⊎ (has c l ≡ true)
 has_in_push [] c zero l h = inr h
@@ -141,18 +141,18 @@ pub clause_at_end : (cs : List (List Signed)) (c : List Signed) → clause_at (c
 clause_at_end [] c = refl
 clause_at_end (x ∷ xs) c = clause_at_end xs c
 
-pub clause_held : (s : SatState) (more : List SatClause) (c : SatClause) (id : ClauseId) → IsState s → (0 < length c.causes.items → IsDerived (clauses_of s) c.literals.items c.causes.items) → AreInRange (count_of s) c.literals.items
+pub clause_held : (s : SatState) (more : List SatClause) (c : SatClause) (id : ClauseId) → IsState s → (0 < length c.causes → IsDerived (clauses_of s) c.literals c.causes) → AreInRange (count_of s) c.literals
     → id.0 ≡ length s.clauses → more ≡ s.clauses ++ c ∷ [] → Adds c id s (record s { clauses = more })
 clause_held s more c id state follows in_range number pushed =
-    let added : lists more ≡ clauses_of s ++ c.literals.items ∷ [] = ap lists pushed ∙ lists-append s.clauses (c ∷ []) in
+    let added : lists more ≡ clauses_of s ++ c.literals ∷ [] = ap lists pushed ∙ lists-append s.clauses (c ∷ []) in
     let newest : reverse more ≡ c ∷ reverse s.clauses = ap reverse pushed ∙ reverse_push s.clauses c in
     let all : clauses_of s ≡ lists (reverse (reverse s.clauses)) = ap lists (sym (reverse-reverse s.clauses)) in
     record {
       state = record {
-        trail = subst (λ (cs : List (List Signed)). IsTrail (count_of s) cs (history s)) (sym added) (trail_more (count_of s) (count_of s) (clauses_of s) (c.literals.items ∷ []) (history s) (omega arith) state.trail);
-        derived = subst AreDerived (sym newest) ((λ some. subst (λ (cs : List (List Signed)). IsDerived cs c.literals.items c.causes.items) all (follows some)), state.derived);
+        trail = subst (λ (cs : List (List Signed)). IsTrail (count_of s) cs (history s)) (sym added) (trail_more (count_of s) (count_of s) (clauses_of s) (c.literals ∷ []) (history s) (omega arith) state.trail);
+        derived = subst AreDerived (sym newest) ((λ some. subst (λ (cs : List (List Signed)). IsDerived cs c.literals c.causes) all (follows some)), state.derived);
         in_range = λ n l h.
-            elim (has_in_push (clauses_of s) c.literals.items n l (subst (λ (cs : List (List Signed)). has (clause_at cs n) l ≡ true) added h)) [
+            elim (has_in_push (clauses_of s) c.literals n l (subst (λ (cs : List (List Signed)). has (clause_at cs n) l ≡ true) added h)) [
               | inl e ↦ state.in_range n l e
               | inr e ↦ in_range l e
             ];

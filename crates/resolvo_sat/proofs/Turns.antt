@@ -9,7 +9,7 @@ use Rattle.resolvo_pool_core.specs.RuleKeeping.{Packages, Rules, is_in, meets, I
 use Rattle.resolvo_store_core.specs.Signed.{Signed, has}
 use Rattle.resolvo_store_core.specs.Clauses.{yes, root as root_variable}
 use Rattle.resolvo_store_core.specs.declared.decision.Entry.{Entry}
-use Rattle.resolvo_sat.specs.declared.clause.SatClause.{SatClause}
+use Rattle.resolvo_sat.specs.Clauses.{SatClause}
 use Rattle.resolvo_sat.specs.Known.{clause_at}
 use Rattle.resolvo_sat.specs.Entries.{made_true, IsTrail, IsRooted}
 use Rattle.resolvo_sat.specs.State.{lists, IsDerived}

@@ -2,7 +2,7 @@
 use Rattle.std.specs.Prelude.{◌≡◌, ◌≤◌, ◌&&◌, Bool, true, false, not, [], ◌∷◌, ◌++◌, List, length, None}
 use Rattle.resolvo_pool_core.specs.declared.id.ClauseId.{ClauseId}
 use Rattle.resolvo_store_core.specs.Signed.{Signed}
-use Rattle.resolvo_sat.specs.declared.clause.SatClause.{SatClause}
+use Rattle.resolvo_sat.specs.Clauses.{SatClause}
 use Rattle.resolvo_sat.specs.declared.state.SatState.{SatState}
 use Rattle.resolvo_sat.specs.declared.watch_lists.WatchLists.{WatchLists}
 use Rattle.resolvo_sat.specs.declared.watch_lists.UnitClause.{UnitClause}
@@ -47,7 +47,7 @@ pub record Learns (x : Learnt) (id : ClauseId) (old new : SatState) (w : WatchLi
   pub variables : new.variables ≡ old.variables
   pub base_level : new.base_level ≡ old.base_level
   pub number : id.0 ≡ length old.clauses
-  pub added : new.clauses ≡ old.clauses ++ record { literals = x.literals; causes = x.causes } ∷ []
+  pub added : new.clauses ≡ old.clauses ++ record { literals = x.literals.items; causes = x.causes.items } ∷ []
   pub base : List Entry
   pub undone : IsUndone x.level (history old) base
   pub low : top_level base ≤ x.level

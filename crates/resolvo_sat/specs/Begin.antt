@@ -3,7 +3,7 @@ use Rattle.std.specs.Prelude.{◌≡◌, true, [], ◌∷◌, ◌++◌, List, le
 use Rattle.resolvo_pool_core.specs.declared.id.VariableId.{VariableId}
 use Rattle.resolvo_store_core.specs.Clauses.{yes, root}
 use Rattle.resolvo_store_core.specs.declared.decision.Entry.{Entry}
-use Rattle.resolvo_sat.specs.declared.clause.SatClause.{SatClause}
+use Rattle.resolvo_sat.specs.Clauses.{SatClause}
 use Rattle.resolvo_sat.specs.declared.state.SatState.{SatState}
 use Rattle.resolvo_sat.specs.declared.state.VariableKind.{VariableKind}
 use Rattle.resolvo_sat.specs.declared.state.VariableKind.TheVariants.{Root}
@@ -14,7 +14,7 @@ use Rattle.resolvo_sat.specs.Propagation.{IsReady, AreCovered}
 -- the one clause is the unit clause of the root, and follows from nothing
 abbrev pub IsRootClause : List SatClause → Type 0
 IsRootClause [] = ⊥
-IsRootClause (c ∷ []) = (c.literals.items ≡ yes root ∷ []) × (c.causes.items ≡ [])
+IsRootClause (c ∷ []) = (c.literals ≡ yes root ∷ []) × (c.causes ≡ [])
 IsRootClause (c ∷ d ∷ cs) = ⊥
 
 -- the trail's first entry

@@ -6,7 +6,7 @@ use Rattle.resolvo_pool_core.specs.RuleKeeping.{Packages, Rules, IsLawful, is_in
 use Rattle.resolvo_store_core.specs.Signed.{Signed, has}
 use Rattle.resolvo_store_core.specs.Clauses.{yes, no, root as root_variable}
 use Rattle.resolvo_store_core.specs.declared.decision.Entry.{Entry}
-use Rattle.resolvo_sat.specs.declared.clause.SatClause.{SatClause}
+use Rattle.resolvo_sat.specs.Clauses.{SatClause}
 use Rattle.resolvo_sat.specs.Known.{clause_at}
 use Rattle.resolvo_sat.specs.Entries.{literal_of, made_true, IsChoice, IsOnTrail, IsTrail, IsRooted}
 use Rattle.resolvo_sat.specs.Propagation.{IsQuiet}
@@ -57,7 +57,7 @@ module _ {N S : Type 0} (origin : ℕ → Atom N S) where
   module _ (same : S → S → Bool) (p : Packages N S) (rules : Rule N S → Type 0) where
     -- the clause has causes from which it follows, is the root's unit clause, or encodes a rule
     abbrev pub IsAccounted : SatClause → Type 0
-    IsAccounted c = (0 < length c.causes.items) ⊎ ((has c.literals.items (yes root_variable) ≡ true) ⊎ ((r : Rule N S) × rules r × Spells c.literals.items (literals_of same p r)))
+    IsAccounted c = (0 < length c.causes) ⊎ ((has c.literals (yes root_variable) ≡ true) ⊎ ((r : Rule N S) × rules r × Spells c.literals (literals_of same p r)))
 
     -- What holds of the first variables and of the clauses, whatever the trail is.
     pub record AreCoded (registered : S → Type 0) (count : ℕ) (clauses : List SatClause) : Type 0 where

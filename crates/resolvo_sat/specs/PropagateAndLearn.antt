@@ -1,7 +1,7 @@
 -- One step of the search.
 use Rattle.std.specs.Prelude.{◌≡◌, ℕ, ◌+◌, ◌*◌, ◌-◌, ◌^◌, ◌<◌, ◌≤◌, List, [], ◌∷◌, ◌++◌, length}
 use Rattle.resolvo_pool_core.specs.declared.id.ClauseId.{ClauseId}
-use Rattle.resolvo_sat.specs.declared.clause.SatClause.{SatClause}
+use Rattle.resolvo_sat.specs.Clauses.{SatClause}
 use Rattle.resolvo_sat.specs.declared.state.SatState.{SatState}
 use Rattle.resolvo_sat.specs.declared.watch_lists.WatchLists.{WatchLists}
 use Rattle.resolvo_sat.specs.declared.propagate_and_learn.StepResult.{StepResult}
@@ -37,10 +37,10 @@ pub record Improves (id : ClauseId) (old new : SatState) (w : WatchLists) : Type
   pub number : id.0 ≡ length old.clauses
   pub clause : SatClause
   pub added : new.clauses ≡ old.clauses ++ clause ∷ []
-  pub derived : IsDerived (clauses_of old) clause.literals.items clause.causes.items
-  pub caused : 0 < length clause.causes.items
-  pub from : AreFromClauses old clause.literals.items
-  pub apart : AreApart clause.literals.items
+  pub derived : IsDerived (clauses_of old) clause.literals clause.causes
+  pub caused : 0 < length clause.causes
+  pub from : AreFromClauses old clause.literals
+  pub apart : AreApart clause.literals
   pub heavier : weight (count_of old) (history old) < weight (count_of old) (history new)
   pub choices : KeepsChoices (history old) (history new)
   pub earlier : KeepsUpTo old.base_level old new

@@ -5,7 +5,7 @@ use Rattle.resolvo_pool_core.specs.declared.id.ClauseId.{ClauseId}
 use Rattle.resolvo_store_core.specs.Signed.{Signed, negation, has}
 use Rattle.resolvo_store_core.specs.Clauses.{no, root}
 use Rattle.resolvo_store_core.specs.declared.decision.Entry.{Entry}
-use Rattle.resolvo_sat.specs.declared.clause.SatClause.{SatClause}
+use Rattle.resolvo_sat.specs.Clauses.{SatClause}
 use Rattle.resolvo_sat.specs.declared.state.SatState.{SatState}
 use Rattle.resolvo_sat.specs.Known.{clause_at}
 use Rattle.resolvo_sat.specs.Entries.{IsTrail, IsRooted}
@@ -21,7 +21,7 @@ history s = reverse s.tracker.trail
 
 -- the literals of each clause
 abbrev pub lists : List SatClause → List (List Signed)
-lists cs = map (λ c. c.literals.items) cs
+lists cs = map (λ c. c.literals) cs
 
 abbrev pub clauses_of : SatState → List (List Signed)
 clauses_of s = lists s.clauses
@@ -46,7 +46,7 @@ AreApart literals = (l : Signed) → has (no root ∷ literals) l ≡ true → h
 -- each clause with causes, newest first, follows from them, and they precede it
 abbrev pub AreDerived : List SatClause → Type 0
 AreDerived [] = Unit {0}
-AreDerived (c ∷ older) = (0 < length c.causes.items → IsDerived (lists (reverse older)) c.literals.items c.causes.items) × AreDerived older
+AreDerived (c ∷ older) = (0 < length c.causes → IsDerived (lists (reverse older)) c.literals c.causes) × AreDerived older
 
 -- the invariant of the search's state between its steps
 pub record IsState (s : SatState) : Type 0 where

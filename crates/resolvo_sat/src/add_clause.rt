@@ -2,12 +2,12 @@
 ghost use Rattle.std.specs.Prelude.{◌≡◌, ◌<◌, length, true, not, IfOk, IsErrOf, IsOkUnless};
 ghost use Rattle.resolvo_pool_core.specs.declared.want.Want.TheVariants.{Memory, Ids};
 ghost use Rattle.resolvo_store_core.specs.Signed.{has};
+ghost use Rattle.resolvo_sat.specs.Clauses.{sat_clause};
 ghost use Rattle.resolvo_sat.specs.State.{IsState, IsDerived, clauses_of, count_of};
 ghost use Rattle.resolvo_sat.specs.Steps.{AreInRange};
 ghost use Rattle.resolvo_sat.specs.Propagation.{IsReady, AreCovered};
 ghost use Rattle.resolvo_sat.specs.AddClause.{HasAnother, with_last, Begins, AddsPending};
 
-use crate::clause::SatClause;
 use crate::state::SatState;
 use crate::watch_lists::{UnitClause, WatchLists};
 use resolvo_pool_core::id::ClauseId;
@@ -19,24 +19,31 @@ impl SatState {
     /// Adds a clause: a rule, or one that follows from its antecedents. It is pending until
     /// propagation lets it watch two of its literals. A unit clause is listed as such, and watches
     /// nothing.
-    pub fn add_clause(&mut self, watching: &mut WatchLists, clause: SatClause) -> R<ClauseId>
+    pub fn add_clause(
+        &mut self,
+        watching: &mut WatchLists,
+        literals: &[Literal],
+        causes: &[ClauseId],
+    ) -> R<ClauseId>
         requires ready { IsReady self.old watching.old }
         requires covered { AreCovered self.old watching.old }
-        requires follows { 0 < length clause.causes.items
-            → IsDerived (clauses_of self.old) clause.literals.items clause.causes.items }
-        requires in_range { AreInRange (count_of self.old) clause.literals.items }
-        requires some { 0 < length clause.literals.items }
+        requires follows { 0 < length causes.now
+            → IsDerived (clauses_of self.old) literals.now causes.now }
+        requires in_range { AreInRange (count_of self.old) literals.now }
+        requires some { 0 < length literals.now }
         // After an answer.
-        ensures added { IfOk result (λ id. AddsPending clause id self.old watching.old self.new watching.new) }
+        ensures added { IfOk result
+            (λ id. AddsPending (sat_clause literals.now causes.now) id self.old watching.old self.new
+            watching.new) }
         // After a refusal.
         ensures ids { IsErrOf result Ids → length self.old.clauses ≡ 4294967295 }
         ensures full { IsErrOf result Ids → length self.new.clauses ≡ 4294967295 }
     {
-        let literal = clause.literals[0];
-        let is_long = has_another(clause.literals.as_slice(), literal);
-        let is_rule = clause.causes.is_empty();
-        let start = self.first_watches(clause.literals.as_slice(), is_rule);
-        let clause = self.push_clause(clause)?;
+        let literal = literals[0];
+        let is_long = has_another(literals, literal);
+        let is_rule = causes.is_empty();
+        let start = self.first_watches(literals, is_rule);
+        let clause = self.push_clause(literals, causes)?;
         watching.begin(UnitClause { clause, literal }, start, is_long, is_rule)?;
         Ok(clause)
     }

@@ -5,10 +5,10 @@ ghost use Rattle.resolvo_store_core.specs.Signed.{negation, has};
 ghost use Rattle.resolvo_store_core.specs.Clauses.{yes};
 ghost use Rattle.resolvo_sat.specs.Known.{Forces, IsUndecided, clause_at};
 ghost use Rattle.resolvo_sat.specs.Entries.{made_true};
+ghost use Rattle.resolvo_sat.specs.Clauses.{sat_clause};
 ghost use Rattle.resolvo_sat.specs.State.{IsState, IsDerived, history, clauses_of, count_of};
 ghost use Rattle.resolvo_sat.specs.Steps.{AreInRange, Sets, Chooses, Undoes, Adds};
 
-use crate::clause::SatClause;
 use crate::state::SatState;
 use resolvo_pool_core::id::{ClauseId, VariableId};
 use resolvo_pool_core::want::R;
@@ -86,19 +86,20 @@ impl SatState {
     }
 
     /// Adds a clause: a rule, or one that follows from its antecedents.
-    pub fn push_clause(&mut self, clause: SatClause) -> R<ClauseId>
+    pub fn push_clause(&mut self, literals: &[Literal], causes: &[ClauseId]) -> R<ClauseId>
         requires state { IsState self.old }
-        requires follows { 0 < length clause.causes.items
-            → IsDerived (clauses_of self.old) clause.literals.items clause.causes.items }
-        requires in_range { AreInRange (count_of self.old) clause.literals.items }
+        requires follows { 0 < length causes.now
+            → IsDerived (clauses_of self.old) literals.now causes.now }
+        requires in_range { AreInRange (count_of self.old) literals.now }
         // After an answer.
-        ensures added { IfOk result (λ id. Adds clause id self.old self.new) }
+        ensures added { IfOk result
+            (λ id. Adds (sat_clause literals.now causes.now) id self.old self.new) }
         // After a refusal.
         ensures ids { IsErrOf result Ids → length self.old.clauses ≡ 4294967295 }
         ensures full { IsErrOf result Ids → length self.new.clauses ≡ 4294967295 }
     {
         // split for the prover: error and answer
-        let id = self.clauses.alloc(clause)?;
+        let id = self.clauses.push(literals, causes)?;
         Ok(id)
     }
 }

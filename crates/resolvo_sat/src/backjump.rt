@@ -7,7 +7,6 @@ ghost use Rattle.resolvo_sat.specs.Propagation.{IsReady, AreCovered};
 ghost use Rattle.resolvo_sat.specs.AddClause.{Learns};
 
 use crate::analyze::Learnt;
-use crate::clause::SatClause;
 use crate::state::SatState;
 use crate::watch_lists::WatchLists;
 use resolvo_pool_core::id::ClauseId;
@@ -26,15 +25,13 @@ impl SatState {
         ensures ids { IsErrOf result Ids → length self.old.clauses ≡ 4294967295 }
         ensures full { IsErrOf result Ids → length self.new.clauses ≡ 4294967295 }
     {
-        let Learnt {
-            literals,
-            causes,
-            asserting,
-            level,
-        } = learnt;
-        self.undo_until(level);
-        let clause = self.add_clause(watching, SatClause { literals, causes })?;
-        self.assign(clause, asserting)?;
+        self.undo_until(learnt.level);
+        let clause = self.add_clause(
+            watching,
+            learnt.literals.as_slice(),
+            learnt.causes.as_slice(),
+        )?;
+        self.assign(clause, learnt.asserting)?;
         Ok(clause)
     }
 }

@@ -1,15 +1,16 @@
 //! The initial state of the search: the root is true, and there is no other variable.
 ghost use Rattle.std.specs.Prelude.{◌≡◌, ◌∷◌, [], length, IfOk, IsErrOf, IsOkUnless};
 ghost use Rattle.resolvo_pool_core.specs.declared.want.Want.TheVariants.{Memory, Ids};
+ghost use Rattle.resolvo_store_core.specs.Clauses.{yes, root};
+ghost use Rattle.resolvo_sat.specs.Clauses.{sat_clause};
 ghost use Rattle.resolvo_sat.specs.State.{IsState, count_of, history};
 ghost use Rattle.resolvo_sat.specs.Propagation.{IsReady, AreCovered};
-ghost use Rattle.resolvo_sat.specs.Begin.{Begun, AddsVariable, IsRootClause};
+ghost use Rattle.resolvo_sat.specs.Begin.{Begun, AddsVariable};
 
-use crate::clause::SatClause;
+use crate::clause_arena::ClauseArena;
 use crate::marks::Marks;
 use crate::state::{SatState, VariableKind};
 use crate::watch_lists::WatchLists;
-use resolvo_pool_core::arena::Arena;
 use resolvo_pool_core::id::{ClauseId, VariableId};
 use resolvo_pool_core::want::{R, Want};
 use resolvo_store_core::decision::Decision;
@@ -62,17 +63,12 @@ pub fn begin(alloc: Global) -> R<(SatState, WatchLists)>
 }
 
 /// The clauses at the start: the one that asserts the root, alone.
-fn root_clause(alloc: Global) -> R<Arena<ClauseId, SatClause>>
-    ensures clause { IfOk result IsRootClause }
+fn root_clause(alloc: Global) -> R<ClauseArena>
+    ensures clause { IfOk result (λ c. c ≡ sat_clause (yes root ∷ []) [] ∷ []) }
     ensures refusal { IsOkUnless result Memory }
 {
-    let mut literals = Vec::new(alloc);
-    literals.push(Literal::new(VariableId(0), false))?;
-    let mut clauses = Arena::new(alloc);
-    clauses.alloc(SatClause {
-        literals,
-        causes: Vec::new(alloc),
-    })?;
+    let mut clauses = ClauseArena::new(alloc);
+    clauses.push(&[Literal::new(VariableId(0), false)], &[])?;
     Ok(clauses)
 }
 

@@ -10,7 +10,7 @@ pub mod assign;
 pub mod attach;
 pub mod backjump;
 pub mod begin;
-pub mod clause;
+pub mod clause_arena;
 pub mod guard;
 pub mod marks;
 pub mod propagate;

@@ -6,8 +6,7 @@ ghost use Rattle.resolvo_sat.specs.State.{IsState, history, clauses_of};
 ghost use Rattle.resolvo_sat.specs.Known.{clause_at};
 ghost use Rattle.resolvo_sat.specs.Analysis.{IsSolvable};
 
-use crate::clause::SatClause;
-use resolvo_pool_core::arena::Arena;
+use crate::clause_arena::ClauseArena;
 use resolvo_pool_core::id::{ClauseId, DenseIndex, VariableId};
 use resolvo_store_core::decision::Entry;
 use resolvo_store_core::decision_tracker::DecisionTracker;
@@ -29,7 +28,7 @@ pub enum VariableKind {
 /// watched literal false, its true guard is at its level or below, or else not above `guard_level`.
 pub struct SatState {
     pub variables: Vec<VariableKind>,
-    pub clauses: Arena<ClauseId, SatClause>,
+    pub clauses: ClauseArena,
     pub tracker: DecisionTracker,
     pub base_level: u32,
     pub qhead: usize,
@@ -79,7 +78,7 @@ impl SatState {
         requires { clause.0 < length self.now.clauses }
         ensures { result.now ≡ clause_at (clauses_of self.now) clause.0 }
     {
-        self.clauses[clause].literals.as_slice()
+        self.clauses.literals(clause.to_index())
     }
 
     /// Whether a variable represents a solvable.

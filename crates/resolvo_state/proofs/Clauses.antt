@@ -6,7 +6,7 @@ use Rattle.std.proofs.lemmas.Bool.{both_ways}
 use Rattle.std.proofs.lemmas.Option.{slice_get_within}
 use Rattle.resolvo_pool_core.specs.declared.id.ClauseId.{ClauseId}
 use Rattle.resolvo_store_core.specs.Signed.{Signed, negation, has}
-use Rattle.resolvo_sat.specs.declared.clause.SatClause.{SatClause}
+use Rattle.resolvo_sat.specs.Clauses.{SatClause}
 use Rattle.resolvo_sat.specs.declared.state.VariableKind.{VariableKind}
 use Rattle.resolvo_sat.specs.declared.state.VariableKind.TheVariants as Kinds
 use Rattle.resolvo_sat.specs.declared.propagate_and_learn.StepResult.{StepResult}
@@ -44,7 +44,7 @@ has_before old more m l h =
 -- its negation, and none but those of the others.
 pub one_more : {N S : Type 0} (old new : SolverState N S) (x : ClauseKind N S) (clause : SatClause) → IsCoding old → IsReady new.search new.watching → AreCovered new.search new.watching
     → new.atoms ≡ old.atoms → new.search.variables ≡ old.search.variables → new.search.clauses ≡ old.search.clauses ++ clause ∷ [] → new.kinds.items ≡ old.kinds.items ++ x ∷ []
-    → (x ≡ Root → ⊥) → (x ≡ Learnt → 0 < length clause.causes.items) → (x ≡ Learnt → AreApart clause.literals.items) → (x ≡ Learnt → AreFromClauses old.search clause.literals.items) → IsCoding new
+    → (x ≡ Root → ⊥) → (x ≡ Learnt → 0 < length clause.causes) → (x ≡ Learnt → AreApart clause.literals) → (x ≡ Learnt → AreFromClauses old.search clause.literals) → IsCoding new
 one_more {N} {S} old new x clause coding ready covered atoms variables clauses kinds unrooted caused apart from = record {
   ready = ready;
   covered = covered;
@@ -55,12 +55,12 @@ one_more {N} {S} old new x clause coding ready covered atoms variables clauses k
       let c : length old.kinds.items ≡ length old.search.clauses = coding.each in
       omega arith;
   distinct = subst (λ (a : HashSet (ProofAtom N S) (BuildHasherDefault FoldHasher)). AreOnce a.keys) (sym atoms) coding.distinct;
-  learnt = λ n held h is. elim (old_or_this n held h is) [ inl (a, at) ↦ coding.learnt n held a at | inr (e, one, place) ↦ subst (λ (d : SatClause). 0 < length d.causes.items) one (caused e) ];
-  apart = λ n held h is. elim (old_or_this n held h is) [ inl (a, at) ↦ coding.apart n held a at | inr (e, one, place) ↦ subst (λ (d : SatClause). AreApart d.literals.items) one (apart e) ];
+  learnt = λ n held h is. elim (old_or_this n held h is) [ inl (a, at) ↦ coding.learnt n held a at | inr (e, one, place) ↦ subst (λ (d : SatClause). 0 < length d.causes) one (caused e) ];
+  apart = λ n held h is. elim (old_or_this n held h is) [ inl (a, at) ↦ coding.apart n held a at | inr (e, one, place) ↦ subst (λ (d : SatClause). AreApart d.literals) one (apart e) ];
   drawn = λ n held h is l a. elim (old_or_this n held h is) [
     | inl (b, at) ↦ let (m, before, there) = coding.drawn n held b at l a in (m, before, stays m l there)
     | inr (e, one, place) ↦
-        let (m, there) = from e l (subst (λ (d : SatClause). has d.literals.items l ≡ true) (sym one) a) in
+        let (m, there) = from e l (subst (λ (d : SatClause). has d.literals l ≡ true) (sym one) a) in
         let within : m < length (lists old.search.clauses) = clause_in_range (lists old.search.clauses) m l there in
         let long : length (lists old.search.clauses) ≡ length old.search.clauses = length-lists old.search.clauses in
         (m, omega arith, stays m l there)
@@ -104,7 +104,7 @@ one_more {N} {S} old new x clause coding ready covered atoms variables clauses k
     ]
 
 pub adds_rule_is : {N S : Type 0} (old new : SolverState N S) (x : ClauseKind N S) (clause : SatClause) (id : ClauseId) → IsCoding old → IsSome (rule_of x) → AddsPending clause id old.search old.watching new.search new.watching
-    → clause.causes.items ≡ [] → new.atoms ≡ old.atoms → new.kinds.items ≡ old.kinds.items ++ x ∷ [] → AddsRule x clause.literals.items id old new
+    → clause.causes ≡ [] → new.atoms ≡ old.atoms → new.kinds.items ≡ old.kinds.items ++ x ∷ [] → AddsRule x clause.literals id old new
 adds_rule_is {N} {S} old new x clause id coding rule addition plain atoms kinds = record {
   coding = one_more old new x clause coding addition.ready addition.covered atoms addition.adds.variables addition.adds.added kinds (unrooted x rule) (λ e. absurd (unlearnt x rule e)) (λ e. absurd (unlearnt x rule e)) (λ e. absurd (unlearnt x rule e));
   atoms = atoms;
@@ -146,10 +146,10 @@ negative_apart literals negative l a b = both_ways (not l.positive) (falls (nega
     falls k h = elim (has-cons (no root_variable) literals k h) [ inl e ↦ ap (λ (x : Signed). x.positive) (sym e) | inr e ↦ negative k e ]
 
 -- a clause of negative literals alone was added
-pub denial_is : {N S : Type 0} (old new : SolverState N S) (clause : SatClause) (id : ClauseId) → IsCoding old → IsDenial old.search clause.literals.items clause.causes.items → AddsPending clause id old.search old.watching new.search new.watching
-    → new.atoms ≡ old.atoms → new.kinds.items ≡ old.kinds.items ++ Learnt ∷ [] → AddsDenial clause.literals.items clause.causes.items id old new
+pub denial_is : {N S : Type 0} (old new : SolverState N S) (clause : SatClause) (id : ClauseId) → IsCoding old → IsDenial old.search clause.literals clause.causes → AddsPending clause id old.search old.watching new.search new.watching
+    → new.atoms ≡ old.atoms → new.kinds.items ≡ old.kinds.items ++ Learnt ∷ [] → AddsDenial clause.literals clause.causes id old new
 denial_is {N} {S} old new clause id coding forbid addition atoms kinds = record {
-  coding = one_more old new Learnt clause coding addition.ready addition.covered atoms addition.adds.variables addition.adds.added kinds (λ e. absurd cc) (λ e. forbid.caused) (λ e. negative_apart clause.literals.items forbid.negative) (λ e. forbid.from);
+  coding = one_more old new Learnt clause coding addition.ready addition.covered atoms addition.adds.variables addition.adds.added kinds (λ e. absurd cc) (λ e. forbid.caused) (λ e. negative_apart clause.literals forbid.negative) (λ e. forbid.from);
   atoms = atoms;
   variables = addition.adds.variables;
   clause = clause;

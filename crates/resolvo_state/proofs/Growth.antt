@@ -11,7 +11,7 @@ use Rattle.resolvo_store_core.specs.Trail.{Tracked}
 use Rattle.resolvo_store_core.specs.Signed.{Signed, has}
 use Rattle.resolvo_store_core.specs.Clauses.{yes, root as root_variable}
 use Rattle.resolvo_store_core.specs.declared.decision.Entry.{Entry}
-use Rattle.resolvo_sat.specs.declared.clause.SatClause.{SatClause}
+use Rattle.resolvo_sat.specs.Clauses.{SatClause}
 use Rattle.resolvo_sat.specs.declared.propagate_and_learn.StepResult.{StepResult}
 use Rattle.resolvo_sat.specs.Known.{clause_at}
 use Rattle.resolvo_sat.specs.Entries.{literal_of}
@@ -221,7 +221,7 @@ coding_coded {N} {S} same p registered c coding spelled positive = record {
       | inr e ↦ inl (coding.learnt n clause (kind_is ∙ ap Some e) at)
       | inl e ↦
           let z : n ≡ 0 = coding.rooted n (kind_is ∙ ap Some e) in
-          let here : clause_at (clauses_of c.search) 0 ≡ clause.literals.items = literals_at c.search.clauses 0 clause (subst (λ k. slice_get c.search.clauses k ≡ Some clause) z at) in
+          let here : clause_at (clauses_of c.search) 0 ≡ clause.literals = literals_at c.search.clauses 0 clause (subst (λ k. slice_get c.search.clauses k ≡ Some clause) z at) in
           inr (inl (subst (λ (literals : List Signed). has literals (yes root_variable) ≡ true) here coding.covered.first))
     ]
 

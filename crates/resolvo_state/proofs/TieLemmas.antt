@@ -9,7 +9,7 @@ use Rattle.resolvo_pool_core.specs.declared.id.VariableId.{VariableId}
 use Rattle.resolvo_store_core.specs.Signed.{Signed}
 use Rattle.resolvo_store_core.specs.AtMostOne.{digit}
 use Rattle.resolvo_store_core.specs.Clauses.{no}
-use Rattle.resolvo_sat.specs.declared.clause.SatClause.{SatClause}
+use Rattle.resolvo_sat.specs.Clauses.{SatClause}
 use Rattle.resolvo_sat.specs.Known.{clause_at}
 use Rattle.resolvo_sat.specs.State.{lists, clauses_of}
 use Rattle.resolvo_sat.proofs.Literals.{not_not}
@@ -36,11 +36,9 @@ Tie = VariableId × VariableId × Bool
 abbrev pub tie_literals : VariableId → VariableId → Bool → List Signed
 tie_literals v w b = no v ∷ (let l : Signed = record { variable = w; positive = b } in l) ∷ []
 
-pub two_literals : (xs ys zs : List Signed) (a l : Signed) (v w : VariableId) (b : Bool) → xs ≡ [] → ys ≡ xs ++ a ∷ [] → zs ≡ ys ++ l ∷ [] → a ≡ no v → l ≡ record { variable = w; positive = not (not b) } → zs ≡ tie_literals v w b
-two_literals xs ys zs a l v w b none first second is other =
-    second
-    ∙ ap (λ (us : List Signed). us ++ l ∷ []) (first ∙ ap (λ (us : List Signed). us ++ a ∷ []) none)
-    ∙ ap (λ (x : Signed). x ∷ l ∷ []) is
+pub two_literals : (a l : Signed) (v w : VariableId) (b : Bool) → a ≡ no v → l ≡ record { variable = w; positive = not (not b) } → a ∷ l ∷ [] ≡ tie_literals v w b
+two_literals a l v w b is other =
+    ap (λ (x : Signed). x ∷ l ∷ []) is
     ∙ ap (λ (x : Signed). no v ∷ x ∷ []) (other ∙ ap (λ c. let m : Signed = record { variable = w; positive = c } in m) (not_not b))
 
 -- the clause of a tie was added
@@ -85,8 +83,8 @@ tie_added {N} {S} name place tie old new s bit id literals coding is solvable kn
     clause =
         ap (λ (cs : List SatClause). clause_at (lists cs) (length old.search.clauses)) added_rule.added
         ∙ ap (λ (ls : List (List Signed)). clause_at ls (length old.search.clauses)) (lists-append old.search.clauses (added_rule.clause ∷ []))
-        ∙ ap (λ k. clause_at (lists old.search.clauses ++ added_rule.clause.literals.items ∷ []) k) (sym (length-lists old.search.clauses))
-        ∙ clause_at_end (lists old.search.clauses) added_rule.clause.literals.items
+        ∙ ap (λ k. clause_at (lists old.search.clauses ++ added_rule.clause.literals ∷ []) k) (sym (length-lists old.search.clauses))
+        ∙ clause_at_end (lists old.search.clauses) added_rule.clause.literals
         ∙ added_rule.literals ∙ spelled
 
 -- a tie stays one

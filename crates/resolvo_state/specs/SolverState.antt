@@ -4,7 +4,7 @@ use Rattle.resolvo_pool_core.specs.declared.id.ClauseId.{ClauseId}
 use Rattle.resolvo_pool_core.specs.declared.id.VariableId.{VariableId}
 use Rattle.resolvo_store_core.specs.Signed.{Signed, has}
 use Rattle.resolvo_store_core.specs.AtMostOne.{IsPrefixOf}
-use Rattle.resolvo_sat.specs.declared.clause.SatClause.{SatClause}
+use Rattle.resolvo_sat.specs.Clauses.{SatClause}
 use Rattle.resolvo_sat.specs.declared.state.SatState.{SatState}
 use Rattle.resolvo_sat.specs.declared.state.VariableKind.TheVariants as Kinds
 use Rattle.resolvo_sat.specs.declared.propagate_and_learn.StepResult.{StepResult}
@@ -30,9 +30,9 @@ pub record IsCoding {N S : Type 0} (c : SolverState N S) : Type 0 where
   pub variable_kinds : c.search.variables.items ≡ Kinds.Root ∷ map kind_of c.atoms.keys
   pub each : length c.kinds.items ≡ length c.search.clauses
   pub distinct : AreOnce c.atoms.keys
-  pub learnt : (n : ℕ) (clause : SatClause) → kind_at c.kinds.items n ≡ Some Learnt → slice_get c.search.clauses n ≡ Some clause → 0 < length clause.causes.items
-  pub apart : (n : ℕ) (clause : SatClause) → kind_at c.kinds.items n ≡ Some Learnt → slice_get c.search.clauses n ≡ Some clause → AreApart clause.literals.items
-  pub drawn : (n : ℕ) (clause : SatClause) → kind_at c.kinds.items n ≡ Some Learnt → slice_get c.search.clauses n ≡ Some clause → (l : Signed) → has clause.literals.items l ≡ true → (m : ℕ) × (m < n) × (has (clause_at (clauses_of c.search) m) l ≡ true)
+  pub learnt : (n : ℕ) (clause : SatClause) → kind_at c.kinds.items n ≡ Some Learnt → slice_get c.search.clauses n ≡ Some clause → 0 < length clause.causes
+  pub apart : (n : ℕ) (clause : SatClause) → kind_at c.kinds.items n ≡ Some Learnt → slice_get c.search.clauses n ≡ Some clause → AreApart clause.literals
+  pub drawn : (n : ℕ) (clause : SatClause) → kind_at c.kinds.items n ≡ Some Learnt → slice_get c.search.clauses n ≡ Some clause → (l : Signed) → has clause.literals l ≡ true → (m : ℕ) × (m < n) × (has (clause_at (clauses_of c.search) m) l ≡ true)
   pub first : kind_at c.kinds.items 0 ≡ Some Root
   pub rooted : (n : ℕ) → kind_at c.kinds.items n ≡ Some Root → n ≡ 0
   pub alone : (l : Signed) → has (clause_at (clauses_of c.search) 0) l ≡ true → l.variable.0 ≡ 0
@@ -78,8 +78,8 @@ pub record AddsRule {N S : Type 0} (x : ClauseKind N S) (spelled : List Signed) 
   pub coding : IsCoding new
   pub atoms : new.atoms ≡ old.atoms
   pub clause : SatClause
-  pub literals : clause.literals.items ≡ spelled
-  pub plain : clause.causes.items ≡ []
+  pub literals : clause.literals ≡ spelled
+  pub plain : clause.causes ≡ []
   pub number : id.0 ≡ length old.search.clauses
   pub added : new.search.clauses ≡ old.search.clauses ++ clause ∷ []
   pub kinds : new.kinds.items ≡ old.kinds.items ++ x ∷ []
@@ -92,8 +92,8 @@ pub record AddsDenial {N S : Type 0} (denies : List Signed) (by : List ClauseId)
   pub atoms : new.atoms ≡ old.atoms
   pub variables : new.search.variables ≡ old.search.variables
   pub clause : SatClause
-  pub literals : clause.literals.items ≡ denies
-  pub causes : clause.causes.items ≡ by
+  pub literals : clause.literals ≡ denies
+  pub causes : clause.causes ≡ by
   pub number : id.0 ≡ length old.search.clauses
   pub added : new.search.clauses ≡ old.search.clauses ++ clause ∷ []
   pub kinds : new.kinds.items ≡ old.kinds.items ++ Learnt ∷ []

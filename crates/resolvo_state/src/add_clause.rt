@@ -12,28 +12,24 @@ use crate::solver_state::SolverState;
 use resolvo_pool_core::id::{ClauseId, Exact};
 use resolvo_pool_core::want::R;
 use resolvo_sat::analyze::FinalConflict;
-use resolvo_sat::clause::SatClause;
 use resolvo_store_core::literal::Literal;
 use std::fmt::Debug;
 use std::hash::Hash;
 
 impl<N: Copy + Exact + Hash + Debug, S: Copy + Exact + Hash + Debug> SolverState<N, S> {
     /// Adds a clause that encodes a rule.
-    pub fn add_clause(&mut self, kind: ClauseKind<N, S>, literals: Vec<Literal>) -> R<ClauseId>
+    pub fn add_clause(&mut self, kind: ClauseKind<N, S>, literals: &[Literal]) -> R<ClauseId>
         requires coding { IsCoding self.old }
         requires rule { IsSome (rule_of kind) }
-        requires some { 0 < length literals.items }
-        requires in_range { AreInRange (count_of self.old.search) literals.items }
+        requires some { 0 < length literals.now }
+        requires in_range { AreInRange (count_of self.old.search) literals.now }
         // After an answer.
-        ensures added_rule { IfOk result (λ id. AddsRule kind literals.items id self.old self.new) }
+        ensures added_rule { IfOk result (λ id. AddsRule kind literals.now id self.old self.new) }
         // After a refusal.
         ensures ids { IsErrOf result Ids → length self.old.search.clauses ≡ 4294967295 }
         ensures full { IsErrOf result Ids → LacksNumber self.new }
     {
-        let causes = Vec::new(*literals.allocator());
-        let clause = self
-            .search
-            .add_clause(&mut self.watching, SatClause { literals, causes })?;
+        let clause = self.search.add_clause(&mut self.watching, literals, &[])?;
         self.kinds.push(kind)?;
         Ok(clause)
     }
@@ -50,10 +46,11 @@ impl<N: Copy + Exact + Hash + Debug, S: Copy + Exact + Hash + Debug> SolverState
         ensures ids { IsErrOf result Ids → length self.old.search.clauses ≡ 4294967295 }
         ensures full { IsErrOf result Ids → LacksNumber self.new }
     {
-        let FinalConflict { literals, causes } = refusal;
-        let clause = self
-            .search
-            .add_clause(&mut self.watching, SatClause { literals, causes })?;
+        let clause = self.search.add_clause(
+            &mut self.watching,
+            refusal.literals.as_slice(),
+            refusal.causes.as_slice(),
+        )?;
         self.kinds.push(ClauseKind::Learnt)?;
         Ok(clause)
     }

@@ -209,7 +209,7 @@ fn track<N: Copy + Exact + Hash + Debug, S: Copy + Exact + Hash + Debug>(
     let first = first_place(digit, last);
     let mut ties = Vec::new(alloc);
     tracker.add(variable, digit, &mut ties)?;
-    add_ties(alloc, coding, name, ties.as_slice(), first, last)?;
+    add_ties(coding, name, ties.as_slice(), first, last)?;
     Ok(())
 }
 
@@ -251,7 +251,6 @@ fn next_digit<N: Copy + Exact + Hash + Debug, S: Copy + Exact + Hash + Debug>(
 /// Adds the clause of each tie of a package's solvables to its digits. The places of the ties rise
 /// by one from `first` up to `last`, the place of all that are left.
 fn add_ties<N: Copy + Exact + Hash + Debug, S: Copy + Exact + Hash + Debug>(
-    alloc: Global,
     coding: &mut SolverState<N, S>,
     name: N,
     ties: &[Tie],
@@ -268,7 +267,7 @@ fn add_ties<N: Copy + Exact + Hash + Debug, S: Copy + Exact + Hash + Debug>(
 {
     let mut place = first;
     for tie in ties {
-        add_tie(alloc, coding, name, *tie, place)?;
+        add_tie(coding, name, *tie, place)?;
         place = next_place(place, last);
     }
     Ok(())
@@ -283,7 +282,6 @@ fn next_place(place: u32, last: u32) -> u32
 
 /// Adds the clause that ties a solvable at a place to a digit of its package.
 fn add_tie<N: Copy + Exact + Hash + Debug, S: Copy + Exact + Hash + Debug>(
-    alloc: Global,
     coding: &mut SolverState<N, S>,
     name: N,
     tie: Tie,
@@ -295,9 +293,7 @@ fn add_tie<N: Copy + Exact + Hash + Debug, S: Copy + Exact + Hash + Debug>(
     ensures ids { IsErrOf result Ids → LacksNumber coding.new }
 {
     let (variable, digit, value) = tie;
-    let mut literals = Vec::new(alloc);
-    literals.push(Literal::new(variable, true))?;
-    literals.push(Literal::new(digit, !value))?;
+    let literals = [Literal::new(variable, true), Literal::new(digit, !value)];
     let (Some(solvable), Some(bit)) = (coding.solvable(variable), coding.bit(digit)) else {
         unreachable!()
     };
@@ -307,6 +303,6 @@ fn add_tie<N: Copy + Exact + Hash + Debug, S: Copy + Exact + Hash + Debug>(
         place,
         bit,
     };
-    coding.add_clause(kind, literals)?;
+    coding.add_clause(kind, &literals)?;
     Ok(())
 }

@@ -45,7 +45,6 @@ pub fn add_available<A: PackageSource>(
 
 /// Encodes the locks and exclusions of a package, and records its mark, once.
 fn forbid_package<A: PackageSource>(
-    alloc: Global,
     answers: &mut A,
     encoding: &mut Encoder<A::NameId, A::SolvableId>,
     name: A::NameId,
@@ -72,13 +71,12 @@ fn forbid_package<A: PackageSource>(
     let forbidden = answers.forbidden(name)?;
     let many = answers.is_many(name)?;
     encoding.mark(name, many)?;
-    encoding.forbid(alloc, name, forbidden.as_slice())?;
+    encoding.forbid(name, forbidden.as_slice())?;
     Ok(())
 }
 
 /// Encodes the locks and exclusions of these packages.
 fn forbid_packages<A: PackageSource>(
-    alloc: Global,
     answers: &mut A,
     encoding: &mut Encoder<A::NameId, A::SolvableId>,
     names: &[A::NameId],
@@ -100,14 +98,13 @@ fn forbid_packages<A: PackageSource>(
         → StopsAnyhow A.SolvableId.eq A.PackageSource answers.old encoding.new }
 {
     for name in names {
-        forbid_package(alloc, answers, encoding, *name)?;
+        forbid_package(answers, encoding, *name)?;
     }
     Ok(())
 }
 
 /// Encodes the locks and exclusions of the packages of a requirement.
 pub fn guard<A: PackageSource>(
-    alloc: Global,
     answers: &mut A,
     encoding: &mut Encoder<A::NameId, A::SolvableId>,
     requirement: Requirement,
@@ -128,7 +125,7 @@ pub fn guard<A: PackageSource>(
         → StopsAnyhow A.SolvableId.eq A.PackageSource answers.old encoding.new }
 {
     let names = answers.named(requirement)?;
-    forbid_packages(alloc, answers, encoding, names.as_slice())?;
+    forbid_packages(answers, encoding, names.as_slice())?;
     Ok(())
 }
 
@@ -183,7 +180,7 @@ fn encode_plain_need<A: PackageSource>(
     ensures ids { IsErrOf result Ids
         → StopsNeed A.SolvableId.eq A.PackageSource answers.old parent need encoding.new }
 {
-    guard(alloc, answers, encoding, need.requirement)?;
+    guard(answers, encoding, need.requirement)?;
     require(alloc, answers, encoding, parent, need)?;
     Ok(())
 }
@@ -257,7 +254,6 @@ fn encode_needs<A: PackageSource>(
 
 /// Encodes that a parent's constraint keeps out the candidates outside it.
 fn limit<A: PackageSource>(
-    alloc: Global,
     answers: &mut A,
     encoding: &mut Encoder<A::NameId, A::SolvableId>,
     parent: Option<A::SolvableId>,
@@ -278,18 +274,17 @@ fn limit<A: PackageSource>(
         → StopsAnyhow A.SolvableId.eq A.PackageSource answers.old encoding.new }
 {
     if encoding.is_left_out(version_set) {
-        encoding.limit_outside(alloc, parent, version_set)?;
+        encoding.limit_outside(parent, version_set)?;
         return Ok(());
     }
     let outside = answers.outside(version_set)?;
-    encoding.limit(alloc, parent, version_set, outside.as_slice())?;
+    encoding.limit(parent, version_set, outside.as_slice())?;
     Ok(())
 }
 
 /// Encodes that a parent's constraint keeps out the candidates outside it, and the locks and
 /// exclusions of the others.
 fn encode_limit<A: PackageSource>(
-    alloc: Global,
     answers: &mut A,
     encoding: &mut Encoder<A::NameId, A::SolvableId>,
     parent: Option<A::SolvableId>,
@@ -309,14 +304,13 @@ fn encode_limit<A: PackageSource>(
     ensures ids { IsErrOf result Ids
         → StopsAnyhow A.SolvableId.eq A.PackageSource answers.old encoding.new }
 {
-    guard(alloc, answers, encoding, Requirement::Single(version_set))?;
-    limit(alloc, answers, encoding, parent, version_set)?;
+    guard(answers, encoding, Requirement::Single(version_set))?;
+    limit(answers, encoding, parent, version_set)?;
     Ok(())
 }
 
 /// Encodes the constraints of a parent.
 fn encode_limits<A: PackageSource>(
-    alloc: Global,
     answers: &mut A,
     encoding: &mut Encoder<A::NameId, A::SolvableId>,
     parent: Option<A::SolvableId>,
@@ -337,7 +331,7 @@ fn encode_limits<A: PackageSource>(
         → StopsAnyhow A.SolvableId.eq A.PackageSource answers.old encoding.new }
 {
     for version_set in constraints {
-        encode_limit(alloc, answers, encoding, parent, *version_set)?;
+        encode_limit(answers, encoding, parent, *version_set)?;
     }
     Ok(())
 }
@@ -367,7 +361,7 @@ fn encode_rules<A: PackageSource>(
         parent requirements.now constraints.now encoding.old encoding.new }
 {
     encode_needs(alloc, answers, encoding, parent, requirements)?;
-    encode_limits(alloc, answers, encoding, parent, constraints)?;
+    encode_limits(answers, encoding, parent, constraints)?;
     Ok(())
 }
 
@@ -413,7 +407,7 @@ fn encode_parent<A: PackageSource>(
                 Ok(())
             }
             Dependencies::Unknown(reason) => {
-                encoding.exclude(alloc, solvable, reason)?;
+                encoding.exclude(solvable, reason)?;
                 Ok(())
             }
         },

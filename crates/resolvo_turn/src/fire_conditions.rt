@@ -135,7 +135,7 @@ fn encode_case<A: PackageSource>(
     if keeps_out(sets.as_slice(), parent) {
         return Ok(());
     }
-    guard(alloc, answers, encoding, need.requirement)?;
+    guard(answers, encoding, need.requirement)?;
     add_case(alloc, answers, encoding, parent, need, sets.as_slice())?;
     Ok(())
 }

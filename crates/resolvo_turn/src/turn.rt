@@ -55,13 +55,16 @@ fn add_chosen<N: Copy + Exact + Hash + Debug, S: Copy + Exact + Hash + Debug>(
 /// Whether some clause from this number on is falsified.
 fn is_any_broken(search: &SatState, from: usize) -> bool {
     let values = search.tracker.map();
-    let clauses = search.clauses.iter().rest;
-    clauses[from.min(clauses.len())..].iter().any(|clause| {
-        clause
-            .literals
+    for number in from..search.clauses.len() {
+        let literals = search.clauses.literals(number);
+        if literals
             .iter()
             .all(|literal| literal.eval(values) == Some(false))
-    })
+        {
+            return true;
+        }
+    }
+    false
 }
 
 /// Undoes the turn's decisions if one of the clauses from this number on is falsified.

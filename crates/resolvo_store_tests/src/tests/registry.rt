@@ -134,16 +134,14 @@ fn need_one(
     ensures coding { OnOk result (IsCoding coding.new) }
     ensures grows { OnOk result (Grows coding.old coding.new) }
 {
-    let mut literals = Vec::new(alloc);
-    literals.push(Literal::new(first, false))?;
-    literals.push(Literal::new(second, false))?;
+    let literals = [Literal::new(first, false), Literal::new(second, false)];
     let need = ConditionalRequirement::from(VersionSetId(0));
     let kinds = ClauseKind::Needs {
         parent: None,
         need,
         case: Vec::new(alloc),
     };
-    coding.add_clause(kinds, literals)?;
+    coding.add_clause(kinds, &literals)?;
     Ok(())
 }
 
@@ -158,13 +156,12 @@ fn exclude(
     requires variable { variable.0 < count_of coding.old.search }
     ensures coding { OnOk result (IsCoding coding.new) }
 {
-    let mut literals = Vec::new(alloc);
-    literals.push(Literal::new(variable, true))?;
+    let literals = [Literal::new(variable, true)];
     let kinds = ClauseKind::Excluded {
         solvable,
         reason: StringId(0),
     };
-    coding.add_clause(kinds, literals)?;
+    coding.add_clause(kinds, &literals)?;
     Ok(())
 }
 

@@ -53,7 +53,7 @@ fn state(
     if literals.is_empty() {
         return Ok(());
     }
-    coding.add_clause(kind, literals)?;
+    coding.add_clause(kind, literals.as_slice())?;
     Ok(())
 }
 

@@ -1,7 +1,7 @@
-use Rattle.std.proofs.Common.{refl}
-use Rattle.resolvo_sat.specs.declared.clause.SatClause.{SatClause}
+use Rattle.resolvo_sat.specs.Clauses.{sat_clause}
 use Rattle.resolvo_sat.proofs.Readiness.{ready_undone}
 use Rattle.resolvo_sat.proofs.ChooseLemmas.{undo_covered}
+use Rattle.resolvo_sat.proofs.Clauses.{same_parts}
 use Rattle.resolvo_sat.proofs.JumpLemmas.{added_forces, learns}
 use Rattle.resolvo_sat.proofs.state.SatState.learn.Goals as goal
 
@@ -13,10 +13,10 @@ add_clause-requires-clause-covered c = undo_covered c.args.self.now c.undo_until
 
 pub assign-requires-clause-forces : goal.assign-requires-clause-forces
 assign-requires-clause-forces c =
-    let h : SatClause = record { literals = c.args.learnt.literals; causes = c.args.learnt.causes } in
-    added_forces c.args.self.now c.undo_until.new.self c.add_clause.new.self c.args.watching.now c.add_clause.new.watching c.args.learnt h c.in_ok-clause.clause c.requires.ready.state c.requires.learnt c.undo_until.ensures refl c.in_ok-clause.ensures.added
+    added_forces c.args.self.now c.undo_until.new.self c.add_clause.new.self c.args.watching.now c.add_clause.new.watching c.args.learnt (sat_clause c.as_slice.result.now c.as_slice-2.result.now) c.in_ok-clause.clause c.requires.ready.state c.requires.learnt c.undo_until.ensures
+    (same_parts _ _ _ _ c.as_slice.ensures.value c.as_slice-2.ensures.value) c.in_ok-clause.ensures.added
 
 pub returns-clause-learns : goal.returns-clause-learns
 returns-clause-learns c =
-    let h : SatClause = record { literals = c.args.learnt.literals; causes = c.args.learnt.causes } in
-    learns c.args.self.now c.undo_until.new.self c.add_clause.new.self c.assign.new.self c.args.watching.now c.add_clause.new.watching c.args.learnt h c.in_ok-clause.clause c.undo_until.ensures refl c.in_ok-clause.ensures.added c.in_ok-assign.ensures.set
+    learns c.args.self.now c.undo_until.new.self c.add_clause.new.self c.assign.new.self c.args.watching.now c.add_clause.new.watching c.args.learnt (sat_clause c.as_slice.result.now c.as_slice-2.result.now) c.in_ok-clause.clause c.undo_until.ensures
+    (same_parts _ _ _ _ c.as_slice.ensures.value c.as_slice-2.ensures.value) c.in_ok-clause.ensures.added c.in_ok-assign.ensures.set
