@@ -29,10 +29,10 @@ fn version_at(
 ) -> Result<Version, AllocError>
     ensures { IfOk result (λ v. version_of v ≡ nth (listed catalogue.now) version) }
 {
-    match catalogue.versions().get(version.0 as usize) {
+    match catalogue.versions().get(version) {
         Some((name, number)) => Ok(Version {
-            name: name.clone()?,
-            number: *number,
+            name: String::from_str(alloc, name)?,
+            number,
         }),
         None => Ok(Version {
             name: String::new(alloc),

@@ -9,7 +9,7 @@ ghost use Rattle.std.specs.Option.{option_copied, option_map};
 ghost use Rattle.resolvo_text.specs.Line as content;
 ghost use Rattle.resolvo_text.specs.Matches.{Set, same_version, is_met, holds, condition_holds};
 ghost use Rattle.resolvo_text.specs.View.{spec_of, specs_of, cond_of, condition_of};
-ghost use Rattle.resolvo_catalogue_core.specs.Listed.{listed, members, pair_version, version_at};
+ghost use Rattle.resolvo_catalogue_core.specs.Listed.{listed, members, version_at, version_by};
 ghost use Rattle.resolvo_catalogue_core.specs.Questions.{IsRuleLine};
 ghost use Rattle.resolve_order.specs.Kept.{Holds, IsLeftOver, IsNewestIn, IsFavouredOf, IsFavouredMatch, IsUnlistedMatch, IsFirstMatch, AreNumbersOf, number_at, IsRuleAt, IsLineState, IfGives, is_unlisted, unlisted};
 
@@ -29,10 +29,10 @@ pub enum LineState {
 }
 
 /// The listed version of this number.
-fn version_at(catalogue: &Catalogue, version: VersionNo) -> Option<&(String, u32)>
-    ensures { option_map (λ p. pair_version p.now) result ≡ version_at catalogue.now version.0 }
+fn version_at(catalogue: &Catalogue, version: VersionNo) -> Option<(&str, u32)>
+    ensures { option_map (λ v. version_by v.0.now v.1) result ≡ version_at catalogue.now version.0 }
 {
-    catalogue.versions().get(version.0 as usize)
+    catalogue.versions().get(version)
 }
 
 /// The versions of a package by their numbers.
@@ -42,35 +42,35 @@ type Numbers = BTreeMap<u32, VersionNo>;
 fn add_number(
     alloc: Global,
     packages: &mut BTreeMap<String, Numbers>,
-    listed: &(String, u32),
+    listed: (&str, u32),
     version: VersionNo,
 ) -> Result<(), AllocError>
     ensures { OnOk result
         ((v : content.Version)
         → number_at (get_by_text packages.new v.name) v.number
-        ≡ (if same_version (pair_version listed.now) v
+        ≡ (if same_version (version_by listed.entry.0.now listed.entry.1) v
         then Some version
         else number_at (get_by_text packages.old v.name) v.number)) }
 {
-    if let Some(numbers) = packages.get_mut(listed.0.as_str()) {
+    if let Some(numbers) = packages.get_mut(listed.0) {
         numbers.insert(listed.1, version)?;
         return Ok(());
     }
     let mut numbers = BTreeMap::new(alloc);
     numbers.insert(listed.1, version)?;
-    packages.insert(listed.0.clone()?, numbers)?;
+    packages.insert(String::from_str(alloc, listed.0)?, numbers)?;
     Ok(())
 }
 
 /// Takes a version of the package out.
-fn remove_number(packages: &mut BTreeMap<String, Numbers>, listed: &(String, u32))
+fn remove_number(packages: &mut BTreeMap<String, Numbers>, listed: (&str, u32))
     ensures { (v : content.Version)
         → number_at (get_by_text packages.new v.name) v.number
-        ≡ (if same_version (pair_version listed.now) v
+        ≡ (if same_version (version_by listed.entry.0.now listed.entry.1) v
         then None
         else number_at (get_by_text packages.old v.name) v.number) }
 {
-    if let Some(numbers) = packages.get_mut(listed.0.as_str()) {
+    if let Some(numbers) = packages.get_mut(listed.0) {
         numbers.remove(&listed.1);
     }
 }
@@ -108,7 +108,7 @@ fn favoured_by(
     let mut map = BTreeMap::new(alloc);
     for (_, version) in catalogue.favours() {
         if let Some(listed) = version_at(catalogue, *version) {
-            map.insert(listed.0.clone()?, *version)?;
+            map.insert(String::from_str(alloc, listed.0)?, *version)?;
         }
     }
     Ok(map)

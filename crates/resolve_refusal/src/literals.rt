@@ -10,7 +10,7 @@ ghost use Rattle.resolve_refusal.specs.RefusedReport.{version_at};
 ghost use Rattle.resolve_refusal.specs.Refusal.{atom_at, AreLiterals, HaveForm};
 
 use resolvo_catalogue::provider::CatalogueProvider;
-use resolvo_catalogue_core::{Catalogue, Version};
+use resolvo_catalogue_core::{Catalogue, Version, VersionNo};
 use resolvo_pool_core::id::{NameId, SolvableId};
 use resolvo_pool_core::want::R;
 use resolvo_proof::step::ProofLiteral;
@@ -88,10 +88,10 @@ pub(crate) fn version_of(alloc: Global, catalogue: &Catalogue, solvable: Solvabl
     ensures version { IfOk result (λ v. version_of v ≡ version_at catalogue.now solvable) }
     ensures refusal { IsOkUnless result Memory }
 {
-    match catalogue.versions().get(solvable.into_raw() as usize) {
+    match catalogue.versions().get(VersionNo(solvable.into_raw())) {
         Some((name, number)) => Ok(Version {
-            name: String::from_str(alloc, name.as_str())?,
-            number: *number,
+            name: String::from_str(alloc, name)?,
+            number,
         }),
         None => Ok(Version {
             name: String::new(alloc),

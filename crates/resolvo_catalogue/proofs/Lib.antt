@@ -3,8 +3,8 @@ pub mod KeyMapLemmas
 pub mod GrowLemmas
 pub mod DependencyLemmas
 pub mod Places
-pub mod MarkLemmas
 pub mod ListLemmas
+pub mod MarkLemmas
 pub mod CoverLemmas
 pub mod PassLemmas
 pub mod Elements

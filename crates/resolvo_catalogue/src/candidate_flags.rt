@@ -1,16 +1,17 @@
 //! The marks of each version in the lines of a catalogue: locked, favoured, excluded.
 
-ghost use Rattle.std.specs.Prelude.{◌≡◌, ◌≤◌, ◌<◌, ◌+◌, ◌++◌, ◌∷◌, [], IfOk, IsErrOf, IsOkUnless, OnOk, List, Option, Some, length, slice_get, sum_by};
+ghost use Rattle.std.specs.Prelude.{◌≡◌, ◌≤◌, ◌<◌, ◌+◌, ◌++◌, ◌∷◌, [], IfOk, IsErrOf, IsOkUnless, OnOk, List, Option, Some, false, length, map, slice_get, slice_index_or, string_bytes, sum_by, true};
 ghost use Rattle.resolvo_pool_core.specs.declared.want.Want.TheVariants.{Ids as NoIds, Memory};
 ghost use Rattle.resolvo_text.specs.Line.{Version, Line, Favour};
 ghost use Rattle.resolvo_catalogue_core.specs.Questions.{IsRuleLine};
-ghost use Rattle.resolvo_catalogue_core.specs.Listed.{listed, AreDistinct};
+ghost use Rattle.resolvo_catalogue_core.specs.Sets.{is_many};
+ghost use Rattle.resolvo_catalogue_core.specs.Listed.{listed, are_kept, AreDistinct};
 ghost use Rattle.resolvo_catalogue.specs.Ids.{Ids, Interns, LacksNumber};
 ghost use Rattle.resolvo_catalogue.specs.IdCounts.{id_count, ids_for_mark, mark_ids};
 ghost use Rattle.resolvo_catalogue.specs.Marked.{AreMarked, AreMany};
 
 use crate::id_table::IdTable;
-use resolvo_catalogue_core::{Catalogue, Rule, VersionNo};
+use resolvo_catalogue_core::{Catalogue, KeptVersion, Rule, VersionNo};
 use resolvo_pool_core::id::StringId;
 use resolvo_pool_core::want::R;
 use std::alloc::Global;
@@ -56,9 +57,34 @@ pub fn many_of(alloc: Global, catalogue: &Catalogue) -> R<Vec<bool>>
     ensures many { IfOk result (λ flags. AreMany catalogue.now flags.items) }
     ensures refusal { IsOkUnless result Memory }
 {
-    let mut flags = Vec::new(alloc);
-    for version in catalogue.versions() {
-        flags.push(catalogue.is_many(version.0.as_str()))?;
+    let (names, kept) = catalogue.versions().parts();
+    let of_names = many_names(alloc, catalogue, names)?;
+    flags_of(alloc, &of_names, kept)
+}
+
+/// Of each package, whether it is marked `many`.
+fn many_names(alloc: Global, catalogue: &Catalogue, names: &[String]) -> R<Vec<bool>>
+    ensures many { IfOk result
+        (λ flags. flags.items ≡ map (λ name. is_many catalogue.now (string_bytes name)) names.now) }
+    ensures refusal { IsOkUnless result Memory }
+{
+    let mut flags = Vec::with_capacity(alloc, names.len())?;
+    for name in names {
+        flags.push(catalogue.is_many(name.as_str()))?;
+    }
+    Ok(flags)
+}
+
+/// Of each version, the flag of its package.
+fn flags_of(alloc: Global, of_names: &[bool], kept: &[KeptVersion]) -> R<Vec<bool>>
+    requires { are_kept (length of_names.now) kept.now ≡ true }
+    ensures flags { IfOk result
+        (λ flags. flags.items ≡ map (λ v. slice_index_or of_names.now v.«package» false) kept.now) }
+    ensures refusal { IsOkUnless result Memory }
+{
+    let mut flags = Vec::with_capacity(alloc, kept.len())?;
+    for version in kept {
+        flags.push(of_names[version.package as usize])?;
     }
     Ok(flags)
 }

@@ -156,29 +156,24 @@ impl IdTable {
         Ok(NameId::from_raw(self.names.intern(self.alloc, name)?))
     }
 
-    /// One version more: the id of its package, and its own.
-    pub fn version(&mut self, name: &str, number: u32) -> R<(NameId, SolvableId)>
+    /// The id of one version more, of this package.
+    pub fn version(&mut self, name: NameId, number: u32) -> R<SolvableId>
         // After an answer.
-        ensures package { IfOk result (λ x. IsPackage self.new x.0 name.now) }
-        ensures place { IfOk result (λ x. IsPlaced self.old.names self.new.names x.0.raw) }
-        ensures id { IfOk result (λ x. x.1.raw ≡ length self.old.solvables) }
-        ensures added { IfOk result
-            (λ x.
-            self.new.solvables ≡ self.old.solvables ++ record { version = number; name = x.0 }
-            ∷ []) }
-        // Whatever the answer.
-        ensures grows { Grows self.old self.new }
-        ensures few { id_count self.new ≤ id_count self.old + 2 }
+        ensures id { IfOk result (λ s. s.raw ≡ length self.old.solvables) }
+        ensures added { OnOk result
+            (self.new
+            ≡ record self.old
+            { solvables = self.old.solvables ++ record { version = number; name = name } ∷ [] }) }
         // After a refusal.
+        ensures same { OnErr result (self.new ≡ self.old) }
         ensures ids { IsErrOf result Ids → LacksNumber self.new }
     {
-        let package = self.package(name)?;
         let index = next_index(self.solvables.len())?;
         self.solvables.push(Solvable {
             version: number,
-            name: package,
+            name,
         })?;
-        Ok((package, SolvableId::from_index(index)))
+        Ok(SolvableId::from_index(index))
     }
 
     /// The id of a word of reason.

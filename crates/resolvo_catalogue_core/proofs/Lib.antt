@@ -3,6 +3,7 @@ pub mod Sorted
 pub mod PackageLemmas
 pub mod OwnedLemmas
 pub mod HeldLemmas
+pub mod VersionLemmas
 pub mod NumberedLemmas
 pub mod PickedLemmas
 pub mod TableLemmas

@@ -1,18 +1,17 @@
 -- Whether a line is allowed below those of a table, by its maps.
-use Rattle.std.proofs.Common.{◌≡◌, is_some, true, false, ℕ, zero, suc, ◌-◌, ◌<◌, ◌≤◌, List, [], length, get_or, take, Option, Some, None, refl, sym, ap, subst, ◌∙◌, arith, option_map}
-use Rattle.std.specs.Prelude.{Contains, slice_get, Result, Ok, Err, IfOk, OnErr, is_ok}
+use Rattle.std.proofs.Common.{◌≡◌, is_some, true, false, ℕ, zero, suc, ◌-◌, ◌<◌, ◌≤◌, List, [], ◌∷◌, length, get_or, take, Option, Some, None, refl, sym, ap, subst, ◌∙◌, arith, option_map}
+use Rattle.std.specs.Prelude.{Contains, slice_get, slice_index_or, map, Result, Ok, Err, IfOk, OnErr, is_ok}
 use Rattle.std.specs.BTreeMap.{get, get_by_text}
 use Rattle.std.specs.Ordering.{nat_cmp}
 use Rattle.std.proofs.lemmas.Option.{get_or_from_slice_get, slice_get_within, slice_get-get_or, slice_get_past}
-use Rattle.std.proofs.lemmas.List.{length-map}
 use Rattle.resolvo_text.specs.Line.{Version, Line, Skipped, Listed, Needs, Limits, Unknown, Lock, Favour, Exclude, Many, Wish}
 use Rattle.resolvo_catalogue_core.specs.Grammar.{line_at, owner_of, owner_below, MayFollow}
-use Rattle.resolvo_catalogue_core.specs.Questions.{LineIs, MarksUnknownOf, Locks, Favours, MarksMany, Excludes, number_of}
-use Rattle.resolvo_catalogue_core.specs.Packages.{package_in}
-use Rattle.resolvo_catalogue_core.specs.Table.{IsTable, nowhere, lines_in, versions_in, number_in, kinds_in, numbers_in}
-use Rattle.resolvo_catalogue_core.specs.Listed.{pair_version}
+use Rattle.resolvo_catalogue_core.specs.Questions.{LineIs, MarksUnknownOf, Locks, Favours, MarksMany, Excludes, IsOfPackage, number_of}
+use Rattle.resolvo_catalogue_core.specs.Packages.{package_in, first_in}
+use Rattle.resolvo_catalogue_core.specs.Table.{IsTable, IsPackage, nowhere, lines_in, versions_in, number_in, kinds_in, numbers_in}
 use Rattle.resolvo_catalogue_core.specs.Questions.{IsVersionLine}
 use Rattle.resolvo_catalogue_core.specs.declared.rule.VersionNo.{VersionNo}
+use Rattle.resolvo_catalogue_core.specs.declared.package.Package.{Package}
 use Rattle.resolvo_catalogue_core.specs.declared.table.Table.{Table}
 use Rattle.resolvo_catalogue_core.proofs.TableLemmas.{listed_has, listed_from, owner_is_last, fewer_listed, kind_at, excluded_at}
 
@@ -244,20 +243,35 @@ unknown_twice t keeps v word k here owner present may = let some = some_from (ge
 
 -- ---- owners
 
-pub versions_few : (t : Table) → IsTable t → length t.versions.items ≤ length (lines_in t)
-versions_few t keeps = omega (arith, fewer_listed (lines_in t), ap (λ (vs : List Version). length vs) keeps.listing, length-map t.versions.items pair_version)
+pub versions_few : (t : Table) → IsTable t → length t.versions ≤ length (lines_in t)
+versions_few t keeps = omega (arith, fewer_listed (lines_in t), ap (λ (vs : List Version). length vs) keeps.listing)
 
-owner_at_end : (t : Table) → IsTable t → owner_below (lines_in t) ≡ slice_get (versions_in t) (length t.versions.items - 1)
-owner_at_end t keeps = owner_is_last (lines_in t) ∙ rw (keeps.listing, length-map t.versions.items pair_version) refl
+owner_at_end : (t : Table) → IsTable t → owner_below (lines_in t) ≡ slice_get (versions_in t) (length t.versions - 1)
+owner_at_end t keeps = owner_is_last (lines_in t) ∙ rw keeps.listing refl
 
-pub owner_none : (t : Table) → IsTable t → length t.versions.items ≡ 0 → owner_below (lines_in t) ≡ None
-owner_none t keeps none = owner_at_end t keeps ∙ slice_get_past (versions_in t) (length t.versions.items - 1) (omega (arith, length-map t.versions.items pair_version))
+pub owner_none : (t : Table) → IsTable t → length t.versions ≡ 0 → owner_below (lines_in t) ≡ None
+owner_none t keeps none = owner_at_end t keeps ∙ slice_get_past (versions_in t) (length t.versions - 1) (omega (arith))
 
-pub owner_there : (t : Table) → IsTable t → (count : ℕ) → count ≡ length t.versions.items → (count ≡ 0 → ⊥) → (v : Version) × (slice_get (versions_in t) (count - 1) ≡ Some v) × (owner_below (lines_in t) ≡ Some v)
+pub owner_there : (t : Table) → IsTable t → (count : ℕ) → count ≡ length t.versions → (count ≡ 0 → ⊥) → (v : Version) × (slice_get (versions_in t) (count - 1) ≡ Some v) × (owner_below (lines_in t) ≡ Some v)
 owner_there t keeps count is some =
-    let within : count - 1 < length (versions_in t) = omega (arith, is, some, length-map t.versions.items pair_version) in
+    let within : count - 1 < length (versions_in t) = omega (arith, is, some) in
     let at = slice_get-get_or (versions_in t) (count - 1) nowhere within in
     (get_or (versions_in t) (count - 1) nowhere, at, owner_at_end t keeps ∙ ap (λ (n : ℕ). slice_get (versions_in t) (n - 1)) (sym is) ∙ at)
+
+-- the first version of a package has its name
+pub first_alike : (t : Table) → IsTable t → (name : List ℕ) (number : VersionNo) → number.0 ≡ length (versions_in t) → (v : Version) → slice_get (versions_in t) (first_in (package_in t.packages name) number).0 ≡ Some v → v.name ≡ name
+first_alike t keeps name number last v at = of_package (package_in t.packages name) (keeps.packages name) at
+  where
+    of_list : (xs : List VersionNo) → ((n : ℕ) → Contains (map number_of xs) n → IsOfPackage (versions_in t) name n) → slice_get (versions_in t) (slice_index_or xs 0 number).0 ≡ Some v → v.name ≡ name
+    of_list [] all at = absurd (omega (arith, last, slice_get_within (versions_in t) number.0 v at))
+    of_list (x ∷ xs) all at =
+        let h = all x.0 (0, omega arith, refl) in
+        let same : h.0 ≡ v = cc (h.1, at) in
+        ap (λ (w : Version). w.name) (sym same) ∙ h.2
+
+    of_package : (o : Option Package) → IsPackage (versions_in t) name o → slice_get (versions_in t) (first_in o number).0 ≡ Some v → v.name ≡ name
+    of_package None is at = absurd (omega (arith, last, slice_get_within (versions_in t) number.0 v at))
+    of_package (Some p) is at = of_list p.versions.items (λ n has. (is.all.all n).0 has) at
 
 -- ---- a version that isn't listed
 

@@ -47,7 +47,7 @@ pub adds_from : (t u : Table) (s : LineKind) (l : Line) → u.versions ≡ t.ver
 adds_from t u s l same more is keeps =
     let vs : versions_in u ≡ versions_in t = ap (λ x. versions_in (record u { versions = x })) same in
     let lines : lines_in u ≡ lines_in t ++ l ∷ [] = rw (vs, more, ← is) (map_push (line_of (versions_in t)) (kinds_in t) s) in
-    (rw (lines, vs) keeps, lines)
+    (subst (λ (ls : List Line). Keeps u (versions_in u) ls) (sym lines) (subst (λ (x : List Version). Keeps u x (lines_in t ++ l ∷ [])) (sym vs) keeps), lines)
 
 -- a version has one number
 pub one_number : (t : Table) (vs : List Version) (lines : List Line) → Keeps t vs lines → (v : Version) (j k : ℕ) → slice_get vs j ≡ Some v → slice_get vs k ≡ Some v → j ≡ k
@@ -395,7 +395,7 @@ list t u k v keeps number unlisted adds behind versions more kept as_many =
       favour_lines = all_other keeps.favour_lines (line_grows lines l IsFavour) (λ x. x);
       favour_versions = λ i f at. favours_more vs v (lines ++ l ∷ []) f (favours_kept vs lines l f (keeps.favour_versions i f at));
     } in
-    (rw (lines_now, versions) keeps_new, lines_now)
+    (subst (λ (ls : List Line). Keeps w (versions_in w) ls) (sym lines_now) (subst (λ (x : List Version). Keeps w x (lines ++ l ∷ [])) (sym versions) keeps_new), lines_now)
 
 -- an empty list more
 pub empty_more : (lists more : List (List ℕ)) → more ≡ lists ++ [] ∷ [] → (j : ℕ) → kept_of more j ≡ kept_of lists j
@@ -423,7 +423,7 @@ no_line Q zero h = absurd cc
 no_line Q (suc n) h = absurd cc
 
 -- a table of no line
-pub empty : (t : Table) → t.versions.items ≡ [] → kinds_in t ≡ [] → ((name : List ℕ) → package_in t.packages name ≡ None) → AreBehind t.packages → t.locks.entries ≡ [] → t.favoured.entries ≡ [] → t.many.entries ≡ [] → t.excluded.entries ≡ [] → t.unknown.entries ≡ [] → t.owned ≡ [] → t.favours.items ≡ [] → IsTable t
+pub empty : (t : Table) → t.versions ≡ [] → kinds_in t ≡ [] → ((name : List ℕ) → package_in t.packages name ≡ None) → AreBehind t.packages → t.locks.entries ≡ [] → t.favoured.entries ≡ [] → t.many.entries ≡ [] → t.excluded.entries ≡ [] → t.unknown.entries ≡ [] → t.owned ≡ [] → t.favours.items ≡ [] → IsTable t
 empty t versions kinds packages behind locks favoured many excluded unknown owned favours =
     let vs : versions_in t ≡ [] = rw versions refl in
     let lines : lines_in t ≡ [] = rw kinds refl in
@@ -442,7 +442,7 @@ empty t versions kinds packages behind locks favoured many excluded unknown owne
       favour_lines = rw favours (no_all (λ n. LineIs [] n IsFavour) (no_line IsFavour));
       favour_versions = λ i f at. absurd (no_favour i f (rw favours at at));
     } in
-    rw (lines, vs) keeps
+    subst (λ (ls : List Line). Keeps t (versions_in t) ls) (sym lines) (subst (λ (x : List Version). Keeps t x []) (sym vs) keeps)
   where
     none_got : (n : ℕ) (v : Version) → slice_get [] n ≡ Some v → ⊥
     none_got n v e = cc

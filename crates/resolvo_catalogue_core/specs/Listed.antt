@@ -1,13 +1,14 @@
 -- The listed versions of a catalogue, by their numbers from 0 in line order.
-use Rattle.std.specs.Prelude.{◌≡◌, ℕ, Bool, false, List, Option, Some, option_to_list, map, string_bytes}
+use Rattle.std.specs.Prelude.{◌≡◌, ℕ, Bool, false, nat_lt, List, [], Option, Some, option_to_list, map, slice_index_or, string_bytes}
 use Rattle.std.specs.Option.{option_map_or}
 use Rattle.std.specs.Global.{Global}
 use Rattle.std.specs.declared.string.String.{String}
-use Rattle.std.specs.List.{filter_map, flat_map, slice_get}
+use Rattle.std.specs.List.{filter_map, flat_map, list_all, slice_get}
 use Rattle.resolvo_text.specs.Line.{Version, Spec, Line}
 use Rattle.resolvo_text.specs.Matches.{Set, matches}
 use Rattle.resolvo_catalogue_core.specs.Grammar.{version_of}
 use Rattle.resolvo_catalogue_core.specs.declared.rule.VersionNo.{VersionNo}
+use Rattle.resolvo_catalogue_core.specs.declared.versions.KeptVersion.{KeptVersion}
 
 -- the versions that the lines list, in line order
 abbrev pub listed : List Line → List Version
@@ -29,10 +30,24 @@ AreDistinct versions = (v : Version) (j k : ℕ) → slice_get versions j ≡ So
 abbrev pub is_match : List Version → Spec → ℕ → Bool
 is_match versions s n = option_map_or (λ v. matches s v) (slice_get versions n) false
 
--- ---- versions as the code keeps them
+-- ---- versions as the code keeps them: the name of each package once, and a version by the place of that name
 
-abbrev pub pair_version : String Global × ℕ → Version
-pair_version p = record { name = string_bytes p.0; number = p.1 }
+abbrev pub version_by : List ℕ → ℕ → Version
+version_by name number = record { name = name; number = number }
 
-abbrev pub pair_versions : List (String Global × ℕ) → List Version
-pair_versions ps = map pair_version ps
+-- the name at a place, if there is one
+abbrev pub name_at : List (String Global) → ℕ → List ℕ
+name_at names k = slice_index_or (map string_bytes names) k []
+
+abbrev pub kept_version : List (String Global) → KeptVersion → Version
+kept_version names v = version_by (name_at names v.«package») v.number
+
+abbrev pub kept_versions : List (String Global) → List KeptVersion → List Version
+kept_versions names kept = map (kept_version names) kept
+
+-- the name of each version is one of so many
+abbrev pub is_kept : ℕ → KeptVersion → Bool
+is_kept count v = nat_lt v.«package» count
+
+abbrev pub are_kept : ℕ → List KeptVersion → Bool
+are_kept count kept = list_all (is_kept count) kept

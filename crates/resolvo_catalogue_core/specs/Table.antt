@@ -6,7 +6,7 @@ use Rattle.resolvo_text.specs.Line as parsed
 use Rattle.resolvo_text.specs.Line.{Version, Line}
 use Rattle.resolvo_text.specs.View.{spec_of, specs_of, condition_of}
 use Rattle.resolvo_catalogue_core.specs.Grammar.{owner_below}
-use Rattle.resolvo_catalogue_core.specs.Listed.{listed, pair_versions}
+use Rattle.resolvo_catalogue_core.specs.Listed.{listed}
 use Rattle.resolvo_catalogue_core.specs.Questions.{IsOnly, AreAll, LineIs, BelongsTo, MarksUnknownOf, Locks, Favours, MarksMany, Excludes, IsFavour, IsOwner, IsOfPackage, IsVersionLine, FavoursAt, number_of}
 use Rattle.resolvo_catalogue_core.specs.LinesByVersion.{kept_of}
 use Rattle.resolvo_catalogue_core.specs.declared.rule.VersionNo.{VersionNo}
@@ -44,7 +44,7 @@ line_of versions (line_kinds.Many name) = parsed.Many (string_bytes name)
 line_of versions (line_kinds.Rule r) = rule_line versions r
 
 abbrev pub versions_in : Table → List Version
-versions_in t = pair_versions t.versions.items
+versions_in t = t.versions
 
 abbrev pub kinds_in : Table → List LineKind
 kinds_in t = kind_list t.line_kinds.rules.items t.line_kinds.marked.items t.line_kinds.held.items

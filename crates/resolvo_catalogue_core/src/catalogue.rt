@@ -7,6 +7,7 @@ ghost use Rattle.std.specs.Prelude.{◌≡◌};
 use crate::obey;
 use crate::rule::{Rule, VersionNo};
 use crate::table::Table;
+use crate::versions::Versions;
 use resolvo_text::{LineFault, LineReader, ReadFault, Source, Spec, Version};
 use std::alloc::{AllocError, Global};
 use std::collections::BTreeSet;
@@ -57,7 +58,7 @@ impl Catalogue {
     ghost use Rattle.resolvo_text.specs.Sources.{SourceFailed};
     ghost use Rattle.resolvo_text.specs.Texts.{IsGrammatical, IsTextFault};
     ghost use Rattle.resolvo_catalogue_core.specs.Rules.{keeps};
-    ghost use Rattle.resolvo_catalogue_core.specs.Listed.{listed, version_at, members, is_match, pair_versions, AreDistinct};
+    ghost use Rattle.resolvo_catalogue_core.specs.Listed.{listed, version_at, members, is_match, AreDistinct};
     ghost use Rattle.resolvo_catalogue_core.specs.Sets.{is_many};
     ghost use Rattle.resolvo_catalogue_core.specs.Questions.{IsOnly, AreAll, IsOfPackage, IsVersionLine, BelongsTo, IsRuleLine, LineIs, IsFavour, FavoursAt, Forbids, is_rule, cases_of_line, number_of};
     ghost use Rattle.resolvo_catalogue_core.specs.Picked.{IsPicked};
@@ -69,9 +70,9 @@ impl Catalogue {
         let _table = &self.table;
     }
 
-    /// The listed versions in line order. The index of a version is its number.
-    pub fn versions(&self) -> &[(String, u32)]
-        ensures listed { pair_versions result.now ≡ listed self.now }
+    /// The listed versions in line order. The place of a version is its number.
+    pub fn versions(&self) -> &Versions
+        ensures listed { result.now ≡ listed self.now }
         ensures distinct { AreDistinct (listed self.now) }
     {
         &self.table.versions

@@ -14,6 +14,7 @@ mod request;
 mod request_lines;
 mod rule;
 mod table;
+mod versions;
 
 pub use catalogue::Catalogue;
 pub use hash::{hash_of, mixed};
@@ -26,3 +27,4 @@ pub use resolvo_text::{
     Spec, Version, WriteFault, cases_are_exact, is_in_span, write_all,
 };
 pub use rule::{Rule, VersionNo};
+pub use versions::{KeptVersion, Versions};

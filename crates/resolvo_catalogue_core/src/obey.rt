@@ -9,45 +9,46 @@ ghost use Rattle.std.specs.Option.{option_map_or, option_map, option_copied};
 ghost use Rattle.resolvo_text.specs.View.{spec_of, specs_of, cond_of, condition_of};
 ghost use Rattle.resolvo_text.specs.Matches.{matches, is_met, is_met_by_one, is_member, holds, condition_holds, same_package};
 ghost use Rattle.resolvo_catalogue_core.specs.Rules.{binds, obeys};
-ghost use Rattle.resolvo_catalogue_core.specs.Listed.{pair_version, pair_versions, members, AreDistinct, is_match};
+ghost use Rattle.resolvo_catalogue_core.specs.Listed.{version_by, members, AreDistinct, is_match};
 ghost use Rattle.resolvo_text.specs.Line.{Version, Line, Lock};
 ghost use Rattle.resolvo_catalogue_core.specs.Questions.{IsOwner, IsRuleLine};
 
 use crate::rule::{Rule, VersionNo};
+use crate::versions::Versions;
 use resolvo_text::{Cond, Spec, is_in_span};
 
-fn fits(spec: &Spec, version: &(String, u32)) -> bool
-    ensures { result ≡ matches (spec_of spec.now) (pair_version version.now) }
+fn fits(spec: &Spec, version: (&str, u32)) -> bool
+    ensures { result ≡ matches (spec_of spec.now) (version_by version.entry.0.now version.entry.1) }
 {
-    version.0 == spec.name && is_in_span(spec.span, version.1)
+    version.0 == spec.name.as_str() && is_in_span(spec.span, version.1)
 }
 
 /// Whether the SPEC matches the version of this number.
-pub fn is_match(spec: &Spec, versions: &[(String, u32)], number: VersionNo) -> bool
-    ensures { result ≡ is_match (pair_versions versions.now) (spec_of spec.now) number.0 }
+pub fn is_match(spec: &Spec, versions: &Versions, number: VersionNo) -> bool
+    ensures { result ≡ is_match versions.now (spec_of spec.now) number.0 }
 {
-    match versions.get(number.0 as usize) {
+    match versions.get(number) {
         Some(version) => fits(spec, version),
         None => false,
     }
 }
 
 // split for the prover: list and set
-fn any_matches(spec: &Spec, versions: &[(String, u32)], set: &[VersionNo]) -> bool
+fn any_matches(spec: &Spec, versions: &Versions, set: &[VersionNo]) -> bool
     ensures { result
-        ≡ list_any (λ n. is_match (pair_versions versions.now) (spec_of spec.now) n.0) set.now }
+        ≡ list_any (λ n. is_match versions.now (spec_of spec.now) n.0) set.now }
 {
     set.iter().any(|number| is_match(spec, versions, *number))
 }
 
-fn is_met(spec: &Spec, versions: &[(String, u32)], set: &[VersionNo]) -> bool
-    ensures { result ≡ is_met (spec_of spec.now) (members (pair_versions versions.now) set.now) }
+fn is_met(spec: &Spec, versions: &Versions, set: &[VersionNo]) -> bool
+    ensures { result ≡ is_met (spec_of spec.now) (members versions.now set.now) }
 {
     any_matches(spec, versions, set)
 }
 
-fn holds(condition: &Cond, versions: &[(String, u32)], set: &[VersionNo]) -> bool
-    ensures { result ≡ holds (cond_of condition.now) (members (pair_versions versions.now) set.now) }
+fn holds(condition: &Cond, versions: &Versions, set: &[VersionNo]) -> bool
+    ensures { result ≡ holds (cond_of condition.now) (members versions.now set.now) }
 {
     match condition {
         Cond::Spec(spec) => is_met(spec, versions, set),
@@ -56,10 +57,10 @@ fn holds(condition: &Cond, versions: &[(String, u32)], set: &[VersionNo]) -> boo
     }
 }
 
-fn condition_holds(condition: Option<&Cond>, versions: &[(String, u32)], set: &[VersionNo]) -> bool
+fn condition_holds(condition: Option<&Cond>, versions: &Versions, set: &[VersionNo]) -> bool
     ensures { result
         ≡ condition_holds (condition_of (option_copied condition.entry))
-        (members (pair_versions versions.now) set.now) }
+        (members versions.now set.now) }
 {
     match condition {
         Some(condition) => holds(condition, versions, set),
@@ -68,17 +69,17 @@ fn condition_holds(condition: Option<&Cond>, versions: &[(String, u32)], set: &[
 }
 
 // split for the prover: list and set
-fn any_is_met(alternatives: &[Spec], versions: &[(String, u32)], set: &[VersionNo]) -> bool
+fn any_is_met(alternatives: &[Spec], versions: &Versions, set: &[VersionNo]) -> bool
     ensures { result
-        ≡ list_any (λ s. is_met (spec_of s) (members (pair_versions versions.now) set.now))
+        ≡ list_any (λ s. is_met (spec_of s) (members versions.now set.now))
         alternatives.now }
 {
     alternatives.iter().any(|spec| is_met(spec, versions, set))
 }
 
-fn is_met_by_one(alternatives: &[Spec], versions: &[(String, u32)], set: &[VersionNo]) -> bool
+fn is_met_by_one(alternatives: &[Spec], versions: &Versions, set: &[VersionNo]) -> bool
     ensures { result
-        ≡ is_met_by_one (specs_of alternatives.now) (members (pair_versions versions.now) set.now) }
+        ≡ is_met_by_one (specs_of alternatives.now) (members versions.now set.now) }
 {
     any_is_met(alternatives, versions, set)
 }
@@ -99,103 +100,96 @@ fn is_member(number: VersionNo, set: &[VersionNo]) -> bool
 }
 
 /// Whether the version is of another package, or matches.
-fn is_within(spec: &Spec, version: &(String, u32)) -> bool
+fn is_within(spec: &Spec, version: (&str, u32)) -> bool
     ensures { result
-        ≡ (not (bytes_eq (pair_version version.now).name (spec_of spec.now).name) || matches
-        (spec_of spec.now) (pair_version version.now)) }
+        ≡ (not (bytes_eq version.entry.0.now (spec_of spec.now).name) || matches (spec_of spec.now)
+        (version_by version.entry.0.now version.entry.1)) }
 {
-    version.0 != spec.name || fits(spec, version)
+    version.0 != spec.name.as_str() || fits(spec, version)
 }
 
-fn is_within_at(spec: &Spec, versions: &[(String, u32)], number: VersionNo) -> bool
+fn is_within_at(spec: &Spec, versions: &Versions, number: VersionNo) -> bool
     ensures { result
         ≡ option_map_or
         (λ v. not (bytes_eq v.name (spec_of spec.now).name) || matches (spec_of spec.now) v)
-        (slice_get (pair_versions versions.now) number.0) true }
+        (slice_get versions.now number.0) true }
 {
-    match versions.get(number.0 as usize) {
+    match versions.get(number) {
         Some(version) => is_within(spec, version),
         None => true,
     }
 }
 
 // split for the prover: list and set
-fn all_are_within(spec: &Spec, versions: &[(String, u32)], set: &[VersionNo]) -> bool
+fn all_are_within(spec: &Spec, versions: &Versions, set: &[VersionNo]) -> bool
     ensures { result
         ≡ list_all
         (λ n.
         option_map_or
         (λ v.
         not (bytes_eq v.name (spec_of spec.now).name) || matches (spec_of spec.now) v)
-        (slice_get (pair_versions versions.now) n.0) true)
+        (slice_get versions.now n.0) true)
         set.now }
 {
     set.iter()
         .all(|number| is_within_at(spec, versions, *number))
 }
 
-fn are_within(spec: &Spec, versions: &[(String, u32)], set: &[VersionNo]) -> bool
+fn are_within(spec: &Spec, versions: &Versions, set: &[VersionNo]) -> bool
     ensures { result
         ≡ list_all
         (λ v. not (bytes_eq v.name (spec_of spec.now).name) || matches (spec_of spec.now) v)
-        (members (pair_versions versions.now) set.now) }
+        (members versions.now set.now) }
 {
     all_are_within(spec, versions, set)
 }
 
 /// Whether the version is of another package than the locked one, or has its number.
-fn keeps_lock(locked: &(String, u32), version: &(String, u32)) -> bool
+fn keeps_lock(locked: (&str, u32), version: (&str, u32)) -> bool
     ensures { result
-        ≡ (not (same_package (pair_version version.now) (pair_version locked.now)) ||
-        (pair_version version.now).number == (pair_version locked.now).number) }
+        ≡ (not
+        (same_package (version_by version.entry.0.now version.entry.1)
+        (version_by locked.entry.0.now locked.entry.1)) || version.entry.1 == locked.entry.1) }
 {
     version.0 != locked.0 || version.1 == locked.1
 }
 
-fn keeps_lock_at(locked: &(String, u32), versions: &[(String, u32)], number: VersionNo) -> bool
+fn keeps_lock_at(locked: (&str, u32), versions: &Versions, number: VersionNo) -> bool
     ensures { result
         ≡ option_map_or
         (λ w.
-        not (same_package w (pair_version locked.now)) || w.number ==
-        (pair_version locked.now).number)
-        (slice_get (pair_versions versions.now) number.0) true }
+        not (same_package w (version_by locked.entry.0.now locked.entry.1)) || w.number
+        == locked.entry.1)
+        (slice_get versions.now number.0) true }
 {
-    match versions.get(number.0 as usize) {
+    match versions.get(number) {
         Some(version) => keeps_lock(locked, version),
         None => true,
     }
 }
 
 // split for the prover: list and set
-fn all_keep_lock(locked: &(String, u32), versions: &[(String, u32)], set: &[VersionNo]) -> bool
+fn all_keep_lock(locked: (&str, u32), versions: &Versions, set: &[VersionNo]) -> bool
     ensures { result
         ≡ list_all
         (λ n.
         option_map_or
         (λ w.
-        not (same_package w (pair_version locked.now)) || w.number ==
-        (pair_version locked.now).number)
-        (slice_get (pair_versions versions.now) n.0) true)
+        not (same_package w (version_by locked.entry.0.now locked.entry.1)) || w.number
+        == locked.entry.1)
+        (slice_get versions.now n.0) true)
         set.now }
 {
     set.iter()
         .all(|number| keeps_lock_at(locked, versions, *number))
 }
 
-/// The listed version of this number.
-pub fn version_at(versions: &[(String, u32)], number: VersionNo) -> Option<&(String, u32)>
-    ensures { option_map (λ p. pair_version p.now) result
-        ≡ slice_get (pair_versions versions.now) number.0 }
-{
-    versions.get(number.0 as usize)
-}
-
-fn obeys_lock(locked: VersionNo, versions: &[(String, u32)], set: &[VersionNo]) -> bool
+fn obeys_lock(locked: VersionNo, versions: &Versions, set: &[VersionNo]) -> bool
     ensures { (v : Version)
-        → slice_get (pair_versions versions.now) locked.0 ≡ Some v
-        → result ≡ obeys None (Lock v) (members (pair_versions versions.now) set.now) }
+        → slice_get versions.now locked.0 ≡ Some v
+        → result ≡ obeys None (Lock v) (members versions.now set.now) }
 {
-    match version_at(versions, locked) {
+    match versions.get(locked) {
         Some(locked) => all_keep_lock(locked, versions, set),
         None => true,
     }
@@ -214,11 +208,11 @@ fn binds(owner: Option<VersionNo>, set: &[VersionNo]) -> bool
 }
 
 /// Whether the set obeys the rule. The numbers in the rule are those of listed versions.
-pub fn obeys(rule: &Rule, versions: &[(String, u32)], set: &[VersionNo]) -> bool
-    requires { AreDistinct (pair_versions versions.now) }
+pub fn obeys(rule: &Rule, versions: &Versions, set: &[VersionNo]) -> bool
+    requires { AreDistinct versions.now }
     ensures { (owner : Option Version) (line : Line)
-        → IsRuleLine (pair_versions versions.now) rule.now owner line
-        → result ≡ obeys owner line (members (pair_versions versions.now) set.now) }
+        → IsRuleLine versions.now rule.now owner line
+        → result ≡ obeys owner line (members versions.now set.now) }
 {
     match rule {
         Rule::Needs {

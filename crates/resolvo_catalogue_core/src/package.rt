@@ -3,7 +3,7 @@
 //! map is made only when a version is added whose number is not above the last one. Used by
 //! `table`.
 
-ghost use Rattle.std.specs.Prelude.{◌≡◌, ℕ, [], None, Some, IsTrue, IfOk, OnOk, length, not, is_some, slice_get, true, false};
+ghost use Rattle.std.specs.Prelude.{◌≡◌, ℕ, [], None, Some, IsTrue, IfOk, IfSome, OnOk, length, not, is_some, slice_get, slice_index_or, true, false};
 ghost use Rattle.std.specs.BTreeMap.{get};
 ghost use Rattle.std.specs.Ordering.{nat_cmp};
 ghost use Rattle.resolvo_catalogue_core.specs.Numbered.{beside, AreRising, IsAbove, IsSought, IsNumbered};
@@ -158,24 +158,31 @@ impl Package {
         }
     }
 
-    /// Adds a version, if the package has none of this number; returns whether it was added.
-    pub fn add(&mut self, number: u32, version: VersionNo) -> Result<bool, AllocError>
+    /// Adds a version, if the package has none of this number; returns the package's first version
+    /// then.
+    pub fn add(&mut self, number: u32, version: VersionNo) -> Result<Option<VersionNo>, AllocError>
         requires { IsNumbered self.old }
         ensures new { IfOk result
-            (λ added.
-            added
+            (λ first.
+            is_some first
             ≡ not (is_some (beside self.old.numbers.items self.old.versions.items number))) }
-        ensures put { IfOk result (λ added. IsTrue added → AddsNumber (Some self.old) number version self.new) }
+        ensures first { IfOk result
+            (λ first. IfSome first (λ v. v ≡ slice_index_or self.old.versions.items 0 version)) }
+        ensures put { IfOk result
+            (λ first.
+            IsTrue (is_some first)
+            → AddsNumber (Some self.old) number version self.new) }
     {
+        let first = first_of(&self.versions, version);
         if self.goes_on(number) {
             self.push(number, version)?;
-            return Ok(true);
+            return Ok(Some(first));
         }
         if self.find(number).is_some() {
-            return Ok(false);
+            return Ok(None);
         }
         self.map(number, version)?;
-        Ok(true)
+        Ok(Some(first))
     }
 
     /// Whether the numbers rise, and still rise with this one.
@@ -235,6 +242,16 @@ impl Package {
         self.numbers.push(number)?;
         self.versions.push(version)?;
         Ok(())
+    }
+}
+
+/// The first of the versions; this one where there is none.
+fn first_of(versions: &[VersionNo], version: VersionNo) -> VersionNo
+    ensures { result ≡ slice_index_or versions.now 0 version }
+{
+    match versions.first() {
+        Some(first) => *first,
+        None => version,
     }
 }
 

@@ -2,12 +2,12 @@
 //! no texts are compared on the way to it. Other names of that hash are found through a map that is
 //! sorted by names, so no choice of names makes that slow. Used by `table`.
 
-ghost use Rattle.std.specs.Prelude.{◌≡◌, ℕ, not, false, bytes_eq, option_copied, is_some, IsTrue, IfOk, None, Some, List};
+ghost use Rattle.std.specs.Prelude.{◌≡◌, ℕ, not, false, bytes_eq, option_copied, is_some, IsTrue, IfOk, IfSome, None, Some, List};
 ghost use Rattle.std.specs.BTreeMap.{get_by_text};
 ghost use Rattle.std.specs.String.{string_bytes};
 ghost use Rattle.resolvo_text.specs.View.{version_of};
 ghost use Rattle.resolvo_catalogue_core.specs.Numbered.{IsNumbered};
-ghost use Rattle.resolvo_catalogue_core.specs.Packages.{package_in, package_among, AreBehind};
+ghost use Rattle.resolvo_catalogue_core.specs.Packages.{package_in, package_among, first_in, AreBehind};
 ghost use Rattle.resolvo_catalogue_core.specs.Table.{AddsNumber, AddsVersion, number_in};
 ghost use Rattle.resolvo_catalogue_core.specs.declared.package.Package.{Package};
 
@@ -42,26 +42,31 @@ impl Drop for PackageTable {
     }
 }
 
-/// Adds a version to those of its package, if it isn't listed; returns whether it was added.
+/// Adds a version to those of its package, if it isn't listed; returns the package's first version
+/// then.
 fn add_version(
     packages: &mut BTreeMap<String, Package>,
     alloc: Global,
     version: &Version,
     number: VersionNo,
-) -> Result<bool, AllocError>
+) -> Result<Option<VersionNo>, AllocError>
     requires kept { (p : Package)
         → get_by_text packages.old (string_bytes version.now.name) ≡ Some p
         → IsNumbered p }
     ensures new { IfOk result
-        (λ added.
-        added
+        (λ first.
+        is_some first
         ≡ not
         (is_some
         (number_in (get_by_text packages.old (string_bytes version.now.name))
         version.now.number))) }
+    ensures first { IfOk result
+        (λ first.
+        IfSome first
+        (λ v. v ≡ first_in (get_by_text packages.old (string_bytes version.now.name)) number)) }
     ensures put { IfOk result
-        (λ added.
-        IsTrue added
+        (λ first.
+        IsTrue (is_some first)
         → AddsVersion (λ name. get_by_text packages.old name) (version_of version.now) number
         (λ name. get_by_text packages.new name)) }
 {
@@ -71,7 +76,7 @@ fn add_version(
     let mut package = Package::new(alloc);
     package.add(version.number, number)?;
     packages.insert(version.name.clone()?, package)?;
-    Ok(true)
+    Ok(Some(number))
 }
 
 /// Adds a version to the first package of its hash, or else to another one.
@@ -81,7 +86,7 @@ fn add_beside(
     alloc: Global,
     version: &Version,
     number: VersionNo,
-) -> Result<bool, AllocError>
+) -> Result<Option<VersionNo>, AllocError>
     requires kept { (p : Package)
         → package_among (Some first.old)
         (get_by_text others.old (string_bytes version.now.name))
@@ -89,8 +94,8 @@ fn add_beside(
         ≡ Some p
         → IsNumbered p }
     ensures new { IfOk result
-        (λ added.
-        added
+        (λ answer.
+        is_some answer
         ≡ not
         (is_some
         (number_in
@@ -98,15 +103,25 @@ fn add_beside(
         (get_by_text others.old (string_bytes version.now.name))
         (string_bytes version.now.name))
         version.now.number))) }
+    ensures first { IfOk result
+        (λ answer.
+        IfSome answer
+        (λ v.
+        v
+        ≡ first_in
+        (package_among (Some first.old)
+        (get_by_text others.old (string_bytes version.now.name))
+        (string_bytes version.now.name))
+        number)) }
     ensures put { IfOk result
-        (λ added.
-        IsTrue added
+        (λ answer.
+        IsTrue (is_some answer)
         → AddsVersion (λ name. package_among (Some first.old) (get_by_text others.old name) name)
         (version_of version.now) number
         (λ name. package_among (Some first.new) (get_by_text others.new name) name)) }
     ensures others { IfOk result
-        (λ added.
-        IsTrue added
+        (λ answer.
+        IsTrue (is_some answer)
         → (name : List ℕ)
         → bytes_eq (string_bytes version.now.name) name ≡ false
         → get_by_text others.new name ≡ get_by_text others.old name) }
@@ -157,34 +172,39 @@ impl PackageTable {
         }
     }
 
-    /// Adds a version to those of its package, if it isn't listed; returns whether it was added.
+    /// Adds a version to those of its package, if it isn't listed; returns the package's first
+    /// version then.
     pub fn add(
         &mut self,
         alloc: Global,
         version: &Version,
         number: VersionNo,
-    ) -> Result<bool, AllocError>
+    ) -> Result<Option<VersionNo>, AllocError>
         requires kept { (name : List ℕ) (p : Package) → package_in self.old name ≡ Some p → IsNumbered p }
         requires behind { AreBehind self.old }
         ensures new { IfOk result
-            (λ added.
-            added
+            (λ first.
+            is_some first
             ≡ not
             (is_some
             (number_in (package_in self.old (string_bytes version.now.name))
             version.now.number))) }
+        ensures first { IfOk result
+            (λ first.
+            IfSome first
+            (λ v. v ≡ first_in (package_in self.old (string_bytes version.now.name)) number)) }
         ensures put { IfOk result
-            (λ added.
-            IsTrue added
+            (λ first.
+            IsTrue (is_some first)
             → AddsVersion (λ name. package_in self.old name) (version_of version.now) number
             (λ name. package_in self.new name)) }
-        ensures behind { IfOk result (λ added. IsTrue added → AreBehind self.new) }
+        ensures behind { IfOk result (λ first. IsTrue (is_some first) → AreBehind self.new) }
     {
         let hash = hash_of(version.name.as_bytes());
         if let Some(first) = self.first.get_mut(&hash) {
             return add_beside(first, &mut self.others, alloc, version, number);
         }
         self.first.insert(hash, named(alloc, version, number)?)?;
-        Ok(true)
+        Ok(Some(number))
     }
 }

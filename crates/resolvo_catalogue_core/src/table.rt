@@ -18,15 +18,15 @@ ghost use Rattle.resolvo_catalogue_core.specs.Packages.{package_in};
 
 use crate::line_table::{LineKind, LineTable};
 use crate::lines_by_version::LinesByVersion;
-use crate::obey::version_at;
 use crate::package_table::PackageTable;
 use crate::rule::{Rule, VersionNo};
+use crate::versions::Versions;
 use resolvo_text::{Cond, Line, LineFault, Spec, Version, line_in};
 use std::alloc::{AllocError, Global};
 use std::collections::{BTreeMap, BTreeSet};
 
 pub struct Table {
-    pub versions: Vec<(String, u32)>,
+    pub versions: Versions,
     pub line_kinds: LineTable,
     pub packages: PackageTable,
     /// The line that locks a version of the package.
@@ -72,7 +72,7 @@ impl Table {
         ensures empty { lines_in result ≡ [] }
     {
         Table {
-            versions: Vec::new(alloc),
+            versions: Versions::new(alloc),
             line_kinds: LineTable::new(alloc),
             packages: PackageTable::new(alloc),
             locks: BTreeMap::new(alloc),
@@ -198,8 +198,8 @@ impl Table {
             × (slice_get (versions_in self.now) version.0 ≡ Some v)
             × Forbids (lines_in self.now) v n) }
     {
-        match version_at(&self.versions, version) {
-            Some(found) => self.forbidden_as(&found.0, version),
+        match self.versions.get(version) {
+            Some(found) => self.forbidden_as(found.0, version),
             None => None,
         }
     }
@@ -285,11 +285,11 @@ impl Table {
             → ⊥ }
     {
         let number = VersionNo(self.versions.len() as u32);
-        if !self.packages.add(alloc, &version, number)? {
+        let Some(first) = self.packages.add(alloc, &version, number)? else {
             return Err(LineFault::Fault);
-        }
+        };
         self.owned.add_version()?;
-        self.versions.push((version.name, version.number))?;
+        self.versions.push(first, version.name, version.number)?;
         self.line_kinds.push(LineKind::Listed(number))?;
         Ok(())
     }

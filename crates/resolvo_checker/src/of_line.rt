@@ -6,14 +6,14 @@ ghost use Rattle.std.specs.Option.{option_and_then, option_copied};
 ghost use Rattle.resolvo_text.specs.Line as spelled;
 ghost use Rattle.resolvo_text.specs.View.{version_of};
 ghost use Rattle.resolvo_catalogue_core.specs.Grammar.{line_at, owner_of};
-ghost use Rattle.resolvo_catalogue_core.specs.Listed.{listed, pair_version, pair_versions};
+ghost use Rattle.resolvo_catalogue_core.specs.Listed.{listed, version_by};
 ghost use Rattle.resolvo_report.specs.View.{place_of};
 ghost use Rattle.resolvo_report.specs.Value.{OfVersion};
 ghost use Rattle.resolvo_checker.specs.StepClauses.{line_of, place_fails, is_owner};
 ghost use Rattle.resolvo_checker.specs.Built.{somes};
 ghost use Rattle.resolvo_checker.specs.RuleLines.{line_of_rule, rule_line, owned_line, owner_in, owner_literals, is_owned_by, IsValid};
 
-use resolvo_catalogue_core::{Catalogue, Request, Rule, Version, VersionNo};
+use resolvo_catalogue_core::{Catalogue, Request, Rule, Version, VersionNo, Versions};
 use resolvo_report::Place;
 
 /// The rule of a line of the catalogue, if it has one.
@@ -41,25 +41,25 @@ fn rule_asked(request: &Request, line: u32) -> Option<&Rule>
     }
 }
 
-fn is_same(version: &Version, listed: &(String, u32)) -> bool
-    ensures { result ≡ same_version (version_of version.now) (pair_version listed.now) }
+fn is_same(version: &Version, listed: (&str, u32)) -> bool
+    ensures { result ≡ same_version (version_of version.now) (version_by listed.entry.0.now listed.entry.1) }
 {
-    version.name == listed.0 && version.number == listed.1
+    version.name.as_str() == listed.0 && version.number == listed.1
 }
 
 /// Whether this number is that of the version.
-fn is_numbered(versions: &[(String, u32)], number: VersionNo, version: &Version) -> bool
-    ensures { result ≡ is_owner (version_of version.now) (slice_get (pair_versions versions.now) number.0) }
+fn is_numbered(versions: &Versions, number: VersionNo, version: &Version) -> bool
+    ensures { result ≡ is_owner (version_of version.now) (slice_get versions.now number.0) }
 {
-    match versions.get(number.0 as usize) {
+    match versions.get(number) {
         Some(listed) => is_same(version, listed),
         None => false,
     }
 }
 
 /// Whether the rule is a `needs` or `limits` line of the version.
-fn is_owned(versions: &[(String, u32)], rule: &Rule, version: &Version) -> bool
-    ensures { result ≡ is_owned_by (pair_versions versions.now) rule.now (version_of version.now) }
+fn is_owned(versions: &Versions, rule: &Rule, version: &Version) -> bool
+    ensures { result ≡ is_owned_by versions.now rule.now (version_of version.now) }
 {
     match rule {
         Rule::Needs {

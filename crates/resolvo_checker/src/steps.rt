@@ -6,7 +6,7 @@ ghost use Rattle.std.specs.Int.{bit_at};
 ghost use Rattle.resolvo_text.specs.Line as spelled;
 ghost use Rattle.resolvo_text.specs.View.{version_of, spec_of, specs_of, condition_of};
 ghost use Rattle.resolvo_catalogue_core.specs.Grammar.{line_at, owner_of};
-ghost use Rattle.resolvo_catalogue_core.specs.Listed.{listed, version_at, pair_version, pair_versions};
+ghost use Rattle.resolvo_catalogue_core.specs.Listed.{listed, version_at, version_by};
 ghost use Rattle.resolvo_report.specs.Value.{Place as PlaceValue, OfVersion};
 ghost use Rattle.resolvo_report.specs.View.{place_of, step_of};
 ghost use Rattle.resolvo_checker.specs.StepClauses.{is_listed, is_outside as is_outside_lem, is_locked_out as is_locked_out_lem, place_fails, case_fails, some_match, case_at as case_at_lem, line_of, need_clause, gate_clause, limit_bars_clause, limit_clause, lock_clause, exclude_clause, unknown_clause, shared_clause, outside_clause, matches_clause, digit_clause, any_clause, clause_of as clause_of_lem};
@@ -20,7 +20,7 @@ use crate::clause_parts::{
 };
 use crate::of_line::{rule_at, rule_of, rule_owned};
 use resolvo_catalogue_core::{
-    Catalogue, Cond, Request, Rule, Spec, Version, VersionNo, is_in_span,
+    Catalogue, Cond, Request, Rule, Spec, Version, VersionNo, Versions, is_in_span,
 };
 use resolvo_report::{Place, Step};
 use resolvo_text::{cases_in, matches};
@@ -44,20 +44,20 @@ fn is_outside(spec: &Spec, version: &Version) -> bool
     version.name == spec.name && !is_in_span(spec.span, version.number)
 }
 
-fn is_locked_by(locked: &(String, u32), version: &Version) -> bool
-    ensures { result ≡ is_locked_out_lem (pair_version locked.now) (version_of version.now) }
+fn is_locked_by(locked: (&str, u32), version: &Version) -> bool
+    ensures { result ≡ is_locked_out_lem (version_by locked.entry.0.now locked.entry.1) (version_of version.now) }
 {
-    version.name == locked.0 && version.number != locked.1
+    version.name.as_str() == locked.0 && version.number != locked.1
 }
 
 /// Whether the lock of the version of this number excludes the version.
-fn is_locked_out(versions: &[(String, u32)], locked: VersionNo, version: &Version) -> bool
+fn is_locked_out(versions: &Versions, locked: VersionNo, version: &Version) -> bool
     ensures { result
         ≡ option_map_or (λ w. is_locked_out_lem w (version_of version.now))
-        (slice_get (pair_versions versions.now) locked.0) false }
+        (slice_get versions.now locked.0) false }
 {
-    match versions.get(locked.0 as usize) {
-        Some(pair) => is_locked_by(pair, version),
+    match versions.get(locked) {
+        Some(locked) => is_locked_by(locked, version),
         None => false,
     }
 }

@@ -9,7 +9,7 @@ ghost use Rattle.std.specs.Range.Bound.{IsForward};
 ghost use Rattle.std.specs.BTreeMap.{get_by_text};
 ghost use Rattle.std.specs.List.{list_any, list_all};
 ghost use Rattle.std.specs.Str.{bytes_eq};
-ghost use Rattle.resolvo_catalogue_core.specs.Listed.{pair_version};
+ghost use Rattle.resolvo_catalogue_core.specs.Listed.{version_by};
 ghost use Rattle.std.specs.Option.{option_map_or};
 ghost use Rattle.std.specs.String.{string_bytes};
 ghost use Rattle.resolvo_text.specs.Line as spelled;
@@ -149,12 +149,12 @@ impl Chosen {
     }
 
     /// Whether a version, as the catalogue lists it, is among the first so many.
-    pub fn has_listed_among(&self, version: &(String, u32), first: usize) -> bool
+    pub fn has_listed_among(&self, version: (&str, u32), first: usize) -> bool
         ensures { (set : Set)
             → Holds self.now set
-            → result ≡ is_member (pair_version version.now) (take first set) }
+            → result ≡ is_member (version_by version.entry.0.now version.entry.1) (take first set) }
     {
-        self.has_number_among(&version.0, version.1, first)
+        self.has_number_among(version.0, version.1, first)
     }
 
     /// Whether the version is among the first so many.
@@ -185,10 +185,10 @@ impl Chosen {
     }
 
     /// Whether a version, as the catalogue lists it, is chosen.
-    pub fn has_listed(&self, version: &(String, u32)) -> bool
-        ensures { (set : Set) → Holds self.now set → result ≡ is_member (pair_version version.now) set }
+    pub fn has_listed(&self, version: (&str, u32)) -> bool
+        ensures { (set : Set) → Holds self.now set → result ≡ is_member (version_by version.entry.0.now version.entry.1) set }
     {
-        self.index(&version.0, version.1).is_some()
+        self.index(version.0, version.1).is_some()
     }
 
     /// Whether each chosen version of the SPEC's package matches.
@@ -208,17 +208,17 @@ impl Chosen {
     }
 
     /// Whether no other version of the locked one's package is chosen.
-    pub fn keeps_lock(&self, locked: &(String, u32)) -> bool
+    pub fn keeps_lock(&self, locked: (&str, u32)) -> bool
         ensures { (set : Set)
             → Holds self.now set
             → result
             ≡ list_all
             (λ w.
-            not (same_package w (pair_version locked.now)) || w.number ==
-            (pair_version locked.now).number)
+            not (same_package w (version_by locked.entry.0.now locked.entry.1)) || w.number ==
+            locked.entry.1)
             set }
     {
-        match self.packages.get(locked.0.as_str()) {
+        match self.packages.get(locked.0) {
             Some(numbers) => !has_outside(numbers, Span::One(locked.1)),
             None => true,
         }

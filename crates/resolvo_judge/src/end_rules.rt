@@ -1,44 +1,35 @@
 //! Whether the entries of an `install` report keep all rules, at the report's end.
 
-ghost use Rattle.std.specs.Prelude.{◌≡◌, ℕ, List, Option, Some, None, IsTrue, false, slice_get, option_map};
+ghost use Rattle.std.specs.Prelude.{◌≡◌, ℕ, List, Option, Some, None, IsTrue, false, slice_get};
 ghost use Rattle.resolvo_text.specs.Line as spelled;
 ghost use Rattle.resolvo_text.specs.Line.{Lock};
 ghost use Rattle.resolvo_text.specs.Matches.{Set, is_member};
-ghost use Rattle.resolvo_catalogue_core.specs.Listed.{pair_version, pair_versions};
 ghost use Rattle.resolvo_catalogue_core.specs.Questions.{IsRuleLine, IsOwner};
 ghost use Rattle.resolvo_catalogue_core.specs.Rules.{binds as binds_lem, obeys as obeys_lem, keeps, keeps_in_request};
 ghost use Rattle.resolvo_judge.specs.Chosen.{Holds};
 ghost use Rattle.resolvo_judge.specs.EndRules.{KeepsAll};
 
 use crate::chosen::Chosen;
-use resolvo_catalogue_core::{Catalogue, Request, Rule, VersionNo};
-
-/// The listed version of this number.
-fn listed_at(versions: &[(String, u32)], number: VersionNo) -> Option<&(String, u32)>
-    ensures { option_map (λ p. pair_version p.now) result
-        ≡ slice_get (pair_versions versions.now) number.0 }
-{
-    versions.get(number.0 as usize)
-}
+use resolvo_catalogue_core::{Catalogue, Request, Rule, VersionNo, Versions};
 
 /// Whether the version of this number is chosen.
-fn is_chosen(chosen: &Chosen, versions: &[(String, u32)], number: VersionNo) -> bool
+fn is_chosen(chosen: &Chosen, versions: &Versions, number: VersionNo) -> bool
     ensures { (set : Set) (v : spelled.Version)
         → Holds chosen.now set
-        → slice_get (pair_versions versions.now) number.0 ≡ Some v
+        → slice_get versions.now number.0 ≡ Some v
         → result ≡ is_member v set }
 {
-    match listed_at(versions, number) {
+    match versions.get(number) {
         Some(version) => chosen.has_listed(version),
         None => false,
     }
 }
 
 /// Whether a rule of this owner applies: the owner is chosen, or there is none.
-fn binds(chosen: &Chosen, versions: &[(String, u32)], owner: Option<VersionNo>) -> bool
+fn binds(chosen: &Chosen, versions: &Versions, owner: Option<VersionNo>) -> bool
     ensures { (set : Set) (whose : Option spelled.Version)
         → Holds chosen.now set
-        → IsOwner (pair_versions versions.now) owner whose
+        → IsOwner versions.now owner whose
         → result ≡ binds_lem whose set }
 {
     match owner {
@@ -47,23 +38,23 @@ fn binds(chosen: &Chosen, versions: &[(String, u32)], owner: Option<VersionNo>) 
     }
 }
 
-fn keeps_lock(chosen: &Chosen, versions: &[(String, u32)], locked: VersionNo) -> bool
+fn keeps_lock(chosen: &Chosen, versions: &Versions, locked: VersionNo) -> bool
     ensures { (set : Set) (v : spelled.Version)
         → Holds chosen.now set
-        → slice_get (pair_versions versions.now) locked.0 ≡ Some v
+        → slice_get versions.now locked.0 ≡ Some v
         → result ≡ obeys_lem None (Lock v) set }
 {
-    match listed_at(versions, locked) {
+    match versions.get(locked) {
         Some(version) => chosen.keeps_lock(version),
         None => true,
     }
 }
 
 /// Whether the chosen versions obey the rule. The numbers in the rule are those of listed versions.
-fn obeys(chosen: &Chosen, versions: &[(String, u32)], rule: &Rule) -> bool
+fn obeys(chosen: &Chosen, versions: &Versions, rule: &Rule) -> bool
     ensures { (set : Set) (owner : Option spelled.Version) (line : spelled.Line)
         → Holds chosen.now set
-        → IsRuleLine (pair_versions versions.now) rule.now owner line
+        → IsRuleLine versions.now rule.now owner line
         → result ≡ obeys_lem owner line set }
 {
     match rule {

@@ -6,7 +6,7 @@ ghost use Rattle.std.specs.Option.{option_map_or};
 ghost use Rattle.resolvo_text.specs.Line as spelled;
 ghost use Rattle.resolvo_text.specs.Matches.{Set, same_version, is_member};
 ghost use Rattle.resolvo_text.specs.View.{version_of};
-ghost use Rattle.resolvo_catalogue_core.specs.Listed.{pair_version, pair_versions};
+ghost use Rattle.resolvo_catalogue_core.specs.Listed.{version_by};
 ghost use Rattle.resolvo_report.specs.View.{step_of, literal_of as report_literal, literals_of as report_literals};
 ghost use Rattle.resolvo_checker.specs.StepClauses.{Clause, clause_of as clause_of_lem, literal_of as plain_literal};
 ghost use Rattle.resolvo_checker.specs.Proof.{forbids};
@@ -17,22 +17,22 @@ ghost use Rattle.resolvo_judge.specs.Forbids.{literal_forbids as literal_forbids
 
 use crate::chosen::Chosen;
 use crate::forbidden_wishes::Forbidden;
-use resolvo_catalogue_core::{Catalogue, Request, Version, VersionNo};
+use resolvo_catalogue_core::{Catalogue, Request, Version, VersionNo, Versions};
 use resolvo_checker::atom::{Atom as BuiltAtom, Built};
 use resolvo_checker::steps::clause_of;
 use resolvo_report::{Atom, Literal, Step};
 use std::alloc::{AllocError, Global};
 
-fn is_same(listed: &(String, u32), wish: &Version) -> bool
-    ensures { result ≡ same_version (pair_version listed.now) (version_of wish.now) }
+fn is_same(listed: (&str, u32), wish: &Version) -> bool
+    ensures { result ≡ same_version (version_by listed.entry.0.now listed.entry.1) (version_of wish.now) }
 {
-    listed.0 == wish.name && listed.1 == wish.number
+    listed.0 == wish.name.as_str() && listed.1 == wish.number
 }
 
 /// Whether the version of this number is the wish, or an entry above its line.
 fn is_listed_among(
     chosen: &Chosen,
-    versions: &[(String, u32)],
+    versions: &Versions,
     version: VersionNo,
     forbidden: &Forbidden,
 ) -> bool
@@ -43,9 +43,9 @@ fn is_listed_among(
         (λ v.
         same_version v (version_of forbidden.now.wish) || is_member v
         (take forbidden.now.above set))
-        (slice_get (pair_versions versions.now) version.0) false }
+        (slice_get versions.now version.0) false }
 {
-    match versions.get(version.0 as usize) {
+    match versions.get(version) {
         Some(listed) => {
             is_same(listed, &forbidden.wish) || chosen.has_listed_among(listed, forbidden.above)
         }
@@ -54,18 +54,13 @@ fn is_listed_among(
 }
 
 /// Whether the built literal is `not` of the wish, or of an entry above its line.
-fn built_forbids(
-    chosen: &Chosen,
-    versions: &[(String, u32)],
-    built: &Built,
-    forbidden: &Forbidden,
-) -> bool
+fn built_forbids(chosen: &Chosen, versions: &Versions, built: &Built, forbidden: &Forbidden) -> bool
     ensures { (set : Set)
         → Holds chosen.now set
         → result
         ≡ option_map_or
         (literal_forbids_lem (take forbidden.now.above set) (version_of forbidden.now.wish))
-        (built_literal (pair_versions versions.now) built.now.atom built.now.positive) false }
+        (built_literal versions.now built.now.atom built.now.positive) false }
 {
     match &built.atom {
         BuiltAtom::Version(version) => {
@@ -112,7 +107,7 @@ fn literal_forbids(chosen: &Chosen, literal: &Literal, forbidden: &Forbidden) ->
 /// Whether each literal of a built clause is such a literal.
 fn all_built_forbid(
     chosen: &Chosen,
-    versions: &[(String, u32)],
+    versions: &Versions,
     clause: &[Built],
     forbidden: &Forbidden,
 ) -> bool
@@ -120,7 +115,7 @@ fn all_built_forbid(
         → Holds chosen.now set
         → result
         ≡ built_forbid (take forbidden.now.above set) (version_of forbidden.now.wish)
-        (literals_in (pair_versions versions.now) clause.now) }
+        (literals_in versions.now clause.now) }
 {
     for built in clause {
         if !built_forbids(chosen, versions, built, forbidden) {
@@ -149,13 +144,13 @@ fn all_forbid(chosen: &Chosen, literals: &[Literal], forbidden: &Forbidden) -> b
 /// Whether the built clause forbids each of the wishes.
 fn rule_forbids(
     chosen: &Chosen,
-    versions: &[(String, u32)],
+    versions: &Versions,
     clause: &[Built],
     wishes: &[Forbidden],
 ) -> bool
     ensures { (set : Set) (plain : Clause)
         → Holds chosen.now set
-        → somes plain ≡ literals_in (pair_versions versions.now) clause.now
+        → somes plain ≡ literals_in versions.now clause.now
         → result ≡ list_all (clause_forbids set plain) (map forbidden_of wishes.now) }
 {
     for forbidden in wishes {

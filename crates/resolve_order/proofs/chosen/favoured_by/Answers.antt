@@ -7,11 +7,11 @@ use Rattle.std.specs.String.{string_bytes}
 use Rattle.std.proofs.lemmas.List.{take_all, take_more}
 use Rattle.std.proofs.lemmas.Map.Text.{btree_map_updates_text}
 use Rattle.std.proofs.lemmas.Option.{slice_get-get_or}
-use Rattle.resolvo_catalogue_core.specs.Listed.{pair_version}
+use Rattle.resolvo_catalogue_core.specs.Listed.{version_by}
 use Rattle.resolvo_catalogue_core.specs.declared.rule.VersionNo.{VersionNo}
 use Rattle.resolve_order.proofs.FavourLemmas.{IsFavouredSoFar, favours_more, favours_all}
 use Rattle.resolve_order.proofs.chosen.favoured_by.Goals as goal
-use Rattle.resolve_order.proofs.chosen.favoured_by.Goals.{in-Some+in_ok-clone+in_ok-insert, in_default}
+use Rattle.resolve_order.proofs.chosen.favoured_by.Goals.{in-Some+in_ok-from_str+in_ok-insert, in_default}
 
 pub loop-version-preserved : goal.loop-version-preserved
 loop-version-preserved c = λ name.
@@ -23,12 +23,12 @@ loop-version-preserved c = λ name.
     let more : take (i + 1) items ≡ take i items ++ f ∷ [] = take_more items i none c.loop-version-test.true in
     let favours = c.favours-version-items.ensures.versions i f (slice_get-get_or items i none c.loop-version-test.true) in
     subst (λ (seen : List (ℕ × VersionNo)). IsFavouredSoFar lines seen name (get_by_text c.match-version_at.map name)) (sym more) (elim c.match-version_at.branch [
-      | in-Some+in_ok-clone+in_ok-insert w ↦
-          let at = sym c.version_at.ensures ∙ ap (option_map (λ p. pair_version p.now)) w.in-Some.is in
-          let updated = btree_map_updates_text (string_bytes w.in_ok-clone.field-0) c.loop-version.map w.insert.new.self _ w.in_ok-insert.ensures.updates in
-          favours_more lines (take i items) f (pair_version w.in-Some.listed.now) name (get_by_text c.loop-version.map name) (get_by_text c.match-version_at.map name) favours at
-          (ap (λ m. get_by_text m name) w.map-is ∙ updated name ∙ ap (λ (n : List ℕ). update bytes_eq (λ x. get_by_text c.loop-version.map x) n (Some f.1) name) w.in_ok-clone.ensures.cases) (c.loop-version.invariant name)
-      | in_default w ↦ absurd (let missing = sym c.version_at.ensures ∙ ap (option_map (λ p. pair_version p.now)) w.in_default.is in cc (favours.1, missing))
+      | in-Some+in_ok-from_str+in_ok-insert w ↦
+          let at = sym c.version_at.ensures ∙ ap (option_map (λ p. version_by p.0.now p.1)) w.in-Some.is in
+          let updated = btree_map_updates_text (string_bytes w.in_ok-from_str.field-0) c.loop-version.map w.insert.new.self _ w.in_ok-insert.ensures.updates in
+          favours_more lines (take i items) f (version_by w.in-Some.listed.0.now w.in-Some.listed.1) name (get_by_text c.loop-version.map name) (get_by_text c.match-version_at.map name) favours at
+          (ap (λ m. get_by_text m name) w.map-is ∙ updated name ∙ ap (λ (n : List ℕ). update bytes_eq (λ x. get_by_text c.loop-version.map x) n (Some f.1) name) w.in_ok-from_str.ensures.ok) (c.loop-version.invariant name)
+      | in_default w ↦ absurd (let missing = sym c.version_at.ensures ∙ ap (option_map (λ p. version_by p.0.now p.1)) w.in_default.is in cc (favours.1, missing))
     ])
 
 pub returns : goal.returns

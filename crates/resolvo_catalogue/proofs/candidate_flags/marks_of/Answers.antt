@@ -1,5 +1,5 @@
 use Rattle.std.proofs.Common.{[], sym, ap, ◌∙◌, length, arith}
-use Rattle.std.proofs.lemmas.List.{take_all, length-map}
+use Rattle.std.proofs.lemmas.List.{take_all}
 use Rattle.std.proofs.lemmas.Option.{slice_get-get_or}
 use Rattle.resolvo_catalogue_core.specs.Listed.{listed}
 use Rattle.resolvo_catalogue.proofs.GrowLemmas.{interns_on, interns_own}
@@ -12,7 +12,7 @@ use Rattle.resolvo_catalogue.proofs.candidate_flags.marks_of.Goals.{in-Some+in_o
 
 pub loop-line-init : goal.loop-line-init
 loop-line-init c =
-    (c.in_ok-marks.ensures.marked c.args.ids.now (listed c.args.catalogue.now) (ap length (sym c.versions.ensures.listed) ∙ length-map c.versions.result.now _), interns_own c.args.ids.now, omega arith)
+    (c.in_ok-marks.ensures.marked c.args.ids.now (listed c.args.catalogue.now) (ap length (sym c.versions.ensures.listed) ∙ sym c.len.ensures), interns_own c.args.ids.now, omega arith)
 
 pub loop-line-preserved : goal.loop-line-preserved
 loop-line-preserved c = elim c.match-rule.branch [

@@ -1,5 +1,5 @@
 use Rattle.std.proofs.Common.{◌≡◌, refl, sym, ap, ◌∙◌, ◌++◌, ◌∷◌, [], map, length, arith}
-use Rattle.std.proofs.lemmas.List.{map-append, length-append, length-map}
+use Rattle.std.proofs.lemmas.List.{map-append, length-append}
 use Rattle.resolvo_catalogue_core.specs.Listed.{listed}
 use Rattle.resolvo_catalogue.specs.IdCounts.{id_count}
 use Rattle.resolvo_catalogue.specs.Dependencies.{deps_of}
@@ -34,7 +34,7 @@ loop-number-init c = (
 
 pub returns-in_default-clause-ids : goal.returns-in_default-clause-ids
 returns-in_default-clause-ids c = λ is are.
-    let count : length (listed c.args.catalogue.now) ≡ length c.versions.result.now = ap length (sym c.versions.ensures.listed) ∙ length-map c.versions.result.now _ in
+    let count : length (listed c.args.catalogue.now) ≡ length c.versions.result.now = ap length (sym c.versions.ensures.listed) in
     too_many c.args.ids.now c.args.catalogue.now (listed c.args.catalogue.now) are (grind (arith, count))
 
 pub returns-in_err-of_lines-clause-few : goal.returns-in_err-of_lines-clause-few

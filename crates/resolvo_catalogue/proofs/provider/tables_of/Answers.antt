@@ -1,5 +1,4 @@
-use Rattle.std.proofs.Common.{◌≡◌, sym, ap, ◌∙◌, length, arith}
-use Rattle.std.proofs.lemmas.List.{length-map}
+use Rattle.std.proofs.Common.{◌≡◌, ap, length, arith}
 use Rattle.resolvo_catalogue_core.specs.Listed.{listed}
 use Rattle.resolvo_catalogue.proofs.CountLemmas.{all_parts}
 use Rattle.resolvo_catalogue.proofs.GrowLemmas.{interns_on}
@@ -29,25 +28,25 @@ returns-clause-over c hint has_budget =
 
 pub returns-in_err-packages-clause-few : goal.returns-in_err-packages-clause-few
 returns-in_err-packages-clause-few c =
-    let count : length c.versions.result.now ≡ length (listed c.args.catalogue.now) = sym (length-map c.versions.result.now _) ∙ ap length c.versions.ensures.listed in
+    let count : length c.versions.result.now ≡ length (listed c.args.catalogue.now) = ap length c.versions.ensures.listed in
     omega (arith, count, all_parts c.args.catalogue.now, c.in_err-packages.ensures.few)
 
 pub returns-in_err-deps-clause-few : goal.returns-in_err-deps-clause-few
 returns-in_err-deps-clause-few c =
-    let count : length c.versions.result.now ≡ length (listed c.args.catalogue.now) = sym (length-map c.versions.result.now _) ∙ ap length c.versions.ensures.listed in
+    let count : length c.versions.result.now ≡ length (listed c.args.catalogue.now) = ap length c.versions.ensures.listed in
     omega (arith, count, all_parts c.args.catalogue.now, c.in_ok-packages.ensures.few, c.in_err-deps.ensures.few)
 
 pub returns-in_err-marks-clause-few : goal.returns-in_err-marks-clause-few
 returns-in_err-marks-clause-few c =
-    let count : length c.versions.result.now ≡ length (listed c.args.catalogue.now) = sym (length-map c.versions.result.now _) ∙ ap length c.versions.ensures.listed in
+    let count : length c.versions.result.now ≡ length (listed c.args.catalogue.now) = ap length c.versions.ensures.listed in
     omega (arith, count, all_parts c.args.catalogue.now, c.in_ok-packages.ensures.few, c.in_ok-deps.ensures.few, c.in_err-marks.ensures.few)
 
 pub returns-in_err-many-clause-few : goal.returns-in_err-many-clause-few
 returns-in_err-many-clause-few c =
-    let count : length c.versions.result.now ≡ length (listed c.args.catalogue.now) = sym (length-map c.versions.result.now _) ∙ ap length c.versions.ensures.listed in
+    let count : length c.versions.result.now ≡ length (listed c.args.catalogue.now) = ap length c.versions.ensures.listed in
     omega (arith, count, all_parts c.args.catalogue.now, c.in_ok-packages.ensures.few, c.in_ok-deps.ensures.few, c.in_ok-marks.ensures.few)
 
 pub returns-clause-few : goal.returns-clause-few
 returns-clause-few c =
-    let count : length c.versions.result.now ≡ length (listed c.args.catalogue.now) = sym (length-map c.versions.result.now _) ∙ ap length c.versions.ensures.listed in
+    let count : length c.versions.result.now ≡ length (listed c.args.catalogue.now) = ap length c.versions.ensures.listed in
     omega (arith, count, all_parts c.args.catalogue.now, c.in_ok-packages.ensures.few, c.in_ok-deps.ensures.few, c.in_ok-marks.ensures.few)

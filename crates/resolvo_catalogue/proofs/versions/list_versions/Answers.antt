@@ -1,20 +1,20 @@
-use Rattle.std.proofs.Common.{refl, ◌∷◌, [], ◌∙◌, arith}
-use Rattle.std.proofs.lemmas.List.{map_more}
-use Rattle.resolvo_catalogue_core.specs.Listed.{pair_version}
-use Rattle.resolvo_catalogue.specs.Ids.{IsSolvable}
-use Rattle.resolvo_catalogue.proofs.ListLemmas.{versions_stay, solvables_more, as_long}
-use Rattle.resolvo_catalogue.proofs.GrowLemmas.{each_more}
+use Rattle.std.proofs.Common.{◌≡◌, ◌∙◌, ℕ, true, length, sym, ap, subst, arith}
+use Rattle.std.specs.Prelude.{Some, slice_get}
+use Rattle.std.specs.String.{string_bytes}
+use Rattle.std.proofs.lemmas.List.{length-map}
+use Rattle.std.proofs.lemmas.Option.{slice_get_within}
+use Rattle.resolvo_catalogue_core.specs.Listed.{are_kept}
+use Rattle.resolvo_catalogue.specs.Ids.{IsPackage}
+use Rattle.resolvo_catalogue.proofs.Places.{each_left, each_length}
 use Rattle.resolvo_catalogue.proofs.versions.list_versions.Goals as goal
 
-pub loop-version-preserved : goal.loop-version-preserved
-loop-version-preserved c =
-    let inv = c.loop-version.invariant in
-    let interned = c.in_ok-package.ensures in
-    let b = c.version.new.self in (
-      rw (map_more pair_version c.args.versions.now c.loop-version.version-index c.version-item.result c.loop-version-test.true, ← c.version-item.is, interned.added)
-          (each_more (IsSolvable b) c.loop-version.ids.solvables (record { version = c.version-item.result.1; name = c.in_ok-package.package } ∷ []) _ (pair_version c.version-item.result ∷ []) (versions_stay c.loop-version.ids b interned.grows _ _ inv.0) ((refl, rw c.as_str.ensures.value at interned.«package»), tt)),
-      λ n. c.in_ok-add.ensures.added n ∙ solvables_more c.loop-version.ids b _ c.in_ok-package.id _ n interned.added interned.id (inv.1 n),
-      as_long c.loop-version.lists.items c.add.new.lists.items c.loop-version.ids.names b.names c.in_ok-package.package.raw inv.2 c.in_ok-add.ensures.place interned.place,
-      omega (arith, inv.3, interned.few),
-      omega (arith, c.loop-version-test.true),
-    )
+pub list_kept-requires-clause-kept : goal.list_kept-requires-clause-kept
+list_kept-requires-clause-kept c =
+    let count : length c.deref.result.now ≡ length c.parts.result.0.now = ap length c.deref.ensures.value ∙ each_length (IsPackage c.intern_names.new.ids) c.in_ok-packages.packages.items _ c.in_ok-packages.ensures.names ∙ length-map c.parts.result.0.now string_bytes in
+    subst (λ (n : ℕ). are_kept n c.parts.result.1.now ≡ true) (sym count) c.parts.ensures.kept
+
+pub list_kept-requires-clause-places : goal.list_kept-requires-clause-places
+list_kept-requires-clause-places c = λ k name at.
+    let b = c.intern_names.new.ids in
+    let found = each_left (IsPackage b) c.in_ok-packages.packages.items _ c.in_ok-packages.ensures.names k name (subst (λ ns. slice_get ns k ≡ Some name) c.deref.ensures.value at) in
+    omega (arith, slice_get_within b.names name.raw found.0 found.2, c.in_ok-packages.ensures.count, ap length c.requires.names, c.in_ok-lists.ensures.count)

@@ -1,4 +1,5 @@
 use Rattle.std.proofs.Common.{◌≡◌, ◌∙◌, List, ℕ, Option, not, is_some, sym, ap, subst, rules, Some}
+use Rattle.std.specs.Prelude.{IfOk, IfSome}
 use Rattle.std.specs.String.{string_bytes}
 use Rattle.std.specs.BTreeMap.{get_by_text}
 use Rattle.std.specs.Map.{update}
@@ -7,6 +8,7 @@ use Rattle.std.proofs.lemmas.Map.Text.{btree_map_updates_text}
 use Rattle.resolvo_text.specs.View.{version_of}
 use Rattle.resolvo_catalogue_core.specs.Table.{AddsNumber, number_in}
 use Rattle.resolvo_catalogue_core.specs.Numbered.{beside}
+use Rattle.resolvo_catalogue_core.specs.Packages.{first_in}
 use Rattle.resolvo_catalogue_core.specs.declared.package.Package.{Package}
 use Rattle.resolvo_catalogue_core.proofs.TableSteps.{adds_version, adds_to_new, new_number}
 use Rattle.resolvo_catalogue_core.proofs.CatalogueFacts.{ok_map}
@@ -17,6 +19,12 @@ returns-in-Some-clause-new c =
     let packages = c.args.packages.now in
     let found = c.in-Some.ensures.value ∙ ap (λ (x : List ℕ). get_by_text packages x) c.as_str.ensures.value in
     ok_map c.add.result c.add.ensures.new (λ added is. is ∙ ap (λ b. not b) (new_number (get_by_text packages (string_bytes c.args.version.now.name)) _ c.args.version.now.number found))
+
+pub returns-in-Some-clause-first : goal.returns-in-Some-clause-first
+returns-in-Some-clause-first c =
+    let packages = c.args.packages.now in
+    let found = c.in-Some.ensures.value ∙ ap (λ (x : List ℕ). get_by_text packages x) c.as_str.ensures.value in
+    subst (λ (o : Option Package). IfOk c.add.result (λ first. IfSome first (λ v. v ≡ first_in o c.args.number))) found c.add.ensures.first
 
 pub returns-in-Some-clause-put : goal.returns-in-Some-clause-put
 returns-in-Some-clause-put c =

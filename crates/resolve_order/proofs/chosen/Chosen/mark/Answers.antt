@@ -1,7 +1,7 @@
 use Rattle.std.proofs.Common.{◌≡◌, ◌∙◌, ◌+◌, List, Bool, true, refl, sym, ap, subst, set}
 use Rattle.std.specs.Option.{option_map}
 use Rattle.resolvo_text.specs.Line.{Version}
-use Rattle.resolvo_catalogue_core.specs.Listed.{pair_version}
+use Rattle.resolvo_catalogue_core.specs.Listed.{version_by}
 use Rattle.resolve_order.specs.Kept.{unlisted}
 use Rattle.resolve_order.specs.declared.chosen.Chosen.{Chosen}
 use Rattle.resolve_order.proofs.PickLemmas.{Moves, fewer_unlisted, marks}
@@ -26,14 +26,14 @@ returns-clause-marked c = λ chosen entries v at among h.
     ] in
     let moves : Moves before mid c.args.version v = elim c.match-version_at.branch [
       | in-Some+in_ok-add_number w ↦
-          let here = sym c.version_at.ensures ∙ ap (option_map (λ p. pair_version p.now)) w.in-Some.is in
-          let is : pair_version w.in-Some.listed.now ≡ v = cc (here, at) in
-          subst (λ (x : Version). Moves before mid c.args.version x) is (subst (λ (x : Chosen). Moves before x c.args.version (pair_version w.in-Some.listed.now)) (sym w.self-is) (record {
+          let here = sym c.version_at.ensures ∙ ap (option_map (λ p. version_by p.0.now p.1)) w.in-Some.is in
+          let is : version_by w.in-Some.listed.0.now w.in-Some.listed.1 ≡ v = cc (here, at) in
+          subst (λ (x : Version). Moves before mid c.args.version x) is (subst (λ (x : Chosen). Moves before x c.args.version (version_by w.in-Some.listed.0.now w.in-Some.listed.1)) (sym w.self-is) (record {
             entered = λ name number. w.in_ok-add_number.ensures (record { name = name; number = number });
             taken = λ name number. w.remove_number.ensures (record { name = name; number = number });
             same_favoured = refl;
             same_left = refl;
           }))
-      | in_default w ↦ absurd (let none = sym c.version_at.ensures ∙ ap (option_map (λ p. pair_version p.now)) w.in_default.is in cc (none, at))
+      | in_default w ↦ absurd (let none = sym c.version_at.ensures ∙ ap (option_map (λ p. version_by p.0.now p.1)) w.in_default.is in cc (none, at))
     ] in
     marks c.args.catalogue.now before _ chosen entries c.args.version v at among c.requires (record { entered = moves.entered; taken = moves.taken; same_favoured = moves.same_favoured; same_left = moves.same_left }) (ap (λ (flags : List Bool). set flags c.args.version.0 true) same) h

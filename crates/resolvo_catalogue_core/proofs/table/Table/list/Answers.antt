@@ -1,30 +1,43 @@
-use Rattle.std.proofs.Common.{◌≡◌, ◌∙◌, ◌∷◌, [], map, length, ◌+◌, ap, arith}
-use Rattle.std.proofs.lemmas.List.{length-append, length-map, map_push}
+use Rattle.std.proofs.Common.{◌≡◌, ◌∷◌, [], Option, Some, is_some, length, ◌+◌, ap, subst, arith}
+use Rattle.std.specs.Prelude.{IfSome, slice_get, string_bytes}
+use Rattle.std.proofs.lemmas.List.{length-append}
 use Rattle.resolvo_text.specs.View.{version_of}
+use Rattle.resolvo_catalogue_core.specs.Packages.{package_in, first_in}
 use Rattle.resolvo_catalogue_core.specs.Table.{versions_in}
-use Rattle.resolvo_catalogue_core.specs.Listed.{pair_version}
+use Rattle.resolvo_catalogue_core.specs.declared.rule.VersionNo.{VersionNo}
 use Rattle.resolvo_catalogue_core.proofs.TableSteps.{list, empty_more, was_there, was_new}
-use Rattle.resolvo_catalogue_core.proofs.PlaceLemmas.{versions_few, listed_by_number, unlisted_by_number}
+use Rattle.resolvo_catalogue_core.proofs.PlaceLemmas.{versions_few, first_alike, listed_by_number, unlisted_by_number}
 use Rattle.resolvo_catalogue_core.proofs.table.Table.list.Goals as goal
 
-pub returns-then-not-branch-clause-fault : goal.returns-then-not-branch-clause-fault
-returns-then-not-branch-clause-fault c = λ e may. may (listed_by_number c.args.self.now c.requires.table (version_of c.args.version) (was_there c.in_ok-add.field-0 _ c.in_ok-add.ensures.new c.if-not-branch.true))
+pub returns-in_default-clause-fault : goal.returns-in_default-clause-fault
+returns-in_default-clause-fault c = λ e may. may (listed_by_number c.args.self.now c.requires.table (version_of c.args.version) (was_there (is_some c.in_ok-first.field-0) _ c.in_ok-first.ensures.new (ap (λ (o : Option VersionNo). is_some o) c.in_default.is)))
 
 pub returns-clause-placed : goal.returns-clause-placed
-returns-clause-placed c = unlisted_by_number c.args.self.now c.requires.table (version_of c.args.version) (was_new c.in_ok-add.field-0 _ c.in_ok-add.ensures.new c.if-not-branch.false)
+returns-clause-placed c = unlisted_by_number c.args.self.now c.requires.table (version_of c.args.version) (was_new (is_some c.in_ok-first.field-0) _ c.in_ok-first.ensures.new (ap (λ (o : Option VersionNo). is_some o) c.in-Some.is))
 
 pub overflow_cast-number : goal.overflow_cast-number
-overflow_cast-number c = omega (arith, versions_few c.args.self.now c.requires.table, c.requires.short, c.args.self.now.versions.ok, c.len.ensures)
+overflow_cast-number c = omega (arith, versions_few c.args.self.now c.requires.table, c.requires.short, c.len.ensures)
+
+pub push-requires : goal.push-requires
+push-requires c =
+    let t = c.args.self.now in
+    let name = string_bytes c.args.version.name in
+    let number : VersionNo = record { 0 = c.len.result } in
+    let first : c.in-Some.first ≡ first_in (package_in t.packages name) number = subst (λ (o : Option VersionNo). IfSome o (λ v. v ≡ first_in (package_in t.packages name) number)) c.in-Some.is c.in_ok-first.ensures.first in
+    record {
+      alike = λ v at. first_alike t c.requires.table name number c.len.ensures v (subst (λ (k : VersionNo). slice_get (versions_in t) k.0 ≡ Some v) first at);
+      short = omega (arith, versions_few t c.requires.table, c.requires.short);
+    }
 
 pub returns-clause-ok : goal.returns-clause-ok
 returns-clause-ok c =
     let t = c.args.self.now in
     let u = record t { versions = c.push.new.self; line_kinds = c.push-2.new.self; packages = c.add.new.self; owned = c.add_version.new.self } in
-    let number : c.len.result ≡ length (versions_in c.args.self.now) = omega (arith, t.versions.ok, c.len.ensures, length-map t.versions.items pair_version) in
-    let listed = ap (λ vs. map pair_version vs) c.in_ok-push.ensures.items ∙ map_push pair_version t.versions.items (record { 0 = c.args.version.name; 1 = c.args.version.number }) in
+    let added = ap (λ (o : Option VersionNo). is_some o) c.in-Some.is in
+    let unlisted = unlisted_by_number t c.requires.table (version_of c.args.version) (was_new (is_some c.in_ok-first.field-0) _ c.in_ok-first.ensures.new added) in
     let kept = empty_more t.owned c.add_version.new.self c.in_ok-add_version.ensures in
     let as_many : length c.add_version.new.self ≡ length t.owned + 1 = omega (arith, ap (λ xs. length xs) c.in_ok-add_version.ensures, length-append t.owned ([] ∷ [])) in
-    list t u (record { 0 = c.len.result }) (version_of c.args.version) c.requires.table number (unlisted_by_number t c.requires.table (version_of c.args.version) (was_new c.in_ok-add.field-0 _ c.in_ok-add.ensures.new c.if-not-branch.false)) (c.in_ok-add.ensures.put c.if-not-branch.false) (c.in_ok-add.ensures.behind c.if-not-branch.false) listed c.in_ok-push-2.ensures kept as_many
+    list t u (record { 0 = c.len.result }) (version_of c.args.version) c.requires.table c.len.ensures unlisted (c.in_ok-first.ensures.put added) (c.in_ok-first.ensures.behind added) c.in_ok-push.ensures c.in_ok-push-2.ensures kept as_many
 
 pub add-requires : goal.add-requires
 add-requires c = record { kept = λ name p is. (c.requires.table.packages name).kept p is; behind = c.requires.table.behind }
