@@ -46,6 +46,17 @@ def hash_of_number(number):
     return (state ^ state >> 32) & 0xFFFFFFFF
 
 
+def mixed(state, number):
+    """The provider's hash of what a state is of, and one number more."""
+    product = (state ^ number) * MULTIPLIER & MASK
+    return product ^ product >> 32
+
+
+def hash_of_set(number):
+    """The provider's hash of the version set of one number of the first package."""
+    return mixed(mixed(mixed(0, 1), number), 0)
+
+
 def texts(count, collide):
     """So many names or words of 32 bytes, that have one hash or any."""
     rng = random.Random(1)
@@ -54,12 +65,12 @@ def texts(count, collide):
         yield front + "".join(last)
 
 
-def numbers(count, collide):
+def numbers(count, collide, hash_of=hash_of_number):
     """So many numbers, falling, whose hashes agree in the bits that choose a place, or any."""
     if not collide:
         return sorted(random.Random(2).sample(range(1 << 32), count), reverse=True)
     bits = max(1, (count // 12).bit_length())
-    same = (it for it in itertools.count(1) if hash_of_number(it) & (1 << bits) - 1 == 0)
+    same = (it for it in itertools.count(1) if hash_of(it) & (1 << bits) - 1 == 0)
     return sorted(itertools.islice(same, count), reverse=True)
 
 
@@ -91,6 +102,12 @@ def spans(size, collide):
     return ["version a 1\n", *(f"needs a {number} | a\n" for number in found)], "needs a\n"
 
 
+def sets(size, collide):
+    """The same with spans whose places in the provider's table are few."""
+    found = numbers(min(size // 18, 1 << 12), collide, hash_of_set)
+    return ["version a 1\n", *(f"needs a {number} | a\n" for number in found)], "needs a\n"
+
+
 def installed(size, collide):
     """Each package is needed by a line of the request."""
     names = list(texts(size // 43, collide))
@@ -104,7 +121,7 @@ def judged(size, collide):
     return *installed(size, collide), "install\n" + "".join(entries)
 
 
-KINDS = (packages, specs, words, versions, spans, installed, judged)
+KINDS = (packages, specs, words, versions, spans, sets, installed, judged)
 
 
 def seconds(program, lines, request, *reports):

@@ -1,5 +1,5 @@
 -- Values that are each found at their places, by keys that are four numbers, lists of numbers, or texts behind their hashes.
-use Rattle.std.specs.Prelude.{◌≡◌, ◌∷◌, [], ◌==◌, ◌%◌, if◌then◌else◌, ℕ, Bool, List, length, map, Option, Some, None, slice_get}
+use Rattle.std.specs.Prelude.{◌≡◌, ◌∷◌, [], ◌==◌, ◌-◌, if◌then◌else◌, ℕ, Bool, List, length, map, Option, Some, None, slice_get, bit_and}
 use Rattle.std.specs.Global.{Global, Vec}
 use Rattle.std.specs.String.{string_bytes}
 use Rattle.std.specs.declared.string.String.{String}
@@ -41,42 +41,43 @@ number_in entries key = lookup (key_eq key) entries
 abbrev pub list_number_in : List (Vec ℕ × ℕ) → List ℕ → Option ℕ
 list_number_in entries key = lookup (λ k. is_eq (slice_cmp nat_cmp key k.items)) entries
 
--- ---- places
+-- ---- keys at places
 
--- what lies at each place, and the entries of the sorted map of the others
+-- what lies at each place, the entries there, and those of the sorted map of the others
 pub record KeyNumbers : Type 0 where
-  pub places : List (Option (Key × ℕ))
+  pub slots : List ℕ
+  pub entries : List (Key × ℕ)
   pub others : List (Key × ℕ)
 
 -- a hash of a key
 abbrev pub key_hash : Key → ℕ
 key_hash key = mix (mix (mix key.0 key.1) key.2) key.3
 
--- the place of a key among so many
-abbrev pub place_of : ℕ → Key → ℕ
-place_of count key = if count == 0 then 0 else key_hash key % count
+-- the place of a key among so many, which are a power of two
+abbrev pub key_place : ℕ → Key → ℕ
+key_place count key = bit_and (key_hash key) (count - 1)
 
--- what lies at the place of a key
-abbrev pub slot_of : List (Option (Key × ℕ)) → Key → Option (Option (Key × ℕ))
-slot_of places key = slice_get places (place_of (length places) key)
+-- what lies at the place of a key: 0 if it is free, else one more than the place of an entry
+abbrev pub slot_of : List ℕ → Key → Option ℕ
+slot_of slots key = slice_get slots (key_place (length slots) key)
 
--- the number of a key: none if its place is free, that of its place if it lies there, else another one
-abbrev pub number_beside : Option (Option (Key × ℕ)) → Option ℕ → Key → Option ℕ
-number_beside None other key = other
-number_beside (Some None) other key = None
-number_beside (Some (Some first)) other key = if key_eq first.0 key then Some first.1 else other
+-- the number of a key by an entry: that of the entry if its key is this one, else another one
+abbrev pub number_of_entry : Option (Key × ℕ) → Option ℕ → Key → Option ℕ
+number_of_entry None other key = other
+number_of_entry (Some first) other key = if key_eq first.0 key then Some first.1 else other
+
+-- the same by what lies at its place: none if it is free
+abbrev pub number_beside : List (Key × ℕ) → Option ℕ → Option ℕ → Key → Option ℕ
+number_beside entries None other key = other
+number_beside entries (Some next) other key = if next == 0 then None else number_of_entry (slice_get entries (next - 1)) other key
 
 -- the number of a key
 abbrev pub number_at : KeyNumbers → Key → Option ℕ
-number_at m key = number_beside (slot_of m.places key) (number_in m.others key) key
+number_at m key = number_beside m.entries (slot_of m.slots key) (number_in m.others key) key
 
 -- no key whose place is free is among the others
 abbrev pub AreBehind : KeyNumbers → Type 0
-AreBehind m = (key : Key) → slot_of m.places key ≡ Some None → number_in m.others key ≡ None
-
--- each place is free
-abbrev pub AreFree : List (Option (Key × ℕ)) → Type 0
-AreFree places = (i : ℕ) (s : Option (Key × ℕ)) → slice_get places i ≡ Some s → s ≡ None
+AreBehind m = (key : Key) → slot_of m.slots key ≡ Some 0 → number_in m.others key ≡ None
 
 -- ---- texts, by a hash and by themselves
 

@@ -41,6 +41,7 @@ impl VersionSet for Numbers {
 struct Numbered<T: Drop> {
     values: Vec<T>,
     ids: KeyMap,
+    ghost few: { length ids.entries ≤ length values.items },
 }
 
 // split for the prover: one drop for each
@@ -57,6 +58,7 @@ struct Unions {
     short: KeyMap,
     /// The numbers of the others.
     long: BTreeMap<Vec<u32>, u32>,
+    ghost few: { length short.entries ≤ length values.items },
 }
 
 // split for the prover: one drop for each

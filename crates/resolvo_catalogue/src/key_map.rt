@@ -1,10 +1,9 @@
-//! Numbers by keys of four numbers. The first key of each place lies there, with its number; others
-//! of that place are found through a sorted map. So no choice of keys makes that slow. A key whose
-//! place is free has no number. The model is what lies at the places, and the entries of the map. Used
-//! by `id_table`.
+//! Numbers by keys of four numbers. The first key of each place lies among the entries, with its
+//! number; others of that place are found through a sorted map. So no choice of keys makes that slow.
+//! A key whose place is free has no number. Used by `id_table`.
 
-ghost use Rattle.std.specs.Prelude.{◌≡◌, false, IfOk, IsTrue, OnOk, OnErr, None, Some, slice_get, if◌then◌else◌};
-ghost use Rattle.resolvo_catalogue.specs.Found.{Key, key_eq, key_hash, place_of, number_at, AreFree};
+ghost use Rattle.std.specs.Prelude.{◌≡◌, ◌<◌, ◌≤◌, ◌+◌, length, false, IfOk, IsTrue, OnOk, OnErr, None, Some, slice_get, if◌then◌else◌};
+ghost use Rattle.resolvo_catalogue.specs.Found.{Key, key_eq, key_hash, key_place, number_at, number_in, number_of_entry};
 
 use resolvo_catalogue_core::mixed;
 use std::alloc::{AllocError, Global};
@@ -15,8 +14,10 @@ use std::marker::Model;
 pub type Key = (u32, u32, u32, u32);
 
 pub struct KeyMap {
+    /// What lies at each place: 0 if it is free, else one more than the place of an entry.
+    slots: Vec<u32>,
     /// The first key of each place, and its number.
-    places: Vec<Option<(Key, u32)>>,
+    entries: Vec<(Key, u32)>,
     /// The numbers of the keys whose place another key has.
     others: BTreeMap<Key, u32>,
 }
@@ -25,7 +26,8 @@ pub struct KeyMap {
 impl Drop for KeyMap {
     fn drop(self) {
         let KeyMap {
-            places: _,
+            slots: _,
+            entries: _,
             others: _,
         } = self;
     }
@@ -36,18 +38,22 @@ impl Model for KeyMap {
 
     ghost Value = { KeyNumbers };
 
-    ghost view = { λ m. record { places = m.places.items; others = m.others.entries } };
+    ghost view = { λ m. record { slots = m.slots.items; entries = m.entries.items; others = m.others.entries } };
 
-    ghost invariant = { λ m. AreBehind (record { places = m.places.items; others = m.others.entries }) };
+    ghost invariant = { λ m.
+        AreBehind (record { slots = m.slots.items; entries = m.entries.items; others = m.others.entries }) };
 }
 
 impl KeyMap {
     /// No keys, with places for so many. More keys are found more slowly.
+    #[tactic(auto, using(crate::proofs::KeyMapLemmas::free_numbers, crate::proofs::KeyMapLemmas::none_behind))]
     pub fn new(alloc: Global, room: usize) -> Result<KeyMap, AllocError>
-        ensures { IfOk result (λ m. (key : Key) → number_at m key ≡ None) }
+        ensures none { IfOk result (λ m. (key : Key) → number_at m key ≡ None) }
+        ensures entries { IfOk result (λ m. length m.entries ≡ 0) }
     {
         Ok(KeyMap {
-            places: free_places(alloc, room)?,
+            slots: vec![in alloc; 0; slot_count(room)]?,
+            entries: Vec::new(alloc),
             others: BTreeMap::new(alloc),
         })
     }
@@ -56,12 +62,29 @@ impl KeyMap {
     pub fn number(&self, key: &Key) -> Option<u32>
         ensures { result ≡ number_at self.now key.now }
     {
-        match slot_at(&self.places, place_of(key, self.places.len())) {
+        match slot_at(&self.slots, place_of(key, self.slots.len())) {
             None => self.others.get(key).copied(),
-            Some(None) => None,
-            Some(Some((first, number))) => {
-                if is_key(&first, key) {
-                    Some(number)
+            Some(next) => {
+                if next == 0 {
+                    None
+                } else {
+                    self.number_at(next - 1, key)
+                }
+            }
+        }
+    }
+
+    /// The number of a key whose place has this entry.
+    fn number_at(&self, at: u32, key: &Key) -> Option<u32>
+        ensures { result
+            ≡ number_of_entry (slice_get self.now.entries at) (number_in self.now.others key.now)
+            key.now }
+    {
+        match entry_at(&self.entries, at) {
+            None => self.others.get(key).copied(),
+            Some(entry) => {
+                if is_key(&entry.0, key) {
+                    Some(entry.1)
                 } else {
                     self.others.get(key).copied()
                 }
@@ -71,14 +94,18 @@ impl KeyMap {
 
     /// Maps a key that has no number to a number.
     pub fn add(&mut self, key: Key, number: u32) -> Result<(), AllocError>
-        requires { number_at self.old key ≡ None }
+        requires none { number_at self.old key ≡ None }
+        requires few { length self.old.entries < 4294967295 }
         ensures added { OnOk result ((other : Key) → number_at self.new other ≡
             (if key_eq key other then Some number else number_at self.old other)) }
         ensures kept { OnErr result (self.new ≡ self.old) }
+        ensures entries { length self.new.entries ≤ length self.old.entries + 1 }
     {
-        let at = place_of(&key, self.places.len());
-        if is_free(&self.places, at) {
-            self.places[at] = Some((key, number));
+        let at = place_of(&key, self.slots.len());
+        if is_free(&self.slots, at) {
+            let next = self.entries.len() as u32 + 1;
+            self.entries.push((key, number))?;
+            self.slots[at] = next;
             return Ok(());
         }
         self.others.insert(key, number)?;
@@ -86,32 +113,38 @@ impl KeyMap {
     }
 }
 
-/// So many free places.
-#[tactic(auto, using(crate::proofs::KeyMapLemmas::free_more))]
-fn free_places(alloc: Global, count: usize) -> Result<Vec<Option<(Key, u32)>>, AllocError>
-    ensures { IfOk result (λ places. AreFree places.items) }
-{
-    let mut places = Vec::with_capacity(alloc, count)?;
-    for _ in 0..count {
-        places.push(None)?;
+/// A power of two, over twice the room where that is at most 2^31.
+fn slot_count(room: usize) -> usize {
+    let mut count: usize = 16;
+    for _ in 0..27 {
+        if count / 2 <= room {
+            count = count.saturating_mul(2);
+        }
     }
-    Ok(places)
+    count
 }
 
 /// What lies at a place, if there is one.
-fn slot_at(places: &[Option<(Key, u32)>], at: usize) -> Option<Option<(Key, u32)>>
-    ensures { result ≡ slice_get places.now at }
+fn slot_at(slots: &[u32], at: usize) -> Option<u32>
+    ensures { result ≡ slice_get slots.now at }
 {
-    places.get(at).copied()
+    slots.get(at).copied()
+}
+
+/// An entry, if there is one.
+fn entry_at(entries: &[(Key, u32)], at: u32) -> Option<(Key, u32)>
+    ensures { result ≡ slice_get entries.now at }
+{
+    entries.get(at as usize).copied()
 }
 
 /// Whether there is a place, and nothing lies there.
-fn is_free(places: &[Option<(Key, u32)>], at: usize) -> bool
-    ensures free { IsTrue result → slice_get places.now at ≡ Some None }
-    ensures taken { result ≡ false → slice_get places.now at ≡ Some None → ⊥ }
+fn is_free(slots: &[u32], at: usize) -> bool
+    ensures free { IsTrue result → slice_get slots.now at ≡ Some 0 }
+    ensures taken { result ≡ false → slice_get slots.now at ≡ Some 0 → ⊥ }
 {
-    match slot_at(places, at) {
-        Some(None) => true,
+    match slot_at(slots, at) {
+        Some(0) => true,
         _ => false,
     }
 }
@@ -123,15 +156,11 @@ fn is_key(first: &Key, key: &Key) -> bool
     first.cmp(key).is_eq()
 }
 
-/// The place of a key among so many.
+/// The place of a key among so many, which are a power of two.
 fn place_of(key: &Key, count: usize) -> usize
-    ensures { result ≡ place_of count key.now }
+    ensures { result ≡ key_place count key.now }
 {
-    if count == 0 {
-        0
-    } else {
-        hash_of_key(key) % count
-    }
+    hash_of_key(key) & count.saturating_sub(1)
 }
 
 /// A hash of a key.
