@@ -140,7 +140,10 @@ class Encoder:
                 if other != locked:
                     root = [] if self.options.unit_locks else [no(ROOT)]
                     self.solver.add_clause(Locked(locked, other), [*root, no(other)])
-        for version, word in self.facts.exclusions.get(package, ()):
+        exclusions = self.facts.exclusions.get(package, [])
+        if self.options.exclusions_by_version:
+            exclusions = sorted(exclusions, key=lambda pair: self.facts.candidates[package].index(pair[0]))
+        for version, word in exclusions:
             self.solver.add_clause(Excluded(version, word), [no(version)])
 
     # -- needs
