@@ -56,7 +56,7 @@ PROGRAM = Options(
     last_watched=True,
     parent_by_parent=True, cases_later=True, root_stays=True, flat_cases=True,
     false_wishes=True, wish_unseen=True, exclusions_by_version=True, set_at_once=False,
-    restart_after_encoding=False, root_in_learnt=False, as_met=False,
+    root_in_learnt=False, as_met=False,
 )
 
 

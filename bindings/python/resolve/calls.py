@@ -11,7 +11,7 @@ def solve(catalogue: Bytes, request: Bytes, backend: Optional[Backend] = None, b
     """What to install for the request, or why nothing can be: `resolve solve`.
 
     With a budget the search raises `GivenUp` at the question whether to stop that comes after so many. The solver asks it before
-    each propagation, and before each question of which versions a package has or what a version needs."""
+    each step of its search, and before each question of which versions a package has or what a version needs."""
     ending, text = (backend or default_backend()).solve(catalogue, request, budget)
     return (installed_in, refused_in, faulty_in)[ending](text)
 

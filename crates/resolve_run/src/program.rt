@@ -115,7 +115,7 @@ fn answer<C: Source, R: Source>(
 
 /// The same as `run`, except that it may give up where it has a budget, with nothing written. It
 /// gives up where the solver asks more than so many times whether to stop. The solver asks this
-/// before each propagation, and before each new query for candidates or dependencies.
+/// before each step of its search, and before each new query for candidates or dependencies.
 pub fn run_within<C: Source, R: Source, W: Sink>(
     alloc: Global,
     catalogue: &mut C,

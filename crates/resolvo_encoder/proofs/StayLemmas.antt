@@ -19,6 +19,7 @@ use Rattle.resolvo_sat.specs.declared.watch_lists.WatchLists.{WatchLists}
 use Rattle.resolvo_sat.specs.PropagateAndLearn.{Completes, Improves, IsProgress, KeepsUpTo, weight_left}
 use Rattle.resolvo_sat.specs.Entries.{weight, EndsWith}
 use Rattle.resolvo_sat.specs.Known.{clause_at}
+use Rattle.resolvo_sat.specs.Propagation.{Extends}
 use Rattle.resolvo_sat.specs.State.{lists, count_of, history, clauses_of}
 use Rattle.resolvo_sat.specs.Steps.{Chooses, Undoes}
 use Rattle.resolvo_sat.proofs.Clauses.{length-lists}
@@ -41,7 +42,7 @@ use Rattle.resolvo_state.specs.Registered.{AreTied, IsTracked, IsRegistered}
 use Rattle.resolvo_state.specs.Spelled.{AreRegistered}
 use Rattle.resolvo_state.specs.ClauseKinds.{kind_at, rule_at}
 use Rattle.resolvo_state.proofs.KeepLemmas.{floored_kept}
-use Rattle.resolvo_state.proofs.Growth.{grows_same, grows_then, trail_same, kind_grows, kind_split, rule_split, rules_split, spelled_grows, registered_grows, called_grows_trail, called_advances, called_undoes, called_chooses}
+use Rattle.resolvo_state.proofs.Growth.{grows_same, grows_then, trail_same, kind_grows, kind_split, rule_split, rules_split, spelled_grows, registered_grows, called_grows_trail, called_advances, called_undoes, called_chooses, called_extends}
 use Rattle.resolvo_state.proofs.Positions.{prefix_equal, get_last}
 use Rattle.resolvo_state.proofs.RegisterLemmas.{KeepsDigits, ties_grow}
 use Rattle.resolvo_state.proofs.Rules.{rule_at_kind}
@@ -241,6 +242,10 @@ module _ {N S : Type 0} (old : Encoder N S) (c : SolverState N S) where
   pub undo_goes : (level : ℕ) → old.coding.search.base_level - 1 ≤ level → Undoes level old.coding.search c.search → KeepsClauses old.coding c → GoesOn old went
   undo_goes level low undoes kept = kept_goes kept undoes.same.base_level (λ base under ends. undo_earlier old.coding.search c.search level base undoes (omega arith) ends)
 
+  -- propagation alone
+  pub run_goes : Extends old.coding.search c.search → KeepsClauses old.coding c → GoesOn old went
+  run_goes extends kept = kept_goes kept extends.same.base_level (λ base low ends. extends_earlier old.coding.search c.search base extends ends)
+
   module _ (same : S → S → Bool) (exact : IsExact same) (p : Packages N S) (root : Rules) (lawful : IsLawful p) where
     -- a step of the search keeps the invariant
     pub step_keeps : (q : StepResult) → Advances old.coding c q → IsEncoding same p root old → IsEncoding same p root went
@@ -271,6 +276,14 @@ module _ {N S : Type 0} (old : Encoder N S) (c : SolverState N S) where
         stays same exact p root lawful old went e goes
         (positive_on same exact p root lawful old went e goes (λ n l low high present. (let long : length c.search.clauses ≡ length old.coding.search.clauses = ap (λ (cs : List SatClause). length cs) kept.clauses in absurd (omega arith))))
         (called_undoes (IsChosenFor same p old) (IsChosenFor same p went) (chosen_grows old went goes.grows (λ r h. refl) refl same p) old.coding c level undoes kept e.called)
+
+    -- so does propagation alone
+    pub run_keeps : Extends old.coding.search c.search → KeepsClauses old.coding c → IsEncoding same p root old → IsEncoding same p root went
+    run_keeps extends kept e =
+        let goes = run_goes extends kept in
+        stays same exact p root lawful old went e goes
+        (positive_on same exact p root lawful old went e goes (λ n l low high present. (let long : length c.search.clauses ≡ length old.coding.search.clauses = ap (λ (cs : List SatClause). length cs) kept.clauses in absurd (omega arith))))
+        (called_extends (IsChosenFor same p old) (IsChosenFor same p went) (chosen_grows old went goes.grows (λ r h. refl) refl same p) old.coding c extends kept e.called)
 
 -- ---- the queue is brought up to date with the trail
 

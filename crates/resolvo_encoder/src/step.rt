@@ -1,5 +1,5 @@
 //! The steps of the search over the encoding: propagate, learn, decide.
-ghost use Rattle.std.specs.Prelude.{◌-◌, max, IfOk, OnOk, IsErrOf, IsOkUnless};
+ghost use Rattle.std.specs.Prelude.{◌<◌, ◌-◌, length, max, IfOk, IfSome, OnOk, IsErrOf, IsOkUnless};
 ghost use Rattle.resolvo_pool_core.specs.declared.want.Want.TheVariants.{Memory, Ids};
 ghost use Rattle.resolvo_decide.specs.Queue.{IsSynced, IsHotBound};
 ghost use Rattle.resolvo_sat.specs.Steps.{Undoes};
@@ -110,6 +110,35 @@ impl<N: Copy + Exact + Hash + Debug + Drop, S: Copy + Exact + Hash + Debug> Enco
     {
         let level = self.coding.search.base_level.saturating_sub(1);
         self.coding.undo_until(level.max(1));
+    }
+
+    /// Propagates, and learns nothing. Whether a clause is falsified above the turn's first level.
+    pub fn propagate(&mut self) -> R<bool>
+        requires { IsBuilt self.old }
+        // After an answer.
+        ensures stays { OnOk result (StaysEncoding S.eq self.old self.new) }
+        ensures goes_on { OnOk result (GoesOn self.old self.new) }
+        ensures built { OnOk result (IsBuilt self.new) }
+        ensures first { OnOk result (KeepsFirst self.old self.new) }
+        // After a refusal.
+        ensures refusal { IsOkUnless result Memory }
+    {
+        let falsified = self.coding.propagate()?;
+        Ok(self.is_above_first(falsified))
+    }
+
+    /// Whether there is a falsified clause, and a literal of it got its value above the turn's first
+    /// level.
+    fn is_above_first(&self, falsified: Option<ClauseId>) -> bool
+        requires { IfSome falsified (λ c. c.0 < length self.now.coding.search.clauses) }
+    {
+        let Some(clause) = falsified else {
+            return false;
+        };
+        let search = &self.coding.search;
+        let values = search.tracker.map();
+        search.literals(clause).iter().any(|literal| values.level(literal.variable())
+            > search.base_level)
     }
 
     /// Propagates; then learns from a falsified clause, or decides where there is none.

@@ -18,6 +18,7 @@ use Rattle.resolvo_sat.specs.Entries.{literal_of}
 use Rattle.resolvo_sat.specs.State.{lists, clauses_of, count_of, history}
 use Rattle.resolvo_sat.specs.Steps.{Chooses, Undoes, KeepsChoices, choice_entry}
 use Rattle.resolvo_sat.specs.PropagateAndLearn.{IsProgress}
+use Rattle.resolvo_sat.specs.Propagation.{Extends}
 use Rattle.resolvo_sat.proofs.JumpLemmas.{undone_on}
 use Rattle.resolvo_sat.proofs.Clauses.{length-lists, literals_at}
 use Rattle.resolvo_sat.proofs.StepLemmas.{lists-append, reverse_push}
@@ -171,6 +172,10 @@ module _ {N S : Type 0} (choice wider : List (Literal (Atom N S)) → Literal (A
   -- entries that are undone leave the other choices called for
   pub called_undoes : (level : ℕ) → Undoes level old.search new.search → KeepsClauses old new → AreCalledFor (origin old.atoms.keys) choice (history old.search) → AreCalledFor (origin new.atoms.keys) wider (history new.search)
   called_undoes level undoes kept called = called_loses kept.atoms (λ e older present is. undone_on level (history old.search) (history new.search) e older undoes.undone present) called
+
+  -- so does propagation
+  pub called_extends : Extends old.search new.search → KeepsClauses old new → AreCalledFor (origin old.atoms.keys) choice (history old.search) → AreCalledFor (origin new.atoms.keys) wider (history new.search)
+  called_extends extends kept called = called_loses kept.atoms extends.choices called
 
   -- one choice more, which is called for
   pub called_chooses : (v : VariableId) (clause : ClauseId) → Chooses v clause old.search new.search → KeepsClauses old new

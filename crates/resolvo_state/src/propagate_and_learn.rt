@@ -1,10 +1,11 @@
-//! Calls that continue the search: a step, a decision, a return to an earlier level, the first
-//! level of a turn.
-ghost use Rattle.std.specs.Prelude.{◌≡◌, ◌<◌, ◌≤◌, length, IfOk, OnOk, IsErrOf, IsOkUnless};
+//! Calls that continue the search: a step, propagation alone, a decision, a return to an earlier
+//! level, the first level of a turn.
+ghost use Rattle.std.specs.Prelude.{◌≡◌, ◌<◌, ◌≤◌, length, IfOk, IfSome, OnOk, IsErrOf, IsOkUnless};
 ghost use Rattle.resolvo_pool_core.specs.declared.want.Want.TheVariants.{Memory, Ids};
 ghost use Rattle.resolvo_store_core.specs.Clauses.{yes};
 ghost use Rattle.resolvo_sat.specs.Known.{IsUndecided};
 ghost use Rattle.resolvo_sat.specs.Entries.{made_true};
+ghost use Rattle.resolvo_sat.specs.Propagation.{Extends};
 ghost use Rattle.resolvo_sat.specs.State.{count_of, history};
 ghost use Rattle.resolvo_sat.specs.Steps.{Chooses, Undoes};
 ghost use Rattle.resolvo_state.specs.SolverState.{IsCoding, Advances, KeepsClauses, SetsBaseLevel, LacksNumber};
@@ -35,6 +36,22 @@ impl<N: Copy + Exact + Hash + Debug, S: Copy + Exact + Hash + Debug> SolverState
                 Ok(StepResult::Learnt(clause))
             }
         }
+    }
+
+    /// Assigns what the clauses force, and learns nothing. A clause that is falsified, if one is met.
+    pub fn propagate(&mut self) -> R<Option<ClauseId>>
+        requires { IsCoding self.old }
+        // After an answer.
+        ensures extends { OnOk result (Extends self.old.search self.new.search) }
+        ensures kept { OnOk result (KeepsClauses self.old self.new) }
+        ensures in_range { IfOk result
+            (λ falsified. IfSome falsified (λ c. c.0 < length self.new.search.clauses)) }
+        // After a refusal.
+        ensures refusal { IsOkUnless result Memory }
+    {
+        // split for the prover: error and answer
+        let falsified = self.search.propagate(&mut self.watching)?;
+        Ok(falsified)
     }
 
     /// Decides that a variable is true, for a clause, at the next level.

@@ -11,7 +11,7 @@ ghost use Rattle.resolvo_encoder.specs.Steps.{IsBuilt, AddsParent};
 ghost use Rattle.resolvo_encoder.specs.Encoded.{IsWhole, StaysEncoding};
 ghost use Rattle.resolvo_encoder.specs.Progress.{GoesOn};
 ghost use Rattle.resolvo_turn.specs.Encoder.{AddsNeeds, AddsParents, AddsAll, StaysInOrder, StaysInOrderOf};
-ghost use Rattle.resolvo_turn.specs.Turn.{AddsChosen, AreTakenParents, FiresMore, IsBegunBy, IsDecisionOf, IsRooted, IsRound, IsTurn, FindsMore, FindsNone};
+ghost use Rattle.resolvo_turn.specs.Turn.{AddsChosen, AreTakenParents, FiresMore, HasSoft, IsBegunBy, IsDecisionOf, IsRooted, IsRound, IsTurn, FindsMore, FindsNone};
 ghost use Rattle.resolvo_turn.specs.LacksIds.{StopsInOrder, StopsInOrderOf};
 
 use crate::cdcl::{Activity, run_cdcl};
@@ -174,6 +174,59 @@ fn choose_first<N: Copy + Exact + Hash + Debug, S: Copy + Exact + Hash + Debug>(
     }
 }
 
+/// Propagates after an encoding. Undoes the turn's decisions if a clause is falsified above its
+/// first level.
+fn undo_falsified<N: Copy + Exact + Hash + Debug, S: Copy + Exact + Hash + Debug>(
+    encoding: &mut Encoder<N, S>,
+    soft: Option<VariableId>,
+) -> R<()>
+    requires built { IsBuilt encoding.old }
+    requires turn { HasTurn soft encoding.old }
+    requires begun { HasSoft soft encoding.old }
+    // After an answer.
+    ensures stays { OnOk result (StaysEncoding S.eq encoding.old encoding.new) }
+    ensures goes_on { OnOk result (GoesOn encoding.old encoding.new) }
+    ensures turn { OnOk result (KeepsTurn soft encoding.old encoding.new) }
+    ensures built { OnOk result (IsBuilt encoding.new) }
+    // After a refusal.
+    ensures refusal { IsOkUnless result Memory }
+{
+    let is_falsified = encoding.propagate()?;
+    if !is_falsified {
+        return Ok(());
+    }
+    encoding.undo_turn();
+    Ok(())
+}
+
+/// Begins the search after an encoding: assumes the turn's soft requirement, and propagates. Where
+/// a clause is falsified above the turn's first level, the turn begins again. The conflict, if the
+/// soft requirement is false.
+fn begin_search<N: Copy + Exact + Hash + Debug, S: Copy + Exact + Hash + Debug>(
+    alloc: Global,
+    encoding: &mut Encoder<N, S>,
+    soft: Option<VariableId>,
+) -> R<Option<FinalConflict>>
+    requires built { IsBuilt encoding.old }
+    requires turn { HasTurn soft encoding.old }
+    // After an answer.
+    ensures stays { OnOk result (StaysEncoding S.eq encoding.old encoding.new) }
+    ensures goes_on { OnOk result (GoesOn encoding.old encoding.new) }
+    ensures turn { OnOk result (KeepsTurn soft encoding.old encoding.new) }
+    ensures begun { IfOk result (IsBegunBy soft encoding.new) }
+    ensures built { OnOk result (IsBuilt encoding.new) }
+    // After a refusal.
+    ensures refusal { IsOkUnless result Memory }
+{
+    if let Some(refusal) = choose_first(alloc, encoding, soft)? {
+        return Ok(Some(refusal));
+    }
+    undo_falsified(encoding, soft)?;
+    // split for the prover: error and answer
+    let refusal = choose_first(alloc, encoding, soft)?;
+    Ok(refusal)
+}
+
 /// Assumes the turn's soft requirement, and decides the rest.
 fn choose_and_decide<A: PackageSource, C: ScoreMap<A::NameId>>(
     alloc: Global,
@@ -198,7 +251,7 @@ fn choose_and_decide<A: PackageSource, C: ScoreMap<A::NameId>>(
     ensures ids { IsErrOf result Ids
         → StopsInOrder A.SolvableId.eq A.PackageSource answers.now encoding.old encoding.new }
 {
-    if let Some(refusal) = choose_first(alloc, encoding, soft)? {
+    if let Some(refusal) = begin_search(alloc, encoding, soft)? {
         return Ok(Some(refusal));
     }
     scan.go_back(encoding);
