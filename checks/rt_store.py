@@ -4,7 +4,8 @@
     checks/rt_store.py libs [CRATE ..]     builds the libraries (or those at and below the named crates) into the store, side by side
     checks/rt_store.py tests CRATE ..      proves and runs the crates' tests, as the gate does
     checks/rt_store.py front CRATE ..      the quick pass over the sources: what needs no proof to find
-    checks/rt_store.py take                takes into the store the libraries that rt ci proved of this very text on this machine
+    checks/rt_store.py take                takes into the store the libraries that rt ci proved of this very text on this machine, where the
+                                           kit keeps them (13f does, 13b doesn't)
     checks/rt_store.py WORD ..             anything else is done by rt, in a crate's folder, over the store
 
 The first four run at the top of the repository. A library is kept as its statements, under a sum of its text and of what it
@@ -248,6 +249,9 @@ def tests(names):
 def take():
     """Copies the libraries that the gate keeps of this text into the store, lowest first."""
     rtlib.guarded()
+    if not hasattr(rt, "own_sum"):
+        print("rt_store: this kit keeps no proofs of rt ci: `libs` builds the libraries", file=sys.stderr)
+        return 1
     rt.Crate.allowed = rt.handles_of(os.getcwd())
     sums = {}
     for crate in rt.crates_of(os.getcwd()):
