@@ -28,8 +28,9 @@ class Options:
     digits_at_once: bool = False  # digits and any clauses come as a version is registered, not at the end of an encoding
     defer_all: bool = False  # a case that holds as its need is encoded is deferred all the same
     void_cases: bool = False  # a case that holds by itself has its packages and candidates encoded
+    package_by_need: bool = False  # a package's locks and exclusions come just before the need or limit that names it
     # What the program does against the rules.
-    parent_by_parent: bool = False  # a parent is encoded to its end, a package forbidden just before its own need
+    parent_by_parent: bool = False  # a parent is encoded to its end, with the cases that hold, before the next is begun
     cases_later: bool = False  # cases become clauses once no chosen version is left to encode
     root_stays: bool = False  # the root's turn is begun again without undoing what level 1 has
     flat_cases: bool = False  # deferred cases are taken in the order of their parents, not by condition

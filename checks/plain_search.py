@@ -112,7 +112,7 @@ class Encoder:
             self.solver.add_clause(Excluded(parent, self.facts.unknown[parent]), [no(parent)])
             return
         needs, limits = self.facts.needs.get(parent, []), self.facts.limits.get(parent, [])
-        if not self.options.parent_by_parent:
+        if not self.options.package_by_need:
             for need in needs:
                 if need.condition is None:
                     self.queue_packages(need.alternatives)

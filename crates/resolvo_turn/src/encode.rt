@@ -1,5 +1,6 @@
 //! Requirements and constraints of parents become clauses, in the order of the parents. The
-//! packages are asked for each only when it is encoded.
+//! packages of a parent's requirements and constraints come before its clauses, and aren't asked
+//! for earlier.
 ghost use Rattle.std.specs.Prelude.{◌≡◌, IfErr, OnOk, IsErrOf, IsOkUnless};
 ghost use Rattle.resolvo_pool.specs.Cached.{IsCancelledBy};
 ghost use Rattle.resolvo_pool.specs.declared.cache.CacheFault.TheVariants.{Ids};
@@ -10,7 +11,7 @@ ghost use Rattle.resolvo_pool_core.specs.declared.requirement.Requirement.TheVar
 ghost use Rattle.resolvo_encoder.specs.Encoded.{IsWhole};
 ghost use Rattle.resolvo_encoder.specs.Base.{KeepsTurns};
 ghost use Rattle.resolvo_encoder.specs.Steps.{IsBuilt, AddsParent};
-ghost use Rattle.resolvo_turn.specs.Encoder.{KeepsMarks, AddsNeeds, AddsAll, StaysInOrderOf};
+ghost use Rattle.resolvo_turn.specs.Encoder.{KeepsMarks, AddsNeeds, AddsAll, StaysInOrder, StaysInOrderOf};
 ghost use Rattle.resolvo_turn.specs.Effects.{ForbidsPackage, ForbidsPackages, GuardsRequirement, RequiresGuarded, RequiresPlain, RequiresOne, RequiresAll, LimitsOne, LimitsGuarded, LimitsAll, EncodesKnown, EncodesParent};
 ghost use Rattle.resolvo_turn.specs.LacksIds.{StopsAnyhow, StopsNeed, StopsOne, StopsAll, StopsKnown, StopsInOrderOf};
 
@@ -336,8 +337,112 @@ fn encode_limits<A: PackageSource>(
     Ok(())
 }
 
-/// Encodes the requirements and constraints of a parent with known dependencies.
-fn encode_rules<A: PackageSource>(
+/// Encodes the locks and exclusions of the packages of a requirement, unless it has a condition.
+fn guard_plain<A: PackageSource>(
+    answers: &mut A,
+    encoding: &mut Encoder<A::NameId, A::SolvableId>,
+    need: ConditionalRequirement,
+) -> Result<(), CacheFault<A::Cancel>>
+    requires { IsBuilt encoding.old }
+    // Whatever the answer.
+    ensures same { answers.new ≡ answers.old }
+    // After an answer.
+    ensures stays { OnOk result
+        (StaysInOrder A.SolvableId.eq A.PackageSource answers.old encoding.old encoding.new) }
+    ensures kept { OnOk result (AddsNeeds encoding.old encoding.new) }
+    ensures built { OnOk result (IsBuilt encoding.new) }
+    // After a refusal.
+    ensures cancelled { IfErr result (IsCancelledBy (A.may_cancel answers.old)) }
+    ensures ids { IsErrOf result Ids
+        → StopsAnyhow A.SolvableId.eq A.PackageSource answers.old encoding.new }
+{
+    match need.condition {
+        Some(_) => Ok(()),
+        None => {
+            guard(answers, encoding, need.requirement)?;
+            Ok(())
+        }
+    }
+}
+
+/// Encodes the locks and exclusions of the packages of requirements without a condition.
+fn guard_needs<A: PackageSource>(
+    answers: &mut A,
+    encoding: &mut Encoder<A::NameId, A::SolvableId>,
+    needs: &[ConditionalRequirement],
+) -> Result<(), CacheFault<A::Cancel>>
+    requires { IsBuilt encoding.old }
+    // Whatever the answer.
+    ensures same { answers.new ≡ answers.old }
+    // After an answer.
+    ensures stays { OnOk result
+        (StaysInOrder A.SolvableId.eq A.PackageSource answers.old encoding.old encoding.new) }
+    ensures kept { OnOk result (AddsNeeds encoding.old encoding.new) }
+    ensures built { OnOk result (IsBuilt encoding.new) }
+    // After a refusal.
+    ensures cancelled { IfErr result (IsCancelledBy (A.may_cancel answers.old)) }
+    ensures ids { IsErrOf result Ids
+        → StopsAnyhow A.SolvableId.eq A.PackageSource answers.old encoding.new }
+{
+    for need in needs {
+        guard_plain(answers, encoding, *need)?;
+    }
+    Ok(())
+}
+
+/// Encodes the locks and exclusions of the packages of constraints.
+fn guard_limits<A: PackageSource>(
+    answers: &mut A,
+    encoding: &mut Encoder<A::NameId, A::SolvableId>,
+    constraints: &[VersionSetId],
+) -> Result<(), CacheFault<A::Cancel>>
+    requires { IsBuilt encoding.old }
+    // Whatever the answer.
+    ensures same { answers.new ≡ answers.old }
+    // After an answer.
+    ensures stays { OnOk result
+        (StaysInOrder A.SolvableId.eq A.PackageSource answers.old encoding.old encoding.new) }
+    ensures kept { OnOk result (AddsNeeds encoding.old encoding.new) }
+    ensures built { OnOk result (IsBuilt encoding.new) }
+    // After a refusal.
+    ensures cancelled { IfErr result (IsCancelledBy (A.may_cancel answers.old)) }
+    ensures ids { IsErrOf result Ids
+        → StopsAnyhow A.SolvableId.eq A.PackageSource answers.old encoding.new }
+{
+    for version_set in constraints {
+        guard(answers, encoding, Requirement::Single(*version_set))?;
+    }
+    Ok(())
+}
+
+/// Encodes the locks and exclusions of the packages of requirements without a condition, then of
+/// constraints.
+fn guard_rules<A: PackageSource>(
+    answers: &mut A,
+    encoding: &mut Encoder<A::NameId, A::SolvableId>,
+    requirements: &[ConditionalRequirement],
+    constraints: &[VersionSetId],
+) -> Result<(), CacheFault<A::Cancel>>
+    requires { IsBuilt encoding.old }
+    // Whatever the answer.
+    ensures same { answers.new ≡ answers.old }
+    // After an answer.
+    ensures stays { OnOk result
+        (StaysInOrder A.SolvableId.eq A.PackageSource answers.old encoding.old encoding.new) }
+    ensures kept { OnOk result (AddsNeeds encoding.old encoding.new) }
+    ensures built { OnOk result (IsBuilt encoding.new) }
+    // After a refusal.
+    ensures cancelled { IfErr result (IsCancelledBy (A.may_cancel answers.old)) }
+    ensures ids { IsErrOf result Ids
+        → StopsAnyhow A.SolvableId.eq A.PackageSource answers.old encoding.new }
+{
+    guard_needs(answers, encoding, requirements)?;
+    guard_limits(answers, encoding, constraints)?;
+    Ok(())
+}
+
+/// Encodes the requirements of a parent with known dependencies, then its constraints.
+fn add_rules<A: PackageSource>(
     alloc: Global,
     answers: &mut A,
     encoding: &mut Encoder<A::NameId, A::SolvableId>,
@@ -362,6 +467,36 @@ fn encode_rules<A: PackageSource>(
 {
     encode_needs(alloc, answers, encoding, parent, requirements)?;
     encode_limits(answers, encoding, parent, constraints)?;
+    Ok(())
+}
+
+/// Encodes the requirements and constraints of a parent with known dependencies. The locks and
+/// exclusions of the packages that all of them name come first, except for those of cases.
+fn encode_rules<A: PackageSource>(
+    alloc: Global,
+    answers: &mut A,
+    encoding: &mut Encoder<A::NameId, A::SolvableId>,
+    parent: Option<A::SolvableId>,
+    requirements: &[ConditionalRequirement],
+    constraints: &[VersionSetId],
+) -> Result<(), CacheFault<A::Cancel>>
+    requires { IsBuilt encoding.old }
+    // Whatever the answer.
+    ensures same { answers.new ≡ answers.old }
+    // After an answer.
+    ensures encoded { OnOk result
+        (EncodesKnown A.SolvableId.eq A.PackageSource answers.old
+        parent requirements.now constraints.now encoding.old encoding.new) }
+    ensures kept { OnOk result (AddsNeeds encoding.old encoding.new) }
+    ensures built { OnOk result (IsBuilt encoding.new) }
+    // After a refusal.
+    ensures cancelled { IfErr result (IsCancelledBy (A.may_cancel answers.old)) }
+    ensures ids { IsErrOf result Ids
+        → StopsKnown A.SolvableId.eq A.PackageSource answers.old
+        parent requirements.now constraints.now encoding.old encoding.new }
+{
+    guard_rules(answers, encoding, requirements, constraints)?;
+    add_rules(alloc, answers, encoding, parent, requirements, constraints)?;
     Ok(())
 }
 
