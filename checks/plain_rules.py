@@ -28,14 +28,15 @@ class Options:
     digits_at_once: bool = False  # digits and any clauses come as a version is registered, not at the end of an encoding
     defer_all: bool = False  # a case that holds as its need is encoded is deferred all the same
     void_cases: bool = False  # a case that holds by itself has its packages and candidates encoded
+    false_wishes: bool = False  # a wish that is false before its turn is registered and encoded
+    wish_unseen: bool = False  # a wish becomes true behind its encoding: no case holds by it there
     package_by_need: bool = False  # a package's locks and exclusions come just before the need or limit that names it
     # What the program does against the rules.
     parent_by_parent: bool = False  # a parent is encoded to its end, with the cases that hold, before the next is begun
     cases_later: bool = False  # cases become clauses once no chosen version is left to encode
     root_stays: bool = False  # the root's turn is begun again without undoing what level 1 has
     flat_cases: bool = False  # deferred cases are taken in the order of their parents, not by condition
-    false_wishes: bool = False  # a wish that is false before its turn is encoded
-    wish_unseen: bool = False  # a wish becomes true behind its encoding: no case holds by it there
+    placed_wishes: bool = False  # a wish that is false before its turn is registered, so it takes a place of its package
     exclusions_by_version: bool = False  # a package's exclusions come in the order of its versions
     last_watched: bool = False  # a new clause whose other literals are all false watches the last of them, not the first
     # Where the rules are silent.
@@ -56,7 +57,7 @@ class Options:
 PROGRAM = Options(
     last_watched=True,
     parent_by_parent=True, cases_later=True, root_stays=True, flat_cases=True,
-    false_wishes=True, wish_unseen=True, exclusions_by_version=True, set_at_once=False,
+    placed_wishes=True, exclusions_by_version=True, set_at_once=False,
     root_in_learnt=False, as_met=False,
 )
 

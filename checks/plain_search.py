@@ -425,8 +425,9 @@ class Turns:
         if value is True:
             return None
         self.solver.first_level = self.solver.top_level() + 1
-        if self.options.false_wishes:
+        if self.options.false_wishes or self.options.placed_wishes:
             self.encoder.register([wish])
+        if self.options.false_wishes:
             self.encoder.encode([wish], [])
         place = next(place for place, entry in enumerate(self.solver.trail) if entry.atom == wish)
         kept, causes = self.solver.refute(self.solver.trail[place].clause, wish, place)

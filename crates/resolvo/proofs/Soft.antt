@@ -1,5 +1,5 @@
 -- The turns of soft requirements.
-use Rattle.std.proofs.Common.{◌≡◌, suc, ◌<◌, ◌≤◌, inl, inr, Bool, true, false, List, [], length, Some, refl, sym, ◌∙◌, ap, subst, arith}
+use Rattle.std.proofs.Common.{◌≡◌, suc, ◌<◌, ◌≤◌, inl, inr, Bool, true, false, List, [], length, Some, HashSet, BuildHasherDefault, FoldHasher, refl, sym, ◌∙◌, ap, subst, arith}
 use Rattle.std.specs.Prelude.{not, Contains}
 use Rattle.resolvo_pool_core.specs.declared.id.VariableId.{VariableId}
 use Rattle.resolvo_pool_core.specs.declared.requirement.Requirement.{Requirement}
@@ -34,34 +34,42 @@ use Rattle.resolvo_encoder.proofs.BlameLemmas.{blame_refuses, empty_refuses, rea
 use Rattle.resolvo_turn.specs.Encoder.{IsInOrder, AddsParents}
 use Rattle.resolvo_turn.specs.Turn.{AreTakenParents, IsRefusedBy}
 use Rattle.resolvo.specs.SoftTurns.{AreTrueParents, IsDenied, IsTrue}
-use Rattle.resolvo_turn.proofs.AddLemmas.{all_then, needs_parents, parents_coding, parents_in_order, parents_needs}
+use Rattle.resolvo_encoder.specs.Progress.{GoesOn}
+use Rattle.resolvo_encoder.proofs.PickLemmas.{ordered_stays}
+use Rattle.resolvo_turn.proofs.AddLemmas.{all_then, goes_parents, needs_parents, parents_coding, parents_in_order, parents_needs}
 use Rattle.resolvo_turn.proofs.EndLemmas.{contains_longer}
 
 -- the root is true at the first level
 pub above_root : {N S : Type 0} (e : Encoder N S) → IsBuilt e → 1 ≤ top_level (history e.coding.search)
 above_root e built = level_le_last (count_of e.coding.search) (clauses_of e.coding.search) (history e.coding.search) (yes root_variable) 1 built.coding.ready.state.trail (root_level (history e.coding.search) built.coding.ready.state.rooted)
 
-module _ {N S : Type 0} (e begun first : Encoder N S) (is : begun ≡ turn_of e) (added : AddsParent begun first) where
-  -- a turn begins, and the soft requirement is a parent
-  pub begun_turn : (v : VariableId) → IsBuilt e → IsSoft e v → has (made_true (history e.coding.search)) (yes v) ≡ false → IsOpen first v × (base_of first ≡ history e.coding.search)
-  begun_turn v built soft unchosen =
-      let (o, base) = turn_begun e v soft (above_root e built) unchosen in
-      let (o', base') = (parents_needs begun first added).turn (Some v) (subst (λ (x : Encoder N S). IsOpen x v) (sym is) o) in
-      (o', base' ∙ ap (λ (x : Encoder N S). base_of x) is ∙ base)
+-- a turn begins
+pub begun_turn : {N S : Type 0} (e begun : Encoder N S) → begun ≡ turn_of e → (v : VariableId) → IsBuilt e → IsSoft e v → has (made_true (history e.coding.search)) (yes v) ≡ false → IsOpen begun v × (base_of begun ≡ history e.coding.search)
+begun_turn e begun is v built soft unchosen =
+    let (o, base) = turn_begun e v soft (above_root e built) unchosen in
+    (subst (λ (x : Encoder _ _). IsOpen x v) (sym is) o, ap (λ (x : Encoder _ _). base_of x) is ∙ base)
+
+-- the encoding is still in order once the soft requirement is decided
+pub opened_in_order : {N S : Type 0} (e opened : Encoder N S) → GoesOn (turn_of e) opened → (same : S → S → Bool) (p : Packages N S) (orders : Requirement → List S → Type 0) (root : Rules) → IsEncoding same p root opened → IsInOrder same p orders root e → IsInOrder same p orders root opened
+opened_in_order e opened goes same p orders root holds order = record { encoding = holds; ordered = ordered_stays orders (turn_of e) opened goes.grows goes.rest.lists order.ordered }
+
+module _ {N S : Type 0} (e opened first : Encoder N S) (goes : GoesOn (turn_of e) opened) (added : AddsParent opened first) where
+  -- the soft requirement, which was decided, is a parent
+  pub opened_turn : (v : VariableId) → IsOpen opened v → base_of opened ≡ history e.coding.search → IsOpen first v × (base_of first ≡ history e.coding.search)
+  opened_turn v o base = (let (o', base') = (parents_needs opened first added).turn (Some v) o in (o', base' ∙ base))
 
   -- what was true before it is among the parents
-  pub begun_taken : AreTrueParents e → base_of first ≡ history e.coding.search → AreTakenParents first
-  begun_taken parents base s (u, represents, truth) =
-      let atoms : first.coding.atoms.keys ≡ e.coding.atoms.keys = ap (λ (x : SolverState N S). x.atoms.keys) (parents_coding begun first added) ∙ ap (λ (x : Encoder N S). x.coding.atoms.keys) is in
+  pub opened_taken : AreTrueParents e → base_of first ≡ history e.coding.search → AreTakenParents first
+  opened_taken parents base s (u, represents, truth) =
+      let atoms : first.coding.atoms.keys ≡ e.coding.atoms.keys = ap (λ (x : SolverState N S). x.atoms.keys) (parents_coding opened first added) ∙ ap (λ (a : HashSet (ProofAtom N S) (BuildHasherDefault FoldHasher)). a.keys) goes.atoms in
       let before : Contains e.parents.keys (Place.Solvable s) = parents s (u, subst (λ (xs : List (ProofAtom N S)). Represents xs u (Solvable s)) atoms represents, subst (λ (h : List Entry). has (made_true h) (yes u) ≡ true) base truth) in
-      contains_longer begun.parents.keys first.parents.keys (Place.Solvable s) added.prefix (subst (λ (x : Encoder N S). Contains x.parents.keys (Place.Solvable s)) (sym is) before)
+      contains_longer opened.parents.keys first.parents.keys (Place.Solvable s) added.prefix (subst (λ (ks : HashSet _ _). Contains ks.keys (Place.Solvable s)) (sym goes.rest.parents) before)
 
-  pub begun_adds : (last : Encoder N S) → AddsParents first last → AddsParents (turn_of e) last
-  begun_adds last adds = subst (λ (x : Encoder N S). AddsParents x last) is (all_then begun first last (needs_parents begun first (parents_needs begun first added)) adds)
+  pub opened_adds : (last : Encoder N S) → AddsParents first last → AddsParents (turn_of e) last
+  opened_adds last adds = all_then (turn_of e) first last (all_then (turn_of e) opened first (goes_parents (turn_of e) opened goes) (needs_parents opened first (parents_needs opened first added))) adds
 
-  pub begun_in_turn : (same : S → S → Bool) (p : Packages N S) (orders : Requirement → List S → Type 0) (root : Rules) → IsEncoding same p root begun → IsInOrder same p orders root e → IsInOrder same p orders root first
-  begun_in_turn same p orders root holds order = parents_in_order same p orders root begun first
-      (subst (λ (x : Encoder N S). IsInOrder same p orders root x) (sym is) (record { encoding = subst (λ (x : Encoder N S). IsEncoding same p root x) is holds; ordered = order.ordered })) added
+  pub opened_in_turn : (same : S → S → Bool) (p : Packages N S) (orders : Requirement → List S → Type 0) (root : Rules) → IsEncoding same p root opened → IsInOrder same p orders root e → IsInOrder same p orders root first
+  opened_in_turn same p orders root holds order = parents_in_order same p orders root opened first (opened_in_order e opened goes same p orders root holds order) added
 
 -- the origin of a variable that was true then is the same now
 pub true_before : {N S : Type 0} (a b : Encoder N S) → IsCoding a.coding → IsPrefixOf a.coding.atoms.keys b.coding.atoms.keys → (s : S) (u : VariableId) → Represents b.coding.atoms.keys u (Solvable s) → has (made_true (history a.coding.search)) (yes u) ≡ true → IsTrue a s

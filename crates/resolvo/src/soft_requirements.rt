@@ -1,15 +1,17 @@
 //! The turns of soft requirements. Each is recorded and, unless it is true already, assumed at the
-//! first level of its turn. If it conflicts with the earlier choices, a learnt clause is the
-//! reason, and these choices are kept.
-ghost use Rattle.std.specs.Prelude.{◌≡◌, ◌<◌, false, length, Some, IfOk, IfErr, IfSome, OnOk};
+//! first level of its turn, before it is encoded. If it conflicts with the earlier choices, a
+//! learnt clause is the reason, and these choices are kept.
+ghost use Rattle.std.specs.Prelude.{◌≡◌, ◌<◌, false, length, Some, IfOk, IfErr, IfSome, OnOk, IsOkUnless};
 ghost use Rattle.resolvo_pool.specs.Cached.{IsCancelledBy};
+ghost use Rattle.resolvo_pool_core.specs.declared.want.Want.TheVariants.{Memory};
 ghost use Rattle.resolvo_store_core.specs.AtMostOne.{IsPrefixOf};
 ghost use Rattle.resolvo_store_core.specs.Clauses.{yes};
 ghost use Rattle.resolvo_store_core.specs.Signed.{has};
 ghost use Rattle.resolvo_sat.specs.Entries.{made_true};
 ghost use Rattle.resolvo_sat.specs.State.{history};
-ghost use Rattle.resolvo_encoder.specs.Base.{base_of, IsOpen};
+ghost use Rattle.resolvo_encoder.specs.Base.{base_of, IsOpen, IsTried};
 ghost use Rattle.resolvo_encoder.specs.Encoded.{StaysEncoding};
+ghost use Rattle.resolvo_encoder.specs.Progress.{GoesOn};
 ghost use Rattle.resolvo_encoder.specs.Steps.{IsBuilt};
 ghost use Rattle.resolvo_encoder.specs.SoftRequirement.{turn_of, IsSoft};
 ghost use Rattle.resolvo_turn.specs.Encoder.{AddsParents, StaysInOrderOf};
@@ -48,7 +50,35 @@ pub enum SoftOutcome {
     Unsat(FinalConflict),
 }
 
-/// The turn of a recorded soft requirement that isn't true. Keeps the earlier trail.
+/// Begins the turn of a recorded soft requirement that isn't true, and decides it. The conflict, if
+/// it is false.
+fn open_turn<N: Copy + Exact + Hash + Debug, S: Copy + Exact + Hash + Debug>(
+    alloc: Global,
+    encoding: &mut Encoder<N, S>,
+    variable: VariableId,
+) -> R<Option<FinalConflict>>
+    requires built { IsBuilt encoding.old }
+    requires soft { IsSoft encoding.old variable }
+    requires open { has (made_true (history encoding.old.coding.search)) (yes variable) ≡ false }
+    // After an answer.
+    ensures stays { OnOk result (StaysEncoding S.eq encoding.old encoding.new) }
+    ensures goes_on { OnOk result (GoesOn (turn_of encoding.old) encoding.new) }
+    ensures turn { OnOk result
+        (IsOpen encoding.new variable
+        × (base_of encoding.new ≡ history encoding.old.coding.search)) }
+    ensures tried { IfOk result (IsTried encoding.new variable) }
+    ensures built { OnOk result (IsBuilt encoding.new) }
+    // After a refusal.
+    ensures refusal { IsOkUnless result Memory }
+{
+    encoding.begin_turn();
+    // split for the prover: error and answer
+    let refusal = encoding.assume_soft(alloc, variable)?;
+    Ok(refusal)
+}
+
+/// The turn of a recorded soft requirement that isn't true. One that is false is refused, and isn't
+/// encoded. Keeps the earlier trail.
 fn run_open<A: PackageSource, C: ScoreMap<A::NameId>>(
     alloc: Global,
     answers: &mut A,
@@ -78,7 +108,9 @@ fn run_open<A: PackageSource, C: ScoreMap<A::NameId>>(
     // After a refusal.
     ensures cancelled { IfErr result (IsCancelledBy (A.may_cancel answers.old)) }
 {
-    encoding.begin_turn();
+    if let Some(refusal) = open_turn(alloc, encoding, variable)? {
+        return Ok(Some(refusal));
+    }
     encoding.add_parent(soft)?;
     // split for the prover: error and answer
     let refusal = run_turn(alloc, answers, encoding, scores, input, Some(variable))?;
