@@ -328,7 +328,7 @@ impl Chosen {
         }
     }
 
-    fn condition_holds(&self, condition: &Option<Cond>) -> bool
+    fn condition_holds(&self, condition: &Option<Box<Cond>>) -> bool
         ensures { (catalogue : List content.Line) (chosen entries : Set)
             → Holds catalogue self.now chosen entries
             → result ≡ condition_holds (condition_of condition.now) entries }
@@ -344,7 +344,7 @@ impl Chosen {
         &self,
         catalogue: &Catalogue,
         alternatives: &[Spec],
-        condition: &Option<Cond>,
+        condition: &Option<Box<Cond>>,
     ) -> LineState
         ensures unlisted { IfGives result (λ n. is_unlisted self.now.listed.items n.0 ≡ true) }
         ensures state { (chosen entries : Set)

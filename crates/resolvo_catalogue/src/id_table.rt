@@ -368,7 +368,7 @@ impl IdTable {
     pub fn need(
         &mut self,
         alternatives: &[Spec],
-        condition: Option<&Cond>,
+        condition: Option<&Box<Cond>>,
     ) -> R<ConditionalRequirement>
         ensures need { IfOk result
             (λ r.

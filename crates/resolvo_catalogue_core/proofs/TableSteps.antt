@@ -16,7 +16,7 @@ use Rattle.resolvo_text.specs.Matches.{same_version}
 use Rattle.std.proofs.lemmas.List.{length-append, length-map, map_push}
 use Rattle.std.proofs.lemmas.Option.{get_or_from_slice_get, slice_get_within}
 use Rattle.std.proofs.lemmas.Slice.Eq.{bytes_eq-Decides}
-use Rattle.std.specs.Global.{Vec, Global}
+use Rattle.std.specs.Global.{Vec, Box, Global}
 use Rattle.std.specs.declared.string.String.{String}
 use Rattle.resolvo_text.specs.View.{spec_of, specs_of, condition_of}
 use Rattle.resolvo_text.specs.declared.spec.Spec as code
@@ -141,7 +141,7 @@ owner_only t keeps v k at owner j h =
     let same : h.0 ≡ v = cc (h.2, owner) in
     one_number t (versions_in t) (lines_in t) keeps v k j at (h.1 ∙ ap (λ (x : Version). Some x) same)
 
-pub need : (t u : Table) (line : ℕ) (k : VersionNo) (v : Version) (vec : Vec code.Spec) (condition : Option Cond) → IsTable t → line ≡ length (lines_in t) + 1 → slice_get (versions_in t) k.0 ≡ Some v → owner_below (lines_in t) ≡ Some v
+pub need : (t u : Table) (line : ℕ) (k : VersionNo) (v : Version) (vec : Vec code.Spec) (condition : Option (Box Cond)) → IsTable t → line ≡ length (lines_in t) + 1 → slice_get (versions_in t) k.0 ≡ Some v → owner_below (lines_in t) ≡ Some v
     → kinds_in u ≡ kinds_in t ++ line_kinds.Rule (rule.Needs (Some k) vec condition) ∷ [] → ((j : ℕ) → kept_of u.owned j ≡ (if k.0 == j then kept_of t.owned j ++ line ∷ [] else kept_of t.owned j)) → length u.owned ≡ length t.owned
     → Adds t (Needs (specs_of vec.items) (condition_of condition)) (record t { line_kinds = u.line_kinds; owned = u.owned })
 need t u line k v vec condition keeps number at owner more recorded as_many =

@@ -57,7 +57,7 @@ fn holds(condition: &Cond, versions: &Versions, set: &[VersionNo]) -> bool
     }
 }
 
-fn condition_holds(condition: Option<&Cond>, versions: &Versions, set: &[VersionNo]) -> bool
+fn condition_holds(condition: Option<&Box<Cond>>, versions: &Versions, set: &[VersionNo]) -> bool
     ensures { result
         ≡ condition_holds (condition_of (option_copied condition.entry))
         (members versions.now set.now) }

@@ -104,7 +104,7 @@ impl RequestLines {
         &mut self,
         catalogue: &Catalogue,
         alternatives: Vec<Spec>,
-        condition: Option<Cond>,
+        condition: Option<Box<Cond>>,
     ) -> Result<(), LineFault>
         requires { AreAsks (listed catalogue.now) self.old }
         ensures ok { OnOk result

@@ -19,7 +19,7 @@ pub enum Rule {
     Needs {
         owner: Option<VersionNo>,
         alternatives: Vec<Spec>,
-        condition: Option<Cond>,
+        condition: Option<Box<Cond>>,
     },
     /// Each version of the SPEC's package matches it.
     Limits {

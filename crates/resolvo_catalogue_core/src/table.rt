@@ -298,7 +298,7 @@ impl Table {
         &mut self,
         line: u32,
         alternatives: Vec<Spec>,
-        condition: Option<Cond>,
+        condition: Option<Box<Cond>>,
     ) -> Result<(), LineFault>
         requires table { IsTable self.old }
         requires line { line ≡ length (lines_in self.old) + 1 }

@@ -65,7 +65,7 @@ fn is_locked_out(versions: &Versions, locked: VersionNo, version: &Version) -> b
 /// The case of this number, from 1, if the condition has it.
 fn case_at(
     alloc: Global,
-    condition: &Option<Cond>,
+    condition: &Option<Box<Cond>>,
     case: u32,
 ) -> Result<Option<Vec<Spec>>, AllocError>
     ensures { IfOk result

@@ -260,7 +260,7 @@ impl Chosen {
         }
     }
 
-    pub fn condition_holds(&self, condition: &Option<Cond>) -> bool
+    pub fn condition_holds(&self, condition: &Option<Box<Cond>>) -> bool
         ensures { (set : Set)
             → Holds self.now set
             → result ≡ condition_holds (condition_of condition.now) set }

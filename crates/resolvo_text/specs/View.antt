@@ -2,7 +2,7 @@
 use Rattle.std.specs.Prelude.{List, map, Option}
 use Rattle.std.specs.Option.{option_map}
 use Rattle.std.specs.String.{string_bytes}
-use Rattle.std.specs.Global.{Vec}
+use Rattle.std.specs.Global.{Vec, Box}
 use Rattle.resolvo_text.specs.Line as parsed
 use Rattle.resolvo_text.specs.Matches as meaning
 use Rattle.resolvo_text.specs.declared.spec.Version.{Version}
@@ -25,8 +25,12 @@ cond_of (Spec s) = parsed.Is (spec_of s)
 cond_of (And' p a q b) = parsed.And (cond_of a) (cond_of b)
 cond_of (Or' p a q b) = parsed.Or (cond_of a) (cond_of b)
 
-abbrev pub condition_of : Option Cond → Option parsed.Cond
-condition_of c = option_map cond_of c
+abbrev pub condition_of : Option (Box Cond) → Option parsed.Cond
+condition_of c = option_map (λ b. cond_of b.value) c
+
+-- the condition that was read so far
+abbrev pub before_of : Option Cond → Option parsed.Cond
+before_of c = option_map cond_of c
 
 -- a list of versions as a set
 abbrev pub set_of : List Version → meaning.Set

@@ -5,7 +5,7 @@
 
 ghost use Rattle.std.specs.Prelude.{◌≡◌, ◌||◌, ◌&&◌, ◌++◌, ◌<◌, Some, map, IfOk};
 ghost use Rattle.resolvo_text.specs.Parse.{Gives, words_in, word_of, joined, condition_in, behind_if, joined_at, part_at, atom_at, lone_at};
-ghost use Rattle.resolvo_text.specs.View.{condition_of, spec_of, specs_of, cond_of, set_of, cases_of};
+ghost use Rattle.resolvo_text.specs.View.{condition_of, before_of, spec_of, specs_of, cond_of, set_of, cases_of};
 ghost use Rattle.resolvo_text.specs.Matches.{Set, holds};
 ghost use Rattle.resolvo_text.specs.Cases.{cases, pairs, some_case_met};
 ghost use Rattle.resolvo_text.specs.Line as parsed;
@@ -61,7 +61,7 @@ impl Joint {
     }
 
     fn join(self, alloc: Global, before: Option<Cond>, right: Cond) -> Result<Cond, LineFault>
-        ensures { Gives cond_of result (Some (joined self (condition_of before) (cond_of right))) }
+        ensures { Gives cond_of result (Some (joined self (before_of before) (cond_of right))) }
     {
         let Some(left) = before else {
             return Ok(right);
@@ -83,7 +83,7 @@ const DEEPEST: u32 = 16;
 
 /// The condition of a line `needs`: all that follows its alternatives.
 #[tactic(auto, unfolding(crate::specs::Parse::condition_in))]
-pub(crate) fn condition_in(alloc: Global, words: &[u8]) -> Result<Option<Cond>, LineFault>
+pub(crate) fn condition_in(alloc: Global, words: &[u8]) -> Result<Option<Box<Cond>>, LineFault>
     ensures { Gives condition_of result (condition_in (words_in words.now)) }
 {
     let (found, condition) = skip(words, b"if");
@@ -91,7 +91,8 @@ pub(crate) fn condition_in(alloc: Global, words: &[u8]) -> Result<Option<Cond>, 
         no_more(words)?;
         return Ok(None);
     }
-    Ok(Some(behind_if(alloc, condition)?))
+    let condition = behind_if(alloc, condition)?;
+    Ok(Some(Box::new(alloc, condition)?))
 }
 
 #[tactic(auto, unfolding(crate::specs::Parse::behind_if))]

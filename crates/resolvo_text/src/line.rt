@@ -16,7 +16,7 @@ pub enum Line {
     Listed(Version),
     Needs {
         alternatives: Vec<Spec>,
-        condition: Option<Cond>,
+        condition: Option<Box<Cond>>,
     },
     Limits(Spec),
     /// The needs of a version are unknown, for the reason that the word names.
