@@ -1,7 +1,7 @@
 //! The parsed lines, with the rules in a list of their own: a line without a rule takes little
 //! memory. The model is `kind_list`, the list of the parsed lines. Used by `table`.
 
-ghost use Rattle.std.specs.Prelude.{◌≡◌, ◌++◌, ◌∷◌, [], length, true, OnOk, option_and_then, option_copied, slice_get};
+ghost use Rattle.std.specs.Prelude.{◌≡◌, ◌++◌, ◌∷◌, [], length, true, IfOk, OnOk, option_and_then, option_copied, slice_get};
 ghost use Rattle.resolvo_catalogue_core.specs.Held.{is_held, are_held, held_at, kind_in, kind_list, kind_at, rule_of};
 ghost use Rattle.resolvo_catalogue_core.specs.declared.line_table.LineKind.TheVariants as kind;
 
@@ -19,15 +19,26 @@ pub enum LineKind {
     Rule(Rule),
 }
 
-/// The stored form of a line: for a rule, its index among the rules, for a marked package that of
+/// The stored form of a line: for a rule, its place among the rules, for a marked package that of
 /// its name.
 #[derive(Clone, Copy, Debug)]
 pub enum StoredLine {
     Nothing,
     Listed(VersionNo),
     Favour(VersionNo),
-    Many(usize),
-    Rule(usize),
+    Many(u32),
+    Rule(u32),
+}
+
+/// A count as a place. A table has fewer than 2^32 rules, and refuses one more as it does for want of
+/// memory.
+fn place_of(count: usize) -> Result<u32, AllocError>
+    ensures { IfOk result (λ place. place ≡ count) }
+{
+    if count >= 4_294_967_296 {
+        return Err(AllocError);
+    }
+    Ok(count as u32)
 }
 
 #[derive(Drop)]
@@ -91,7 +102,7 @@ impl LineTable {
             ≡ kind_list self.old.rules.items self.old.marked.items self.old.held.items ++ kind.Rule rule
             ∷ []) }
     {
-        let place = self.rules.len();
+        let place = place_of(self.rules.len())?;
         self.rules.push(rule)?;
         self.held.push(StoredLine::Rule(place))?;
         Ok(())
@@ -103,7 +114,7 @@ impl LineTable {
             ≡ kind_list self.old.rules.items self.old.marked.items self.old.held.items ++ kind.Many name
             ∷ []) }
     {
-        let place = self.marked.len();
+        let place = place_of(self.marked.len())?;
         self.marked.push(name)?;
         self.held.push(StoredLine::Many(place))?;
         Ok(())
@@ -119,10 +130,10 @@ impl LineTable {
         self.held.get((line - 1) as usize)
     }
 
-    fn rule_at(&self, place: usize) -> Option<&Rule>
+    fn rule_at(&self, place: u32) -> Option<&Rule>
         ensures { option_copied result ≡ slice_get self.now.rules.items place }
     {
-        self.rules.get(place)
+        self.rules.get(place as usize)
     }
 
     /// The rule of the line of this number, if it has one. Lines are numbered from 1.

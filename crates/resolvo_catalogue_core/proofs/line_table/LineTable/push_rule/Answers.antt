@@ -10,14 +10,14 @@ invariant_of-self-2 c =
     let marked = c.args.self.now.marked.items in
     let held = c.args.self.now.held.items in
     let count : length c.push.new.self.items ≡ length rules + 1 = one_longer rules c.push.new.self.items c.args.rule c.in_ok-push.ensures.items in
-    let place : c.len-place.result ≡ length rules = omega (arith, c.args.self.now.rules.ok, c.len-place.ensures) in
+    let place : c.in_ok-place.place ≡ length rules = omega (arith, c.args.self.now.rules.ok, c.len.ensures, c.in_ok-place.ensures) in
     let old : are_held (length c.push.new.self.items) (length marked) held ≡ true = rw count (all_still_held (length rules) (length marked) held c.args.self.now.in_range) in
     record {
       in_range = subst (λ (hs : List StoredLine). are_held (length c.push.new.self.items) (length marked) hs ≡ true) (sym c.push-2.ensures.items)
-          (held_if (is_ok c.push-2.result) (length c.push.new.self.items) (length marked) held (StoredLine.Rule c.len-place.result) old (held_place (length c.push.new.self.items) (length marked) c.len-place.result (omega arith)));
+          (held_if (is_ok c.push-2.result) (length c.push.new.self.items) (length marked) held (StoredLine.Rule c.in_ok-place.place) old (held_place (length c.push.new.self.items) (length marked) c.in_ok-place.place (omega arith)));
     }
 
 pub returns : goal.returns
 returns c =
-    let place : c.len-place.result ≡ length c.args.self.now.rules.items = omega (arith, c.args.self.now.rules.ok, c.len-place.ensures) in
-    rw (c.in_ok-push.ensures.items, c.in_ok-push-2.ensures.items) (pushes_rule c.args.self.now.rules.items c.args.self.now.marked.items c.args.rule c.args.self.now.held.items c.len-place.result c.args.self.now.in_range place)
+    let place : c.in_ok-place.place ≡ length c.args.self.now.rules.items = omega (arith, c.args.self.now.rules.ok, c.len.ensures, c.in_ok-place.ensures) in
+    rw (c.in_ok-push.ensures.items, c.in_ok-push-2.ensures.items) (pushes_rule c.args.self.now.rules.items c.args.self.now.marked.items c.args.rule c.args.self.now.held.items c.in_ok-place.place c.args.self.now.in_range place)
