@@ -2,7 +2,7 @@
 use Rattle.std.proofs.Common.{◌≡◌, ◌==◌, if◌then◌else◌, inl, inr, is_some, ℕ, zero, suc, Bool, true, false, not, option_map, ◌+◌, List, [], ◌∷◌, ◌++◌, map, length, take, Option, Some, None, refl, sym, ap, subst, ◌∙◌, add-one, arith}
 use Rattle.std.specs.Prelude.{Contains, slice_get, string_bytes, nat_eq}
 use Rattle.resolvo_catalogue_core.specs.declared.package.Package.{Package}
-use Rattle.resolvo_catalogue_core.specs.Packages.{package_in, AreBehind}
+use Rattle.resolvo_catalogue_core.specs.Packages.{package_in, AreFound}
 use Rattle.resolvo_catalogue_core.specs.Table.{AddsNumber, AddsVersion, numbers_in}
 use Rattle.resolvo_catalogue_core.specs.Questions.{IsOfPackage, number_of}
 use Rattle.std.specs.BTreeMap.{get, get_by_text}
@@ -68,7 +68,7 @@ skip t u keeps more =
       listing = listed_same lines Skipped refl ∙ keeps.listing;
       kinds = rw more (are_kinds_push vs lines (kinds_in t) Skipped line_kinds.Nothing (as_long t) keeps.kinds tt);
       packages = keeps.packages;
-      behind = keeps.behind;
+      found = keeps.found;
       locks = λ name. only_other (keeps.locks name) (line_grows lines Skipped (Locks name)) (λ x. x);
       favoured = λ name. only_other (keeps.favoured name) (line_grows lines Skipped (Favours name)) (λ x. x);
       many = λ name. only_other (keeps.many name) (line_grows lines Skipped (MarksMany name)) (λ x. x);
@@ -93,7 +93,7 @@ lock t u line k v name keeps number at same absent more locked =
       listing = listed_same lines l refl ∙ keeps.listing;
       kinds = rw more (are_kinds_push vs lines (kinds_in t) l (line_kinds.Rule (rule.Lock k)) (as_long t) keeps.kinds (slice_get_within vs k.0 v at));
       packages = keeps.packages;
-      behind = keeps.behind;
+      found = keeps.found;
       locks = keyed_new bytes_eq bytes_eq-Decides (get_by_text t.locks) (get_by_text u.locks) v.name line (λ name n. LineIs lines n (Locks name)) (λ name n. LineIs (lines ++ l ∷ []) n (Locks name)) (λ name. v.name ≡ name)
           locked none keeps.locks (λ name. rw number (line_grows lines l (Locks name))) refl (λ name same. same);
       favoured = λ name. only_other (keeps.favoured name) (line_grows lines l (Favours name)) (λ x. x);
@@ -120,7 +120,7 @@ mark_many t u line name keeps number absent more marked =
       listing = listed_same lines l refl ∙ keeps.listing;
       kinds = rw more (are_kinds_push vs lines (kinds_in t) l (line_kinds.Many name) (as_long t) keeps.kinds tt);
       packages = keeps.packages;
-      behind = keeps.behind;
+      found = keeps.found;
       locks = λ nm. only_other (keeps.locks nm) (line_grows lines l (Locks nm)) (λ x. x);
       favoured = λ nm. only_other (keeps.favoured nm) (line_grows lines l (Favours nm)) (λ x. x);
       many = keyed_new bytes_eq bytes_eq-Decides (get_by_text t.many) (get_by_text u.many) (string_bytes name) line (λ nm n. LineIs lines n (MarksMany nm)) (λ nm n. LineIs (lines ++ l ∷ []) n (MarksMany nm)) (λ nm. string_bytes name ≡ nm)
@@ -152,7 +152,7 @@ need t u line k v vec condition keeps number at owner more recorded as_many =
       listing = listed_same lines l refl ∙ keeps.listing;
       kinds = rw more (are_kinds_push vs lines (kinds_in t) l (line_kinds.Rule (rule.Needs (Some k) vec condition)) (as_long t) keeps.kinds (v, at, owner));
       packages = keeps.packages;
-      behind = keeps.behind;
+      found = keeps.found;
       locks = λ name. only_other (keeps.locks name) (line_grows lines l (Locks name)) (λ x. x);
       favoured = λ name. only_other (keeps.favoured name) (line_grows lines l (Favours name)) (λ x. x);
       many = λ name. only_other (keeps.many name) (line_grows lines l (MarksMany name)) (λ x. x);
@@ -176,7 +176,7 @@ limit t u line k v spec keeps number at owner more recorded as_many =
       listing = listed_same lines l refl ∙ keeps.listing;
       kinds = rw more (are_kinds_push vs lines (kinds_in t) l (line_kinds.Rule (rule.Limits (Some k) spec)) (as_long t) keeps.kinds (v, at, owner));
       packages = keeps.packages;
-      behind = keeps.behind;
+      found = keeps.found;
       locks = λ name. only_other (keeps.locks name) (line_grows lines l (Locks name)) (λ x. x);
       favoured = λ name. only_other (keeps.favoured name) (line_grows lines l (Favours name)) (λ x. x);
       many = λ name. only_other (keeps.many name) (line_grows lines l (MarksMany name)) (λ x. x);
@@ -202,7 +202,7 @@ mark_unknown t u line k v word keeps number at owner absent more recorded as_man
       listing = listed_same lines l refl ∙ keeps.listing;
       kinds = rw more (are_kinds_push vs lines (kinds_in t) l (line_kinds.Rule (rule.Unknown k word)) (as_long t) keeps.kinds (v, at, owner));
       packages = keeps.packages;
-      behind = keeps.behind;
+      found = keeps.found;
       locks = λ name. only_other (keeps.locks name) (line_grows lines l (Locks name)) (λ x. x);
       favoured = λ name. only_other (keeps.favoured name) (line_grows lines l (Favours name)) (λ x. x);
       many = λ name. only_other (keeps.many name) (line_grows lines l (MarksMany name)) (λ x. x);
@@ -228,7 +228,7 @@ exclude t u line k v word keeps number at absent more marked =
       listing = listed_same lines l refl ∙ keeps.listing;
       kinds = rw more (are_kinds_push vs lines (kinds_in t) l (line_kinds.Rule (rule.Exclude k word)) (as_long t) keeps.kinds (slice_get_within vs k.0 v at));
       packages = keeps.packages;
-      behind = keeps.behind;
+      found = keeps.found;
       locks = λ name. only_other (keeps.locks name) (line_grows lines l (Locks name)) (λ x. x);
       favoured = λ name. only_other (keeps.favoured name) (line_grows lines l (Favours name)) (λ x. x);
       many = λ name. only_other (keeps.many name) (line_grows lines l (MarksMany name)) (λ x. x);
@@ -254,7 +254,7 @@ favour t u line k v name keeps number at same absent more favoured pushed =
       listing = listed_same lines l refl ∙ keeps.listing;
       kinds = rw more (are_kinds_push vs lines (kinds_in t) l (line_kinds.Favour k) (as_long t) keeps.kinds (slice_get_within vs k.0 v at));
       packages = keeps.packages;
-      behind = keeps.behind;
+      found = keeps.found;
       locks = λ name. only_other (keeps.locks name) (line_grows lines l (Locks name)) (λ x. x);
       favoured = keyed_new bytes_eq bytes_eq-Decides (get_by_text t.favoured) (get_by_text u.favoured) v.name line (λ name n. LineIs lines n (Favours name)) (λ name n. LineIs (lines ++ l ∷ []) n (Favours name)) (λ name. v.name ≡ name)
           favoured none keeps.favoured (λ name. rw number (line_grows lines l (Favours name))) refl (λ name same. same);
@@ -359,10 +359,10 @@ of_package_grows vs v name = record {
   added = λ same. (v, get_new vs v, same);
 }
 
-pub list : (t u : Table) (k : VersionNo) (v : Version) → IsTable t → k.0 ≡ length (versions_in t) → (Contains (lines_in t) (Listed v) → ⊥) → AddsVersion (λ name. package_in t.packages name) v k (λ name. package_in u.packages name) → AreBehind u.packages
+pub list : (t u : Table) (k : VersionNo) (v : Version) → IsTable t → k.0 ≡ length (versions_in t) → (Contains (lines_in t) (Listed v) → ⊥) → AddsVersion (λ name. package_in t.packages name) v k (λ name. package_in u.packages name) → AreFound u.packages
     → versions_in u ≡ versions_in t ++ v ∷ [] → kinds_in u ≡ kinds_in t ++ line_kinds.Listed k ∷ [] → ((j : ℕ) → kept_of u.owned j ≡ kept_of t.owned j) → length u.owned ≡ length t.owned + 1
     → Adds t (Listed v) (record t { versions = u.versions; line_kinds = u.line_kinds; packages = u.packages; owned = u.owned })
-list t u k v keeps number unlisted adds behind versions more kept as_many =
+list t u k v keeps number unlisted adds found versions more kept as_many =
     let vs = versions_in t in
     let lines = lines_in t in
     let l : Line = Listed v in
@@ -384,7 +384,7 @@ list t u k v keeps number unlisted adds behind versions more kept as_many =
         all = keyed_more bytes_eq bytes_eq-Decides (λ nm. numbers_in (package_in t.packages nm)) (λ nm. numbers_in (package_in u.packages nm)) v.name (length vs) (λ nm. IsOfPackage vs nm) (λ nm. IsOfPackage (vs ++ v ∷ []) nm) (λ nm. v.name ≡ nm)
             (λ nm. rw (← number) (all_updated (λ x. package_in t.packages x) (λ x. package_in u.packages x) v k adds nm)) (λ nm. (keeps.packages nm).all) (of_package_grows vs v) (λ nm n h. slice_get_within vs n h.0 h.1) refl (λ nm same. same) name;
       };
-      behind = behind;
+      found = found;
       locks = λ name. only_other (keeps.locks name) (line_grows lines l (Locks name)) (λ x. x);
       favoured = λ name. only_other (keeps.favoured name) (line_grows lines l (Favours name)) (λ x. x);
       many = λ name. only_other (keeps.many name) (line_grows lines l (MarksMany name)) (λ x. x);
@@ -423,15 +423,15 @@ no_line Q zero h = absurd cc
 no_line Q (suc n) h = absurd cc
 
 -- a table of no line
-pub empty : (t : Table) → t.versions ≡ [] → kinds_in t ≡ [] → ((name : List ℕ) → package_in t.packages name ≡ None) → AreBehind t.packages → t.locks.entries ≡ [] → t.favoured.entries ≡ [] → t.many.entries ≡ [] → t.excluded.entries ≡ [] → t.unknown.entries ≡ [] → t.owned ≡ [] → t.favours.items ≡ [] → IsTable t
-empty t versions kinds packages behind locks favoured many excluded unknown owned favours =
+pub empty : (t : Table) → t.versions ≡ [] → kinds_in t ≡ [] → ((name : List ℕ) → package_in t.packages name ≡ None) → AreFound t.packages → t.locks.entries ≡ [] → t.favoured.entries ≡ [] → t.many.entries ≡ [] → t.excluded.entries ≡ [] → t.unknown.entries ≡ [] → t.owned ≡ [] → t.favours.items ≡ [] → IsTable t
+empty t versions kinds packages found locks favoured many excluded unknown owned favours =
     let vs : versions_in t ≡ [] = rw versions refl in
     let lines : lines_in t ≡ [] = rw kinds refl in
     let keeps : Keeps t [] [] = record {
       listing = refl;
       kinds = λ n s at. absurd (no_kind n s (rw kinds at at));
       packages = λ name. record { kept = λ p is. no_package (package_in t.packages name) p (packages name) is; numbers = λ k. no_only _ _ (ap (λ (o : Option Package). number_in o k) (packages name)) (λ n at. none_got n (record { name = name; number = k }) at); all = subst (λ (o : Option Package). AreAll (numbers_in o) (IsOfPackage [] name)) (sym (packages name)) (no_all (IsOfPackage [] name) (λ n h. none_got n h.0 h.1)) };
-      behind = behind;
+      found = found;
       locks = λ name. no_only _ _ (rw locks refl) (no_line (Locks name));
       favoured = λ name. no_only _ _ (rw favoured refl) (no_line (Favours name));
       many = λ name. no_only _ _ (rw many refl) (no_line (MarksMany name));

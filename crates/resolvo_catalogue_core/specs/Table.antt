@@ -17,7 +17,7 @@ use Rattle.resolvo_catalogue_core.specs.declared.line_table.LineKind.TheVariants
 use Rattle.resolvo_catalogue_core.specs.Held.{kind_list}
 use Rattle.resolvo_catalogue_core.specs.declared.package.Package.{Package}
 use Rattle.resolvo_catalogue_core.specs.Numbered.{beside, IsNumbered}
-use Rattle.resolvo_catalogue_core.specs.Packages.{package_in, AreBehind}
+use Rattle.resolvo_catalogue_core.specs.Packages.{package_in, AreFound}
 use Rattle.resolvo_catalogue_core.specs.declared.table.Table.{Table}
 
 -- ---- the lines
@@ -112,7 +112,7 @@ pub record Keeps (t : Table) (versions : List Version) (lines : List Line) : Typ
   pub listing : listed lines ≡ versions
   pub kinds : AreKindsOf versions lines (kinds_in t)
   pub packages : (name : List ℕ) → IsPackage versions name (package_in t.packages name)
-  pub behind : AreBehind t.packages
+  pub found : AreFound t.packages
   pub locks : (name : List ℕ) → IsOnly (get_by_text t.locks name) (λ n. LineIs lines n (Locks name))
   pub favoured : (name : List ℕ) → IsOnly (get_by_text t.favoured name) (λ n. LineIs lines n (Favours name))
   pub many : (name : List ℕ) → IsOnly (get_by_text t.many name) (λ n. LineIs lines n (MarksMany name))

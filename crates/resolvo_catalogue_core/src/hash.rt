@@ -40,7 +40,7 @@ fn next_front(front: usize, byte: u8) -> usize
 }
 
 /// A hash of bytes.
-fn hash_of_all(bytes: &[u8]) -> usize
+pub fn hash_of_all(bytes: &[u8]) -> usize
     ensures { result ≡ numbers_hash bytes.now }
 {
     let mut hash = 0;

@@ -1,48 +1,97 @@
-use Rattle.std.proofs.Common.{◌≡◌, ◌∙◌, ℕ, Option, Some, None, refl, sym, ap, subst, rules}
-use Rattle.std.specs.Prelude.{nat_eq}
-use Rattle.std.specs.BTreeMap.{get, get_by_text}
-use Rattle.std.specs.Map.{update}
-use Rattle.std.specs.Ordering.{nat_cmp}
+use Rattle.std.proofs.Common.{◌≡◌, ◌∙◌, ◌<◌, ℕ, List, Option, Some, None, length, not, is_some, refl, sym, ap, subst, arith}
+use Rattle.std.specs.Prelude.{IfOk, IfSome, option_map, slice_get}
 use Rattle.std.specs.String.{string_bytes}
+use Rattle.std.specs.BTreeMap.{get_by_text}
+use Rattle.std.proofs.lemmas.Option.{slice_get_read, slice_get_within}
 use Rattle.resolvo_text.specs.View.{version_of}
-use Rattle.resolvo_catalogue_core.specs.Hash.{bytes_hash}
-use Rattle.resolvo_catalogue_core.specs.Packages.{package_among}
+use Rattle.resolvo_catalogue_core.specs.Packages.{package_number, package_in, package_by, first_in}
+use Rattle.resolvo_catalogue_core.specs.Table.{AddsNumber, number_in}
+use Rattle.resolvo_catalogue_core.specs.declared.package.Package.{Package}
 use Rattle.resolvo_catalogue_core.specs.declared.package_table.NamedPackage.{NamedPackage}
-use Rattle.resolvo_catalogue_core.specs.declared.package_table.PackageTable.{PackageTable}
-use Rattle.resolvo_catalogue_core.proofs.PackageLemmas.{found_adds, new_adds, ok_two}
-use Rattle.resolvo_catalogue_core.proofs.Sorted.{updates_number}
+use Rattle.resolvo_catalogue_core.proofs.CatalogueFacts.{ok_map}
+use Rattle.resolvo_catalogue_core.proofs.TableSteps.{new_number}
+use Rattle.resolvo_catalogue_core.proofs.PackageLemmas.{number_sound, adds_there, found_still}
 use Rattle.resolvo_catalogue_core.proofs.package_table.PackageTable.add.Goals as goal
 
-pub add_beside-requires : goal.add_beside-requires
-add_beside-requires c =
+pub index_mut-requires : goal.index_mut-requires
+index_mut-requires c =
     let t = c.args.self.now in
-    let name = string_bytes c.args.version.now.name in
-    let is_hash : c.hash_of-hash.result ≡ bytes_hash name = c.hash_of-hash.ensures ∙ ap bytes_hash c.as_bytes.ensures.value in
-    let at : get nat_cmp t.first (bytes_hash name) ≡ Some c.in-Some.first.now = sym (c.in-Some.ensures.value ∙ ap (λ (h : ℕ). get nat_cmp t.first h) is_hash) in
-    record { kept = λ p is. c.requires.kept name p (ap (λ (o : Option NamedPackage). package_among o (get_by_text t.others name) name) at ∙ is) }
+    let s = number_sound t.packages.items t.slots.items t.mask (λ name. get_by_text t.others name) c.as_str.result.now c.in-Some.at (sym c.in-Some.ensures) in
+    omega (arith, slice_get_within t.packages.items c.in-Some.at s.0 s.1, t.packages.ok)
+
+pub returns-in-Some-clause-new : goal.returns-in-Some-clause-new
+returns-in-Some-clause-new c =
+    let t = c.args.self.now in
+    let ps = t.packages.items in
+    let n = c.in-Some.at in
+    let s = number_sound ps t.slots.items t.mask (λ name. get_by_text t.others name) c.as_str.result.now n (sym c.in-Some.ensures) in
+    let at : slice_get ps n ≡ Some c.index_mut.result.now = slice_get_read ps (length ps) n c.index_mut.result.now refl (slice_get_within ps n s.0 s.1) c.index_mut.ensures.value in
+    let number : package_number t (string_bytes c.args.version.now.name) ≡ Some n = sym (c.in-Some.ensures ∙ ap (λ (x : List ℕ). package_number t x) c.as_str.ensures.value) in
+    let found : Some c.index_mut.result.now.versions ≡ package_in t (string_bytes c.args.version.now.name) = sym (ap (λ (o : Option ℕ). package_by ps o) number ∙ ap (λ (o : Option NamedPackage). option_map (λ (p : NamedPackage). p.versions) o) at) in
+    ok_map c.add.result c.add.ensures.new (λ added is. is ∙ ap (λ b. not b) (new_number (package_in t (string_bytes c.args.version.now.name)) _ c.args.version.now.number found))
+
+pub returns-in-Some-clause-first : goal.returns-in-Some-clause-first
+returns-in-Some-clause-first c =
+    let t = c.args.self.now in
+    let ps = t.packages.items in
+    let n = c.in-Some.at in
+    let s = number_sound ps t.slots.items t.mask (λ name. get_by_text t.others name) c.as_str.result.now n (sym c.in-Some.ensures) in
+    let at : slice_get ps n ≡ Some c.index_mut.result.now = slice_get_read ps (length ps) n c.index_mut.result.now refl (slice_get_within ps n s.0 s.1) c.index_mut.ensures.value in
+    let number : package_number t (string_bytes c.args.version.now.name) ≡ Some n = sym (c.in-Some.ensures ∙ ap (λ (x : List ℕ). package_number t x) c.as_str.ensures.value) in
+    let found : Some c.index_mut.result.now.versions ≡ package_in t (string_bytes c.args.version.now.name) = sym (ap (λ (o : Option ℕ). package_by ps o) number ∙ ap (λ (o : Option NamedPackage). option_map (λ (p : NamedPackage). p.versions) o) at) in
+    subst (λ (o : Option Package). IfOk c.add.result (λ first. IfSome first (λ v. v ≡ first_in o c.args.number))) found c.add.ensures.first
 
 pub returns-in-Some-clause-put : goal.returns-in-Some-clause-put
 returns-in-Some-clause-put c =
     let t = c.args.self.now in
-    let w = c.add_beside.new.first in
-    let name = string_bytes c.args.version.now.name in
-    let after : PackageTable = record { first = c.get_mut.follows.lender w; others = c.add_beside.new.others } in
-    let is_hash : c.hash_of-hash.result ≡ bytes_hash name = c.hash_of-hash.ensures ∙ ap bytes_hash c.as_bytes.ensures.value in
-    let at : get nat_cmp t.first (bytes_hash name) ≡ Some c.in-Some.first.now = sym (c.in-Some.ensures.value ∙ ap (λ (h : ℕ). get nat_cmp t.first h) is_hash) in
-    let updates = (c.get_mut.follows.holds w).3 (search rules) in
-    let set : (q : ℕ) → get nat_cmp after.first q ≡ update nat_eq (get nat_cmp t.first) (bytes_hash name) (Some w) q = λ q.
-    subst (λ (h : ℕ). get nat_cmp after.first q ≡ update nat_eq (get nat_cmp t.first) h (Some w) q) is_hash (updates_number c.hash_of-hash.result t.first after.first (Some w) updates.0 q) in
-    ok_two c.add_beside.result c.add_beside.ensures.put c.add_beside.ensures.others (λ added adds others is. found_adds t after (version_of c.args.version.now) c.args.number c.in-Some.first.now w at set (adds is) (others is))
+    let ps = t.packages.items in
+    let n = c.in-Some.at in
+    let s = number_sound ps t.slots.items t.mask (λ name. get_by_text t.others name) c.as_str.result.now n (sym c.in-Some.ensures) in
+    let at : slice_get ps n ≡ Some c.index_mut.result.now = slice_get_read ps (length ps) n c.index_mut.result.now refl (slice_get_within ps n s.0 s.1) c.index_mut.ensures.value in
+    let number : package_number t (string_bytes c.args.version.now.name) ≡ Some n = sym (c.in-Some.ensures ∙ ap (λ (x : List ℕ). package_number t x) c.as_str.ensures.value) in
+    ok_map c.add.result c.add.ensures.put (λ added adds is. adds_there ps t.slots.items t.mask (λ name. get_by_text t.others name) c.requires.found n c.index_mut.result.now (record c.index_mut.result.now { versions = c.add.new.self }) at refl (version_of c.args.version.now) c.args.number number (adds is))
+
+pub returns-in-Some-clause-found : goal.returns-in-Some-clause-found
+returns-in-Some-clause-found c =
+    let t = c.args.self.now in
+    let ps = t.packages.items in
+    let n = c.in-Some.at in
+    let s = number_sound ps t.slots.items t.mask (λ name. get_by_text t.others name) c.as_str.result.now n (sym c.in-Some.ensures) in
+    let at : slice_get ps n ≡ Some c.index_mut.result.now = slice_get_read ps (length ps) n c.index_mut.result.now refl (slice_get_within ps n s.0 s.1) c.index_mut.ensures.value in
+    ok_map c.add.result c.add.ensures.put (λ added adds is. found_still ps t.slots.items t.mask (λ name. get_by_text t.others name) c.requires.found n c.index_mut.result.now (record c.index_mut.result.now { versions = c.add.new.self }) at refl)
+
+pub add-requires : goal.add-requires
+add-requires c =
+    let t = c.args.self.now in
+    let ps = t.packages.items in
+    let n = c.in-Some.at in
+    let s = number_sound ps t.slots.items t.mask (λ name. get_by_text t.others name) c.as_str.result.now n (sym c.in-Some.ensures) in
+    let at : slice_get ps n ≡ Some c.index_mut.result.now = slice_get_read ps (length ps) n c.index_mut.result.now refl (slice_get_within ps n s.0 s.1) c.index_mut.ensures.value in
+    let number : package_number t (string_bytes c.args.version.now.name) ≡ Some n = sym (c.in-Some.ensures ∙ ap (λ (x : List ℕ). package_number t x) c.as_str.ensures.value) in
+    c.requires.kept (string_bytes c.args.version.now.name) c.index_mut.result.now.versions (ap (λ (o : Option ℕ). package_by ps o) number ∙ ap (λ (o : Option NamedPackage). option_map (λ (p : NamedPackage). p.versions) o) at)
+
+pub add_package-requires : goal.add_package-requires
+add_package-requires c =
+    let t = c.args.self.now in
+    record {
+      found = c.requires.found;
+      absent = sym (c.in_default.ensures ∙ ap (λ (x : List ℕ). package_number t x) c.as_str.ensures.value);
+    }
+
+pub returns-clause-new : goal.returns-clause-new
+returns-clause-new c =
+    let t = c.args.self.now in
+    let number : package_number t (string_bytes c.args.version.now.name) ≡ None = sym (c.in_default.ensures ∙ ap (λ (x : List ℕ). package_number t x) c.as_str.ensures.value) in
+    ap (λ (o : Option ℕ). not (is_some (number_in (package_by t.packages.items o) c.args.version.now.number))) (sym number)
+
+pub returns-clause-first : goal.returns-clause-first
+returns-clause-first c =
+    let t = c.args.self.now in
+    let number : package_number t (string_bytes c.args.version.now.name) ≡ None = sym (c.in_default.ensures ∙ ap (λ (x : List ℕ). package_number t x) c.as_str.ensures.value) in
+    ap (λ (o : Option ℕ). first_in (package_by t.packages.items o) c.args.number) (sym number)
 
 pub returns-clause-put : goal.returns-clause-put
-returns-clause-put c = λ _.
-    let t = c.args.self.now in
-    let w = c.in_ok-named.field-0 in
-    let name = string_bytes c.args.version.now.name in
-    let after : PackageTable = record { first = c.insert.new.self; others = t.others } in
-    let is_hash : c.hash_of-hash.result ≡ bytes_hash name = c.hash_of-hash.ensures ∙ ap bytes_hash c.as_bytes.ensures.value in
-    let none : get nat_cmp t.first (bytes_hash name) ≡ None = sym (c.in_default.ensures.value ∙ ap (λ (h : ℕ). get nat_cmp t.first h) is_hash) in
-    let set : (q : ℕ) → get nat_cmp after.first q ≡ update nat_eq (get nat_cmp t.first) (bytes_hash name) (Some w) q = λ q.
-    subst (λ m. get nat_cmp after.first q ≡ update nat_eq (get nat_cmp m) (bytes_hash name) (Some w) q) c.get_mut.follows.holds-at-none
-    (subst (λ (h : ℕ). get nat_cmp after.first q ≡ update nat_eq (get nat_cmp c.get_mut.follows.lender-at-none) h (Some w) q) is_hash (updates_number c.hash_of-hash.result c.get_mut.follows.lender-at-none after.first (Some w) c.in_ok-insert.ensures.updates.0 q)) in
-    new_adds t after (version_of c.args.version.now) c.args.number w none c.requires.behind set refl c.in_ok-named.ensures.name c.in_ok-named.ensures.one
+returns-clause-put c = λ _. c.in_ok-add_package.ensures.put
+
+pub returns-clause-found : goal.returns-clause-found
+returns-clause-found c = λ _. c.in_ok-add_package.ensures.found

@@ -37,7 +37,7 @@ returns-clause-ok c =
     let unlisted = unlisted_by_number t c.requires.table (version_of c.args.version) (was_new (is_some c.in_ok-first.field-0) _ c.in_ok-first.ensures.new added) in
     let kept = empty_more t.owned c.add_version.new.self c.in_ok-add_version.ensures in
     let as_many : length c.add_version.new.self ≡ length t.owned + 1 = omega (arith, ap (λ xs. length xs) c.in_ok-add_version.ensures, length-append t.owned ([] ∷ [])) in
-    list t u (record { 0 = c.len.result }) (version_of c.args.version) c.requires.table c.len.ensures unlisted (c.in_ok-first.ensures.put added) (c.in_ok-first.ensures.behind added) c.in_ok-push.ensures c.in_ok-push-2.ensures kept as_many
+    list t u (record { 0 = c.len.result }) (version_of c.args.version) c.requires.table c.len.ensures unlisted (c.in_ok-first.ensures.put added) (c.in_ok-first.ensures.found added) c.in_ok-push.ensures c.in_ok-push-2.ensures kept as_many
 
 pub add-requires : goal.add-requires
-add-requires c = record { kept = λ name p is. (c.requires.table.packages name).kept p is; behind = c.requires.table.behind }
+add-requires c = record { kept = λ name p is. (c.requires.table.packages name).kept p is; found = c.requires.table.found }
