@@ -1,11 +1,11 @@
-use Rattle.std.proofs.Common.{◌≡◌, ◌∙◌, ◌<◌, ℕ, List, Option, Some, None, length, not, is_some, refl, sym, ap, subst, arith}
+use Rattle.std.proofs.Common.{◌≡◌, ◌∙◌, ℕ, List, Option, Some, None, length, not, is_some, refl, sym, ap, subst, arith}
 use Rattle.std.specs.Prelude.{IfOk, IfSome, option_map, slice_get}
 use Rattle.std.specs.String.{string_bytes}
 use Rattle.std.specs.BTreeMap.{get_by_text}
 use Rattle.std.proofs.lemmas.Option.{slice_get_read, slice_get_within}
 use Rattle.resolvo_text.specs.View.{version_of}
 use Rattle.resolvo_catalogue_core.specs.Packages.{package_number, package_in, package_by, first_in}
-use Rattle.resolvo_catalogue_core.specs.Table.{AddsNumber, number_in}
+use Rattle.resolvo_catalogue_core.specs.Table.{number_in}
 use Rattle.resolvo_catalogue_core.specs.declared.package.Package.{Package}
 use Rattle.resolvo_catalogue_core.specs.declared.package_table.NamedPackage.{NamedPackage}
 use Rattle.resolvo_catalogue_core.proofs.CatalogueFacts.{ok_map}

@@ -1,8 +1,6 @@
-use Rattle.std.proofs.Common.{◌≡◌, ◌∙◌, ◌<◌, ℕ, List, Some, length, refl, sym, ap, subst, arith}
-use Rattle.std.specs.Prelude.{slice_get}
+use Rattle.std.proofs.Common.{◌∙◌, length, refl, sym, ap, subst, arith}
 use Rattle.std.proofs.lemmas.Option.{slice_get_within}
 use Rattle.resolvo_catalogue_core.specs.Packages.{AreApart}
-use Rattle.resolvo_catalogue_core.specs.declared.package_table.NamedPackage.{NamedPackage}
 use Rattle.resolvo_catalogue_core.proofs.package_table.PackageTable.put_all.Goals as goal
 
 pub loop-number-init : goal.loop-number-init
