@@ -3,7 +3,7 @@
 //! A line is parsed from left to right, as in specs/Parse.antt. The reader of whole reports calls
 //! `line_shown`.
 
-ghost use Rattle.std.specs.Prelude.{◌≡◌, if◌then◌else◌, Some, None, Err, IfOk, map, drop};
+ghost use Rattle.std.specs.Prelude.{◌≡◌, [], ◌∷◌, if◌then◌else◌, Some, None, Err, IfOk, map, drop};
 ghost use Rattle.std.specs.Option.{option_map};
 ghost use Rattle.std.specs.List.{position, join_with_byte, slice_split};
 ghost use Rattle.resolvo_text.specs.declared.line.LineFault.TheVariants.{Fault};
@@ -72,16 +72,36 @@ fn pieces_in(alloc: Global, pieces: &[&[u8]]) -> Result<Vec<Literal>, LineFault>
     }
 }
 
+fn semicolon_in(text: &[u8]) -> Option<usize>
+    ensures { result ≡ position is_semicolon text.now }
+{
+    text.iter().position(|b| *b == b';')
+}
+
+/// The literal of a text without semicolons. One literal is in order.
+#[tactic(auto, unfolding(crate::specs::Parse::pieces_in))]
+fn one_literal_in(alloc: Global, text: &[u8]) -> Result<Vec<Literal>, LineFault>
+    ensures { Gives (λ v. literals_of v.items) result (pieces_in (text.now ∷ [])) }
+{
+    let literal = literal_behind(alloc, b'[', text)?;
+    Ok(vec![in alloc; literal]?)
+}
+
 /// The literals of a clause, without its closing bracket.
-#[tactic(auto, unfolding(crate::specs::Parse::literals_in))]
+#[tactic(auto, using(crate::proofs::ClauseLemmas::only_piece), unfolding(crate::specs::Parse::literals_in))]
 fn literals_in(alloc: Global, text: &[u8]) -> Result<Vec<Literal>, LineFault>
     ensures { Gives (λ v. literals_of v.items) result (literals_in text.now) }
 {
     if text == b"[".as_slice() {
         return Ok(Vec::new(alloc));
     }
-    let pieces = pieces_of(alloc, text)?;
-    pieces_in(alloc, &pieces)
+    match semicolon_in(text) {
+        None => one_literal_in(alloc, text),
+        Some(_) => {
+            let pieces = pieces_of(alloc, text)?;
+            pieces_in(alloc, &pieces)
+        }
+    }
 }
 
 /// The words as numbers.
