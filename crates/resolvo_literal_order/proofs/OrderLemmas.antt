@@ -81,3 +81,37 @@ once_goes_on has has_now ts n at d x added is lt part seen test new once updated
       ap are_once parts ∙ once_more has x (parts_of (drop at ts)) added seen test once ∙ new,
       subst (λ (texts : List (List ℕ)). HasSeen has_now texts) (sym parts) (seen_more has has_now x (parts_of (drop at ts)) seen updated),
     )
+
+-- ---- a few texts, pair by pair
+
+any_part : (atom : List ℕ) (ts : List (Bor (List ℕ))) → list_any (λ t. bytes_eq (atom_part t.now) atom) ts ≡ list_any (λ y. bytes_eq y atom) (parts_of ts)
+any_part atom [] = refl
+any_part atom (t ∷ ts) = ap (λ (b : Bool). bytes_eq (atom_part t.now) atom || b) (any_part atom ts)
+
+first_part : (first : Bor (List ℕ)) (others : List (Bor (List ℕ))) (atom : List ℕ) (found : Bool) → atom ≡ atom_part first.now → found ≡ list_any (λ t. bytes_eq (atom_part t.now) atom) others
+    → are_once (parts_of (first ∷ others)) ≡ not found && are_once (parts_of others)
+first_part first others atom found part is = ap (λ (x : List ℕ). not (list_any (λ y. bytes_eq y x) (parts_of others)) && are_once (parts_of others)) (sym part) ∙ ap (λ (b : Bool). not b && are_once (parts_of others)) (sym (any_part atom others) ∙ sym is)
+
+few_at : (ts : List (Bor (List ℕ))) (n at : ℕ) (d : Bor (List ℕ)) (atom : List ℕ) (found : Bool) → at ≡ n + 1 → n < length ts → atom ≡ atom_part (get_or ts n d).now → found ≡ list_any (λ t. bytes_eq (atom_part t.now) atom) (drop at ts)
+    → are_once (parts_of (drop n ts)) ≡ not found && are_once (parts_of (drop at ts))
+few_at ts n at d atom found is lt part has =
+    ap (λ xs. are_once (parts_of xs)) (drop_more ts n d lt)
+    ∙ ap (λ (k : ℕ). are_once (parts_of (get_or ts n d ∷ drop k ts))) (sym is)
+    ∙ first_part (get_or ts n d) (drop at ts) atom found part has
+
+pub few_stop : (ts : List (Bor (List ℕ))) (n at : ℕ) (d : Bor (List ℕ)) (atom : List ℕ) (found : Bool) → at ≡ n + 1 → n < length ts → atom ≡ atom_part (get_or ts n d).now → found ≡ list_any (λ t. bytes_eq (atom_part t.now) atom) (drop at ts)
+    → found ≡ true → false ≡ are_once (parts_of ts)
+few_stop ts n at d atom found is lt part has there = by_test (are_once (parts_of ts)) refl
+  where
+    by_test : (b : Bool) → are_once (parts_of ts) ≡ b → false ≡ b
+    by_test false e = refl
+    by_test true e =
+        let below : are_once (parts_of (drop n ts)) ≡ true = ap are_once (sym (parts_below n ts)) ∙ once_below n (parts_of ts) e in
+        ap (λ (b : Bool). not b && are_once (parts_of (drop at ts))) (sym there) ∙ sym (few_at ts n at d atom found is lt part has) ∙ below
+
+pub few_go_on : (ts : List (Bor (List ℕ))) (n at : ℕ) (d : Bor (List ℕ)) (atom : List ℕ) (found : Bool) → at ≡ n + 1 → n < length ts → atom ≡ atom_part (get_or ts n d).now → found ≡ list_any (λ t. bytes_eq (atom_part t.now) atom) (drop at ts)
+    → found ≡ false → are_once (parts_of (drop at ts)) ≡ true → (n ≤ length ts) × (are_once (parts_of (drop n ts)) ≡ true)
+few_go_on ts n at d atom found is lt part has absent once = (
+  omega (arith, lt),
+  few_at ts n at d atom found is lt part has ∙ ap (λ (b : Bool). not b && are_once (parts_of (drop at ts))) absent ∙ once,
+)

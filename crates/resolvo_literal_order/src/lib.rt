@@ -5,6 +5,8 @@
 #![tactic(auto)]
 
 ghost use Rattle.std.specs.Prelude.{◌≡◌, IfOk, map};
+ghost use Rattle.std.specs.List.{list_any};
+ghost use Rattle.std.specs.Str.{bytes_eq};
 ghost use Rattle.resolvo_literal_order.specs.Order.{texts_of, are_rising, are_once, atom_part, are_in_order};
 
 use std::alloc::{AllocError, Global};
@@ -39,6 +41,31 @@ fn are_rising(texts: &[&[u8]]) -> bool
     }
 }
 
+/// Most clauses have few literals. The atoms of so many are compared pair by pair.
+const FEW: usize = 8;
+
+/// Whether one of these texts of literals has the atom.
+fn has_atom(texts: &[&[u8]], atom: &[u8]) -> bool
+    ensures { result ≡ list_any (λ t. bytes_eq (atom_part t.now) atom.now) texts.now }
+{
+    texts.iter().any(|text| atom_part(text) == atom)
+}
+
+/// Whether no atom occurs twice in a few texts of literals.
+fn are_few_once(texts: &[&[u8]]) -> bool
+    ensures { result ≡ are_once (map atom_part (texts_of texts.now)) }
+{
+    let mut at = texts.len();
+    while at > 0 {
+        let others = &texts[at..];
+        at -= 1;
+        if has_atom(others, atom_part(texts[at])) {
+            return false;
+        }
+    }
+    true
+}
+
 /// Whether no atom occurs twice in these texts of literals.
 fn are_atoms_once(alloc: Global, texts: &[&[u8]]) -> Result<bool, AllocError>
     ensures { IfOk result (λ b. b ≡ are_once (map atom_part (texts_of texts.now))) }
@@ -60,6 +87,9 @@ pub fn are_in_order(alloc: Global, texts: &[&[u8]]) -> Result<bool, AllocError>
 {
     if !are_rising(texts) {
         return Ok(false);
+    }
+    if texts.len() <= FEW {
+        return Ok(are_few_once(texts));
     }
     are_atoms_once(alloc, texts)
 }
