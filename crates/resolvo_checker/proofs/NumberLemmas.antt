@@ -1,5 +1,6 @@
 -- Lemmas on the numbers of keys.
-use Rattle.std.proofs.Common.{Ordering, ◌≡◌, ℕ, ◌+◌, ◌<◌, Bool, true, false, List, Option, Some, None, sym, ap, subst, ◌∙◌, inl, inr, ◌⊎◌, cond, arith}
+use Rattle.std.proofs.Common.{Ordering, ◌≡◌, ℕ, zero, suc, ◌+◌, ◌<◌, Bool, true, false, List, [], ◌∷◌, ◌++◌, Option, Some, None, refl, sym, ap, subst, ◌∙◌, inl, inr, ◌⊎◌, cond, arith, slice_set}
+use Rattle.std.specs.Prelude.{slice_get}
 use Rattle.std.specs.Global.{Vec}
 use Rattle.std.specs.Map.{lookup, KeepsOthers, IsKeyTest, AreApart}
 use Rattle.std.specs.Str.{bytes_eq}
@@ -11,6 +12,7 @@ use Rattle.std.proofs.lemmas.Map.Text.{is_eq-slice_cmp}
 use Rattle.std.proofs.lemmas.Bool.{cases_Bool, cond-true, cond-false}
 use Rattle.std.proofs.lemmas.Option.{none-some, same_Some}
 use Rattle.resolvo_checker.specs.Numbers.{number_in, AreNumbers, Keeps}
+use Rattle.resolvo_checker.specs.Noted.{AreNoted}
 
 abbrev key_cmp : Vec ℕ → Vec ℕ → Ordering
 key_cmp x y = slice_cmp nat_cmp x.items y.items
@@ -56,3 +58,36 @@ module _ (old new : List (Vec ℕ × ℕ)) (key : List ℕ) (count : ℕ) (is : 
       ];
       below = λ a i h. elim (given a i h) [ inl x ↦ omega (arith, x.1) | inr x ↦ omega (arith, x.1) ];
     }
+
+-- ---- noted numbers
+
+noted_before : (versions : List (Option ℕ)) (n i : ℕ) → slice_get (versions ++ None ∷ []) n ≡ Some (Some i) → slice_get versions n ≡ Some (Some i)
+noted_before [] zero i h = absurd cc
+noted_before [] (suc n) i h = h
+noted_before (v ∷ versions) zero i h = h
+noted_before (v ∷ versions) (suc n) i h = noted_before versions n i h
+
+-- a slot without a number notes nothing
+pub noted_push : (entries : List (Vec ℕ × ℕ)) (versions : List (Option ℕ)) → AreNoted entries versions → AreNoted entries (versions ++ None ∷ [])
+noted_push entries versions noted = λ n i h. noted n i (noted_before versions n i h)
+
+noted_at : (versions : List (Option ℕ)) (version number n i : ℕ) → slice_get (slice_set versions version (Some number)) n ≡ Some (Some i) → ((n ≡ version) × (i ≡ number)) ⊎ (slice_get versions n ≡ Some (Some i))
+noted_at [] version number n i h = inr h
+noted_at (v ∷ versions) zero number zero i h = inl (refl, cc)
+noted_at (v ∷ versions) zero number (suc n) i h = inr h
+noted_at (v ∷ versions) (suc version) number zero i h = inr h
+noted_at (v ∷ versions) (suc version) number (suc n) i h = elim (noted_at versions version number n i h) [
+  | inl x ↦ inl (ap suc x.0, x.1)
+  | inr x ↦ inr x
+]
+
+-- the number of one version more is noted
+pub noted_set : (entries : List (Vec ℕ × ℕ)) (versions : List (Option ℕ)) (version number : ℕ) → number_in entries (0 ∷ version ∷ []) ≡ Some number → AreNoted entries versions → AreNoted entries (slice_set versions version (Some number))
+noted_set entries versions version number is noted = λ n i h. elim (noted_at versions version number n i h) [
+  | inl x ↦ rw (x.0, x.1) is
+  | inr x ↦ noted n i x
+]
+
+-- what is noted stays, as the numbers do
+pub noted_keeps : (old new : List (Vec ℕ × ℕ)) (versions : List (Option ℕ)) → Keeps old new → AreNoted old versions → AreNoted new versions
+noted_keeps old new versions stays noted = λ n i h. stays (0 ∷ n ∷ []) i (noted n i h)

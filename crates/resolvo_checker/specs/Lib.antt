@@ -4,6 +4,7 @@ pub mod Pieces
 pub mod Literals
 pub mod Rup
 pub mod Numbers
+pub mod Noted
 pub mod StepClauses
 pub mod AtomValues
 pub mod Proof

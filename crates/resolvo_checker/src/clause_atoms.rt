@@ -49,7 +49,8 @@ pub fn push_version(
         → somes clause ≡ member_of vs positive version.0 ∷ []
         → Extends vs numbers.old out.old.items numbers.new out.new.items clause) }
 {
-    push_key(alloc, numbers, out, &[0, version.0 as usize], positive)?;
+    let atom = numbers.number_of_version(alloc, version.0 as usize)?;
+    out.push(Literal { atom, positive })?;
     Ok(())
 }
 
