@@ -13,7 +13,7 @@ use Rattle.resolvo_checker.specs.declared.kept.Kept.{Kept as CodeKept}
 use Rattle.resolvo_checker.specs.declared.kept.Kept.TheVariants as code
 use Rattle.resolvo_checker.specs.declared.kept.Long.{Long}
 use Rattle.resolvo_checker.specs.declared.kept.Long.TheVariants as long
-use Rattle.resolvo_checker.specs.Kept.{Ready, Deferred, literals_at, literals_kept, step_kept, deferred_at, IsBuilt, AreBuilt}
+use Rattle.resolvo_checker.specs.Kept.{Kept, Ready, Deferred, literals_at, literals_kept, step_kept, deferred_at, IsBuilt, AreBuilt}
 use Rattle.resolvo_checker.specs.Pieces.{long_piece, range_of, piece_or, piece, long_number, pieces, AreLongWithin, IsKeptWithin, AreKeptWithin, AreWithin, IsLongStep, IsLongReady}
 
 pub err_map : {X E P Q : Type 0} (r : Result X E) → OnErr r P → (P → Q) → OnErr r Q
@@ -250,3 +250,9 @@ built flat more longs kept place s h is = three kept h.each where
   three : (ks : List CodeKept) → AreKeptWithin (length flat) (length longs) ks → AreBuilt s more (pieces flat longs ks) (pieces (flat ++ more) (slice_set longs place new) ks)
   three [] g = tt
   three (k ∷ ks) g = (two k g.0, three ks g.1)
+
+-- past the last clause there are no literals
+pub no_literals_past : (kept : List Kept) (n : ℕ) → length kept ≤ n → literals_at kept n ≡ []
+no_literals_past [] n le = refl
+no_literals_past (k ∷ kept) zero le = absurd (omega (arith, le))
+no_literals_past (k ∷ kept) (suc n) le = no_literals_past kept n (omega (arith, le))

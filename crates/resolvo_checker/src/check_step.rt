@@ -321,7 +321,6 @@ pub struct Checker {
 
 /// Whether the causes are earlier steps, and the derived clause is RUP by them.
 fn is_derived(
-    alloc: Global,
     truth: &mut Assignment,
     clauses: &mut Clauses,
     derived: &[Literal],
@@ -351,7 +350,7 @@ fn is_derived(
         return Ok(false);
     }
     let pass = clauses.len() as u32 + 1;
-    is_rup(alloc, truth, pass, derived, clauses, causes)
+    is_rup(truth, pass, derived, clauses, causes)
 }
 
 /// Whether the version has no other place. A version that isn't listed has none.
@@ -374,7 +373,6 @@ fn has_no_other(
 
 /// Whether the step fits the earlier ones: a version has one place, and a derived clause is RUP.
 fn follows(
-    alloc: Global,
     catalogue: &Catalogue,
     truth: &mut Assignment,
     clauses: &mut Clauses,
@@ -411,7 +409,7 @@ fn follows(
 {
     match step {
         Step::Digit { version, place, .. } => Ok(has_no_other(catalogue, places, version, *place)),
-        Step::Derive { causes, .. } => is_derived(alloc, truth, clauses, literals, causes),
+        Step::Derive { causes, .. } => is_derived(truth, clauses, literals, causes),
         Step::Need { .. }
         | Step::Gate { .. }
         | Step::Shared { .. }
@@ -493,7 +491,6 @@ fn add(
     let _versions = catalogue.versions();
     let _count = checker.numbers.count();
     let fine = follows(
-        alloc,
         catalogue,
         &mut checker.truth,
         clauses,

@@ -1,5 +1,5 @@
 //! The clauses of earlier steps, and how often they were named and read.
-//! `Clauses::clause` alone gives a clause out, and counts it as read.
+//! `Clauses::last_read` alone gives a clause out, after `Clauses::read_clause` counted it as read.
 //! A long clause is built as a later step names it. Until then its step is kept.
 
 ghost use Rattle.std.specs.Prelude.{◌≡◌, ◌+◌, ◌^◌, ◌<◌, ◌≤◌, [], ◌∷◌, ◌++◌, List, OnOk, OnErr, length, Some, None, slice_get, slice_index_or};
@@ -272,6 +272,8 @@ impl Flat {
 pub struct Clauses {
     kept: Flat,
     readings: Readings,
+    /// The step, from 0, whose clause was read last.
+    last: usize,
 }
 
 impl Clauses {
@@ -283,6 +285,7 @@ impl Clauses {
         Clauses {
             kept: Flat::new(alloc),
             readings: Readings { named: 0, read: 0 },
+            last: 0,
         }
     }
 
@@ -339,18 +342,26 @@ impl Clauses {
         self.kept.build(step, clause)
     }
 
-    /// The clause of a step, from 0, without literals if it isn't built. It is counted as read.
-    pub(crate) fn clause(&mut self, step: usize, out: &mut Vec<Literal>) -> Result<(), AllocError>
-        requires within { step < length self.old.kept }
-        requires room { self.old.readings.read + 1 < 2 ^ 64 }
-        ensures clause { OnOk result (out.new.items ≡ literals_at self.old.kept step) }
+    /// Reads the clause of a step, from 0, and counts it as read.
+    pub(crate) fn read_clause(&mut self, step: usize)
+        requires { self.old.readings.read + 1 < 2 ^ 64 }
+        ensures last { self.new.last ≡ step }
         ensures kept { self.new.kept ≡ self.old.kept }
         ensures read { self.new.readings ≡ record self.old.readings { read = self.old.readings.read + 1 } }
     {
         self.readings.read += 1;
-        out.clear();
-        out.extend_from_slice(self.kept.at(step))?;
-        Ok(())
+        self.last = step;
+    }
+
+    /// The clause that was read last, without literals if it isn't built.
+    pub(crate) fn last_read(&self) -> &[Literal]
+        ensures { result.now ≡ literals_at self.now.kept self.now.last }
+    {
+        if self.last < self.kept.len() {
+            self.kept.at(self.last)
+        } else {
+            &[]
+        }
     }
 
     /// Counts so many clauses as named.

@@ -11,7 +11,7 @@ ghost use Rattle.resolvo_checker.specs.Rup.{is_earlier, with_literal as with_lit
 use crate::assignment::Assignment;
 use crate::clauses::Clauses;
 use crate::literal::{ClauseStatus, Literal};
-use std::alloc::{AllocError, Global};
+use std::alloc::AllocError;
 
 fn is_false(truth: &Assignment, literal: Literal) -> bool
     ensures { result
@@ -99,7 +99,6 @@ fn deny_all(truth: &mut Assignment, clause: &[Literal]) -> Result<(), AllocError
 ///
 /// The pass number is greater than that of every earlier pass.
 pub fn is_rup(
-    alloc: Global,
     truth: &mut Assignment,
     pass: u32,
     denied: &[Literal],
@@ -124,11 +123,10 @@ pub fn is_rup(
 {
     truth.begin(pass);
     deny_all(truth, denied)?;
-    let mut clause = Vec::new(alloc);
     let mut refuted = false;
     for cause in causes {
-        clauses.clause(*cause as usize - 1, &mut clause)?;
-        refuted |= read(truth, &clause)?;
+        clauses.read_clause(*cause as usize - 1);
+        refuted |= read(truth, clauses.last_read())?;
     }
     Ok(refuted)
 }
