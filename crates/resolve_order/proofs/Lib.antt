@@ -1,4 +1,5 @@
 pub mod Elements
+pub mod PackageLemmas
 pub mod NumberLemmas
 pub mod FavourLemmas
 pub mod NewestLemmas

@@ -5,8 +5,7 @@ use Rattle.std.specs.Ordering.{nat_cmp}
 use Rattle.std.specs.Str.{bytes_eq}
 use Rattle.std.specs.Map.{update, lookup}
 use Rattle.std.specs.BTreeMap.{BTreeMap, get, is_at}
-use Rattle.std.proofs.lemmas.Bool.{false≢true}
-use Rattle.std.proofs.lemmas.Slice.Eq.{bytes_eq-Decides}
+use Rattle.std.proofs.lemmas.Bool.{false≢true, eqb-true}
 use Rattle.resolvo_text.specs.Line.{Version}
 use Rattle.resolvo_text.specs.Matches.{same_version}
 use Rattle.resolvo_catalogue_core.specs.Listed.{AreDistinct}
@@ -78,14 +77,13 @@ numbers_same versions P Q name numbers into back h = λ number k. (
 
 -- ---- maps by packages
 
--- The map of the version's package was changed at its number, and those of the others are as before.
-pub put_number : (before after : List ℕ → Option (BTreeMap ℕ VersionNo)) (v : Version) (n : Option VersionNo) (w : BTreeMap ℕ VersionNo) (bs : List ℕ) → bs ≡ v.name → ((name : List ℕ) → after name ≡ update bytes_eq before bs (Some w) name)
-    → ((q : ℕ) → get nat_cmp w q ≡ update nat_eq (number_at (before v.name)) v.number n q) → (u : Version) → number_at (after u.name) u.number ≡ (if same_version v u then n else number_at (before u.name) u.number)
-put_number before after v n w bs is named numbered u =
-    ap (λ (o : Option (BTreeMap ℕ VersionNo)). number_at o u.number) (named u.name ∙ ap (λ (name : List ℕ). update bytes_eq before name (Some w) u.name) is) ∙ by_test (bytes_eq v.name u.name) refl
+-- The map of a package was changed at one number, and those of the others are as before.
+pub put_number : (before after : BTreeMap ℕ (BTreeMap ℕ VersionNo)) (p number : ℕ) (n : Option VersionNo) (w : BTreeMap ℕ VersionNo) → ((k : ℕ) → get nat_cmp after k ≡ update nat_eq (get nat_cmp before) p (Some w) k)
+    → ((q : ℕ) → get nat_cmp w q ≡ update nat_eq (number_at (get nat_cmp before p)) number n q) → (k q : ℕ) → number_at (get nat_cmp after k) q ≡ (if p == k && number == q then n else number_at (get nat_cmp before k) q)
+put_number before after p number n w changed numbered k q = ap (λ (o : Option (BTreeMap ℕ VersionNo)). number_at o q) (changed k) ∙ by_test (p == k) refl
   where
-    by_test : (b : Bool) → bytes_eq v.name u.name ≡ b → number_at (if b then Some w else before u.name) u.number ≡ (if b && v.number == u.number then n else number_at (before u.name) u.number)
-    by_test true e = numbered u.number ∙ ap (λ (name : List ℕ). update nat_eq (number_at (before name)) v.number n u.number) ((bytes_eq-Decides v.name u.name).0 e)
+    by_test : (b : Bool) → p == k ≡ b → number_at (if b then Some w else get nat_cmp before k) q ≡ (if b && number == q then n else number_at (get nat_cmp before k) q)
+    by_test true e = numbered q ∙ ap (λ (i : ℕ). update nat_eq (number_at (get nat_cmp before i)) number n q) (eqb-true p k e)
     by_test false e = refl
 
 -- the package's map, after a change at one number

@@ -24,7 +24,7 @@ use Rattle.resolvo_catalogue_core.specs.Questions.{is_rule}
 use Rattle.resolvo_catalogue_core.specs.declared.rule.VersionNo.{VersionNo}
 use Rattle.resolvo_catalogue_core.proofs.TableSteps.{same_version_is}
 use Rattle.resolve_order.specs.Order.{IsSorted}
-use Rattle.resolve_order.specs.Kept.{number_at, AreNumbersOf, IsLeftOver, IsFavouredOf, is_unlisted, weight, unlisted, IsIn, Holds, IsNewestIn, IsFavouredMatch, IsUnlistedMatch, IsFirstMatch, IsLineState, IsWaiting, IsSpent}
+use Rattle.resolve_order.specs.Kept.{by_name, number_at, AreNumbersOf, IsLeftOver, IsFavouredOf, is_unlisted, weight, unlisted, IsIn, Holds, IsNewestIn, IsFavouredMatch, IsUnlistedMatch, IsFirstMatch, IsLineState, IsWaiting, IsSpent}
 use Rattle.resolve_order.specs.declared.chosen.LineState.TheVariants as state
 use Rattle.resolve_order.specs.declared.chosen.Chosen.{Chosen}
 use Rattle.resolve_order.proofs.NumberLemmas.{PutsNumber, numbers_more, numbers_less, numbers_same}
@@ -49,13 +49,13 @@ not_false false e = absurd (false≢true (sym e))
 
 -- a version that is no entry
 pub adds : (catalogue : List Line) (before after : Chosen) (chosen entries : Set) (n : VersionNo) (v : Version) → slice_get (listed catalogue) n.0 ≡ Some v → is_unlisted before.listed.items n.0 ≡ true
-    → ((name : List ℕ) → PutsNumber v (Some n) name (get_by_text before.unlisted name) (get_by_text after.unlisted name)) → after.entries ≡ before.entries → after.favoured ≡ before.favoured → after.listed ≡ before.listed → after.left.items ≡ before.left.items ++ n ∷ []
+    → ((name : List ℕ) → PutsNumber v (Some n) name (by_name (listed catalogue) before.unlisted name) (by_name (listed catalogue) after.unlisted name)) → after.entries ≡ before.entries → after.favoured ≡ before.favoured → after.listed ≡ before.listed → after.left.items ≡ before.left.items ++ n ∷ []
     → Holds catalogue before chosen entries → Holds catalogue after (chosen ++ members (listed catalogue) (n ∷ [])) entries
 adds catalogue before after chosen entries n v at unset puts entered favoured flags left h = subst (λ (new : Set). Holds catalogue after (chosen ++ new) entries) (sym (alone (listed catalogue) n v at)) (record {
-  unlisted = λ name. numbers_more (listed catalogue) (IsLeftOver chosen entries) (IsLeftOver (chosen ++ v ∷ []) entries) v n name (get_by_text before.unlisted name) (get_by_text after.unlisted name) h.distinct at
+  unlisted = λ name. numbers_more (listed catalogue) (IsLeftOver chosen entries) (IsLeftOver (chosen ++ v ∷ []) entries) v n name (by_name (listed catalogue) before.unlisted name) (by_name (listed catalogue) after.unlisted name) h.distinct at
       (λ w l. (Contains-append_left chosen (v ∷ []) w l.0, l.1)) (Contains-push chosen v, none_from_member entries v (not_true (is_member v entries) (sym (flag_means catalogue before chosen entries n.0 v h at) ∙ unset)))
       (λ w l apart. (elim (Contains-push_cases chosen v w l.0) [ inl old ↦ old | inr new ↦ absurd (apart new) ], l.1)) (puts name) (h.unlisted name);
-  entered = λ name. subst (λ (m : _). AreNumbersOf (listed catalogue) (Contains entries) name (get_by_text m name)) (sym entered) (h.entered name);
+  entered = λ name. subst (λ (m : _). AreNumbersOf (listed catalogue) (Contains entries) name (by_name (listed catalogue) m name)) (sym entered) (h.entered name);
   favoured = λ name. subst (λ (m : _). IsFavouredOf catalogue name (get_by_text m name)) (sym favoured) (h.favoured name);
   flags = λ k w at_k. ap (λ (l : _). slice_get l.items k) flags ∙ h.flags k w at_k;
   distinct = h.distinct;
@@ -80,7 +80,7 @@ adds_none catalogue kept chosen entries n at h = subst (λ (set : Set). Holds ca
 -- an entry
 adds_entry : (catalogue : List Line) (kept : Chosen) (chosen entries : Set) (n : VersionNo) (v : Version) → slice_get (listed catalogue) n.0 ≡ Some v → Contains entries v → Holds catalogue kept chosen entries → Holds catalogue kept (chosen ++ members (listed catalogue) (n ∷ [])) entries
 adds_entry catalogue kept chosen entries n v at entry h = subst (λ (new : Set). Holds catalogue kept (chosen ++ new) entries) (sym (alone (listed catalogue) n v at)) (record {
-  unlisted = λ name. numbers_same (listed catalogue) (IsLeftOver chosen entries) (IsLeftOver (chosen ++ v ∷ []) entries) name (get_by_text kept.unlisted name) (λ w l. (Contains-append_left chosen (v ∷ []) w l.0, l.1)) (λ w l. (was w l.0, l.1)) (h.unlisted name);
+  unlisted = λ name. numbers_same (listed catalogue) (IsLeftOver chosen entries) (IsLeftOver (chosen ++ v ∷ []) entries) name (by_name (listed catalogue) kept.unlisted name) (λ w l. (Contains-append_left chosen (v ∷ []) w l.0, l.1)) (λ w l. (was w l.0, l.1)) (h.unlisted name);
   entered = h.entered;
   favoured = h.favoured;
   flags = h.flags;
@@ -150,19 +150,19 @@ member_more w v set apart = elim (cases_Bool (is_member w set)) [
 ]
 
 -- The version is moved from the unlisted ones to the entries.
-pub record Moves (before after : Chosen) (n : VersionNo) (v : Version) : Type 0 where
-  pub entered : (name : List ℕ) → PutsNumber v (Some n) name (get_by_text before.entries name) (get_by_text after.entries name)
-  pub taken : (name : List ℕ) → PutsNumber v None name (get_by_text before.unlisted name) (get_by_text after.unlisted name)
+pub record Moves (catalogue : List Line) (before after : Chosen) (n : VersionNo) (v : Version) : Type 0 where
+  pub entered : (name : List ℕ) → PutsNumber v (Some n) name (by_name (listed catalogue) before.entries name) (by_name (listed catalogue) after.entries name)
+  pub taken : (name : List ℕ) → PutsNumber v None name (by_name (listed catalogue) before.unlisted name) (by_name (listed catalogue) after.unlisted name)
   pub same_favoured : after.favoured ≡ before.favoured
   pub same_left : after.left ≡ before.left
 
 pub marks : (catalogue : List Line) (before after : Chosen) (chosen entries : Set) (n : VersionNo) (v : Version) → slice_get (listed catalogue) n.0 ≡ Some v → Contains chosen v → is_unlisted before.listed.items n.0 ≡ true
-    → Moves before after n v → after.listed.items ≡ set before.listed.items n.0 true → Holds catalogue before chosen entries → Holds catalogue after chosen (entries ++ v ∷ [])
+    → Moves catalogue before after n v → after.listed.items ≡ set before.listed.items n.0 true → Holds catalogue before chosen entries → Holds catalogue after chosen (entries ++ v ∷ [])
 marks catalogue before after chosen entries n v at in_chosen unset moves flags h = record {
-  unlisted = λ name. numbers_less (listed catalogue) (IsLeftOver chosen entries) (IsLeftOver chosen (entries ++ v ∷ [])) v name (get_by_text before.unlisted name) (get_by_text after.unlisted name)
+  unlisted = λ name. numbers_less (listed catalogue) (IsLeftOver chosen entries) (IsLeftOver chosen (entries ++ v ∷ [])) v name (by_name (listed catalogue) before.unlisted name) (by_name (listed catalogue) after.unlisted name)
       (λ w l. (l.0, λ c. l.1 (Contains-append_left entries (v ∷ []) w c))) (λ l. l.1 (Contains-push entries v))
       (λ w l apart. (l.0, λ c. elim (Contains-push_cases entries v w c) [ inl old ↦ l.1 old | inr new ↦ apart new ])) (moves.taken name) (h.unlisted name);
-  entered = λ name. numbers_more (listed catalogue) (Contains entries) (Contains (entries ++ v ∷ [])) v n name (get_by_text before.entries name) (get_by_text after.entries name) h.distinct at
+  entered = λ name. numbers_more (listed catalogue) (Contains entries) (Contains (entries ++ v ∷ [])) v n name (by_name (listed catalogue) before.entries name) (by_name (listed catalogue) after.entries name) h.distinct at
       (λ w c. Contains-append_left entries (v ∷ []) w c) (Contains-push entries v) (λ w c apart. elim (Contains-push_cases entries v w c) [ inl old ↦ old | inr new ↦ absurd (apart new) ]) (moves.entered name) (h.entered name);
   favoured = λ name. subst (λ (m : _). IsFavouredOf catalogue name (get_by_text m name)) (sym moves.same_favoured) (h.favoured name);
   flags = λ k w at_k. ap (λ (fs : List Bool). slice_get fs k) flags ∙ of k w at_k (is_nat k n.0);
@@ -203,8 +203,8 @@ last_none (n ∷ numbers) at =
 pub drops : (catalogue : List Line) (before after : Chosen) (chosen entries : Set) (n : VersionNo) → before.left.items ≡ after.left.items ++ n ∷ [] → is_unlisted before.listed.items n.0 ≡ false
     → after.unlisted ≡ before.unlisted → after.entries ≡ before.entries → after.favoured ≡ before.favoured → after.listed ≡ before.listed → Holds catalogue before chosen entries → Holds catalogue after chosen entries
 drops catalogue before after chosen entries n left is_set over entered favoured flags h = record {
-  unlisted = λ name. subst (λ (m : _). AreNumbersOf (listed catalogue) (IsLeftOver chosen entries) name (get_by_text m name)) (sym over) (h.unlisted name);
-  entered = λ name. subst (λ (m : _). AreNumbersOf (listed catalogue) (Contains entries) name (get_by_text m name)) (sym entered) (h.entered name);
+  unlisted = λ name. subst (λ (m : _). AreNumbersOf (listed catalogue) (IsLeftOver chosen entries) name (by_name (listed catalogue) m name)) (sym over) (h.unlisted name);
+  entered = λ name. subst (λ (m : _). AreNumbersOf (listed catalogue) (Contains entries) name (by_name (listed catalogue) m name)) (sym entered) (h.entered name);
   favoured = λ name. subst (λ (m : _). IsFavouredOf catalogue name (get_by_text m name)) (sym favoured) (h.favoured name);
   flags = λ k w at. ap (λ (l : _). slice_get l.items k) flags ∙ h.flags k w at;
   distinct = h.distinct;
@@ -298,13 +298,13 @@ left_from_none entries w h = elim (cases_Bool (is_member w entries)) [
 ]
 
 -- no match is left over
-pub none_matches : (catalogue : List Line) (kept : Chosen) (chosen entries : Set) (s : Spec) → Holds catalogue kept chosen entries → ((n : ℕ) (k : VersionNo) → number_at (get_by_text kept.unlisted s.name) n ≡ Some k → is_in_span s.span n ≡ true → ⊥)
+pub none_matches : (catalogue : List Line) (kept : Chosen) (chosen entries : Set) (s : Spec) → Holds catalogue kept chosen entries → ((n : ℕ) (k : VersionNo) → number_at (by_name (listed catalogue) kept.unlisted s.name) n ≡ Some k → is_in_span s.span n ≡ true → ⊥)
     → IsUnlistedMatch catalogue chosen entries s None
 none_matches catalogue kept chosen entries s h none = λ w c m. left_from_none entries w (λ out.
     let k = h.known w c in
-    none w.number k.0 (number_found (listed catalogue) (IsLeftOver chosen entries) s (get_by_text kept.unlisted s.name) w k.0 (h.unlisted s.name) k.1 m (c, out)) (in_span s w m))
+    none w.number k.0 (number_found (listed catalogue) (IsLeftOver chosen entries) s (by_name (listed catalogue) kept.unlisted s.name) w k.0 (h.unlisted s.name) k.1 m (c, out)) (in_span s w m))
 
-pub no_numbers : (catalogue : List Line) (kept : Chosen) (chosen entries : Set) (s : Spec) → Holds catalogue kept chosen entries → get_by_text kept.unlisted s.name ≡ None → IsUnlistedMatch catalogue chosen entries s None
+pub no_numbers : (catalogue : List Line) (kept : Chosen) (chosen entries : Set) (s : Spec) → Holds catalogue kept chosen entries → by_name (listed catalogue) kept.unlisted s.name ≡ None → IsUnlistedMatch catalogue chosen entries s None
 no_numbers catalogue kept chosen entries s h none =
     none_matches catalogue kept chosen entries s h (λ n k at span. no_number n k (subst (λ (m : Option (BTreeMap ℕ VersionNo)). number_at m n ≡ Some k) none at))
   where
@@ -314,7 +314,7 @@ no_numbers catalogue kept chosen entries s h none =
 pub favoured_first : (catalogue : List Line) (chosen entries : Set) (s : Spec) (k : VersionNo) → IsFavouredMatch catalogue chosen entries s (Some k) → IsUnlistedMatch catalogue chosen entries s (Some k)
 favoured_first catalogue chosen entries s k f = (f.0, f.1, f.3, f.4, λ w m l. inr (inl f.2))
 
-pub newest_first : (catalogue : List Line) (kept : Chosen) (chosen entries : Set) (s : Spec) (numbers : BTreeMap ℕ VersionNo) (o : Option VersionNo) → Holds catalogue kept chosen entries → get_by_text kept.unlisted s.name ≡ Some numbers
+pub newest_first : (catalogue : List Line) (kept : Chosen) (chosen entries : Set) (s : Spec) (numbers : BTreeMap ℕ VersionNo) (o : Option VersionNo) → Holds catalogue kept chosen entries → by_name (listed catalogue) kept.unlisted s.name ≡ Some numbers
     → IsFavouredMatch catalogue chosen entries s None → IsNewestIn (get nat_cmp numbers) s.span o → IsUnlistedMatch catalogue chosen entries s o
 newest_first catalogue kept chosen entries s numbers None h is none newest =
     none_matches catalogue kept chosen entries s h (λ n k at span. newest n k (subst (λ (m : Option (BTreeMap ℕ VersionNo)). number_at m n ≡ Some k) is at) span)
@@ -346,19 +346,19 @@ still_unlisted catalogue kept chosen entries s k h m is_set =
 
 -- ---- met SPECs
 
-pub met_by : (catalogue : List Line) (kept : Chosen) (chosen entries : Set) (s : Spec) (numbers : BTreeMap ℕ VersionNo) (o : Option VersionNo) → Holds catalogue kept chosen entries → get_by_text kept.entries s.name ≡ Some numbers
+pub met_by : (catalogue : List Line) (kept : Chosen) (chosen entries : Set) (s : Spec) (numbers : BTreeMap ℕ VersionNo) (o : Option VersionNo) → Holds catalogue kept chosen entries → by_name (listed catalogue) kept.entries s.name ≡ Some numbers
     → IsNewestIn (get nat_cmp numbers) s.span o → is_some o ≡ is_met s entries
 met_by catalogue kept chosen entries s numbers None h is newest = sym (any_none (matches s) entries (λ w c m.
     let k = h.known w (h.among w c) in
-    newest w.number k.0 (subst (λ (x : Option (BTreeMap ℕ VersionNo)). number_at x w.number ≡ Some k.0) is (number_found (listed catalogue) (Contains entries) s (get_by_text kept.entries s.name) w k.0 (h.entered s.name) k.1 m c)) (in_span s w m)))
+    newest w.number k.0 (subst (λ (x : Option (BTreeMap ℕ VersionNo)). number_at x w.number ≡ Some k.0) is (number_found (listed catalogue) (Contains entries) s (by_name (listed catalogue) kept.entries s.name) w k.0 (h.entered s.name) k.1 m c)) (in_span s w m)))
 met_by catalogue kept chosen entries s numbers (Some k) h is newest =
     let v = found_match (listed catalogue) (Contains entries) s (Some numbers) newest.0 k (subst (AreNumbersOf (listed catalogue) (Contains entries) s.name) is (h.entered s.name)) newest.1 newest.2 in
     sym (any_from (matches s) entries v.0 v.4 v.3)
 
-pub met_none : (catalogue : List Line) (kept : Chosen) (chosen entries : Set) (s : Spec) → Holds catalogue kept chosen entries → get_by_text kept.entries s.name ≡ None → false ≡ is_met s entries
+pub met_none : (catalogue : List Line) (kept : Chosen) (chosen entries : Set) (s : Spec) → Holds catalogue kept chosen entries → by_name (listed catalogue) kept.entries s.name ≡ None → false ≡ is_met s entries
 met_none catalogue kept chosen entries s h none = sym (any_none (matches s) entries (λ w c m.
     let k = h.known w (h.among w c) in
-    no_number w.number k.0 (subst (λ (x : Option (BTreeMap ℕ VersionNo)). number_at x w.number ≡ Some k.0) none (number_found (listed catalogue) (Contains entries) s (get_by_text kept.entries s.name) w k.0 (h.entered s.name) k.1 m c))))
+    no_number w.number k.0 (subst (λ (x : Option (BTreeMap ℕ VersionNo)). number_at x w.number ≡ Some k.0) none (number_found (listed catalogue) (Contains entries) s (by_name (listed catalogue) kept.entries s.name) w k.0 (h.entered s.name) k.1 m c))))
   where
     no_number : (n : ℕ) (k : VersionNo) → number_at None n ≡ Some k → ⊥
     no_number n k e = cc

@@ -1,7 +1,8 @@
 -- The state of the lister: the chosen versions by their packages, the lines in their order, and
 -- those left to look at.
-use Rattle.std.specs.Prelude.{◌≡◌, ℕ, zero, suc, ◌<◌, ◌↔◌, ◌≤◌, IsTrue, Bool, true, false, not, ⊤, ◌⊎◌, List, [], ◌∷◌, ◌++◌, length, map, reverse, drop, Option, Some, None, Contains, slice_get}
-use Rattle.std.specs.Option.{option_map_or, option_and_then}
+use Rattle.std.specs.Prelude.{◌≡◌, ℕ, zero, suc, ◌<◌, ◌↔◌, ◌≤◌, IsTrue, Bool, true, false, if◌then◌else◌, not, ⊤, ◌⊎◌, List, [], ◌∷◌, ◌++◌, length, map, reverse, drop, Option, Some, None, Contains, slice_get}
+use Rattle.std.specs.Option.{option_map, option_map_or, option_and_then}
+use Rattle.std.specs.Str.{bytes_eq}
 use Rattle.std.specs.BTreeMap.{get, get_by_text}
 use Rattle.std.specs.Ordering.{nat_cmp}
 use Rattle.std.specs.BTreeMap.{BTreeMap}
@@ -26,6 +27,22 @@ use Rattle.resolve_order.specs.declared.entry.Reason.TheVariants as reason
 use Rattle.resolve_order.specs.declared.entry.Entry.{Entry}
 use Rattle.resolve_order.specs.declared.install_order.InstallOrder.{InstallOrder}
 use Rattle.resolve_order.specs.declared.open_lines.OpenLines.{OpenLines}
+
+-- ---- packages
+
+-- the number of the first version of the package, if it has one
+abbrev pub first_of : List Version → List ℕ → Option ℕ
+first_of [] name = None
+first_of (v ∷ versions) name = if bytes_eq v.name name then Some 0 else option_map suc (first_of versions name)
+
+-- what a map has for the package, under the number of its first version
+abbrev pub by_name : {X : Type 0} → List Version → BTreeMap ℕ X → List ℕ → Option X
+by_name versions packages name = option_and_then (λ n. get nat_cmp packages n) (first_of versions name)
+
+-- The version of this number has this number of its package's first version, and this number of its own.
+abbrev pub IsPlaceOf : List Version → ℕ → Option (ℕ × ℕ) → Type 0
+IsPlaceOf versions n None = slice_get versions n ≡ None
+IsPlaceOf versions n (Some place) = (v : Version) × (slice_get versions n ≡ Some v) × (first_of versions v.name ≡ Some place.0) × (v.number ≡ place.1)
 
 -- ---- chosen versions
 
@@ -67,8 +84,8 @@ IsIn versions numbers v = (n : VersionNo) × Contains numbers n × (slice_get ve
 -- These are the chosen versions, each of the catalogue, and these of them are entries. Chosen versions that are none
 -- are among those left.
 pub record Holds (catalogue : List Line) (kept : Chosen) (chosen entries : Set) : Type 0 where
-  pub unlisted : (name : List ℕ) → AreNumbersOf (listed catalogue) (IsLeftOver chosen entries) name (get_by_text kept.unlisted name)
-  pub entered : (name : List ℕ) → AreNumbersOf (listed catalogue) (Contains entries) name (get_by_text kept.entries name)
+  pub unlisted : (name : List ℕ) → AreNumbersOf (listed catalogue) (IsLeftOver chosen entries) name (by_name (listed catalogue) kept.unlisted name)
+  pub entered : (name : List ℕ) → AreNumbersOf (listed catalogue) (Contains entries) name (by_name (listed catalogue) kept.entries name)
   pub favoured : (name : List ℕ) → IsFavouredOf catalogue name (get_by_text kept.favoured name)
   pub flags : (n : ℕ) (v : Version) → slice_get (listed catalogue) n ≡ Some v → slice_get kept.listed.items n ≡ Some (is_member v entries)
   pub distinct : AreDistinct (listed catalogue)

@@ -2,16 +2,16 @@
 //! Two sets (`Holds` of specs/Kept.antt), with the version that a line gives. `install_order` keeps
 //! it.
 
-ghost use Rattle.std.specs.Prelude.{◌≡◌, ◌++◌, ◌∷◌, [], ℕ, ◌+◌, if◌then◌else◌, true, Contains, slice_get, Some, None, List, Option, IfOk, OnOk, IfSome};
+ghost use Rattle.std.specs.Prelude.{◌≡◌, ◌++◌, ◌∷◌, [], ℕ, ◌+◌, ◌==◌, ◌&&◌, if◌then◌else◌, true, Contains, slice_get, Some, None, List, Option, IfOk, OnOk, IfSome};
 ghost use Rattle.std.specs.BTreeMap.{get, get_by_text};
 ghost use Rattle.std.specs.Ordering.{nat_cmp};
 ghost use Rattle.std.specs.Option.{option_copied, option_map};
 ghost use Rattle.resolvo_text.specs.Line as content;
-ghost use Rattle.resolvo_text.specs.Matches.{Set, same_version, is_met, holds, condition_holds};
+ghost use Rattle.resolvo_text.specs.Matches.{Set, is_met, holds, condition_holds};
 ghost use Rattle.resolvo_text.specs.View.{spec_of, specs_of, cond_of, condition_of};
 ghost use Rattle.resolvo_catalogue_core.specs.Listed.{listed, members, version_at, version_by};
 ghost use Rattle.resolvo_catalogue_core.specs.Questions.{IsRuleLine};
-ghost use Rattle.resolve_order.specs.Kept.{Holds, IsLeftOver, IsNewestIn, IsFavouredOf, IsFavouredMatch, IsUnlistedMatch, IsFirstMatch, AreNumbersOf, number_at, IsRuleAt, IsLineState, IfGives, is_unlisted, unlisted};
+ghost use Rattle.resolve_order.specs.Kept.{first_of, by_name, IsPlaceOf, Holds, IsLeftOver, IsNewestIn, IsFavouredOf, IsFavouredMatch, IsUnlistedMatch, IsFirstMatch, AreNumbersOf, number_at, IsRuleAt, IsLineState, IfGives, is_unlisted, unlisted};
 
 use resolvo_catalogue_core::{Catalogue, Cond, Rule, Span, Spec, VersionNo};
 use std::alloc::{AllocError, Global};
@@ -38,40 +38,75 @@ fn version_at(catalogue: &Catalogue, version: VersionNo) -> Option<(&str, u32)>
 /// The versions of a package by their numbers.
 type Numbers = BTreeMap<u32, VersionNo>;
 
+/// The number of the package's first version, if it has one.
+fn package_of(catalogue: &Catalogue, name: &str) -> Option<u32>
+    ensures { result ≡ first_of (listed catalogue.now) name.now }
+{
+    match catalogue.versions_of(name).first() {
+        Some(first) => Some(first.0),
+        None => None,
+    }
+}
+
+/// The package of a listed version, and its own number.
+fn place_of(catalogue: &Catalogue, version: VersionNo) -> Option<(u32, u32)>
+    ensures { IsPlaceOf (listed catalogue.now) version.0 result }
+{
+    let listed = version_at(catalogue, version)?;
+    let package = package_of(catalogue, listed.0)?;
+    Some((package, listed.1))
+}
+
 /// Adds a version of the package.
 fn add_number(
     alloc: Global,
-    packages: &mut BTreeMap<String, Numbers>,
-    listed: (&str, u32),
+    packages: &mut BTreeMap<u32, Numbers>,
+    place: (u32, u32),
     version: VersionNo,
 ) -> Result<(), AllocError>
     ensures { OnOk result
-        ((v : content.Version)
-        → number_at (get_by_text packages.new v.name) v.number
-        ≡ (if same_version (version_by listed.entry.0.now listed.entry.1) v
+        ((k n : ℕ)
+        → number_at (get nat_cmp packages.new k) n
+        ≡ (if place.0 == k && place.1 == n
         then Some version
-        else number_at (get_by_text packages.old v.name) v.number)) }
+        else number_at (get nat_cmp packages.old k) n)) }
 {
-    if let Some(numbers) = packages.get_mut(listed.0) {
-        numbers.insert(listed.1, version)?;
+    let (package, number) = place;
+    if let Some(numbers) = packages.get_mut(&package) {
+        numbers.insert(number, version)?;
         return Ok(());
     }
     let mut numbers = BTreeMap::new(alloc);
-    numbers.insert(listed.1, version)?;
-    packages.insert(String::from_str(alloc, listed.0)?, numbers)?;
+    numbers.insert(number, version)?;
+    packages.insert(package, numbers)?;
     Ok(())
 }
 
 /// Takes a version of the package out.
-fn remove_number(packages: &mut BTreeMap<String, Numbers>, listed: (&str, u32))
-    ensures { (v : content.Version)
-        → number_at (get_by_text packages.new v.name) v.number
-        ≡ (if same_version (version_by listed.entry.0.now listed.entry.1) v
+fn remove_number(packages: &mut BTreeMap<u32, Numbers>, place: (u32, u32))
+    ensures { (k n : ℕ)
+        → number_at (get nat_cmp packages.new k) n
+        ≡ (if place.0 == k && place.1 == n
         then None
-        else number_at (get_by_text packages.old v.name) v.number) }
+        else number_at (get nat_cmp packages.old k) n) }
 {
-    if let Some(numbers) = packages.get_mut(listed.0) {
-        numbers.remove(&listed.1);
+    let (package, number) = place;
+    if let Some(numbers) = packages.get_mut(&package) {
+        numbers.remove(&number);
+    }
+}
+
+/// The numbers of a package, by its name.
+fn numbers_of<'a>(
+    packages: &'a BTreeMap<u32, Numbers>,
+    catalogue: &Catalogue,
+    name: &str,
+) -> Option<&'a Numbers>
+    ensures { option_copied result ≡ by_name (listed catalogue.now) packages.now name.now }
+{
+    match package_of(catalogue, name) {
+        Some(package) => packages.get(&package),
+        None => None,
     }
 }
 
@@ -117,10 +152,11 @@ fn favoured_by(
 #[derive(Drop)]
 pub struct Chosen {
     alloc: Global,
-    /// The chosen versions of each package that are no entries.
-    unlisted: BTreeMap<String, Numbers>,
+    /// The chosen versions of each package that are no entries. Packages are kept by the numbers of
+    /// their first versions.
+    unlisted: BTreeMap<u32, Numbers>,
     /// The entries of each package.
-    entries: BTreeMap<String, Numbers>,
+    entries: BTreeMap<u32, Numbers>,
     /// The favoured version of each package.
     favoured: BTreeMap<String, VersionNo>,
     /// Of each version of the catalogue, whether it is an entry.
@@ -156,8 +192,8 @@ impl Chosen {
         if !self.is_unlisted(version) {
             return Ok(());
         }
-        if let Some(listed) = version_at(catalogue, version) {
-            add_number(self.alloc, &mut self.unlisted, listed, version)?;
+        if let Some(place) = place_of(catalogue, version) {
+            add_number(self.alloc, &mut self.unlisted, place, version)?;
             self.left.push(version)?;
         }
         Ok(())
@@ -203,9 +239,9 @@ impl Chosen {
             → Holds catalogue.now self.old chosen entries
             → Holds catalogue.now self.new chosen (entries ++ v ∷ [])) }
     {
-        if let Some(listed) = version_at(catalogue, version) {
-            add_number(self.alloc, &mut self.entries, listed, version)?;
-            remove_number(&mut self.unlisted, listed);
+        if let Some(place) = place_of(catalogue, version) {
+            add_number(self.alloc, &mut self.entries, place, version)?;
+            remove_number(&mut self.unlisted, place);
         }
         self.listed[version.0 as usize] = true;
         Ok(())
@@ -260,7 +296,7 @@ impl Chosen {
             → Holds catalogue.now self.now chosen entries
             → IsUnlistedMatch catalogue.now chosen entries (spec_of spec.now) result }
     {
-        let numbers = self.unlisted.get(spec.name.as_str())?;
+        let numbers = numbers_of(&self.unlisted, catalogue, spec.name.as_str())?;
         match self.favoured_match(catalogue, numbers, spec) {
             Some(version) => Some(version),
             None => newest_in(numbers, spec.span),
@@ -303,12 +339,12 @@ impl Chosen {
     }
 
     /// Whether an entry matches.
-    fn is_met(&self, spec: &Spec) -> bool
-        ensures { (catalogue : List content.Line) (chosen entries : Set)
-            → Holds catalogue self.now chosen entries
+    fn is_met(&self, catalogue: &Catalogue, spec: &Spec) -> bool
+        ensures { (chosen entries : Set)
+            → Holds catalogue.now self.now chosen entries
             → result ≡ is_met (spec_of spec.now) entries }
     {
-        match self.entries.get(spec.name.as_str()) {
+        match numbers_of(&self.entries, catalogue, spec.name.as_str()) {
             Some(numbers) => newest_in(numbers, spec.span).is_some(),
             None => false,
         }
@@ -316,25 +352,25 @@ impl Chosen {
 
     /// Whether the condition holds among the entries.
     // one of four such bodies, each over its own form of a set (docs/DECISIONS.md)
-    fn holds(&self, condition: &Cond) -> bool
-        ensures { (catalogue : List content.Line) (chosen entries : Set)
-            → Holds catalogue self.now chosen entries
+    fn holds(&self, catalogue: &Catalogue, condition: &Cond) -> bool
+        ensures { (chosen entries : Set)
+            → Holds catalogue.now self.now chosen entries
             → result ≡ holds (cond_of condition.now) entries }
     {
         match condition {
-            Cond::Spec(spec) => self.is_met(spec),
-            Cond::And(left, right) => self.holds(left) && self.holds(right),
-            Cond::Or(left, right) => self.holds(left) || self.holds(right),
+            Cond::Spec(spec) => self.is_met(catalogue, spec),
+            Cond::And(left, right) => self.holds(catalogue, left) && self.holds(catalogue, right),
+            Cond::Or(left, right) => self.holds(catalogue, left) || self.holds(catalogue, right),
         }
     }
 
-    fn condition_holds(&self, condition: &Option<Box<Cond>>) -> bool
-        ensures { (catalogue : List content.Line) (chosen entries : Set)
-            → Holds catalogue self.now chosen entries
+    fn condition_holds(&self, catalogue: &Catalogue, condition: &Option<Box<Cond>>) -> bool
+        ensures { (chosen entries : Set)
+            → Holds catalogue.now self.now chosen entries
             → result ≡ condition_holds (condition_of condition.now) entries }
     {
         match condition {
-            Some(condition) => self.holds(condition),
+            Some(condition) => self.holds(catalogue, condition),
             None => true,
         }
     }
@@ -354,7 +390,7 @@ impl Chosen {
     {
         match self.first_match(catalogue, alternatives) {
             Some(version) => {
-                if self.condition_holds(condition) {
+                if self.condition_holds(catalogue, condition) {
                     LineState::Gives(version)
                 } else {
                     LineState::Waiting

@@ -5,5 +5,5 @@ use Rattle.resolvo_text.specs.declared.condition.Cond.{Cond}
 use Rattle.resolve_order.proofs.chosen.Chosen.condition_holds.Goals as goal
 
 pub returns-in-Some : goal.returns-in-Some
-returns-in-Some c = λ catalogue chosen entries h.
-    c.holds.ensures catalogue chosen entries h ∙ (ap (λ (x : Cond). holds (cond_of x) entries) c.deref.ensures.value ∙ ap (λ x. condition_holds (condition_of x) entries) (sym c.in-Some.is))
+returns-in-Some c = λ chosen entries h.
+    c.holds.ensures chosen entries h ∙ (ap (λ (x : Cond). holds (cond_of x) entries) c.deref.ensures.value ∙ ap (λ x. condition_holds (condition_of x) entries) (sym c.in-Some.is))

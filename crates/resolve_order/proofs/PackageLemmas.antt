@@ -1,0 +1,128 @@
+-- The number of a package's first version, and maps by these numbers.
+use Rattle.std.proofs.Common.{◌≡◌, inl, inr, ℕ, zero, suc, ◌<◌, ◌≤◌, Bool, true, false, if◌then◌else◌, ◌&&◌, List, [], ◌∷◌, length, map, Option, Some, None, refl, sym, ap, subst, ◌∙◌, get_or, arith}
+use Rattle.std.specs.Prelude.{slice_get, Contains, ◌==◌}
+use Rattle.std.specs.Option.{option_map, option_and_then}
+use Rattle.std.specs.Ordering.{nat_cmp}
+use Rattle.std.specs.Str.{bytes_eq}
+use Rattle.std.specs.BTreeMap.{BTreeMap, get}
+use Rattle.std.proofs.lemmas.Bool.{false≢true, cases_Bool, eqb-true, eq-eqb}
+use Rattle.std.proofs.lemmas.List.Kept.{AllPairs-from_increasing}
+use Rattle.std.proofs.lemmas.Slice.Eq.{bytes_eq-Decides}
+use Rattle.resolvo_text.specs.Line.{Version}
+use Rattle.resolvo_text.specs.Matches.{same_version}
+use Rattle.resolvo_catalogue_core.specs.Questions.{AreAll, IsOfPackage, number_of}
+use Rattle.resolvo_catalogue_core.specs.declared.rule.VersionNo.{VersionNo}
+use Rattle.resolve_order.specs.Kept.{first_of, by_name, number_at}
+use Rattle.resolve_order.proofs.Elements.{first_element}
+use Rattle.resolve_order.proofs.NumberLemmas.{PutsNumber}
+
+-- ---- first versions
+
+-- it is of the package
+pub first_is : (versions : List Version) (name : List ℕ) (k : ℕ) → first_of versions name ≡ Some k → (v : Version) × (slice_get versions k ≡ Some v) × (v.name ≡ name)
+first_is [] name k e = absurd cc
+first_is (v ∷ versions) name k e = of (first_is versions name) (bytes_eq v.name name) refl (first_of versions name) refl e
+  where
+    of : ((j : ℕ) → first_of versions name ≡ Some j → (w : Version) × (slice_get versions j ≡ Some w) × (w.name ≡ name)) → (b : Bool) → bytes_eq v.name name ≡ b → (o : Option ℕ) → first_of versions name ≡ o → (if b then Some 0 else option_map suc o) ≡ Some k → (w : Version) × (slice_get (v ∷ versions) k ≡ Some w) × (w.name ≡ name)
+    of rest true t o h e =
+        let is : 0 ≡ k = cc in
+        (v, subst (λ (i : ℕ). slice_get (v ∷ versions) i ≡ Some v) is refl, (bytes_eq-Decides v.name name).0 t)
+    of rest false t None h e = absurd cc
+    of rest false t (Some j) h e =
+        let w = rest j h in
+        let is : suc j ≡ k = cc in
+        (w.0, subst (λ (i : ℕ). slice_get (v ∷ versions) i ≡ Some w.0) is w.1, w.2)
+
+-- a package without one has no version
+pub none_first : (versions : List Version) (name : List ℕ) → ((j : ℕ) (w : Version) → slice_get versions j ≡ Some w → w.name ≡ name → ⊥) → first_of versions name ≡ None
+none_first [] name none = refl
+none_first (v ∷ versions) name none = elim (cases_Bool (bytes_eq v.name name)) [
+  | inl t ↦ absurd (none 0 v refl ((bytes_eq-Decides v.name name).0 t))
+  | inr f ↦
+      ap (λ (b : Bool). if b then Some 0 else option_map suc (first_of versions name)) f
+      ∙ ap (λ (o : Option ℕ). option_map suc o) (none_first versions name (λ j w at is. none (suc j) w at is))
+]
+
+-- the least number of a version of the package
+pub least_first : (versions : List Version) (name : List ℕ) (k : ℕ) (v : Version) → slice_get versions k ≡ Some v → v.name ≡ name → ((j : ℕ) (w : Version) → slice_get versions j ≡ Some w → w.name ≡ name → k ≤ j) → first_of versions name ≡ Some k
+least_first [] name k v at is least = absurd cc
+least_first (u ∷ versions) name zero v at is least =
+    let same : u ≡ v = cc in
+    ap (λ (b : Bool). if b then Some 0 else option_map suc (first_of versions name)) ((bytes_eq-Decides u.name name).1 (ap (λ (x : Version). x.name) same ∙ is))
+least_first (u ∷ versions) name (suc k) v at is least = elim (cases_Bool (bytes_eq u.name name)) [
+  | inl t ↦ absurd (let low = least 0 u refl ((bytes_eq-Decides u.name name).0 t) in omega (arith, low))
+  | inr f ↦
+      ap (λ (b : Bool). if b then Some 0 else option_map suc (first_of versions name)) f
+      ∙ ap (λ (o : Option ℕ). option_map suc o) (least_first versions name k v at is (λ j w at_w is_w. let low = least (suc j) w at_w is_w in omega (arith, low)))
+]
+
+-- each version's package has one
+pub has_first : (versions : List Version) (n : ℕ) (v : Version) → slice_get versions n ≡ Some v → first_of versions v.name ≡ None → ⊥
+has_first [] n v at none = absurd cc
+has_first (u ∷ versions) n v at none = of (λ m at_m h. has_first versions m v at_m h) (bytes_eq u.name v.name) refl (first_of versions v.name) refl none n at
+  where
+    of : ((m : ℕ) → slice_get versions m ≡ Some v → first_of versions v.name ≡ None → ⊥) → (b : Bool) → bytes_eq u.name v.name ≡ b → (o : Option ℕ) → first_of versions v.name ≡ o → (if b then Some 0 else option_map suc o) ≡ None → (n : ℕ) → slice_get (u ∷ versions) n ≡ Some v → ⊥
+    of rest true t o h e n at = absurd cc
+    of rest false t (Some j) h e n at = absurd cc
+    of rest false t None h e zero at =
+        let same : u ≡ v = cc in
+        false≢true (sym t ∙ (bytes_eq-Decides u.name v.name).1 (ap (λ (x : Version). x.name) same))
+    of rest false t None h e (suc m) at = rest m at h
+
+-- ---- the versions of a package, rising
+
+pub first_of_none : (versions : List Version) (name numbers : List ℕ) → AreAll numbers (IsOfPackage versions name) → numbers ≡ [] → first_of versions name ≡ None
+first_of_none versions name numbers are none = none_first versions name (λ j w at is.
+    let c : Contains [] j = subst (λ (ns : List ℕ). Contains ns j) none ((are.all j).1 (w, at, is)) in
+    let less : c.0 < 0 = c.1 in absurd (omega (arith, less)))
+
+pub first_of_some : (versions : List Version) (name : List ℕ) (n : ℕ) (numbers : List ℕ) → AreAll (n ∷ numbers) (IsOfPackage versions name) → first_of versions name ≡ Some n
+first_of_some versions name n numbers are =
+    let here = (are.all n).0 (first_element n numbers) in
+    least_first versions name n here.0 here.1 here.2 (λ j w at is. low j ((are.all j).1 (w, at, is)))
+  where
+    low : (j : ℕ) → Contains (n ∷ numbers) j → n ≤ j
+    low j c = from c.0 c.1 c.2
+      where
+        from : (i : ℕ) → i < length (n ∷ numbers) → get_or (n ∷ numbers) i j ≡ j → n ≤ j
+        from zero lt is = let e : n ≡ j = is in omega (arith, e)
+        from (suc i) lt is =
+            let less : n < get_or (n ∷ numbers) (suc i) j = AllPairs-from_increasing (n ∷ numbers) are.rising 0 (suc i) j (omega arith) lt in
+            omega (arith, less, is)
+
+-- the first of them, if there is one
+pub first_named : (versions : List Version) (name : List ℕ) (numbers : List VersionNo) (o : Option VersionNo) → AreAll (map number_of numbers) (IsOfPackage versions name) → o ≡ slice_get numbers 0 → option_map number_of o ≡ first_of versions name
+first_named versions name [] o are is = ap (λ (x : Option VersionNo). option_map number_of x) is ∙ sym (first_of_none versions name [] are refl)
+first_named versions name (n ∷ numbers) o are is = ap (λ (x : Option VersionNo). option_map number_of x) is ∙ sym (first_of_some versions name n.0 (map number_of numbers) are)
+
+-- ---- maps by packages
+
+-- a map was changed at the place of a version
+pub puts_at : (versions : List Version) (v : Version) (p number : ℕ) (n : Option VersionNo) (before after : BTreeMap ℕ (BTreeMap ℕ VersionNo)) → first_of versions v.name ≡ Some p → v.number ≡ number
+    → ((k q : ℕ) → number_at (get nat_cmp after k) q ≡ (if p == k && number == q then n else number_at (get nat_cmp before k) q)) → (name : List ℕ) → PutsNumber v n name (by_name versions before name) (by_name versions after name)
+puts_at versions v p number n before after first is puts name = λ q. of (first_of versions name) refl q
+  where
+    apart : (o : Option ℕ) → first_of versions name ≡ o → (o ≡ Some p → ⊥) → bytes_eq v.name name ≡ false
+    apart o e differs = elim (cases_Bool (bytes_eq v.name name)) [
+      | inl t ↦ absurd (differs (sym e ∙ ap (λ (x : List ℕ). first_of versions x) (sym ((bytes_eq-Decides v.name name).0 t)) ∙ first))
+      | inr f ↦ f
+    ]
+
+    same_name : (k : ℕ) → first_of versions name ≡ Some k → p ≡ k → v.name ≡ name
+    same_name k e same =
+        let w = first_is versions name k e in
+        let u = first_is versions v.name p first in
+        let one : u.0 ≡ w.0 = (let a = subst (λ (i : ℕ). slice_get versions i ≡ Some u.0) same u.1 in let b = w.1 in cc) in
+        sym u.2 ∙ ap (λ (x : Version). x.name) one ∙ w.2
+
+    test : (k : ℕ) → first_of versions name ≡ Some k → p == k ≡ bytes_eq v.name name
+    test k e = elim (cases_Bool (p == k)) [
+      | inl t ↦ t ∙ sym ((bytes_eq-Decides v.name name).1 (same_name k e (eqb-true p k t)))
+      | inr f ↦ f ∙ sym (apart (Some k) e (λ same. let is : k ≡ p = cc in false≢true (sym f ∙ eq-eqb p k (sym is))))
+    ]
+
+    of : (o : Option ℕ) → first_of versions name ≡ o → (q : ℕ) → number_at (option_and_then (λ k. get nat_cmp after k) o) q ≡ (if same_version v (record { name = name; number = q }) then n else number_at (option_and_then (λ k. get nat_cmp before k) o) q)
+    of None e q = sym (ap (λ (b : Bool). let x : Option VersionNo = if b && v.number == q then n else None in x) (apart None e (λ same. absurd cc)))
+    of (Some k) e q =
+        puts k q ∙ ap (λ (b : Bool). if b && number == q then n else number_at (get nat_cmp before k) q) (test k e)
+        ∙ ap (λ (i : ℕ). if bytes_eq v.name name && i == q then n else number_at (get nat_cmp before k) q) (sym is)
