@@ -7,8 +7,8 @@ mod arguments;
 
 use crate::arguments::read_arguments;
 use resolve_run::{
-    Checked, INPUT_LIMIT, Outcome, RunFault, check, check_ending, read_input, run, run_ending,
-    split_input,
+    Checked, INPUT_LIMIT, Outcome, RunFault, check_ending, check_once, read_input, run_ending,
+    run_once, split_input,
 };
 use resolvo_catalogue::Counted;
 use std::fs::File;
@@ -41,7 +41,7 @@ fn solve_files(
     let mut catalogue = Counted::new(catalogue);
     let mut request = Counted::new(request);
     let mut writer = Counted::new(io::writer(rt));
-    run(rt.alloc(), &mut catalogue, &mut request, &mut writer)
+    run_once(rt.alloc(), &mut catalogue, &mut request, &mut writer)
 }
 
 /// Judges the report of a file over the texts of two others, which are all opened before any is
@@ -61,7 +61,7 @@ fn judge_files(
     let Some(report) = open(rt, report) else {
         return Err(RunFault::Reader);
     };
-    check(
+    check_once(
         rt.alloc(),
         &mut Counted::new(catalogue),
         &mut Counted::new(request),
@@ -76,7 +76,7 @@ fn solve_input(rt: &HostRuntime) -> Result<Outcome, RunFault> {
     let input = read_input(rt.alloc(), &mut source, INPUT_LIMIT)?;
     let (catalogue, request) = split_input(&input);
     let mut writer = Counted::new(io::writer(rt));
-    run(
+    run_once(
         rt.alloc(),
         &mut Counted::new(catalogue),
         &mut Counted::new(request),

@@ -15,6 +15,7 @@ use crate::message::message_of;
 use crate::stop::Stop;
 use crate::turns::{Outcome, report_turns, wanted_steps};
 use crate::wishes::{Wish, free_wishes, wishes_of};
+use resolve_check::release::Release;
 use resolve_install::{install_report, numbers_of};
 use resolve_refusal::{install_steps, refusal_of};
 use resolvo::conflict::Conflict;
@@ -199,6 +200,7 @@ fn answered_by(
     request: &Request,
     provider: CatalogueProvider,
     asked: RequestIds,
+    release: Release,
 ) -> Result<Report, Stop>
     ensures report { IfOk result
         (λ r.
@@ -215,7 +217,9 @@ fn answered_by(
         → HaveLongReport catalogue.now request.now.lines)) }
 {
     let mut solver = Solver::new(alloc, provider);
-    answered(alloc, catalogue, request, &mut solver, asked)
+    let report = answered(alloc, catalogue, request, &mut solver, asked);
+    release.done_with(solver);
+    report
 }
 
 /// The provider of a catalogue, with a budget or without one.
@@ -239,6 +243,7 @@ pub fn report_for(
     catalogue: &Catalogue,
     request: &Request,
     budget: Option<u64>,
+    release: Release,
 ) -> Result<Report, Stop>
     ensures report { IfOk result
         (λ r.
@@ -252,5 +257,5 @@ pub fn report_for(
 {
     let mut provider = provider_of(alloc, catalogue, budget)?;
     let asked = provider.intern_request(request)?;
-    answered_by(alloc, catalogue, request, provider, asked)
+    answered_by(alloc, catalogue, request, provider, asked, release)
 }

@@ -7,4 +7,5 @@ pub mod exit_status;
 pub mod input;
 pub mod length;
 pub mod outcome;
+pub mod release;
 pub mod written;

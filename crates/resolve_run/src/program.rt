@@ -19,6 +19,7 @@ use resolve_answer::answer::report_for;
 use resolve_answer::stop::MOST_BYTES;
 use resolve_check::length::report_length;
 use resolve_check::outcome::{Outcome, RunFault};
+use resolve_check::release::Release;
 use resolve_check::written::{Written, not_read};
 use resolvo_catalogue_core::{Catalogue, Request, Sink, Source, write_all};
 use resolvo_report::Report;
@@ -69,6 +70,7 @@ fn report(
     catalogue: &Catalogue,
     request: &Request,
     budget: Option<u64>,
+    release: Release,
 ) -> Result<Written, RunStop>
     ensures ok { IfOk result
         (λ answer.
@@ -81,8 +83,10 @@ fn report(
         → AreWishesAt catalogue.now request.now
         → IsLackWithin budget e catalogue.now request.now.lines) }
 {
-    let report = report_for(alloc, catalogue, request, budget)?;
-    within(written(alloc, &report))
+    let report = report_for(alloc, catalogue, request, budget, release)?;
+    let ended = within(written(alloc, &report));
+    release.done_with(report);
+    ended
 }
 
 /// The outcome and the text for two texts. The catalogue is read to its end first; where it is
@@ -92,6 +96,7 @@ fn answer<C: Source, R: Source>(
     catalogue: &mut C,
     request: &mut R,
     budget: Option<u64>,
+    release: Release,
 ) -> Result<Written, RunStop>
     ensures ok { IfOk result
         (λ answer.
@@ -110,7 +115,44 @@ fn answer<C: Source, R: Source>(
         Ok(request) => request,
         Err(fault) => return within(not_read(alloc, "request", fault)),
     };
-    report(alloc, &catalogue, &request, budget)
+    let ended = report(alloc, &catalogue, &request, budget, release);
+    release.done_with(request);
+    release.done_with(catalogue);
+    ended
+}
+
+/// The same as `run_within`, for a caller that says when what was made is released.
+fn run_releasing<C: Source, R: Source, W: Sink>(
+    alloc: Global,
+    catalogue: &mut C,
+    request: &mut R,
+    writer: &mut W,
+    budget: Option<u64>,
+    release: Release,
+) -> Result<Outcome, RunStop>
+    // The headline: the judge accepts the report, its claim is true, and it has the first choices.
+    ensures headline { IfOk result (WritesHeadline
+        (reader_at C.Source catalogue.old catalogue.new)
+        (reader_at R.Source request.old request.new)
+        (writer_at W.Sink writer.old writer.new)) }
+    // What explains it: the turns of the search, the steps in use, and the message.
+    ensures written { IfOk result (Writes (reader_at C.Source catalogue.old catalogue.new)
+        (reader_at R.Source request.old request.new)
+        (writer_at W.Sink writer.old writer.new)) }
+    // After a refusal.
+    ensures stopped { IfErr result (λ e. StopsWithin budget e
+        (reader_at C.Source catalogue.old catalogue.new)
+        (reader_at R.Source request.old request.new)
+        (writer_at W.Sink writer.old writer.new)) }
+    ensures catalogue_faulty { LeavesRequest (C.left catalogue.old) request.old request.new }
+{
+    match answer(alloc, catalogue, request, budget, release) {
+        Ok(answer) => match write_all(writer, answer.text.as_slice()) {
+            Ok(()) => Ok(answer.outcome),
+            Err(_) => Err(RunStop::Fault(RunFault::Writer)),
+        },
+        Err(stop) => Err(stop),
+    }
 }
 
 /// The same as `run`, except that it may give up where it has a budget, with nothing written. It
@@ -139,13 +181,7 @@ pub fn run_within<C: Source, R: Source, W: Sink>(
         (writer_at W.Sink writer.old writer.new)) }
     ensures catalogue_faulty { LeavesRequest (C.left catalogue.old) request.old request.new }
 {
-    match answer(alloc, catalogue, request, budget) {
-        Ok(answer) => match write_all(writer, answer.text.as_slice()) {
-            Ok(()) => Ok(answer.outcome),
-            Err(_) => Err(RunStop::Fault(RunFault::Writer)),
-        },
-        Err(stop) => Err(stop),
-    }
+    run_releasing(alloc, catalogue, request, writer, budget, Release::Now)
 }
 
 /// Reads the catalogue to its end, then the request, and writes the report, or the first faulty
@@ -173,6 +209,37 @@ pub fn run<C: Source, R: Source, W: Sink>(
     ensures catalogue_faulty { LeavesRequest (C.left catalogue.old) request.old request.new }
 {
     match run_within(alloc, catalogue, request, writer, None) {
+        Ok(outcome) => Ok(outcome),
+        Err(RunStop::Fault(fault)) => Err(fault),
+        Err(RunStop::GivenUp) => unreachable!(),
+    }
+}
+
+/// The same as `run`, for a program that ends after it. The memory of the texts, the search and the
+/// report isn't released: the system takes it back.
+pub fn run_once<C: Source, R: Source, W: Sink>(
+    alloc: Global,
+    catalogue: &mut C,
+    request: &mut R,
+    writer: &mut W,
+) -> Result<Outcome, RunFault>
+    // The headline: the judge accepts the report, its claim is true, and it has the first choices.
+    ensures headline { IfOk result (WritesHeadline
+        (reader_at C.Source catalogue.old catalogue.new)
+        (reader_at R.Source request.old request.new)
+        (writer_at W.Sink writer.old writer.new)) }
+    // What explains it: the turns of the search, the steps in use, and the message.
+    ensures written { IfOk result (Writes (reader_at C.Source catalogue.old catalogue.new)
+        (reader_at R.Source request.old request.new)
+        (writer_at W.Sink writer.old writer.new)) }
+    // After a refusal.
+    ensures stopped { IfErr result (λ e. StopsRun e
+        (reader_at C.Source catalogue.old catalogue.new)
+        (reader_at R.Source request.old request.new)
+        (writer_at W.Sink writer.old writer.new)) }
+    ensures catalogue_faulty { LeavesRequest (C.left catalogue.old) request.old request.new }
+{
+    match run_releasing(alloc, catalogue, request, writer, None, Release::AtExit) {
         Ok(outcome) => Ok(outcome),
         Err(RunStop::Fault(fault)) => Err(fault),
         Err(RunStop::GivenUp) => unreachable!(),

@@ -1,0 +1,22 @@
+//! When a call releases what it made. The program is about to end, and releases nothing.
+
+use std::mem::{drop, forget};
+
+/// When a call releases the values that it made.
+#[derive(Clone, Copy, Debug, PartialEq, Eq)]
+pub enum Release {
+    /// Before it returns, as a library does.
+    Now,
+    /// When the process ends: the system takes its memory back.
+    AtExit,
+}
+
+impl Release {
+    /// Is done with a value.
+    pub fn done_with<T: Drop>(self, value: T) {
+        match self {
+            Release::Now => drop(value),
+            Release::AtExit => forget(value),
+        }
+    }
+}
