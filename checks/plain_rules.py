@@ -38,7 +38,6 @@ class Options:
     flat_cases: bool = False  # deferred cases are taken in the order of their parents, not by condition
     placed_wishes: bool = False  # a wish that is false before its turn is registered, so it takes a place of its package
     exclusions_by_version: bool = False  # a package's exclusions come in the order of its versions
-    last_watched: bool = False  # a new clause whose other literals are all false watches the last of them, not the first
     # Where the rules are silent.
     set_at_once: bool = True  # a new gate, helper, digit or any clause sets at once what it says
     restart_after_encoding: bool = True  # a conflict right after an encoding begins the turn again, and isn't learnt from
@@ -55,7 +54,6 @@ class Options:
 
 
 PROGRAM = Options(
-    last_watched=True,
     parent_by_parent=True, cases_later=True, root_stays=True, flat_cases=True,
     placed_wishes=True, exclusions_by_version=True, set_at_once=False,
     root_in_learnt=False, as_met=False,

@@ -88,8 +88,7 @@ class Solver:
         first, *rest = clause.literals
         if clause.rule is None:
             return first, rest[-1]
-        least = rest[-1] if self.options.last_watched else rest[0]
-        return first, next((literal for literal in rest if self.value(literal) is not False), least)
+        return first, next((literal for literal in rest if self.value(literal) is not False), rest[0])
 
     def watch(self, clause: Clause, first: Literal, second: Literal) -> None:
         """Enters the clause at the front of both lists."""

@@ -49,7 +49,7 @@ impl SatState {
     }
 
     /// The literals that a new clause is to watch: its first one, and beside it the first that is
-    /// not false, or else the last. A learnt clause is to watch its first and its last literal.
+    /// not false, or else the next one. A learnt clause is to watch its first and its last literal.
     fn first_watches(&self, literals: &[Literal], is_rule: bool) -> WatchedLiterals
         requires state { IsState self.now }
         requires some { 0 < length literals.now }
@@ -64,7 +64,9 @@ impl SatState {
                         second: *literal,
                     };
                 }
-                second = *literal;
+                if second == first || !is_rule {
+                    second = *literal;
+                }
             }
         }
         WatchedLiterals { first, second }
