@@ -269,7 +269,7 @@ impl WatchLists {
     pub(crate) fn place_of(&self, variable: VariableId) -> usize {
         let index = variable.to_index();
         if index < self.places.len() {
-            self.places[index]
+            self.places[index] as usize
         } else {
             0
         }

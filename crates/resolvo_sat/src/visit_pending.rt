@@ -12,7 +12,7 @@ ghost use Rattle.resolvo_sat.specs.Attach.{AreFalseBut, IsStartVisit, IsPendingV
 
 use crate::attach::is_among;
 use crate::state::SatState;
-use crate::watch_lists::WatchLists;
+use crate::watch_lists::{WatchLists, small};
 use resolvo_pool_core::id::{ClauseId, DenseIndex, VariableId};
 use resolvo_pool_core::want::R;
 use resolvo_store_core::literal::Literal;
@@ -103,8 +103,11 @@ impl SatState {
         requires state { IsState self.now }
         ensures refusal { IsOkUnless result Memory }
     {
+        if !self.is_false(literal) {
+            return Ok(());
+        }
         let place = watching.place_of(literal.variable());
-        if place < self.qhead && self.is_false(literal) {
+        if place < self.qhead {
             visits.push(Visit {
                 place,
                 from_end,
@@ -207,6 +210,7 @@ impl WatchLists {
         ensures kept { KeepsLists self.old self.new }
         ensures refusal { IsOkUnless result Memory }
     {
+        let place = small(place);
         let index = variable.to_index();
         for _ in self.places.len()..index + 1 {
             self.places.push(0)?;

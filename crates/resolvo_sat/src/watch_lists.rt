@@ -43,10 +43,10 @@ pub struct WatchLists {
     /// The literals that each pending clause is to watch. No proof rests on them: they are tested.
     pub starts: Vec<WatchedLiterals>,
     /// The place on the trail at which each variable was last seen. No proof rests on it either.
-    pub places: Vec<usize>,
+    pub places: Vec<u32>,
     /// How many of each clause's first literals are false at the first level, as far as it is known.
     /// A search for a free literal skips them. No proof rests on it either.
-    pub passed: Vec<usize>,
+    pub passed: Vec<u32>,
     /// The variables that the present analysis marked. No proof rests on those of earlier ones.
     pub seen: Marks,
 }
@@ -78,7 +78,7 @@ impl WatchLists {
     pub(crate) fn passed_of(&self, clause: ClauseId) -> usize {
         let index = clause.to_index();
         if index < self.passed.len() {
-            self.passed[index]
+            self.passed[index] as usize
         } else {
             0
         }
@@ -89,6 +89,7 @@ impl WatchLists {
         ensures kept { KeepsLists self.old self.new }
         ensures refusal { IsOkUnless result Memory }
     {
+        let passed = small(passed);
         let index = clause.to_index();
         for _ in self.passed.len()..index + 1 {
             self.passed.push(0)?;
@@ -97,5 +98,14 @@ impl WatchLists {
             self.passed[index] = passed;
         }
         Ok(())
+    }
+}
+
+/// A count of a hint, or the greatest one that is kept.
+pub(crate) fn small(count: usize) -> u32 {
+    if count < 4_294_967_295 {
+        count as u32
+    } else {
+        u32::MAX
     }
 }
