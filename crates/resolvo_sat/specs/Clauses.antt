@@ -1,9 +1,9 @@
 -- Clauses with their causes (antecedents), and how they lie one after the other in two lists.
-use Rattle.std.specs.Prelude.{◌≡◌, ℕ, zero, suc, ◌≤◌, List, [], ◌∷◌, map, length, Some, slice_get}
+use Rattle.std.specs.Prelude.{◌≡◌, ℕ, zero, suc, ◌≤◌, List, [], ◌∷◌, length}
 use Rattle.std.specs.List.{slice_range}
 use Rattle.resolvo_pool_core.specs.declared.id.ClauseId.{ClauseId}
 use Rattle.resolvo_store_core.specs.Signed.{Signed}
-use Rattle.resolvo_sat.specs.declared.clause_arena.ClausePlace.{ClausePlace}
+use Rattle.resolvo_sat.specs.declared.clause_arena.ClauseEnd.{ClauseEnd}
 
 -- A clause: one of its literals is true. Where it has causes, it follows from these.
 pub record SatClause : Type 0 where
@@ -19,15 +19,28 @@ causes_at [] n = []
 causes_at (c ∷ cs) zero = c.causes
 causes_at (c ∷ cs) (suc n) = causes_at cs n
 
--- the clause that lies at a place
-abbrev pub clause_in : List Signed → List ClauseId → ClausePlace → SatClause
-clause_in literals causes p = sat_clause (slice_range literals p.literals p.literals_end) (slice_range causes p.causes p.causes_end)
+-- where the first clause begins
+abbrev pub start : ClauseEnd
+start = record { literals = 0; causes = 0 }
 
-abbrev pub clauses_in : List Signed → List ClauseId → List ClausePlace → List SatClause
-clauses_in literals causes places = map (clause_in literals causes) places
+-- the clause that lies between two ends
+abbrev pub clause_in : List Signed → List ClauseId → ClauseEnd → ClauseEnd → SatClause
+clause_in literals causes b e = sat_clause (slice_range literals b.literals e.literals) (slice_range causes b.causes e.causes)
 
--- each place lies within lists of these lengths
-pub record ArePlaces (literals causes : ℕ) (places : List ClausePlace) : Type 0 where
-  pub few : length places ≤ 4294967295
-  pub literals_within : (k : ℕ) (p : ClausePlace) → slice_get places k ≡ Some p → (p.literals ≤ p.literals_end) × (p.literals_end ≤ literals)
-  pub causes_within : (k : ℕ) (p : ClausePlace) → slice_get places k ≡ Some p → (p.causes ≤ p.causes_end) × (p.causes_end ≤ causes)
+-- the clauses of these ends, the first one beginning here
+abbrev pub clauses_from : List Signed → List ClauseId → ClauseEnd → List ClauseEnd → List SatClause
+clauses_from literals causes b [] = []
+clauses_from literals causes b (e ∷ ends) = clause_in literals causes b e ∷ clauses_from literals causes e ends
+
+abbrev pub clauses_in : List Signed → List ClauseId → List ClauseEnd → List SatClause
+clauses_in literals causes ends = clauses_from literals causes start ends
+
+-- the ends rise from this one, and none is past lists of these lengths
+abbrev pub AreRising : ℕ → ℕ → ClauseEnd → List ClauseEnd → Type 0
+AreRising literals causes b [] = (b.literals ≤ literals) × (b.causes ≤ causes)
+AreRising literals causes b (e ∷ ends) = (b.literals ≤ e.literals) × (b.causes ≤ e.causes) × AreRising literals causes e ends
+
+-- the clauses of these ends lie within lists of these lengths
+pub record AreEnds (literals causes : ℕ) (ends : List ClauseEnd) : Type 0 where
+  pub few : length ends ≤ 4294967295
+  pub rising : AreRising literals causes start ends

@@ -1,24 +1,23 @@
 //! The clauses of the solver. Their literals lie one after the other in one list, and so do their
 //! causes. The model is the list of clauses, in which a clause's position is its number.
-ghost use Rattle.std.specs.Prelude.{◌≡◌, ◌<◌, [], ◌∷◌, ◌++◌, IfOk, OnOk, OnErr, IsErrOf, length};
-ghost use Rattle.resolvo_pool_core.specs.declared.want.Want.TheVariants.{Ids};
-ghost use Rattle.resolvo_sat.specs.Clauses.{sat_clause, causes_at};
+ghost use Rattle.std.specs.Prelude.{◌≡◌, ◌<◌, ◌≤◌, ◌-◌, [], ◌∷◌, ◌++◌, IfOk, OnOk, OnErr, IsErrOf, IsOkUnless, length, slice_index_or};
+ghost use Rattle.resolvo_pool_core.specs.declared.want.Want.TheVariants.{Ids, Memory};
+ghost use Rattle.resolvo_sat.specs.Clauses.{sat_clause, causes_at, start};
 ghost use Rattle.resolvo_sat.specs.Known.{clause_at};
 ghost use Rattle.resolvo_sat.specs.State.{lists};
 
 use resolvo_pool_core::id::{ClauseId, next_index};
-use resolvo_pool_core::want::R;
+use resolvo_pool_core::want::{R, Want};
 use resolvo_store_core::literal::Literal;
 use std::alloc::Global;
 use std::marker::Model;
 
-/// Where the literals and the causes of a clause begin and end.
+/// Where the literals and the causes of a clause end. They begin where those of the clause before it
+/// end.
 #[derive(Clone, Copy, Debug)]
-pub struct ClausePlace {
-    pub literals: usize,
-    pub literals_end: usize,
-    pub causes: usize,
-    pub causes_end: usize,
+pub struct ClauseEnd {
+    pub literals: u32,
+    pub causes: u32,
 }
 
 /// Clauses: one literal of each is true. A rule has no causes (antecedents); a learnt clause has those
@@ -27,18 +26,18 @@ pub struct ClausePlace {
 pub struct ClauseArena {
     literals: Vec<Literal>,
     causes: Vec<ClauseId>,
-    places: Vec<ClausePlace>,
+    ends: Vec<ClauseEnd>,
 }
 
 impl Model for ClauseArena {
     ghost use Rattle.std.specs.Prelude.{List, length};
-    ghost use Rattle.resolvo_sat.specs.Clauses.{SatClause, clauses_in, ArePlaces};
+    ghost use Rattle.resolvo_sat.specs.Clauses.{SatClause, clauses_in, AreEnds};
 
     ghost Value = { List SatClause };
 
-    ghost view = { λ c. clauses_in c.literals.items c.causes.items c.places.items };
+    ghost view = { λ c. clauses_in c.literals.items c.causes.items c.ends.items };
 
-    ghost invariant = { λ c. ArePlaces (length c.literals.items) (length c.causes.items) c.places.items };
+    ghost invariant = { λ c. AreEnds (length c.literals.items) (length c.causes.items) c.ends.items };
 }
 
 impl ClauseArena {
@@ -49,7 +48,7 @@ impl ClauseArena {
         ClauseArena {
             literals: Vec::new(alloc),
             causes: Vec::new(alloc),
-            places: Vec::new(alloc),
+            ends: Vec::new(alloc),
         }
     }
 
@@ -57,7 +56,7 @@ impl ClauseArena {
     pub fn len(&self) -> usize
         ensures { result ≡ length self.now }
     {
-        self.places.len()
+        self.ends.len()
     }
 
     /// Adds a clause under a new number.
@@ -67,18 +66,16 @@ impl ClauseArena {
         ensures err { OnErr result (self.new ≡ self.old) }
         ensures ids { IsErrOf result Ids → length self.old ≡ 4294967295 }
     {
-        let index = next_index(self.places.len())?;
-        let begin = self.literals.len();
+        let number = next_index(self.ends.len())?;
+        let begin = begin_of(&self.ends, number);
+        // What a refused call left behind is dropped.
+        self.literals.truncate(begin.literals as usize);
+        self.causes.truncate(begin.causes as usize);
         self.literals.extend_from_slice(literals)?;
-        let causes_begin = self.causes.len();
         self.causes.extend_from_slice(causes)?;
-        self.places.push(ClausePlace {
-            literals: begin,
-            literals_end: self.literals.len(),
-            causes: causes_begin,
-            causes_end: self.causes.len(),
-        })?;
-        Ok(ClauseId(index as u32))
+        let end = end_at(self.literals.len(), self.causes.len())?;
+        self.ends.push(end)?;
+        Ok(ClauseId(number as u32))
     }
 
     /// The literals of the clause of a number.
@@ -86,8 +83,9 @@ impl ClauseArena {
         requires { number < length self.now }
         ensures { result.now ≡ clause_at (lists self.now) number }
     {
-        let place = self.places[number];
-        &self.literals[place.literals..place.literals_end]
+        let begin = begin_of(&self.ends, number);
+        let end = self.ends[number];
+        &self.literals[begin.literals as usize..end.literals as usize]
     }
 
     /// The causes of the clause of a number.
@@ -95,7 +93,39 @@ impl ClauseArena {
         requires { number < length self.now }
         ensures { result.now ≡ causes_at self.now number }
     {
-        let place = self.places[number];
-        &self.causes[place.causes..place.causes_end]
+        let begin = begin_of(&self.ends, number);
+        let end = self.ends[number];
+        &self.causes[begin.causes as usize..end.causes as usize]
     }
+}
+
+/// Where the literals and the causes of the clause of a number begin.
+fn begin_of(ends: &[ClauseEnd], number: usize) -> ClauseEnd
+    requires { number ≤ length ends.now }
+    ensures first { number ≡ 0 → result ≡ start }
+    ensures later { 0 < number → result ≡ slice_index_or ends.now (number - 1) start }
+{
+    if number == 0 {
+        ClauseEnd {
+            literals: 0,
+            causes: 0,
+        }
+    } else {
+        ends[number - 1]
+    }
+}
+
+/// The end of a clause in lists of these lengths. Longer lists are refused as for want of memory.
+fn end_at(literals: usize, causes: usize) -> R<ClauseEnd>
+    ensures literals { IfOk result (λ end. end.literals ≡ literals) }
+    ensures causes { IfOk result (λ end. end.causes ≡ causes) }
+    ensures refusal { IsOkUnless result Memory }
+{
+    if literals > 4_294_967_295 || causes > 4_294_967_295 {
+        return Err(Want::Memory);
+    }
+    Ok(ClauseEnd {
+        literals: literals as u32,
+        causes: causes as u32,
+    })
 }
