@@ -60,7 +60,7 @@ rising_longer l k m n b (e ∷ ends) are more others = (are.0, are.1, rising_lon
 
 -- and so does one more, which is at the lists' ends
 pub rising_pushed : (l k : ℕ) (b p : ClauseEnd) (ends : List ClauseEnd) → AreRising l k b ends → l ≤ p.literals → k ≤ p.causes → AreRising p.literals p.causes b (ends ++ p ∷ [])
-rising_pushed l k b p [] are more others = (omega (arith, are.0, more), omega (arith, are.1, others), omega arith, omega arith)
+rising_pushed l k b p [] are more others = (omega (arith, are.0, more), omega (arith, are.1, others), (omega arith, omega arith))
 rising_pushed l k b p (e ∷ ends) are more others = (are.0, are.1, rising_pushed l k e p ends are.2 more others)
 
 pub clauses_count : (ls : List Signed) (cs : List ClauseId) (b : ClauseEnd) (ends : List ClauseEnd) → length (clauses_from ls cs b ends) ≡ length ends

@@ -1,4 +1,4 @@
-use Rattle.std.proofs.Common.{◌≡◌, ℕ, ◌+◌, ◌-◌, ◌<◌, ◌++◌, List, [], length, take, get_or, sym, ◌∙◌, ap, subst, arith}
+use Rattle.std.proofs.Common.{◌≡◌, ◌≤◌, refl, ℕ, ◌+◌, ◌-◌, ◌<◌, ◌++◌, List, [], length, take, get_or, sym, ◌∙◌, ap, subst, arith}
 use Rattle.std.proofs.lemmas.List.{append-nil}
 use Rattle.resolvo_pool_core.specs.declared.id.ClauseId.{ClauseId}
 use Rattle.resolvo_store_core.specs.Signed.{Signed}
@@ -219,3 +219,11 @@ pub begin_of-begin-requires : goal.begin_of-begin-requires
 begin_of-begin-requires c =
     let inside = c.self.inside in
     omega (arith, c.len.ensures, inside.ends.ok.0, c.in_ok-number.ensures.index.0, ap length c.deref.ensures.value)
+
+pub returns-in_err-number-clause-ids : goal.returns-in_err-number-clause-ids
+returns-in_err-number-clause-ids c = λ h.
+    let inside = c.self.inside in
+    let view : clauses_in inside.literals.items inside.causes.items inside.ends.items ≡ c.args.self.now = c.self.view_is in
+    let count = clauses_count inside.literals.items inside.causes.items start inside.ends.items in
+    let all = c.in_err-number.ensures.ids.0 refl in
+    omega (arith, all, c.self.invariant.few, c.len.ensures, inside.ends.ok.0, count, ap length view)
