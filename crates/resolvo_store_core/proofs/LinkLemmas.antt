@@ -4,7 +4,7 @@ use Rattle.std.specs.Prelude.{slice_get}
 use Rattle.std.proofs.lemmas.Bool.{lt-leb}
 use Rattle.std.proofs.lemmas.Bool.Decides.{eqb_tells, leb_tells}
 use Rattle.resolvo_store_core.specs.declared.watch_map.WatchLink.{WatchLink}
-use Rattle.resolvo_store_core.specs.Links.{first_at, next_at, clause_of, chain, list_in, before_in, AreLists, AreLinked}
+use Rattle.resolvo_store_core.specs.Links.{link_of, first_at, next_at, clause_of, chain, list_in, before_in, AreLists, AreLinked}
 
 -- the list without the element at a place
 abbrev pub taken : ℕ → List ℕ → List ℕ
@@ -103,11 +103,11 @@ chain_is links (x ∷ xs) zero o e next h = absurd (omega arith)
 chain_is links (x ∷ xs) (suc k) o e next h = ap (chain links (suc k)) e ∙ ap (λ (ys : List ℕ). x ∷ ys) (chain_is links xs k (next_at links x) (next 0 x refl) (λ a n g. next (suc a) n g) (omega arith))
 
 -- the links show these lists
-pub lists_are : (firsts : List (Option ℕ)) (links : List WatchLink) (lists : ℕ → List ℕ) → AreLists firsts links lists → (i : ℕ) → list_in firsts links i ≡ lists i
+pub lists_are : (firsts : List ℕ) (links : List WatchLink) (lists : ℕ → List ℕ) → AreLists firsts links lists → (i : ℕ) → list_in firsts links i ≡ lists i
 lists_are firsts links lists are i = chain_is links (lists i) (length links) (first_at firsts i) (are.first i) (are.next i)
     (pigeon (length links) (lists i) (are.in_range i) (λ a b n e g. (are.once i i a b n e g).1))
 
-pub linked : (firsts : List (Option ℕ)) (links : List WatchLink) (lists : ℕ → List ℕ) → AreLists firsts links lists → AreLinked firsts links
+pub linked : (firsts : List ℕ) (links : List WatchLink) (lists : ℕ → List ℕ) → AreLists firsts links lists → AreLinked firsts links
 linked firsts links lists are = record {
   first = λ i. subst (λ (xs : List ℕ). first_at firsts i ≡ slice_get xs 0) (sym (is i)) (are.first i);
   next = λ i a n. subst (λ (xs : List ℕ). slice_get xs a ≡ Some n → next_at links n ≡ slice_get xs (suc a)) (sym (is i)) (are.next i a n);
@@ -119,7 +119,7 @@ linked firsts links lists are = record {
     is : (i : ℕ) → list_in firsts links i ≡ lists i
     is i = lists_are firsts links lists are i
 
-pub next_at-set_same : (ls : List WatchLink) (n : ℕ) (x : WatchLink) → n < length ls → next_at (set ls n x) n ≡ x.next
+pub next_at-set_same : (ls : List WatchLink) (n : ℕ) (x : WatchLink) → n < length ls → next_at (set ls n x) n ≡ link_of x.next
 next_at-set_same [] n x h = absurd (omega arith)
 next_at-set_same (l ∷ ls) zero x h = refl
 next_at-set_same (l ∷ ls) (suc n) x h = next_at-set_same ls n x (omega arith)
@@ -131,9 +131,9 @@ next_at-set_other (l ∷ ls) zero (suc m) x h = refl
 next_at-set_other (l ∷ ls) (suc n) zero x h = refl
 next_at-set_other (l ∷ ls) (suc n) (suc m) x h = next_at-set_other ls n m x (λ e. h (ap suc e))
 
-pub next_at-read : (ls : List WatchLink) (n : ℕ) (x : WatchLink) → n < length ls → x ≡ get_or ls n x → next_at ls n ≡ x.next
+pub next_at-read : (ls : List WatchLink) (n : ℕ) (x : WatchLink) → n < length ls → x ≡ get_or ls n x → next_at ls n ≡ link_of x.next
 next_at-read [] n x h e = absurd (omega arith)
-next_at-read (l ∷ ls) zero x h e = ap (λ (y : WatchLink). y.next) (sym e)
+next_at-read (l ∷ ls) zero x h e = ap (λ (y : WatchLink). link_of y.next) (sym e)
 next_at-read (l ∷ ls) (suc n) x h e = next_at-read ls n x (omega arith) e
 
 pub clause_of-read : (ls : List WatchLink) (n : ℕ) (x : WatchLink) → n < length ls → x ≡ get_or ls n x → clause_of ls n ≡ x.clause
@@ -149,29 +149,29 @@ clause_of-set (l ∷ ls) zero (suc m) x y h e same = refl
 clause_of-set (l ∷ ls) (suc n) zero x y h e same = refl
 clause_of-set (l ∷ ls) (suc n) (suc m) x y h e same = clause_of-set ls n m x y (omega arith) e same
 
-pub first_at-set_same : (fs : List (Option ℕ)) (i : ℕ) (o : Option ℕ) → i < length fs → first_at (set fs i o) i ≡ o
+pub first_at-set_same : (fs : List ℕ) (i o : ℕ) → i < length fs → first_at (set fs i o) i ≡ link_of o
 first_at-set_same [] i o h = absurd (omega arith)
 first_at-set_same (f ∷ fs) zero o h = refl
 first_at-set_same (f ∷ fs) (suc i) o h = first_at-set_same fs i o (omega arith)
 
-pub first_at-set_other : (fs : List (Option ℕ)) (i j : ℕ) (o : Option ℕ) → (i ≡ j → ⊥) → first_at (set fs i o) j ≡ first_at fs j
+pub first_at-set_other : (fs : List ℕ) (i j o : ℕ) → (i ≡ j → ⊥) → first_at (set fs i o) j ≡ first_at fs j
 first_at-set_other [] i j o h = refl
 first_at-set_other (f ∷ fs) zero zero o h = absurd (h refl)
 first_at-set_other (f ∷ fs) zero (suc j) o h = refl
 first_at-set_other (f ∷ fs) (suc i) zero o h = refl
 first_at-set_other (f ∷ fs) (suc i) (suc j) o h = first_at-set_other fs i j o (λ e. h (ap suc e))
 
-pub first_at-read : (fs : List (Option ℕ)) (i : ℕ) (o : Option ℕ) → i < length fs → o ≡ get_or fs i o → first_at fs i ≡ o
+pub first_at-read : (fs : List ℕ) (i o : ℕ) → i < length fs → o ≡ get_or fs i o → first_at fs i ≡ link_of o
 first_at-read [] i o h e = absurd (omega arith)
-first_at-read (f ∷ fs) zero o h e = sym e
+first_at-read (f ∷ fs) zero o h e = ap link_of (sym e)
 first_at-read (f ∷ fs) (suc i) o h e = first_at-read fs i o (omega arith) e
 
-pub first_at-past : (fs : List (Option ℕ)) (i : ℕ) → length fs ≤ i → first_at fs i ≡ None
+pub first_at-past : (fs : List ℕ) (i : ℕ) → length fs ≤ i → first_at fs i ≡ None
 first_at-past [] i h = refl
 first_at-past (f ∷ fs) zero h = absurd (omega arith)
 first_at-past (f ∷ fs) (suc i) h = first_at-past fs i (omega arith)
 
-pub first_within : (fs : List (Option ℕ)) (i n : ℕ) → first_at fs i ≡ Some n → i < length fs
+pub first_within : (fs : List ℕ) (i n : ℕ) → first_at fs i ≡ Some n → i < length fs
 first_within [] i n e = cc
 first_within (f ∷ fs) zero n e = omega arith
 first_within (f ∷ fs) (suc i) n e = let h : i < length fs = first_within fs i n e in omega arith
@@ -228,7 +228,7 @@ put_from lists i n j a m h = go (eqb_tells i j) a h
     })
 
 -- a link that was in no list is the first of one
-pub put_linked : (fs fs' : List (Option ℕ)) (ls ls' : List WatchLink) (lists : ℕ → List ℕ) (i n : ℕ) → AreLists fs ls lists → ((j a : ℕ) → slice_get (lists j) a ≡ Some n → ⊥)
+pub put_linked : (fs fs' : List ℕ) (ls ls' : List WatchLink) (lists : ℕ → List ℕ) (i n : ℕ) → AreLists fs ls lists → ((j a : ℕ) → slice_get (lists j) a ≡ Some n → ⊥)
     → n < length ls → length ls' ≡ length ls → first_at fs' i ≡ Some n → ((j : ℕ) → (i ≡ j → ⊥) → first_at fs' j ≡ first_at fs j) → next_at ls' n ≡ first_at fs i → ((m : ℕ) → (n ≡ m → ⊥) → next_at ls' m ≡ next_at ls m)
     → AreLists fs' ls' (put_in i n lists)
 put_linked fs fs' ls ls' lists i n are free within long here there leads keeps = record {
@@ -307,7 +307,7 @@ taken_was lists i p j a = go (eqb i j)
     go false = refl
 
 -- a list without one of its links
-pub taken_linked : (fs fs' : List (Option ℕ)) (ls ls' : List WatchLink) (lists : ℕ → List ℕ) (i p : ℕ) → AreLists fs ls lists → length ls' ≡ length ls
+pub taken_linked : (fs fs' : List ℕ) (ls ls' : List WatchLink) (lists : ℕ → List ℕ) (i p : ℕ) → AreLists fs ls lists → length ls' ≡ length ls
     → first_at fs' i ≡ slice_get (taken p (lists i)) 0 → ((j : ℕ) → (i ≡ j → ⊥) → first_at fs' j ≡ first_at fs j)
     → ((j a m : ℕ) → slice_get (lists j) a ≡ Some m → (i ≡ j → suc a ≡ p → ⊥) → next_at ls' m ≡ next_at ls m)
     → ((a m : ℕ) → suc a ≡ p → slice_get (lists i) a ≡ Some m → next_at ls' m ≡ slice_get (lists i) (suc p))
@@ -362,14 +362,14 @@ taken_linked fs fs' ls ls' lists i p are long here there keeps leads = record {
         same x false e = e
 
 -- the first link of a list was taken out
-pub front_taken : (fs fs' : List (Option ℕ)) (ls : List WatchLink) (i n : ℕ) → AreLinked fs ls → slice_get (list_in fs ls i) 0 ≡ Some n
+pub front_taken : (fs fs' : List ℕ) (ls : List WatchLink) (i n : ℕ) → AreLinked fs ls → slice_get (list_in fs ls i) 0 ≡ Some n
     → first_at fs' i ≡ next_at ls n → ((j : ℕ) → (i ≡ j → ⊥) → first_at fs' j ≡ first_at fs j)
     → AreLists fs' ls (taken_in i 0 (list_in fs ls))
 front_taken fs fs' ls i n are at here there =
     taken_linked fs fs' ls ls (list_in fs ls) i 0 are refl (here ∙ are.next i 0 n at ∙ sym (taken_behind (list_in fs ls i) 0 0 (omega arith))) there (λ j a m h d. refl) (λ a m e h. absurd cc)
 
 -- the link behind another was taken out
-pub behind_taken : (fs : List (Option ℕ)) (ls ls' : List WatchLink) (i q n b : ℕ) → AreLinked fs ls → length ls' ≡ length ls → slice_get (list_in fs ls i) (suc q) ≡ Some n → slice_get (list_in fs ls i) q ≡ Some b
+pub behind_taken : (fs : List ℕ) (ls ls' : List WatchLink) (i q n b : ℕ) → AreLinked fs ls → length ls' ≡ length ls → slice_get (list_in fs ls i) (suc q) ≡ Some n → slice_get (list_in fs ls i) q ≡ Some b
     → next_at ls' b ≡ next_at ls n → ((m : ℕ) → (b ≡ m → ⊥) → next_at ls' m ≡ next_at ls m)
     → AreLists fs ls' (taken_in i (suc q) (list_in fs ls))
 behind_taken fs ls ls' i q n b are long at before here there =
@@ -382,15 +382,15 @@ behind_taken fs ls ls' i q n b are long at before here there =
     ap (next_at ls') is ∙ here ∙ are.next i (suc q) n at)
 
 -- a link that is put first leads to what was first
-pub first_linked : (fs : List (Option ℕ)) (ls : List WatchLink) (i n : ℕ) (o : Option ℕ) (x : WatchLink) → AreLinked fs ls → ((j a : ℕ) → slice_get (list_in fs ls j) a ≡ Some n → ⊥) → i < length fs → n < length ls → o ≡ get_or fs i o
-    → AreLists (set fs i (Some n)) (set ls n (record { clause = x.clause; next = o })) (put_in i n (list_in fs ls))
+pub first_linked : (fs : List ℕ) (ls : List WatchLink) (i n o : ℕ) (x : WatchLink) → AreLinked fs ls → ((j a : ℕ) → slice_get (list_in fs ls j) a ≡ Some n → ⊥) → i < length fs → n < length ls → o ≡ get_or fs i o
+    → AreLists (set fs i (suc n)) (set ls n (record { clause = x.clause; next = o })) (put_in i n (list_in fs ls))
 first_linked fs ls i n o x are free hi hn read =
     let y : WatchLink = record { clause = x.clause; next = o } in
-    put_linked fs (set fs i (Some n)) ls (set ls n y) (list_in fs ls) i n are free hn (length-set ls n y) (first_at-set_same fs i (Some n) hi) (λ j d. first_at-set_other fs i j (Some n) d)
+    put_linked fs (set fs i (suc n)) ls (set ls n y) (list_in fs ls) i n are free hn (length-set ls n y) (first_at-set_same fs i (suc n) hi) (λ j d. first_at-set_other fs i j (suc n) d)
     (next_at-set_same ls n y hn ∙ sym (first_at-read fs i o hi read)) (λ m d. next_at-set_other ls n m y d)
 
 -- the link before one that is taken out leads to what is behind that
-pub out_behind : (fs : List (Option ℕ)) (ls : List WatchLink) (i p n b : ℕ) (x y : WatchLink) → AreLinked fs ls → slice_get (list_in fs ls i) p ≡ Some n → before_in (list_in fs ls i) p ≡ Some b → x ≡ get_or ls n x
+pub out_behind : (fs : List ℕ) (ls : List WatchLink) (i p n b : ℕ) (x y : WatchLink) → AreLinked fs ls → slice_get (list_in fs ls i) p ≡ Some n → before_in (list_in fs ls i) p ≡ Some b → x ≡ get_or ls n x
     → AreLists fs (set ls b (record { clause = y.clause; next = x.next })) (taken_in i p (list_in fs ls))
 out_behind fs ls i zero n b x y are at before read = cc
 out_behind fs ls i (suc q) n b x y are at before read =
@@ -399,7 +399,7 @@ out_behind fs ls i (suc q) n b x y are at before read =
     (next_at-set_same ls b z (are.in_range i q b before) ∙ sym (next_at-read ls n x (are.in_range i (suc q) n at) read)) (λ m d. next_at-set_other ls b m z d)
 
 -- what is behind the first link that is taken out is first then
-pub out_front : (fs : List (Option ℕ)) (ls : List WatchLink) (i p n : ℕ) (x : WatchLink) → AreLinked fs ls → slice_get (list_in fs ls i) p ≡ Some n → before_in (list_in fs ls i) p ≡ None → x ≡ get_or ls n x
+pub out_front : (fs : List ℕ) (ls : List WatchLink) (i p n : ℕ) (x : WatchLink) → AreLinked fs ls → slice_get (list_in fs ls i) p ≡ Some n → before_in (list_in fs ls i) p ≡ None → x ≡ get_or ls n x
     → AreLists (set fs i x.next) ls (taken_in i p (list_in fs ls))
 out_front fs ls i zero n x are at before read =
     front_taken fs (set fs i x.next) ls i n are at (first_at-set_same fs i x.next (first_within fs i n (are.first i ∙ at)) ∙ sym (next_at-read ls n x (are.in_range i 0 n at) read)) (λ j d. first_at-set_other fs i j x.next d)
@@ -410,10 +410,10 @@ out_front fs ls i (suc q) n x are at before read =
     absurd cc
 
 -- there are more lists, which are empty
-pub more_linked : (fs fs' : List (Option ℕ)) (ls : List WatchLink) → AreLinked fs ls → ((i : ℕ) → first_at fs' i ≡ first_at fs i) → AreLinked fs' ls
+pub more_linked : (fs fs' : List ℕ) (ls : List WatchLink) → AreLinked fs ls → ((i : ℕ) → first_at fs' i ≡ first_at fs i) → AreLinked fs' ls
 more_linked fs fs' ls are same = linked fs' ls (list_in fs ls) (record { first = λ i. same i ∙ are.first i; next = are.next; in_range = are.in_range; once = are.once })
 
-pub first_at-push : (fs : List (Option ℕ)) (i : ℕ) → first_at (fs ++ None ∷ []) i ≡ first_at fs i
+pub first_at-push : (fs : List ℕ) (i : ℕ) → first_at (fs ++ 0 ∷ []) i ≡ first_at fs i
 first_at-push [] zero = refl
 first_at-push [] (suc i) = refl
 first_at-push (f ∷ fs) zero = refl
@@ -434,10 +434,14 @@ clause_of-end [] x = refl
 clause_of-end (l ∷ ls) x = clause_of-end ls x
 
 -- a link that was added is in no list
-pub added_lists : (fs : List (Option ℕ)) (ls : List WatchLink) (x : WatchLink) → AreLinked fs ls → AreLists fs (ls ++ x ∷ []) (list_in fs ls)
+pub added_lists : (fs : List ℕ) (ls : List WatchLink) (x : WatchLink) → AreLinked fs ls → AreLists fs (ls ++ x ∷ []) (list_in fs ls)
 added_lists fs ls x are = record {
   first = are.first;
   next = λ i a n h. next_at-push ls x n (are.in_range i a n h) ∙ are.next i a n h;
   in_range = λ i a n h. let k : n < length ls = are.in_range i a n h in let e : length (ls ++ x ∷ []) ≡ length ls + 1 = length-append ls (x ∷ []) in omega arith;
   once = are.once;
 }
+
+-- a link that is set is no further one
+pub few_set : (ls : List WatchLink) (n : ℕ) (x : WatchLink) → length ls ≤ 4294967295 → length (set ls n x) ≤ 4294967295
+few_set ls n x few = let e : length (set ls n x) ≡ length ls = length-set ls n x in omega arith

@@ -35,7 +35,7 @@ map_none f (x ∷ xs) zero e = cc
 map_none f (x ∷ xs) (suc a) e = map_none f xs a e
 
 -- where all links are in the lists as before, so are the clauses
-pub same_watchers : (old : WatchMap) (fs' : List (Option ℕ)) (ls' : List WatchLink) → KeepsLinks old.firsts.items old.links.items fs' ls' → SameLists (watchers old) (watchers_in fs' ls')
+pub same_watchers : (old : WatchMap) (fs' : List ℕ) (ls' : List WatchLink) → KeepsLinks old.firsts.items old.links.items fs' ls' → SameLists (watchers old) (watchers_in fs' ls')
 same_watchers old fs' ls' same l =
     ap (map (clause_of ls')) (same.lists (index_in l))
     ∙ map_kept (clause_of ls') (clause_of old.links.items) (links old l) (λ a n e. same.clauses n (old.linked.in_range (index_in l) a n e))
@@ -44,17 +44,17 @@ other_index : (l m : Signed) → same_literal l m ≡ false → eqb (index_in l)
 other_index l m d = ne_eqb (index_in l) (index_in m) (index_differs l m d)
 
 -- a link that was added is in no list
-pub same_added : (old : WatchMap) (fs' : List (Option ℕ)) (ls' : List WatchLink) (x : WatchLink) → fs' ≡ old.firsts.items → ls' ≡ old.links.items ++ x ∷ [] → KeepsLinks old.firsts.items old.links.items fs' ls'
+pub same_added : (old : WatchMap) (fs' : List ℕ) (ls' : List WatchLink) (x : WatchLink) → fs' ≡ old.firsts.items → ls' ≡ old.links.items ++ x ∷ [] → KeepsLinks old.firsts.items old.links.items fs' ls'
 same_added old fs' ls' x firsts more =
     let longer : length (old.links.items ++ x ∷ []) ≡ length old.links.items + 1 = length-append old.links.items (x ∷ []) in
     let long : length ls' ≡ length (old.links.items ++ x ∷ []) = ap length more in
     record {
-      lists = λ i. ap (λ (fs : List (Option ℕ)). list_in fs ls' i) firsts ∙ ap (λ (ls : List WatchLink). list_in old.firsts.items ls i) more ∙ lists_are old.firsts.items (old.links.items ++ x ∷ []) _ (added_lists old.firsts.items old.links.items x old.linked) i;
+      lists = λ i. ap (λ (fs : List ℕ). list_in fs ls' i) firsts ∙ ap (λ (ls : List WatchLink). list_in old.firsts.items ls i) more ∙ lists_are old.firsts.items (old.links.items ++ x ∷ []) _ (added_lists old.firsts.items old.links.items x old.linked) i;
       clauses = λ n h. ap (λ (ls : List WatchLink). clause_of ls n) more ∙ clause_of-push old.links.items x n h;
       more = omega arith;
     }
 
-pub added_free : (old : WatchMap) (fs' : List (Option ℕ)) (ls' : List WatchLink) (x : WatchLink) (n : ℕ) → KeepsLinks old.firsts.items old.links.items fs' ls' → ls' ≡ old.links.items ++ x ∷ [] → n ≡ length old.links.items → IsUnlinked fs' ls' n
+pub added_free : (old : WatchMap) (fs' : List ℕ) (ls' : List WatchLink) (x : WatchLink) (n : ℕ) → KeepsLinks old.firsts.items old.links.items fs' ls' → ls' ≡ old.links.items ++ x ∷ [] → n ≡ length old.links.items → IsUnlinked fs' ls' n
 added_free old fs' ls' x n same more at =
     let longer : length (old.links.items ++ x ∷ []) ≡ length old.links.items + 1 = length-append old.links.items (x ∷ []) in
     let long : length ls' ≡ length (old.links.items ++ x ∷ []) = ap length more in
@@ -64,7 +64,7 @@ added_free old fs' ls' x n same more at =
     }
 
 -- there are more lists, which are empty
-pub same_more : (old : WatchMap) (fs' : List (Option ℕ)) (ls' : List WatchLink) → ((i : ℕ) → first_at fs' i ≡ first_at old.firsts.items i) → ls' ≡ old.links.items → KeepsLinks old.firsts.items old.links.items fs' ls'
+pub same_more : (old : WatchMap) (fs' : List ℕ) (ls' : List WatchLink) → ((i : ℕ) → first_at fs' i ≡ first_at old.firsts.items i) → ls' ≡ old.links.items → KeepsLinks old.firsts.items old.links.items fs' ls'
 same_more old fs' ls' firsts links = record {
   lists = λ i. ap (λ (ls : List WatchLink). list_in fs' ls i) links ∙ ap (chain old.links.items (length old.links.items)) (firsts i);
   clauses = λ n h. ap (λ (ls : List WatchLink). clause_of ls n) links;
@@ -115,11 +115,11 @@ next_at_cursor m k n o at is next =
     }
 
 -- the lists after a link was put first, and their clauses
-pub put_others : (old : WatchMap) (fs' : List (Option ℕ)) (ls' : List WatchLink) (l : Signed) (i n : ℕ) → i ≡ index_in l → AreLists fs' ls' (put_in i n (list_in old.firsts.items old.links.items)) → (m : Signed) → same_literal l m ≡ false → list_in fs' ls' (index_in m) ≡ links old m
+pub put_others : (old : WatchMap) (fs' : List ℕ) (ls' : List WatchLink) (l : Signed) (i n : ℕ) → i ≡ index_in l → AreLists fs' ls' (put_in i n (list_in old.firsts.items old.links.items)) → (m : Signed) → same_literal l m ≡ false → list_in fs' ls' (index_in m) ≡ links old m
 put_others old fs' ls' l i n at are m d =
     lists_are fs' ls' _ are (index_in m) ∙ put_there i (index_in m) n (list_in old.firsts.items old.links.items) (ap (λ (k : ℕ). eqb k (index_in m)) at ∙ other_index l m d)
 
-pub put_watchers : (old : WatchMap) (fs' : List (Option ℕ)) (ls' : List WatchLink) (l : Signed) (i n : ℕ) → i ≡ index_in l → AreLists fs' ls' (put_in i n (list_in old.firsts.items old.links.items)) → ((m : ℕ) → clause_of ls' m ≡ clause_of old.links.items m)
+pub put_watchers : (old : WatchMap) (fs' : List ℕ) (ls' : List WatchLink) (l : Signed) (i n : ℕ) → i ≡ index_in l → AreLists fs' ls' (put_in i n (list_in old.firsts.items old.links.items)) → ((m : ℕ) → clause_of ls' m ≡ clause_of old.links.items m)
     → PutsFirst (clause_of old.links.items n) l (watchers old) (watchers_in fs' ls')
 put_watchers old fs' ls' l i n at are same = record {
   put = map_kept (clause_of ls') (clause_of old.links.items) (list_in fs' ls' (index_in l)) (λ a m e. same m)
@@ -128,7 +128,7 @@ put_watchers old fs' ls' l i n at are same = record {
 }
 
 -- the lists after a link was taken out, and their clauses
-pub taken_watchers : (old : WatchMap) (fs' : List (Option ℕ)) (ls' : List WatchLink) (l : Signed) (p : ℕ) → AreLists fs' ls' (taken_in (index_in l) p (list_in old.firsts.items old.links.items)) → ((m : ℕ) → clause_of ls' m ≡ clause_of old.links.items m)
+pub taken_watchers : (old : WatchMap) (fs' : List ℕ) (ls' : List WatchLink) (l : Signed) (p : ℕ) → AreLists fs' ls' (taken_in (index_in l) p (list_in old.firsts.items old.links.items)) → ((m : ℕ) → clause_of ls' m ≡ clause_of old.links.items m)
     → TakesOut l p (watchers old) (watchers_in fs' ls')
 taken_watchers old fs' ls' l p are same = record {
   taken = map_kept (clause_of ls') (clause_of old.links.items) (list_in fs' ls' (index_in l)) (λ a m e. same m)
@@ -139,7 +139,7 @@ taken_watchers old fs' ls' l p are same = record {
 }
 
 -- the link that was taken out is in no list
-pub taken_free : (old : WatchMap) (fs' : List (Option ℕ)) (ls' : List WatchLink) (l : Signed) (p n : ℕ) → AreLists fs' ls' (taken_in (index_in l) p (list_in old.firsts.items old.links.items)) → slice_get (links old l) p ≡ Some n → length ls' ≡ length old.links.items → IsUnlinked fs' ls' n
+pub taken_free : (old : WatchMap) (fs' : List ℕ) (ls' : List WatchLink) (l : Signed) (p n : ℕ) → AreLists fs' ls' (taken_in (index_in l) p (list_in old.firsts.items old.links.items)) → slice_get (links old l) p ≡ Some n → length ls' ≡ length old.links.items → IsUnlinked fs' ls' n
 taken_free old fs' ls' l p n are at long = record {
   in_range = let h : n < length old.links.items = old.linked.in_range (index_in l) p n at in omega arith;
   free = λ j a h.
@@ -150,7 +150,7 @@ taken_free old fs' ls' l p n are at long = record {
 }
 
 -- a cursor whose link was taken out is at the next one
-pub taken_at : (old : WatchMap) (fs' : List (Option ℕ)) (ls' : List WatchLink) (k : WatchMapCursor) (n : ℕ) (o : Option ℕ) → AreLists fs' ls' (taken_in (index_in k.literal) k.place (list_in old.firsts.items old.links.items)) → IsAt old k → k.current ≡ Some n → o ≡ next_at old.links.items n → IsPlaced (list_in fs' ls' (index_in k.literal)) k.place o k.before
+pub taken_at : (old : WatchMap) (fs' : List ℕ) (ls' : List WatchLink) (k : WatchMapCursor) (n : ℕ) (o : Option ℕ) → AreLists fs' ls' (taken_in (index_in k.literal) k.place (list_in old.firsts.items old.links.items)) → IsAt old k → k.current ≡ Some n → o ≡ next_at old.links.items n → IsPlaced (list_in fs' ls' (index_in k.literal)) k.place o k.before
 taken_at old fs' ls' k n o are at is next =
     let i = index_in k.literal in
     let lists = list_in old.firsts.items old.links.items in
@@ -189,7 +189,7 @@ moved_between c from to place a b d apart was_in out put = record {
 }
 
 -- where the lists are the same, the link is at its place still
-pub still_at : (old : WatchMap) (fs' : List (Option ℕ)) (ls' : List WatchLink) (k : WatchMapCursor) → KeepsLinks old.firsts.items old.links.items fs' ls' → IsAt old k → IsPlaced (list_in fs' ls' (index_in k.literal)) k.place k.current k.before
+pub still_at : (old : WatchMap) (fs' : List ℕ) (ls' : List WatchLink) (k : WatchMapCursor) → KeepsLinks old.firsts.items old.links.items fs' ls' → IsAt old k → IsPlaced (list_in fs' ls' (index_in k.literal)) k.place k.current k.before
 still_at old fs' ls' k same at = subst (λ (xs : List ℕ). IsPlaced xs k.place k.current k.before) (sym (same.lists (index_in k.literal))) at
 
 pub out_same : (l : Signed) (p : ℕ) (a a' b : Signed → List ClauseId) → SameLists a a' → TakesOut l p a' b → TakesOut l p a b

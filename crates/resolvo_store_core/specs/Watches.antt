@@ -1,5 +1,5 @@
 -- The clauses that watch a literal.
-use Rattle.std.specs.Prelude.{◌≡◌, ℕ, suc, ◌+◌, ◌<◌, ⊤, Bool, true, false, nat_eq, List, [], ◌∷◌, ◌++◌, take, drop, slice_set, slice_get, slice_index_or, length, Option, Some, None, is_some}
+use Rattle.std.specs.Prelude.{◌≡◌, ℕ, suc, ◌+◌, ◌<◌, ◌==◌, ⊤, Bool, true, false, not, nat_eq, List, [], ◌∷◌, ◌++◌, take, drop, slice_set, slice_get, slice_index_or, length, Option, Some, None}
 use Rattle.std.specs.List.{count_by}
 use Rattle.resolvo_pool_core.specs.declared.id.ClauseId.{ClauseId}
 use Rattle.resolvo_store_core.specs.Signed.{Signed, same_literal, index_in}
@@ -29,7 +29,7 @@ HasRoom m (Some l ∷ os) = HasPlace m l × HasRoom m os
 
 -- how many literals some clause watches
 abbrev pub watched_count : WatchMap → ℕ
-watched_count m = count_by (λ (o : Option ℕ). is_some o) m.firsts.items
+watched_count m = count_by (λ n. not (n == 0)) m.firsts.items
 
 -- the link is there, and in no list
 abbrev pub IsFreeLink : WatchMap → ℕ → Type 0

@@ -5,8 +5,8 @@
 //! The map and that list agree (`IsWatched`): each clause is once in the list of each of its two
 //! literals, and in no other. A clause that begins to watch a literal is put at the front of its
 //! list. A walk is a cursor that the caller advances.
-ghost use Rattle.std.specs.Prelude.{ℕ};
-ghost use Rattle.resolvo_store_core.specs.Links.{AreLinked};
+ghost use Rattle.std.specs.Prelude.{◌≡◌, ◌≤◌, ℕ, length};
+ghost use Rattle.resolvo_store_core.specs.Links.{AreLinked, link_of};
 
 use crate::literal::Literal;
 use crate::watched_literals::{Watch, WatchedLiterals};
@@ -14,20 +14,22 @@ use resolvo_pool_core::id::{ClauseId, DenseIndex};
 use resolvo_pool_core::want::{R, Want};
 use std::alloc::Global;
 
-/// A clause in the list of a literal, and the link after it.
+/// A clause in the list of a literal, and the number of the link after it. Links are numbered from 1
+/// on, and 0 is the number of none.
 #[derive(Clone, Copy, Debug)]
 pub struct WatchLink {
     pub clause: ClauseId,
-    pub next: Option<u32>,
+    pub next: u32,
 }
 
 /// For each literal the clauses that watch it.
 #[derive(Drop)]
 pub struct WatchMap {
-    /// The first link of each literal's list.
-    firsts: Vec<Option<u32>>,
+    /// The number of the first link of each literal's list.
+    firsts: Vec<u32>,
     links: Vec<WatchLink>,
     ghost linked: { AreLinked firsts.items links.items },
+    ghost few: { length links.items ≤ 4294967295 },
 }
 
 /// A place in the list of a literal's clauses: the link there, and the one before it.
@@ -64,7 +66,7 @@ impl WatchMap {
     pub fn len(&self) -> usize
         ensures { result ≡ watched_count self.now }
     {
-        self.firsts.iter().filter(|first| first.is_some()).count()
+        self.firsts.iter().filter(|first| **first != 0).count()
     }
 
     /// Lets a new clause watch two different literals. It is put at the front of both lists.
@@ -209,7 +211,7 @@ impl WatchMap {
     {
         let count = literal.to_index() + 1;
         while self.firsts.len() < count {
-            self.firsts.push(None)?;
+            self.firsts.push(0)?;
         }
         Ok(())
     }
@@ -231,7 +233,7 @@ impl WatchMap {
     {
         let index = literal.to_index();
         if index < self.firsts.len() {
-            self.firsts[index]
+            link_at(self.firsts[index])
         } else {
             None
         }
@@ -264,7 +266,7 @@ impl WatchMap {
         if link >= 4_294_967_295 {
             return Err(Want::Memory);
         }
-        self.links.push(WatchLink { clause, next: None })?;
+        self.links.push(WatchLink { clause, next: 0 })?;
         Ok(link as u32)
     }
 
@@ -281,7 +283,7 @@ impl WatchMap {
     {
         let index = literal.to_index();
         self.links[link as usize].next = self.firsts[index];
-        self.firsts[index] = Some(link);
+        self.firsts[index] = link + 1;
     }
 
     /// Takes the link at a cursor out of its list, and returns the next one.
@@ -301,11 +303,12 @@ impl WatchMap {
         match cursor.current {
             Some(link) => {
                 let next = self.links[link as usize].next;
+                let following = link_at(next);
                 match cursor.before {
                     Some(before) => self.links[before as usize].next = next,
                     None => self.firsts[cursor.literal.to_index()] = next,
                 }
-                next
+                following
             }
             None => unreachable!(),
         }
@@ -345,7 +348,7 @@ impl WatchMapCursor {
             Some(link) => {
                 self.place += 1;
                 self.before = Some(link);
-                self.current = map.links[link as usize].next;
+                self.current = link_at(map.links[link as usize].next);
             }
             None => unreachable!(),
         }
@@ -451,4 +454,11 @@ impl WatchMapCursor {
             None
         }
     }
+}
+
+/// The link of a number, or none at 0.
+fn link_at(number: u32) -> Option<u32>
+    ensures { result ≡ link_of number }
+{
+    if number == 0 { None } else { Some(number - 1) }
 }

@@ -1,14 +1,20 @@
-use Rattle.std.proofs.Common.{refl, arith}
-use Rattle.resolvo_store_core.proofs.LinkLemmas.{first_linked, linked, clause_of-set}
+use Rattle.std.proofs.Common.{◌<◌, ◌≤◌, length, refl, arith}
+use Rattle.resolvo_store_core.proofs.LinkLemmas.{first_linked, few_set, linked, clause_of-set}
 use Rattle.resolvo_store_core.proofs.WatchLemmas.{put_others, put_watchers}
 use Rattle.resolvo_store_core.proofs.watch_map.WatchMap.link_first.Goals as goal
+
+pub overflow_add-link : goal.overflow_add-link
+overflow_add-link c =
+    let there = c.requires.free.in_range in
+    let few = c.args.self.now.few in
+    omega arith
 
 pub invariant_of-self : goal.invariant_of-self
 invariant_of-self c =
     let s = c.args.self.now in
     let room = c.requires.room in
     let at = c.to_index-index.ensures.index in
-    record { linked = linked _ _ _ (first_linked s.firsts.items s.links.items c.to_index-index.result c.args.link c.index.result.now c.index_mut.result.now s.linked c.requires.free.free (omega arith) c.requires.free.in_range c.index.ensures) }
+    record { linked = linked _ _ _ (first_linked s.firsts.items s.links.items c.to_index-index.result c.args.link c.index.result.now c.index_mut.result.now s.linked c.requires.free.free (omega arith) c.requires.free.in_range c.index.ensures); few = few_set s.links.items c.args.link _ s.few }
 
 pub returns-clause-put : goal.returns-clause-put
 returns-clause-put c =

@@ -3,7 +3,7 @@ use Rattle.std.specs.Prelude.{slice_get}
 use Rattle.resolvo_store_core.specs.Signed.{index_in}
 use Rattle.resolvo_store_core.specs.Links.{list_in, AreLists}
 use Rattle.resolvo_store_core.specs.Watches.{links}
-use Rattle.resolvo_store_core.proofs.LinkLemmas.{taken_in, linked, out_behind, out_front, next_at-read, clause_of-set}
+use Rattle.resolvo_store_core.proofs.LinkLemmas.{taken_in, linked, out_behind, out_front, few_set, next_at-read, clause_of-set}
 use Rattle.resolvo_store_core.proofs.WatchLemmas.{before_in_range, not_at_end, taken_at, taken_free, taken_watchers}
 use Rattle.resolvo_store_core.proofs.watch_map.WatchMap.take_out.Goals as goal
 
@@ -12,7 +12,7 @@ invariant_of-self c =
     let s = c.args.self.now in
     let k = c.args.cursor.now in
     let are = out_behind s.firsts.items s.links.items (index_in k.literal) k.place c.in-Some.link c.in-Some-before.before c.index.result.now c.index_mut.result.now s.linked (sym c.requires.at.current ∙ c.in-Some.is) (sym c.requires.at.before ∙ c.in-Some-before.is) c.index.ensures in
-    record { linked = linked _ _ _ are }
+    record { linked = linked _ _ _ are; few = few_set s.links.items c.in-Some-before.before _ s.few }
 
 pub invariant_of-self-in-None-before : goal.invariant_of-self-in-None-before
 invariant_of-self-in-None-before c =
@@ -20,7 +20,7 @@ invariant_of-self-in-None-before c =
     let k = c.args.cursor.now in
     let are = subst (λ (i : ℕ). AreLists (set s.firsts.items i c.index.result.now.next) s.links.items (taken_in (index_in k.literal) k.place (list_in s.firsts.items s.links.items))) (sym c.to_index.ensures.index)
     (out_front s.firsts.items s.links.items (index_in k.literal) k.place c.in-Some.link c.index.result.now s.linked (sym c.requires.at.current ∙ c.in-Some.is) (sym c.requires.at.before ∙ c.in-None-before.is) c.index.ensures) in
-    record { linked = linked _ _ _ are }
+    record { linked = linked _ _ _ are; few = s.few }
 
 pub unreachable-requires : goal.unreachable-requires
 unreachable-requires c = not_at_end c.args.self.now c.args.cursor.now c.requires.at c.requires.in_list c.in-None.is
@@ -38,7 +38,7 @@ returns-in-Some-before-clause-at c =
     let k = c.args.cursor.now in
     let are = out_behind s.firsts.items s.links.items (index_in k.literal) k.place c.in-Some.link c.in-Some-before.before c.index.result.now c.index_mut.result.now s.linked (sym c.requires.at.current ∙ c.in-Some.is) (sym c.requires.at.before ∙ c.in-Some-before.is) c.index.ensures in
     let at : slice_get (links s k.literal) k.place ≡ Some c.in-Some.link = sym c.requires.at.current ∙ c.in-Some.is in
-    taken_at s _ _ k c.in-Some.link c.index.result.now.next are c.requires.at c.in-Some.is (sym (next_at-read s.links.items c.in-Some.link c.index.result.now (s.linked.in_range (index_in k.literal) k.place c.in-Some.link at) c.index.ensures))
+    taken_at s _ _ k c.in-Some.link c.link_at-following.result are c.requires.at c.in-Some.is (c.link_at-following.ensures ∙ sym (next_at-read s.links.items c.in-Some.link c.index.result.now (s.linked.in_range (index_in k.literal) k.place c.in-Some.link at) c.index.ensures))
 
 pub returns-in-Some-before-clause-free : goal.returns-in-Some-before-clause-free
 returns-in-Some-before-clause-free c = λ n is.
@@ -68,7 +68,7 @@ returns-in-None-before-clause-at c =
     let are = subst (λ (i : ℕ). AreLists (set s.firsts.items i c.index.result.now.next) s.links.items (taken_in (index_in k.literal) k.place (list_in s.firsts.items s.links.items))) (sym c.to_index.ensures.index)
     (out_front s.firsts.items s.links.items (index_in k.literal) k.place c.in-Some.link c.index.result.now s.linked (sym c.requires.at.current ∙ c.in-Some.is) (sym c.requires.at.before ∙ c.in-None-before.is) c.index.ensures) in
     let at : slice_get (links s k.literal) k.place ≡ Some c.in-Some.link = sym c.requires.at.current ∙ c.in-Some.is in
-    taken_at s _ _ k c.in-Some.link c.index.result.now.next are c.requires.at c.in-Some.is (sym (next_at-read s.links.items c.in-Some.link c.index.result.now (s.linked.in_range (index_in k.literal) k.place c.in-Some.link at) c.index.ensures))
+    taken_at s _ _ k c.in-Some.link c.link_at-following.result are c.requires.at c.in-Some.is (c.link_at-following.ensures ∙ sym (next_at-read s.links.items c.in-Some.link c.index.result.now (s.linked.in_range (index_in k.literal) k.place c.in-Some.link at) c.index.ensures))
 
 pub returns-in-None-before-clause-free : goal.returns-in-None-before-clause-free
 returns-in-None-before-clause-free c = λ n is.

@@ -17,4 +17,4 @@ pub returns-clause-at : goal.returns-clause-at
 returns-clause-at c =
     let m = c.args.map.now in
     let k = c.args.self.now in
-    next_at_cursor m k c.in-Some.link c.index.result.now.next c.requires.at c.in-Some.is (sym (next_at-read m.links.items c.in-Some.link c.index.result.now (m.linked.in_range (index_in k.literal) k.place c.in-Some.link (sym c.requires.at.current ∙ c.in-Some.is)) c.index.ensures))
+    next_at_cursor m k c.in-Some.link c.link_at-self.result c.requires.at c.in-Some.is (c.link_at-self.ensures ∙ sym (next_at-read m.links.items c.in-Some.link c.index.result.now (m.linked.in_range (index_in k.literal) k.place c.in-Some.link (sym c.requires.at.current ∙ c.in-Some.is)) c.index.ensures))
