@@ -7,8 +7,8 @@ mod arguments;
 
 use crate::arguments::read_arguments;
 use resolve_run::{
-    Checked, INPUT_LIMIT, Outcome, RunFault, check_ending, check_once, read_input, run_ending,
-    run_once, split_input,
+    Checked, INPUT_LIMIT, Outcome, Release, RunFault, check, check_ending, read_input, run_ending,
+    run_with, split_input,
 };
 use resolvo_catalogue::Counted;
 use std::fs::File;
@@ -41,7 +41,13 @@ fn solve_files(
     let mut catalogue = Counted::new(catalogue);
     let mut request = Counted::new(request);
     let mut writer = Counted::new(io::writer(rt));
-    run_once(rt.alloc(), &mut catalogue, &mut request, &mut writer)
+    run_with(
+        rt.alloc(),
+        &mut catalogue,
+        &mut request,
+        &mut writer,
+        Release::AtExit,
+    )
 }
 
 /// Judges the report of a file over the texts of two others, which are all opened before any is
@@ -61,7 +67,7 @@ fn judge_files(
     let Some(report) = open(rt, report) else {
         return Err(RunFault::Reader);
     };
-    check_once(
+    check(
         rt.alloc(),
         &mut Counted::new(catalogue),
         &mut Counted::new(request),
@@ -76,11 +82,12 @@ fn solve_input(rt: &HostRuntime) -> Result<Outcome, RunFault> {
     let input = read_input(rt.alloc(), &mut source, INPUT_LIMIT)?;
     let (catalogue, request) = split_input(&input);
     let mut writer = Counted::new(io::writer(rt));
-    run_once(
+    run_with(
         rt.alloc(),
         &mut Counted::new(catalogue),
         &mut Counted::new(request),
         &mut writer,
+        Release::AtExit,
     )
 }
 

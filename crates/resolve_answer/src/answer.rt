@@ -12,10 +12,10 @@ ghost use Rattle.resolve_answer.specs.Reported.{HaveLongReport, IsReportOf};
 ghost use Rattle.resolve_answer.specs.Stops.{IsStopOf};
 
 use crate::message::message_of;
+use crate::release::Release;
 use crate::stop::Stop;
 use crate::turns::{Outcome, report_turns, wanted_steps};
 use crate::wishes::{Wish, free_wishes, wishes_of};
-use resolve_check::release::Release;
 use resolve_install::{install_report, numbers_of};
 use resolve_refusal::{install_steps, refusal_of};
 use resolvo::conflict::Conflict;

@@ -6,6 +6,7 @@ pub mod answer;
 pub mod laws;
 mod lines;
 mod message;
+pub mod release;
 pub mod stop;
 pub mod turns;
 pub mod wishes;

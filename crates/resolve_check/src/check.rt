@@ -6,7 +6,6 @@ ghost use Rattle.resolve_check.specs.Devices.{IfCatalogueFaulty, IfRequestFaulty
 ghost use Rattle.resolve_check.specs.Check.{IsVerdictText, AnswersFault, ChecksTexts, StopsBeforeCheck, StopsCheck, WritesCheck};
 
 use crate::outcome::{Checked, RunFault};
-use crate::release::Release;
 use crate::written::not_read;
 use resolvo_catalogue_core::{Catalogue, ReadFault, Request, Sink, Source, write_all};
 use resolvo_judge::{JudgeFault, Verdict, judge};
@@ -59,7 +58,6 @@ fn answer<C: Source, R: Source, P: Source>(
     catalogue: &mut C,
     request: &mut R,
     report: &mut P,
-    release: Release,
 ) -> Result<Response, RunFault>
     ensures ok { IfOk result
         (λ answered.
@@ -84,52 +82,11 @@ fn answer<C: Source, R: Source, P: Source>(
         Ok(request) => request,
         Err(fault) => return fault_answer(alloc, "request", fault),
     };
-    let judged = judge(alloc, &catalogue, &request, report);
-    release.done_with(request);
-    release.done_with(catalogue);
-    match judged {
+    match judge(alloc, &catalogue, &request, report) {
         Ok(verdict) => verdict_answer(alloc, verdict),
         Err(JudgeFault::Reader) => Err(RunFault::Reader),
         Err(JudgeFault::TooLong) => Err(RunFault::TooLong),
         Err(JudgeFault::Memory) => Err(RunFault::Memory),
-    }
-}
-
-/// The same as `check`, for a caller that says when what was made is released.
-fn check_releasing<C: Source, R: Source, P: Source, W: Sink>(
-    alloc: Global,
-    catalogue: &mut C,
-    request: &mut R,
-    report: &mut P,
-    writer: &mut W,
-    release: Release,
-) -> Result<Checked, RunFault>
-    ensures written { IfOk result
-        (λ checked.
-        WritesCheck
-        (reader_at C.Source catalogue.old catalogue.new)
-        (reader_at R.Source request.old request.new)
-        (reader_at P.Source report.old report.new)
-        (writer_at W.Sink writer.old writer.new)
-        checked) }
-    ensures stopped { IfErr result
-        (λ e.
-        StopsCheck e
-        (reader_at C.Source catalogue.old catalogue.new)
-        (reader_at R.Source request.old request.new)
-        (reader_at P.Source report.old report.new)
-        (writer_at W.Sink writer.old writer.new)) }
-    ensures catalogue_faulty { IfCatalogueFaulty (C.left catalogue.old)
-        ((request.new ≡ request.old) × (report.new ≡ report.old)) }
-    ensures request_faulty { IfRequestFaulty (C.left catalogue.old) (R.left request.old)
-        (report.new ≡ report.old) }
-{
-    match answer(alloc, catalogue, request, report, release) {
-        Ok(answered) => match write_all(writer, answered.text.as_slice()) {
-            Ok(()) => Ok(answered.checked),
-            Err(_) => Err(RunFault::Writer),
-        },
-        Err(fault) => Err(fault),
     }
 }
 
@@ -163,37 +120,11 @@ pub fn check<C: Source, R: Source, P: Source, W: Sink>(
     ensures request_faulty { IfRequestFaulty (C.left catalogue.old) (R.left request.old)
         (report.new ≡ report.old) }
 {
-    check_releasing(alloc, catalogue, request, report, writer, Release::Now)
-}
-
-/// The same as `check`, for a program that ends after it. The memory of the texts isn't released:
-/// the system takes it back.
-pub fn check_once<C: Source, R: Source, P: Source, W: Sink>(
-    alloc: Global,
-    catalogue: &mut C,
-    request: &mut R,
-    report: &mut P,
-    writer: &mut W,
-) -> Result<Checked, RunFault>
-    ensures written { IfOk result
-        (λ checked.
-        WritesCheck
-        (reader_at C.Source catalogue.old catalogue.new)
-        (reader_at R.Source request.old request.new)
-        (reader_at P.Source report.old report.new)
-        (writer_at W.Sink writer.old writer.new)
-        checked) }
-    ensures stopped { IfErr result
-        (λ e.
-        StopsCheck e
-        (reader_at C.Source catalogue.old catalogue.new)
-        (reader_at R.Source request.old request.new)
-        (reader_at P.Source report.old report.new)
-        (writer_at W.Sink writer.old writer.new)) }
-    ensures catalogue_faulty { IfCatalogueFaulty (C.left catalogue.old)
-        ((request.new ≡ request.old) × (report.new ≡ report.old)) }
-    ensures request_faulty { IfRequestFaulty (C.left catalogue.old) (R.left request.old)
-        (report.new ≡ report.old) }
-{
-    check_releasing(alloc, catalogue, request, report, writer, Release::AtExit)
+    match answer(alloc, catalogue, request, report) {
+        Ok(answered) => match write_all(writer, answered.text.as_slice()) {
+            Ok(()) => Ok(answered.checked),
+            Err(_) => Err(RunFault::Writer),
+        },
+        Err(fault) => Err(fault),
+    }
 }

@@ -7,5 +7,4 @@ pub mod exit_status;
 pub mod input;
 pub mod length;
 pub mod outcome;
-pub mod release;
 pub mod written;

@@ -16,10 +16,10 @@ ghost use Rattle.resolve_run.specs.Within.{within, IsLackWithin, StopsBeforeWith
 use crate::report::report_text;
 use crate::stop::RunStop;
 use resolve_answer::answer::report_for;
+use resolve_answer::release::Release;
 use resolve_answer::stop::MOST_BYTES;
 use resolve_check::length::report_length;
 use resolve_check::outcome::{Outcome, RunFault};
-use resolve_check::release::Release;
 use resolve_check::written::{Written, not_read};
 use resolvo_catalogue_core::{Catalogue, Request, Sink, Source, write_all};
 use resolvo_report::Report;
@@ -121,8 +121,9 @@ fn answer<C: Source, R: Source>(
     ended
 }
 
-/// The same as `run_within`, for a caller that says when what was made is released.
-fn run_releasing<C: Source, R: Source, W: Sink>(
+/// The same as `run_within`, for a caller that says when the texts, the search and the report are
+/// released.
+fn run_bounded<C: Source, R: Source, W: Sink>(
     alloc: Global,
     catalogue: &mut C,
     request: &mut R,
@@ -181,7 +182,7 @@ pub fn run_within<C: Source, R: Source, W: Sink>(
         (writer_at W.Sink writer.old writer.new)) }
     ensures catalogue_faulty { LeavesRequest (C.left catalogue.old) request.old request.new }
 {
-    run_releasing(alloc, catalogue, request, writer, budget, Release::Now)
+    run_bounded(alloc, catalogue, request, writer, budget, Release::Now)
 }
 
 /// Reads the catalogue to its end, then the request, and writes the report, or the first faulty
@@ -208,20 +209,17 @@ pub fn run<C: Source, R: Source, W: Sink>(
         (writer_at W.Sink writer.old writer.new)) }
     ensures catalogue_faulty { LeavesRequest (C.left catalogue.old) request.old request.new }
 {
-    match run_within(alloc, catalogue, request, writer, None) {
-        Ok(outcome) => Ok(outcome),
-        Err(RunStop::Fault(fault)) => Err(fault),
-        Err(RunStop::GivenUp) => unreachable!(),
-    }
+    run_with(alloc, catalogue, request, writer, Release::Now)
 }
 
-/// The same as `run`, for a program that ends after it. The memory of the texts, the search and the
-/// report isn't released: the system takes it back.
-pub fn run_once<C: Source, R: Source, W: Sink>(
+/// The same as `run`, for a caller that says when the texts, the search and the report are released.
+/// A program that ends after it may leave that to the system.
+pub fn run_with<C: Source, R: Source, W: Sink>(
     alloc: Global,
     catalogue: &mut C,
     request: &mut R,
     writer: &mut W,
+    release: Release,
 ) -> Result<Outcome, RunFault>
     // The headline: the judge accepts the report, its claim is true, and it has the first choices.
     ensures headline { IfOk result (WritesHeadline
@@ -239,7 +237,7 @@ pub fn run_once<C: Source, R: Source, W: Sink>(
         (writer_at W.Sink writer.old writer.new)) }
     ensures catalogue_faulty { LeavesRequest (C.left catalogue.old) request.old request.new }
 {
-    match run_releasing(alloc, catalogue, request, writer, None, Release::AtExit) {
+    match run_bounded(alloc, catalogue, request, writer, None, release) {
         Ok(outcome) => Ok(outcome),
         Err(RunStop::Fault(fault)) => Err(fault),
         Err(RunStop::GivenUp) => unreachable!(),

@@ -2,7 +2,7 @@ use Rattle.std.proofs.Common.{refl, subst, List, ℕ}
 use Rattle.std.specs.Io.KnownBytes.{Appends}
 use Rattle.resolvo_text.specs.Device.{TakesPrefix}
 use Rattle.resolve_check.proofs.CheckLemmas.{nothing_written}
-use Rattle.resolve_check.proofs.check.check_releasing.Goals as goal
+use Rattle.resolve_check.proofs.check.check.Goals as goal
 
 pub returns-in-Ok-write_all-clause-written : goal.returns-in-Ok-write_all-clause-written
 returns-in-Ok-write_all-clause-written g c = (

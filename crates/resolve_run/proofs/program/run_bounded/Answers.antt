@@ -3,7 +3,7 @@ use Rattle.std.specs.Io.KnownBytes.{Appends}
 use Rattle.resolvo_text.specs.Device.{TakesPrefix}
 use Rattle.resolve_run.proofs.HeadlineLemmas.{headline_of}
 use Rattle.resolve_run.proofs.Reports.{nothing_written_within}
-use Rattle.resolve_run.proofs.program.run_releasing.Goals as goal
+use Rattle.resolve_run.proofs.program.run_bounded.Goals as goal
 
 pub returns-in-Ok-write_all-clause-headline : goal.returns-in-Ok-write_all-clause-headline
 returns-in-Ok-write_all-clause-headline g c = (
