@@ -57,6 +57,13 @@ def hash_of_set(number):
     return mixed(mixed(mixed(0, 1), number), 0)
 
 
+def hash_of_bytes(text, state=0):
+    """The provider's hash of a text behind what a state is of; its lowest bits choose a place."""
+    for byte in text.encode():
+        state = mixed(state, byte)
+    return state
+
+
 def texts(count, collide):
     """So many names or words of 32 bytes, that have one hash or any."""
     rng = random.Random(1)
@@ -72,6 +79,16 @@ def numbers(count, collide, hash_of=hash_of_number):
     bits = max(1, (count // 12).bit_length())
     same = (it for it in itertools.count(1) if hash_of(it) & (1 << bits) - 1 == 0)
     return sorted(itertools.islice(same, count), reverse=True)
+
+
+def crowded(count, collide):
+    """So many names of 32 bytes, whose places in the provider's table are few, or any."""
+    mask = (1 << max(1, (count // 12).bit_length())) - 1 if collide else 0
+    front = "names_of_the_provider_places"
+    state = hash_of_bytes(front)
+    ends = ("".join(last) for last in itertools.product(WORD, repeat=4))
+    found = (front + end for end in ends if hash_of_bytes(end, state) & mask == 0)
+    return list(itertools.islice(found, count))
 
 
 def packages(size, collide):
@@ -108,6 +125,12 @@ def sets(size, collide):
     return ["version a 1\n", *(f"needs a {number} | a\n" for number in found)], "needs a\n"
 
 
+def places(size, collide):
+    """Each line a need of another package, whose places in the provider's table are few."""
+    names = crowded(min(size // 43, 1 << 12), collide)
+    return ["version a 1\n", *(f"needs {name} | a\n" for name in names)], "needs a\n"
+
+
 def installed(size, collide):
     """Each package is needed by a line of the request."""
     names = list(texts(size // 43, collide))
@@ -121,7 +144,7 @@ def judged(size, collide):
     return *installed(size, collide), "install\n" + "".join(entries)
 
 
-KINDS = (packages, specs, words, versions, spans, sets, installed, judged)
+KINDS = (packages, specs, words, versions, spans, sets, places, installed, judged)
 
 
 def seconds(program, lines, request, *reports):

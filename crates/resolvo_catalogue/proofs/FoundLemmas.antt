@@ -30,8 +30,7 @@ use Rattle.resolvo_catalogue_core.proofs.Pushed.{get_new, get_kept, get_push}
 use Rattle.resolvo_catalogue.specs.declared.id_table.Numbers.{Numbers}
 use Rattle.resolvo_catalogue.specs.Ids.{NameId, Extends, AreOnce, AreSeveral, IsPlaced}
 use Rattle.resolvo_catalogue.specs.Known.{sound}
-use Rattle.resolvo_catalogue_core.specs.Hash.{bytes_hash}
-use Rattle.resolvo_catalogue.specs.Found.{AreFound, AreKept, Key, key_eq, list_number_in, text_key, pair_key, text_number_in, span_key, set_key, union_key, few_key, number_by, union_number, condition_key}
+use Rattle.resolvo_catalogue.specs.Found.{AreFound, AreKept, Key, key_eq, list_number_in, text_number_in, span_key, set_key, union_key, few_key, number_by, union_number, condition_key}
 
 -- ---- any values
 
@@ -144,22 +143,10 @@ pub list_number_put : (m n : BTreeMap (Vec ℕ) ℕ) (key : List ℕ) (w : Optio
     → (other : List ℕ) → list_number_in n.entries other ≡ cond (bytes_eq key other) w (list_number_in m.entries other)
 list_number_put m n key w h other = put_at (λ k. k.items) m n key w h other
 
--- the number of any text, after a number is put at a text that has its hash beside it
-pub text_number_put : (m n : BTreeMap (ℕ × String Global) ℕ) (key : ℕ × String Global) (w : Option ℕ) → UpdatesBy (λ x y. slice_cmp nat_cmp (pair_key x) (pair_key y)) (λ k. slice_cmp nat_cmp (pair_key key) (pair_key k)) m n w
-    → pair_key key ≡ text_key (string_bytes key.1) → (other : List ℕ) → text_number_in n.entries other ≡ cond (bytes_eq (text_key (string_bytes key.1)) (text_key other)) w (text_number_in m.entries other)
-text_number_put m n key w h is other = subst (λ (k : List ℕ). text_number_in n.entries other ≡ cond (bytes_eq k (text_key other)) w (text_number_in m.entries other)) is (put_at pair_key m n (pair_key key) w h (text_key other))
-
-texts_exact : (x y : List ℕ) → text_key x ≡ text_key y → x ≡ y
-texts_exact x y e = cc
-
--- the texts after a new one
-pub texts_more : (old new : BTreeMap (ℕ × String Global) ℕ) (texts : List (String Global)) (kept : String Global) (key : ℕ × String Global) (text : List ℕ) → AreFound (text_number_in old.entries) (map string_bytes texts) → text_number_in old.entries text ≡ None
-    → string_bytes kept ≡ text → string_bytes key.1 ≡ text → key.0 ≡ bytes_hash text → UpdatesBy (λ x y. slice_cmp nat_cmp (pair_key x) (pair_key y)) (λ k. slice_cmp nat_cmp (pair_key key) (pair_key k)) old new (Some (length texts)) → AreFound (text_number_in new.entries) (map string_bytes (texts ++ kept ∷ []))
-texts_more old new texts kept key text h none is_kept is_key is_hash set =
-    let count : length (map string_bytes texts) ≡ length texts = length-map texts string_bytes in
-    let pair : pair_key key ≡ text_key (string_bytes key.1) = ap (λ (n : ℕ). n ∷ string_bytes key.1) (is_hash ∙ ap bytes_hash (sym is_key)) in
-    let put : (w : List ℕ) → text_number_in new.entries w ≡ cond (bytes_eq (text_key text) (text_key w)) (Some (length (map string_bytes texts))) (text_number_in old.entries w) = λ w. rw (count, ← is_key) (text_number_put old new key (Some (length texts)) set pair w) in
-    rw (map_push string_bytes texts kept, is_kept) (found_more (λ x y. bytes_eq (text_key x) (text_key y)) (λ x y e. texts_exact x y ((bytes_decides (text_key x) (text_key y)).0 e)) (λ x. (bytes_decides (text_key x) (text_key x)).1 refl) (text_number_in old.entries) (text_number_in new.entries) (map string_bytes texts) text h none put)
+-- the number of any text, after a number is put at a text
+pub text_number_put : (m n : BTreeMap (String Global) ℕ) (key : List ℕ) (w : Option ℕ) → UpdatesBy (λ x y. slice_cmp nat_cmp (string_bytes x) (string_bytes y)) (λ k. slice_cmp nat_cmp key (string_bytes k)) m n w
+    → (other : List ℕ) → text_number_in n.entries other ≡ cond (bytes_eq key other) w (text_number_in m.entries other)
+text_number_put m n key w h other = put_at string_bytes m n key w h other
 
 -- keys of four numbers are equal when they compare so
 same_number : (x y : ℕ) → is_eq (nat_cmp x y) ≡ true → x ≡ y

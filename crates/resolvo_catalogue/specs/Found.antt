@@ -1,8 +1,10 @@
--- Values that are each found at their places, by keys that are four numbers, lists of numbers, or texts behind their hashes.
-use Rattle.std.specs.Prelude.{◌≡◌, ◌∷◌, [], ◌==◌, ◌-◌, if◌then◌else◌, ℕ, Bool, List, length, map, Option, Some, None, slice_get, bit_and}
+-- Values that are each found at their places, by keys that are four numbers or lists of numbers, or by themselves.
+use Rattle.std.specs.Prelude.{◌≡◌, ◌∷◌, [], ◌==◌, ◌%◌, ◌-◌, ◌<◌, if◌then◌else◌, ℕ, zero, suc, Bool, List, length, map, Option, Some, None, slice_get, slice_set, bit_and, is_some}
 use Rattle.std.specs.Global.{Global, Vec}
 use Rattle.std.specs.String.{string_bytes}
 use Rattle.std.specs.declared.string.String.{String}
+use Rattle.std.specs.Str.{bytes_eq}
+use Rattle.std.specs.Option.{option_map}
 use Rattle.std.specs.Map.{lookup}
 use Rattle.std.specs.declared.cmp.Ordering.{Ordering}
 use Rattle.std.specs.Ordering.{is_eq, nat_cmp, ordering_then}
@@ -14,7 +16,7 @@ use Rattle.resolvo_pool_core.specs.declared.condition.Condition.{Condition}
 use Rattle.resolvo_pool_core.specs.declared.condition.Condition.TheVariants.{Binary, Requirement}
 use Rattle.resolvo_pool_core.specs.declared.condition.LogicalOperator.TheVariants as joins
 use Rattle.resolvo_intern.specs.Intern.{AreBelow}
-use Rattle.resolvo_catalogue_core.specs.Hash.{bytes_hash, mix}
+use Rattle.resolvo_catalogue_core.specs.Hash.{mix, bytes_hash}
 use Rattle.resolvo_catalogue.specs.declared.id_table.Numbers.{Numbers}
 use Rattle.resolvo_catalogue.specs.Ids.{NameId, AreSeveral}
 
@@ -41,57 +43,120 @@ number_in entries key = lookup (key_eq key) entries
 abbrev pub list_number_in : List (Vec ℕ × ℕ) → List ℕ → Option ℕ
 list_number_in entries key = lookup (λ k. is_eq (slice_cmp nat_cmp key k.items)) entries
 
+-- ---- places of hashes
+
+-- What lies at a place is 0 if it is free, else one more than the number of a value. A value has a few places, one after
+-- the other from that of its hash on. Those whose places others have are found through a sorted map.
+abbrev pub tries : ℕ
+tries = 8
+
+-- the first place of a hash
+abbrev pub place_from : ℕ → ℕ
+place_from hash = hash % 4294967296
+
+-- a place among so many, which are a power of two
+abbrev pub place_among : ℕ → ℕ → ℕ
+place_among count place = bit_and place (count - 1)
+
+-- what lies at a place
+abbrev pub slot_at : List ℕ → ℕ → Option ℕ
+slot_at slots place = slice_get slots (place_among (length slots) place)
+
+-- the number in a slot, if there is one
+abbrev pub number_in_slot : Option ℕ → Option ℕ
+number_in_slot None = None
+number_in_slot (Some zero) = None
+number_in_slot (Some (suc n)) = Some n
+
+-- the first number, else the later one
+abbrev pub or_later : Option ℕ → Option ℕ → Option ℕ
+or_later None later = later
+or_later (Some n) later = Some n
+
+-- the first free one of so many places
+abbrev pub free_by : ℕ → Option ℕ → Option ℕ → Option ℕ
+free_by place None later = later
+free_by place (Some zero) later = Some place
+free_by place (Some (suc n)) later = later
+
+abbrev pub free_from : List ℕ → ℕ → ℕ → Option ℕ
+free_from slots zero place = None
+free_from slots (suc left) place = free_by (place_among (length slots) place) (slot_at slots place) (free_from slots left (suc place))
+
+-- the number of a value: none at a free place, else one whose value it is, else that of the later places, and at last of the map
+abbrev pub number_if : {V : Type 0} → (V → V → Bool) → Option V → ℕ → Option ℕ → V → Option ℕ
+number_if eq None n later v = later
+number_if eq (Some first) n later v = if eq first v then Some n else later
+
+abbrev pub number_of_slot : {V : Type 0} → (V → V → Bool) → List V → Option ℕ → Option ℕ → V → Option ℕ
+number_of_slot eq values None later v = later
+number_of_slot eq values (Some zero) later v = None
+number_of_slot eq values (Some (suc n)) later v = number_if eq (slice_get values n) n later v
+
+abbrev pub number_from : {V : Type 0} → (V → V → Bool) → List V → List ℕ → Option ℕ → ℕ → ℕ → V → Option ℕ
+number_from eq values slots other zero place v = other
+number_from eq values slots other (suc left) place v = number_of_slot eq values (slot_at slots place) (number_from eq values slots other left (suc place) v) v
+
+-- The first so many values are found at their places, or through the map. What the map has is right.
+pub record AreIndexed {V : Type 0} (eq : V → V → Bool) (hash : V → ℕ) (values : List V) (slots : List ℕ) (others : V → Option ℕ) (count : ℕ) : Type 0 where
+  pub right : (v : V) (n : ℕ) → others v ≡ Some n → slice_get values n ≡ Some v
+  pub all : (v : V) (n : ℕ) → n < count → slice_get values n ≡ Some v → number_from eq values slots (others v) tries (place_from (hash v)) v ≡ Some n
+
+-- the first free place of a hash
+abbrev pub free_of : List ℕ → ℕ → Option ℕ
+free_of slots hash = free_from slots tries (place_from hash)
+
+-- what lies at the places after a number is put at a place
+abbrev pub slots_after : Option ℕ → List ℕ → ℕ → List ℕ
+slots_after None slots n = slots
+slots_after (Some place) slots n = slice_set slots place (suc n)
+
+-- A number is put at the first free place of a value's hash, or else into the map.
+pub record IsPut {V : Type 0} (eq : V → V → Bool) (v : V) (hash n : ℕ) (slots news : List ℕ) (others new_others : V → Option ℕ) : Type 0 where
+  pub at_place : news ≡ slots_after (free_of slots hash) slots n
+  pub in_map : (w : V) → new_others w ≡ (if is_some (free_of slots hash) then others w else if eq v w then Some n else others w)
+
 -- ---- keys at places
 
--- what lies at each place, the entries there, and those of the sorted map of the others
+-- what lies at each place, each key with its number, and where those are among these whose places others have
 pub record KeyNumbers : Type 0 where
   pub slots : List ℕ
   pub entries : List (Key × ℕ)
   pub others : List (Key × ℕ)
 
 -- a hash of a key
-abbrev pub key_hash : Key → ℕ
+unfoldable pub key_hash : Key → ℕ
 key_hash key = mix (mix (mix key.0 key.1) key.2) key.3
 
--- the place of a key among so many, which are a power of two
-abbrev pub key_place : ℕ → Key → ℕ
-key_place count key = bit_and (key_hash key) (count - 1)
+abbrev pub keys_of : List (Key × ℕ) → List Key
+keys_of entries = map (λ e. e.0) entries
 
--- what lies at the place of a key: 0 if it is free, else one more than the place of an entry
-abbrev pub slot_of : List ℕ → Key → Option ℕ
-slot_of slots key = slice_get slots (key_place (length slots) key)
+-- where a key is among the entries
+abbrev pub index_of : KeyNumbers → Key → Option ℕ
+index_of m key = number_from key_eq (keys_of m.entries) m.slots (number_in m.others key) tries (place_from (key_hash key)) key
 
--- the number of a key by an entry: that of the entry if its key is this one, else another one
-abbrev pub number_of_entry : Option (Key × ℕ) → Option ℕ → Key → Option ℕ
-number_of_entry None other key = other
-number_of_entry (Some first) other key = if key_eq first.0 key then Some first.1 else other
-
--- the same by what lies at its place: none if it is free
-abbrev pub number_beside : List (Key × ℕ) → Option ℕ → Option ℕ → Key → Option ℕ
-number_beside entries None other key = other
-number_beside entries (Some next) other key = if next == 0 then None else number_of_entry (slice_get entries (next - 1)) other key
+-- the number of an entry
+abbrev pub number_of_entry : List (Key × ℕ) → Option ℕ → Option ℕ
+number_of_entry entries None = None
+number_of_entry entries (Some i) = option_map (λ e. e.1) (slice_get entries i)
 
 -- the number of a key
 abbrev pub number_at : KeyNumbers → Key → Option ℕ
-number_at m key = number_beside m.entries (slot_of m.slots key) (number_in m.others key) key
+number_at m key = number_of_entry m.entries (index_of m key)
 
--- no key whose place is free is among the others
-abbrev pub AreBehind : KeyNumbers → Type 0
-AreBehind m = (key : Key) → slot_of m.slots key ≡ Some 0 → number_in m.others key ≡ None
+-- each key is found
+abbrev pub AreKeysFound : KeyNumbers → Type 0
+AreKeysFound m = AreIndexed key_eq key_hash (keys_of m.entries) m.slots (number_in m.others) (length (keys_of m.entries))
 
--- ---- texts, by a hash and by themselves
+-- ---- texts
 
--- the bytes of a text behind their hash
-abbrev pub text_key : List ℕ → List ℕ
-text_key text = bytes_hash text ∷ text
+-- the number of a text among the entries of a sorted map
+abbrev pub text_number_in : List (String Global × ℕ) → List ℕ → Option ℕ
+text_number_in entries text = lookup (λ k. is_eq (slice_cmp nat_cmp text (string_bytes k))) entries
 
--- the same of a key of the map
-abbrev pub pair_key : ℕ × String Global → List ℕ
-pair_key k = k.0 ∷ string_bytes k.1
-
--- the number of a text among the entries of a map that is sorted so
-abbrev pub text_number_in : List ((ℕ × String Global) × ℕ) → List ℕ → Option ℕ
-text_number_in entries text = lookup (λ k. is_eq (slice_cmp nat_cmp (text_key text) (pair_key k))) entries
+-- The first so many texts are found.
+abbrev pub AreTextsFound : List (List ℕ) → List ℕ → List (String Global × ℕ) → ℕ → Type 0
+AreTextsFound texts slots others count = AreIndexed bytes_eq bytes_hash texts slots (text_number_in others) count
 
 -- ---- keys
 

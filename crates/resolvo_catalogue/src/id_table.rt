@@ -137,8 +137,8 @@ impl IdTable {
             { names = []; words = []; solvables = []; version_sets = []; unions = []; conditions = [] }) }
     {
         Ok(IdTable {
-            names: TextIds::new(alloc),
-            words: TextIds::new(alloc),
+            names: TextIds::new(alloc)?,
+            words: TextIds::new(alloc)?,
             solvables: Vec::new(alloc),
             version_sets: Numbered::new(alloc, room.version_sets)?,
             unions: Unions::new(alloc, room.unions)?,

@@ -1,10 +1,10 @@
-//! Numbers by keys of four numbers. The first key of each place lies among the entries, with its
-//! number; others of that place are found through a sorted map. So no choice of keys makes that slow.
-//! A key whose place is free has no number. Used by `id_table`.
+//! Numbers by keys of four numbers. A key is found at a place of its hash. Those whose places others
+//! have are in a sorted map. So no choice of keys makes that slow. Used by `id_table`.
 
-ghost use Rattle.std.specs.Prelude.{◌≡◌, ◌<◌, ◌≤◌, ◌+◌, length, false, IfOk, IsTrue, OnOk, OnErr, None, Some, slice_get, if◌then◌else◌};
-ghost use Rattle.resolvo_catalogue.specs.Found.{Key, key_eq, key_hash, key_place, number_at, number_in, number_of_entry};
+ghost use Rattle.std.specs.Prelude.{◌≡◌, ◌<◌, ◌≤◌, ◌+◌, [], ℕ, Option, length, IfOk, OnOk, OnErr, None, Some, slice_get, if◌then◌else◌};
+ghost use Rattle.resolvo_catalogue.specs.Found.{Key, IsPut, key_eq, key_hash, keys_of, number_at, number_from, number_if, number_in, number_of_slot, or_later, place_from, slot_at, tries};
 
+use crate::slots::{Slots, TRIES, first_place};
 use resolvo_catalogue_core::mixed;
 use std::alloc::{AllocError, Global};
 use std::collections::BTreeMap;
@@ -13,48 +13,70 @@ use std::marker::Model;
 /// The key of a value. It owns no memory, so that a look-up allocates nothing.
 pub type Key = (u32, u32, u32, u32);
 
-pub struct KeyMap {
-    /// What lies at each place: 0 if it is free, else one more than the place of an entry.
-    slots: Vec<u32>,
-    /// The first key of each place, and its number.
-    entries: Vec<(Key, u32)>,
-    /// The numbers of the keys whose place another key has.
+/// Where keys of a list are found.
+struct KeyIndex {
+    slots: Slots,
+    /// Where those keys are whose places others have.
     others: BTreeMap<Key, u32>,
+}
+
+// split for the prover: one drop for each
+impl Drop for KeyIndex {
+    fn drop(self) {
+        let KeyIndex {
+            slots: _,
+            others: _,
+        } = self;
+    }
+}
+
+pub struct KeyMap {
+    /// The keys and their numbers.
+    entries: Vec<(Key, u32)>,
+    index: KeyIndex,
 }
 
 // split for the prover: one drop for each
 impl Drop for KeyMap {
     fn drop(self) {
         let KeyMap {
-            slots: _,
             entries: _,
-            others: _,
+            index: _,
         } = self;
     }
 }
 
 impl Model for KeyMap {
-    ghost use Rattle.resolvo_catalogue.specs.Found.{KeyNumbers, AreBehind};
+    ghost use Rattle.resolvo_catalogue.specs.Found.{KeyNumbers, AreKeysFound};
 
     ghost Value = { KeyNumbers };
 
-    ghost view = { λ m. record { slots = m.slots.items; entries = m.entries.items; others = m.others.entries } };
+    ghost view = { λ m.
+        record {
+          slots = m.index.slots.numbers.items;
+          entries = m.entries.items;
+          others = m.index.others.entries;
+        } };
 
     ghost invariant = { λ m.
-        AreBehind (record { slots = m.slots.items; entries = m.entries.items; others = m.others.entries }) };
+        AreKeysFound
+        (record {
+          slots = m.index.slots.numbers.items;
+          entries = m.entries.items;
+          others = m.index.others.entries;
+        }) };
 }
 
 impl KeyMap {
     /// No keys, with places for so many. More keys are found more slowly.
-    #[tactic(auto, using(crate::proofs::KeyMapLemmas::free_numbers, crate::proofs::KeyMapLemmas::none_behind))]
+    #[tactic(auto, using(crate::proofs::KeyMapLemmas::no_number, crate::proofs::KeyMapLemmas::none_found))]
     pub fn new(alloc: Global, room: usize) -> Result<KeyMap, AllocError>
         ensures none { IfOk result (λ m. (key : Key) → number_at m key ≡ None) }
         ensures entries { IfOk result (λ m. length m.entries ≡ 0) }
     {
         Ok(KeyMap {
-            slots: vec![in alloc; 0; slot_count(room)]?,
             entries: Vec::new(alloc),
-            others: BTreeMap::new(alloc),
+            index: KeyIndex::new(alloc, slot_count(room))?,
         })
     }
 
@@ -62,33 +84,10 @@ impl KeyMap {
     pub fn number(&self, key: &Key) -> Option<u32>
         ensures { result ≡ number_at self.now key.now }
     {
-        match slot_at(&self.slots, place_of(key, self.slots.len())) {
-            None => self.others.get(key).copied(),
-            Some(next) => {
-                if next == 0 {
-                    None
-                } else {
-                    self.number_at(next - 1, key)
-                }
-            }
-        }
-    }
-
-    /// The number of a key whose place has this entry.
-    fn number_at(&self, at: u32, key: &Key) -> Option<u32>
-        ensures { result
-            ≡ number_of_entry (slice_get self.now.entries at) (number_in self.now.others key.now)
-            key.now }
-    {
+        let at = self.index.find(&self.entries, key)?;
         match entry_at(&self.entries, at) {
-            None => self.others.get(key).copied(),
-            Some(entry) => {
-                if is_key(&entry.0, key) {
-                    Some(entry.1)
-                } else {
-                    self.others.get(key).copied()
-                }
-            }
+            Some(entry) => Some(entry.1),
+            None => None,
         }
     }
 
@@ -101,14 +100,75 @@ impl KeyMap {
         ensures kept { OnErr result (self.new ≡ self.old) }
         ensures entries { length self.new.entries ≤ length self.old.entries + 1 }
     {
-        let at = place_of(&key, self.slots.len());
-        if is_free(&self.slots, at) {
-            let next = self.entries.len() as u32 + 1;
-            self.entries.push((key, number))?;
-            self.slots[at] = next;
+        let at = self.entries.len() as u32;
+        self.entries.reserve(1)?;
+        self.index.put(key, at)?;
+        self.entries.push_reserved((key, number));
+        Ok(())
+    }
+}
+
+impl KeyIndex {
+    /// So many places, and no keys.
+    fn new(alloc: Global, count: usize) -> Result<KeyIndex, AllocError>
+        ensures { IfOk result (λ x. x.others.entries ≡ []) }
+    {
+        Ok(KeyIndex {
+            slots: Slots::new(alloc, count)?,
+            others: BTreeMap::new(alloc),
+        })
+    }
+
+    /// Where a key is among the entries, if it is there.
+    fn find(&self, entries: &[(Key, u32)], key: &Key) -> Option<u32>
+        ensures { result
+            ≡ number_from key_eq (keys_of entries.now) self.now.slots.numbers.items
+            (number_in self.now.others.entries key.now) tries (place_from (key_hash key.now))
+            key.now }
+    {
+        let first = first_place(hash_of_key(key));
+        for tried in 0..TRIES {
+            if self.slots.is_free(first + tried) {
+                return None;
+            }
+            if let Some(at) = self.number_at(entries, key, first + tried) {
+                return Some(at);
+            }
+        }
+        self.others.get(key).copied()
+    }
+
+    /// What lies at a place that isn't free, if it is where the key is.
+    #[tactic(auto, using(crate::proofs::IndexLemmas::slot_none, crate::proofs::IndexLemmas::slot_some))]
+    fn number_at(&self, entries: &[(Key, u32)], key: &Key, place: usize) -> Option<u32>
+        requires { slot_at self.now.slots.numbers.items place ≡ Some 0 → ⊥ }
+        ensures { (later : Option ℕ)
+            → number_of_slot key_eq (keys_of entries.now)
+            (slot_at self.now.slots.numbers.items place) later key.now
+            ≡ or_later result later }
+    {
+        let at = self.slots.number_at(place)?;
+        if is_there(entries, at, key) {
+            Some(at)
+        } else {
+            None
+        }
+    }
+
+    /// Puts where a key is at its place.
+    fn put(&mut self, key: Key, at: u32) -> Result<(), AllocError>
+        requires { at < 4294967295 }
+        ensures put { OnOk result
+            (IsPut key_eq key (key_hash key) at self.old.slots.numbers.items
+            self.new.slots.numbers.items (number_in self.old.others.entries)
+            (number_in self.new.others.entries)) }
+        ensures kept { OnErr result (self.new ≡ self.old) }
+    {
+        let placed = self.slots.put(hash_of_key(&key), at);
+        if placed {
             return Ok(());
         }
-        self.others.insert(key, number)?;
+        self.others.insert(key, at)?;
         Ok(())
     }
 }
@@ -124,13 +184,6 @@ fn slot_count(room: usize) -> usize {
     count
 }
 
-/// What lies at a place, if there is one.
-fn slot_at(slots: &[u32], at: usize) -> Option<u32>
-    ensures { result ≡ slice_get slots.now at }
-{
-    slots.get(at).copied()
-}
-
 /// An entry, if there is one.
 fn entry_at(entries: &[(Key, u32)], at: u32) -> Option<(Key, u32)>
     ensures { result ≡ slice_get entries.now at }
@@ -138,14 +191,15 @@ fn entry_at(entries: &[(Key, u32)], at: u32) -> Option<(Key, u32)>
     entries.get(at as usize).copied()
 }
 
-/// Whether there is a place, and nothing lies there.
-fn is_free(slots: &[u32], at: usize) -> bool
-    ensures free { IsTrue result → slice_get slots.now at ≡ Some 0 }
-    ensures taken { result ≡ false → slice_get slots.now at ≡ Some 0 → ⊥ }
+/// Whether a key is there among the entries.
+fn is_there(entries: &[(Key, u32)], at: u32, key: &Key) -> bool
+    ensures { (later : Option ℕ)
+        → number_if key_eq (slice_get (keys_of entries.now) at) at later key.now
+        ≡ (if result then Some at else later) }
 {
-    match slot_at(slots, at) {
-        Some(0) => true,
-        _ => false,
+    match entry_at(entries, at) {
+        Some(entry) => is_key(&entry.0, key),
+        None => false,
     }
 }
 
@@ -156,14 +210,8 @@ fn is_key(first: &Key, key: &Key) -> bool
     first.cmp(key).is_eq()
 }
 
-/// The place of a key among so many, which are a power of two.
-fn place_of(key: &Key, count: usize) -> usize
-    ensures { result ≡ key_place count key.now }
-{
-    hash_of_key(key) & count.saturating_sub(1)
-}
-
 /// A hash of a key.
+#[tactic(auto, unfolding(crate::specs::Found::key_hash))]
 fn hash_of_key(key: &Key) -> usize
     ensures { result ≡ key_hash key.now }
 {

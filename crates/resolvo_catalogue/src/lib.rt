@@ -4,10 +4,10 @@
 mod candidate_flags;
 mod dependencies;
 pub mod dependency_provider;
-mod guesses;
 mod id_table;
 mod key_map;
 pub mod provider;
+mod slots;
 mod text_ids;
 mod versions;
 

@@ -1,90 +1,79 @@
 //! Texts, each numbered once, in the order in which they are added. The model is the list of them.
-//! A text is found through a map that is sorted by hashes, and by texts where these are the same. So
-//! no choice of texts makes that slow. Used by `id_table`.
+//! A text is found at a place of its hash. Those whose places others have are in a sorted map. So no
+//! choice of texts makes that slow. Used by `id_table`.
 
-ghost use Rattle.std.specs.Prelude.{◌≡◌, ◌≤◌, ◌+◌, [], IfOk, IfSome, IsErrOf, ℕ, length, slice_get, Some, None};
+ghost use Rattle.std.specs.Prelude.{◌≡◌, ◌≤◌, ◌<◌, ◌+◌, [], ℕ, List, Option, if◌then◌else◌, map, IfOk, IfSome, IsErrOf, OnOk, OnErr, length, slice_get, Some, None};
 ghost use Rattle.resolvo_pool_core.specs.declared.want.Want.TheVariants.{Ids};
 ghost use Rattle.std.specs.Option.{option_map};
+ghost use Rattle.std.specs.Str.{bytes_eq};
 ghost use Rattle.std.specs.String.{string_bytes};
 ghost use Rattle.resolvo_catalogue.specs.Ids.{Extends, IsPlaced, AreOnce};
 ghost use Rattle.resolvo_catalogue_core.specs.Hash.{bytes_hash};
+ghost use Rattle.resolvo_catalogue.specs.Found.{AreTextsFound, IsPut, number_from, number_if, number_of_slot, or_later, place_from, slot_at, text_number_in, tries};
 
-use crate::guesses::Guesses;
+use crate::slots::{Slots, TRIES, first_place};
 use resolvo_catalogue_core::hash_of;
 use resolvo_pool_core::id::next_index;
 use resolvo_pool_core::want::R;
-use std::alloc::Global;
+use std::alloc::{AllocError, Global};
 use std::collections::BTreeMap;
 use std::marker::Model;
 
+/// Where texts of a list are found.
+struct TextIndex {
+    slots: Slots,
+    /// The numbers of the texts whose places others have.
+    others: BTreeMap<String, u32>,
+}
+
+// split for the prover: one drop for each
+impl Drop for TextIndex {
+    fn drop(self) {
+        let TextIndex {
+            slots: _,
+            others: _,
+        } = self;
+    }
+}
+
 pub struct TextIds {
     texts: Vec<String>,
-    /// The number of each text, by its hash and itself: numbers are compared faster than texts.
-    ids: BTreeMap<(usize, String), u32>,
-    guesses: Guesses,
+    index: TextIndex,
 }
 
 // split for the prover: one drop for each
 impl Drop for TextIds {
     fn drop(self) {
-        let TextIds {
-            texts: _,
-            ids: _,
-            guesses: _,
-        } = self;
+        let TextIds { texts: _, index: _ } = self;
     }
 }
 
 impl Model for TextIds {
-    ghost use Rattle.std.specs.Prelude.{List, ℕ, map};
+    ghost use Rattle.std.specs.Prelude.{List, ℕ, map, length};
     ghost use Rattle.std.specs.String.{string_bytes};
-    ghost use Rattle.resolvo_catalogue.specs.Found.{AreFound, text_number_in};
+    ghost use Rattle.resolvo_catalogue.specs.Found.{AreTextsFound};
 
     ghost Value = { List (List ℕ) };
 
     ghost view = { λ t. map string_bytes t.texts.items };
 
-    ghost invariant = { λ t. AreFound (text_number_in t.ids.entries) (map string_bytes t.texts.items) };
+    ghost invariant = { λ t.
+        AreTextsFound (map string_bytes t.texts.items) t.index.slots.numbers.items
+        t.index.others.entries (length (map string_bytes t.texts.items)) };
 }
 
 impl TextIds {
-    pub fn new(alloc: Global) -> TextIds
-        ensures { result ≡ [] }
+    pub fn new(alloc: Global) -> Result<TextIds, AllocError>
+        ensures { IfOk result (λ t. t ≡ []) }
     {
-        TextIds {
+        Ok(TextIds {
             texts: Vec::new(alloc),
-            ids: BTreeMap::new(alloc),
-            guesses: Guesses::new(alloc),
-        }
+            index: TextIndex::new(alloc, 0)?,
+        })
     }
 
-    /// The number that is guessed for a text, if it is right.
-    fn guessed(&self, hash: usize, text: &str) -> Option<u32>
-        ensures { IfSome result (λ i. slice_get self.now i ≡ Some text.now) }
-    {
-        let id = self.guesses.at(hash)?;
-        match self.text(id) {
-            Some(found) if found == text => Some(id),
-            _ => None,
-        }
-    }
-
-    /// The number of a key's text, if it has one.
-    fn find(&self, key: &(usize, String)) -> Option<u32>
-        requires { key.now.0 ≡ bytes_hash (string_bytes key.now.1) }
-        ensures found { IfSome result (λ i. slice_get self.now i ≡ Some (string_bytes key.now.1)) }
-        ensures absent { result ≡ None
-            → (i : ℕ)
-            → slice_get self.now i ≡ Some (string_bytes key.now.1)
-            → ⊥ }
-    {
-        self.ids.get(key).copied()
-    }
-
-    /// Numbers a text that has no number, by its key.
-    fn add(&mut self, alloc: Global, key: (usize, String), text: &str) -> R<u32>
-        requires hash { key.0 ≡ bytes_hash text.now }
-        requires text { string_bytes key.1 ≡ text.now }
+    /// Numbers a text that has no number.
+    fn add(&mut self, alloc: Global, text: &str) -> R<u32>
         requires absent { (i : ℕ) → slice_get self.old i ≡ Some text.now → ⊥ }
         // After an answer.
         ensures text { IfOk result (λ i. slice_get self.new i ≡ Some text.now) }
@@ -98,9 +87,19 @@ impl TextIds {
         let index = next_index(self.texts.len())?;
         let kept = String::from_str(alloc, text)?;
         self.texts.reserve(1)?;
-        self.ids.insert(key, index as u32)?;
+        self.index.put(alloc, text, index as u32)?;
         self.texts.push_reserved(kept);
         Ok(index as u32)
+    }
+
+    /// Makes room for one text more, so that few texts share their places.
+    fn make_room(&mut self, alloc: Global) -> Result<(), AllocError>
+        ensures { self.new ≡ self.old }
+    {
+        if let Some(places) = self.index.slots.more_for(self.texts.len()) {
+            self.index = TextIndex::of(alloc, &self.texts, places)?;
+        }
+        Ok(())
     }
 
     /// The number of a text, a new one where it has none.
@@ -111,17 +110,21 @@ impl TextIds {
         ensures few { length self.new ≤ length self.old + 1 }
         ensures ids { IsErrOf result Ids → 4294967295 ≤ length self.new }
     {
-        let hash = hash_of(text.as_bytes());
-        if let Some(id) = self.guessed(hash, text) {
-            return Ok(id);
+        match self.find(text) {
+            Some(id) => Ok(id),
+            None => {
+                self.make_room(alloc)?;
+                self.add(alloc, text)
+            }
         }
-        let key = (hash, String::from_str(alloc, text)?);
-        let id = match self.find(&key) {
-            Some(id) => id,
-            None => self.add(alloc, key, text)?,
-        };
-        self.guesses.note(alloc, hash, id)?;
-        Ok(id)
+    }
+
+    /// The number of a text, if it has one.
+    fn find(&self, text: &str) -> Option<u32>
+        ensures found { IfSome result (λ i. slice_get self.now i ≡ Some text.now) }
+        ensures absent { result ≡ None → (i : ℕ) → slice_get self.now i ≡ Some text.now → ⊥ }
+    {
+        self.index.number(&self.texts, text)
     }
 
     /// The text of a number.
@@ -139,5 +142,99 @@ impl TextIds {
         ensures { AreOnce self.now }
     {
         let _texts = &self.texts;
+    }
+}
+
+impl TextIndex {
+    /// So many places, and no texts.
+    fn new(alloc: Global, count: usize) -> Result<TextIndex, AllocError>
+        ensures { IfOk result
+            (λ x. (texts : List (List ℕ))
+            → AreTextsFound texts x.slots.numbers.items x.others.entries 0) }
+    {
+        Ok(TextIndex {
+            slots: Slots::new(alloc, count)?,
+            others: BTreeMap::new(alloc),
+        })
+    }
+
+    /// The places of texts.
+    fn of(alloc: Global, texts: &[String], count: usize) -> Result<TextIndex, AllocError>
+        requires once { AreOnce (map string_bytes texts.now) }
+        requires few { length texts.now < 4294967295 }
+        ensures { IfOk result
+            (λ x. AreTextsFound (map string_bytes texts.now) x.slots.numbers.items x.others.entries
+            (length (map string_bytes texts.now))) }
+    {
+        let mut index = TextIndex::new(alloc, count)?;
+        for number in 0..texts.len() {
+            index.put(alloc, texts[number].as_str(), number as u32)?;
+        }
+        Ok(index)
+    }
+
+    /// The number of a text, if it has one.
+    fn number(&self, texts: &[String], text: &str) -> Option<u32>
+        ensures { result
+            ≡ number_from bytes_eq (map string_bytes texts.now) self.now.slots.numbers.items
+            (text_number_in self.now.others.entries text.now) tries
+            (place_from (bytes_hash text.now)) text.now }
+    {
+        let first = first_place(hash_of(text.as_bytes()));
+        for tried in 0..TRIES {
+            if self.slots.is_free(first + tried) {
+                return None;
+            }
+            if let Some(number) = self.number_at(texts, text, first + tried) {
+                return Some(number);
+            }
+        }
+        self.others.get(text).copied()
+    }
+
+    /// The number at a place that isn't free, if it is that of the text.
+    #[tactic(auto, using(crate::proofs::IndexLemmas::slot_none, crate::proofs::IndexLemmas::slot_some))]
+    fn number_at(&self, texts: &[String], text: &str, place: usize) -> Option<u32>
+        requires { slot_at self.now.slots.numbers.items place ≡ Some 0 → ⊥ }
+        ensures { (later : Option ℕ)
+            → number_of_slot bytes_eq (map string_bytes texts.now)
+            (slot_at self.now.slots.numbers.items place) later text.now
+            ≡ or_later result later }
+    {
+        let number = self.slots.number_at(place)?;
+        if is_text(texts, number, text) {
+            Some(number)
+        } else {
+            None
+        }
+    }
+
+    /// Puts the number of a text at its place.
+    fn put(&mut self, alloc: Global, text: &str, number: u32) -> Result<(), AllocError>
+        requires { number < 4294967295 }
+        ensures put { OnOk result
+            (IsPut bytes_eq text.now (bytes_hash text.now) number self.old.slots.numbers.items
+            self.new.slots.numbers.items (text_number_in self.old.others.entries)
+            (text_number_in self.new.others.entries)) }
+        ensures kept { OnErr result (self.new ≡ self.old) }
+    {
+        let placed = self.slots.put(hash_of(text.as_bytes()), number);
+        if placed {
+            return Ok(());
+        }
+        self.others.insert(String::from_str(alloc, text)?, number)?;
+        Ok(())
+    }
+}
+
+/// Whether a text is that of a number.
+fn is_text(texts: &[String], number: u32, text: &str) -> bool
+    ensures { (later : Option ℕ)
+        → number_if bytes_eq (slice_get (map string_bytes texts.now) number) number later text.now
+        ≡ (if result then Some number else later) }
+{
+    match texts.get(number as usize) {
+        Some(found) => found.as_str() == text,
+        None => false,
     }
 }
