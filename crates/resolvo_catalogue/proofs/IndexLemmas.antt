@@ -85,7 +85,7 @@ module _ {V : Type 0} (eq : V → V → Bool) (values : List V) (slots : List �
   pub slot_none : (s later : Option ℕ) → (s ≡ Some 0 → ⊥) → None ≡ number_in_slot s → number_of_slot eq values s later v ≡ later
   slot_none None later taken is = refl
   slot_none (Some zero) later taken is = absurd (taken refl)
-  slot_none (Some (suc n)) later taken is = absurd (none-some n (sym is))
+  slot_none (Some (suc n)) later taken is = absurd (none-some n is)
 
   pub slot_some : (s later : Option ℕ) (n : ℕ) → Some n ≡ number_in_slot s → number_of_slot eq values s later v ≡ number_if eq (slice_get values n) n later v
   slot_some None later n is = absurd (none-some n (sym is))
@@ -96,12 +96,12 @@ module _ {V : Type 0} (eq : V → V → Bool) (values : List V) (slots : List �
 
 free_is : (slots : List ℕ) (left place p : ℕ) → free_from slots left place ≡ Some p → slice_get slots p ≡ Some 0
 free_is slots zero place p e = absurd (none-some p e)
-free_is slots (suc left) place p e = go (slot_at slots place) refl e
+free_is slots (suc left) place p e = go (λ f. free_is slots left (suc place) p f) (slot_at slots place) refl e
   where
-    go : (s : Option ℕ) → slot_at slots place ≡ s → free_by (place_among (length slots) place) s (free_from slots left (suc place)) ≡ Some p → slice_get slots p ≡ Some 0
-    go None is f = free_is slots left (suc place) p f
-    go (Some zero) is f = subst (λ (n : ℕ). slice_get slots n ≡ Some 0) (same_Some (place_among (length slots) place) p f) is
-    go (Some (suc m)) is f = free_is slots left (suc place) p f
+    go : (free_from slots left (suc place) ≡ Some p → slice_get slots p ≡ Some 0) → (s : Option ℕ) → slot_at slots place ≡ s → free_by (place_among (length slots) place) s (free_from slots left (suc place)) ≡ Some p → slice_get slots p ≡ Some 0
+    go more None is f = more f
+    go more (Some zero) is f = subst (λ (n : ℕ). slice_get slots n ≡ Some 0) (same_Some (place_among (length slots) place) p f) is
+    go more (Some (suc m)) is f = more f
 
 -- what lies at a place after a number is put at a free one
 module _ (slots : List ℕ) (p n : ℕ) (free : slice_get slots p ≡ Some 0) where
@@ -124,21 +124,21 @@ module _ {V : Type 0} (eq : V → V → Bool) (exact : (x y : V) → eq x y ≡ 
   from_right : (values : List V) (slots : List ℕ) (other : Option ℕ) (v : V) (n : ℕ) → (other ≡ Some n → slice_get values n ≡ Some v) → (left place : ℕ)
       → number_from eq values slots other left place v ≡ Some n → slice_get values n ≡ Some v
   from_right values slots other v n right zero place e = right e
-  from_right values slots other v n right (suc left) place e = go (slot_at slots place) e
+  from_right values slots other v n right (suc left) place e = go (λ f. from_right values slots other v n right left (suc place) f) (slot_at slots place) e
     where
-      value : (m : ℕ) (o : Option V) → slice_get values m ≡ o → number_if eq o m (number_from eq values slots other left (suc place) v) v ≡ Some n → slice_get values n ≡ Some v
-      value m None is f = from_right values slots other v n right left (suc place) f
-      value m (Some first) is f = elim (cases_Bool (eq first v)) [
+      value : (number_from eq values slots other left (suc place) v ≡ Some n → slice_get values n ≡ Some v) → (m : ℕ) (o : Option V) → slice_get values m ≡ o → number_if eq o m (number_from eq values slots other left (suc place) v) v ≡ Some n → slice_get values n ≡ Some v
+      value more m None is f = more f
+      value more m (Some first) is f = elim (cases_Bool (eq first v)) [
         | inl same ↦
             let one : m ≡ n = same_Some m n (sym (ap (λ (b : Bool). cond b (Some m) (number_from eq values slots other left (suc place) v)) same) ∙ f) in
             subst (λ (k : ℕ). slice_get values k ≡ Some v) one (is ∙ ap (λ (x : V). Some x) (exact first v same))
-        | inr apart ↦ from_right values slots other v n right left (suc place) (sym (ap (λ (b : Bool). cond b (Some m) (number_from eq values slots other left (suc place) v)) apart) ∙ f)
+        | inr apart ↦ more (sym (ap (λ (b : Bool). cond b (Some m) (number_from eq values slots other left (suc place) v)) apart) ∙ f)
       ]
 
-      go : (s : Option ℕ) → number_of_slot eq values s (number_from eq values slots other left (suc place) v) v ≡ Some n → slice_get values n ≡ Some v
-      go None f = from_right values slots other v n right left (suc place) f
-      go (Some zero) f = absurd (none-some n f)
-      go (Some (suc m)) f = value m (slice_get values m) refl f
+      go : (number_from eq values slots other left (suc place) v ≡ Some n → slice_get values n ≡ Some v) → (s : Option ℕ) → number_of_slot eq values s (number_from eq values slots other left (suc place) v) v ≡ Some n → slice_get values n ≡ Some v
+      go more None f = more f
+      go more (Some zero) f = absurd (none-some n f)
+      go more (Some (suc m)) f = value more m (slice_get values m) refl f
 
   module _ (hash : V → ℕ) (values : List V) (slots : List ℕ) (others : V → Option ℕ) where
     abbrev number : V → Option ℕ
@@ -212,7 +212,7 @@ module _ {V : Type 0} (eq : V → V → Bool) (exact : (x y : V) → eq x y ≡ 
 
     own_placed : (slots : List ℕ) (p : ℕ) → slice_get slots p ≡ Some 0 → (other : Option ℕ) (left place : ℕ) → free_from slots left place ≡ Some p → number_from eq news (slice_set slots p (suc n)) other left place v ≡ Some n
     own_placed slots p free other zero place e = absurd (none-some p e)
-    own_placed slots p free other (suc left) place e = go (slot_at slots place) refl e
+    own_placed slots p free other (suc left) place e = go (λ f. own_placed slots p free other left (suc place) f) (slot_at slots place) refl e
       where
         through : (s : Option ℕ) → slot_at (slice_set slots p (suc n)) place ≡ s → number_of_slot eq news s (number_from eq news (slice_set slots p (suc n)) other left (suc place) v) v ≡ Some n → number_of_slot eq news (slot_at (slice_set slots p (suc n)) place) (number_from eq news (slice_set slots p (suc n)) other left (suc place) v) v ≡ Some n
         through s is f = subst (λ (o : Option ℕ). number_of_slot eq news o (number_from eq news (slice_set slots p (suc n)) other left (suc place) v) v ≡ Some n) (sym is) f
@@ -220,25 +220,25 @@ module _ {V : Type 0} (eq : V → V → Bool) (exact : (x y : V) → eq x y ≡ 
         none_zero : ◌≡◌ {A = Option ℕ} None (Some zero) → ⊥
         none_zero f = cc
 
-        go : (s : Option ℕ) → slot_at slots place ≡ s → free_by (place_among (length slots) place) s (free_from slots left (suc place)) ≡ Some p → number_of_slot eq news (slot_at (slice_set slots p (suc n)) place) (number_from eq news (slice_set slots p (suc n)) other left (suc place) v) v ≡ Some n
-        go None is f = elim (kept slots p n free place) [
+        go : (free_from slots left (suc place) ≡ Some p → number_from eq news (slice_set slots p (suc n)) other left (suc place) v ≡ Some n) → (s : Option ℕ) → slot_at slots place ≡ s → free_by (place_among (length slots) place) s (free_from slots left (suc place)) ≡ Some p → number_of_slot eq news (slot_at (slice_set slots p (suc n)) place) (number_from eq news (slice_set slots p (suc n)) other left (suc place) v) v ≡ Some n
+        go more None is f = elim (kept slots p n free place) [
           | inl there ↦ absurd (none_zero (sym is ∙ there))
-          | inr same ↦ through None (same ∙ is) (own_placed slots p free other left (suc place) f)
+          | inr same ↦ through None (same ∙ is) (more f)
         ]
-        go (Some zero) is f = through (Some (suc n)) (here slots p n free place (sym (same_Some (place_among (length slots) place) p f))) (at_own (number_from eq news (slice_set slots p (suc n)) other left (suc place) v))
-        go (Some (suc m)) is f = elim (kept slots p n free place) [
+        go more (Some zero) is f = through (Some (suc n)) (here slots p n free place (sym (same_Some (place_among (length slots) place) p f))) (at_own (number_from eq news (slice_set slots p (suc n)) other left (suc place) v))
+        go more (Some (suc m)) is f = elim (kept slots p n free place) [
           | inl there ↦ absurd (zero_some m (sym is ∙ there))
-          | inr same ↦ through (Some (suc m)) (same ∙ is) (value_own m (number_from eq news (slice_set slots p (suc n)) other left (suc place) v) (own_placed slots p free other left (suc place) f) (slice_get news m) refl)
+          | inr same ↦ through (Some (suc m)) (same ∙ is) (value_own m (number_from eq news (slice_set slots p (suc n)) other left (suc place) v) (more f) (slice_get news m) refl)
         ]
 
     own_mapped : (slots : List ℕ) (other : Option ℕ) → other ≡ Some n → (left place : ℕ) → free_from slots left place ≡ None → number_from eq news slots other left place v ≡ Some n
     own_mapped slots other is zero place e = is
-    own_mapped slots other is (suc left) place e = go (slot_at slots place) e
+    own_mapped slots other is (suc left) place e = go (λ f. own_mapped slots other is left (suc place) f) (slot_at slots place) e
       where
-        go : (s : Option ℕ) → free_by (place_among (length slots) place) s (free_from slots left (suc place)) ≡ None → number_of_slot eq news s (number_from eq news slots other left (suc place) v) v ≡ Some n
-        go None f = own_mapped slots other is left (suc place) f
-        go (Some zero) f = absurd (none-some (place_among (length slots) place) (sym f))
-        go (Some (suc m)) f = value_own m (number_from eq news slots other left (suc place) v) (own_mapped slots other is left (suc place) f) (slice_get news m) refl
+        go : (free_from slots left (suc place) ≡ None → number_from eq news slots other left (suc place) v ≡ Some n) → (s : Option ℕ) → free_by (place_among (length slots) place) s (free_from slots left (suc place)) ≡ None → number_of_slot eq news s (number_from eq news slots other left (suc place) v) v ≡ Some n
+        go more None f = more f
+        go more (Some zero) f = absurd (none-some (place_among (length slots) place) (sym f))
+        go more (Some (suc m)) f = value_own m (number_from eq news slots other left (suc place) v) (more f) (slice_get news m) refl
 
   -- ---- one more
 

@@ -4,9 +4,9 @@ use Rattle.std.specs.Prelude.{slice_get}
 use Rattle.std.specs.Option.{option_map}
 use Rattle.std.proofs.lemmas.Bool.{cases_Bool}
 use Rattle.std.proofs.lemmas.List.{length-map, map_push}
-use Rattle.std.proofs.lemmas.Option.{none-some, slice_get_within}
+use Rattle.std.proofs.lemmas.Option.{none-some, slice_get-map, slice_get_within}
 use Rattle.resolvo_catalogue_core.proofs.Pushed.{get_new, get_kept, get_push}
-use Rattle.resolvo_catalogue.specs.Found.{Key, AreIndexed, AreKeysFound, IsPut, key_eq, key_hash, keys_of, index_of, number_in, number_of_entry, number_at}
+use Rattle.resolvo_catalogue.specs.Found.{Key, KeyNumbers, AreIndexed, AreKeysFound, IsPut, key_eq, key_hash, keys_of, index_of, number_from, number_if, number_in, number_of_entry, number_at, place_from, tries}
 use Rattle.resolvo_catalogue.proofs.FoundLemmas.{keys_exact, keys_own}
 use Rattle.resolvo_catalogue.proofs.IndexLemmas.{index_none, index_push, indexed_found, indexed_absent}
 
@@ -39,6 +39,37 @@ entry_of (e ∷ es) (suc i) k at = entry_of es i k at
 
 entry_number : (entries : List Entry) (i : ℕ) (e : Entry) → slice_get entries i ≡ Some e → number_of_entry entries (Some i) ≡ Some e.1
 entry_number entries i e at = ap (λ (o : Option Entry). option_map (λ x. x.1) o) at
+
+-- whether a key is that of an entry
+pub entry_if : (entries : List Entry) (at : ℕ) (key : Key) (entry : Entry) (found : Bool) → Some entry ≡ slice_get entries at → found ≡ key_eq entry.0 key → (later : Option ℕ) → number_if key_eq (slice_get (keys_of entries) at) at later key ≡ cond found (Some at) later
+entry_if entries at key entry found there is later =
+    ap (λ (o : Option Key). number_if key_eq o at later key) (slice_get-map (λ (e : Entry). e.0) entries at ∙ sym (ap (λ (o : Option Entry). option_map (λ (e : Entry). e.0) o) there))
+    ∙ ap (λ (b : Bool). cond b (Some at) later) (sym is)
+
+pub entry_none : (entries : List Entry) (at : ℕ) (key : Key) → None ≡ slice_get entries at → (later : Option ℕ) → number_if key_eq (slice_get (keys_of entries) at) at later key ≡ later
+entry_none entries at key gone later =
+    ap (λ (o : Option Key). number_if key_eq o at later key) (slice_get-map (λ (e : Entry). e.0) entries at ∙ sym (ap (λ (o : Option Entry). option_map (λ (e : Entry). e.0) o) gone))
+
+-- the number of an entry that is found
+number_there : (entries : List Entry) (o : Option ℕ) (i : ℕ) (e : Entry) → Some i ≡ o → Some e ≡ slice_get entries i → Some e.1 ≡ number_of_entry entries o
+number_there entries o i e found at = sym (ap (λ (o : Option ℕ). number_of_entry entries o) (sym found) ∙ entry_number entries i e (sym at))
+
+number_gone : (entries : List Entry) (o : Option ℕ) (i : ℕ) → Some i ≡ o → None ≡ slice_get entries i → None ≡ number_of_entry entries o
+number_gone entries o i found gone = ap (λ (x : Option Entry). option_map (λ (e : Entry). e.1) x) gone ∙ ap (λ (o : Option ℕ). number_of_entry entries o) found
+
+-- the same for what lies at places, of which the list is read again
+module _ (slots : List ℕ) (entries others : List Entry) (now : KeyNumbers) (is : record { slots = slots; entries = entries; others = others } ≡ now) (list again : List Entry) (same : list ≡ entries) (alike : again ≡ entries) (key : Key) (i : ℕ)
+    (found : Some i ≡ number_from key_eq (keys_of list) slots (number_in others key) tries (place_from (key_hash key)) key) where
+  at_list : Some i ≡ index_of (record { slots = slots; entries = entries; others = others }) key
+  at_list = found ∙ ap (λ (es : List Entry). number_from key_eq (keys_of es) slots (number_in others key) tries (place_from (key_hash key)) key) same
+
+  pub found_number : (e : Entry) → Some e ≡ slice_get again i → Some e.1 ≡ number_at now key
+  found_number e at = subst (λ (m : KeyNumbers). Some e.1 ≡ number_at m key) is
+      (number_there entries (index_of (record { slots = slots; entries = entries; others = others }) key) i e at_list (at ∙ ap (λ (es : List Entry). slice_get es i) alike))
+
+  pub found_none : None ≡ slice_get again i → None ≡ number_at now key
+  found_none gone = subst (λ (m : KeyNumbers). None ≡ number_at m key) is
+      (number_gone entries (index_of (record { slots = slots; entries = entries; others = others }) key) i at_list (gone ∙ ap (λ (es : List Entry). slice_get es i) alike))
 
 module _ (slots slots' : List ℕ) (entries others others' : List Entry) (key : Key) (n : ℕ) (h : AreKeysFound (record { slots = slots; entries = entries; others = others }))
     (none : number_at (record { slots = slots; entries = entries; others = others }) key ≡ None) (index : ℕ) (is : index ≡ length entries) (put : IsPut key_eq key (key_hash key) index slots slots' (number_in others) (number_in others')) where

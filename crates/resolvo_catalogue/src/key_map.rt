@@ -162,7 +162,8 @@ impl KeyIndex {
             (IsPut key_eq key (key_hash key) at self.old.slots.numbers.items
             self.new.slots.numbers.items (number_in self.old.others.entries)
             (number_in self.new.others.entries)) }
-        ensures kept { OnErr result (self.new ≡ self.old) }
+        ensures slots { OnErr result (self.new.slots ≡ self.old.slots) }
+        ensures others { OnErr result (self.new.others.entries ≡ self.old.others.entries) }
     {
         let placed = self.slots.put(hash_of_key(&key), at);
         if placed {

@@ -216,7 +216,8 @@ impl TextIndex {
             (IsPut bytes_eq text.now (bytes_hash text.now) number self.old.slots.numbers.items
             self.new.slots.numbers.items (text_number_in self.old.others.entries)
             (text_number_in self.new.others.entries)) }
-        ensures kept { OnErr result (self.new ≡ self.old) }
+        ensures slots { OnErr result (self.new.slots ≡ self.old.slots) }
+        ensures others { OnErr result (self.new.others.entries ≡ self.old.others.entries) }
     {
         let placed = self.slots.put(hash_of(text.as_bytes()), number);
         if placed {

@@ -19,12 +19,12 @@ returns-then-is_free c =
 pub returns-in-Some : goal.returns-in-Some
 returns-in-Some c =
     number_here bytes_eq (map string_bytes c.args.texts.now) c.args.self.now.slots.numbers.items (text_number_in c.args.self.now.others.entries c.args.text.now) c.args.text.now c.loop-tried.tried c.first_place-first.result _
-    c.loop-tried-test.true c.loop-tried.invariant (Some c.in-Some.number) (λ later. c.number_at.ensures later ∙ ap (λ (o : Option ℕ). or_later o later) (sym c.in-Some.ensures))
+    c.loop-tried-test.true c.loop-tried.invariant (Some c.in-Some.number) (λ later. c.in-Some.ensures later)
 
 pub loop-tried-preserved : goal.loop-tried-preserved
 loop-tried-preserved c =
     number_here bytes_eq (map string_bytes c.args.texts.now) c.args.self.now.slots.numbers.items (text_number_in c.args.self.now.others.entries c.args.text.now) c.args.text.now c.loop-tried.tried c.first_place-first.result _
-    c.loop-tried-test.true c.loop-tried.invariant None (λ later. c.number_at.ensures later ∙ ap (λ (o : Option ℕ). or_later o later) (sym c.in_default.ensures))
+    c.loop-tried-test.true c.loop-tried.invariant None (λ later. c.in_default.ensures later)
 
 pub returns : goal.returns
 returns c =

@@ -1,4 +1,4 @@
-use Rattle.std.proofs.Common.{◌≡◌, ◌∙◌, ◌+◌, ℕ, suc, List, Some, map, length, ap, subst, Global, arith}
+use Rattle.std.proofs.Common.{◌≡◌, ◌∙◌, ◌+◌, ℕ, suc, List, Some, map, length, refl, ap, subst, Global, arith}
 use Rattle.std.specs.Prelude.{slice_get}
 use Rattle.std.specs.Option.{option_map}
 use Rattle.std.specs.Str.{bytes_eq}
@@ -17,8 +17,7 @@ loop-number-init c = c.in_ok-index.ensures (map string_bytes c.args.texts.now)
 pub loop-number-preserved : goal.loop-number-preserved
 loop-number-preserved c =
     let texts : List (List ℕ) = map string_bytes c.args.texts.now in
-    let count : c.len.result ≡ length c.args.texts.now = omega (arith, c.len.ensures) in
-    let read : slice_get c.args.texts.now c.loop-number.number ≡ Some c.index-texts-number.result = slice_get_read c.args.texts.now c.len.result c.loop-number.number c.index-texts-number.result count c.loop-number-test.true c.index-texts-number.is in
+    let read : slice_get c.args.texts.now c.loop-number.number ≡ Some c.index-texts-number.result = slice_get_read c.args.texts.now (length c.args.texts.now) c.loop-number.number c.index-texts-number.result refl c.loop-number-test.true c.index-texts-number.is in
     let at : slice_get (map string_bytes c.args.texts.now) c.loop-number.number ≡ Some (string_bytes c.index-texts-number.result) = slice_get-map string_bytes c.args.texts.now c.loop-number.number ∙ ap (λ o. option_map string_bytes o) read in
     let put = subst (λ (t : List ℕ). IsPut bytes_eq t (bytes_hash t) c.loop-number.number c.loop-number.index.slots.numbers.items c.put.new.self.slots.numbers.items (text_number_in c.loop-number.index.others.entries) (text_number_in c.put.new.self.others.entries)) c.as_str.ensures.value c.in_ok-put.ensures.put in
     subst (λ (n : ℕ). AreTextsFound (map string_bytes c.args.texts.now) c.put.new.self.slots.numbers.items c.put.new.self.others.entries n) (let next : suc c.loop-number.number ≡ c.loop-number.number + 1 = omega arith in next)
@@ -27,4 +26,4 @@ loop-number-preserved c =
 pub returns : goal.returns
 returns c =
     let count : length (map string_bytes c.args.texts.now) ≡ length c.args.texts.now = length-map c.args.texts.now string_bytes in
-    texts_all c.loop-number.index.slots.numbers.items c.loop-number.index.others.entries (map string_bytes c.args.texts.now) c.loop-number.number c.loop-number.invariant (λ less. omega (arith, less, c.len.ensures, count, c.loop-number-test.false))
+    texts_all c.loop-number.index.slots.numbers.items c.loop-number.index.others.entries (map string_bytes c.args.texts.now) c.loop-number.number c.loop-number.invariant (λ less. omega (arith, less, count, c.loop-number-test.false))
