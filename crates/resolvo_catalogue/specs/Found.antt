@@ -1,5 +1,5 @@
 -- Values that are each found at their places, by keys that are four numbers or lists of numbers, or by themselves.
-use Rattle.std.specs.Prelude.{◌≡◌, ◌∷◌, [], ◌==◌, ◌%◌, ◌-◌, ◌<◌, if◌then◌else◌, ℕ, zero, suc, Bool, List, length, map, Option, Some, None, slice_get, slice_set, bit_and, is_some}
+use Rattle.std.specs.Prelude.{◌≡◌, ◌∷◌, [], ◌%◌, ◌-◌, ◌<◌, if◌then◌else◌, ℕ, zero, suc, Bool, List, length, map, Option, Some, None, slice_get, slice_set, bit_and, is_some}
 use Rattle.std.specs.Global.{Global, Vec}
 use Rattle.std.specs.String.{string_bytes}
 use Rattle.std.specs.declared.string.String.{String}

@@ -1,5 +1,5 @@
-use Rattle.std.proofs.Common.{◌≡◌, ◌∙◌, ◌+◌, ℕ, List, Option, Some, None, refl, sym, ap, arith}
-use Rattle.resolvo_catalogue.specs.Found.{key_eq, key_hash, keys_of, number_from, number_in, or_later, place_from, tries}
+use Rattle.std.proofs.Common.{◌≡◌, ◌∙◌, Some, None, refl, ap, arith}
+use Rattle.resolvo_catalogue.specs.Found.{key_eq, key_hash, keys_of, number_in, place_from}
 use Rattle.resolvo_catalogue.proofs.IndexLemmas.{number_first, number_here, number_free, number_last}
 use Rattle.resolvo_catalogue.proofs.key_map.KeyIndex.find.Goals as goal
 

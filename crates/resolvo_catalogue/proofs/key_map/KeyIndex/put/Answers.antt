@@ -1,4 +1,4 @@
-use Rattle.std.proofs.Common.{◌≡◌, ◌∙◌, sym}
+use Rattle.std.proofs.Common.{◌∙◌, sym}
 use Rattle.resolvo_catalogue.specs.Found.{key_eq, key_hash, number_in}
 use Rattle.resolvo_catalogue.proofs.IndexLemmas.{put_placed, put_mapped}
 use Rattle.resolvo_catalogue.proofs.key_map.KeyIndex.put.Goals as goal

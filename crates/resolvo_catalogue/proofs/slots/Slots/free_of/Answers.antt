@@ -1,6 +1,6 @@
-use Rattle.std.proofs.Common.{◌≡◌, ◌∙◌, ◌<◌, ◌+◌, ℕ, Option, Some, length, refl, sym, ap, arith}
+use Rattle.std.proofs.Common.{◌≡◌, ◌∙◌, ◌+◌, ℕ, Some, length, refl, ap, arith}
 use Rattle.std.specs.Prelude.{slice_get}
-use Rattle.resolvo_catalogue.specs.Found.{free_of, place_among, slot_at}
+use Rattle.resolvo_catalogue.specs.Found.{place_among}
 use Rattle.resolvo_catalogue.proofs.IndexLemmas.{free_first, free_found, free_later, free_none}
 use Rattle.resolvo_catalogue.proofs.slots.Slots.free_of.Goals as goal
 

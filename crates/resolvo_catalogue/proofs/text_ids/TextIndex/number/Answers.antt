@@ -1,8 +1,8 @@
-use Rattle.std.proofs.Common.{◌≡◌, ◌∙◌, ◌+◌, ℕ, List, Option, Some, None, map, refl, sym, ap, arith}
+use Rattle.std.proofs.Common.{◌≡◌, ◌∙◌, Some, None, map, refl, ap, arith}
 use Rattle.std.specs.Str.{bytes_eq}
 use Rattle.std.specs.String.{string_bytes}
 use Rattle.resolvo_catalogue_core.specs.Hash.{bytes_hash}
-use Rattle.resolvo_catalogue.specs.Found.{number_from, or_later, place_from, text_number_in, tries}
+use Rattle.resolvo_catalogue.specs.Found.{place_from, text_number_in}
 use Rattle.resolvo_catalogue.proofs.IndexLemmas.{number_first, number_here, number_free, number_last}
 use Rattle.resolvo_catalogue.proofs.text_ids.TextIndex.number.Goals as goal
 
