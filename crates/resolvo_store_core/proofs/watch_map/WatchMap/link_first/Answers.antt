@@ -1,4 +1,6 @@
-use Rattle.std.proofs.Common.{◌<◌, ◌≤◌, length, refl, arith}
+use Rattle.std.proofs.Common.{◌≡◌, ◌<◌, ◌≤◌, ◌+◌, ℕ, suc, length, slice_set, refl, subst, arith}
+use Rattle.resolvo_store_core.specs.Links.{AreLinked}
+use Rattle.resolvo_store_core.specs.declared.watch_map.WatchLink.{WatchLink}
 use Rattle.resolvo_store_core.proofs.LinkLemmas.{first_linked, few_set, linked, clause_of-set}
 use Rattle.resolvo_store_core.proofs.WatchLemmas.{put_others, put_watchers}
 use Rattle.resolvo_store_core.proofs.watch_map.WatchMap.link_first.Goals as goal
@@ -14,21 +16,26 @@ invariant_of-self c =
     let s = c.args.self.now in
     let room = c.requires.room in
     let at = c.to_index-index.ensures.index in
-    record { linked = linked _ _ _ (first_linked s.firsts.items s.links.items c.to_index-index.result c.args.link c.index.result.now c.index_mut.result.now s.linked c.requires.free.free (omega arith) c.requires.free.in_range c.index.ensures); few = few_set s.links.items c.args.link _ s.few }
+    let link : WatchLink = record { clause = c.index_mut.result.now.clause; next = c.index.result.now } in
+    let e : suc c.args.link ≡ c.args.link + 1 = omega arith in
+    let set = linked _ _ _ (first_linked s.firsts.items s.links.items c.to_index-index.result c.args.link c.index.result.now c.index_mut.result.now s.linked c.requires.free.free (omega arith) c.requires.free.in_range c.index.ensures) in
+    record { linked = subst (λ (k : ℕ). AreLinked (slice_set s.firsts.items c.to_index-index.result k) (slice_set s.links.items c.args.link link)) e set; few = few_set s.links.items c.args.link _ s.few }
 
 pub returns-clause-put : goal.returns-clause-put
 returns-clause-put c =
     let s = c.args.self.now in
     let room = c.requires.room in
     let at = c.to_index-index.ensures.index in
-    put_watchers s _ _ c.args.literal c.to_index-index.result c.args.link at
+    let e : c.args.link + 1 ≡ suc c.args.link = omega arith in
+    rw e (put_watchers s _ _ c.args.literal c.to_index-index.result c.args.link at
     (first_linked s.firsts.items s.links.items c.to_index-index.result c.args.link c.index.result.now c.index_mut.result.now s.linked c.requires.free.free (omega arith) c.requires.free.in_range c.index.ensures)
-    (λ m. clause_of-set s.links.items c.args.link m c.index_mut.result.now _ c.requires.free.in_range c.index_mut.ensures.value refl)
+    (λ m. clause_of-set s.links.items c.args.link m c.index_mut.result.now _ c.requires.free.in_range c.index_mut.ensures.value refl))
 
 pub returns-clause-others : goal.returns-clause-others
 returns-clause-others c =
     let s = c.args.self.now in
     let room = c.requires.room in
     let at = c.to_index-index.ensures.index in
-    put_others s _ _ c.args.literal c.to_index-index.result c.args.link at
-    (first_linked s.firsts.items s.links.items c.to_index-index.result c.args.link c.index.result.now c.index_mut.result.now s.linked c.requires.free.free (omega arith) c.requires.free.in_range c.index.ensures)
+    let e : c.args.link + 1 ≡ suc c.args.link = omega arith in
+    rw e (put_others s _ _ c.args.literal c.to_index-index.result c.args.link at
+    (first_linked s.firsts.items s.links.items c.to_index-index.result c.args.link c.index.result.now c.index_mut.result.now s.linked c.requires.free.free (omega arith) c.requires.free.in_range c.index.ensures))
