@@ -18,10 +18,10 @@ returns-in-Err-read-clause-err g c = within_err _ _ c.not_read-in-Err-read.resul
     (answered_err _ _ c.in-Err-read.fault _ c.not_read-in-Err-read.result c.not_read-in-Err-read.ensures (in_request _ c.in-Ok.ensures.ok c.in-Err-read.ensures.fault))
 
 pub returns-clause-ok : goal.returns-clause-ok
-returns-clause-ok g c = if_ok c.report.result (λ a h. of_texts _ _ _ _ a.outcome _ c.in-Ok.ensures.ok c.in-Ok-read.ensures.ok (h c.in-Ok-read.ensures.lines c.in-Ok-read.ensures.wishes)) c.report.ensures.ok
+returns-clause-ok g c = if_ok c.report-ended.result (λ a h. of_texts _ _ _ _ a.outcome _ c.in-Ok.ensures.ok c.in-Ok-read.ensures.ok (h c.in-Ok-read.ensures.lines c.in-Ok-read.ensures.wishes)) c.report-ended.ensures.ok
 
 pub returns-clause-err : goal.returns-clause-err
-returns-clause-err g c = if_err c.report.result (λ e lack. lacked_within c.args.budget e _ _ (record { catalogue_lines = _; request_lines = _; catalogue_read = c.in-Ok.ensures.ok; request_read = c.in-Ok-read.ensures.ok }) (lack c.in-Ok-read.ensures.lines c.in-Ok-read.ensures.wishes)) c.report.ensures.err
+returns-clause-err g c = if_err c.report-ended.result (λ e lack. lacked_within c.args.budget e _ _ (record { catalogue_lines = _; request_lines = _; catalogue_read = c.in-Ok.ensures.ok; request_read = c.in-Ok-read.ensures.ok }) (lack c.in-Ok-read.ensures.lines c.in-Ok-read.ensures.wishes)) c.report-ended.ensures.err
 
 pub returns-in-Err-clause-catalogue_faulty : goal.returns-in-Err-clause-catalogue_faulty
 returns-in-Err-clause-catalogue_faulty g c = λ text is n faulty. refl

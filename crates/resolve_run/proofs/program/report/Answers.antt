@@ -10,9 +10,9 @@ returns-in_err-report-clause-err c =
     rw (p.1, p.2) (stopped_within c.args.budget c.in_err-report.field-0.0 c.args.catalogue.now c.args.request.now c.in_err-report.ensures.stop)
 
 pub returns-clause-ok : goal.returns-clause-ok
-returns-clause-ok c = within_ok _ c.written.result c.within.result c.within.ensures
+returns-clause-ok c = within_ok _ c.written.result c.within-ended.result c.within-ended.ensures
     (if_ok c.written.result (λ a (ends, is, few) asks wishes. record { report = report_of c.in_ok-report.report; reported = c.in_ok-report.ensures.report asks wishes; ends = ends; is_text = is; bound = few }) c.written.ensures.ok)
 
 pub returns-clause-err : goal.returns-clause-err
-returns-clause-err c = within_err _ _ c.written.result c.within.result c.within.ensures
+returns-clause-err c = within_err _ _ c.written.result c.within-ended.result c.within-ended.ensures
     (λ e lack asks wishes. lack_of e _ _ (report_of c.in_ok-report.report) (c.in_ok-report.ensures.report asks wishes) lack) c.written.ensures.err
