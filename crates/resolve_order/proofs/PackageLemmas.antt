@@ -1,10 +1,8 @@
 -- The number of a package's first version, and maps by these numbers.
 use Rattle.std.proofs.Common.{◌≡◌, inl, inr, ℕ, zero, suc, ◌<◌, ◌≤◌, Bool, true, false, if◌then◌else◌, ◌&&◌, List, [], ◌∷◌, length, map, Option, Some, None, refl, sym, ap, subst, ◌∙◌, get_or, arith}
 use Rattle.std.specs.Prelude.{slice_get, Contains, ◌==◌}
-use Rattle.std.specs.Option.{option_map, option_and_then}
-use Rattle.std.specs.Ordering.{nat_cmp}
+use Rattle.std.specs.Option.{option_map}
 use Rattle.std.specs.Str.{bytes_eq}
-use Rattle.std.specs.BTreeMap.{BTreeMap, get}
 use Rattle.std.proofs.lemmas.Bool.{false≢true, cases_Bool, eqb-true, eq-eqb}
 use Rattle.std.proofs.lemmas.List.Kept.{AllPairs-from_increasing}
 use Rattle.std.proofs.lemmas.Slice.Eq.{bytes_eq-Decides}
@@ -12,7 +10,9 @@ use Rattle.resolvo_text.specs.Line.{Version}
 use Rattle.resolvo_text.specs.Matches.{same_version}
 use Rattle.resolvo_catalogue_core.specs.Questions.{AreAll, IsOfPackage, number_of}
 use Rattle.resolvo_catalogue_core.specs.declared.rule.VersionNo.{VersionNo}
-use Rattle.resolve_order.specs.Kept.{first_of, by_name, number_at}
+use Rattle.resolve_order.specs.Numbers.{version_in}
+use Rattle.resolve_order.specs.Kept.{first_of, by_name, numbers_in}
+use Rattle.resolve_order.specs.declared.version_table.VersionTable.{VersionTable}
 use Rattle.resolve_order.proofs.Elements.{first_element}
 use Rattle.resolve_order.proofs.NumberLemmas.{PutsNumber}
 
@@ -95,11 +95,11 @@ pub first_named : (versions : List Version) (name : List ℕ) (numbers : List Ve
 first_named versions name [] o are is = ap (λ (x : Option VersionNo). option_map number_of x) is ∙ sym (first_of_none versions name [] are refl)
 first_named versions name (n ∷ numbers) o are is = ap (λ (x : Option VersionNo). option_map number_of x) is ∙ sym (first_of_some versions name n.0 (map number_of numbers) are)
 
--- ---- maps by packages
+-- ---- tables by packages
 
--- a map was changed at the place of a version
-pub puts_at : (versions : List Version) (v : Version) (p number : ℕ) (n : Option VersionNo) (before after : BTreeMap ℕ (BTreeMap ℕ VersionNo)) → first_of versions v.name ≡ Some p → v.number ≡ number
-    → ((k q : ℕ) → number_at (get nat_cmp after k) q ≡ (if p == k && number == q then n else number_at (get nat_cmp before k) q)) → (name : List ℕ) → PutsNumber v n name (by_name versions before name) (by_name versions after name)
+-- a table was changed at the place of a version
+pub puts_at : (versions : List Version) (v : Version) (p number : ℕ) (n : Option VersionNo) (before after : VersionTable) → first_of versions v.name ≡ Some p → v.number ≡ number
+    → ((k q : ℕ) → version_in after k q ≡ (if p == k && number == q then n else version_in before k q)) → (name : List ℕ) → PutsNumber v n name (by_name versions before name) (by_name versions after name)
 puts_at versions v p number n before after first is puts name = λ q. of (first_of versions name) refl q
   where
     apart : (o : Option ℕ) → first_of versions name ≡ o → (o ≡ Some p → ⊥) → bytes_eq v.name name ≡ false
@@ -121,8 +121,8 @@ puts_at versions v p number n before after first is puts name = λ q. of (first_
       | inr f ↦ f ∙ sym (apart (Some k) e (λ same. let is : k ≡ p = cc in false≢true (sym f ∙ eq-eqb p k (sym is))))
     ]
 
-    of : (o : Option ℕ) → first_of versions name ≡ o → (q : ℕ) → number_at (option_and_then (λ k. get nat_cmp after k) o) q ≡ (if same_version v (record { name = name; number = q }) then n else number_at (option_and_then (λ k. get nat_cmp before k) o) q)
+    of : (o : Option ℕ) → first_of versions name ≡ o → (q : ℕ) → numbers_in after o q ≡ (if same_version v (record { name = name; number = q }) then n else numbers_in before o q)
     of None e q = sym (ap (λ (b : Bool). let x : Option VersionNo = if b && v.number == q then n else None in x) (apart None e (λ same. absurd cc)))
     of (Some k) e q =
-        puts k q ∙ ap (λ (b : Bool). if b && number == q then n else number_at (get nat_cmp before k) q) (test k e)
-        ∙ ap (λ (i : ℕ). if bytes_eq v.name name && i == q then n else number_at (get nat_cmp before k) q) (sym is)
+        puts k q ∙ ap (λ (b : Bool). if b && number == q then n else version_in before k q) (test k e)
+        ∙ ap (λ (i : ℕ). if bytes_eq v.name name && i == q then n else version_in before k q) (sym is)

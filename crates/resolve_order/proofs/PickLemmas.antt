@@ -2,11 +2,9 @@
 use Rattle.std.proofs.Common.{◌≡◌, ◌⊎◌, inl, inr, ℕ, zero, suc, ◌+◌, ◌-◌, ◌<◌, Bool, true, false, not, List, [], ◌∷◌, ◌++◌, length, Option, Some, None, refl, sym, ap, subst, ◌∙◌, set, get_or, take, drop, arith}
 use Rattle.std.specs.Prelude.{slice_get, Contains, option_to_list, ◌==◌, IsTrue}
 use Rattle.std.specs.Option.{option_map_or, is_some}
-use Rattle.std.specs.Ordering.{nat_cmp}
-use Rattle.std.specs.BTreeMap.{BTreeMap}
 use Rattle.std.specs.List.{list_any}
 use Rattle.std.specs.Str.{bytes_eq}
-use Rattle.std.specs.BTreeMap.{get, get_by_text}
+use Rattle.std.specs.BTreeMap.{get_by_text}
 use Rattle.std.proofs.lemmas.Bool.{false≢true, cases_Bool, and_parts, and_from}
 use Rattle.std.proofs.lemmas.List.Elements.{Contains-append_left, Contains-append_right, Contains-push, Contains-push_cases}
 use Rattle.std.proofs.lemmas.List.Sums.{sum_by-set}
@@ -24,8 +22,10 @@ use Rattle.resolvo_catalogue_core.specs.Questions.{is_rule}
 use Rattle.resolvo_catalogue_core.specs.declared.rule.VersionNo.{VersionNo}
 use Rattle.resolvo_catalogue_core.proofs.TableSteps.{same_version_is}
 use Rattle.resolve_order.specs.Order.{IsSorted}
-use Rattle.resolve_order.specs.Kept.{by_name, number_at, AreNumbersOf, IsLeftOver, IsFavouredOf, is_unlisted, weight, unlisted, IsIn, Holds, IsNewestIn, IsFavouredMatch, IsUnlistedMatch, IsFirstMatch, IsLineState, IsWaiting, IsSpent}
+use Rattle.resolve_order.specs.Numbers.{version_in, IsNewestIn}
+use Rattle.resolve_order.specs.Kept.{first_of, numbers_in, by_name, AreNumbersOf, IsLeftOver, IsFavouredOf, is_unlisted, weight, unlisted, IsIn, Holds, IsFavouredMatch, IsUnlistedMatch, IsFirstMatch, IsLineState, IsWaiting, IsSpent}
 use Rattle.resolve_order.specs.declared.chosen.LineState.TheVariants as state
+use Rattle.resolve_order.specs.declared.version_table.VersionTable.{VersionTable}
 use Rattle.resolve_order.specs.declared.chosen.Chosen.{Chosen}
 use Rattle.resolve_order.proofs.NumberLemmas.{PutsNumber, numbers_more, numbers_less, numbers_same}
 use Rattle.resolve_order.proofs.Elements.{no_element, first_element, any_from, any_element, any_none, member_from, from_member, member_none, none_from_member}
@@ -241,14 +241,18 @@ match_is versions s n v b at is = sym (ap (λ (o : Option Version). option_map_o
 version_is : (u v : Version) → u.name ≡ v.name → u.number ≡ v.number → u ≡ v
 version_is u v name number = (same_version_is u v).0 (and_from (bytes_eq u.name v.name) (u.number == v.number) ((bytes_eq-Decides u.name v.name).1 name) ((Decides-eqb u.number v.number).1 number))
 
--- The numbers of a map in the span are those of the matches.
-found_match : (versions : List Version) (P : Version → Type 0) (s : Spec) (numbers : Option (BTreeMap ℕ VersionNo)) (n : ℕ) (k : VersionNo) → AreNumbersOf versions P s.name numbers → number_at numbers n ≡ Some k → is_in_span s.span n ≡ true
+-- the numbers of a package that is known by its first version
+pub numbers_of_first : (versions : List Version) (P : Version → Type 0) (table : VersionTable) (name : List ℕ) (p : ℕ) → first_of versions name ≡ Some p → AreNumbersOf versions P name (by_name versions table name) → AreNumbersOf versions P name (version_in table p)
+numbers_of_first versions P table name p is are = subst (λ (o : Option ℕ). AreNumbersOf versions P name (numbers_in table o)) is are
+
+-- The numbers in the span are those of the matches.
+found_match : (versions : List Version) (P : Version → Type 0) (s : Spec) (numbers : ℕ → Option VersionNo) (n : ℕ) (k : VersionNo) → AreNumbersOf versions P s.name numbers → numbers n ≡ Some k → is_in_span s.span n ≡ true
     → (v : Version) × (slice_get versions k.0 ≡ Some v) × (v.number ≡ n) × (matches s v ≡ true) × P v
 found_match versions P s numbers n k are is span =
     let v = (are n k).0 is in
     (v.0, v.1, v.3, match_from s v.0 v.2 (subst (λ (i : ℕ). is_in_span s.span i ≡ true) (sym v.3) span), v.4)
 
-number_found : (versions : List Version) (P : Version → Type 0) (s : Spec) (numbers : Option (BTreeMap ℕ VersionNo)) (w : Version) (k : VersionNo) → AreNumbersOf versions P s.name numbers → slice_get versions k.0 ≡ Some w → matches s w ≡ true → P w → number_at numbers w.number ≡ Some k
+number_found : (versions : List Version) (P : Version → Type 0) (s : Spec) (numbers : ℕ → Option VersionNo) (w : Version) (k : VersionNo) → AreNumbersOf versions P s.name numbers → slice_get versions k.0 ≡ Some w → matches s w ≡ true → P w → numbers w.number ≡ Some k
 number_found versions P s numbers w k are at m p = (are w.number k).1 (w, at, name_matched s w m, refl, p)
 
 -- ---- the favoured match
@@ -259,22 +263,22 @@ favoured_none catalogue chosen entries s none = λ w f m l. none w f (name_match
 pub favoured_known : (catalogue : List Line) (name : List ℕ) (k : VersionNo) → IsFavouredOf catalogue name (Some k) → slice_get (listed catalogue) k.0 ≡ None → ⊥
 favoured_known catalogue name k h none = cc (h.1, none)
 
-module _ (catalogue : List Line) (chosen entries : Set) (s : Spec) (numbers : BTreeMap ℕ VersionNo) (k : VersionNo) (p : Version) (favoured : IsFavouredOf catalogue s.name (Some k))
-    (are : AreNumbersOf (listed catalogue) (IsLeftOver chosen entries) s.name (Some numbers)) (at : slice_get (listed catalogue) k.0 ≡ Some p) where
+module _ (catalogue : List Line) (chosen entries : Set) (s : Spec) (numbers : ℕ → Option VersionNo) (k : VersionNo) (p : Version) (favoured : IsFavouredOf catalogue s.name (Some k))
+    (are : AreNumbersOf (listed catalogue) (IsLeftOver chosen entries) s.name numbers) (at : slice_get (listed catalogue) k.0 ≡ Some p) where
   it_is : p ≡ favoured.0
   it_is = (let a = favoured.1 in cc)
 
-  pub favoured_found : is_some (get nat_cmp numbers p.number) ≡ true → is_match (listed catalogue) s k.0 ≡ true → IsFavouredMatch catalogue chosen entries s (Some k)
-  favoured_found has is = of (get nat_cmp numbers p.number) refl has
+  pub favoured_found : is_some (numbers p.number) ≡ true → is_match (listed catalogue) s k.0 ≡ true → IsFavouredMatch catalogue chosen entries s (Some k)
+  favoured_found has is = of (numbers p.number) refl has
     where
-      of : (o : Option VersionNo) → get nat_cmp numbers p.number ≡ o → is_some o ≡ true → IsFavouredMatch catalogue chosen entries s (Some k)
+      of : (o : Option VersionNo) → numbers p.number ≡ o → is_some o ≡ true → IsFavouredMatch catalogue chosen entries s (Some k)
       of None e h = absurd (false≢true h)
       of (Some j) e h =
           let u = (are p.number j).0 e in
           let same : u.0 ≡ favoured.0 = version_is u.0 favoured.0 (u.2 ∙ sym favoured.2) (u.3 ∙ ap (λ (x : Version). x.number) it_is) in
           (favoured.0, favoured.1, favoured.3, match_is (listed catalogue) s k.0 favoured.0 true favoured.1 is, subst (IsLeftOver chosen entries) same u.4)
 
-  pub favoured_other : (is_some (get nat_cmp numbers p.number) ≡ false) ⊎ (is_match (listed catalogue) s k.0 ≡ false) → IsFavouredMatch catalogue chosen entries s None
+  pub favoured_other : (is_some (numbers p.number) ≡ false) ⊎ (is_match (listed catalogue) s k.0 ≡ false) → IsFavouredMatch catalogue chosen entries s None
   favoured_other fails = λ w f m l. elim fails [
     | inl none ↦ false≢true (sym none ∙ ap is_some (found w f m l))
     | inr fails ↦ false≢true (sym (match_is (listed catalogue) s k.0 w false (at_w w f m) fails) ∙ m)
@@ -286,8 +290,8 @@ module _ (catalogue : List Line) (chosen entries : Set) (s : Spec) (numbers : BT
       at_w : (w : Version) → Contains catalogue (Favour w) → matches s w ≡ true → slice_get (listed catalogue) k.0 ≡ Some w
       at_w w f m = favoured.1 ∙ ap Some (sym (same w f m))
 
-      found : (w : Version) → Contains catalogue (Favour w) → matches s w ≡ true → IsLeftOver chosen entries w → get nat_cmp numbers p.number ≡ Some k
-      found w f m l = ap (λ (x : Version). get nat_cmp numbers x.number) (it_is ∙ sym (same w f m)) ∙ number_found (listed catalogue) (IsLeftOver chosen entries) s (Some numbers) w k are (at_w w f m) m l
+      found : (w : Version) → Contains catalogue (Favour w) → matches s w ≡ true → IsLeftOver chosen entries w → numbers p.number ≡ Some k
+      found w f m l = ap (λ (x : Version). numbers x.number) (it_is ∙ sym (same w f m)) ∙ number_found (listed catalogue) (IsLeftOver chosen entries) s numbers w k are (at_w w f m) m l
 
 -- ---- the first unlisted match
 
@@ -298,33 +302,30 @@ left_from_none entries w h = elim (cases_Bool (is_member w entries)) [
 ]
 
 -- no match is left over
-pub none_matches : (catalogue : List Line) (kept : Chosen) (chosen entries : Set) (s : Spec) → Holds catalogue kept chosen entries → ((n : ℕ) (k : VersionNo) → number_at (by_name (listed catalogue) kept.unlisted s.name) n ≡ Some k → is_in_span s.span n ≡ true → ⊥)
+pub none_matches : (catalogue : List Line) (kept : Chosen) (chosen entries : Set) (s : Spec) → Holds catalogue kept chosen entries → ((n : ℕ) (k : VersionNo) → by_name (listed catalogue) kept.unlisted s.name n ≡ Some k → is_in_span s.span n ≡ true → ⊥)
     → IsUnlistedMatch catalogue chosen entries s None
 none_matches catalogue kept chosen entries s h none = λ w c m. left_from_none entries w (λ out.
     let k = h.known w c in
     none w.number k.0 (number_found (listed catalogue) (IsLeftOver chosen entries) s (by_name (listed catalogue) kept.unlisted s.name) w k.0 (h.unlisted s.name) k.1 m (c, out)) (in_span s w m))
 
-pub no_numbers : (catalogue : List Line) (kept : Chosen) (chosen entries : Set) (s : Spec) → Holds catalogue kept chosen entries → by_name (listed catalogue) kept.unlisted s.name ≡ None → IsUnlistedMatch catalogue chosen entries s None
+pub no_numbers : (catalogue : List Line) (kept : Chosen) (chosen entries : Set) (s : Spec) → Holds catalogue kept chosen entries → first_of (listed catalogue) s.name ≡ None → IsUnlistedMatch catalogue chosen entries s None
 no_numbers catalogue kept chosen entries s h none =
-    none_matches catalogue kept chosen entries s h (λ n k at span. no_number n k (subst (λ (m : Option (BTreeMap ℕ VersionNo)). number_at m n ≡ Some k) none at))
-  where
-    no_number : (n : ℕ) (k : VersionNo) → number_at None n ≡ Some k → ⊥
-    no_number n k e = cc
+    none_matches catalogue kept chosen entries s h (λ n k at span. let is = subst (λ (o : Option ℕ). numbers_in kept.unlisted o n ≡ Some k) none at in cc)
 
 pub favoured_first : (catalogue : List Line) (chosen entries : Set) (s : Spec) (k : VersionNo) → IsFavouredMatch catalogue chosen entries s (Some k) → IsUnlistedMatch catalogue chosen entries s (Some k)
 favoured_first catalogue chosen entries s k f = (f.0, f.1, f.3, f.4, λ w m l. inr (inl f.2))
 
-pub newest_first : (catalogue : List Line) (kept : Chosen) (chosen entries : Set) (s : Spec) (numbers : BTreeMap ℕ VersionNo) (o : Option VersionNo) → Holds catalogue kept chosen entries → by_name (listed catalogue) kept.unlisted s.name ≡ Some numbers
-    → IsFavouredMatch catalogue chosen entries s None → IsNewestIn (get nat_cmp numbers) s.span o → IsUnlistedMatch catalogue chosen entries s o
-newest_first catalogue kept chosen entries s numbers None h is none newest =
-    none_matches catalogue kept chosen entries s h (λ n k at span. newest n k (subst (λ (m : Option (BTreeMap ℕ VersionNo)). number_at m n ≡ Some k) is at) span)
-newest_first catalogue kept chosen entries s numbers (Some k) h is none newest = (v.0, v.1, v.3, v.4, first)
+pub newest_first : (catalogue : List Line) (kept : Chosen) (chosen entries : Set) (s : Spec) (p : ℕ) (o : Option VersionNo) → Holds catalogue kept chosen entries → first_of (listed catalogue) s.name ≡ Some p
+    → IsFavouredMatch catalogue chosen entries s None → IsNewestIn (version_in kept.unlisted p) s.span o → IsUnlistedMatch catalogue chosen entries s o
+newest_first catalogue kept chosen entries s p None h is none newest =
+    none_matches catalogue kept chosen entries s h (λ n k at span. newest n k (subst (λ (x : Option ℕ). numbers_in kept.unlisted x n ≡ Some k) is at) span)
+newest_first catalogue kept chosen entries s p (Some k) h is none newest = (v.0, v.1, v.3, v.4, first)
   where
-    are : AreNumbersOf (listed catalogue) (IsLeftOver chosen entries) s.name (Some numbers)
-    are = subst (AreNumbersOf (listed catalogue) (IsLeftOver chosen entries) s.name) is (h.unlisted s.name)
+    are : AreNumbersOf (listed catalogue) (IsLeftOver chosen entries) s.name (version_in kept.unlisted p)
+    are = numbers_of_first (listed catalogue) (IsLeftOver chosen entries) kept.unlisted s.name p is (h.unlisted s.name)
 
     v : (v : Version) × (slice_get (listed catalogue) k.0 ≡ Some v) × (v.number ≡ newest.0) × (matches s v ≡ true) × IsLeftOver chosen entries v
-    v = found_match (listed catalogue) (IsLeftOver chosen entries) s (Some numbers) newest.0 k are newest.1 newest.2
+    v = found_match (listed catalogue) (IsLeftOver chosen entries) s (version_in kept.unlisted p) newest.0 k are newest.1 newest.2
 
     first : (w : Version) → IsTrue (matches s w) → IsLeftOver chosen entries w → (w ≡ v.0) ⊎ IsSorted catalogue v.0 w
     first w m l = elim (is_nat w.number v.0.number) [
@@ -335,7 +336,7 @@ newest_first catalogue kept chosen entries s numbers (Some k) h is none newest =
         lower : (w.number ≡ v.0.number → ⊥) → w.number < v.0.number
         lower apart =
             let j = h.known w l.0 in
-            let most = newest.3 w.number j.0 (number_found (listed catalogue) (IsLeftOver chosen entries) s (Some numbers) w j.0 are j.1 m l) (in_span s w m) in
+            let most = newest.3 w.number j.0 (number_found (listed catalogue) (IsLeftOver chosen entries) s (version_in kept.unlisted p) w j.0 are j.1 m l) (in_span s w m) in
             let is_newest = v.2 in
             omega (arith, most, is_newest, apart)
 
@@ -346,22 +347,21 @@ still_unlisted catalogue kept chosen entries s k h m is_set =
 
 -- ---- met SPECs
 
-pub met_by : (catalogue : List Line) (kept : Chosen) (chosen entries : Set) (s : Spec) (numbers : BTreeMap ℕ VersionNo) (o : Option VersionNo) → Holds catalogue kept chosen entries → by_name (listed catalogue) kept.entries s.name ≡ Some numbers
-    → IsNewestIn (get nat_cmp numbers) s.span o → is_some o ≡ is_met s entries
-met_by catalogue kept chosen entries s numbers None h is newest = sym (any_none (matches s) entries (λ w c m.
+pub met_by : (catalogue : List Line) (kept : Chosen) (chosen entries : Set) (s : Spec) (p : ℕ) (o : Option VersionNo) → Holds catalogue kept chosen entries → first_of (listed catalogue) s.name ≡ Some p
+    → IsNewestIn (version_in kept.entries p) s.span o → is_some o ≡ is_met s entries
+met_by catalogue kept chosen entries s p None h is newest = sym (any_none (matches s) entries (λ w c m.
     let k = h.known w (h.among w c) in
-    newest w.number k.0 (subst (λ (x : Option (BTreeMap ℕ VersionNo)). number_at x w.number ≡ Some k.0) is (number_found (listed catalogue) (Contains entries) s (by_name (listed catalogue) kept.entries s.name) w k.0 (h.entered s.name) k.1 m c)) (in_span s w m)))
-met_by catalogue kept chosen entries s numbers (Some k) h is newest =
-    let v = found_match (listed catalogue) (Contains entries) s (Some numbers) newest.0 k (subst (AreNumbersOf (listed catalogue) (Contains entries) s.name) is (h.entered s.name)) newest.1 newest.2 in
+    newest w.number k.0 (subst (λ (x : Option ℕ). numbers_in kept.entries x w.number ≡ Some k.0) is (number_found (listed catalogue) (Contains entries) s (by_name (listed catalogue) kept.entries s.name) w k.0 (h.entered s.name) k.1 m c)) (in_span s w m)))
+met_by catalogue kept chosen entries s p (Some k) h is newest =
+    let are = numbers_of_first (listed catalogue) (Contains entries) kept.entries s.name p is (h.entered s.name) in
+    let v = found_match (listed catalogue) (Contains entries) s (version_in kept.entries p) newest.0 k are newest.1 newest.2 in
     sym (any_from (matches s) entries v.0 v.4 v.3)
 
-pub met_none : (catalogue : List Line) (kept : Chosen) (chosen entries : Set) (s : Spec) → Holds catalogue kept chosen entries → by_name (listed catalogue) kept.entries s.name ≡ None → false ≡ is_met s entries
+pub met_none : (catalogue : List Line) (kept : Chosen) (chosen entries : Set) (s : Spec) → Holds catalogue kept chosen entries → first_of (listed catalogue) s.name ≡ None → false ≡ is_met s entries
 met_none catalogue kept chosen entries s h none = sym (any_none (matches s) entries (λ w c m.
     let k = h.known w (h.among w c) in
-    no_number w.number k.0 (subst (λ (x : Option (BTreeMap ℕ VersionNo)). number_at x w.number ≡ Some k.0) none (number_found (listed catalogue) (Contains entries) s (by_name (listed catalogue) kept.entries s.name) w k.0 (h.entered s.name) k.1 m c))))
-  where
-    no_number : (n : ℕ) (k : VersionNo) → number_at None n ≡ Some k → ⊥
-    no_number n k e = cc
+    let is = subst (λ (o : Option ℕ). numbers_in kept.entries o w.number ≡ Some k.0) none (number_found (listed catalogue) (Contains entries) s (by_name (listed catalogue) kept.entries s.name) w k.0 (h.entered s.name) k.1 m c) in
+    cc))
 
 -- ---- the first of several SPECs
 

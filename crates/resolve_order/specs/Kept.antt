@@ -1,15 +1,12 @@
 -- The state of the lister: the chosen versions by their packages, the lines in their order, and
 -- those left to look at.
 use Rattle.std.specs.Prelude.{◌≡◌, ℕ, zero, suc, ◌<◌, ◌↔◌, ◌≤◌, IsTrue, Bool, true, false, if◌then◌else◌, not, ⊤, ◌⊎◌, List, [], ◌∷◌, ◌++◌, length, map, reverse, drop, Option, Some, None, Contains, slice_get}
-use Rattle.std.specs.Option.{option_map, option_map_or, option_and_then}
+use Rattle.std.specs.Option.{option_map, option_map_or}
 use Rattle.std.specs.Str.{bytes_eq}
-use Rattle.std.specs.BTreeMap.{get, get_by_text}
-use Rattle.std.specs.Ordering.{nat_cmp}
-use Rattle.std.specs.BTreeMap.{BTreeMap}
+use Rattle.std.specs.BTreeMap.{get_by_text}
 use Rattle.std.specs.List.{list_any, sum_by}
 use Rattle.resolvo_text.specs.Line.{Version, Spec, Cond, Line, Needs, Favour}
-use Rattle.resolvo_text.specs.declared.spec.Span.{Span}
-use Rattle.resolvo_text.specs.Matches.{Set, is_member, is_in_span, matches, condition_holds}
+use Rattle.resolvo_text.specs.Matches.{Set, is_member, matches, condition_holds}
 use Rattle.resolvo_catalogue_core.specs.Answers as answers
 use Rattle.resolvo_catalogue_core.specs.Answers.{entries_of, IsNeededBy}
 use Rattle.resolvo_catalogue_core.specs.Listed.{listed, AreDistinct}
@@ -19,6 +16,8 @@ use Rattle.resolvo_catalogue_core.specs.declared.rule.VersionNo.{VersionNo}
 use Rattle.resolvo_catalogue_core.specs.declared.rule.Rule.{Rule}
 use Rattle.resolve_order.specs.Order.{line_named, IsAsked, Precedes, IsSorted, IsOfFirst, IsNext, IsComplete, AreInOrder, Turn, IsOneTurn}
 use Rattle.resolve_order.specs.View.{reason_of, answers_of, AreNumbered}
+use Rattle.resolve_order.specs.Numbers.{version_in}
+use Rattle.resolve_order.specs.declared.version_table.VersionTable.{VersionTable}
 use Rattle.resolve_order.specs.declared.chosen.Chosen.{Chosen}
 use Rattle.resolve_order.specs.declared.chosen.LineState.{LineState}
 use Rattle.resolve_order.specs.declared.chosen.LineState.TheVariants as state
@@ -35,9 +34,13 @@ abbrev pub first_of : List Version → List ℕ → Option ℕ
 first_of [] name = None
 first_of (v ∷ versions) name = if bytes_eq v.name name then Some 0 else option_map suc (first_of versions name)
 
--- what a map has for the package, under the number of its first version
-abbrev pub by_name : {X : Type 0} → List Version → BTreeMap ℕ X → List ℕ → Option X
-by_name versions packages name = option_and_then (λ n. get nat_cmp packages n) (first_of versions name)
+-- the versions of a package by their numbers, where it is known by the number of its first version
+abbrev pub numbers_in : VersionTable → Option ℕ → ℕ → Option VersionNo
+numbers_in table None = λ n. None
+numbers_in table (Some k) = version_in table k
+
+abbrev pub by_name : List Version → VersionTable → List ℕ → ℕ → Option VersionNo
+by_name versions table name = numbers_in table (first_of versions name)
 
 -- The version of this number has this number of its package's first version, and this number of its own.
 abbrev pub IsPlaceOf : List Version → ℕ → Option (ℕ × ℕ) → Type 0
@@ -46,13 +49,9 @@ IsPlaceOf versions n (Some place) = (v : Version) × (slice_get versions n ≡ S
 
 -- ---- chosen versions
 
--- the versions of a package by their numbers
-abbrev pub number_at : Option (BTreeMap ℕ VersionNo) → ℕ → Option VersionNo
-number_at numbers n = option_and_then (λ m. get nat_cmp m n) numbers
-
 -- These are the versions of the package in the set.
-abbrev pub AreNumbersOf : List Version → (Version → Type 0) → List ℕ → Option (BTreeMap ℕ VersionNo) → Type 0
-AreNumbersOf versions P name numbers = (number : ℕ) (k : VersionNo) → (number_at numbers number ≡ Some k)
+abbrev pub AreNumbersOf : List Version → (Version → Type 0) → List ℕ → (ℕ → Option VersionNo) → Type 0
+AreNumbersOf versions P name numbers = (number : ℕ) (k : VersionNo) → (numbers number ≡ Some k)
     ↔ ((v : Version) × (slice_get versions k.0 ≡ Some v) × (v.name ≡ name) × (v.number ≡ number) × P v)
 
 -- a chosen version that is no entry
@@ -92,12 +91,6 @@ pub record Holds (catalogue : List Line) (kept : Chosen) (chosen entries : Set) 
   pub among : (v : Version) → Contains entries v → Contains chosen v
   pub known : (v : Version) → Contains chosen v → (n : VersionNo) × (slice_get (listed catalogue) n.0 ≡ Some v)
   pub left : (v : Version) → Contains chosen v → Contains entries v ⊎ IsIn (listed catalogue) kept.left.items v
-
--- It has the highest number in the span, or none is in it.
-abbrev pub IsNewestIn : (ℕ → Option VersionNo) → Span → Option VersionNo → Type 0
-IsNewestIn numbers span None = (n : ℕ) (k : VersionNo) → numbers n ≡ Some k → IsTrue (is_in_span span n) → ⊥
-IsNewestIn numbers span (Some k) = (n : ℕ) × (numbers n ≡ Some k) × IsTrue (is_in_span span n)
-    × ((m : ℕ) (j : VersionNo) → numbers m ≡ Some j → IsTrue (is_in_span span m) → m ≤ n)
 
 -- It is favoured, a match, chosen and no entry; or no version is all of these.
 abbrev pub IsFavouredMatch : List Line → Set → Set → Spec → Option VersionNo → Type 0

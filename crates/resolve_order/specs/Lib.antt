@@ -1,3 +1,4 @@
 pub mod Order
 pub mod View
+pub mod Numbers
 pub mod Kept

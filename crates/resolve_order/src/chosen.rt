@@ -2,21 +2,21 @@
 //! Two sets (`Holds` of specs/Kept.antt), with the version that a line gives. `install_order` keeps
 //! it.
 
-ghost use Rattle.std.specs.Prelude.{◌≡◌, ◌++◌, ◌∷◌, [], ℕ, ◌+◌, ◌==◌, ◌&&◌, if◌then◌else◌, true, Contains, slice_get, Some, None, List, Option, IfOk, OnOk, IfSome};
-ghost use Rattle.std.specs.BTreeMap.{get, get_by_text};
-ghost use Rattle.std.specs.Ordering.{nat_cmp};
+ghost use Rattle.std.specs.Prelude.{◌≡◌, ◌++◌, ◌∷◌, [], ℕ, ◌+◌, true, Contains, slice_get, Some, None, List, Option, IfOk, OnOk, IfSome};
+ghost use Rattle.std.specs.BTreeMap.{get_by_text};
 ghost use Rattle.std.specs.Option.{option_copied, option_map};
 ghost use Rattle.resolvo_text.specs.Line as content;
 ghost use Rattle.resolvo_text.specs.Matches.{Set, is_met, holds, condition_holds};
 ghost use Rattle.resolvo_text.specs.View.{spec_of, specs_of, cond_of, condition_of};
 ghost use Rattle.resolvo_catalogue_core.specs.Listed.{listed, members, version_at, version_by};
 ghost use Rattle.resolvo_catalogue_core.specs.Questions.{IsRuleLine};
-ghost use Rattle.resolve_order.specs.Kept.{first_of, by_name, IsPlaceOf, Holds, IsLeftOver, IsNewestIn, IsFavouredOf, IsFavouredMatch, IsUnlistedMatch, IsFirstMatch, AreNumbersOf, number_at, IsRuleAt, IsLineState, IfGives, is_unlisted, unlisted};
+ghost use Rattle.resolve_order.specs.Numbers.{version_in};
+ghost use Rattle.resolve_order.specs.Kept.{first_of, IsPlaceOf, Holds, IsLeftOver, IsFavouredOf, IsFavouredMatch, IsUnlistedMatch, IsFirstMatch, AreNumbersOf, IsRuleAt, IsLineState, IfGives, is_unlisted, unlisted};
 
-use resolvo_catalogue_core::{Catalogue, Cond, Rule, Span, Spec, VersionNo};
+use crate::version_table::VersionTable;
+use resolvo_catalogue_core::{Catalogue, Cond, Rule, Spec, VersionNo};
 use std::alloc::{AllocError, Global};
 use std::collections::BTreeMap;
-use std::ops::Bound;
 
 /// What a line gives, by what is chosen and what is an entry.
 #[derive(Clone, Copy, Debug)]
@@ -35,9 +35,6 @@ fn version_at(catalogue: &Catalogue, version: VersionNo) -> Option<(&str, u32)>
     catalogue.versions().get(version)
 }
 
-/// The versions of a package by their numbers.
-type Numbers = BTreeMap<u32, VersionNo>;
-
 /// The number of the package's first version, if it has one.
 fn package_of(catalogue: &Catalogue, name: &str) -> Option<u32>
     ensures { result ≡ first_of (listed catalogue.now) name.now }
@@ -55,80 +52,6 @@ fn place_of(catalogue: &Catalogue, version: VersionNo) -> Option<(u32, u32)>
     let listed = version_at(catalogue, version)?;
     let package = package_of(catalogue, listed.0)?;
     Some((package, listed.1))
-}
-
-/// Adds a version of the package.
-fn add_number(
-    alloc: Global,
-    packages: &mut BTreeMap<u32, Numbers>,
-    place: (u32, u32),
-    version: VersionNo,
-) -> Result<(), AllocError>
-    ensures { OnOk result
-        ((k n : ℕ)
-        → number_at (get nat_cmp packages.new k) n
-        ≡ (if place.0 == k && place.1 == n
-        then Some version
-        else number_at (get nat_cmp packages.old k) n)) }
-{
-    let (package, number) = place;
-    if let Some(numbers) = packages.get_mut(&package) {
-        numbers.insert(number, version)?;
-        return Ok(());
-    }
-    let mut numbers = BTreeMap::new(alloc);
-    numbers.insert(number, version)?;
-    packages.insert(package, numbers)?;
-    Ok(())
-}
-
-/// Takes a version of the package out.
-fn remove_number(packages: &mut BTreeMap<u32, Numbers>, place: (u32, u32))
-    ensures { (k n : ℕ)
-        → number_at (get nat_cmp packages.new k) n
-        ≡ (if place.0 == k && place.1 == n
-        then None
-        else number_at (get nat_cmp packages.old k) n) }
-{
-    let (package, number) = place;
-    if let Some(numbers) = packages.get_mut(&package) {
-        numbers.remove(&number);
-    }
-}
-
-/// The numbers of a package, by its name.
-fn numbers_of<'a>(
-    packages: &'a BTreeMap<u32, Numbers>,
-    catalogue: &Catalogue,
-    name: &str,
-) -> Option<&'a Numbers>
-    ensures { option_copied result ≡ by_name (listed catalogue.now) packages.now name.now }
-{
-    match package_of(catalogue, name) {
-        Some(package) => packages.get(&package),
-        None => None,
-    }
-}
-
-/// The version of the highest number in the span.
-fn newest_in(numbers: &Numbers, span: Span) -> Option<VersionNo>
-    ensures { IsNewestIn (get nat_cmp numbers.now) span result }
-{
-    let newest = match span {
-        Span::Any => numbers.last_key_value(),
-        Span::One(number) => numbers.get_key_value(&number),
-        Span::Range(low, high) => {
-            if low >= high {
-                return None;
-            }
-            let between = (Bound::Included(low), Bound::Excluded(high));
-            numbers.range(between).next_back()
-        }
-    };
-    match newest {
-        Some((_, version)) => Some(*version),
-        None => None,
-    }
 }
 
 /// The favoured versions of a catalogue, by their packages.
@@ -151,12 +74,9 @@ fn favoured_by(
 
 #[derive(Drop)]
 pub struct Chosen {
-    alloc: Global,
-    /// The chosen versions of each package that are no entries. Packages are kept by the numbers of
-    /// their first versions.
-    unlisted: BTreeMap<u32, Numbers>,
-    /// The entries of each package.
-    entries: BTreeMap<u32, Numbers>,
+    /// The chosen versions that are no entries.
+    unlisted: VersionTable,
+    entries: VersionTable,
     /// The favoured version of each package.
     favoured: BTreeMap<String, VersionNo>,
     /// Of each version of the catalogue, whether it is an entry.
@@ -172,9 +92,8 @@ impl Chosen {
         let mut listed = Vec::new(alloc);
         listed.resize(catalogue.versions().len(), false)?;
         Ok(Chosen {
-            alloc,
-            unlisted: BTreeMap::new(alloc),
-            entries: BTreeMap::new(alloc),
+            unlisted: VersionTable::new(alloc),
+            entries: VersionTable::new(alloc),
             favoured: favoured_by(alloc, catalogue)?,
             listed,
             left: Vec::new(alloc),
@@ -193,7 +112,7 @@ impl Chosen {
             return Ok(());
         }
         if let Some(place) = place_of(catalogue, version) {
-            add_number(self.alloc, &mut self.unlisted, place, version)?;
+            self.unlisted.add(place, version)?;
             self.left.push(version)?;
         }
         Ok(())
@@ -240,8 +159,8 @@ impl Chosen {
             → Holds catalogue.now self.new chosen (entries ++ v ∷ [])) }
     {
         if let Some(place) = place_of(catalogue, version) {
-            add_number(self.alloc, &mut self.entries, place, version)?;
-            remove_number(&mut self.unlisted, place);
+            self.entries.add(place, version)?;
+            self.unlisted.remove(place);
         }
         self.listed[version.0 as usize] = true;
         Ok(())
@@ -268,21 +187,17 @@ impl Chosen {
     }
 
     /// The favoured version of the SPEC's package, if it is a chosen match and no entry.
-    fn favoured_match(
-        &self,
-        catalogue: &Catalogue,
-        numbers: &Numbers,
-        spec: &Spec,
-    ) -> Option<VersionNo>
+    fn favoured_match(&self, catalogue: &Catalogue, package: u32, spec: &Spec) -> Option<VersionNo>
         ensures { (chosen entries : Set)
             → Holds catalogue.now self.now chosen entries
             → AreNumbersOf (listed catalogue.now) (IsLeftOver chosen entries)
-            (spec_of spec.now).name (Some numbers.now)
+            (spec_of spec.now).name (version_in self.now.unlisted «package»)
             → IsFavouredMatch catalogue.now chosen entries (spec_of spec.now) result }
     {
         let version = self.favoured.get(spec.name.as_str()).copied()?;
         let listed = version_at(catalogue, version)?;
-        if numbers.contains_key(&listed.1) && catalogue.match_of(spec, version) {
+        let chosen = self.unlisted.get((package, listed.1));
+        if chosen.is_some() && catalogue.match_of(spec, version) {
             Some(version)
         } else {
             None
@@ -296,10 +211,10 @@ impl Chosen {
             → Holds catalogue.now self.now chosen entries
             → IsUnlistedMatch catalogue.now chosen entries (spec_of spec.now) result }
     {
-        let numbers = numbers_of(&self.unlisted, catalogue, spec.name.as_str())?;
-        match self.favoured_match(catalogue, numbers, spec) {
+        let package = package_of(catalogue, spec.name.as_str())?;
+        match self.favoured_match(catalogue, package, spec) {
             Some(version) => Some(version),
-            None => newest_in(numbers, spec.span),
+            None => self.unlisted.newest_in(package, spec.span),
         }
     }
 
@@ -344,8 +259,8 @@ impl Chosen {
             → Holds catalogue.now self.now chosen entries
             → result ≡ is_met (spec_of spec.now) entries }
     {
-        match numbers_of(&self.entries, catalogue, spec.name.as_str()) {
-            Some(numbers) => newest_in(numbers, spec.span).is_some(),
+        match package_of(catalogue, spec.name.as_str()) {
+            Some(package) => self.entries.newest_in(package, spec.span).is_some(),
             None => false,
         }
     }

@@ -3,7 +3,7 @@ use Rattle.std.specs.BTreeMap.{get}
 use Rattle.std.specs.Ordering.{nat_cmp}
 use Rattle.resolvo_catalogue_core.proofs.Sorted.{updates_number}
 use Rattle.resolve_order.proofs.NumberLemmas.{put_number, number_updated}
-use Rattle.resolve_order.proofs.chosen.remove_number.Goals as goal
+use Rattle.resolve_order.proofs.version_table.remove_number.Goals as goal
 
 pub returns-in-Some : goal.returns-in-Some
 returns-in-Some c =

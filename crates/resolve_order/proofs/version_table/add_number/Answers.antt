@@ -5,7 +5,7 @@ use Rattle.std.specs.Ordering.{nat_cmp}
 use Rattle.std.specs.Map.{update}
 use Rattle.resolvo_catalogue_core.proofs.Sorted.{updates_number}
 use Rattle.resolve_order.proofs.NumberLemmas.{put_number, number_updated, number_new}
-use Rattle.resolve_order.proofs.chosen.add_number.Goals as goal
+use Rattle.resolve_order.proofs.version_table.add_number.Goals as goal
 
 pub returns-in-Some : goal.returns-in-Some
 returns-in-Some c =
