@@ -105,7 +105,7 @@ fn answer_lines(
     ensures numbered { IfOk result
         (λ lines. AllByRecursion (λ l. IsNumber (line_of l)) (answer_lines_of lines.items)) }
 {
-    let mut lines = Vec::new(alloc);
+    let mut lines = Vec::with_capacity(alloc, answers.len())?;
     for answer in answers {
         lines.push(answer_line(alloc, catalogue, *answer)?)?;
     }
