@@ -1,5 +1,5 @@
 -- The headline: what `run` writes for a catalogue and a request, in few definitions.
-use Rattle.std.specs.Prelude.{◌≡◌, ◌≤◌, ℕ, List, length, Option, codes}
+use Rattle.std.specs.Prelude.{◌≡◌, ◌≤◌, ℕ, List, length, Result, IfOk, IfErr, codes}
 use Rattle.std.specs.Io.KnownBytes.{Appends}
 use Rattle.resolvo_text.specs.Device.{IfKnown}
 use Rattle.resolvo_text.specs.Line.{Line}
@@ -11,7 +11,7 @@ use Rattle.resolvo_report.specs.Grammar.{most_bytes}
 use Rattle.resolve_answer.specs.Headline.{IsRight}
 use Rattle.resolve_check.specs.declared.outcome.Outcome.{Outcome}
 use Rattle.resolve_check.specs.declared.outcome.Outcome.TheVariants as outcome
-use Rattle.resolve_check.specs.Devices.{Device}
+use Rattle.resolve_check.specs.Devices.{Device, IfCatalogueFaulty}
 use Rattle.resolve_check.specs.Texts.{fault_text}
 
 -- how a run ends that writes this report
@@ -44,3 +44,15 @@ IsHeadline = IsTextFor IsRightText
 -- The writer took such a text of the two texts, where both are known, and nothing else.
 abbrev pub WritesHeadline : Device → Device → Device → Outcome → Type 0
 WritesHeadline catalogue request writer outcome = (output : List ℕ) × IfKnown catalogue.before (λ c. IfKnown request.before (λ r. IsHeadline c r outcome output)) × Appends writer.before writer.after output
+
+-- What a run does to its readers and its writer, by how it ended. Explains says more of a whole text, and Stops why there
+-- is none. The reader of the request is named before the run and after it.
+pub record IsRun {E S : Type 0} (Explains : Device → Device → Device → Outcome → Type 0) (Stops : E → Device → Device → Device → Type 0) (catalogue request writer : Device) (before after : S) (ended : Result Outcome E) : Type 0 where
+  -- the headline: the judge accepts the report, its claim is true, and it has the first choices
+  pub headline : IfOk ended (WritesHeadline catalogue request writer)
+  -- what explains it: the turns of the search, the steps in use, and the message
+  pub written : IfOk ended (Explains catalogue request writer)
+  -- after a refusal: which it is, why, and how much was written
+  pub stopped : IfErr ended (λ e. Stops e catalogue request writer)
+  -- where the catalogue has a faulty line, the reader of the request stays as it was
+  pub catalogue_faulty : IfCatalogueFaulty catalogue.before (after ≡ before)

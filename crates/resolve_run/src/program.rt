@@ -9,7 +9,7 @@ ghost use Rattle.resolvo_report.specs.View.{report_of};
 ghost use Rattle.resolve_answer.specs.Wishes.{AreWishesAt};
 ghost use Rattle.resolve_run.specs.Answer.{IsAnswerOfLines};
 ghost use Rattle.resolve_check.specs.Devices.{reader_at, writer_at};
-ghost use Rattle.resolve_run.specs.Headline.{WritesHeadline, outcome_of};
+ghost use Rattle.resolve_run.specs.Headline.{IsRun, outcome_of};
 ghost use Rattle.resolve_run.specs.Run.{AnswersTexts, IsWriteLack, LeavesRequest, StopsRun, Writes};
 ghost use Rattle.resolve_run.specs.Within.{within, IsLackWithin, StopsBeforeWithin, StopsWithin};
 
@@ -131,21 +131,10 @@ fn run_bounded<C: Source, R: Source, W: Sink>(
     budget: Option<u64>,
     release: Release,
 ) -> Result<Outcome, RunStop>
-    // The headline: the judge accepts the report, its claim is true, and it has the first choices.
-    ensures headline { IfOk result (WritesHeadline
+    ensures { IsRun Writes (StopsWithin budget)
         (reader_at C.Source catalogue.old catalogue.new)
         (reader_at R.Source request.old request.new)
-        (writer_at W.Sink writer.old writer.new)) }
-    // What explains it: the turns of the search, the steps in use, and the message.
-    ensures written { IfOk result (Writes (reader_at C.Source catalogue.old catalogue.new)
-        (reader_at R.Source request.old request.new)
-        (writer_at W.Sink writer.old writer.new)) }
-    // After a refusal.
-    ensures stopped { IfErr result (λ e. StopsWithin budget e
-        (reader_at C.Source catalogue.old catalogue.new)
-        (reader_at R.Source request.old request.new)
-        (writer_at W.Sink writer.old writer.new)) }
-    ensures catalogue_faulty { LeavesRequest (C.left catalogue.old) request.old request.new }
+        (writer_at W.Sink writer.old writer.new) request.old request.new result }
 {
     match answer(alloc, catalogue, request, budget, release) {
         Ok(answer) => match write_all(writer, answer.text.as_slice()) {
@@ -166,21 +155,10 @@ pub fn run_within<C: Source, R: Source, W: Sink>(
     writer: &mut W,
     budget: Option<u64>,
 ) -> Result<Outcome, RunStop>
-    // The headline: the judge accepts the report, its claim is true, and it has the first choices.
-    ensures headline { IfOk result (WritesHeadline
+    ensures { IsRun Writes (StopsWithin budget)
         (reader_at C.Source catalogue.old catalogue.new)
         (reader_at R.Source request.old request.new)
-        (writer_at W.Sink writer.old writer.new)) }
-    // What explains it: the turns of the search, the steps in use, and the message.
-    ensures written { IfOk result (Writes (reader_at C.Source catalogue.old catalogue.new)
-        (reader_at R.Source request.old request.new)
-        (writer_at W.Sink writer.old writer.new)) }
-    // After a refusal.
-    ensures stopped { IfErr result (λ e. StopsWithin budget e
-        (reader_at C.Source catalogue.old catalogue.new)
-        (reader_at R.Source request.old request.new)
-        (writer_at W.Sink writer.old writer.new)) }
-    ensures catalogue_faulty { LeavesRequest (C.left catalogue.old) request.old request.new }
+        (writer_at W.Sink writer.old writer.new) request.old request.new result }
 {
     run_bounded(alloc, catalogue, request, writer, budget, Release::Now)
 }
@@ -193,21 +171,10 @@ pub fn run<C: Source, R: Source, W: Sink>(
     request: &mut R,
     writer: &mut W,
 ) -> Result<Outcome, RunFault>
-    // The headline: the judge accepts the report, its claim is true, and it has the first choices.
-    ensures headline { IfOk result (WritesHeadline
+    ensures { IsRun Writes StopsRun
         (reader_at C.Source catalogue.old catalogue.new)
         (reader_at R.Source request.old request.new)
-        (writer_at W.Sink writer.old writer.new)) }
-    // What explains it: the turns of the search, the steps in use, and the message.
-    ensures written { IfOk result (Writes (reader_at C.Source catalogue.old catalogue.new)
-        (reader_at R.Source request.old request.new)
-        (writer_at W.Sink writer.old writer.new)) }
-    // After a refusal.
-    ensures stopped { IfErr result (λ e. StopsRun e
-        (reader_at C.Source catalogue.old catalogue.new)
-        (reader_at R.Source request.old request.new)
-        (writer_at W.Sink writer.old writer.new)) }
-    ensures catalogue_faulty { LeavesRequest (C.left catalogue.old) request.old request.new }
+        (writer_at W.Sink writer.old writer.new) request.old request.new result }
 {
     run_with(alloc, catalogue, request, writer, Release::Now)
 }
@@ -221,21 +188,10 @@ pub fn run_with<C: Source, R: Source, W: Sink>(
     writer: &mut W,
     release: Release,
 ) -> Result<Outcome, RunFault>
-    // The headline: the judge accepts the report, its claim is true, and it has the first choices.
-    ensures headline { IfOk result (WritesHeadline
+    ensures { IsRun Writes StopsRun
         (reader_at C.Source catalogue.old catalogue.new)
         (reader_at R.Source request.old request.new)
-        (writer_at W.Sink writer.old writer.new)) }
-    // What explains it: the turns of the search, the steps in use, and the message.
-    ensures written { IfOk result (Writes (reader_at C.Source catalogue.old catalogue.new)
-        (reader_at R.Source request.old request.new)
-        (writer_at W.Sink writer.old writer.new)) }
-    // After a refusal.
-    ensures stopped { IfErr result (λ e. StopsRun e
-        (reader_at C.Source catalogue.old catalogue.new)
-        (reader_at R.Source request.old request.new)
-        (writer_at W.Sink writer.old writer.new)) }
-    ensures catalogue_faulty { LeavesRequest (C.left catalogue.old) request.old request.new }
+        (writer_at W.Sink writer.old writer.new) request.old request.new result }
 {
     match run_bounded(alloc, catalogue, request, writer, None, release) {
         Ok(outcome) => Ok(outcome),
