@@ -41,6 +41,7 @@ use Rattle.resolvo_state.specs.SolverState.{IsCoding, Advances, KeepsClauses, le
 use Rattle.resolvo_state.specs.Registered.{AreTied, IsTracked, IsRegistered}
 use Rattle.resolvo_state.specs.Spelled.{AreRegistered}
 use Rattle.resolvo_state.specs.ClauseKinds.{kind_at, rule_at}
+use Rattle.resolvo_state.specs.StoredKinds.{KindList}
 use Rattle.resolvo_state.proofs.KeepLemmas.{floored_kept}
 use Rattle.resolvo_state.proofs.Growth.{grows_same, grows_then, trail_same, kind_grows, kind_split, rule_split, rules_split, spelled_grows, registered_grows, called_grows_trail, called_advances, called_undoes, called_chooses, called_extends}
 use Rattle.resolvo_state.proofs.Positions.{prefix_equal, get_last}
@@ -201,7 +202,7 @@ module _ {N S : Type 0} (old : Encoder N S) (c : SolverState N S) where
     grows = record {
       atoms = prefix_equal old.coding.atoms.keys c.atoms.keys (ap (λ (a : HashSet (ProofAtom N S) (BuildHasherDefault FoldHasher)). a.keys) kept.atoms);
       clauses = prefix_equal old.coding.search.clauses c.search.clauses kept.clauses;
-      kinds = prefix_equal old.coding.kinds.items c.kinds.items (ap (λ (xs : Vec (ClauseKind N S) Global). xs.items) kept.kinds);
+      kinds = prefix_equal old.coding.kinds.items c.kinds.items (ap (λ (xs : KindList N S). xs.items) kept.kinds);
       base_level = base_level;
     };
     earlier = earlier;

@@ -1,5 +1,5 @@
 -- What is written literal by literal, cause by cause and step by step.
-use Rattle.std.proofs.Common.{◌≡◌, ℕ, zero, suc, ◌<◌, ◌≤◌, inl, inr, Bool, true, false, ◌==◌, List, [], ◌∷◌, ◌++◌, map, length, get_or, cond, Some, None, refl, sym, ◌∙◌, ap, subst, arith, eqb-true}
+use Rattle.std.proofs.Common.{◌≡◌, ℕ, zero, suc, ◌<◌, ◌≤◌, inl, inr, Bool, true, false, ◌==◌, List, [], ◌∷◌, ◌++◌, map, length, get_or, cond, Option, Some, None, refl, sym, ◌∙◌, ap, subst, arith, eqb-true}
 use Rattle.std.proofs.lemmas.Bool.{cases_Bool}
 use Rattle.std.specs.Prelude.{slice_get}
 use Rattle.std.proofs.lemmas.Option.{slice_get_within}
@@ -20,6 +20,7 @@ use Rattle.resolvo_state.specs.declared.solver_state.SolverState.{SolverState}
 use Rattle.resolvo_state.specs.declared.clause_kind.ClauseKind.{ClauseKind}
 use Rattle.resolvo_state.specs.declared.clause_kind.ClauseKind.TheVariants as Kind
 use Rattle.resolvo_state.specs.ClauseKinds.{kind_at}
+use Rattle.resolvo_state.specs.StoredKinds.{IsCopyOf}
 use Rattle.resolvo_state.specs.Atoms.{atom_of, origin}
 use Rattle.resolvo_state.specs.SolverState.{IsCoding}
 use Rattle.resolvo_state.proofs.Origins.{atom_at_place}
@@ -79,12 +80,6 @@ has_read [] i d below = absurd (omega arith)
 has_read (x ∷ xs) zero d below = has_here x xs x refl
 has_read (x ∷ xs) (suc i) d below = has_later x xs (get_or xs i d) (has_read xs i d (omega arith))
 
--- an item that is read is at its place
-pub get_read : {X : Type 0} (xs : List X) (i : ℕ) (d : X) → i < length xs → slice_get xs i ≡ Some (get_or xs i d)
-get_read [] i d below = absurd (omega arith)
-get_read (x ∷ xs) zero d below = refl
-get_read (x ∷ xs) (suc i) d below = get_read xs i d (omega arith)
-
 -- copies in place of each item
 pub zip_same : {X : Type 0} (xs ys : List X) → AllZip (λ x y. y ≡ x) xs ys → ys ≡ xs
 zip_same [] [] h = refl
@@ -116,6 +111,13 @@ pub causes_are : (cs : List SatClause) (n : ℕ) (clause : SatClause) → slice_
 causes_are [] n clause at = absurd cc
 causes_are (d ∷ cs) zero clause at = let same : d ≡ clause = cc in ap (λ (x : SatClause). x.causes) same
 causes_are (d ∷ cs) (suc n) clause at = causes_are cs n clause at
+
+-- a copy of a kind encodes the same rule
+pub rule_copied : {N S : Type 0} (x copy : ClauseKind N S) (encoded : Option (ProofRule N S)) → IsCopyOf x copy → IsRuleOf copy encoded → IsRuleOf x encoded
+rule_copied {N} {S} x copy encoded (IsCopyOf.same e) rule = subst (λ (k : ClauseKind N S). IsRuleOf k encoded) e rule
+rule_copied {N} {S} x copy encoded (IsCopyOf.cased parent need case again x_is copy_is items) rule =
+    let (written, is, read) = subst (λ (k : ClauseKind N S). IsRuleOf k encoded) copy_is rule in
+    subst (λ (k : ClauseKind N S). IsRuleOf k encoded) (sym x_is) (written, is, read ∙ items)
 
 -- the step of a clause that encodes a rule
 pub rule_step : {N S : Type 0} (c : SolverState N S) (n : ℕ) (x : ClauseKind N S) (r : ProofRule N S) → n < length c.search.clauses → kind_at c.kinds.items n ≡ Some x → IsRuleOf x (Some r) → IsStepAt c n (Rule r)

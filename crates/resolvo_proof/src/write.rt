@@ -33,7 +33,8 @@ pub(crate) fn write_step<N: Copy + Exact + Hash + Debug, S: Copy + Exact + Hash 
     ensures step { IfOk result (IsStepAt coding.now number) }
     ensures refusal { IsOkUnless result Memory }
 {
-    match write_rule(&coding.kinds[number])? {
+    let kind = coding.kinds.get(number)?;
+    match write_rule(&kind)? {
         Some(rule) => Ok(ProofStep::Rule(rule)),
         None => {
             let literals = coding.search.clauses.literals(number);

@@ -1,4 +1,5 @@
 pub mod Positions
+pub mod StoredLemmas
 pub mod KeyLemmas
 pub mod Origins
 pub mod Rules

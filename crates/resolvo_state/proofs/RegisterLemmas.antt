@@ -1,5 +1,5 @@
 -- A solvable more is registered.
-use Rattle.std.proofs.Common.{◌≡◌, ℕ, zero, suc, ◌^◌, ◌<◌, ◌≤◌, ◌==◌, ◌⊎◌, inl, inr, Bool, true, false, not, List, [], ◌∷◌, ◌++◌, length, Some, Vec, Global, refl, sym, ◌∙◌, ap, subst, arith, eqb-true, eq-eqb}
+use Rattle.std.proofs.Common.{◌≡◌, ℕ, zero, suc, ◌^◌, ◌<◌, ◌≤◌, ◌==◌, ◌⊎◌, inl, inr, Bool, true, false, not, List, [], ◌∷◌, ◌++◌, length, Some, refl, sym, ◌∙◌, ap, subst, arith, eqb-true, eq-eqb}
 use Rattle.std.specs.Prelude.{slice_get, Contains}
 use Rattle.std.proofs.lemmas.Bool.{both_ways, cases_Bool}
 use Rattle.std.proofs.lemmas.Option.{slice_get_within}
@@ -27,6 +27,7 @@ use Rattle.resolvo_state.specs.declared.registry.Member.{Member}
 use Rattle.resolvo_state.specs.Atoms.{origin, Represents}
 use Rattle.resolvo_state.specs.Keys.{AreOnce}
 use Rattle.resolvo_state.specs.ClauseKinds.{kind_at, rule_at, rules_in}
+use Rattle.resolvo_state.specs.StoredKinds.{KindList}
 use Rattle.resolvo_state.specs.SolverState.{IsCoding, Grows, Gives}
 use Rattle.resolvo_state.specs.Registered.{digit_literals, IsTied, IsPlaced, AreTied, IsInTracker, IsTracked, IsQueued, IsMany, IsRegistered, member, IsNothing, IsDigitClause, Registers, Places, PlacesName, IsTieClause, Tracks}
 use Rattle.resolvo_state.proofs.Positions.{get_old, get_push, get_contains, contains_get, prefix_get, prefix_same, once_none}
@@ -70,7 +71,7 @@ KeepsDigits {N} {S} a c = (n : ℕ) (name : N) (s : S) (place bit : ℕ) → kin
 
 -- so it is where no kind was added, or one of another rule
 pub digits_same : {N S : Type 0} (a c : SolverState N S) → c.kinds ≡ a.kinds → KeepsDigits a c
-digits_same {N} {S} a c e n name s place bit h = subst (λ (xs : Vec (ClauseKind N S) Global). kind_at xs.items n ≡ Some (Digit name s place bit)) e h
+digits_same {N} {S} a c e n name s place bit h = subst (λ (xs : KindList N S). kind_at xs.items n ≡ Some (Digit name s place bit)) e h
 
 pub digits_more : {N S : Type 0} (x : ClauseKind N S) (a c : SolverState N S) → c.kinds.items ≡ a.kinds.items ++ x ∷ [] → ((name : N) (s : S) (place bit : ℕ) → x ≡ Digit name s place bit → ⊥) → KeepsDigits a c
 digits_more {N} {S} x a c e other n name s place bit h = elim (get_push a.kinds.items x (Digit name s place bit) n (subst (λ (xs : List (ClauseKind N S)). slice_get xs n ≡ Some (Digit name s place bit)) e h)) [

@@ -1,5 +1,5 @@
 -- The search at its start, and a variable more.
-use Rattle.std.proofs.Common.{◌≡◌, ℕ, zero, suc, inl, inr, true, false, List, [], ◌∷◌, ◌++◌, length, map, Some, None, Vec, Global, refl, sym, ◌∙◌, ap, subst}
+use Rattle.std.proofs.Common.{◌≡◌, ℕ, zero, suc, inl, inr, true, false, List, [], ◌∷◌, ◌++◌, length, map, Some, None, refl, sym, ◌∙◌, ap, subst}
 use Rattle.std.specs.Prelude.{slice_get}
 use Rattle.std.proofs.lemmas.Bool.{both_ways}
 use Rattle.resolvo_pool_core.specs.declared.id.VariableId.{VariableId}
@@ -22,6 +22,7 @@ use Rattle.resolvo_state.specs.declared.solver_state.SolverState.{SolverState}
 use Rattle.resolvo_state.specs.Atoms.{kind_of, Represents}
 use Rattle.resolvo_state.specs.Keys.{IsPlace, AreOnce}
 use Rattle.resolvo_state.specs.ClauseKinds.{kind_at}
+use Rattle.resolvo_state.specs.StoredKinds.{KindList}
 use Rattle.resolvo_state.specs.SolverState.{IsCoding, IsBegun, Gives}
 use Rattle.resolvo_state.proofs.Positions.{get_last, once_none, once_push, prefix_same, prefix_equal}
 use Rattle.resolvo_state.proofs.Origins.{count_is}
@@ -82,14 +83,14 @@ gives_added {N} {S} a v old new coding fresh adds watching pushed kinds = record
     ready = subst (λ (w : WatchLists). IsReady new.search w) (sym watching) (ready_same old.search new.search old.watching coding.ready adds.state adds.clauses adds.tracker adds.qhead adds.guard);
     covered = subst (λ (w : WatchLists). AreCovered new.search w) (sym watching) (covered_same old.search new.search old.watching coding.covered adds.clauses);
     variable_kinds = adds.variables ∙ ap (λ (variable_kinds : List VariableKind). variable_kinds ++ kind_of a ∷ []) coding.variable_kinds ∙ sym (ap (λ (atoms : List (ProofAtom N S)). Kinds.Root ∷ map kind_of atoms) pushed ∙ ap (λ (variable_kinds : List VariableKind). Kinds.Root ∷ variable_kinds) (map_push kind_of old.atoms.keys a));
-    each = ap (λ (xs : Vec (ClauseKind N S) Global). length xs.items) kinds ∙ coding.each ∙ sym (ap length adds.clauses);
+    each = ap (λ (xs : KindList N S). length xs.items) kinds ∙ coding.each ∙ sym (ap length adds.clauses);
     distinct = subst (λ (atoms : List (ProofAtom N S)). AreOnce atoms) (sym pushed) (once_push old.atoms.keys a coding.distinct fresh);
     learnt = λ n clause h is. coding.learnt n clause (same n Learnt h) (subst (λ (cs : List SatClause). slice_get cs n ≡ Some clause) adds.clauses is);
     apart = λ n clause h is. coding.apart n clause (same n Learnt h) (subst (λ (cs : List SatClause). slice_get cs n ≡ Some clause) adds.clauses is);
     drawn = λ n clause h is l a. (
         let (m, before, there) = coding.drawn n clause (same n Learnt h) (subst (λ (cs : List SatClause). slice_get cs n ≡ Some clause) adds.clauses is) l a in
         (m, before, subst (λ (cs : List SatClause). has (clause_at (lists cs) m) l ≡ true) (sym adds.clauses) there));
-    first = ap (λ (xs : Vec (ClauseKind N S) Global). kind_at xs.items 0) kinds ∙ coding.first;
+    first = ap (λ (xs : KindList N S). kind_at xs.items 0) kinds ∙ coding.first;
     rooted = λ n h. coding.rooted n (same n Root h);
     alone = λ l a. coding.alone l (subst (λ (cs : List SatClause). has (clause_at (lists cs) 0) l ≡ true) adds.clauses a);
   };
@@ -99,7 +100,7 @@ gives_added {N} {S} a v old new coding fresh adds watching pushed kinds = record
   grows = record {
     atoms = (a ∷ [], pushed);
     clauses = prefix_equal old.search.clauses new.search.clauses adds.clauses;
-    kinds = prefix_equal old.kinds.items new.kinds.items (ap (λ (xs : Vec (ClauseKind N S) Global). xs.items) kinds);
+    kinds = prefix_equal old.kinds.items new.kinds.items (ap (λ (xs : KindList N S). xs.items) kinds);
     base_level = adds.base_level;
   };
   trail = record { tracker = adds.tracker };
@@ -108,7 +109,7 @@ gives_added {N} {S} a v old new coding fresh adds watching pushed kinds = record
 }
   where
     same : (n : ℕ) (x : ClauseKind N S) → kind_at new.kinds.items n ≡ Some x → kind_at old.kinds.items n ≡ Some x
-    same n x h = ap (λ (xs : Vec (ClauseKind N S) Global). kind_at xs.items n) (sym kinds) ∙ h
+    same n x h = ap (λ (xs : KindList N S). kind_at xs.items n) (sym kinds) ∙ h
 
     place : v.0 ≡ suc (length old.atoms.keys)
     place = adds.number ∙ count_is old coding

@@ -2,6 +2,7 @@ pub mod AtomLaws
 pub mod Atoms
 pub mod Keys
 pub mod ClauseKinds
+pub mod StoredKinds
 pub mod SolverState
 pub mod Chosen
 pub mod Registered

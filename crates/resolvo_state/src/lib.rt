@@ -7,6 +7,7 @@ pub mod add_clause;
 pub mod atom;
 pub mod chosen;
 pub mod clause_kind;
+pub mod clause_kinds;
 mod keys;
 pub mod propagate_and_learn;
 pub mod registry;

@@ -9,6 +9,7 @@ ghost use Rattle.resolvo_state.specs.SolverState.{IsCoding, IsBegun, Gives, Lack
 
 use crate::atom::ProofAtom;
 use crate::clause_kind::ClauseKind;
+use crate::clause_kinds::ClauseKinds;
 use crate::keys::{place_in, push_key};
 use indexmap::IndexSet;
 use resolvo_pool_core::id::{Exact, VariableId};
@@ -25,7 +26,7 @@ pub struct SolverState<N: Copy + Eq + Hash, S: Copy + Eq + Hash> {
     pub search: SatState,
     pub watching: WatchLists,
     pub atoms: IndexSet<ProofAtom<N, S>>,
-    pub kinds: Vec<ClauseKind<N, S>>,
+    pub kinds: ClauseKinds<N, S>,
 }
 
 // split for the prover: one drop
@@ -47,7 +48,7 @@ impl<N: Copy + Exact + Hash + Debug, S: Copy + Exact + Hash + Debug> SolverState
         ensures refusal { IsOkUnless result Memory }
     {
         let (search, watching) = begin(alloc)?;
-        let mut kinds = Vec::new(alloc);
+        let mut kinds = ClauseKinds::new(alloc);
         kinds.push(ClauseKind::Root)?;
         Ok(SolverState {
             search,

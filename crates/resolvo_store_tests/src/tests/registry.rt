@@ -50,9 +50,9 @@ fn clauses(alloc: Global, count: u32) -> R<usize> {
 fn places(alloc: Global, count: u32) -> R<Vec<(u32, u32)>> {
     let coding = registered(alloc, count)?;
     let mut places = Vec::new(alloc);
-    for kinds in coding.kinds.iter() {
-        if let ClauseKind::Digit { place, bit, .. } = kinds {
-            places.push((*place, *bit))?;
+    for number in 0..coding.kinds.len() {
+        if let ClauseKind::Digit { place, bit, .. } = coding.kinds.get(number)? {
+            places.push((place, bit))?;
         }
     }
     Ok(places)
