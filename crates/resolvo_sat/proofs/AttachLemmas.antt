@@ -17,9 +17,9 @@ use Rattle.resolvo_sat.specs.declared.state.SatState.{SatState}
 use Rattle.resolvo_sat.specs.declared.watch_lists.WatchLists.{WatchLists}
 use Rattle.resolvo_sat.specs.Known.{clause_at}
 use Rattle.resolvo_sat.specs.Entries.{made_true, before}
-use Rattle.resolvo_sat.specs.State.{history, clauses_of}
+use Rattle.resolvo_sat.specs.State.{IsState, history, clauses_of}
 use Rattle.resolvo_sat.specs.Propagation.{IsReady, IsFit, IsOwnPair, GuardsTo, RecordsGuard, IsPending, SameWatching, Extends}
-use Rattle.resolvo_sat.specs.Attach.{AreFalseBut, IsBestBeside, IsBestSoFar, IsBestPair, IsFirstSet, IsLast, Starts, IsStart, Attaches, IsAttachment, IsPendingEnd}
+use Rattle.resolvo_sat.specs.Attach.{AreOwn, AreFalseBut, IsBestBeside, IsBestSoFar, IsBestPair, IsFirstSet, IsLast, Starts, IsStart, Attaches, IsAttachment, IsPendingEnd}
 use Rattle.resolvo_sat.proofs.Trails.{known_from_level}
 use Rattle.resolvo_sat.proofs.ExtendLemmas.{extends_nothing, extends_more, level_by_now}
 use Rattle.resolvo_sat.proofs.Guards.{guards_first, guards_recorded}
@@ -276,3 +276,16 @@ turned s v w ready rest back =
 pub attached_first : (s t u : SatState) (v w x : WatchLists) (o : Option ClauseId) → Attaches s t v w → IsPendingEnd t u w x o → IsPendingEnd s u v x o
 attached_first s t u v w x None a (b, none) = (record { watching = watching_more v w x a.watching b.watching; ready = b.ready; extends = extends_more s t u a.extends b.extends; qhead = b.qhead ∙ a.qhead }, none)
 attached_first s t u v w x (Some n) a b = record { watching = watching_more v w x a.watching b.watching; ready = b.ready; extends = extends_more s t u a.extends b.extends; falsified = b.falsified }
+
+-- neither of the two is false: there is nothing to guard
+pub free_is_start : (s : SatState) (n : ℕ) (p : WatchedLiterals) → IsState s → AreOwn (clause_at (clauses_of s) n) p.first p.second
+    → has (made_true (history s)) (negation p.first) ≡ false → has (made_true (history s)) (negation p.second) ≡ false → IsStart n s s (Some p)
+free_is_start s n p state own first second = (
+  own,
+  extends_nothing s state,
+  refl,
+  record {
+    first = λ k f. absurd (both_ways _ first (known_from_level (history s) (negation p.first) k (level_by_now s.tracker.trail s.qhead (negation p.first) k f)));
+    second = λ k f. absurd (both_ways _ second (known_from_level (history s) (negation p.second) k (level_by_now s.tracker.trail s.qhead (negation p.second) k f)));
+  },
+)

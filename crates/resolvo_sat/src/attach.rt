@@ -95,6 +95,9 @@ impl SatState {
         if !self.are_own(clause, first, second) {
             return None;
         }
+        if !self.is_false(first) && !self.is_false(second) {
+            return Some(start);
+        }
         if !self.may_watch(watching, first, second) {
             return None;
         }

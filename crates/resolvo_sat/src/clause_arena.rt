@@ -1,6 +1,6 @@
 //! The clauses of the solver. Their literals lie one after the other in one list, and so do their
 //! causes. The model is the list of clauses, in which a clause's position is its number.
-ghost use Rattle.std.specs.Prelude.{◌≡◌, ◌<◌, ◌≤◌, ◌-◌, [], ◌∷◌, ◌++◌, IfOk, OnOk, OnErr, IsErrOf, IsOkUnless, length, slice_index_or};
+ghost use Rattle.std.specs.Prelude.{◌≡◌, ◌<◌, ◌≤◌, ◌-◌, [], ◌∷◌, ◌++◌, if◌then◌else◌, is_ok, IfOk, OnOk, OnErr, IsErrOf, IsOkUnless, length, slice_index_or};
 ghost use Rattle.resolvo_pool_core.specs.declared.want.Want.TheVariants.{Ids, Memory};
 ghost use Rattle.resolvo_sat.specs.Clauses.{sat_clause, causes_at, start};
 ghost use Rattle.resolvo_sat.specs.Known.{clause_at};
@@ -9,7 +9,7 @@ ghost use Rattle.resolvo_sat.specs.State.{lists};
 use resolvo_pool_core::id::{ClauseId, next_index};
 use resolvo_pool_core::want::{R, Want};
 use resolvo_store_core::literal::Literal;
-use std::alloc::Global;
+use std::alloc::{AllocError, Global};
 use std::marker::Model;
 
 /// Where the literals and the causes of a clause end. They begin where those of the clause before it
@@ -71,8 +71,8 @@ impl ClauseArena {
         // What a refused call left behind is dropped.
         self.literals.truncate(begin.literals as usize);
         self.causes.truncate(begin.causes as usize);
-        self.literals.extend_from_slice(literals)?;
-        self.causes.extend_from_slice(causes)?;
+        append(&mut self.literals, literals)?;
+        append(&mut self.causes, causes)?;
         let end = end_at(self.literals.len(), self.causes.len())?;
         self.ends.push(end)?;
         Ok(ClauseId(number as u32))
@@ -97,6 +97,17 @@ impl ClauseArena {
         let end = self.ends[number];
         &self.causes[begin.causes as usize..end.causes as usize]
     }
+}
+
+/// Appends items. Most clauses have no causes, so none is the short way.
+fn append<T: Copy>(items: &mut Vec<T>, more: &[T]) -> Result<(), AllocError>
+    ensures items { items.new.items
+        ≡ (if is_ok result then items.old.items ++ more.now else items.old.items) }
+{
+    if more.is_empty() {
+        return Ok(());
+    }
+    items.extend_from_slice(more)
 }
 
 /// Where the literals and the causes of the clause of a number begin.

@@ -18,16 +18,16 @@ invariant_of-self c =
     let last : b ≡ begin_from start ends (length ends) =
     subst (λ (k : ℕ). b ≡ begin_from start ends k) n (begin_is ends c.in_ok-number.number b c.begin_of-begin.ensures.first
     (λ h. c.begin_of-begin.ensures.later h ∙ ap (λ (es : List ClauseEnd). get_or es (c.in_ok-number.number - 1) start) c.deref.ensures.value) (omega (arith, n))) in
-    let f : Follow ls c.extend_from_slice.new.self.items [] cs c.truncate-2.new.self.items [] ends b = record {
+    let f : Follow ls c.append.new.items.items [] cs c.truncate-2.new.self.items [] ends b = record {
       are = c.self.invariant;
       last = last;
-      literals = c.in_err-extend_from_slice.ensures.items ∙ c.truncate.ensures.items ∙ sym (append-nil (take b.literals ls));
+      literals = c.in_err-append.ensures.items ∙ c.truncate.ensures.items ∙ sym (append-nil (take b.literals ls));
       causes = c.truncate-2.ensures.items ∙ sym (append-nil (take b.causes cs));
     } in
-    ends_kept ls c.extend_from_slice.new.self.items [] cs c.truncate-2.new.self.items [] ends b f
+    ends_kept ls c.append.new.items.items [] cs c.truncate-2.new.self.items [] ends b f
 
-pub returns-in_err-extend_from_slice-clause-err : goal.returns-in_err-extend_from_slice-clause-err
-returns-in_err-extend_from_slice-clause-err c =
+pub returns-in_err-append-clause-err : goal.returns-in_err-append-clause-err
+returns-in_err-append-clause-err c =
     let inside = c.self.inside in
     let ls = inside.literals.items in
     let cs = inside.causes.items in
@@ -37,17 +37,17 @@ returns-in_err-extend_from_slice-clause-err c =
     let last : b ≡ begin_from start ends (length ends) =
     subst (λ (k : ℕ). b ≡ begin_from start ends k) n (begin_is ends c.in_ok-number.number b c.begin_of-begin.ensures.first
     (λ h. c.begin_of-begin.ensures.later h ∙ ap (λ (es : List ClauseEnd). get_or es (c.in_ok-number.number - 1) start) c.deref.ensures.value) (omega (arith, n))) in
-    let f : Follow ls c.extend_from_slice.new.self.items [] cs c.truncate-2.new.self.items [] ends b = record {
+    let f : Follow ls c.append.new.items.items [] cs c.truncate-2.new.self.items [] ends b = record {
       are = c.self.invariant;
       last = last;
-      literals = c.in_err-extend_from_slice.ensures.items ∙ c.truncate.ensures.items ∙ sym (append-nil (take b.literals ls));
+      literals = c.in_err-append.ensures.items ∙ c.truncate.ensures.items ∙ sym (append-nil (take b.literals ls));
       causes = c.truncate-2.ensures.items ∙ sym (append-nil (take b.causes cs));
     } in
-    on_err c.from_residual-in_err-extend_from_slice.result (clauses_in c.extend_from_slice.new.self.items c.truncate-2.new.self.items ends ≡ c.args.self.now)
-    (rw (← c.self.view_is) (clauses_kept ls c.extend_from_slice.new.self.items [] cs c.truncate-2.new.self.items [] ends b f))
+    on_err c.from_residual-in_err-append.result (clauses_in c.append.new.items.items c.truncate-2.new.self.items ends ≡ c.args.self.now)
+    (rw (← c.self.view_is) (clauses_kept ls c.append.new.items.items [] cs c.truncate-2.new.self.items [] ends b f))
 
-pub invariant_of-self-in_err-extend_from_slice-2 : goal.invariant_of-self-in_err-extend_from_slice-2
-invariant_of-self-in_err-extend_from_slice-2 c =
+pub invariant_of-self-in_err-append-2 : goal.invariant_of-self-in_err-append-2
+invariant_of-self-in_err-append-2 c =
     let inside = c.self.inside in
     let ls = inside.literals.items in
     let cs = inside.causes.items in
@@ -57,16 +57,16 @@ invariant_of-self-in_err-extend_from_slice-2 c =
     let last : b ≡ begin_from start ends (length ends) =
     subst (λ (k : ℕ). b ≡ begin_from start ends k) n (begin_is ends c.in_ok-number.number b c.begin_of-begin.ensures.first
     (λ h. c.begin_of-begin.ensures.later h ∙ ap (λ (es : List ClauseEnd). get_or es (c.in_ok-number.number - 1) start) c.deref.ensures.value) (omega (arith, n))) in
-    let f : Follow ls c.extend_from_slice.new.self.items c.args.literals.now cs c.extend_from_slice-2.new.self.items [] ends b = record {
+    let f : Follow ls c.append.new.items.items c.args.literals.now cs c.append-2.new.items.items [] ends b = record {
       are = c.self.invariant;
       last = last;
-      literals = c.in_ok-extend_from_slice.ensures.items ∙ ap (λ (xs : List Signed). xs ++ c.args.literals.now) c.truncate.ensures.items;
-      causes = c.in_err-extend_from_slice-2.ensures.items ∙ c.truncate-2.ensures.items ∙ sym (append-nil (take b.causes cs));
+      literals = c.in_ok-append.ensures.items ∙ ap (λ (xs : List Signed). xs ++ c.args.literals.now) c.truncate.ensures.items;
+      causes = c.in_err-append-2.ensures.items ∙ c.truncate-2.ensures.items ∙ sym (append-nil (take b.causes cs));
     } in
-    ends_kept ls c.extend_from_slice.new.self.items c.args.literals.now cs c.extend_from_slice-2.new.self.items [] ends b f
+    ends_kept ls c.append.new.items.items c.args.literals.now cs c.append-2.new.items.items [] ends b f
 
-pub returns-in_err-extend_from_slice-2-clause-err : goal.returns-in_err-extend_from_slice-2-clause-err
-returns-in_err-extend_from_slice-2-clause-err c =
+pub returns-in_err-append-2-clause-err : goal.returns-in_err-append-2-clause-err
+returns-in_err-append-2-clause-err c =
     let inside = c.self.inside in
     let ls = inside.literals.items in
     let cs = inside.causes.items in
@@ -76,14 +76,14 @@ returns-in_err-extend_from_slice-2-clause-err c =
     let last : b ≡ begin_from start ends (length ends) =
     subst (λ (k : ℕ). b ≡ begin_from start ends k) n (begin_is ends c.in_ok-number.number b c.begin_of-begin.ensures.first
     (λ h. c.begin_of-begin.ensures.later h ∙ ap (λ (es : List ClauseEnd). get_or es (c.in_ok-number.number - 1) start) c.deref.ensures.value) (omega (arith, n))) in
-    let f : Follow ls c.extend_from_slice.new.self.items c.args.literals.now cs c.extend_from_slice-2.new.self.items [] ends b = record {
+    let f : Follow ls c.append.new.items.items c.args.literals.now cs c.append-2.new.items.items [] ends b = record {
       are = c.self.invariant;
       last = last;
-      literals = c.in_ok-extend_from_slice.ensures.items ∙ ap (λ (xs : List Signed). xs ++ c.args.literals.now) c.truncate.ensures.items;
-      causes = c.in_err-extend_from_slice-2.ensures.items ∙ c.truncate-2.ensures.items ∙ sym (append-nil (take b.causes cs));
+      literals = c.in_ok-append.ensures.items ∙ ap (λ (xs : List Signed). xs ++ c.args.literals.now) c.truncate.ensures.items;
+      causes = c.in_err-append-2.ensures.items ∙ c.truncate-2.ensures.items ∙ sym (append-nil (take b.causes cs));
     } in
-    on_err c.from_residual-in_err-extend_from_slice-2.result (clauses_in c.extend_from_slice.new.self.items c.extend_from_slice-2.new.self.items ends ≡ c.args.self.now)
-    (rw (← c.self.view_is) (clauses_kept ls c.extend_from_slice.new.self.items c.args.literals.now cs c.extend_from_slice-2.new.self.items [] ends b f))
+    on_err c.from_residual-in_err-append-2.result (clauses_in c.append.new.items.items c.append-2.new.items.items ends ≡ c.args.self.now)
+    (rw (← c.self.view_is) (clauses_kept ls c.append.new.items.items c.args.literals.now cs c.append-2.new.items.items [] ends b f))
 
 pub invariant_of-self-in_err-end : goal.invariant_of-self-in_err-end
 invariant_of-self-in_err-end c =
@@ -96,13 +96,13 @@ invariant_of-self-in_err-end c =
     let last : b ≡ begin_from start ends (length ends) =
     subst (λ (k : ℕ). b ≡ begin_from start ends k) n (begin_is ends c.in_ok-number.number b c.begin_of-begin.ensures.first
     (λ h. c.begin_of-begin.ensures.later h ∙ ap (λ (es : List ClauseEnd). get_or es (c.in_ok-number.number - 1) start) c.deref.ensures.value) (omega (arith, n))) in
-    let f : Follow ls c.extend_from_slice.new.self.items c.args.literals.now cs c.extend_from_slice-2.new.self.items c.args.causes.now ends b = record {
+    let f : Follow ls c.append.new.items.items c.args.literals.now cs c.append-2.new.items.items c.args.causes.now ends b = record {
       are = c.self.invariant;
       last = last;
-      literals = c.in_ok-extend_from_slice.ensures.items ∙ ap (λ (xs : List Signed). xs ++ c.args.literals.now) c.truncate.ensures.items;
-      causes = c.in_ok-extend_from_slice-2.ensures.items ∙ ap (λ (xs : List ClauseId). xs ++ c.args.causes.now) c.truncate-2.ensures.items;
+      literals = c.in_ok-append.ensures.items ∙ ap (λ (xs : List Signed). xs ++ c.args.literals.now) c.truncate.ensures.items;
+      causes = c.in_ok-append-2.ensures.items ∙ ap (λ (xs : List ClauseId). xs ++ c.args.causes.now) c.truncate-2.ensures.items;
     } in
-    ends_kept ls c.extend_from_slice.new.self.items c.args.literals.now cs c.extend_from_slice-2.new.self.items c.args.causes.now ends b f
+    ends_kept ls c.append.new.items.items c.args.literals.now cs c.append-2.new.items.items c.args.causes.now ends b f
 
 pub returns-in_err-end-clause-err : goal.returns-in_err-end-clause-err
 returns-in_err-end-clause-err c =
@@ -115,14 +115,14 @@ returns-in_err-end-clause-err c =
     let last : b ≡ begin_from start ends (length ends) =
     subst (λ (k : ℕ). b ≡ begin_from start ends k) n (begin_is ends c.in_ok-number.number b c.begin_of-begin.ensures.first
     (λ h. c.begin_of-begin.ensures.later h ∙ ap (λ (es : List ClauseEnd). get_or es (c.in_ok-number.number - 1) start) c.deref.ensures.value) (omega (arith, n))) in
-    let f : Follow ls c.extend_from_slice.new.self.items c.args.literals.now cs c.extend_from_slice-2.new.self.items c.args.causes.now ends b = record {
+    let f : Follow ls c.append.new.items.items c.args.literals.now cs c.append-2.new.items.items c.args.causes.now ends b = record {
       are = c.self.invariant;
       last = last;
-      literals = c.in_ok-extend_from_slice.ensures.items ∙ ap (λ (xs : List Signed). xs ++ c.args.literals.now) c.truncate.ensures.items;
-      causes = c.in_ok-extend_from_slice-2.ensures.items ∙ ap (λ (xs : List ClauseId). xs ++ c.args.causes.now) c.truncate-2.ensures.items;
+      literals = c.in_ok-append.ensures.items ∙ ap (λ (xs : List Signed). xs ++ c.args.literals.now) c.truncate.ensures.items;
+      causes = c.in_ok-append-2.ensures.items ∙ ap (λ (xs : List ClauseId). xs ++ c.args.causes.now) c.truncate-2.ensures.items;
     } in
-    on_err c.from_residual-in_err-end.result (clauses_in c.extend_from_slice.new.self.items c.extend_from_slice-2.new.self.items ends ≡ c.args.self.now)
-    (rw (← c.self.view_is) (clauses_kept ls c.extend_from_slice.new.self.items c.args.literals.now cs c.extend_from_slice-2.new.self.items c.args.causes.now ends b f))
+    on_err c.from_residual-in_err-end.result (clauses_in c.append.new.items.items c.append-2.new.items.items ends ≡ c.args.self.now)
+    (rw (← c.self.view_is) (clauses_kept ls c.append.new.items.items c.args.literals.now cs c.append-2.new.items.items c.args.causes.now ends b f))
 
 pub invariant_of-self-in_err-push : goal.invariant_of-self-in_err-push
 invariant_of-self-in_err-push c =
@@ -135,13 +135,13 @@ invariant_of-self-in_err-push c =
     let last : b ≡ begin_from start ends (length ends) =
     subst (λ (k : ℕ). b ≡ begin_from start ends k) n (begin_is ends c.in_ok-number.number b c.begin_of-begin.ensures.first
     (λ h. c.begin_of-begin.ensures.later h ∙ ap (λ (es : List ClauseEnd). get_or es (c.in_ok-number.number - 1) start) c.deref.ensures.value) (omega (arith, n))) in
-    let f : Follow ls c.extend_from_slice.new.self.items c.args.literals.now cs c.extend_from_slice-2.new.self.items c.args.causes.now ends b = record {
+    let f : Follow ls c.append.new.items.items c.args.literals.now cs c.append-2.new.items.items c.args.causes.now ends b = record {
       are = c.self.invariant;
       last = last;
-      literals = c.in_ok-extend_from_slice.ensures.items ∙ ap (λ (xs : List Signed). xs ++ c.args.literals.now) c.truncate.ensures.items;
-      causes = c.in_ok-extend_from_slice-2.ensures.items ∙ ap (λ (xs : List ClauseId). xs ++ c.args.causes.now) c.truncate-2.ensures.items;
+      literals = c.in_ok-append.ensures.items ∙ ap (λ (xs : List Signed). xs ++ c.args.literals.now) c.truncate.ensures.items;
+      causes = c.in_ok-append-2.ensures.items ∙ ap (λ (xs : List ClauseId). xs ++ c.args.causes.now) c.truncate-2.ensures.items;
     } in
-    rw (c.in_err-push.ensures.items) (ends_kept ls c.extend_from_slice.new.self.items c.args.literals.now cs c.extend_from_slice-2.new.self.items c.args.causes.now ends b f)
+    rw (c.in_err-push.ensures.items) (ends_kept ls c.append.new.items.items c.args.literals.now cs c.append-2.new.items.items c.args.causes.now ends b f)
 
 pub returns-in_err-push-clause-err : goal.returns-in_err-push-clause-err
 returns-in_err-push-clause-err c =
@@ -154,14 +154,14 @@ returns-in_err-push-clause-err c =
     let last : b ≡ begin_from start ends (length ends) =
     subst (λ (k : ℕ). b ≡ begin_from start ends k) n (begin_is ends c.in_ok-number.number b c.begin_of-begin.ensures.first
     (λ h. c.begin_of-begin.ensures.later h ∙ ap (λ (es : List ClauseEnd). get_or es (c.in_ok-number.number - 1) start) c.deref.ensures.value) (omega (arith, n))) in
-    let f : Follow ls c.extend_from_slice.new.self.items c.args.literals.now cs c.extend_from_slice-2.new.self.items c.args.causes.now ends b = record {
+    let f : Follow ls c.append.new.items.items c.args.literals.now cs c.append-2.new.items.items c.args.causes.now ends b = record {
       are = c.self.invariant;
       last = last;
-      literals = c.in_ok-extend_from_slice.ensures.items ∙ ap (λ (xs : List Signed). xs ++ c.args.literals.now) c.truncate.ensures.items;
-      causes = c.in_ok-extend_from_slice-2.ensures.items ∙ ap (λ (xs : List ClauseId). xs ++ c.args.causes.now) c.truncate-2.ensures.items;
+      literals = c.in_ok-append.ensures.items ∙ ap (λ (xs : List Signed). xs ++ c.args.literals.now) c.truncate.ensures.items;
+      causes = c.in_ok-append-2.ensures.items ∙ ap (λ (xs : List ClauseId). xs ++ c.args.causes.now) c.truncate-2.ensures.items;
     } in
-    on_err c.from_residual-in_err-push.result (clauses_in c.extend_from_slice.new.self.items c.extend_from_slice-2.new.self.items c.push.new.self.items ≡ c.args.self.now)
-    (rw (c.in_err-push.ensures.items, ← c.self.view_is) (clauses_kept ls c.extend_from_slice.new.self.items c.args.literals.now cs c.extend_from_slice-2.new.self.items c.args.causes.now ends b f))
+    on_err c.from_residual-in_err-push.result (clauses_in c.append.new.items.items c.append-2.new.items.items c.push.new.self.items ≡ c.args.self.now)
+    (rw (c.in_err-push.ensures.items, ← c.self.view_is) (clauses_kept ls c.append.new.items.items c.args.literals.now cs c.append-2.new.items.items c.args.causes.now ends b f))
 
 pub invariant_of-self-2 : goal.invariant_of-self-2
 invariant_of-self-2 c =
@@ -174,17 +174,17 @@ invariant_of-self-2 c =
     let last : b ≡ begin_from start ends (length ends) =
     subst (λ (k : ℕ). b ≡ begin_from start ends k) n (begin_is ends c.in_ok-number.number b c.begin_of-begin.ensures.first
     (λ h. c.begin_of-begin.ensures.later h ∙ ap (λ (es : List ClauseEnd). get_or es (c.in_ok-number.number - 1) start) c.deref.ensures.value) (omega (arith, n))) in
-    let f : Follow ls c.extend_from_slice.new.self.items c.args.literals.now cs c.extend_from_slice-2.new.self.items c.args.causes.now ends b = record {
+    let f : Follow ls c.append.new.items.items c.args.literals.now cs c.append-2.new.items.items c.args.causes.now ends b = record {
       are = c.self.invariant;
       last = last;
-      literals = c.in_ok-extend_from_slice.ensures.items ∙ ap (λ (xs : List Signed). xs ++ c.args.literals.now) c.truncate.ensures.items;
-      causes = c.in_ok-extend_from_slice-2.ensures.items ∙ ap (λ (xs : List ClauseId). xs ++ c.args.causes.now) c.truncate-2.ensures.items;
+      literals = c.in_ok-append.ensures.items ∙ ap (λ (xs : List Signed). xs ++ c.args.literals.now) c.truncate.ensures.items;
+      causes = c.in_ok-append-2.ensures.items ∙ ap (λ (xs : List ClauseId). xs ++ c.args.causes.now) c.truncate-2.ensures.items;
     } in
     let p = c.in_ok-end.end in
-    let literals : p.literals ≡ length c.extend_from_slice.new.self.items = omega (arith, c.in_ok-end.ensures.literals, c.len-2.ensures, c.extend_from_slice.new.self.ok.0) in
-    let causes : p.causes ≡ length c.extend_from_slice-2.new.self.items = omega (arith, c.in_ok-end.ensures.causes, c.len-3.ensures, c.extend_from_slice-2.new.self.ok.0) in
+    let literals : p.literals ≡ length c.append.new.items.items = omega (arith, c.in_ok-end.ensures.literals, c.len-2.ensures, c.append.new.items.ok.0) in
+    let causes : p.causes ≡ length c.append-2.new.items.items = omega (arith, c.in_ok-end.ensures.causes, c.len-3.ensures, c.append-2.new.items.ok.0) in
     let few : length ends < 4294967295 = omega (arith, n, c.in_ok-number.ensures.index.1) in
-    rw (c.in_ok-push.ensures.items) (ends_pushed ls c.extend_from_slice.new.self.items c.args.literals.now cs c.extend_from_slice-2.new.self.items c.args.causes.now ends b p f few literals causes)
+    rw (c.in_ok-push.ensures.items) (ends_pushed ls c.append.new.items.items c.args.literals.now cs c.append-2.new.items.items c.args.causes.now ends b p f few literals causes)
 
 pub returns-clause-put : goal.returns-clause-put
 returns-clause-put c =
@@ -197,16 +197,16 @@ returns-clause-put c =
     let last : b ≡ begin_from start ends (length ends) =
     subst (λ (k : ℕ). b ≡ begin_from start ends k) n (begin_is ends c.in_ok-number.number b c.begin_of-begin.ensures.first
     (λ h. c.begin_of-begin.ensures.later h ∙ ap (λ (es : List ClauseEnd). get_or es (c.in_ok-number.number - 1) start) c.deref.ensures.value) (omega (arith, n))) in
-    let f : Follow ls c.extend_from_slice.new.self.items c.args.literals.now cs c.extend_from_slice-2.new.self.items c.args.causes.now ends b = record {
+    let f : Follow ls c.append.new.items.items c.args.literals.now cs c.append-2.new.items.items c.args.causes.now ends b = record {
       are = c.self.invariant;
       last = last;
-      literals = c.in_ok-extend_from_slice.ensures.items ∙ ap (λ (xs : List Signed). xs ++ c.args.literals.now) c.truncate.ensures.items;
-      causes = c.in_ok-extend_from_slice-2.ensures.items ∙ ap (λ (xs : List ClauseId). xs ++ c.args.causes.now) c.truncate-2.ensures.items;
+      literals = c.in_ok-append.ensures.items ∙ ap (λ (xs : List Signed). xs ++ c.args.literals.now) c.truncate.ensures.items;
+      causes = c.in_ok-append-2.ensures.items ∙ ap (λ (xs : List ClauseId). xs ++ c.args.causes.now) c.truncate-2.ensures.items;
     } in
     let p = c.in_ok-end.end in
-    let literals : p.literals ≡ length c.extend_from_slice.new.self.items = omega (arith, c.in_ok-end.ensures.literals, c.len-2.ensures, c.extend_from_slice.new.self.ok.0) in
-    let causes : p.causes ≡ length c.extend_from_slice-2.new.self.items = omega (arith, c.in_ok-end.ensures.causes, c.len-3.ensures, c.extend_from_slice-2.new.self.ok.0) in
-    rw (c.in_ok-push.ensures.items, ← c.self.view_is) (clauses_pushed ls c.extend_from_slice.new.self.items c.args.literals.now cs c.extend_from_slice-2.new.self.items c.args.causes.now ends b p f literals causes)
+    let literals : p.literals ≡ length c.append.new.items.items = omega (arith, c.in_ok-end.ensures.literals, c.len-2.ensures, c.append.new.items.ok.0) in
+    let causes : p.causes ≡ length c.append-2.new.items.items = omega (arith, c.in_ok-end.ensures.causes, c.len-3.ensures, c.append-2.new.items.ok.0) in
+    rw (c.in_ok-push.ensures.items, ← c.self.view_is) (clauses_pushed ls c.append.new.items.items c.args.literals.now cs c.append-2.new.items.items c.args.causes.now ends b p f literals causes)
 
 pub returns-clause-id : goal.returns-clause-id
 returns-clause-id c =

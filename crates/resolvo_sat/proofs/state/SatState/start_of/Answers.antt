@@ -1,5 +1,12 @@
+use Rattle.std.proofs.Common.{◌∙◌, sym}
+use Rattle.resolvo_sat.proofs.AttachLemmas.{free_is_start}
 use Rattle.resolvo_sat.proofs.StartLemmas.{start_guards}
 use Rattle.resolvo_sat.proofs.state.SatState.start_of.Goals as goal
+
+pub returns-then-not-is_false-2 : goal.returns-then-not-is_false-2
+returns-then-not-is_false-2 c =
+    free_is_start c.args.self.now c.args.clause.0 c.in_ok-start.start c.requires.state (c.are_own.ensures c.if-not-are_own.false)
+    (sym c.is_false.ensures ∙ c.if-not-is_false.true) (sym c.is_false-then-not-is_false.ensures ∙ c.if-not-is_false-2.true)
 
 pub returns : goal.returns
 returns c =
