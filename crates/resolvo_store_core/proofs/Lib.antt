@@ -5,6 +5,7 @@ pub mod Digits
 pub mod LinkLemmas
 pub mod Rooms
 pub mod Seconds
+pub mod SmallSets
 pub mod Ties
 pub mod Trails
 pub mod Walks

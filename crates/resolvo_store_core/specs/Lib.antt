@@ -12,6 +12,7 @@ pub mod Values
 pub mod Watches
 pub mod Watchable
 pub mod AtMostOne
+pub mod SmallSets
 pub mod Pick
 pub mod Cases
 pub mod Deferred

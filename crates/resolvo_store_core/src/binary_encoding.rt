@@ -5,10 +5,11 @@
 //! There are just enough helpers to distinguish the places.
 ghost use Rattle.std.specs.Prelude.{◌≡◌, ◌==◌, ◌&&◌, ◌+◌, ◌*◌, ◌^◌, ◌++◌, ◌∷◌, [], ◌↔◌, Bool, ℕ, not, true, false, is_some, length, map, IfOk, OnOk, OnErr, IsOkUnless};
 ghost use Rattle.std.specs.List.{list_any, count_by};
+ghost use Rattle.std.specs.Option.{option_to_list};
 ghost use Rattle.resolvo_pool_core.specs.declared.want.Want.TheVariants.{Memory};
 ghost use Rattle.resolvo_store_core.specs.AtMostOne.{among, needs_helper, tracked, ties, tie_all, new_ties, all_ties, IsLeastCount, IsPrefixOf, IsMet, IsAtMostOne};
 
-use indexmap::IndexSet;
+use crate::small_set::SmallSet;
 use resolvo_pool_core::want::R;
 use std::alloc::Global;
 use std::hash::Hash;
@@ -17,7 +18,7 @@ use std::marker::Model;
 /// The variables of which at most one may be true, with their helpers.
 #[derive(Drop)]
 pub struct AtMostOnceTracker<V: Eq + Hash> {
-    variables: IndexSet<V>,
+    variables: SmallSet<V>,
     helpers: Vec<V>,
     /// How many places the helpers can distinguish.
     room: u128,
@@ -29,11 +30,11 @@ impl<V: Eq + Hash> Model for AtMostOnceTracker<V> {
 
     ghost Value = { Tracking V };
 
-    ghost view = { λ t. record { variables = t.variables.keys; helpers = t.helpers.items } };
+    ghost view = { λ t. record { variables = t.variables; helpers = t.helpers.items } };
 
     ghost invariant = { λ t.
         (t.room ≡ 2 ^ length t.helpers.items)
-        × IsLeastCount (length t.helpers.items) (length t.variables.keys) };
+        × IsLeastCount (length t.helpers.items) (length t.variables) };
 }
 
 impl<V: Copy + Eq + Hash + Drop> AtMostOnceTracker<V> {
@@ -42,7 +43,7 @@ impl<V: Copy + Eq + Hash + Drop> AtMostOnceTracker<V> {
         ensures { result ≡ record { variables = []; helpers = [] } }
     {
         AtMostOnceTracker {
-            variables: IndexSet::new(alloc),
+            variables: SmallSet::new(alloc),
             helpers: Vec::new(alloc),
             room: 1,
         }
@@ -69,7 +70,7 @@ impl<V: Copy + Eq + Hash + Drop> AtMostOnceTracker<V> {
         ensures { result ≡ needs_helper V.eq self.now variable }
     {
         let full = self.variables.len() as u128 == self.room;
-        !self.variables.contains(&variable) && full
+        !self.variables.contains(variable) && full
     }
 
     /// Tracks a variable, with a new helper where it needs one. The clauses that tie it, and the
@@ -88,11 +89,11 @@ impl<V: Copy + Eq + Hash + Drop> AtMostOnceTracker<V> {
         ensures err_out { OnErr result (out.new.items ≡ out.old.items) }
         ensures refusal { IsOkUnless result Memory }
     {
-        if self.variables.contains(&variable) {
+        if self.variables.contains(variable) {
             return Ok(false);
         }
         let before = out.len();
-        self.helpers.reserve(1)?;
+        self.helpers.reserve(count_of(helper))?;
         let variables = self.variables.as_slice();
         match tie(variables, self.helpers.as_slice(), variable, helper, out) {
             Ok(()) => {}
@@ -101,11 +102,11 @@ impl<V: Copy + Eq + Hash + Drop> AtMostOnceTracker<V> {
                 return Err(want);
             }
         }
-        match self.variables.insert(variable) {
-            Ok(_) => {}
-            Err(refused) => {
+        match self.variables.push(variable) {
+            Ok(()) => {}
+            Err(want) => {
                 out.truncate(before);
-                return Err(refused.into());
+                return Err(want);
             }
         }
         match helper {
@@ -140,6 +141,16 @@ impl<V: Copy + Eq + Hash + Drop> AtMostOnceTracker<V> {
             ≡ count_by p (all_ties self.now) + count_by p (new_ties V.eq self.now variable helper) }
     {
         let _room = self.room;
+    }
+}
+
+/// How many helpers are new.
+fn count_of<V: Drop>(helper: Option<V>) -> usize
+    ensures { result ≡ length (option_to_list helper) }
+{
+    match helper {
+        None => 0,
+        Some(_) => 1,
     }
 }
 

@@ -13,6 +13,7 @@ pub mod lists;
 pub mod literal;
 pub mod literals;
 pub mod pick;
+mod small_set;
 pub mod store_clause;
 pub mod watch_map;
 pub mod watched_literals;
