@@ -7,7 +7,7 @@ use Rattle.std.proofs.lemmas.List.Elements.{Contains-append_cases}
 use Rattle.resolvo_store_core.specs.Lists.{items_or_none}
 use Rattle.resolvo_decide.specs.declared.clause_states.ClauseState.{ClauseState}
 use Rattle.resolvo_decide.specs.declared.clause_states.ClauseState.TheVariants.{Open}
-use Rattle.resolvo_decide.specs.States.{state_at, reopened}
+use Rattle.resolvo_decide.specs.States.{state_at, is_open_state, reopened, AreShut}
 use Rattle.resolvo_decide.specs.Needs.{places_at}
 
 pub state_out : (ss : List ClauseState) (i : ℕ) → length ss ≤ i → state_at ss i ≡ Open
@@ -20,6 +20,9 @@ state_end [] zero = refl
 state_end [] (suc i) = refl
 state_end (x ∷ ss) zero = refl
 state_end (x ∷ ss) (suc i) = state_end ss i
+
+pub shut_more : (old new : List ClauseState) (end : ℕ) → new ≡ old ++ Open ∷ [] → AreShut old end → AreShut new end
+shut_more old new end is shut i low = ap (λ (ss : List ClauseState). is_open_state (state_at ss i)) is ∙ ap is_open_state (state_end old i) ∙ shut i low
 
 pub state_set : (ss : List ClauseState) (i : ℕ) (s : ClauseState) → i < length ss → state_at (slice_set ss i s) i ≡ s
 state_set [] i s h = absurd (omega arith)

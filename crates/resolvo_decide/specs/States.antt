@@ -32,6 +32,10 @@ AreMarked states marks = (i : ℕ) → i < length states → mark_at marks (i / 
 abbrev pub AreGrouped : List ClauseState → List Bool → Type 0
 AreGrouped states groups = (i : ℕ) → i < length states → mark_at groups (i / GROUP) ≡ false → is_open_state (state_at states i) ≡ false
 
+-- no clause before this position is open
+abbrev pub AreShut : List ClauseState → ℕ → Type 0
+AreShut states end = (i : ℕ) → i < end → is_open_state (state_at states i) ≡ false
+
 -- the length of the trail's prefix that satisfies the clause; 0 where none is known
 abbrev pub met_within : ClauseState → ℕ
 met_within Open = 0

@@ -1,5 +1,6 @@
 //! The state of each need clause, by its position in the queue. The model is the list of states.
-//! Marks show which blocks of positions may have an open clause; the pick skips the others. Bounds
+//! Marks show which blocks of positions may have an open clause; the pick skips the others, and the
+//! positions before the first that may be open. Bounds
 //! show how long a prefix of the trail satisfies the clauses of a block. A backjump skips a block
 //! whose bound it keeps.
 ghost use Rattle.std.specs.Prelude.{◌≡◌, ℕ, ◌<◌, ◌≤◌, ◌/◌, ◌++◌, ◌∷◌, ◌⊎◌, [], List, Bool, map, max, length, false, true, slice_set, Contains, OnOk, OnErr, IsOkUnless};
@@ -62,19 +63,22 @@ pub struct ClauseStates {
     /// For each block the length of a prefix that bounds those of its clauses. The highest number
     /// is no bound.
     bounds: Vec<u32>,
+    /// No clause before this position is open.
+    opening: usize,
 }
 
 impl Model for ClauseStates {
     ghost use Rattle.std.specs.Prelude.{List};
     ghost use Rattle.resolvo_decide.specs.declared.clause_states.ClauseState.{ClauseState};
-    ghost use Rattle.resolvo_decide.specs.States.{AreMarked, AreGrouped, AreBounded};
+    ghost use Rattle.resolvo_decide.specs.States.{AreMarked, AreGrouped, AreBounded, AreShut};
 
     ghost Value = { List ClauseState };
 
     ghost view = { λ s. s.states.items };
 
     ghost invariant = { λ s. AreMarked s.states.items s.marks.items
-        × AreGrouped s.states.items s.groups.items × AreBounded s.states.items s.bounds.items };
+        × AreGrouped s.states.items s.groups.items × AreBounded s.states.items s.bounds.items
+        × AreShut s.states.items s.opening };
 }
 
 impl ClauseStates {
@@ -87,6 +91,7 @@ impl ClauseStates {
             marks: Vec::new(alloc),
             groups: Vec::new(alloc),
             bounds: Vec::new(alloc),
+            opening: 0,
         }
     }
 
@@ -111,6 +116,23 @@ impl ClauseStates {
     /// The first position from this one on whose clause is open, or the number of clauses. A block
     /// without one is skipped until one of its clauses opens.
     pub fn next_open(&mut self, from: usize) -> usize
+        ensures behind { from ≤ result }
+        ensures passed { (i : ℕ)
+            → from ≤ i
+            → i < result
+            → is_open_state (state_at self.old i) ≡ false }
+        ensures open { is_open_state (state_at self.old result) ≡ true }
+        ensures same { self.new ≡ self.old }
+    {
+        let position = self.open_from(from.max(self.opening));
+        if from <= self.opening {
+            self.opening = position;
+        }
+        position
+    }
+
+    /// The same, over the marks alone.
+    fn open_from(&mut self, from: usize) -> usize
         ensures behind { from ≤ result }
         ensures passed { (i : ℕ)
             → from ≤ i
@@ -196,6 +218,7 @@ impl ClauseStates {
             if state.is_open() {
                 set_mark(&mut self.marks, position / BLOCK, true);
                 set_mark(&mut self.groups, position / GROUP, true);
+                self.opening = self.opening.min(position);
             }
             raise(&mut self.bounds, position / BLOCK, state.within());
         }

@@ -1,6 +1,6 @@
 use Rattle.std.proofs.Common.{◌≡◌, ℕ, ◌-◌, ◌<◌, ◌≤◌, false, length}
 use Rattle.resolvo_decide.specs.States.{state_at, is_open_state}
-use Rattle.resolvo_decide.proofs.clause_states.ClauseStates.next_open.Given as goal
+use Rattle.resolvo_decide.proofs.clause_states.ClauseStates.open_from.Given as goal
 
 -- no clause up to here is open
 abbrev pub invariant-loop-self : goal.invariant-loop-self
