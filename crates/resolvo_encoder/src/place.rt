@@ -57,7 +57,7 @@ impl<N: Copy + Exact + Hash + Debug + Drop, S: Copy + Exact + Hash + Debug> Enco
         ensures refusal { IsOkUnless result Memory }
     {
         let members = self.registry.queued();
-        let mut waiting = Vec::new(alloc);
+        let mut waiting = Vec::with_capacity(alloc, members.len())?;
         for member in members {
             if let Some(solvable) = self.coding.solvable(member.variable) {
                 let name = member.name;
@@ -148,7 +148,10 @@ fn group<N: Copy + Exact + Hash + Debug + Drop, S: Copy + Exact + Hash + Debug>(
     ensures grouped { OnOk result (IsPermutation list.old.items list.new.items) }
     ensures refusal { IsOkUnless result Memory }
 {
-    let mut names = IndexSet::new(alloc);
+    if list.len() < 2 {
+        return Ok(());
+    }
+    let mut names = IndexSet::with_capacity(alloc, list.len())?;
     for one in list.iter() {
         names.insert(one.name)?;
     }

@@ -62,7 +62,7 @@ fn register_all<N: Copy + Exact + Hash + Debug, S: Copy + Exact + Hash + Debug>(
         (λ v. RegistersAll offered.now v.items registry.old coding.old registry.new coding.new) }
     ensures ids { IsErrOf result Ids → LacksNumber coding.new }
 {
-    let mut candidates = Vec::new(alloc);
+    let mut candidates = Vec::with_capacity(alloc, offered.len())?;
     for one in offered {
         let candidate = register_one(registry, coding, *one)?;
         candidates.push(candidate)?;

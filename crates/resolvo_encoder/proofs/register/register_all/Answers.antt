@@ -8,7 +8,7 @@ use Rattle.resolvo_encoder.proofs.CarryLemmas.{registers_none, registers_more}
 use Rattle.resolvo_encoder.proofs.register.register_all.Goals as goal
 
 pub loop-one-init : goal.loop-one-init
-loop-one-init g c = subst (λ (xs : List (Candidate _)). RegistersAll [] xs c.args.registry.now c.args.coding.now c.args.registry.now c.args.coding.now) (sym c.new-candidates.ensures.items)
+loop-one-init g c = subst (λ (xs : List (Candidate _)). RegistersAll [] xs c.args.registry.now c.args.coding.now c.args.registry.now c.args.coding.now) (sym c.in_ok-candidates.ensures.items)
     (registers_none c.args.registry.now c.args.coding.now c.requires.coding c.requires.tied)
 
 pub loop-one-preserved : goal.loop-one-preserved

@@ -10,7 +10,7 @@ pub queued-members-requires : goal.queued-members-requires
 queued-members-requires g c = c.requires.tied.within
 
 pub loop-member-init : goal.loop-member-init
-loop-member-init g c = subst (λ (xs : List (Offered _ _)). AreMembers c.args.self.now.coding.atoms.keys [] xs) (sym c.new-waiting.ensures.items) (members_none c.args.self.now.coding.atoms.keys)
+loop-member-init g c = subst (λ (xs : List (Offered _ _)). AreMembers c.args.self.now.coding.atoms.keys [] xs) (sym c.in_ok-waiting.ensures.items) (members_none c.args.self.now.coding.atoms.keys)
 
 pub loop-member-preserved : goal.loop-member-preserved
 loop-member-preserved g c =
