@@ -125,9 +125,18 @@ pub fn guard<A: PackageSource>(
     ensures ids { IsErrOf result Ids
         → StopsAnyhow A.SolvableId.eq A.PackageSource answers.old encoding.new }
 {
-    let names = answers.named(requirement)?;
-    forbid_packages(answers, encoding, names.as_slice())?;
-    Ok(())
+    match requirement {
+        Requirement::Single(version_set) => {
+            let name = answers.set_package(version_set);
+            forbid_package(answers, encoding, name)?;
+            Ok(())
+        }
+        Requirement::Union(_) => {
+            let names = answers.named(requirement)?;
+            forbid_packages(answers, encoding, names.as_slice())?;
+            Ok(())
+        }
+    }
 }
 
 /// Encodes that a parent needs a candidate of a requirement, whose packages are guarded.
