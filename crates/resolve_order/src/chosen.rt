@@ -329,7 +329,7 @@ impl Chosen {
                 alternatives,
                 condition,
                 ..
-            } => self.need_state(catalogue, alternatives, condition),
+            } => self.need_state(catalogue, alternatives.as_slice(), condition),
             Rule::Limits { .. } | Rule::Lock { .. } | Rule::Exclude { .. } | Rule::Unknown { .. } =>
                 LineState::Spent,
         }

@@ -1,7 +1,7 @@
 -- How many ids a table has given, and how many the lines of a catalogue need at most.
 use Rattle.std.specs.Prelude.{◌+◌, ◌*◌, ◌≤◌, ℕ, List, Option, Some, None, length, sum_by}
 use Rattle.resolvo_text.specs.Line.{Spec, Cond, Is, And, Or, Line, Listed, Needs, Limits, Unknown, Exclude}
-use Rattle.resolvo_text.specs.View.{specs_of, condition_of}
+use Rattle.resolvo_text.specs.View.{specs_of, list_of, condition_of}
 use Rattle.resolvo_catalogue_core.specs.declared.rule.Rule.{Rule}
 use Rattle.resolvo_catalogue_core.specs.declared.rule.Rule.TheVariants as rule
 use Rattle.resolvo_catalogue.specs.Ids.{Ids, LacksNumber}
@@ -45,7 +45,7 @@ ids_for_mark _ = 0
 
 -- the same two of a line's rule
 abbrev pub dependency_ids : Rule → ℕ
-dependency_ids (rule.Needs of alternatives condition) = ids_for_need (specs_of alternatives.items, condition_of condition)
+dependency_ids (rule.Needs of alternatives condition) = ids_for_need (specs_of (list_of alternatives), condition_of condition)
 dependency_ids (rule.Limits of spec) = 2
 dependency_ids (rule.Unknown of word) = 1
 dependency_ids _ = 0

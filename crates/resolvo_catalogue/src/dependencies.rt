@@ -70,7 +70,7 @@ impl VersionDependencies {
                 condition,
                 ..
             } => {
-                let need = ids.need(alternatives, condition.as_ref())?;
+                let need = ids.need(alternatives.as_slice(), condition.as_ref())?;
                 self.requirements.push(need)?;
             }
             Rule::Limits { spec, .. } => {

@@ -15,6 +15,6 @@ pub use dependency_provider::GivenUp;
 pub use id_table::Numbers;
 pub use provider::{CatalogueProvider, Hint, RequestIds};
 pub use resolvo_catalogue_core::{
-    Catalogue, Cond, Counted, IoFault, LineReader, MemorySink, MemorySource, ReadFault, Request,
-    Rule, Sink, Source, Span, Spec, Version, VersionNo, WriteFault,
+    Alternatives, Catalogue, Cond, Counted, IoFault, LineReader, MemorySink, MemorySource,
+    ReadFault, Request, Rule, Sink, Source, Span, Spec, Version, VersionNo, WriteFault,
 };

@@ -16,10 +16,11 @@ use Rattle.resolvo_text.specs.Matches.{same_version}
 use Rattle.std.proofs.lemmas.List.{length-append, length-map, map_push}
 use Rattle.std.proofs.lemmas.Option.{get_or_from_slice_get, slice_get_within}
 use Rattle.std.proofs.lemmas.Slice.Eq.{bytes_eq-Decides}
-use Rattle.std.specs.Global.{Vec, Box, Global}
+use Rattle.std.specs.Global.{Box, Global}
 use Rattle.std.specs.declared.string.String.{String}
-use Rattle.resolvo_text.specs.View.{spec_of, specs_of, condition_of}
+use Rattle.resolvo_text.specs.View.{spec_of, specs_of, list_of, condition_of}
 use Rattle.resolvo_text.specs.declared.spec.Spec as code
+use Rattle.resolvo_text.specs.declared.alternatives.Alternatives.{Alternatives}
 use Rattle.resolvo_text.specs.declared.condition.Cond.{Cond}
 use Rattle.resolvo_text.specs.Line.{Version, Line, Skipped, Listed, Needs, Limits, Unknown, Lock, Favour, Exclude, Many}
 use Rattle.resolvo_catalogue_core.specs.Grammar.{owner_below}
@@ -141,16 +142,16 @@ owner_only t keeps v k at owner j h =
     let same : h.0 ≡ v = cc (h.2, owner) in
     one_number t (versions_in t) (lines_in t) keeps v k j at (h.1 ∙ ap (λ (x : Version). Some x) same)
 
-pub need : (t u : Table) (line : ℕ) (k : VersionNo) (v : Version) (vec : Vec code.Spec) (condition : Option (Box Cond)) → IsTable t → line ≡ length (lines_in t) + 1 → slice_get (versions_in t) k.0 ≡ Some v → owner_below (lines_in t) ≡ Some v
-    → kinds_in u ≡ kinds_in t ++ line_kinds.Rule (rule.Needs (Some k) vec condition) ∷ [] → ((j : ℕ) → kept_of u.owned j ≡ (if k.0 == j then kept_of t.owned j ++ line ∷ [] else kept_of t.owned j)) → length u.owned ≡ length t.owned
-    → Adds t (Needs (specs_of vec.items) (condition_of condition)) (record t { line_kinds = u.line_kinds; owned = u.owned })
-need t u line k v vec condition keeps number at owner more recorded as_many =
+pub need : (t u : Table) (line : ℕ) (k : VersionNo) (v : Version) (alternatives : Alternatives) (condition : Option (Box Cond)) → IsTable t → line ≡ length (lines_in t) + 1 → slice_get (versions_in t) k.0 ≡ Some v → owner_below (lines_in t) ≡ Some v
+    → kinds_in u ≡ kinds_in t ++ line_kinds.Rule (rule.Needs (Some k) alternatives condition) ∷ [] → ((j : ℕ) → kept_of u.owned j ≡ (if k.0 == j then kept_of t.owned j ++ line ∷ [] else kept_of t.owned j)) → length u.owned ≡ length t.owned
+    → Adds t (Needs (specs_of (list_of alternatives)) (condition_of condition)) (record t { line_kinds = u.line_kinds; owned = u.owned })
+need t u line k v alternatives condition keeps number at owner more recorded as_many =
     let vs = versions_in t in
     let lines = lines_in t in
-    let l : Line = Needs (specs_of vec.items) (condition_of condition) in
-    adds_from t (record t { line_kinds = u.line_kinds; owned = u.owned }) (line_kinds.Rule (rule.Needs (Some k) vec condition)) l refl more refl (record {
+    let l : Line = Needs (specs_of (list_of alternatives)) (condition_of condition) in
+    adds_from t (record t { line_kinds = u.line_kinds; owned = u.owned }) (line_kinds.Rule (rule.Needs (Some k) alternatives condition)) l refl more refl (record {
       listing = listed_same lines l refl ∙ keeps.listing;
-      kinds = rw more (are_kinds_push vs lines (kinds_in t) l (line_kinds.Rule (rule.Needs (Some k) vec condition)) (as_long t) keeps.kinds (v, at, owner));
+      kinds = rw more (are_kinds_push vs lines (kinds_in t) l (line_kinds.Rule (rule.Needs (Some k) alternatives condition)) (as_long t) keeps.kinds (v, at, owner));
       packages = keeps.packages;
       found = keeps.found;
       locks = λ name. only_other (keeps.locks name) (line_grows lines l (Locks name)) (λ x. x);

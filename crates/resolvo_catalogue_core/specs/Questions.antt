@@ -4,7 +4,7 @@ use Rattle.std.specs.List.Sorted.{IsStrictlyIncreasing}
 use Rattle.std.specs.String.{string_bytes}
 use Rattle.resolvo_text.specs.Line.{Version, Spec, Line, Skipped, Listed, Needs, Limits, Unknown, Lock, Favour, Exclude, Many, Wish}
 use Rattle.resolvo_text.specs.Cases.{condition_cases}
-use Rattle.resolvo_text.specs.View.{spec_of, specs_of, condition_of}
+use Rattle.resolvo_text.specs.View.{spec_of, specs_of, list_of, condition_of}
 use Rattle.resolvo_catalogue_core.specs.Grammar.{line_at, owner_of}
 use Rattle.resolvo_catalogue_core.specs.declared.rule.VersionNo.{VersionNo}
 use Rattle.resolvo_catalogue_core.specs.declared.rule.Rule.{Rule}
@@ -126,7 +126,7 @@ IsOwner versions (Some n) owner = (v : Version) × (slice_get versions n.0 ≡ S
 
 -- It is the rule of this line with this owner, versions being named by their numbers.
 abbrev pub IsRuleLine : List Version → Rule → Option Version → Line → Type 0
-IsRuleLine versions (rule.Needs of alternatives condition) owner line = (line ≡ Needs (specs_of alternatives.items) (condition_of condition)) × IsOwner versions of owner
+IsRuleLine versions (rule.Needs of alternatives condition) owner line = (line ≡ Needs (specs_of (list_of alternatives)) (condition_of condition)) × IsOwner versions of owner
 IsRuleLine versions (rule.Limits of spec) owner line = (line ≡ Limits (spec_of spec)) × IsOwner versions of owner
 IsRuleLine versions (rule.Unknown of word) owner line = (line ≡ Unknown (string_bytes word)) × IsOwner versions (Some of) owner
 IsRuleLine versions (rule.Lock locked) owner line = (v : Version) × (slice_get versions locked.0 ≡ Some v) × (line ≡ Lock v)

@@ -4,7 +4,7 @@ use Rattle.std.specs.BTreeMap.{get, get_by_text}
 use Rattle.std.specs.Ordering.{nat_cmp}
 use Rattle.resolvo_text.specs.Line as parsed
 use Rattle.resolvo_text.specs.Line.{Version, Line}
-use Rattle.resolvo_text.specs.View.{spec_of, specs_of, condition_of}
+use Rattle.resolvo_text.specs.View.{spec_of, specs_of, list_of, condition_of}
 use Rattle.resolvo_catalogue_core.specs.Grammar.{owner_below}
 use Rattle.resolvo_catalogue_core.specs.Listed.{listed}
 use Rattle.resolvo_catalogue_core.specs.Questions.{IsOnly, AreAll, LineIs, BelongsTo, MarksUnknownOf, Locks, Favours, MarksMany, Excludes, IsFavour, IsOwner, IsOfPackage, IsVersionLine, FavoursAt, number_of}
@@ -30,7 +30,7 @@ abbrev pub nth : List Version → VersionNo → Version
 nth versions n = slice_index_or versions n.0 nowhere
 
 abbrev pub rule_line : List Version → Rule → Line
-rule_line versions (rule.Needs of alternatives condition) = parsed.Needs (specs_of alternatives.items) (condition_of condition)
+rule_line versions (rule.Needs of alternatives condition) = parsed.Needs (specs_of (list_of alternatives)) (condition_of condition)
 rule_line versions (rule.Limits of spec) = parsed.Limits (spec_of spec)
 rule_line versions (rule.Unknown of word) = parsed.Unknown (string_bytes word)
 rule_line versions (rule.Lock locked) = parsed.Lock (nth versions locked)

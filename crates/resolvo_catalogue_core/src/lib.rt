@@ -23,8 +23,8 @@ pub use laws::{
 };
 pub use request::Request;
 pub use resolvo_text::{
-    Cond, Counted, IoFault, LineReader, MemorySink, MemorySource, ReadFault, Sink, Source, Span,
-    Spec, Version, WriteFault, cases_are_exact, is_in_span, write_all,
+    Alternatives, Cond, Counted, IoFault, LineReader, MemorySink, MemorySource, ReadFault, Sink,
+    Source, Span, Spec, Version, WriteFault, cases_are_exact, is_in_span, write_all,
 };
 pub use rule::{Rule, VersionNo};
 pub use versions::{KeptVersion, Versions};

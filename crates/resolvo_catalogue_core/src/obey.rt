@@ -222,7 +222,7 @@ pub fn obeys(rule: &Rule, versions: &Versions, set: &[VersionNo]) -> bool
         } => {
             !binds(*owner, set)
                 || !condition_holds(condition.as_ref(), versions, set)
-                || is_met_by_one(alternatives, versions, set)
+                || is_met_by_one(alternatives.as_slice(), versions, set)
         }
         Rule::Limits { owner, spec } => { !binds(*owner, set) || are_within(spec, versions, set) }
         Rule::Lock { version } => obeys_lock(*version, versions, set),

@@ -6,14 +6,14 @@ ghost use Rattle.std.specs.Prelude.{◌≡◌, ◌+◌, [], option_and_then, opt
 ghost use Rattle.std.specs.BTreeMap.{get};
 ghost use Rattle.std.specs.Ordering.{nat_cmp};
 ghost use Rattle.resolvo_text.specs.Line as parsed;
-ghost use Rattle.resolvo_text.specs.View.{version_of, spec_of, specs_of, condition_of, view};
+ghost use Rattle.resolvo_text.specs.View.{version_of, spec_of, specs_of, list_of, condition_of, view};
 ghost use Rattle.resolvo_text.specs.declared.line.LineFault.TheVariants.{Fault};
 ghost use Rattle.resolvo_catalogue_core.specs.Grammar.{MayFollowInRequest, IsRequestLine};
 ghost use Rattle.resolvo_catalogue_core.specs.Listed.{listed};
 
 use crate::catalogue::Catalogue;
 use crate::rule::{Rule, VersionNo};
-use resolvo_text::{Cond, Line, LineFault, Spec, Version, line_in};
+use resolvo_text::{Alternatives, Cond, Line, LineFault, Spec, Version, line_in};
 use std::alloc::Global;
 use std::collections::BTreeMap;
 
@@ -103,13 +103,13 @@ impl RequestLines {
     fn need(
         &mut self,
         catalogue: &Catalogue,
-        alternatives: Vec<Spec>,
+        alternatives: Alternatives,
         condition: Option<Box<Cond>>,
     ) -> Result<(), LineFault>
         requires { AreAsks (listed catalogue.now) self.old }
         ensures ok { OnOk result
             (AddsAsk (listed catalogue.now) self.old
-            (parsed.Needs (specs_of alternatives.items) (condition_of condition)) self.new) }
+            (parsed.Needs (specs_of (list_of alternatives)) (condition_of condition)) self.new) }
         ensures memory { result ≡ Err Fault → ⊥ }
     {
         self.asks.push(RequestLine::Rule(Rule::Needs {

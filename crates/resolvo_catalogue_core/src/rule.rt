@@ -5,7 +5,7 @@ ghost use Rattle.std.specs.Prelude.{◌≡◌, Option, List, Some, IfOk};
 ghost use Rattle.resolvo_text.specs.Line.{Version, Line};
 ghost use Rattle.resolvo_text.specs.View.{cases_of};
 
-use resolvo_text::{Cond, Spec, cases_in};
+use resolvo_text::{Alternatives, Cond, Spec, cases_in};
 use std::alloc::{AllocError, Global};
 
 /// The number of a listed version, from 0 in line order.
@@ -18,7 +18,7 @@ pub enum Rule {
     /// If the condition holds, one of the alternatives is matched.
     Needs {
         owner: Option<VersionNo>,
-        alternatives: Vec<Spec>,
+        alternatives: Alternatives,
         condition: Option<Box<Cond>>,
     },
     /// Each version of the SPEC's package matches it.

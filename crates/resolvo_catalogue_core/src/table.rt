@@ -8,7 +8,7 @@ ghost use Rattle.std.specs.Ordering.{nat_cmp};
 ghost use Rattle.std.specs.Option.{option_map_or};
 ghost use Rattle.std.specs.String.{string_bytes};
 ghost use Rattle.resolvo_text.specs.Line as parsed;
-ghost use Rattle.resolvo_text.specs.View.{version_of, spec_of, specs_of, condition_of, view};
+ghost use Rattle.resolvo_text.specs.View.{version_of, spec_of, specs_of, list_of, condition_of, view};
 ghost use Rattle.resolvo_text.specs.declared.line.LineFault.TheVariants.{Fault};
 ghost use Rattle.resolvo_catalogue_core.specs.Grammar.{MayFollow, IsCatalogueLine, owner_below};
 ghost use Rattle.resolvo_catalogue_core.specs.Questions.{number_of, AreAll, IsOwner, IsOnly, LineIs, LocksAnother, Forbids};
@@ -21,7 +21,7 @@ use crate::lines_by_version::LinesByVersion;
 use crate::package_table::PackageTable;
 use crate::rule::{Rule, VersionNo};
 use crate::versions::Versions;
-use resolvo_text::{Cond, Line, LineFault, Spec, Version, line_in};
+use resolvo_text::{Alternatives, Cond, Line, LineFault, Spec, Version, line_in};
 use std::alloc::{AllocError, Global};
 use std::collections::{BTreeMap, BTreeSet};
 
@@ -297,7 +297,7 @@ impl Table {
     fn need(
         &mut self,
         line: u32,
-        alternatives: Vec<Spec>,
+        alternatives: Alternatives,
         condition: Option<Box<Cond>>,
     ) -> Result<(), LineFault>
         requires table { IsTable self.old }
@@ -305,14 +305,14 @@ impl Table {
         requires short { line < 16777217 }
         // After an answer.
         ensures ok { OnOk result
-            (Adds self.old (parsed.Needs (specs_of alternatives.items) (condition_of condition))
+            (Adds self.old (parsed.Needs (specs_of (list_of alternatives)) (condition_of condition))
             self.new) }
         ensures placed { OnOk result
             (MayFollow (lines_in self.old)
-            (parsed.Needs (specs_of alternatives.items) (condition_of condition))) }
+            (parsed.Needs (specs_of (list_of alternatives)) (condition_of condition))) }
         ensures fault { result ≡ Err Fault
             → MayFollow (lines_in self.old)
-            (parsed.Needs (specs_of alternatives.items) (condition_of condition))
+            (parsed.Needs (specs_of (list_of alternatives)) (condition_of condition))
             → ⊥ }
     {
         let owner = self.owner()?;

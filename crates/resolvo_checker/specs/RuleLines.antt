@@ -3,7 +3,7 @@ use Rattle.std.specs.Prelude.{◌≡◌, ⊤, Bool, true, false, List, [], ◌�
 use Rattle.std.specs.String.{string_bytes}
 use Rattle.std.specs.Option.{option_map, option_map_or}
 use Rattle.resolvo_text.specs.Line.{Version, Line, Needs, Limits, Unknown, Lock, Exclude}
-use Rattle.resolvo_text.specs.View.{spec_of, specs_of, condition_of}
+use Rattle.resolvo_text.specs.View.{spec_of, specs_of, list_of, condition_of}
 use Rattle.resolvo_catalogue_core.specs.Questions.{is_rule}
 use Rattle.resolvo_catalogue_core.specs.declared.rule.VersionNo.{VersionNo}
 use Rattle.resolvo_catalogue_core.specs.declared.rule.Rule.{Rule}
@@ -15,7 +15,7 @@ use Rattle.resolvo_checker.specs.Built.{member_of}
 
 -- the line that the rule encodes, with versions by their numbers
 abbrev pub line_of_rule : List Version → Rule → Option Line
-line_of_rule versions (rule.Needs of alternatives condition) = Some (Needs (specs_of alternatives.items) (condition_of condition))
+line_of_rule versions (rule.Needs of alternatives condition) = Some (Needs (specs_of (list_of alternatives)) (condition_of condition))
 line_of_rule versions (rule.Limits of spec) = Some (Limits (spec_of spec))
 line_of_rule versions (rule.Unknown of word) = Some (Unknown (string_bytes word))
 line_of_rule versions (rule.Lock locked) = option_map Lock (slice_get versions locked.0)

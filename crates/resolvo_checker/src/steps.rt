@@ -163,7 +163,7 @@ fn need_in(
         return Ok(None);
     };
     match case_at(alloc, condition, case)? {
-        Some(specs) => Ok(Some(need(alloc, catalogue, *owner, alternatives, &specs)?)),
+        Some(specs) => Ok(Some(need(alloc, catalogue, *owner, alternatives.as_slice(), &specs)?)),
         None => Ok(None),
     }
 }
@@ -196,7 +196,7 @@ fn gate_in(
         ) => {
             let mut out = Vec::new(alloc);
             push_owner(&mut out, *owner)?;
-            push_shared(alloc, &mut out, alternatives, true)?;
+            push_shared(alloc, &mut out, alternatives.as_slice(), true)?;
             Ok(Some(out))
         }
         _ => Ok(None),

@@ -159,9 +159,10 @@ impl Alternatives {
         if alternatives.len() <= FEW {
             return Ok(None);
         }
+        let specs = alternatives.as_slice();
         match place {
-            Place::Request => place_in(alloc, &mut self.request, *line, alternatives, version),
-            Place::Version(_) => place_in(alloc, &mut self.catalogue, *line, alternatives, version),
+            Place::Request => place_in(alloc, &mut self.request, *line, specs, version),
+            Place::Version(_) => place_in(alloc, &mut self.catalogue, *line, specs, version),
         }
     }
 }

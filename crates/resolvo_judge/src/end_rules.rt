@@ -65,7 +65,7 @@ fn obeys(chosen: &Chosen, versions: &Versions, rule: &Rule) -> bool
         } => {
             !binds(chosen, versions, *owner)
                 || !chosen.condition_holds(condition)
-                || chosen.is_met_by_one(alternatives)
+                || chosen.is_met_by_one(alternatives.as_slice())
         }
         Rule::Limits { owner, spec } => {
             !binds(chosen, versions, *owner) || chosen.are_within(spec)

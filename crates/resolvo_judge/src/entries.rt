@@ -89,7 +89,8 @@ fn gives(
                 condition,
                 ..
             },
-        ) => one_matches(alternatives, alternative, version) && chosen.condition_holds(condition),
+        ) => one_matches(alternatives.as_slice(), alternative, version)
+            && chosen.condition_holds(condition),
         _ => false,
     }
 }

@@ -126,7 +126,8 @@ pub(crate) fn specs_at(alloc: Global, words: &[u8]) -> Result<(Vec<Spec>, &[u8])
     ensures { Gives (λ x. (specs_of x.0.items, words_in x.1.now)) result
         (specs_at (words_in words.now)) }
 {
-    alternatives_at(alloc, words)
+    let (alternatives, rest) = alternatives_at(alloc, words)?;
+    Ok((alternatives.into_vec(alloc)?, rest))
 }
 
 /// The atom, from its first word and the words after it.

@@ -110,10 +110,6 @@ unfoldable pub skip : List ℕ → Words → Bool × Words
 skip k [] = (false, [])
 skip k (word ∷ words) = if bytes_eq word k then (true, words) else (false, word ∷ words)
 
--- the word that parts alternatives
-abbrev pub is_bar : ℕ → Bool
-is_bar b = b == 124
-
 abbrev pub with_first : Spec → Option (List Spec × Words) → Option (List Spec × Words)
 with_first s others = others >>= λ x. Some (s ∷ x.0, x.1)
 

@@ -1,5 +1,5 @@
 -- The models of a version, a SPEC, a condition and a line.
-use Rattle.std.specs.Prelude.{List, map, Option}
+use Rattle.std.specs.Prelude.{List, [], ◌∷◌, map, Option}
 use Rattle.std.specs.Option.{option_map}
 use Rattle.std.specs.String.{string_bytes}
 use Rattle.std.specs.Global.{Vec, Box}
@@ -7,6 +7,8 @@ use Rattle.resolvo_text.specs.Line as parsed
 use Rattle.resolvo_text.specs.Matches as meaning
 use Rattle.resolvo_text.specs.declared.spec.Version.{Version}
 use Rattle.resolvo_text.specs.declared.spec.Spec as code
+use Rattle.resolvo_text.specs.declared.alternatives.Alternatives.{Alternatives}
+use Rattle.resolvo_text.specs.declared.alternatives.Alternatives.TheVariants.{One, Several}
 use Rattle.resolvo_text.specs.declared.condition.Cond.{Cond, Spec, And', Or'}
 use Rattle.resolvo_text.specs.declared.line.Line.{Line}
 use Rattle.resolvo_text.specs.declared.line.Line.TheVariants as line
@@ -19,6 +21,11 @@ spec_of s = record { name = string_bytes s.name; span = s.span }
 
 abbrev pub specs_of : List code.Spec → List parsed.Spec
 specs_of ss = map spec_of ss
+
+-- the SPECs in order
+abbrev pub list_of : Alternatives → List code.Spec
+list_of (One s) = s ∷ []
+list_of (Several ss) = ss.items
 
 abbrev pub cond_of : Cond → parsed.Cond
 cond_of (Spec s) = parsed.Is (spec_of s)
@@ -43,7 +50,7 @@ cases_of cs = map (λ c. specs_of c.items) cs
 abbrev pub view : Line → parsed.Line
 view line.Skipped = parsed.Skipped
 view (line.Listed v) = parsed.Listed (version_of v)
-view (line.Needs alternatives condition) = parsed.Needs (specs_of alternatives.items) (condition_of condition)
+view (line.Needs alternatives condition) = parsed.Needs (specs_of (list_of alternatives)) (condition_of condition)
 view (line.Limits s) = parsed.Limits (spec_of s)
 view (line.Unknown reason) = parsed.Unknown (string_bytes reason)
 view (line.Lock v) = parsed.Lock (version_of v)

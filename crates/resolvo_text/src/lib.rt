@@ -5,6 +5,7 @@
 //! of whole texts, in the crates above, check which line may follow which.
 #![tactic(auto)]
 
+mod alternatives;
 mod condition;
 mod device;
 mod growing_sink;
@@ -16,6 +17,7 @@ mod spec;
 mod words;
 mod write;
 
+pub use alternatives::Alternatives;
 pub use condition::{Cond, cases_are_exact, cases_in, holds};
 pub use device::{Counted, IoFault, Sink, Source};
 pub use growing_sink::GrowingSink;

@@ -3,6 +3,7 @@
 //! Its model is the line of specs/Line.antt. The readers of whole texts check its place and keep
 //! it.
 
+use crate::alternatives::Alternatives;
 use crate::condition::Cond;
 use crate::spec::{Spec, Version};
 use std::alloc::{AllocError, AllocFailed};
@@ -15,7 +16,7 @@ pub enum Line {
     /// A line `version`.
     Listed(Version),
     Needs {
-        alternatives: Vec<Spec>,
+        alternatives: Alternatives,
         condition: Option<Box<Cond>>,
     },
     Limits(Spec),

@@ -5,15 +5,16 @@
 //! `line_in`; the parser of reports calls the parsers of parts.
 
 ghost use Rattle.std.specs.Prelude.{◌≡◌, ◌<◌, ◌≤◌, ◌∷◌, List, ℕ, length, Err, IfOk, IfSome};
-ghost use Rattle.std.specs.List.{position, slice_split, count_by};
+ghost use Rattle.std.specs.List.{position, slice_split};
 ghost use Rattle.std.specs.Option.{option_map};
 ghost use Rattle.std.specs.String.{string_bytes};
 ghost use Rattle.resolvo_text.specs.Line as parsed;
 ghost use Rattle.resolvo_text.specs.Spelling.{SpellsLine};
 ghost use Rattle.resolvo_text.specs.declared.line.LineFault.TheVariants.{Fault};
-ghost use Rattle.resolvo_text.specs.View.{version_of, spec_of, specs_of, view};
-ghost use Rattle.resolvo_text.specs.Parse.{Gives, word_at, version_at, reason_at, span_at, spec_at, skip, alternatives_at, name_in, number_in, end_at, version_in, reason_in, spec_in, needs_in, line_by, is_space, words_in, is_bar, is_skipped, line_in};
+ghost use Rattle.resolvo_text.specs.View.{version_of, spec_of, specs_of, list_of, view};
+ghost use Rattle.resolvo_text.specs.Parse.{Gives, word_at, version_at, reason_at, span_at, spec_at, skip, with_first, alternatives_at, name_in, number_in, end_at, version_in, reason_in, spec_in, needs_in, line_by, is_space, words_in, is_skipped, line_in};
 
+use crate::alternatives::Alternatives;
 use crate::condition::condition_in;
 use crate::line::{Line, LineFault};
 use crate::spec::{Span, Spec, Version};
@@ -125,23 +126,18 @@ pub fn skip<'a>(words: &'a [u8], word: &[u8]) -> (bool, &'a [u8])
     (false, words)
 }
 
-/// How many bars a text contains.
-fn bars_in(text: &[u8]) -> usize
-    ensures { result ≡ count_by is_bar text.now }
-{
-    text.iter().filter(|b| **b == b'|').count()
-}
+/// The room that is made at first for alternatives that a bar parts.
+const FEW: usize = 2;
 
-/// Room is reserved for at most so many alternatives before they are read, so a line of nothing but
-/// bars allocates little.
-const FEW: usize = 4;
-
-/// One alternative or more. Room is reserved for no more of them than the bars separate.
-pub fn alternatives_at(alloc: Global, words: &[u8]) -> Result<(Vec<Spec>, &[u8]), LineFault>
-    ensures { Gives (λ x. (specs_of x.0.items, words_in x.1.now)) result
-        (alternatives_at (length (words_in words.now)) (words_in words.now)) }
+/// The first alternative and those after its bar.
+fn several_at(alloc: Global, first: Spec, words: &[u8]) -> Result<(Vec<Spec>, &[u8]), LineFault>
+    ensures { (n : ℕ)
+        → length (words_in words.now) ≤ n
+        → Gives (λ x. (specs_of x.0.items, words_in x.1.now)) result
+        (with_first (spec_of first) (alternatives_at n (words_in words.now))) }
 {
-    let mut specs = Vec::with_capacity(alloc, bars_in(words).saturating_add(1).min(FEW))?;
+    let mut specs = Vec::with_capacity(alloc, FEW)?;
+    specs.push(first)?;
     let mut rest = words;
     loop {
         let (spec, after) = spec_at(alloc, rest)?;
@@ -152,6 +148,20 @@ pub fn alternatives_at(alloc: Global, words: &[u8]) -> Result<(Vec<Spec>, &[u8])
             return Ok((specs, rest));
         }
     }
+}
+
+/// One alternative or more. One alone takes no memory of its own.
+pub fn alternatives_at(alloc: Global, words: &[u8]) -> Result<(Alternatives, &[u8]), LineFault>
+    ensures { Gives (λ x. (specs_of (list_of x.0), words_in x.1.now)) result
+        (alternatives_at (length (words_in words.now)) (words_in words.now)) }
+{
+    let (first, after) = spec_at(alloc, words)?;
+    let (more, others) = skip(after, b"|");
+    if !more {
+        return Ok((Alternatives::One(first), others));
+    }
+    let (specs, rest) = several_at(alloc, first, others)?;
+    Ok((Alternatives::Several(specs), rest))
 }
 
 pub fn no_more(words: &[u8]) -> Result<(), LineFault>

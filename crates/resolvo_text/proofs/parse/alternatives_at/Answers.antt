@@ -1,28 +1,30 @@
-use Rattle.std.proofs.Common.{◌≡◌, List, ◌∷◌, [], ◌++◌, Some, sym, ap, ◌∙◌}
-use Rattle.resolvo_text.specs.Line as parsed
-use Rattle.resolvo_text.specs.View.{specs_of, spec_of}
-use Rattle.resolvo_text.specs.Parse.{words_in, alternatives_at}
-use Rattle.std.proofs.lemmas.List.{map_push}
+use Rattle.std.proofs.Common.{[], length, sym, subst, ◌∙◌, arith}
+use Rattle.resolvo_text.specs.View.{spec_of}
+use Rattle.resolvo_text.specs.Parse.{Fails, words_in}
 use Rattle.std.proofs.lemmas.Result.{err_from_is_err_and}
-use Rattle.resolvo_text.proofs.AlternativeLemmas.{with_prefix, goes_on, ends, fails_so}
+use Rattle.resolvo_text.proofs.AlternativeLemmas.{at_start, goes_on, ends, fails_so}
 use Rattle.resolvo_text.proofs.parse.alternatives_at.Goals as goal
 
-pub returns-in_err-spec : goal.returns-in_err-spec
-returns-in_err-spec c =
-    let inv = c.loop-specs.invariant in
-    let p = err_from_is_err_and c.from_residual-in_err-spec.result c.from_residual-in_err-spec.ensures.1 in
-    rw (p.1, p.2) (fails_so c.in_err-spec.field-0.0 (specs_of c.loop-specs.specs.items) inv.0 (words_in c.loop-specs.rest.now) _ c.in_err-spec.ensures.words inv.2)
+pub returns-in_err-first : goal.returns-in_err-first
+returns-in_err-first c =
+    let words = words_in c.args.words.now in
+    let p = err_from_is_err_and c.from_residual.result c.from_residual.ensures.1 in
+    rw (p.1, p.2) (fails_so c.in_err-first.field-0.0 [] (length words) words _ c.in_err-first.ensures.words (at_start _))
 
 pub returns-then-not-more : goal.returns-then-not-more
 returns-then-not-more c =
-    let inv = c.loop-specs.invariant in
-    let total = ends (specs_of c.loop-specs.specs.items) inv.0 (words_in c.loop-specs.rest.now) (spec_of c.in_ok-spec.spec) (words_in c.in_ok-spec.after.now) c.skip-more.result.0 (words_in c.skip-more.result.1.now) _ inv.1 c.in_ok-spec.ensures.words (sym c.skip-more.ensures.words) c.if-not-more.true inv.2 in
-    let pushed : specs_of c.push.new.self.items ≡ specs_of c.loop-specs.specs.items ++ spec_of c.in_ok-spec.spec ∷ [] = ap specs_of c.in_ok-push.ensures.items ∙ map_push spec_of c.loop-specs.specs.items c.in_ok-spec.spec in
-    total ∙ ap (λ (ss : List parsed.Spec). Some (ss, words_in c.skip-more.result.1.now)) (sym pushed)
+    let words = words_in c.args.words.now in
+    ends [] (length words) words (spec_of c.in_ok-first.first) (words_in c.in_ok-first.after.now) c.skip-more.result.0 (words_in c.skip-more.result.1.now) _ (omega arith) c.in_ok-first.ensures.words (sym c.skip-more.ensures.words) c.if-not-more.true (at_start _)
 
-pub loop-specs-preserved : goal.loop-specs-preserved
-loop-specs-preserved c =
-    let inv = c.loop-specs.invariant in
-    let on = goes_on (specs_of c.loop-specs.specs.items) inv.0 (words_in c.loop-specs.rest.now) (spec_of c.in_ok-spec.spec) (words_in c.in_ok-spec.after.now) c.skip-more.result.0 (words_in c.skip-more.result.1.now) _ inv.1 c.in_ok-spec.ensures.words (sym c.skip-more.ensures.words) c.if-not-more.false inv.2 in
-    let pushed : specs_of c.push.new.self.items ≡ specs_of c.loop-specs.specs.items ++ spec_of c.in_ok-spec.spec ∷ [] = ap specs_of c.in_ok-push.ensures.items ∙ map_push spec_of c.loop-specs.specs.items c.in_ok-spec.spec in
-    (on.0, on.1, ap (λ (ss : List parsed.Spec). with_prefix ss (alternatives_at on.0 (words_in c.skip-more.result.1.now))) pushed ∙ on.2)
+pub returns-in_err-specs : goal.returns-in_err-specs
+returns-in_err-specs c =
+    let words = words_in c.args.words.now in
+    let on = goes_on [] (length words) words (spec_of c.in_ok-first.first) (words_in c.in_ok-first.after.now) c.skip-more.result.0 (words_in c.skip-more.result.1.now) _ (omega arith) c.in_ok-first.ensures.words (sym c.skip-more.ensures.words) c.if-not-more.false (at_start _) in
+    let p = err_from_is_err_and c.from_residual-in_err-specs.result c.from_residual-in_err-specs.ensures.1 in
+    rw (p.1, p.2) (subst (Fails c.in_err-specs.field-0.0) on.2 (c.in_err-specs.ensures on.0 on.1))
+
+pub returns : goal.returns
+returns c =
+    let words = words_in c.args.words.now in
+    let on = goes_on [] (length words) words (spec_of c.in_ok-first.first) (words_in c.in_ok-first.after.now) c.skip-more.result.0 (words_in c.skip-more.result.1.now) _ (omega arith) c.in_ok-first.ensures.words (sym c.skip-more.ensures.words) c.if-not-more.false (at_start _) in
+    sym on.2 ∙ c.in_ok-specs.ensures on.0 on.1

@@ -6,7 +6,7 @@ pub returns-in_ok-push-in-Needs-clause-as_ids : goal.returns-in_ok-push-in-Needs
 returns-in_ok-push-in-Needs-clause-as_ids c versions owner line lines states as_ids =
     let line_is = rw c.in-Needs.is at states in
     deps_need c.need.new.self lines (deps_of c.args.self.now) (deps_of_stay c.args.ids.now c.need.new.self c.need.ensures.interns.grows lines _ as_ids) line _ _ c.in_ok-need-in-Needs.need _ line_is.0
-    (rw (c.deref.ensures.value, c.as_ref.ensures.value) at c.in_ok-need-in-Needs.ensures.need) c.in_ok-push-in-Needs.ensures.items
+    (rw (c.as_slice.ensures, c.as_ref.ensures.value) at c.in_ok-need-in-Needs.ensures.need) c.in_ok-push-in-Needs.ensures.items
 
 pub returns-in_ok-push-in-Limits-clause-as_ids : goal.returns-in_ok-push-in-Limits-clause-as_ids
 returns-in_ok-push-in-Limits-clause-as_ids c versions owner line lines states as_ids =
@@ -16,4 +16,4 @@ returns-in_ok-push-in-Limits-clause-as_ids c versions owner line lines states as
 pub returns-in_ok-word-in-Unknown-clause-as_ids : goal.returns-in_ok-word-in-Unknown-clause-as_ids
 returns-in_ok-word-in-Unknown-clause-as_ids c versions owner line lines states as_ids =
     let line_is = rw c.in-Unknown.is at states in
-    deps_unknown c.word.new.self lines (deps_of c.args.self.now) (deps_of_stay c.args.ids.now c.word.new.self c.word.ensures.interns.grows lines _ as_ids) line _ c.in_ok-word-in-Unknown.word line_is.0 (rw c.deref-in-Unknown.ensures at c.in_ok-word-in-Unknown.ensures.word)
+    deps_unknown c.word.new.self lines (deps_of c.args.self.now) (deps_of_stay c.args.ids.now c.word.new.self c.word.ensures.interns.grows lines _ as_ids) line _ c.in_ok-word-in-Unknown.word line_is.0 (rw c.deref.ensures at c.in_ok-word-in-Unknown.ensures.word)
