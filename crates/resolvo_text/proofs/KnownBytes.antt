@@ -51,7 +51,7 @@ too_long (Some xs) (Some t) items at end room kept lt le none = λ bytes e.
 pub none_unread : (items : List ℕ) (at end : ℕ) → at ≡ end → drop at (take end items) ≡ []
 none_unread items at end same = drop_all at (take end items) (omega (arith, length-take end items))
 
-take_within : (n m : ℕ) (xs : List ℕ) → n ≤ m → take n (take m xs) ≡ take n xs
+pub take_within : (n m : ℕ) (xs : List ℕ) → n ≤ m → take n (take m xs) ≡ take n xs
 take_within zero m xs le = refl
 take_within (suc n) zero xs le = absurd (omega arith)
 take_within (suc n) (suc m) [] le = refl

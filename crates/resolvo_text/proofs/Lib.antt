@@ -1,5 +1,6 @@
 pub mod KnownBytes
 pub mod LineLemmas
+pub mod PlaceLemmas
 pub mod ReadTo
 pub mod NumberLemmas
 pub mod NameLemmas

@@ -79,7 +79,7 @@ lines_of-whole (b ∷ line) lt none = lines_of-last b line none
 
 -- ---- bytes of the piece that are no newline
 
-plain_taken : (remaining : Option (List ℕ)) (bytes rest : List ℕ) → Consumes (prepend_known (bytes ++ rest) remaining) (prepend_known rest remaining) bytes
+pub plain_taken : (remaining : Option (List ℕ)) (bytes rest : List ℕ) → Consumes (prepend_known (bytes ++ rest) remaining) (prepend_known rest remaining) bytes
 plain_taken None bytes rest = tt
 plain_taken (Some t) bytes rest = append_assoc bytes rest t
 

@@ -1,5 +1,6 @@
 -- A reader of lines, with the device that it reads from.
-use Rattle.std.specs.Prelude.{◌≡◌, ℕ, ◌+◌, ◌<◌, ◌≤◌, ⊤, Bool, true, false, List, [], ◌∷◌, ◌++◌, length, take, drop, Option, Some}
+use Rattle.std.specs.Prelude.{◌≡◌, ℕ, ◌+◌, ◌<◌, ◌≤◌, ⊤, Bool, true, false, if◌then◌else◌, List, [], ◌∷◌, ◌++◌, length, take, drop, Option, Some}
+use Rattle.std.specs.List.{slice_range}
 use Rattle.std.specs.Io.KnownBytes.{Consumes, prepend_known}
 use Rattle.resolvo_text.specs.Device.{IfKnown}
 use Rattle.resolvo_text.specs.Lines.{lines_of, newlines}
@@ -14,6 +15,23 @@ unread r = drop r.at (take r.end r.piece.items)
 -- the rest of the text, where the device knows it
 abbrev pub left : LineReader → Option (List ℕ) → Option (List ℕ)
 left r remaining = prepend_known (unread r) remaining
+
+-- the last line that was taken
+abbrev pub last_line : LineReader → List ℕ
+last_line r = if r.in_place then slice_range r.piece.items r.line_begin r.line_end else r.line.items
+
+-- A line of so many bytes lies ahead in the piece with its newline, and there is room for it.
+pub record IsAhead (r : LineReader) (count : ℕ) : Type 0 where
+  pub within : r.at + count < r.end
+  pub room : count < r.room
+  pub plain : newlines (slice_range r.piece.items r.at (r.at + count)) ≡ 0
+  pub parts : unread r ≡ slice_range r.piece.items r.at (r.at + count) ++ 10 ∷ drop (r.at + count + 1) (take r.end r.piece.items)
+
+-- A line was taken where it lies in the piece, with its newline.
+pub record TakesInPlace (old new : LineReader) : Type 0 where
+  pub parts : unread old ≡ last_line new ++ 10 ∷ unread new
+  pub plain : newlines (last_line new) ≡ 0
+  pub room : new.room + (length (last_line new) + 1) ≡ old.room
 
 -- Bytes of the piece were appended to the line, none of them a newline.
 pub record TakesPlain (old new : LineReader) : Type 0 where

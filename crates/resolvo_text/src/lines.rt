@@ -4,7 +4,7 @@
 //! left. The readers of whole texts take one line after the other, and `room` bounds the bytes that
 //! they take.
 
-ghost use Rattle.std.specs.Prelude.{◌≡◌, ℕ, ◌+◌, ◌<◌, ◌≤◌, List, [], ◌∷◌, length, take, Option, Ok, Err, Some, None, IfOk, OnOk, IfNone, IsTrue, IfErr, vec_len, false};
+ghost use Rattle.std.specs.Prelude.{◌≡◌, ℕ, ◌+◌, ◌<◌, ◌≤◌, List, [], ◌∷◌, length, take, Option, Ok, Err, Some, None, IfOk, OnOk, IfSome, IfNone, IsTrue, IfErr, vec_len, false};
 ghost use Rattle.std.specs.Option.{option_to_list};
 ghost use Rattle.std.specs.Io.KnownBytes.{Consumes, Keeps, IsAtEnd};
 ghost use Rattle.resolvo_text.specs.Sources.{SourceFailed};
@@ -55,14 +55,20 @@ impl<T: Drop> From<AllocFailed<T>> for ReadFault {
 }
 
 /// How many bytes a device is asked for at once.
-const PIECE: usize = 4096;
+const PIECE: usize = 65_536;
 
 /// Reads one line after the other, and buffers no more than one piece and one line.
+///
+/// A line that lies in the piece with its newline is not copied.
 #[derive(Drop)]
 pub struct LineReader {
     piece: Vec<u8>,
     at: usize,
     end: usize,
+    /// Whether the last line that was taken lies in the piece, and where. If not, it is in `line`.
+    in_place: bool,
+    line_begin: usize,
+    line_end: usize,
     line: Vec<u8>,
     /// Whether the last line that was taken ended with a newline.
     whole: bool,
@@ -71,6 +77,8 @@ pub struct LineReader {
     ghost begun: { at ≤ end },
     ghost in_piece: { end ≤ vec_len piece },
     ghost has_piece: { 0 < vec_len piece },
+    ghost line_begun: { line_begin ≤ line_end },
+    ghost line_in_piece: { line_end ≤ vec_len piece },
 }
 
 /// The place of the first newline.
@@ -92,7 +100,7 @@ fn plain_bytes(bytes: &[u8]) -> usize
 }
 
 impl LineReader {
-    ghost use Rattle.resolvo_text.specs.Reader.{left, unread, IsReadFault, TakesLine, TakesPlain, EndsLine};
+    ghost use Rattle.resolvo_text.specs.Reader.{left, unread, last_line, IsReadFault, IsAhead, TakesInPlace, TakesLine, TakesPlain, EndsLine};
 
     /// A reader that takes at most `limit` bytes.
     pub fn new(alloc: Global, limit: u32) -> Result<Self, AllocError>
@@ -103,6 +111,9 @@ impl LineReader {
             piece: vec![in alloc; 0; PIECE]?,
             at: 0,
             end: 0,
+            in_place: false,
+            line_begin: 0,
+            line_end: 0,
             line: Vec::new(alloc),
             whole: false,
             room: limit,
@@ -115,6 +126,76 @@ impl LineReader {
     /// reader can't be used any more.
     pub fn next_line<S: Source>(&mut self, source: &mut S) -> Result<bool, ReadFault>
         // After an answer.
+        ensures taken { IfOk result
+            (λ more. IsTrue more
+            → TakesLine (left self.old (S.left source.old)) self.old.room
+            (last_line self.new) (left self.new (S.left source.new)) self.new.room) }
+        ensures ending { IfOk result
+            (λ more. IsTrue more
+            → EndsLine self.new.whole (left self.old (S.left source.old)) self.old.room
+            (last_line self.new) (left self.new (S.left source.new)) self.new.room) }
+        // Whatever the answer.
+        ensures less { self.new.room ≤ self.old.room }
+        // After an answer.
+        ensures progress { IfOk result (λ more. IsTrue more → self.new.room < self.old.room) }
+        ensures end { IfOk result (λ more. more ≡ false → IsAtEnd (left self.old (S.left source.old))) }
+        ensures failures { OnOk result (S.failures source.new ≡ S.failures source.old) }
+        // After a refusal.
+        ensures fault { IfErr result
+            (λ e.
+            IsReadFault e (left self.old (S.left source.old)) (S.left source.new) self.old.room
+            (SourceFailed S.Source source.old source.new)) }
+    {
+        if let Some(count) = self.bytes_ahead() {
+            self.take_in_place(count);
+            self.whole = true;
+            return Ok(true);
+        }
+        self.take_across(source)
+    }
+
+    /// The last line that was taken.
+    pub fn line(&self) -> &[u8]
+        ensures { result.now ≡ last_line self.now }
+    {
+        if self.in_place {
+            &self.piece[self.line_begin..self.line_end]
+        } else {
+            &self.line
+        }
+    }
+
+    /// Whether the last line that was taken ended with a newline. If not, it is the text's last.
+    pub fn is_whole(&self) -> bool
+        ensures { result ≡ self.now.whole }
+    {
+        self.whole
+    }
+
+    /// How many bytes the next line has, if it lies in the piece with its newline and there is room.
+    fn bytes_ahead(&self) -> Option<usize>
+        ensures { IfSome result (λ count. IsAhead self.now count) }
+    {
+        let end = self.end.min(self.at + self.room as usize);
+        newline_in(&self.piece[self.at..end])
+    }
+
+    /// Takes the line of so many bytes that lies ahead.
+    fn take_in_place(&mut self, count: usize)
+        requires { IsAhead self.old count }
+        ensures { TakesInPlace self.old self.new }
+    {
+        self.in_place = true;
+        self.line_begin = self.at;
+        self.line_end = self.at + count;
+        self.at = self.line_end + 1;
+        self.room -= count as u32 + 1;
+    }
+
+    /// Takes the next line over as many pieces as it has.
+    fn take_across<S: Source>(&mut self, source: &mut S) -> Result<bool, ReadFault>
+        // After an answer.
+        ensures copied { OnOk result (self.new.in_place ≡ false) }
         ensures taken { IfOk result
             (λ more. IsTrue more
             → TakesLine (left self.old (S.left source.old)) self.old.room
@@ -140,30 +221,18 @@ impl LineReader {
             self.take_plain()?;
             match self.next_byte(source)? {
                 Some(b'\n') => {
+                    self.in_place = false;
                     self.whole = true;
                     return Ok(true);
                 }
                 Some(byte) => self.line.push(byte)?,
                 None => {
+                    self.in_place = false;
                     self.whole = false;
                     return Ok(!self.line.is_empty());
                 }
             }
         }
-    }
-
-    /// The last line that was taken.
-    pub fn line(&self) -> &[u8]
-        ensures { result.now ≡ self.now.line.items }
-    {
-        &self.line
-    }
-
-    /// Whether the last line that was taken ended with a newline. If not, it is the text's last.
-    pub fn is_whole(&self) -> bool
-        ensures { result ≡ self.now.whole }
-    {
-        self.whole
     }
 
     /// Takes the bytes of the piece before its next newline, as far as there is room for them.
