@@ -1,6 +1,7 @@
 pub mod KnownBytes
 pub mod LineLemmas
 pub mod PlaceLemmas
+pub mod SearchLemmas
 pub mod ReadTo
 pub mod NumberLemmas
 pub mod NameLemmas

@@ -12,6 +12,7 @@ ghost use Rattle.std.specs.List.{position};
 ghost use Rattle.resolvo_text.specs.Lines.{newlines, is_newline};
 
 use crate::device::{IoFault, MOST_INTERRUPTIONS, Source};
+use memchr::memchr;
 use std::alloc::{AllocError, AllocFailed, Global};
 use thiserror::Error;
 
@@ -85,7 +86,7 @@ pub struct LineReader {
 fn newline_in(bytes: &[u8]) -> Option<usize>
     ensures { result ≡ position is_newline bytes.now }
 {
-    bytes.iter().position(|byte| *byte == b'\n')
+    memchr(b'\n', bytes)
 }
 
 /// How many bytes precede the first newline.
