@@ -80,6 +80,10 @@ unlisted flags = sum_by weight flags
 abbrev pub IsIn : List Version → List VersionNo → Version → Type 0
 IsIn versions numbers v = (n : VersionNo) × Contains numbers n × (slice_get versions n.0 ≡ Some v)
 
+-- At the version's number stands the number of its package's first version.
+abbrev pub HasPackage : List Version → List ℕ → ℕ → Version → Type 0
+HasPackage versions packages n v = (p : ℕ) × (slice_get packages n ≡ Some p) × (first_of versions v.name ≡ Some p)
+
 -- These are the chosen versions, each of the catalogue, and these of them are entries. Chosen versions that are none
 -- are among those left.
 pub record Holds (catalogue : List Line) (kept : Chosen) (chosen entries : Set) : Type 0 where
@@ -91,6 +95,7 @@ pub record Holds (catalogue : List Line) (kept : Chosen) (chosen entries : Set) 
   pub among : (v : Version) → Contains entries v → Contains chosen v
   pub known : (v : Version) → Contains chosen v → (n : VersionNo) × (slice_get (listed catalogue) n.0 ≡ Some v)
   pub left : (v : Version) → Contains chosen v → Contains entries v ⊎ IsIn (listed catalogue) kept.left.items v
+  pub packages : (n : ℕ) (v : Version) → slice_get (listed catalogue) n ≡ Some v → Contains chosen v → HasPackage (listed catalogue) kept.packages.items n v
 
 -- It is favoured, a match, chosen and no entry; or no version is all of these.
 abbrev pub IsFavouredMatch : List Line → Set → Set → Spec → Option VersionNo → Type 0

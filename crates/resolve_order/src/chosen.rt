@@ -83,6 +83,25 @@ pub struct Chosen {
     listed: Vec<bool>,
     /// The chosen versions that may be no entries yet.
     left: Vec<VersionNo>,
+    /// Of each chosen version, the number of its package's first version; 0 at the others.
+    packages: Vec<u32>,
+}
+
+/// Keeps the package of a version.
+fn put_package(packages: &mut Vec<u32>, version: VersionNo, package: u32) -> Result<(), AllocError>
+    ensures here { OnOk result (slice_get packages.new.items version.0 ≡ Some «package») }
+    ensures others { OnOk result
+        ((k p : ℕ)
+        → (k ≡ version.0 → ⊥)
+        → slice_get packages.old.items k ≡ Some p
+        → slice_get packages.new.items k ≡ Some p) }
+{
+    let place = version.0 as usize;
+    if place >= packages.len() {
+        packages.resize(place + 1, 0)?;
+    }
+    packages[place] = package;
+    Ok(())
 }
 
 impl Chosen {
@@ -97,6 +116,7 @@ impl Chosen {
             favoured: favoured_by(alloc, catalogue)?,
             listed,
             left: Vec::new(alloc),
+            packages: Vec::new(alloc),
         })
     }
 
@@ -113,6 +133,7 @@ impl Chosen {
         }
         if let Some(place) = place_of(catalogue, version) {
             self.unlisted.add(place, version)?;
+            put_package(&mut self.packages, version, place.0)?;
             self.left.push(version)?;
         }
         Ok(())
@@ -146,6 +167,26 @@ impl Chosen {
         }
     }
 
+    /// The package of a chosen version, as `add` found it.
+    fn kept_package(&self, version: VersionNo) -> Option<u32>
+        ensures { result ≡ slice_get self.now.packages.items version.0 }
+    {
+        self.packages.get(version.0 as usize).copied()
+    }
+
+    /// The place of a chosen version, without a search of its package.
+    fn kept_place(&self, catalogue: &Catalogue, version: VersionNo) -> Option<(u32, u32)>
+        ensures { (chosen entries : Set) (v : content.Version)
+            → slice_get (listed catalogue.now) version.0 ≡ Some v
+            → Contains chosen v
+            → Holds catalogue.now self.now chosen entries
+            → IsPlaceOf (listed catalogue.now) version.0 result }
+    {
+        let listed = version_at(catalogue, version)?;
+        let package = self.kept_package(version)?;
+        Some((package, listed.1))
+    }
+
     /// Makes a chosen version an entry.
     pub fn mark(&mut self, catalogue: &Catalogue, version: VersionNo) -> Result<(), AllocError>
         requires { is_unlisted self.old.listed.items version.0 ≡ true }
@@ -158,7 +199,7 @@ impl Chosen {
             → Holds catalogue.now self.old chosen entries
             → Holds catalogue.now self.new chosen (entries ++ v ∷ [])) }
     {
-        if let Some(place) = place_of(catalogue, version) {
+        if let Some(place) = self.kept_place(catalogue, version) {
             self.entries.add(place, version)?;
             self.unlisted.remove(place);
         }
