@@ -162,6 +162,27 @@ def conditions(count, _seed):
     return p
 
 
+def late_conditions(count, _seed):
+    """As many needs as a chain has packages, each under the condition that the chain's last one is there."""
+    p = Problem()
+    for k in range(count):
+        p.version(f"w{k}", 1)
+        p.version(f"c{k}", 1, *([[any_of(f"c{k + 1}")]] if k + 1 < count else []))
+        p.ask(any_of(f"w{k}"), under=any_of(f"c{count - 1}"))
+    p.ask(any_of("c0"))
+    return p
+
+
+def needy_wishes(count, _seed):
+    """Wished versions, each of which needs a package of its own."""
+    p = Problem()
+    for k in range(count):
+        p.version(f"w{k}", 1, [any_of(f"n{k}")])
+        p.version(f"n{k}", 1)
+        p.wished.append((f"w{k}", 1))
+    return p
+
+
 def wishes(count, _seed):
     """Packages in couples: the newer version of the second keeps out that of the first. Each newer version is wished for."""
     p = Problem()

@@ -75,6 +75,8 @@ SHAPES = (
     Shape("pairs", shapes.pairs(False), (2_000, 6_000, 20_000), beside=LIBSOLV, linear=True),
     Shape("refused-pairs", shapes.pairs(True), (2_000, 6_000, 20_000), beside=LIBSOLV, linear=True),
     Shape("conditions", shapes.conditions, (2_500, 5_000, 20_000), beside=LIBSOLV, linear=True),
+    Shape("late-conditions", shapes.late_conditions, (1_000, 2_000, 4_000), beside=LIBSOLV, linear=True),
+    Shape("needy-wishes", shapes.needy_wishes, (1_000, 2_000, 4_000), beside=LIBSOLV, linear=True),
     Shape("ring", shapes.in_a_ring, (500, 5_000, 20_000), beside=LIBSOLV, linear=True),
     Shape("wishes", shapes.wishes, (1_250, 2_500, 5_000), beside=LIBSOLV, linear=True),
     Shape("limited", shapes.limited, (300, 1_000)),
