@@ -1,14 +1,15 @@
 -- Numbers by keys, with one key more.
-use Rattle.std.proofs.Common.{◌≡◌, ◌∙◌, ◌∷◌, ◌++◌, [], ℕ, zero, suc, Bool, true, false, cond, List, length, Option, Some, None, refl, sym, ap, subst, inl, inr}
+use Rattle.std.proofs.Common.{◌≡◌, ◌∙◌, ◌∷◌, ◌++◌, [], ◌<◌, ℕ, zero, suc, Bool, true, false, cond, List, length, Option, Some, None, refl, sym, ap, subst, inl, inr, arith}
 use Rattle.std.specs.Prelude.{slice_get}
 use Rattle.std.specs.Option.{option_map}
 use Rattle.std.proofs.lemmas.Bool.{cases_Bool}
 use Rattle.std.proofs.lemmas.List.{length-map, map_push}
 use Rattle.std.proofs.lemmas.Option.{none-some, slice_get-map, slice_get_within}
 use Rattle.resolvo_catalogue_core.proofs.Pushed.{get_new, get_kept, get_push}
+use Rattle.resolvo_catalogue.specs.Ids.{AreOnce}
 use Rattle.resolvo_catalogue.specs.Found.{Key, KeyNumbers, AreIndexed, AreKeysFound, IsPut, key_eq, key_hash, keys_of, index_of, number_from, number_if, number_in, number_of_entry, number_at, place_from, tries}
 use Rattle.resolvo_catalogue.proofs.FoundLemmas.{keys_exact, keys_own}
-use Rattle.resolvo_catalogue.proofs.IndexLemmas.{index_none, index_push, indexed_found, indexed_absent}
+use Rattle.resolvo_catalogue.proofs.IndexLemmas.{index_none, index_more, index_push, indexed_once, indexed_found, indexed_absent}
 
 abbrev Entry : Type 0
 Entry = Key × ℕ
@@ -28,6 +29,39 @@ no_entry (Some (suc i)) = refl
 
 pub no_number : (slots : List ℕ) (key : Key) → number_at (record { slots = slots; entries = []; others = [] }) key ≡ None
 no_number slots key = no_entry (index_of (record { slots = slots; entries = []; others = [] }) key)
+
+-- ---- places anew
+
+-- the first so many keys are found
+abbrev pub AreFoundTo : List ℕ → List Entry → List Entry → ℕ → Type 0
+AreFoundTo slots entries others count = AreIndexed key_eq key_hash (keys_of entries) slots (number_in others) count
+
+pub keys_once : (slots : List ℕ) (entries others : List Entry) → AreKeysFound (record { slots = slots; entries = entries; others = others }) → AreOnce (keys_of entries)
+keys_once slots entries others h = indexed_once key_eq keys_exact keys_own key_hash (keys_of entries) slots (number_in others) h
+
+-- one of the keys more that are found
+pub first_next : (slots slots' : List ℕ) (entries others others' : List Entry) (count : ℕ) (e : Entry) → AreOnce (keys_of entries) → AreFoundTo slots entries others count → slice_get entries count ≡ Some e
+    → IsPut key_eq e.0 (key_hash e.0) count slots slots' (number_in others) (number_in others') → AreFoundTo slots' entries others' (suc count)
+first_next slots slots' entries others others' count e once h there put =
+    let at : slice_get (keys_of entries) count ≡ Some e.0 = slice_get-map (λ (x : Entry). x.0) entries count ∙ ap (λ (o : Option Entry). option_map (λ (x : Entry). x.0) o) there in
+    index_more key_eq keys_exact keys_own key_hash (keys_of entries) (keys_of entries) slots slots' (number_in others) (number_in others') count h (λ k x a. a) e.0 (λ m w a. inl a) at (λ m a. once m count e.0 a at) put
+
+-- a key has the same number whatever the places
+module _ (slots slots' : List ℕ) (entries others others' : List Entry) (h : AreKeysFound (record { slots = slots; entries = entries; others = others })) (h' : AreKeysFound (record { slots = slots'; entries = entries; others = others' })) where
+  same_index : (key : Key) (o : Option ℕ) → index_of (record { slots = slots; entries = entries; others = others }) key ≡ o → index_of (record { slots = slots'; entries = entries; others = others' }) key ≡ o
+  same_index key (Some i) found =
+      let at : slice_get (keys_of entries) i ≡ Some key = indexed_found key_eq keys_exact keys_own key_hash (keys_of entries) slots (number_in others) (length (keys_of entries)) h key i found in
+      h'.all key i (slice_get_within (keys_of entries) i key at) at
+  same_index key None gone = go (index_of (record { slots = slots'; entries = entries; others = others' }) key) refl
+    where
+      go : (o : Option ℕ) → index_of (record { slots = slots'; entries = entries; others = others' }) key ≡ o → index_of (record { slots = slots'; entries = entries; others = others' }) key ≡ None
+      go None e = e
+      go (Some i) e =
+          let at : slice_get (keys_of entries) i ≡ Some key = indexed_found key_eq keys_exact keys_own key_hash (keys_of entries) slots' (number_in others') (length (keys_of entries)) h' key i e in
+          absurd (indexed_absent key_eq keys_exact keys_own key_hash (keys_of entries) slots (number_in others) h key gone i at)
+
+  pub same_number_at : (key : Key) → number_at (record { slots = slots'; entries = entries; others = others' }) key ≡ number_at (record { slots = slots; entries = entries; others = others }) key
+  same_number_at key = ap (λ (o : Option ℕ). number_of_entry entries o) (same_index key (index_of (record { slots = slots; entries = entries; others = others }) key) refl)
 
 -- ---- one key more
 

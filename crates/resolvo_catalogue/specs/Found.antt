@@ -144,6 +144,10 @@ number_of_entry entries (Some i) = option_map (λ e. e.1) (slice_get entries i)
 abbrev pub number_at : KeyNumbers → Key → Option ℕ
 number_at m key = number_of_entry m.entries (index_of m key)
 
+-- a key more has a number
+abbrev pub AddsKey : Key → ℕ → KeyNumbers → KeyNumbers → Type 0
+AddsKey key n old new = (other : Key) → number_at new other ≡ (if key_eq key other then Some n else number_at old other)
+
 -- each key is found
 abbrev pub AreKeysFound : KeyNumbers → Type 0
 AreKeysFound m = AreIndexed key_eq key_hash (keys_of m.entries) m.slots (number_in m.others) (length (keys_of m.entries))

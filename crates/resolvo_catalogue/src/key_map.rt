@@ -2,7 +2,8 @@
 //! have are in a sorted map. So no choice of keys makes that slow. Used by `id_table`.
 
 ghost use Rattle.std.specs.Prelude.{◌≡◌, ◌<◌, ◌≤◌, ◌+◌, [], ℕ, Option, length, IfOk, OnOk, OnErr, None, Some, slice_get, if◌then◌else◌};
-ghost use Rattle.resolvo_catalogue.specs.Found.{Key, IsPut, key_eq, key_hash, keys_of, number_at, number_from, number_if, number_in, number_of_slot, or_later, place_from, slot_at, tries};
+ghost use Rattle.resolvo_catalogue.specs.Ids.{AreOnce};
+ghost use Rattle.resolvo_catalogue.specs.Found.{Key, IsPut, AddsKey, AreKeysFound, key_eq, key_hash, keys_of, number_at, number_from, number_if, number_in, number_of_slot, or_later, place_from, slot_at, tries};
 
 use crate::slots::{Slots, TRIES, first_place};
 use resolvo_catalogue_core::mixed;
@@ -68,7 +69,7 @@ impl Model for KeyMap {
 }
 
 impl KeyMap {
-    /// No keys, with places for so many. More keys are found more slowly.
+    /// No keys, with places for so many.
     #[tactic(auto, using(crate::proofs::KeyMapLemmas::no_number, crate::proofs::KeyMapLemmas::none_found))]
     pub fn new(alloc: Global, room: usize) -> Result<KeyMap, AllocError>
         ensures none { IfOk result (λ m. (key : Key) → number_at m key ≡ None) }
@@ -95,14 +96,44 @@ impl KeyMap {
     pub fn add(&mut self, key: Key, number: u32) -> Result<(), AllocError>
         requires none { number_at self.old key ≡ None }
         requires few { length self.old.entries < 4294967295 }
-        ensures added { OnOk result ((other : Key) → number_at self.new other ≡
-            (if key_eq key other then Some number else number_at self.old other)) }
+        ensures added { OnOk result (AddsKey key number self.old self.new) }
+        ensures kept { OnErr result (self.new ≡ self.old) }
+        ensures entries { length self.new.entries ≤ length self.old.entries + 1 }
+    {
+        match self.index.slots.more_for(self.entries.len()) {
+            None => self.put(key, number),
+            Some(places) => self.put_among(places, key, number),
+        }
+    }
+
+    /// The same. The other keys keep their places.
+    fn put(&mut self, key: Key, number: u32) -> Result<(), AllocError>
+        requires none { number_at self.old key ≡ None }
+        requires few { length self.old.entries < 4294967295 }
+        ensures added { OnOk result (AddsKey key number self.old self.new) }
         ensures kept { OnErr result (self.new ≡ self.old) }
         ensures entries { length self.new.entries ≤ length self.old.entries + 1 }
     {
         let at = self.entries.len() as u32;
         self.entries.reserve(1)?;
         self.index.put(key, at)?;
+        self.entries.push_reserved((key, number));
+        Ok(())
+    }
+
+    /// The same. All keys get new places, of which there are so many.
+    fn put_among(&mut self, places: usize, key: Key, number: u32) -> Result<(), AllocError>
+        requires none { number_at self.old key ≡ None }
+        requires few { length self.old.entries < 4294967295 }
+        ensures added { OnOk result (AddsKey key number self.old self.new) }
+        ensures kept { OnErr result (self.new ≡ self.old) }
+        ensures entries { length self.new.entries ≤ length self.old.entries + 1 }
+    {
+        let at = self.entries.len() as u32;
+        self.entries.reserve(1)?;
+        let mut index = KeyIndex::of(*self.entries.allocator(), &self.entries, places)?;
+        index.put(key, at)?;
+        self.index = index;
         self.entries.push_reserved((key, number));
         Ok(())
     }
@@ -117,6 +148,25 @@ impl KeyIndex {
             slots: Slots::new(alloc, count)?,
             others: BTreeMap::new(alloc),
         })
+    }
+
+    /// The places of the keys of entries, of which there are so many.
+    fn of(alloc: Global, entries: &[(Key, u32)], count: usize) -> Result<KeyIndex, AllocError>
+        requires once { AreOnce (keys_of entries.now) }
+        requires few { length entries.now < 4294967295 }
+        ensures { IfOk result
+            (λ x. AreKeysFound
+            (record {
+              slots = x.slots.numbers.items;
+              entries = entries.now;
+              others = x.others.entries;
+            })) }
+    {
+        let mut index = KeyIndex::new(alloc, count)?;
+        for at in 0..entries.len() {
+            index.put(entries[at].0, at as u32)?;
+        }
+        Ok(index)
     }
 
     /// Where a key is among the entries, if it is there.

@@ -1,7 +1,7 @@
 use Rattle.std.proofs.Common.{◌≡◌, ◌∙◌, ◌∷◌, ◌++◌, [], ℕ, List, Some, None, cond, length, sym, ap, subst, arith}
 use Rattle.resolvo_catalogue.specs.Found.{Key, AreKeysFound, KeyNumbers, key_eq, number_at}
 use Rattle.resolvo_catalogue.proofs.KeyMapLemmas.{more_found, more_added}
-use Rattle.resolvo_catalogue.proofs.key_map.KeyMap.add.Goals as goal
+use Rattle.resolvo_catalogue.proofs.key_map.KeyMap.put.Goals as goal
 
 pub invariant_of-self-2 : goal.invariant_of-self-2
 invariant_of-self-2 c =
