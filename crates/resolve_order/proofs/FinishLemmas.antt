@@ -1,6 +1,6 @@
 -- Entries one after the other, and turns one after the other.
-use Rattle.std.proofs.Common.{◌≡◌, ℕ, zero, suc, ◌+◌, ◌<◌, List, [], ◌∷◌, ◌++◌, length, take, drop, get_or, reverse, Option, Some, None, refl, sym, ap, subst, ◌∙◌, append_assoc, add-one, arith}
-use Rattle.std.specs.Prelude.{Contains, slice_get}
+use Rattle.std.proofs.Common.{◌≡◌, ℕ, zero, suc, ◌+◌, ◌<◌, List, [], ◌∷◌, ◌++◌, length, take, get_or, Option, Some, None, refl, sym, ap, subst, ◌∙◌, append_assoc, add-one, arith}
+use Rattle.std.specs.Prelude.{slice_get}
 use Rattle.std.specs.Option.{option_map}
 use Rattle.std.proofs.lemmas.Grind.{flat_map-append}
 use Rattle.std.proofs.lemmas.List.{append-nil, map-append, take_more}
@@ -17,51 +17,44 @@ use Rattle.resolvo_catalogue_core.proofs.TableSteps.{numbered}
 use Rattle.resolve_order.specs.Order as order
 use Rattle.resolve_order.specs.Order.{IsNext, AreInOrder, IsComplete, IsOneTurn, AreTurns, wish_entry, chosen_by, chosen_in, accepted_by}
 use Rattle.resolve_order.specs.View.{reason_of, answer_of, wish_at, turn_of, turns_of, IsAccepted, IsWishOf, AreWishesOf}
-use Rattle.resolve_order.specs.Kept.{Holds, IsListing, IsLeft, IsFound, Extends, TakesTurn, IsSpentAt, Remains, answers_in, entries_in, left_of}
+use Rattle.resolve_order.specs.Kept.{Holds, OthersAreIdle, IsListing, IsFound, Extends, TakesTurn, answers_in, entries_in}
 use Rattle.resolve_order.specs.declared.chosen.Chosen.{Chosen}
 use Rattle.resolve_order.specs.declared.entry.Answer.TheVariants as answer
 use Rattle.resolve_order.specs.declared.entry.Entry.{Entry}
-use Rattle.resolve_order.specs.declared.entry.Reason.{Reason}
 use Rattle.resolve_order.specs.declared.entry.Turn.{Turn}
 use Rattle.resolve_order.specs.declared.entry.Turn.TheVariants as turn
 use Rattle.resolve_order.specs.declared.install_order.InstallOrder.{InstallOrder}
 use Rattle.resolve_order.specs.declared.open_lines.OpenLines.{OpenLines}
-use Rattle.resolve_order.proofs.Elements.{no_element}
 use Rattle.resolve_order.proofs.GiveLemmas.{answers_more}
-use Rattle.resolve_order.proofs.RemainLemmas.{remains_all}
 use Rattle.resolve_order.proofs.TurnLemmas.{Accepts, AllAccepted, after_both, in_order_more, turns_more}
 
 -- ---- one entry after the other
 
-pub extends_none : (catalogue request : List Line) (chosen : Set) (x : InstallOrder) → IsListing catalogue request x chosen → Extends catalogue request chosen x x
+pub extends_none : (catalogue request : List Line) (chosen : Set) (x : InstallOrder) → IsListing catalogue request x chosen chosen → Extends catalogue request chosen x x
 extends_none catalogue request chosen x h = record { listing = h; others = []; more = sym (append-nil (answers_in catalogue x)); in_order = tt }
 
 -- the same listing, where fewer versions are left
-pub ready : (catalogue request : List Line) (chosen : Set) (x : InstallOrder) (kept : Chosen) → ((lines : List Line) (all entries : Set) → Holds lines x.chosen all entries → Holds lines kept all entries)
-    → IsListing catalogue request x chosen → IsListing catalogue request (record x { chosen = kept }) chosen
-ready catalogue request chosen x kept holds h = record { holds = holds catalogue chosen (entries_in catalogue x) h.holds; lines = h.lines; numbered = h.numbered }
+pub ready : (catalogue request : List Line) (chosen seen : Set) (x : InstallOrder) (kept : Chosen) → ((lines : List Line) (all entries : Set) → Holds lines x.chosen all entries → Holds lines kept all entries)
+    → IsListing catalogue request x chosen seen → IsListing catalogue request (record x { chosen = kept }) chosen seen
+ready catalogue request chosen seen x kept holds h = record { holds = holds catalogue chosen (entries_in catalogue x) h.holds; lines = h.lines; idle = h.idle; numbered = h.numbered }
 
-pub extends_again : (catalogue request : List Line) (chosen : Set) (x : InstallOrder) (kept : Chosen) (after : InstallOrder) → Extends catalogue request chosen (record x { chosen = kept }) after → Extends catalogue request chosen x after
-extends_again catalogue request chosen x kept after h = record { listing = h.listing; others = h.others; more = h.more; in_order = h.in_order }
+-- all chosen versions were seen
+pub seen_all : (catalogue request : List Line) (chosen seen : Set) (x : InstallOrder) (places : OpenLines) → OthersAreIdle catalogue request chosen (entries_in catalogue x) x.lines.items places → IsListing catalogue request x chosen seen
+    → IsListing catalogue request (record x { open_lines = places }) chosen chosen
+seen_all catalogue request chosen seen x places idle h = record { holds = h.holds; lines = h.lines; idle = idle; numbered = h.numbered }
 
-pub all_left : (catalogue request : List Line) (chosen : Set) (x : InstallOrder) (places : OpenLines) → places.waiting.items ≡ [] → places.again.items ≡ [] → places.below ≡ 0 → IsLeft catalogue request x chosen places
-all_left catalogue request chosen x places waiting again below = record {
-  left = record {
-    within = omega (arith, below);
-    waiting = λ s c. absurd (no_element s (subst (λ (rs : List Reason). Contains rs s) waiting c));
-    remain = subst (Remains (IsSpentAt catalogue request chosen (entries_in catalogue x)) x.lines.items) (sym whole) (remains_all (IsSpentAt catalogue request chosen (entries_in catalogue x)) x.lines.items);
-  };
-  none_waits = waiting;
-}
-  where
-    whole : places.waiting.items ++ left_of places x.lines.items ≡ x.lines.items
-    whole = ap (λ (rs : List Reason). rs ++ left_of places x.lines.items) waiting ∙ ap (λ (rs : List Reason). reverse rs ++ drop places.below x.lines.items) again ∙ ap (λ (n : ℕ). drop n x.lines.items) below
+pub extends_opened : (catalogue request : List Line) (chosen : Set) (first x : InstallOrder) (places : OpenLines) → OthersAreIdle catalogue request chosen (entries_in catalogue x) x.lines.items places → Extends catalogue request chosen first x
+    → Extends catalogue request chosen first (record x { open_lines = places })
+extends_opened catalogue request chosen first x places idle h = record { listing = seen_all catalogue request chosen chosen x places idle h.listing; others = h.others; more = h.more; in_order = h.in_order }
+
+pub extends_again : (catalogue request : List Line) (chosen : Set) (x : InstallOrder) (kept : Chosen) (places : OpenLines) (after : InstallOrder) → Extends catalogue request chosen (record x { chosen = kept; open_lines = places }) after → Extends catalogue request chosen x after
+extends_again catalogue request chosen x kept places after h = record { listing = h.listing; others = h.others; more = h.more; in_order = h.in_order }
 
 pub number_at : (catalogue : List Line) (n : VersionNo) → n.0 < length (listed catalogue) → slice_get (listed catalogue) n.0 ≡ Some (nth (listed catalogue) n)
 number_at catalogue n lt = slice_get-get_or (listed catalogue) n.0 nowhere lt
 
-pub extends_more : (catalogue request : List Line) (chosen : Set) (first before after : InstallOrder) (e : Entry) → Extends catalogue request chosen first before → IsFound catalogue request before chosen (Some e)
-    → after.answers.items ≡ before.answers.items ++ answer.Entry e ∷ [] → IsListing catalogue request after chosen → Extends catalogue request chosen first after
+pub extends_more : (catalogue request : List Line) (chosen : Set) (first before after : InstallOrder) (e : Entry) → Extends catalogue request chosen first before → IsFound catalogue request chosen (entries_in catalogue before) (Some e)
+    → after.answers.items ≡ before.answers.items ++ answer.Entry e ∷ [] → IsListing catalogue request after chosen chosen → Extends catalogue request chosen first after
 extends_more catalogue request chosen first before after e h found more listing = record {
   listing = listing;
   others = h.others ++ answer_of (listed catalogue) (answer.Entry e) ∷ [];
@@ -130,7 +123,7 @@ all_accepted versions request chosen (t ∷ turns) h =
 
 -- The answers of the turns up to turn i.
 pub record ListsTurns (catalogue request : List Line) (turns : List Turn) (i : ℕ) (x : InstallOrder) : Type 0 where
-  pub listing : IsListing catalogue request x (chosen_in (turns_of (listed catalogue) (take i turns)))
+  pub listing : IsListing catalogue request x (chosen_in (turns_of (listed catalogue) (take i turns))) (chosen_in (turns_of (listed catalogue) (take i turns)))
   pub turns_listed : AreTurns catalogue request [] [] (turns_of (listed catalogue) (take i turns)) (answers_in catalogue x)
 
 pub lists_more : (catalogue request : List Line) (turns : List Turn) (i : ℕ) (t : Turn) (before after : InstallOrder) → i < length turns → t ≡ get_or turns i t → ListsTurns catalogue request turns i before

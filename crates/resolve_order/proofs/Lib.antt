@@ -4,11 +4,10 @@ pub mod NumberLemmas
 pub mod FavourLemmas
 pub mod NewestLemmas
 pub mod PickLemmas
-pub mod RemainLemmas
 pub mod LineLemmas
-pub mod FollowLemmas
+pub mod NeedLemmas
+pub mod OpenLemmas
 pub mod GiveLemmas
-pub mod StateLemmas
 pub mod TurnLemmas
 pub mod PartLemmas
 pub mod FinishLemmas

@@ -4,7 +4,7 @@ use Rattle.std.specs.Prelude.{Contains, slice_get}
 use Rattle.std.specs.List.{AllPairs}
 use Rattle.std.proofs.lemmas.List.Elements.{Contains-append_left, Contains-append_right, Contains-append_cases, Contains-push, Contains-push_cases}
 use Rattle.std.proofs.lemmas.List.Kept.{AllPairs-from_increasing}
-use Rattle.std.proofs.lemmas.Option.{slice_get_within}
+use Rattle.std.proofs.lemmas.Option.{slice_get_within, get_or_from_slice_get}
 use Rattle.resolvo_text.specs.Line.{Version, Spec, Cond, Line, Needs}
 use Rattle.resolvo_text.specs.Matches.{Set}
 use Rattle.resolvo_catalogue_core.specs.Answers as answers
@@ -34,10 +34,14 @@ pub ordered_weaker : {X : Type 0} (R S : X → X → Type 0) (xs : List X) → (
 ordered_weaker R S [] w h = tt
 ordered_weaker R S (x ∷ xs) w h = (λ y c. w x y (h.0 y c), ordered_weaker R S xs w h.1)
 
--- the part below an element
-pub ordered_below : {X : Type 0} (R : X → X → Type 0) (above : List X) (r : X) (below : List X) → AreOrdered R (above ++ r ∷ below) → (y : X) → Contains below y → R r y
-ordered_below R [] r below h y c = h.0 y c
-ordered_below R (x ∷ above) r below h y c = ordered_below R above r below h.1 y c
+-- two elements by their places
+pub ordered_at : {X : Type 0} (R : X → X → Type 0) (xs : List X) (i j : ℕ) (a b : X) → AreOrdered R xs → i < j → slice_get xs i ≡ Some a → slice_get xs j ≡ Some b → R a b
+ordered_at R [] i j a b h less at_i at_j = absurd cc
+ordered_at R (x ∷ xs) i zero a b h less at_i at_j = absurd (omega (arith, less))
+ordered_at R (x ∷ xs) zero (suc j) a b h less at_i at_j =
+    let is : x ≡ a = cc in
+    subst (λ (y : _). R y b) is (h.0 b (j, slice_get_within xs j b at_j, get_or_from_slice_get xs j b b at_j))
+ordered_at R (x ∷ xs) (suc i) (suc j) a b h less at_i at_j = ordered_at R xs i j a b h.1 (omega (arith, less)) at_i at_j
 
 ordered_map : {X Y : Type 0} (R : Y → Y → Type 0) (f : X → Y) (xs : List X) → AreOrdered (λ a b. R (f a) (f b)) xs → AreOrdered R (map f xs)
 ordered_map R f [] h = tt

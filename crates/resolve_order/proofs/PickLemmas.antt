@@ -244,7 +244,7 @@ none_left_entries catalogue kept chosen entries none h v c = elim (h.left v c) [
 
 -- ---- matches
 
-name_matched : (s : Spec) (w : Version) → matches s w ≡ true → w.name ≡ s.name
+pub name_matched : (s : Spec) (w : Version) → matches s w ≡ true → w.name ≡ s.name
 name_matched s w m = (bytes_eq-Decides w.name s.name).0 (and_parts (bytes_eq w.name s.name) (is_in_span s.span w.number) m).0
 
 in_span : (s : Spec) (w : Version) → matches s w ≡ true → is_in_span s.span w.number ≡ true

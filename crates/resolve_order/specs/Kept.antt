@@ -1,11 +1,13 @@
 -- The state of the lister: the chosen versions by their packages, the lines in their order, and
--- those left to look at.
-use Rattle.std.specs.Prelude.{◌≡◌, ℕ, zero, suc, ◌<◌, ◌↔◌, ◌≤◌, IsTrue, Bool, true, false, if◌then◌else◌, not, ⊤, ◌⊎◌, List, [], ◌∷◌, ◌++◌, length, map, reverse, drop, Option, Some, None, Contains, slice_get}
+-- the open ones.
+use Rattle.std.specs.Prelude.{◌≡◌, ℕ, zero, suc, ◌<◌, ◌↔◌, ◌≤◌, ◌+◌, ◌-◌, IsTrue, Bool, true, false, if◌then◌else◌, not, ⊤, ◌⊎◌, List, [], ◌∷◌, ◌++◌, length, map, Option, Some, None, Contains, slice_get}
 use Rattle.std.specs.Option.{option_map, option_map_or}
 use Rattle.std.specs.Str.{bytes_eq}
-use Rattle.std.specs.BTreeMap.{get_by_text}
+use Rattle.std.specs.BTreeMap.{get, get_by_text}
+use Rattle.std.specs.BTreeSet.{BTreeSet, btree_set_len, contains}
+use Rattle.std.specs.Ordering.{nat_cmp}
 use Rattle.std.specs.List.{list_any, sum_by}
-use Rattle.resolvo_text.specs.Line.{Version, Spec, Cond, Line, Needs, Favour}
+use Rattle.resolvo_text.specs.Line.{Version, Spec, Cond, Is, And, Or, Line, Needs, Favour}
 use Rattle.resolvo_text.specs.Matches.{Set, is_member, matches, condition_holds}
 use Rattle.resolvo_catalogue_core.specs.Answers as answers
 use Rattle.resolvo_catalogue_core.specs.Answers.{entries_of, IsNeededBy}
@@ -26,6 +28,7 @@ use Rattle.resolve_order.specs.declared.entry.Reason.TheVariants as reason
 use Rattle.resolve_order.specs.declared.entry.Entry.{Entry}
 use Rattle.resolve_order.specs.declared.install_order.InstallOrder.{InstallOrder}
 use Rattle.resolve_order.specs.declared.open_lines.OpenLines.{OpenLines}
+use Rattle.resolve_order.specs.declared.package_lines.PackageLines.{PackageLines}
 
 -- ---- packages
 
@@ -123,6 +126,10 @@ abbrev pub IsRuleAt : Option Line → Option Rule → Type 0
 IsRuleAt line None = (l : Line) → line ≡ Some l → is_rule l ≡ false
 IsRuleAt line (Some r) = (l : Line) × (line ≡ Some l) × ((versions : List Version) × (owner : Option Version) × IsRuleLine versions r owner l)
 
+-- It is a need with these alternatives and this condition.
+abbrev pub IsNeedRule : Rule → List Spec → Option Cond → Type 0
+IsNeedRule r alternatives condition = (versions : List Version) × (owner : Option Version) × IsRuleLine versions r owner (Needs alternatives condition)
+
 -- Each match of the line among the chosen versions is an entry.
 abbrev pub IsSpent : Set → Set → Option Line → Type 0
 IsSpent chosen entries line = (alternatives : List Spec) (condition : Option Cond) (w : Version) → line ≡ Some (Needs alternatives condition)
@@ -163,54 +170,123 @@ answers_in catalogue x = answers_of (listed catalogue) x.answers.items
 abbrev pub entries_in : List Line → InstallOrder → Set
 entries_in catalogue x = entries_of (answers_in catalogue x)
 
-pub record IsListing (catalogue request : List Line) (x : InstallOrder) (chosen : Set) : Type 0 where
-  pub holds : Holds catalogue x.chosen chosen (entries_in catalogue x)
-  pub lines : AreLines catalogue request (entries_in catalogue x) x.lines.items
-  pub numbered : AreNumbered (listed catalogue) x.answers.items
+-- ---- lines by packages
 
--- ---- the lines left to look at
+-- whether line i is among the lines of a package
+abbrev pub has_line : Option (BTreeSet ℕ) → ℕ → Bool
+has_line None i = false
+has_line (Some lines) i = contains nat_cmp lines i
 
--- the lines that weren't looked at since the last entry
-abbrev pub left_of : OpenLines → List Reason → List Reason
-left_of places lines = reverse places.again.items ++ drop places.below lines
+-- whether line i is kept for package p
+abbrev pub is_kept : PackageLines → ℕ → ℕ → Bool
+is_kept t p i = has_line (get nat_cmp t.lines p) i
 
--- Of all of them these remain; P holds of the others.
-abbrev pub Remains : {X : Type 0} → (X → Type 0) → List X → List X → Type 0
-Remains P [] kept = kept ≡ []
-Remains P (x ∷ all) kept = ((rest : List _) × (kept ≡ x ∷ rest) × Remains P all rest) ⊎ (P x × Remains P all kept)
+-- The line is kept for the package, if the catalogue lists it.
+abbrev pub IsKeptFor : List Version → PackageLines → ℕ → List ℕ → Type 0
+IsKeptFor versions t i name = (p : ℕ) → first_of versions name ≡ Some p → is_kept t p i ≡ true
 
-abbrev pub IsSpentAt : List Line → List Line → Set → Set → Reason → Type 0
-IsSpentAt catalogue request chosen entries r = IsSpent chosen entries (line_named catalogue request (reason_of (listed catalogue) r))
+-- the same of each package of the SPECs
+abbrev pub IsKeptForAll : List Version → PackageLines → ℕ → List Spec → Type 0
+IsKeptForAll versions t i specs = (s : Spec) → Contains specs s → IsKeptFor versions t i s.name
 
--- All lines but spent ones wait or are left to look at.
-pub record AreLeft (catalogue request : List Line) (x : InstallOrder) (chosen : Set) (places : OpenLines) : Type 0 where
-  pub within : places.below ≤ length x.lines.items
-  pub waiting : (r : Reason) → Contains places.waiting.items r → IsWaiting (entries_in catalogue x) (line_named catalogue request (reason_of (listed catalogue) r))
-  pub remain : Remains (IsSpentAt catalogue request chosen (entries_in catalogue x)) x.lines.items (places.waiting.items ++ left_of places x.lines.items)
+-- The second keeps each line that the first keeps.
+abbrev pub KeepsAll : PackageLines → PackageLines → Type 0
+KeepsAll before after = (p i : ℕ) → is_kept before p i ≡ true → is_kept after p i ≡ true
 
--- None of them waits.
-pub record IsLeft (catalogue request : List Line) (x : InstallOrder) (chosen : Set) (places : OpenLines) : Type 0 where
-  pub left : AreLeft catalogue request x chosen places
-  pub none_waits : places.waiting.items ≡ []
+-- the SPECs of a condition
+abbrev pub specs_in : Cond → List Spec
+specs_in (Is s) = s ∷ []
+specs_in (And a b) = specs_in a ++ specs_in b
+specs_in (Or a b) = specs_in a ++ specs_in b
+
+abbrev pub specs_under : Option Cond → List Spec
+specs_under None = []
+specs_under (Some c) = specs_in c
+
+-- ---- open lines
+
+-- Line i is among those to look at again, or none of the lines before `below`.
+abbrev pub IsOpen : BTreeSet ℕ → ℕ → ℕ → Type 0
+IsOpen again below i = (contains nat_cmp again i ≡ true) ⊎ (below ≤ i)
+
+-- Lines to look at again are before `below`, and all of these are in a list of this length.
+pub record AreWithin (again : BTreeSet ℕ) (below count : ℕ) : Type 0 where
+  pub bound : below ≤ count
+  pub all : (i : ℕ) → contains nat_cmp again i ≡ true → i < below
+
+-- the least of the lines to look at again, or else the first of the others
+pub record IsFirstOpen (again : BTreeSet ℕ) (below i : ℕ) : Type 0 where
+  pub is_open : (contains nat_cmp again i ≡ true) ⊎ ((i ≡ below) × ((j : ℕ) → contains nat_cmp again j ≡ true → ⊥))
+  pub least : (j : ℕ) → contains nat_cmp again j ≡ true → i ≤ j
+
+-- how many of the lines of a list are to be looked at
+abbrev pub open_count : OpenLines → ℕ → ℕ
+open_count x count = btree_set_len x.again + (count - x.below)
+
+-- Line i alone is closed, and no line is kept for fewer packages. Lines that were closed before still are.
+pub record Closes (before after : OpenLines) (i : ℕ) : Type 0 where
+  pub others : (j : ℕ) → (j ≡ i → ⊥) → IsOpen before.again before.below j → IsOpen after.again after.below j
+  pub within : (count : ℕ) → i < count → AreWithin before.again before.below count → AreWithin after.again after.below count
+  pub fewer : (count : ℕ) → i < count → open_count after count < open_count before count
+  pub closed : (j : ℕ) → Contains before.closed.items j → Contains after.closed.items j
+  pub spent : KeepsAll before.spent after.spent
+  pub waiting : KeepsAll before.waiting after.waiting
+
+-- The lines before `below` that are kept for the package are opened. All others are open or kept as before.
+pub record Reopens (before after : BTreeSet ℕ) (below : ℕ) (kept left : PackageLines) (p : Option ℕ) : Type 0 where
+  pub opened : (q i : ℕ) → p ≡ Some q → is_kept kept q i ≡ true → i < below → contains nat_cmp after i ≡ true
+  pub stays : (i : ℕ) → contains nat_cmp before i ≡ true → contains nat_cmp after i ≡ true
+  pub within : (i : ℕ) → contains nat_cmp after i ≡ true → (contains nat_cmp before i ≡ true) ⊎ (i < below)
+  pub others : (q i : ℕ) → (p ≡ Some q → ⊥) → is_kept kept q i ≡ true → is_kept left q i ≡ true
+
+-- The line is kept for the packages of its alternatives.
+abbrev pub IsKeptByNeeds : List Version → PackageLines → ℕ → Option Line → Type 0
+IsKeptByNeeds versions spent i line = (alternatives : List Spec) (condition : Option Cond) → line ≡ Some (Needs alternatives condition) → IsKeptForAll versions spent i alternatives
+
+-- Each chosen match of the line is an entry. The line is kept for the packages of its alternatives, or is to be kept.
+pub record IsSpentLine (versions : List Version) (chosen entries : Set) (closed : List ℕ) (spent : PackageLines) (i : ℕ) (line : Option Line) : Type 0 where
+  pub is_spent : IsSpent chosen entries line
+  pub kept : Contains closed i ⊎ IsKeptByNeeds versions spent i line
+
+-- The line's condition doesn't hold, and the line is kept for the packages of its condition.
+pub record IsWaitingLine (versions : List Version) (entries : Set) (waiting : PackageLines) (i : ℕ) (line : Option Line) : Type 0 where
+  pub waits : IsWaiting entries line
+  pub kept : (alternatives : List Spec) (condition : Option Cond) → line ≡ Some (Needs alternatives condition) → IsKeptForAll versions waiting i (specs_under condition)
+
+-- Lines that aren't open give nothing, and are kept for the packages by which they may give a version.
+pub record OthersAreIdle (catalogue request : List Line) (chosen entries : Set) (lines : List Reason) (x : OpenLines) : Type 0 where
+  pub within : AreWithin x.again x.below (length lines)
+  pub each : (i : ℕ) (r : Reason) → slice_get lines i ≡ Some r → IsOpen x.again x.below i
+      ⊎ (IsSpentLine (listed catalogue) chosen entries x.closed.items x.spent i (line_named catalogue request (reason_of (listed catalogue) r))
+      ⊎ IsWaitingLine (listed catalogue) entries x.waiting i (line_named catalogue request (reason_of (listed catalogue) r)))
 
 -- the next entry, if there is one
-abbrev pub IsFound : List Line → List Line → InstallOrder → Set → Option Entry → Type 0
-IsFound catalogue request x chosen None = IsComplete catalogue request chosen (entries_in catalogue x)
-IsFound catalogue request x chosen (Some e) = (e.version.0 < length (listed catalogue))
-    × IsNext catalogue request chosen (entries_in catalogue x) (reason_of (listed catalogue) e.reason) (nth (listed catalogue) e.version)
+abbrev pub IsFound : List Line → List Line → Set → Set → Option Entry → Type 0
+IsFound catalogue request chosen entries None = IsComplete catalogue request chosen entries
+IsFound catalogue request chosen entries (Some e) = (e.version.0 < length (listed catalogue))
+    × IsNext catalogue request chosen entries (reason_of (listed catalogue) e.reason) (nth (listed catalogue) e.version)
+
+-- ---- a listing
+
+-- Lines that aren't open are idle by the chosen versions that were seen.
+pub record IsListing (catalogue request : List Line) (x : InstallOrder) (chosen seen : Set) : Type 0 where
+  pub holds : Holds catalogue x.chosen chosen (entries_in catalogue x)
+  pub lines : AreLines catalogue request (entries_in catalogue x) x.lines.items
+  pub idle : OthersAreIdle catalogue request seen (entries_in catalogue x) x.lines.items x.open_lines
+  pub numbered : AreNumbered (listed catalogue) x.answers.items
 
 -- ---- the result of a listing
 
 -- The second has these answers besides those of the first, each the next.
 pub record Extends (catalogue request : List Line) (chosen : Set) (before after : InstallOrder) : Type 0 where
-  pub listing : IsListing catalogue request after chosen
+  pub listing : IsListing catalogue request after chosen chosen
   pub others : List answers.Answer
   pub more : answers_in catalogue after ≡ answers_in catalogue before ++ others
   pub in_order : AreInOrder catalogue request chosen (entries_in catalogue before) others
 
 -- The second has the answers of the turn after those of the first.
 pub record TakesTurn (catalogue request : List Line) (chosen : Set) (t : Turn) (before after : InstallOrder) : Type 0 where
-  pub listing : IsListing catalogue request after chosen
+  pub listing : IsListing catalogue request after chosen chosen
   pub others : List answers.Answer
   pub more : answers_in catalogue after ≡ answers_in catalogue before ++ others
   pub is_turn : IsOneTurn catalogue request chosen (entries_in catalogue before) t others

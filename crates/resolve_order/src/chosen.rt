@@ -36,7 +36,7 @@ fn version_at(catalogue: &Catalogue, version: VersionNo) -> Option<(&str, u32)>
 }
 
 /// The number of the package's first version, if it has one.
-fn package_of(catalogue: &Catalogue, name: &str) -> Option<u32>
+pub fn package_of(catalogue: &Catalogue, name: &str) -> Option<u32>
     ensures { result ≡ first_of (listed catalogue.now) name.now }
 {
     match catalogue.versions_of(name).first() {
@@ -168,7 +168,7 @@ impl Chosen {
     }
 
     /// The package of a chosen version, as `add` found it.
-    fn kept_package(&self, version: VersionNo) -> Option<u32>
+    pub fn kept_package(&self, version: VersionNo) -> Option<u32>
         ensures { result ≡ slice_get self.now.packages.items version.0 }
     {
         self.packages.get(version.0 as usize).copied()

@@ -1,8 +1,8 @@
 //! Lists the chosen versions in the order of the lines that ask for them, and the wishes that are
 //! left out in their turns.
 //!
-//! A turn looks at the lines in their order, and lists the version that a line gives before it goes
-//! on. Lines that wait for their condition are looked at again after each entry. Called by the
+//! A turn looks at the open lines in their order, and lists the version that a line gives before it
+//! goes on. A line that gives nothing is closed until it may give one (`open_lines`). Called by the
 //! writer of the report of a search.
 
 ghost use Rattle.std.specs.Prelude.{◌≡◌, ◌↔◌, ◌++◌, ◌∷◌, [], ◌+◌, ◌<◌, length, true, List, Option, Contains, slice_get, Some, IfOk, IfSome, OnOk};
@@ -14,12 +14,12 @@ ghost use Rattle.resolvo_catalogue_core.specs.Listed.{listed, members};
 ghost use Rattle.resolve_order.specs.Order.{line_named, wish_entry, IsComplete, Chose, LeavesOut, AreTurns, AreReached, chosen_by, chosen_in, wishes_in};
 ghost use Rattle.resolve_order.specs.declared.entry.Answer.TheVariants as answer;
 ghost use Rattle.resolve_order.specs.View.{reason_of, answers_of, wish_at, turn_of, turns_of, IsAccepted, IsWishOf, AreNumbered, AreTurnsOf};
-ghost use Rattle.resolve_order.specs.Kept.{IsListing, IsLeft, IsFound, IsRuleAt, Extends, TakesTurn, is_unlisted, unlisted, lines_to, lines_for, answers_in, entries_in};
+ghost use Rattle.resolve_order.specs.Kept.{IsListing, Extends, TakesTurn, is_unlisted, unlisted, lines_to, lines_for, answers_in, entries_in};
 
-use crate::chosen::{Chosen, LineState};
+use crate::chosen::Chosen;
 use crate::entry::{Answer, Entry, Reason, Turn};
 use crate::open_lines::OpenLines;
-use resolvo_catalogue_core::{Catalogue, Request, Rule, VersionNo};
+use resolvo_catalogue_core::{Catalogue, Request, VersionNo};
 use std::alloc::{AllocError, Global};
 
 /// The answers so far, and the lines that ask for more.
@@ -28,6 +28,7 @@ pub struct InstallOrder {
     chosen: Chosen,
     /// The lines of the request, then those of the entries.
     lines: Vec<Reason>,
+    open_lines: OpenLines,
     answers: Vec<Answer>,
 }
 
@@ -59,19 +60,6 @@ fn push_lines(
     Ok(())
 }
 
-/// The rule of the line, if it has one.
-fn rule_at<'a>(catalogue: &'a Catalogue, request: &'a Request, reason: Reason) -> Option<&'a Rule>
-    ensures { IsRuleAt
-        (line_named catalogue.now request.now.lines (reason_of (listed catalogue.now) reason))
-        (option_copied result) }
-{
-    match reason {
-        Reason::ForRequest { line } => request.rule(line),
-        Reason::ForVersion { line, .. } => catalogue.rule(line),
-        Reason::Wished { .. } => None,
-    }
-}
-
 impl InstallOrder {
     /// No entry yet, and no version chosen.
     fn new(
@@ -80,11 +68,12 @@ impl InstallOrder {
         request: &Request,
     ) -> Result<InstallOrder, AllocError>
         ensures none { IfOk result (λ x. x.answers.items ≡ []) }
-        ensures listing { IfOk result (λ x. IsListing catalogue.now request.now.lines x []) }
+        ensures listing { IfOk result (λ x. IsListing catalogue.now request.now.lines x [] []) }
     {
         Ok(InstallOrder {
             chosen: Chosen::new(alloc, catalogue)?,
             lines: request_lines(alloc, request.line_count())?,
+            open_lines: OpenLines::new(alloc),
             answers: Vec::new(alloc),
         })
     }
@@ -96,17 +85,17 @@ impl InstallOrder {
             (unlisted self.new.chosen.listed.items + 1 ≡ unlisted self.old.chosen.listed.items) }
         ensures answers { OnOk result (self.new.answers.items ≡ self.old.answers.items
             ++ answer.Entry entry ∷ []) }
-        ensures lines { OnOk result
-            ((more : List Reason) × (self.new.lines.items ≡ self.old.lines.items ++ more)) }
         ensures listing { OnOk result
-            ((request : List content.Line) (chosen : Set) (v : content.Version)
+            ((request : List content.Line) (chosen seen : Set) (v : content.Version)
             → slice_get (listed catalogue.now) entry.version.0 ≡ Some v
             → Contains chosen v
-            → IsListing catalogue.now request self.old chosen
-            → IsListing catalogue.now request self.new chosen) }
+            → IsListing catalogue.now request self.old chosen seen
+            → IsListing catalogue.now request self.new chosen seen) }
     {
         self.chosen.mark(catalogue, entry.version)?;
         self.answers.push(Answer::Entry(entry))?;
+        self.open_lines
+            .open_waiting(self.chosen.kept_package(entry.version))?;
         push_lines(
             &mut self.lines,
             entry.version,
@@ -115,69 +104,35 @@ impl InstallOrder {
         Ok(())
     }
 
-    /// The next entry: the version of the first line that gives one.
-    fn next(
-        &self,
-        catalogue: &Catalogue,
-        request: &Request,
-        places: &mut OpenLines,
-    ) -> Result<Option<Entry>, AllocError>
-        ensures unlisted { IfOk result
-            (λ found.
-            IfSome found (λ e. is_unlisted self.now.chosen.listed.items e.version.0 ≡ true)) }
-        ensures found { IfOk result
-            (λ found.
-            (chosen : Set)
-            → IsListing catalogue.now request.now.lines self.now chosen
-            → IsLeft catalogue.now request.now.lines self.now chosen places.old
-            → IsFound catalogue.now request.now.lines self.now chosen found) }
-        ensures left { IfOk result
-            (λ found.
-            (chosen : Set)
-            → IsListing catalogue.now request.now.lines self.now chosen
-            → IsLeft catalogue.now request.now.lines self.now chosen places.old
-            → IfSome found
-            (λ e. IsLeft catalogue.now request.now.lines self.now chosen places.new)) }
-    {
-        while let Some(reason) = places.take(&self.lines) {
-            match self
-                .chosen
-                .line_state(catalogue, rule_at(catalogue, request, reason))
-            {
-                LineState::Spent => {}
-                LineState::Waiting => places.wait(reason)?,
-                LineState::Gives(version) => {
-                    places.rewind(reason)?;
-                    return Ok(Some(Entry { version, reason }));
-                }
-            }
-        }
-        Ok(None)
-    }
-
-    /// Lists one version after the other, until no line gives anything more. No line is looked at
-    /// where each chosen version is an entry.
+    /// Lists one version after the other, until no line gives anything more. These versions are
+    /// chosen since the last turn. No line is looked at where each chosen version is an entry.
     fn finish(
         &mut self,
-        alloc: Global,
         catalogue: &Catalogue,
         request: &Request,
+        versions: &[VersionNo],
     ) -> Result<(), AllocError>
         ensures listed { OnOk result
-            ((chosen : Set)
-            → IsListing catalogue.now request.now.lines self.old chosen
+            ((seen chosen : Set)
+            → chosen ≡ seen ++ members (listed catalogue.now) versions.now
+            → IsListing catalogue.now request.now.lines self.old chosen seen
             → Extends catalogue.now request.now.lines chosen self.old self.new) }
         ensures complete { OnOk result
-            ((chosen : Set)
-            → IsListing catalogue.now request.now.lines self.old chosen
+            ((seen chosen : Set)
+            → chosen ≡ seen ++ members (listed catalogue.now) versions.now
+            → IsListing catalogue.now request.now.lines self.old chosen seen
             → IsComplete catalogue.now request.now.lines chosen
             (entries_in catalogue.now self.new)) }
     {
         if self.chosen.are_all_listed() {
             return Ok(());
         }
-        let mut places = OpenLines::new(alloc);
-        while let Some(entry) = self.next(catalogue, request, &mut places)? {
+        self.open_lines
+            .open_chosen(catalogue, request, &self.chosen, &self.lines, versions)?;
+        while let Some(entry) = self
+            .open_lines
+            .next(catalogue, request, &self.chosen, &self.lines)?
+        {
             self.give(catalogue, entry)?;
         }
         Ok(())
@@ -190,13 +145,13 @@ impl InstallOrder {
         wish: Option<(u32, VersionNo)>,
     ) -> Result<(), AllocError>
         ensures listing { OnOk result
-            ((request : List content.Line) (chosen : Set)
-            → IsListing catalogue.now request self.old chosen
+            ((request : List content.Line) (chosen seen : Set)
+            → IsListing catalogue.now request self.old chosen seen
             → IsAccepted (listed catalogue.now) request chosen wish
-            → IsListing catalogue.now request self.new chosen) }
+            → IsListing catalogue.now request self.new chosen seen) }
         ensures listed { OnOk result
-            ((request : List content.Line) (chosen : Set)
-            → IsListing catalogue.now request self.old chosen
+            ((request : List content.Line) (chosen seen : Set)
+            → IsListing catalogue.now request self.old chosen seen
             → IsAccepted (listed catalogue.now) request chosen wish
             → answers_in catalogue.now self.new
             ≡ answers_in catalogue.now self.old ++ wish_entry
@@ -221,7 +176,7 @@ impl InstallOrder {
     fn leave_out(&mut self, wish: (u32, VersionNo), step: u32) -> Result<(), AllocError>
         ensures { OnOk result
             ((catalogue request : List content.Line) (chosen : Set)
-            → IsListing catalogue request self.old chosen
+            → IsListing catalogue request self.old chosen chosen
             → wish.1.0 < length (listed catalogue)
             → TakesTurn catalogue request chosen
             (LeavesOut (wish_at (listed catalogue) wish) step) self.old self.new) }
@@ -237,7 +192,6 @@ impl InstallOrder {
     /// Lists the versions chosen in a turn, its accepted wish first.
     fn take_chosen(
         &mut self,
-        alloc: Global,
         catalogue: &Catalogue,
         request: &Request,
         wish: Option<(u32, VersionNo)>,
@@ -246,7 +200,7 @@ impl InstallOrder {
         ensures { OnOk result
             ((before chosen : Set)
             → chosen ≡ before ++ members (listed catalogue.now) versions.now
-            → IsListing catalogue.now request.now.lines self.old before
+            → IsListing catalogue.now request.now.lines self.old before before
             → IsAccepted (listed catalogue.now) request.now.lines chosen wish
             → TakesTurn catalogue.now request.now.lines chosen
             (Chose (option_map (wish_at (listed catalogue.now)) wish)
@@ -255,14 +209,13 @@ impl InstallOrder {
     {
         self.chosen.add_all(catalogue, versions)?;
         self.begin(catalogue, wish)?;
-        self.finish(alloc, catalogue, request)?;
+        self.finish(catalogue, request, versions)?;
         Ok(())
     }
 
     /// Lists the entries of a turn, or its left-out wish.
     fn take_turn(
         &mut self,
-        alloc: Global,
         catalogue: &Catalogue,
         request: &Request,
         turn: &Turn<'_>,
@@ -270,15 +223,13 @@ impl InstallOrder {
         ensures { OnOk result
             ((before chosen : Set)
             → chosen ≡ before ++ chosen_by (turn_of (listed catalogue.now) turn.now)
-            → IsListing catalogue.now request.now.lines self.old before
+            → IsListing catalogue.now request.now.lines self.old before before
             → IsWishOf (listed catalogue.now) request.now.lines chosen turn.now
             → TakesTurn catalogue.now request.now.lines chosen
             (turn_of (listed catalogue.now) turn.now) self.old self.new) }
     {
         match *turn {
-            Turn::Chose { wish, chosen } => self.take_chosen(
-                alloc, catalogue, request, wish, chosen,
-            )?,
+            Turn::Chose { wish, chosen } => self.take_chosen(catalogue, request, wish, chosen)?,
             Turn::LeftOut { wish, step } => self.leave_out(wish, step)?,
         }
         Ok(())
@@ -319,7 +270,7 @@ pub fn list(
 {
     let mut listing = InstallOrder::new(alloc, catalogue, request)?;
     for turn in turns {
-        listing.take_turn(alloc, catalogue, request, turn)?;
+        listing.take_turn(catalogue, request, turn)?;
     }
     Ok(listing.answers)
 }

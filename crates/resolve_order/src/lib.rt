@@ -5,6 +5,7 @@ mod chosen;
 mod entry;
 mod install_order;
 mod open_lines;
+mod package_lines;
 mod version_table;
 
 pub use entry::{Answer, Entry, Reason, Turn};

@@ -1,74 +1,273 @@
-//! Which lines are left to look at. All lines are in one list; those that wait for their condition
-//! are looked at again after each entry. Used by `install_order`.
+//! Which lines may give a version. All lines are in one list. A line that gives nothing is closed
+//! until there is one more version of a package that it names: a chosen one that an alternative
+//! may match, or an entry by which its condition may hold. Used by `install_order`.
+//!
+//! So a line is looked at once, again after each version that it gives, and again for each such
+//! version. That is many times where many versions of a package that is marked `many` come one
+//! after the other, and many lines name it, or where a line has many alternatives.
 
-ghost use Rattle.std.specs.Prelude.{◌≡◌, ◌++◌, ◌∷◌, [], ◌≤◌, length, OnOk, IfSome, None, List};
-ghost use Rattle.resolve_order.specs.Kept.{left_of};
+ghost use Rattle.std.specs.Prelude.{◌≡◌, ℕ, ◌<◌, ◌^◌, ◌++◌, [], length, Contains, true, None, Some, List, Option, slice_get, IfOk, IfSome, OnOk};
+ghost use Rattle.std.specs.Option.{option_copied};
+ghost use Rattle.std.specs.BTreeSet.{contains};
+ghost use Rattle.std.specs.Ordering.{nat_cmp};
+ghost use Rattle.resolvo_text.specs.Line as content;
+ghost use Rattle.resolvo_text.specs.Matches.{Set};
+ghost use Rattle.resolvo_catalogue_core.specs.Listed.{listed, members};
+ghost use Rattle.resolve_order.specs.Order.{line_named};
+ghost use Rattle.resolve_order.specs.View.{reason_of};
+ghost use Rattle.resolve_order.specs.Kept.{Holds, AreLines, IsRuleAt, IsKeptForAll, IsOpen, IsFirstOpen, AreWithin, Closes, Reopens, OthersAreIdle, IsFound, specs_under, is_unlisted};
 
-use crate::entry::Reason;
+use crate::chosen::{Chosen, LineState};
+use crate::entry::{Entry, Reason};
+use crate::package_lines::PackageLines;
+use resolvo_catalogue_core::{Catalogue, Request, Rule, VersionNo};
 use std::alloc::{AllocError, Global};
+use std::collections::BTreeSet;
 
 #[derive(Drop)]
 pub struct OpenLines {
-    /// The lines that were looked at since the last entry, and wait for their condition, in order.
-    pub waiting: Vec<Reason>,
-    /// The lines before `below` to be looked at again, the last of them first.
-    pub again: Vec<Reason>,
+    /// The lines before `below` to look at again.
+    again: BTreeSet<usize>,
     /// How many lines of the list were looked at.
-    pub below: usize,
+    below: usize,
+    /// Closed lines of which each chosen match is an entry.
+    closed: Vec<usize>,
+    /// More of them, by the packages of their alternatives.
+    spent: PackageLines,
+    /// Lines whose condition doesn't hold, by the packages of the condition.
+    waiting: PackageLines,
+}
+
+/// The rule of the line, if it has one.
+fn rule_at<'a>(catalogue: &'a Catalogue, request: &'a Request, reason: Reason) -> Option<&'a Rule>
+    ensures { IsRuleAt
+        (line_named catalogue.now request.now.lines (reason_of (listed catalogue.now) reason))
+        (option_copied result) }
+{
+    match reason {
+        Reason::ForRequest { line } => request.rule(line),
+        Reason::ForVersion { line, .. } => catalogue.rule(line),
+        Reason::Wished { .. } => None,
+    }
+}
+
+/// The line at a place.
+fn line_at(lines: &[Reason], place: usize) -> Option<Reason>
+    ensures { result ≡ slice_get lines.now place }
+{
+    lines.get(place).copied()
+}
+
+/// Opens the lines that are kept for the package, if there is one. Those from `below` on are open.
+fn reopen(
+    again: &mut BTreeSet<usize>,
+    below: usize,
+    kept: &mut PackageLines,
+    package: Option<u32>,
+) -> Result<(), AllocError>
+    ensures { OnOk result (Reopens again.old again.new below kept.old kept.new «package») }
+{
+    if let Some(package) = package {
+        let mut lines = kept.take(package);
+        while let Some(line) = lines.pop_first() {
+            if line < below {
+                again.insert(line)?;
+            }
+        }
+    }
+    Ok(())
 }
 
 impl OpenLines {
+    /// All lines are open.
     pub fn new(alloc: Global) -> OpenLines
-        ensures waiting { result.waiting.items ≡ [] }
-        ensures again { result.again.items ≡ [] }
+        ensures again { (i : ℕ) → contains nat_cmp result.again i ≡ true → ⊥ }
         ensures below { result.below ≡ 0 }
     {
         OpenLines {
-            waiting: Vec::new(alloc),
-            again: Vec::new(alloc),
+            again: BTreeSet::new(alloc),
             below: 0,
+            closed: Vec::new(alloc),
+            spent: PackageLines::new(alloc),
+            waiting: PackageLines::new(alloc),
         }
     }
 
-    /// The next line to look at.
-    pub fn take(&mut self, lines: &[Reason]) -> Option<Reason>
-        ensures waiting { self.new.waiting ≡ self.old.waiting }
-        ensures taken { IfSome result (λ r. left_of self.old lines.now
-            ≡ r ∷ left_of self.new lines.now) }
-        ensures none { result ≡ None → left_of self.old lines.now ≡ [] }
-        ensures within { self.old.below ≤ length lines.now → self.new.below ≤ length lines.now }
+    /// The place of the first open line, or that behind the last line.
+    fn first_open(&self) -> usize
+        ensures { IsFirstOpen self.now.again self.now.below result }
     {
-        if let Some(reason) = self.again.pop() {
-            return Some(reason);
+        match self.again.first() {
+            Some(line) => *line,
+            None => self.below,
         }
-        let reason = lines.get(self.below)?;
-        self.below += 1;
-        Some(*reason)
     }
 
-    /// Lets the line that was taken wait.
-    pub fn wait(&mut self, reason: Reason) -> Result<(), AllocError>
-        ensures waiting { OnOk result (self.new.waiting.items ≡ self.old.waiting.items
-            ++ reason ∷ []) }
-        ensures again { OnOk result (self.new.again ≡ self.old.again) }
-        ensures below { OnOk result (self.new.below ≡ self.old.below) }
+    /// The first open line, with its place.
+    fn first(&self, lines: &[Reason]) -> Option<(usize, Reason)>
+        ensures first { IfSome result (λ f. IsFirstOpen self.now.again self.now.below f.0) }
+        ensures at { IfSome result (λ f. slice_get lines.now f.0 ≡ Some f.1) }
+        ensures small { IfSome result (λ f. f.0 < 2 ^ 63) }
+        ensures none { result ≡ None
+            → AreWithin self.now.again self.now.below (length lines.now)
+            → (i : ℕ)
+            → i < length lines.now
+            → IsOpen self.now.again self.now.below i
+            → ⊥ }
     {
-        self.waiting.push(reason)?;
+        let line = self.first_open();
+        let reason = lines.get(line)?;
+        Some((line, *reason))
+    }
+
+    /// Closes the first open line.
+    fn close(&mut self, line: usize)
+        requires { line < 2 ^ 63 }
+        ensures { IsFirstOpen self.old.again self.old.below line → Closes self.old self.new line }
+    {
+        if !self.again.remove(&line) {
+            self.below = line + 1;
+        }
+    }
+
+    /// Closes the first open line until there is one more chosen version.
+    fn close_spent(&mut self, line: usize) -> Result<(), AllocError>
+        requires { line < 2 ^ 63 }
+        ensures closes { OnOk result
+            (IsFirstOpen self.old.again self.old.below line → Closes self.old self.new line) }
+        ensures closed { OnOk result
+            (IsFirstOpen self.old.again self.old.below line
+            → Contains self.new.closed.items line) }
+    {
+        self.closed.push(line)?;
+        self.close(line);
         Ok(())
     }
 
-    /// Puts the line that was taken and those that wait back among those to be looked at.
-    pub fn rewind(&mut self, reason: Reason) -> Result<(), AllocError>
-        ensures waiting { OnOk result (self.new.waiting.items ≡ []) }
-        ensures left { OnOk result
-            ((lines : List Reason)
-            → left_of self.new lines ≡ self.old.waiting.items ++ reason ∷ left_of self.old lines) }
-        ensures below { OnOk result (self.new.below ≡ self.old.below) }
+    /// Closes the first open line until there is one more entry.
+    fn close_waiting(
+        &mut self,
+        catalogue: &Catalogue,
+        line: usize,
+        rule: Option<&Rule>,
+    ) -> Result<(), AllocError>
+        requires { line < 2 ^ 63 }
+        ensures closes { OnOk result
+            (IsFirstOpen self.old.again self.old.below line → Closes self.old self.new line) }
+        ensures kept { OnOk result
+            ((ss : List content.Spec) (condition : Option content.Cond)
+            → IsRuleAt (Some (content.Needs ss condition)) (option_copied rule.entry)
+            → IsFirstOpen self.old.again self.old.below line
+            → IsKeptForAll (listed catalogue.now) self.new.waiting line (specs_under condition)) }
     {
-        self.again.push(reason)?;
-        while let Some(line) = self.waiting.pop() {
-            self.again.push(line)?;
+        self.waiting.add_condition_of(catalogue, rule, line)?;
+        self.close(line);
+        Ok(())
+    }
+
+    /// Keeps the closed lines by the packages of their alternatives.
+    fn keep_closed(
+        &mut self,
+        catalogue: &Catalogue,
+        request: &Request,
+        lines: &[Reason],
+    ) -> Result<(), AllocError>
+        ensures none { OnOk result (self.new.closed.items ≡ []) }
+        ensures idle { OnOk result
+            ((all entries : Set)
+            → OthersAreIdle catalogue.now request.now.lines all entries lines.now self.old
+            → OthersAreIdle catalogue.now request.now.lines all entries lines.now self.new) }
+    {
+        while let Some(line) = self.closed.pop() {
+            if let Some(reason) = line_at(lines, line) {
+                let rule = rule_at(catalogue, request, reason);
+                self.spent.add_alternatives_of(catalogue, rule, line)?;
+            }
         }
         Ok(())
+    }
+
+    /// Opens the spent lines that a chosen version of this package may match.
+    fn open_spent(&mut self, package: Option<u32>) -> Result<(), AllocError>
+        ensures opened { OnOk result
+            (Reopens self.old.again self.new.again self.old.below
+            self.old.spent self.new.spent «package») }
+        ensures below { OnOk result (self.new.below ≡ self.old.below) }
+        ensures closed { OnOk result (self.new.closed ≡ self.old.closed) }
+        ensures waiting { OnOk result (self.new.waiting ≡ self.old.waiting) }
+    {
+        reopen(&mut self.again, self.below, &mut self.spent, package)?;
+        Ok(())
+    }
+
+    /// Opens the spent lines that these chosen versions may match.
+    pub fn open_chosen(
+        &mut self,
+        catalogue: &Catalogue,
+        request: &Request,
+        chosen: &Chosen,
+        lines: &[Reason],
+        versions: &[VersionNo],
+    ) -> Result<(), AllocError>
+        ensures { OnOk result
+            ((before all entries : Set)
+            → all ≡ before ++ members (listed catalogue.now) versions.now
+            → Holds catalogue.now chosen.now all entries
+            → OthersAreIdle catalogue.now request.now.lines before entries lines.now self.old
+            → OthersAreIdle catalogue.now request.now.lines all entries lines.now self.new) }
+    {
+        self.keep_closed(catalogue, request, lines)?;
+        for version in versions {
+            self.open_spent(chosen.kept_package(*version))?;
+        }
+        Ok(())
+    }
+
+    /// Opens the waiting lines whose condition may hold by a new entry of this package.
+    pub fn open_waiting(&mut self, package: Option<u32>) -> Result<(), AllocError>
+        ensures opened { OnOk result
+            (Reopens self.old.again self.new.again self.old.below
+            self.old.waiting self.new.waiting «package») }
+        ensures below { OnOk result (self.new.below ≡ self.old.below) }
+        ensures closed { OnOk result (self.new.closed ≡ self.old.closed) }
+        ensures spent { OnOk result (self.new.spent ≡ self.old.spent) }
+    {
+        reopen(&mut self.again, self.below, &mut self.waiting, package)?;
+        Ok(())
+    }
+
+    /// The next entry: the version of the first line that gives one.
+    pub fn next(
+        &mut self,
+        catalogue: &Catalogue,
+        request: &Request,
+        chosen: &Chosen,
+        lines: &[Reason],
+    ) -> Result<Option<Entry>, AllocError>
+        ensures unlisted { IfOk result
+            (λ found.
+            IfSome found (λ e. is_unlisted chosen.now.listed.items e.version.0 ≡ true)) }
+        ensures found { IfOk result
+            (λ found.
+            (all entries : Set)
+            → Holds catalogue.now chosen.now all entries
+            → AreLines catalogue.now request.now.lines entries lines.now
+            → OthersAreIdle catalogue.now request.now.lines all entries lines.now self.old
+            → IsFound catalogue.now request.now.lines all entries found) }
+        ensures idle { OnOk result
+            ((all entries : Set)
+            → Holds catalogue.now chosen.now all entries
+            → OthersAreIdle catalogue.now request.now.lines all entries lines.now self.old
+            → OthersAreIdle catalogue.now request.now.lines all entries lines.now self.new) }
+    {
+        while let Some((line, reason)) = self.first(lines) {
+            let rule = rule_at(catalogue, request, reason);
+            match chosen.line_state(catalogue, rule) {
+                LineState::Spent => self.close_spent(line)?,
+                LineState::Waiting => self.close_waiting(catalogue, line, rule)?,
+                LineState::Gives(version) => return Ok(Some(Entry { version, reason })),
+            }
+        }
+        Ok(None)
     }
 }

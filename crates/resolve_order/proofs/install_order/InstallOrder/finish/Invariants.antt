@@ -1,10 +1,9 @@
 use Rattle.resolvo_text.specs.Matches.{Set}
-use Rattle.resolve_order.specs.Kept.{IsListing, IsLeft, Extends, unlisted}
+use Rattle.resolve_order.specs.Kept.{IsListing, Extends, unlisted}
 use Rattle.resolve_order.proofs.install_order.InstallOrder.finish.Given as goal
 
-abbrev pub invariant-loop-places : goal.invariant-loop-places
-invariant-loop-places l = (chosen : Set) → IsListing l.catalogue l.request.lines l.initial.self chosen
-    → Extends l.catalogue l.request.lines chosen l.initial.self l.self × IsLeft l.catalogue l.request.lines l.self chosen l.places
+abbrev pub invariant-loop-entry : goal.invariant-loop-entry
+invariant-loop-entry l = (chosen : Set) → IsListing l.catalogue l.request.lines l.initial.self chosen chosen → Extends l.catalogue l.request.lines chosen l.initial.self l.self
 
-abbrev pub decreases-loop-places : goal.decreases-loop-places
-decreases-loop-places l = unlisted l.self.chosen.listed.items
+abbrev pub decreases-loop-entry : goal.decreases-loop-entry
+decreases-loop-entry l = unlisted l.self.chosen.listed.items

@@ -10,6 +10,7 @@ returns c = λ before chosen is h accepted.
     let request = c.args.request.now.lines in
     let x = c.args.self.now in
     let holds = subst (λ (set : Set). Holds catalogue c.add_all.new.self set (entries_in catalogue x)) (sym is) (c.in_ok-add_all.ensures before (entries_in catalogue x) h.holds) in
-    let ready : IsListing catalogue request (record x { chosen = c.add_all.new.self }) chosen = record { holds = holds; lines = h.lines; numbered = h.numbered } in
-    let listing = c.in_ok-begin.ensures.listing request chosen ready accepted in
-    turn_taken catalogue request chosen _ _ x c.begin.new.self c.finish.new.self (c.in_ok-begin.ensures.listed request chosen ready accepted) (c.in_ok-finish.ensures.listed chosen listing) (c.in_ok-finish.ensures.complete chosen listing)
+    let ready : IsListing catalogue request (record x { chosen = c.add_all.new.self }) chosen before = record { holds = holds; lines = h.lines; idle = h.idle; numbered = h.numbered } in
+    let listing = c.in_ok-begin.ensures.listing request chosen before ready accepted in
+    turn_taken catalogue request chosen _ _ x c.begin.new.self c.finish.new.self (c.in_ok-begin.ensures.listed request chosen before ready accepted) (c.in_ok-finish.ensures.listed before chosen is listing)
+    (c.in_ok-finish.ensures.complete before chosen is listing)

@@ -1,6 +1,7 @@
 use Rattle.std.proofs.Common.{◌≡◌, ◌∙◌, ◌++◌, sym, subst}
 use Rattle.std.proofs.lemmas.List.{append-nil}
 use Rattle.std.proofs.lemmas.Option.{slice_get_within}
+use Rattle.resolvo_text.specs.Matches.{Set}
 use Rattle.resolvo_catalogue_core.specs.Listed.{listed}
 use Rattle.resolve_order.specs.Order.{chosen_by}
 use Rattle.resolve_order.specs.View.{turn_of, IsWishOf}
@@ -26,4 +27,4 @@ returns-in_ok-leave_out-in-LeftOut c = λ before chosen is h wish.
     let same : chosen ≡ before = subst (λ (t : Turn). chosen ≡ before ++ chosen_by (turn_of vs t)) was is ∙ append-nil before in
     let is_wish = subst (IsWishOf vs request chosen) was wish in
     subst (λ (t : Turn). TakesTurn catalogue request chosen (turn_of vs t) x c.leave_out.new.self) (sym was)
-    (c.in_ok-leave_out-in-LeftOut.ensures catalogue request chosen (subst (IsListing catalogue request x) (sym same) h) (slice_get_within vs c.in-LeftOut.wish.1.0 is_wish.0 is_wish.1))
+    (c.in_ok-leave_out-in-LeftOut.ensures catalogue request chosen (subst (λ (set : Set). IsListing catalogue request x set set) (sym same) h) (slice_get_within vs c.in-LeftOut.wish.1.0 is_wish.0 is_wish.1))

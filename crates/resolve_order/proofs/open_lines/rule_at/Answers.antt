@@ -9,7 +9,7 @@ use Rattle.resolvo_catalogue_core.specs.declared.rule.Rule.{Rule}
 use Rattle.resolve_order.specs.Order.{line_named}
 use Rattle.resolve_order.specs.View.{reason_of}
 use Rattle.resolve_order.specs.Kept.{IsRuleAt}
-use Rattle.resolve_order.proofs.install_order.rule_at.Goals as goal
+use Rattle.resolve_order.proofs.open_lines.rule_at.Goals as goal
 
 rule_asked : (line : Option Line) (o : Option (Bor Rule)) → IfSome o (λ r. (l : Line) × (line ≡ Some l) × ((versions : List Version) → IsRuleLine versions r.now None l))
     → IfNone o ((l : Line) → line ≡ Some l → is_rule l ≡ false) → IsRuleAt line (option_copied o)
