@@ -5,7 +5,7 @@
 ghost use Rattle.std.specs.Prelude.{◌≡◌, ℕ, ◌+◌, ◌<◌, ◌++◌, ◌∷◌, [], not, length, option_copied, option_map, slice_get, is_some, IsTrue, IfOk, IfSome, OnOk, None, Some, List};
 ghost use Rattle.std.specs.BTreeMap.{get_by_text};
 ghost use Rattle.std.specs.String.{string_bytes};
-ghost use Rattle.resolvo_text.specs.View.{version_of};
+ghost use Rattle.resolvo_catalogue_core.specs.Listed.{version_by};
 ghost use Rattle.resolvo_catalogue_core.specs.Numbered.{IsNumbered};
 ghost use Rattle.resolvo_catalogue_core.specs.Packages.{package_in, package_by, package_number, place_in, place_from, is_named, if_named, first_in, AreFound, AreFoundTo, AreApart};
 ghost use Rattle.resolvo_catalogue_core.specs.Table.{AddsNumber, AddsVersion, number_in};
@@ -14,7 +14,6 @@ ghost use Rattle.resolvo_catalogue_core.specs.declared.package.Package.{Package}
 use crate::hash::hash_of_all;
 use crate::package::Package;
 use crate::rule::VersionNo;
-use resolvo_text::Version;
 use std::alloc::{AllocError, Global};
 use std::collections::BTreeMap;
 
@@ -113,14 +112,19 @@ fn package_at(packages: &[NamedPackage], number: usize) -> Option<&Package>
 }
 
 /// A package of one version, with its name.
-fn named(alloc: Global, version: &Version, number: VersionNo) -> Result<NamedPackage, AllocError>
-    ensures name { IfOk result (λ p. string_bytes p.name ≡ string_bytes version.now.name) }
-    ensures one { IfOk result (λ p. AddsNumber None version.now.number number p.versions) }
+fn named(
+    alloc: Global,
+    name: &str,
+    number: u32,
+    version: VersionNo,
+) -> Result<NamedPackage, AllocError>
+    ensures name { IfOk result (λ p. string_bytes p.name ≡ name.now) }
+    ensures one { IfOk result (λ p. AddsNumber None number version p.versions) }
 {
     let mut versions = Package::new(alloc);
-    versions.add(version.number, number)?;
+    versions.add(number, version)?;
     Ok(NamedPackage {
-        name: version.name.clone()?,
+        name: String::from_str(alloc, name)?,
         versions,
     })
 }
@@ -248,18 +252,19 @@ impl PackageTable {
     fn add_package(
         &mut self,
         alloc: Global,
-        version: &Version,
-        number: VersionNo,
+        name: &str,
+        number: u32,
+        version: VersionNo,
     ) -> Result<(), AllocError>
         requires found { AreFound self.old }
-        requires absent { package_number self.old (string_bytes version.now.name) ≡ None }
+        requires absent { package_number self.old name.now ≡ None }
         ensures put { OnOk result
-            (AddsVersion (λ name. package_in self.old name) (version_of version.now) number
-            (λ name. package_in self.new name)) }
+            (AddsVersion (λ other. package_in self.old other) (version_by name.now number) version
+            (λ other. package_in self.new other)) }
         ensures found { OnOk result (AreFound self.new) }
     {
         self.reserve_place(alloc)?;
-        let package = named(alloc, version, number)?;
+        let package = named(alloc, name, number, version)?;
         let last = self.packages.len();
         self.packages.push(package)?;
         self.put(last)?;
@@ -271,33 +276,28 @@ impl PackageTable {
     pub fn add(
         &mut self,
         alloc: Global,
-        version: &Version,
-        number: VersionNo,
+        name: &str,
+        number: u32,
+        version: VersionNo,
     ) -> Result<Option<VersionNo>, AllocError>
-        requires kept { (name : List ℕ) (p : Package) → package_in self.old name ≡ Some p → IsNumbered p }
+        requires kept { (other : List ℕ) (p : Package) → package_in self.old other ≡ Some p → IsNumbered p }
         requires found { AreFound self.old }
         ensures new { IfOk result
             (λ first.
-            is_some first
-            ≡ not
-            (is_some
-            (number_in (package_in self.old (string_bytes version.now.name))
-            version.now.number))) }
+            is_some first ≡ not (is_some (number_in (package_in self.old name.now) number))) }
         ensures first { IfOk result
-            (λ first.
-            IfSome first
-            (λ v. v ≡ first_in (package_in self.old (string_bytes version.now.name)) number)) }
+            (λ first. IfSome first (λ v. v ≡ first_in (package_in self.old name.now) version)) }
         ensures put { IfOk result
             (λ first.
             IsTrue (is_some first)
-            → AddsVersion (λ name. package_in self.old name) (version_of version.now) number
-            (λ name. package_in self.new name)) }
+            → AddsVersion (λ other. package_in self.old other) (version_by name.now number) version
+            (λ other. package_in self.new other)) }
         ensures found { IfOk result (λ first. IsTrue (is_some first) → AreFound self.new) }
     {
-        if let Some(at) = self.number_of_next(version.name.as_str()) {
-            return self.packages[at].versions.add(version.number, number);
+        if let Some(at) = self.number_of_next(name) {
+            return self.packages[at].versions.add(number, version);
         }
-        self.add_package(alloc, version, number)?;
-        Ok(Some(number))
+        self.add_package(alloc, name, number, version)?;
+        Ok(Some(version))
     }
 }

@@ -12,6 +12,7 @@ ghost use Rattle.resolvo_text.specs.View.{version_of, spec_of, specs_of, list_of
 ghost use Rattle.resolvo_text.specs.declared.line.LineFault.TheVariants.{Fault};
 ghost use Rattle.resolvo_catalogue_core.specs.Grammar.{MayFollow, IsCatalogueLine, owner_below};
 ghost use Rattle.resolvo_catalogue_core.specs.Questions.{number_of, AreAll, IsOwner, IsOnly, LineIs, LocksAnother, Forbids};
+ghost use Rattle.resolvo_catalogue_core.specs.Listed.{version_by};
 ghost use Rattle.resolvo_catalogue_core.specs.Picked.{IsPicked};
 ghost use Rattle.resolvo_catalogue_core.specs.Table.{number_in};
 ghost use Rattle.resolvo_catalogue_core.specs.Packages.{package_in};
@@ -21,7 +22,7 @@ use crate::lines_by_version::LinesByVersion;
 use crate::package_table::PackageTable;
 use crate::rule::{Rule, VersionNo};
 use crate::versions::Versions;
-use resolvo_text::{Alternatives, Cond, Line, LineFault, Spec, Version, line_in};
+use resolvo_text::{Alternatives, Cond, Line, LineFault, Spec, Version, line_in, listed_in};
 use std::alloc::{AllocError, Global};
 use std::collections::{BTreeMap, BTreeSet};
 
@@ -274,23 +275,24 @@ impl Table {
         Ok(())
     }
 
-    fn list(&mut self, alloc: Global, version: Version) -> Result<(), LineFault>
+    /// Lists a version of the package of this name.
+    fn list(&mut self, alloc: Global, name: &str, number: u32) -> Result<(), LineFault>
         requires table { IsTable self.old }
         requires short { length (lines_in self.old) < 16777216 }
-        ensures ok { OnOk result (Adds self.old (parsed.Listed (version_of version)) self.new) }
+        ensures ok { OnOk result (Adds self.old (parsed.Listed (version_by name.now number)) self.new) }
         ensures placed { OnOk result
-            (MayFollow (lines_in self.old) (parsed.Listed (version_of version))) }
+            (MayFollow (lines_in self.old) (parsed.Listed (version_by name.now number))) }
         ensures fault { result ≡ Err Fault
-            → MayFollow (lines_in self.old) (parsed.Listed (version_of version))
+            → MayFollow (lines_in self.old) (parsed.Listed (version_by name.now number))
             → ⊥ }
     {
-        let number = VersionNo(self.versions.len() as u32);
-        let Some(first) = self.packages.add(alloc, &version, number)? else {
+        let version = VersionNo(self.versions.len() as u32);
+        let Some(first) = self.packages.add(alloc, name, number, version)? else {
             return Err(LineFault::Fault);
         };
         self.owned.add_version()?;
-        self.versions.push(first, version.name, version.number)?;
-        self.line_kinds.push(LineKind::Listed(number))?;
+        self.versions.push(alloc, first, name, number)?;
+        self.line_kinds.push(LineKind::Listed(version))?;
         Ok(())
     }
 
@@ -473,7 +475,7 @@ impl Table {
     {
         match line {
             Line::Skipped => self.skip(),
-            Line::Listed(version) => self.list(alloc, version),
+            Line::Listed(version) => self.list(alloc, &version.name, version.number),
             Line::Needs {
                 alternatives,
                 condition,
@@ -488,7 +490,8 @@ impl Table {
         }
     }
 
-    /// Parses the text of a line, and adds the line.
+    /// Parses the text of a line, and adds the line. A line `version` takes no memory for its name,
+    /// unless its package is new.
     pub fn read_line(&mut self, alloc: Global, number: u32, text: &[u8]) -> Result<(), LineFault>
         requires table { IsTable self.old }
         requires number { number ≡ length (lines_in self.old) + 1 }
@@ -502,6 +505,9 @@ impl Table {
             → IsCatalogueLine (lines_in self.old) text.now line
             → ⊥ }
     {
+        if let Some((name, version)) = listed_in(text) {
+            return self.list(alloc, name, version);
+        }
         let line = line_in(alloc, text)?;
         self.add(alloc, number, line)
     }

@@ -3,7 +3,6 @@
 //! `table`.
 
 ghost use Rattle.std.specs.Prelude.{◌≡◌, ◌≤◌, ◌<◌, ◌++◌, ◌∷◌, [], true, length, option_map, slice_get, OnOk, Some};
-ghost use Rattle.std.specs.String.{string_bytes};
 ghost use Rattle.resolvo_text.specs.Line.{Version};
 ghost use Rattle.resolvo_catalogue_core.specs.Listed.{version_by, name_at, kept_versions, are_kept};
 
@@ -99,21 +98,23 @@ impl Versions {
     /// package is new.
     pub(crate) fn push(
         &mut self,
+        alloc: Global,
         first: VersionNo,
-        name: String,
+        name: &str,
         number: u32,
     ) -> Result<(), AllocError>
-        requires alike { (v : Version) → slice_get self.old first.0 ≡ Some v → v.name ≡ string_bytes name }
+        requires alike { (v : Version) → slice_get self.old first.0 ≡ Some v → v.name ≡ name.now }
         requires short { length self.old < 4294967295 }
-        ensures { OnOk result (self.new ≡ self.old ++ version_by (string_bytes name) number ∷ []) }
+        ensures { OnOk result (self.new ≡ self.old ++ version_by name.now number ∷ []) }
     {
         if let Some(package) = package_at(&self.kept, first) {
             self.kept.push(KeptVersion { package, number })?;
             return Ok(());
         }
         let package = self.names.len() as u32;
+        let kept = String::from_str(alloc, name)?;
         self.kept.reserve(1)?;
-        self.names.push(name)?;
+        self.names.push(kept)?;
         self.kept.push_reserved(KeptVersion { package, number });
         Ok(())
     }

@@ -1,5 +1,5 @@
 -- The text of a line: parsing and spelling are inverse.
-use Rattle.std.proofs.Common.{◌≡◌, ℕ, ◌^◌, ◌<◌, inl, inr, Bool, true, false, not, eqb, List, [], ◌∷◌, ◌++◌, get_or, Some, None, All, refl, sym, ap, subst, ◌∙◌, arith, ⊎_elim}
+use Rattle.std.proofs.Common.{◌≡◌, ℕ, ◌^◌, ◌<◌, inl, inr, Bool, true, false, not, eqb, List, [], ◌∷◌, ◌++◌, get_or, Option, Some, None, All, refl, sym, ap, subst, ◌∙◌, arith, ⊎_elim}
 use Rattle.std.specs.Prelude.{codes, IsTrue}
 use Rattle.std.specs.Fmt.{decimal}
 use Rattle.std.specs.List.{AllByRecursion, join_with_byte, slice_split, list_all}
@@ -14,7 +14,7 @@ use Rattle.resolvo_text.specs.declared.spec.Span.{Span}
 use Rattle.resolvo_text.specs.declared.spec.Span.TheVariants.{Any, One, Range}
 use Rattle.resolvo_text.specs.Line.{Version, Spec, Cond, Line, Skipped, Listed, Needs, Limits, Unknown, Lock, Favour, Exclude, Many, Wish}
 use Rattle.resolvo_text.specs.Spelling.{Words, starts_name, continues_name, is_word, is_reserved, is_name, IsVersion, IsSpec, IsSpan, version_words, span_words, spec_words, alternatives_words, AreWordsOf, AreWordsOfCondition, Written, Lone, Group, Both, Either, IsWritten, written_words, SpellsLine, HasForm, Spells, IsSkipped}
-use Rattle.resolvo_text.specs.Parse.{is_space, word_at, line_by, is_skipped, line_in}
+use Rattle.resolvo_text.specs.Parse.{◌>>=◌, is_space, word_at, version_in, line_by, is_skipped, line_in}
 use Rattle.resolvo_text.proofs.NumberLemmas.{digits}
 use Rattle.resolvo_text.proofs.AlternativeLemmas.{bind_some}
 use Rattle.resolvo_text.proofs.PartLaws.{word_takes, chosen}
@@ -177,3 +177,22 @@ some_is_none line e = cc
 -- where nothing is read, the text spells no line
 pub spells_none : (text : List ℕ) → line_in text ≡ None → (line : Line) → SpellsLine text line → ⊥
 spells_none text none line p = some_is_none line (sym (line_again text line p.form p.spelled) ∙ none)
+
+-- ---- lines `version`
+
+-- the line of the words behind `version` and a space
+version_line : (rest : List ℕ) → line_in (codes "version " ++ rest) ≡ (version_in (slice_split is_space rest) >>= λ v. Some (Listed v))
+unfolding line_in line_by
+version_line rest =
+    let split : slice_split is_space (codes "version" ++ 32 ∷ rest) ≡ codes "version" ∷ slice_split is_space rest = slice_split_at is_space (codes "version") 32 rest (by_test (codes "version") refl) refl in
+    ap (λ (ws : Words). word_at ws >>= λ x. line_by x.0 x.1) split
+
+pub version_takes_line : (text rest : List ℕ) (v : Version) → text ≡ codes "version " ++ rest → version_in (slice_split is_space rest) ≡ Some v → SpellsLine text (Listed v)
+version_takes_line text rest v begins is =
+    let read : line_in text ≡ Some (Listed v) = ap line_in begins ∙ version_line rest ∙ ap (λ (o : Option Version). o >>= λ w. Some (Listed w)) is in
+    line_takes text (Listed v) read
+
+-- where the words are no version, the text spells no line `version`
+pub no_version_line : (text rest : List ℕ) → text ≡ codes "version " ++ rest → version_in (slice_split is_space rest) ≡ None → (v : Version) → SpellsLine text (Listed v) → ⊥
+no_version_line text rest begins none v =
+    spells_none text (ap line_in begins ∙ version_line rest ∙ ap (λ (o : Option Version). o >>= λ w. Some (Listed w)) none) (Listed v)

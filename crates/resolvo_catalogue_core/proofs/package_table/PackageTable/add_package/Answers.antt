@@ -3,7 +3,7 @@ use Rattle.std.specs.Prelude.{slice_get}
 use Rattle.std.specs.String.{string_bytes}
 use Rattle.std.specs.BTreeMap.{get_by_text}
 use Rattle.std.proofs.lemmas.Option.{slice_get_within}
-use Rattle.resolvo_text.specs.View.{version_of}
+use Rattle.resolvo_catalogue_core.specs.Listed.{version_by}
 use Rattle.resolvo_catalogue_core.specs.Packages.{AreApart, package_number, package_in, package_by, number_among}
 use Rattle.resolvo_catalogue_core.specs.Table.{AddsVersion}
 use Rattle.resolvo_catalogue_core.specs.declared.package_table.NamedPackage.{NamedPackage}
@@ -60,5 +60,5 @@ returns-clause-put c =
     c.in_ok-put.ensures.found i q (omega (arith, slice_get_within u.packages.items i q at, ap (λ v. length v.items) packages, ap (λ (xs : List NamedPackage). length xs) pushed, length-append t.packages.items (w ∷ []), last)) at in
     let now : AllFound (ps ++ w ∷ []) u.slots.items u.mask others = subst (λ (xs : List NamedPackage). AllFound xs u.slots.items u.mask others) items all in
     let absent = ap (λ (x : List ℕ). package_number old x) c.in_ok-package.ensures.name ∙ c.requires.absent in
-    subst (λ (xs : List NamedPackage). AddsVersion (λ name. package_in old name) (version_of c.args.version.now) c.args.number (λ name. package_by xs (number_among xs u.slots.items u.mask others name))) (sym items)
-    (adds_new ps old.slots.items old.mask (λ name. get_by_text old.others name) c.requires.found w absent u.slots.items u.mask others now (version_of c.args.version.now) c.args.number c.in_ok-package.ensures.name c.in_ok-package.ensures.one)
+    subst (λ (xs : List NamedPackage). AddsVersion (λ name. package_in old name) (version_by c.args.name.now c.args.number) c.args.version (λ name. package_by xs (number_among xs u.slots.items u.mask others name))) (sym items)
+    (adds_new ps old.slots.items old.mask (λ name. get_by_text old.others name) c.requires.found w absent u.slots.items u.mask others now (version_by c.args.name.now c.args.number) c.args.version c.in_ok-package.ensures.name c.in_ok-package.ensures.one)

@@ -1,10 +1,16 @@
 use Rattle.std.proofs.Common.{subst}
-use Rattle.resolvo_text.specs.Line.{Line}
+use Rattle.resolvo_text.specs.Line.{Line, Listed}
 use Rattle.resolvo_text.specs.View.{view}
 use Rattle.resolvo_text.proofs.TextLaws.{one_line}
 use Rattle.resolvo_catalogue_core.specs.Grammar.{MayFollow}
+use Rattle.resolvo_catalogue_core.specs.Listed.{version_by}
 use Rattle.resolvo_catalogue_core.specs.Table.{lines_in}
 use Rattle.resolvo_catalogue_core.proofs.table.Table.read_line.Goals as goal
+
+pub returns-in-Some-clause-fault : goal.returns-in-Some-clause-fault
+returns-in-Some-clause-fault c = λ e line p.
+    let same = one_line c.args.text.now line (Listed (version_by c.in-Some.name.now c.in-Some.version)) p.parsed c.in-Some.ensures.listed in
+    c.list.ensures.fault e (subst (λ (l : Line). MayFollow (lines_in c.args.self.now) l) same p.place)
 
 pub returns-clause-fault : goal.returns-clause-fault
 returns-clause-fault c = λ e line p.

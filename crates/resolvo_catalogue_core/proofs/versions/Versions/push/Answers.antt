@@ -1,5 +1,5 @@
 use Rattle.std.proofs.Common.{◌≡◌, ◌∙◌, ◌++◌, ◌∷◌, [], ◌+◌, List, length, is_ok, option_map, Some, sym, ap, subst, arith}
-use Rattle.std.specs.Prelude.{slice_get, string_bytes}
+use Rattle.std.specs.Prelude.{slice_get}
 use Rattle.resolvo_text.specs.Line.{Version}
 use Rattle.resolvo_catalogue_core.specs.Listed.{version_by}
 use Rattle.resolvo_catalogue_core.specs.declared.versions.KeptVersion.{KeptVersion}
@@ -12,8 +12,8 @@ invariant_of-self-in-Some c =
     let names = c.self.inside.names.items in
     let kept = c.self.inside.kept.items in
     let v : KeptVersion = record { «package» = c.in-Some.«package»; number = c.args.number } in
-    let at = kept_at names kept c.args.first.0 c.in-Some.«package» (string_bytes c.args.name) c.self.invariant.0 (c.in-Some.ensures ∙ ap (λ vs. option_map (λ x. x.«package») (slice_get vs c.args.first.0)) c.deref.ensures.value)
-    (subst (λ (vs : List Version). (w : Version) → slice_get vs c.args.first.0 ≡ Some w → w.name ≡ string_bytes c.args.name) (sym c.self.view_is) c.requires.alike) in
+    let at = kept_at names kept c.args.first.0 c.in-Some.«package» c.args.name.now c.self.invariant.0 (c.in-Some.ensures ∙ ap (λ vs. option_map (λ x. x.«package») (slice_get vs c.args.first.0)) c.deref.ensures.value)
+    (subst (λ (vs : List Version). (w : Version) → slice_get vs c.args.first.0 ≡ Some w → w.name ≡ c.args.name.now) (sym c.self.view_is) c.requires.alike) in
     rw c.push.ensures.items (kept_if (is_ok c.push.result) (length names) kept v c.self.invariant.0 at.0 c.self.invariant.1)
 
 pub returns-in-Some : goal.returns-in-Some
@@ -21,16 +21,16 @@ returns-in-Some c =
     let names = c.self.inside.names.items in
     let kept = c.self.inside.kept.items in
     let v : KeptVersion = record { «package» = c.in-Some.«package»; number = c.args.number } in
-    let at = kept_at names kept c.args.first.0 c.in-Some.«package» (string_bytes c.args.name) c.self.invariant.0 (c.in-Some.ensures ∙ ap (λ vs. option_map (λ x. x.«package») (slice_get vs c.args.first.0)) c.deref.ensures.value)
-    (subst (λ (vs : List Version). (w : Version) → slice_get vs c.args.first.0 ≡ Some w → w.name ≡ string_bytes c.args.name) (sym c.self.view_is) c.requires.alike) in
-    rw (c.in_ok-push.ensures.items, ← c.self.view_is) (adds names kept v (string_bytes c.args.name) at.1)
+    let at = kept_at names kept c.args.first.0 c.in-Some.«package» c.args.name.now c.self.invariant.0 (c.in-Some.ensures ∙ ap (λ vs. option_map (λ x. x.«package») (slice_get vs c.args.first.0)) c.deref.ensures.value)
+    (subst (λ (vs : List Version). (w : Version) → slice_get vs c.args.first.0 ≡ Some w → w.name ≡ c.args.name.now) (sym c.self.view_is) c.requires.alike) in
+    rw (c.in_ok-push.ensures.items, ← c.self.view_is) (adds names kept v c.args.name.now at.1)
 
 pub invariant_of-self-2 : goal.invariant_of-self-2
 invariant_of-self-2 c =
     let names = c.self.inside.names.items in
     let kept = c.self.inside.kept.items in
     let v : KeptVersion = record { «package» = c.len-package.result; number = c.args.number } in
-    let count : length c.push-2.new.self.items ≡ length names + 1 = one_longer names c.push-2.new.self.items c.args.name c.in_ok-push-2.ensures.items in
+    let count : length c.push-2.new.self.items ≡ length names + 1 = one_longer names c.push-2.new.self.items c.in_ok-kept.kept c.in_ok-push-2.ensures.items in
     let last : c.len-package.result ≡ length names = omega (arith, c.self.inside.names.ok, c.len-package.ensures) in
     rw (count, c.push_reserved.ensures.items, c.reserve.ensures.items) (kept_new (length names) kept v c.self.invariant.0 last c.self.invariant.1)
 
@@ -41,4 +41,4 @@ returns c =
     let v : KeptVersion = record { «package» = c.len-package.result; number = c.args.number } in
     let last : c.len-package.result ≡ length names = omega (arith, c.self.inside.names.ok, c.len-package.ensures) in
     rw (c.in_ok-push-2.ensures.items, c.push_reserved.ensures.items, c.reserve.ensures.items, ← c.self.view_is)
-    (adds (names ++ c.args.name ∷ []) kept v (string_bytes c.args.name) (name_new names c.args.name c.len-package.result last) ∙ ap (λ (vs : List Version). vs ++ version_by (string_bytes c.args.name) c.args.number ∷ []) (versions_kept names c.args.name kept c.self.invariant.0))
+    (adds (names ++ c.in_ok-kept.kept ∷ []) kept v c.args.name.now (name_new names c.in_ok-kept.kept c.len-package.result last ∙ c.in_ok-kept.ensures.ok) ∙ ap (λ (vs : List Version). vs ++ version_by c.args.name.now c.args.number ∷ []) (versions_kept names c.in_ok-kept.kept kept c.self.invariant.0))
