@@ -1,6 +1,6 @@
 -- Whether a line is allowed below those of a table, by its maps.
 use Rattle.std.proofs.Common.{◌≡◌, is_some, true, false, ℕ, zero, suc, ◌-◌, ◌<◌, ◌≤◌, List, [], ◌∷◌, length, get_or, take, Option, Some, None, refl, sym, ap, subst, ◌∙◌, arith, option_map}
-use Rattle.std.specs.Prelude.{Contains, slice_get, slice_index_or, map, Result, Ok, Err, IfOk, OnErr, is_ok}
+use Rattle.std.specs.Prelude.{◌↔◌, Contains, slice_get, slice_index_or, map, Result, Ok, Err, IfOk, OnErr, is_ok}
 use Rattle.std.specs.BTreeMap.{get, get_by_text}
 use Rattle.std.specs.Ordering.{nat_cmp}
 use Rattle.std.proofs.lemmas.Option.{get_or_from_slice_get, slice_get_within, slice_get-get_or, slice_get_past}
@@ -272,6 +272,21 @@ first_alike t keeps name number last v at = of_package (package_in t.packages na
     of_package : (o : Option Package) → IsPackage (versions_in t) name o → slice_get (versions_in t) (first_in o number).0 ≡ Some v → v.name ≡ name
     of_package None is at = absurd (omega (arith, last, slice_get_within (versions_in t) number.0 v at))
     of_package (Some p) is at = of_list p.versions.items (λ n has. (is.all.all n).0 has) at
+
+-- of a package whose first version isn't there, no version is listed
+pub first_new : (t : Table) → IsTable t → (name : List ℕ) (number : VersionNo) → slice_get (versions_in t) (first_in (package_in t.packages name) number).0 ≡ None → (k : ℕ) (v : Version) → slice_get (versions_in t) k ≡ Some v → v.name ≡ name → ⊥
+first_new t keeps name number none k v at same = of_package (package_in t.packages name) (keeps.packages name) none
+  where
+    of_list : (xs : List VersionNo) → ((n : ℕ) → Contains (map number_of xs) n ↔ IsOfPackage (versions_in t) name n) → slice_get (versions_in t) (slice_index_or xs 0 number).0 ≡ None → ⊥
+    of_list [] all none = let there : Contains [] k = (all k).1 (v, at, same) in omega (arith, there.1)
+    of_list (x ∷ xs) all none =
+        let h = (all x.0).0 (0, omega arith, refl) in
+        let both : ◌≡◌ {A = Option Version} None (Some h.0) = sym none ∙ h.1 in
+        absurd cc
+
+    of_package : (o : Option Package) → IsPackage (versions_in t) name o → slice_get (versions_in t) (first_in o number).0 ≡ None → ⊥
+    of_package None is none = let there : Contains [] k = (is.all.all k).1 (v, at, same) in omega (arith, there.1)
+    of_package (Some p) is none = of_list p.versions.items is.all.all none
 
 -- ---- a version that isn't listed
 

@@ -1,16 +1,18 @@
 -- Versions by the places of their packages' names: one more version, of a package that is there or of a new one.
-use Rattle.std.proofs.Common.{◌≡◌, ◌<◌, ◌≤◌, ◌+◌, if◌then◌else◌, ℕ, zero, suc, Bool, true, false, List, [], ◌∷◌, ◌++◌, map, length, Some, option_map, refl, ap, ◌∙◌, arith}
+use Rattle.std.proofs.Common.{◌≡◌, ◌<◌, ◌≤◌, ◌+◌, if◌then◌else◌, inl, inr, ℕ, zero, suc, Bool, true, false, List, [], ◌∷◌, ◌++◌, map, length, Option, Some, None, option_map, refl, sym, ap, subst, ◌∙◌, arith}
 use Rattle.std.specs.Prelude.{nat_lt, slice_get, string_bytes}
 use Rattle.std.specs.Global.{Global}
 use Rattle.std.specs.declared.string.String.{String}
 use Rattle.std.proofs.Math.ListN.{get_or-append}
 use Rattle.std.proofs.Math.Seq.{get_or-append_seam}
-use Rattle.std.proofs.lemmas.Bool.{and_parts, and_from}
+use Rattle.std.proofs.lemmas.Bool.{and_parts, and_from, cases_Bool}
 use Rattle.std.proofs.lemmas.Bool.Decides.{nat_tests}
 use Rattle.std.proofs.lemmas.List.{length-append, length-map, map_push}
+use Rattle.std.proofs.lemmas.Option.{get_or_from_slice_get, slice_get_within, slice_get-map}
 use Rattle.resolvo_text.specs.Line.{Version}
-use Rattle.resolvo_catalogue_core.specs.Listed.{version_by, name_at, kept_version, kept_versions, is_kept, are_kept}
+use Rattle.resolvo_catalogue_core.specs.Listed.{version_by, name_at, kept_version, kept_versions, is_kept, are_kept, AreOnce, AreUsed}
 use Rattle.resolvo_catalogue_core.specs.declared.versions.KeptVersion.{KeptVersion}
+use Rattle.resolvo_catalogue_core.proofs.Pushed.{get_new, get_kept, get_push}
 
 below : (a b : ℕ) → nat_lt a b ≡ true → a < b
 below a b e = grind (arith, nat_tests)
@@ -79,3 +81,48 @@ kept_at names (v ∷ vs) (suc first) p name e is alike =
 
 pub adds : (names : List (String Global)) (vs : List KeptVersion) (v : KeptVersion) (name : List ℕ) → name_at names v.«package» ≡ name → kept_versions names (vs ++ v ∷ []) ≡ kept_versions names vs ++ version_by name v.number ∷ []
 adds names vs v name is = map_push (kept_version names) vs v ∙ ap (λ (n : List ℕ). kept_versions names vs ++ version_by n v.number ∷ []) is
+
+-- ---- each name once
+
+once_push : {X : Type 0} (xs : List X) (y : X) → AreOnce xs → ((k : ℕ) → slice_get xs k ≡ Some y → ⊥) → AreOnce (xs ++ y ∷ [])
+once_push xs y once fresh i j x a b = elim (get_push xs y x i a) [
+  | inl p ↦ elim (get_push xs y x j b) [
+    | inl q ↦ once i j x p q
+    | inr new ↦ absurd (fresh i (p ∙ ap (λ z. Some z) (sym new.1)))
+  ]
+  | inr here ↦ elim (get_push xs y x j b) [
+    | inl q ↦ absurd (fresh j (q ∙ ap (λ z. Some z) (sym here.1)))
+    | inr there ↦ here.0 ∙ sym there.0
+  ]
+]
+
+-- the name of no version is no name
+fresh : (names : List (String Global)) (vs : List KeptVersion) (name : List ℕ) → AreUsed (length names) vs → ((k : ℕ) (v : Version) → slice_get (kept_versions names vs) k ≡ Some v → v.name ≡ name → ⊥)
+    → (k : ℕ) → slice_get (map string_bytes names) k ≡ Some name → ⊥
+fresh names vs name used absent k at =
+    let within : k < length names = omega (arith, slice_get_within (map string_bytes names) k name at, length-map names string_bytes) in
+    let u = used k within in
+    let named : name_at names u.1.«package» ≡ name = ap (λ (j : ℕ). name_at names j) u.3 ∙ get_or_from_slice_get (map string_bytes names) k name [] at in
+    absent u.0 (kept_version names u.1) (slice_get-map (kept_version names) vs u.0 ∙ ap (λ (o : Option KeptVersion). option_map (kept_version names) o) u.2) named
+
+pub once_new : (names : List (String Global)) (vs : List KeptVersion) (n : String Global) (name : List ℕ) → string_bytes n ≡ name → AreOnce (map string_bytes names) → AreUsed (length names) vs
+    → ((k : ℕ) (v : Version) → slice_get (kept_versions names vs) k ≡ Some v → v.name ≡ name → ⊥) → AreOnce (map string_bytes (names ++ n ∷ []))
+once_new names vs n name is once used absent =
+    let none : (k : ℕ) → slice_get (map string_bytes names) k ≡ Some (string_bytes n) → ⊥ = λ k at. fresh names vs name used absent k (at ∙ ap (λ (x : List ℕ). Some x) is) in
+    subst (λ (xs : List (List ℕ)). AreOnce xs) (sym (map_push string_bytes names n)) (once_push (map string_bytes names) (string_bytes n) once none)
+
+pub used_if : (b : Bool) (count : ℕ) (vs : List KeptVersion) (v : KeptVersion) → AreUsed count vs → AreUsed count (if b then vs ++ v ∷ [] else vs)
+used_if true count vs v used = λ k h. let u = used k h in (u.0, u.1, get_kept vs v u.1 u.0 u.2, u.3)
+used_if false count vs v used = used
+
+pub used_new : (count : ℕ) (vs : List KeptVersion) (v : KeptVersion) → AreUsed count vs → v.«package» ≡ count → AreUsed (count + 1) (vs ++ v ∷ [])
+used_new count vs v used last k h = elim (cases_Bool (nat_lt k count)) [
+  | inl old ↦ let u = used k (below k count old) in (u.0, u.1, get_kept vs v u.1 u.0 u.2, u.3)
+  | inr new ↦ (length vs, v, get_new vs v, omega (arith, last, h, (let past : count ≤ k = grind (arith, nat_tests) in past)))
+]
+
+-- no version at a place, by its kept form
+pub none_kept : (names : List (String Global)) (vs : List KeptVersion) (k : ℕ) → None ≡ option_map (λ v. v.«package») (slice_get vs k) → slice_get (kept_versions names vs) k ≡ None
+none_kept names [] k e = refl
+none_kept names (v ∷ vs) zero e = absurd cc
+none_kept names (v ∷ vs) (suc k) e = none_kept names vs k e

@@ -1,5 +1,5 @@
 -- The listed versions of a catalogue, by their numbers from 0 in line order.
-use Rattle.std.specs.Prelude.{◌≡◌, ℕ, Bool, false, nat_lt, List, [], Option, Some, option_to_list, map, slice_index_or, string_bytes}
+use Rattle.std.specs.Prelude.{◌≡◌, ◌<◌, ℕ, Bool, false, nat_lt, List, [], Option, Some, option_to_list, map, slice_index_or, string_bytes}
 use Rattle.std.specs.Option.{option_map_or}
 use Rattle.std.specs.Global.{Global}
 use Rattle.std.specs.declared.string.String.{String}
@@ -26,6 +26,10 @@ members versions numbers = flat_map (λ n. option_to_list (slice_get versions n.
 abbrev pub AreDistinct : List Version → Type 0
 AreDistinct versions = (v : Version) (j k : ℕ) → slice_get versions j ≡ Some v → slice_get versions k ≡ Some v → j ≡ k
 
+-- No value has two places.
+abbrev pub AreOnce : {X : Type 0} → List X → Type 0
+AreOnce {X} xs = (i j : ℕ) (x : X) → slice_get xs i ≡ Some x → slice_get xs j ≡ Some x → i ≡ j
+
 -- The version of this number is matched.
 abbrev pub is_match : List Version → Spec → ℕ → Bool
 is_match versions s n = option_map_or (λ v. matches s v) (slice_get versions n) false
@@ -51,3 +55,7 @@ is_kept count v = nat_lt v.«package» count
 
 abbrev pub are_kept : ℕ → List KeptVersion → Bool
 are_kept count kept = list_all (is_kept count) kept
+
+-- Each of so many names is that of a version.
+abbrev pub AreUsed : ℕ → List KeptVersion → Type 0
+AreUsed count kept = (k : ℕ) → k < count → (n : ℕ) × (v : KeptVersion) × (slice_get kept n ≡ Some v) × (v.«package» ≡ k)

@@ -2,9 +2,10 @@
 //! place of its package's name and its number. The model is the list of the versions. Made by
 //! `table`.
 
-ghost use Rattle.std.specs.Prelude.{◌≡◌, ◌≤◌, ◌<◌, ◌++◌, ◌∷◌, [], true, length, option_map, slice_get, OnOk, Some};
+ghost use Rattle.std.specs.Prelude.{◌≡◌, ◌≤◌, ◌<◌, ◌++◌, ◌∷◌, [], ℕ, true, length, map, option_map, slice_get, OnOk, Some, None};
+ghost use Rattle.std.specs.String.{string_bytes};
 ghost use Rattle.resolvo_text.specs.Line.{Version};
-ghost use Rattle.resolvo_catalogue_core.specs.Listed.{version_by, name_at, kept_versions, are_kept};
+ghost use Rattle.resolvo_catalogue_core.specs.Listed.{version_by, name_at, kept_versions, are_kept, AreOnce};
 
 use crate::rule::VersionNo;
 use std::alloc::{AllocError, Global};
@@ -25,9 +26,10 @@ pub struct Versions {
 }
 
 impl Model for Versions {
-    ghost use Rattle.std.specs.Prelude.{◌≡◌, ◌≤◌, List, length, true};
+    ghost use Rattle.std.specs.Prelude.{◌≡◌, ◌≤◌, List, length, map, true};
+    ghost use Rattle.std.specs.String.{string_bytes};
     ghost use Rattle.resolvo_text.specs.Line.{Version};
-    ghost use Rattle.resolvo_catalogue_core.specs.Listed.{kept_versions, are_kept};
+    ghost use Rattle.resolvo_catalogue_core.specs.Listed.{kept_versions, are_kept, AreOnce, AreUsed};
 
     ghost Value = { List Version };
 
@@ -35,7 +37,9 @@ impl Model for Versions {
 
     ghost invariant = { λ v.
         (are_kept (length v.names.items) v.kept.items ≡ true)
-        × (length v.names.items ≤ length v.kept.items) };
+        × (length v.names.items ≤ length v.kept.items)
+        × AreOnce (map string_bytes v.names.items)
+        × AreUsed (length v.names.items) v.kept.items };
 }
 
 /// The name at a place; an empty one where there is none.
@@ -90,6 +94,7 @@ impl Versions {
         ensures versions { kept_versions result.0.now result.1.now ≡ self.now }
         ensures kept { are_kept (length result.0.now) result.1.now ≡ true }
         ensures few { length result.0.now ≤ length result.1.now }
+        ensures once { AreOnce (map string_bytes result.0.now) }
     {
         (&self.names, &self.kept)
     }
@@ -104,6 +109,8 @@ impl Versions {
         number: u32,
     ) -> Result<(), AllocError>
         requires alike { (v : Version) → slice_get self.old first.0 ≡ Some v → v.name ≡ name.now }
+        requires new { slice_get self.old first.0 ≡ None
+            → (k : ℕ) (v : Version) → slice_get self.old k ≡ Some v → v.name ≡ name.now → ⊥ }
         requires short { length self.old < 4294967295 }
         ensures { OnOk result (self.new ≡ self.old ++ version_by name.now number ∷ []) }
     {

@@ -1,4 +1,4 @@
-use Rattle.std.proofs.Common.{◌≡◌, ◌∷◌, [], Option, Some, is_some, length, ◌+◌, ap, subst, arith}
+use Rattle.std.proofs.Common.{◌≡◌, ◌∷◌, [], Option, Some, None, is_some, length, ◌+◌, ap, subst, arith}
 use Rattle.std.specs.Prelude.{IfSome, slice_get}
 use Rattle.std.proofs.lemmas.List.{length-append}
 use Rattle.resolvo_catalogue_core.specs.Listed.{version_by}
@@ -6,7 +6,7 @@ use Rattle.resolvo_catalogue_core.specs.Packages.{package_in, first_in}
 use Rattle.resolvo_catalogue_core.specs.Table.{versions_in}
 use Rattle.resolvo_catalogue_core.specs.declared.rule.VersionNo.{VersionNo}
 use Rattle.resolvo_catalogue_core.proofs.TableSteps.{list, empty_more, was_there, was_new}
-use Rattle.resolvo_catalogue_core.proofs.PlaceLemmas.{versions_few, first_alike, listed_by_number, unlisted_by_number}
+use Rattle.resolvo_catalogue_core.proofs.PlaceLemmas.{versions_few, first_alike, first_new, listed_by_number, unlisted_by_number}
 use Rattle.resolvo_catalogue_core.proofs.table.Table.list.Goals as goal
 
 pub returns-in_default-clause-fault : goal.returns-in_default-clause-fault
@@ -26,6 +26,7 @@ push-requires c =
     let first : c.in-Some.first ≡ first_in (package_in t.packages name) version = subst (λ (o : Option VersionNo). IfSome o (λ v. v ≡ first_in (package_in t.packages name) version)) c.in-Some.is c.in_ok-first.ensures.first in
     record {
       alike = λ v at. first_alike t c.requires.table name version c.len.ensures v (subst (λ (k : VersionNo). slice_get (versions_in t) k.0 ≡ Some v) first at);
+      new = λ none. first_new t c.requires.table name version (subst (λ (k : VersionNo). slice_get (versions_in t) k.0 ≡ None) first none);
       short = omega (arith, versions_few t c.requires.table, c.requires.short);
     }
 
