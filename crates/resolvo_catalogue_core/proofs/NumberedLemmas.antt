@@ -10,8 +10,9 @@ use Rattle.std.proofs.lemmas.Bool.Decides.{Decides-eqb, nat_tests}
 use Rattle.std.proofs.lemmas.List.{length-append, length-take, map_push, take_more, get_or-take, get_or_default, get_or_push, get_or_append_left}
 use Rattle.std.proofs.lemmas.List.Sorted.{searched}
 use Rattle.resolvo_catalogue_core.specs.declared.rule.VersionNo.{VersionNo}
-use Rattle.resolvo_catalogue_core.specs.declared.package.Package.{Package}
-use Rattle.resolvo_catalogue_core.specs.Numbered.{beside, AreRising, IsAbove, IsSought, IsNumbered}
+use Rattle.resolvo_catalogue_core.specs.declared.package.Package.TheVariants.{One, Several}
+use Rattle.resolvo_catalogue_core.specs.declared.version_list.VersionList.{VersionList}
+use Rattle.resolvo_catalogue_core.specs.Numbered.{beside, AreRising, IsAbove, IsSought, AreNumbered}
 use Rattle.resolvo_catalogue_core.specs.Questions.{number_of}
 use Rattle.resolvo_catalogue_core.specs.Table.{AddsNumber}
 
@@ -100,7 +101,7 @@ numbered_push ns vs n v paired new k = ap (λ (o : Option VersionNo). option_map
     choose false = refl
 
 -- one more version of a number above the others
-pub pushed : (p q : Package) (n : ℕ) (v : VersionNo) → IsNumbered p → p.by_number ≡ None → IsAbove n p.numbers.items → q.numbers.items ≡ p.numbers.items ++ n ∷ [] → q.versions.items ≡ p.versions.items ++ v ∷ [] → q.by_number ≡ None → AddsNumber (Some p) n v q
+pub pushed : (p q : VersionList) (n : ℕ) (v : VersionNo) → AreNumbered p → p.by_number ≡ None → IsAbove n p.numbers.items → q.numbers.items ≡ p.numbers.items ++ n ∷ [] → q.versions.items ≡ p.versions.items ++ v ∷ [] → q.by_number ≡ None → AddsNumber (Some (Several p)) n v (Several q)
 pushed p q n v kept unmapped above numbers versions unmapped_still =
     let ns = p.numbers.items in
     let vs = p.versions.items in
@@ -135,8 +136,8 @@ pub mapped_next : (ns : List ℕ) (vs : List VersionNo) (i d : ℕ) (w : Version
 mapped_next ns vs i d w m o paired rising within so_far updated k = updated k ∙ rw (so_far k) (sym (beside_next ns vs i d w paired rising within k))
 
 -- one more version of a new number, which the map finds
-pub mapped : (p q : Package) (n : ℕ) (v : VersionNo) (m : BTreeMap ℕ VersionNo) → IsNumbered p → beside p.numbers.items p.versions.items n ≡ None → ((k : ℕ) → get nat_cmp m k ≡ update nat_eq (beside p.numbers.items p.versions.items) n (Some v) k)
-    → q.numbers.items ≡ p.numbers.items ++ n ∷ [] → q.versions.items ≡ p.versions.items ++ v ∷ [] → q.by_number ≡ Some m → AddsNumber (Some p) n v q
+pub mapped : (p q : VersionList) (n : ℕ) (v : VersionNo) (m : BTreeMap ℕ VersionNo) → AreNumbered p → beside p.numbers.items p.versions.items n ≡ None → ((k : ℕ) → get nat_cmp m k ≡ update nat_eq (beside p.numbers.items p.versions.items) n (Some v) k)
+    → q.numbers.items ≡ p.numbers.items ++ n ∷ [] → q.versions.items ≡ p.versions.items ++ v ∷ [] → q.by_number ≡ Some m → AddsNumber (Some (Several p)) n v (Several q)
 mapped p q n v m kept new updated numbers versions is =
     let ns = p.numbers.items in
     let vs = p.versions.items in
@@ -149,3 +150,13 @@ mapped p q n v m kept new updated numbers versions is =
       numbers = λ k. rw (numbers, versions) (numbered_push ns vs n v kept.paired new k);
       all = rw versions (map_push number_of vs v);
     }
+
+-- ---- one version alone
+
+-- a package of one version
+pub one_added : (n : ℕ) (v : VersionNo) → AddsNumber None n v (One n v)
+one_added n v = record { kept = tt; numbers = λ k. choose (n == k); all = refl }
+  where
+    choose : (b : Bool) → option_map number_of (if b then Some v else None) ≡ (if b then Some v.0 else None)
+    choose true = refl
+    choose false = refl

@@ -21,7 +21,7 @@ use Rattle.resolvo_text.specs.declared.spec.Span.TheVariants.{One, Range}
 use Rattle.resolvo_text.specs.Line.{Version, Spec}
 use Rattle.resolvo_catalogue_core.specs.declared.rule.VersionNo.{VersionNo}
 use Rattle.resolvo_catalogue_core.specs.declared.package.Package.{Package}
-use Rattle.resolvo_catalogue_core.specs.Numbered.{beside, AreRising}
+use Rattle.resolvo_catalogue_core.specs.Numbered.{beside, numbers_of, versions_of, AreRising}
 use Rattle.resolvo_catalogue_core.specs.Questions.{number_of, AreAll}
 use Rattle.resolvo_catalogue_core.specs.Picked.{IsAmong, IsPlaced, AddsEach, HasEach, is_picked, IsPicked}
 use Rattle.resolvo_catalogue_core.specs.Table.{IsPackage}
@@ -285,7 +285,7 @@ from_has n xs c = at xs c.0 c.1 c.2
     at (y ∷ ys) (suc k) l e = true_or (is_at (nat_cmp n) y) (list_any (is_at (nat_cmp n)) ys) (inr (at ys k (omega arith) e))
 
 module _ (versions : List Version) (s : Spec) (outside : Bool) (p : Package) (is : IsPackage versions s.name (Some p)) (set : BTreeSet ℕ)
-    (has : HasEach (IsAmong p.numbers.items p.versions.items (is_picked s.span outside)) set) where
+    (has : HasEach (IsAmong (numbers_of p) (versions_of p) (is_picked s.span outside)) set) where
   to_version : (n : ℕ) → Contains set.keys n → IsPicked versions s outside n
   to_version n c = let k = (has.0 n).0 (from_has n set.keys c) in (record { name = s.name; number = k.0 }, (is.numbers k.0 n).0 k.2, refl, k.1)
 

@@ -7,6 +7,7 @@ use Rattle.std.proofs.lemmas.Option.{get_or_from_slice_get, slice_get_within, sl
 use Rattle.resolvo_text.specs.Line.{Version, Line, Skipped, Listed, Needs, Limits, Unknown, Lock, Favour, Exclude, Many, Wish}
 use Rattle.resolvo_catalogue_core.specs.Grammar.{line_at, owner_of, owner_below, MayFollow}
 use Rattle.resolvo_catalogue_core.specs.Questions.{LineIs, MarksUnknownOf, Locks, Favours, MarksMany, Excludes, IsOfPackage, number_of}
+use Rattle.resolvo_catalogue_core.specs.Numbered.{versions_of}
 use Rattle.resolvo_catalogue_core.specs.Packages.{package_in, first_in}
 use Rattle.resolvo_catalogue_core.specs.Table.{IsTable, IsPackage, nowhere, lines_in, versions_in, number_in, kinds_in, numbers_in}
 use Rattle.resolvo_catalogue_core.specs.Questions.{IsVersionLine}
@@ -271,7 +272,7 @@ first_alike t keeps name number last v at = of_package (package_in t.packages na
 
     of_package : (o : Option Package) → IsPackage (versions_in t) name o → slice_get (versions_in t) (first_in o number).0 ≡ Some v → v.name ≡ name
     of_package None is at = absurd (omega (arith, last, slice_get_within (versions_in t) number.0 v at))
-    of_package (Some p) is at = of_list p.versions.items (λ n has. (is.all.all n).0 has) at
+    of_package (Some p) is at = of_list (versions_of p) (λ n has. (is.all.all n).0 has) at
 
 -- of a package whose first version isn't there, no version is listed
 pub first_new : (t : Table) → IsTable t → (name : List ℕ) (number : VersionNo) → slice_get (versions_in t) (first_in (package_in t.packages name) number).0 ≡ None → (k : ℕ) (v : Version) → slice_get (versions_in t) k ≡ Some v → v.name ≡ name → ⊥
@@ -286,7 +287,7 @@ first_new t keeps name number none k v at same = of_package (package_in t.packag
 
     of_package : (o : Option Package) → IsPackage (versions_in t) name o → slice_get (versions_in t) (first_in o number).0 ≡ None → ⊥
     of_package None is none = let there : Contains [] k = (is.all.all k).1 (v, at, same) in omega (arith, there.1)
-    of_package (Some p) is none = of_list p.versions.items is.all.all none
+    of_package (Some p) is none = of_list (versions_of p) is.all.all none
 
 -- ---- a version that isn't listed
 

@@ -27,7 +27,7 @@ use Rattle.resolvo_catalogue_core.specs.Grammar.{owner_below}
 use Rattle.resolvo_catalogue_core.specs.Questions.{IsOnly, AreAll, LineIs, BelongsTo, MarksUnknownOf, Locks, Favours, MarksMany, Excludes, IsFavour}
 use Rattle.resolvo_catalogue_core.specs.Table.{nth, nowhere, line_of, Keeps, IsTable, Adds, lines_in, versions_in, kinds_in, number_in}
 use Rattle.resolvo_catalogue_core.specs.LinesByVersion.{kept_of}
-use Rattle.resolvo_catalogue_core.specs.Numbered.{beside, IsNumbered}
+use Rattle.resolvo_catalogue_core.specs.Numbered.{beside, IsNumbered, numbers_of, versions_of}
 use Rattle.resolvo_catalogue_core.specs.Questions.{IsVersionLine, FavoursAt}
 use Rattle.resolvo_catalogue_core.specs.declared.rule.VersionNo.{VersionNo}
 use Rattle.resolvo_catalogue_core.specs.declared.rule.Rule.TheVariants as rule
@@ -282,8 +282,8 @@ adds_version before after v k p name same updated adds = record {
 }
 
 -- whether a number is new, by the package before
-pub new_number : (o : Option Package) (p : Package) (k : ℕ) → Some p ≡ o → is_some (beside p.numbers.items p.versions.items k) ≡ is_some (number_in o k)
-new_number o p k is = rw (← is) (of_found (beside p.numbers.items p.versions.items k))
+pub new_number : (o : Option Package) (p : Package) (k : ℕ) → Some p ≡ o → is_some (beside (numbers_of p) (versions_of p) k) ≡ is_some (number_in o k)
+new_number o p k is = rw (← is) (of_found (beside (numbers_of p) (versions_of p) k))
   where
     of_found : (v : Option VersionNo) → is_some v ≡ is_some (option_map number_of v)
     of_found None = refl
@@ -299,13 +299,6 @@ pub was_new : (added there : Bool) → added ≡ not there → added ≡ true �
 was_new false there is e = absurd cc
 was_new true false is e = refl
 was_new true true is e = absurd cc
-
-pub adds_to_new : (fresh p : Package) (number : ℕ) (k : VersionNo) → fresh.versions.items ≡ [] → fresh.numbers.items ≡ [] → AddsNumber (Some fresh) number k p → AddsNumber None number k p
-adds_to_new fresh p number k none no_numbers adds = record {
-  kept = adds.kept;
-  numbers = λ n. adds.numbers n ∙ rw no_numbers refl;
-  all = adds.all ∙ rw none refl;
-}
 
 -- ---- a version that is listed
 

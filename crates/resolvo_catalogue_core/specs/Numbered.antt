@@ -1,9 +1,11 @@
 -- Versions beside their numbers.
-use Rattle.std.specs.Prelude.{◌≡◌, ℕ, ◌<◌, ◌==◌, if◌then◌else◌, List, [], ◌∷◌, length, Option, Some, None, slice_index_or}
+use Rattle.std.specs.Prelude.{◌≡◌, ℕ, ◌<◌, ◌==◌, if◌then◌else◌, ⊤, List, [], ◌∷◌, length, Option, Some, None, slice_index_or}
 use Rattle.std.specs.BTreeMap.{BTreeMap, get}
 use Rattle.std.specs.Ordering.{nat_cmp}
 use Rattle.resolvo_catalogue_core.specs.declared.rule.VersionNo.{VersionNo}
 use Rattle.resolvo_catalogue_core.specs.declared.package.Package.{Package}
+use Rattle.resolvo_catalogue_core.specs.declared.package.Package.TheVariants.{One, Several}
+use Rattle.resolvo_catalogue_core.specs.declared.version_list.VersionList.{VersionList}
 
 -- the version beside the first number that is this one
 abbrev pub beside : List ℕ → List VersionNo → ℕ → Option VersionNo
@@ -25,6 +27,20 @@ IsSought None ns vs = AreRising ns
 IsSought (Some m) ns vs = (k : ℕ) → get nat_cmp m k ≡ beside ns vs k
 
 -- each version is beside its number, and is found by it
-pub record IsNumbered (p : Package) : Type 0 where
-  pub paired : length p.numbers.items ≡ length p.versions.items
-  pub sought : IsSought p.by_number p.numbers.items p.versions.items
+pub record AreNumbered (l : VersionList) : Type 0 where
+  pub paired : length l.numbers.items ≡ length l.versions.items
+  pub sought : IsSought l.by_number l.numbers.items l.versions.items
+
+-- the numbers of a package's versions
+abbrev pub numbers_of : Package → List ℕ
+numbers_of (One n v) = n ∷ []
+numbers_of (Several l) = l.numbers.items
+
+-- its versions
+abbrev pub versions_of : Package → List VersionNo
+versions_of (One n v) = v ∷ []
+versions_of (Several l) = l.versions.items
+
+abbrev pub IsNumbered : Package → Type 0
+IsNumbered (One n v) = ⊤
+IsNumbered (Several l) = AreNumbered l

@@ -3,6 +3,7 @@ use Rattle.std.specs.Prelude.{◌≡◌, ◌==◌, ◌+◌, ◌-◌, ◌<◌, �
 use Rattle.std.specs.BTreeMap.{get_by_text}
 use Rattle.std.specs.String.{string_bytes}
 use Rattle.resolvo_catalogue_core.specs.Hash.{numbers_hash}
+use Rattle.resolvo_catalogue_core.specs.Numbered.{versions_of}
 use Rattle.resolvo_catalogue_core.specs.declared.rule.VersionNo.{VersionNo}
 use Rattle.resolvo_catalogue_core.specs.declared.package.Package.{Package}
 use Rattle.resolvo_catalogue_core.specs.declared.package_table.NamedPackage.{NamedPackage}
@@ -72,4 +73,4 @@ AreFound t = (i : ℕ) (p : NamedPackage) → slice_get t.packages.items i ≡ S
 -- the first version of the package, and this one where there is none
 abbrev pub first_in : Option Package → VersionNo → VersionNo
 first_in None version = version
-first_in (Some p) version = slice_index_or p.versions.items 0 version
+first_in (Some p) version = slice_index_or (versions_of p) 0 version

@@ -16,7 +16,7 @@ use Rattle.resolvo_catalogue_core.specs.declared.line_table.LineKind.{LineKind}
 use Rattle.resolvo_catalogue_core.specs.declared.line_table.LineKind.TheVariants as line_kinds
 use Rattle.resolvo_catalogue_core.specs.Held.{kind_list}
 use Rattle.resolvo_catalogue_core.specs.declared.package.Package.{Package}
-use Rattle.resolvo_catalogue_core.specs.Numbered.{beside, IsNumbered}
+use Rattle.resolvo_catalogue_core.specs.Numbered.{beside, numbers_of, versions_of, IsNumbered}
 use Rattle.resolvo_catalogue_core.specs.Packages.{package_in, AreFound}
 use Rattle.resolvo_catalogue_core.specs.declared.table.Table.{Table}
 
@@ -85,11 +85,11 @@ is_lock_of_another (rule.Exclude excluded word) n = false
 -- the number of the package's version
 abbrev pub number_in : Option Package → ℕ → Option ℕ
 number_in None k = None
-number_in (Some p) k = option_map number_of (beside p.numbers.items p.versions.items k)
+number_in (Some p) k = option_map number_of (beside (numbers_of p) (versions_of p) k)
 
 abbrev pub numbers_in : Option Package → List ℕ
 numbers_in None = []
-numbers_in (Some p) = map number_of p.versions.items
+numbers_in (Some p) = map number_of (versions_of p)
 
 pub record IsPackage (versions : List Version) (name : List ℕ) (found : Option Package) : Type 0 where
   pub kept : (p : Package) → found ≡ Some p → IsNumbered p

@@ -14,6 +14,7 @@ mod request;
 mod request_lines;
 mod rule;
 mod table;
+mod version_list;
 mod versions;
 
 pub use catalogue::Catalogue;

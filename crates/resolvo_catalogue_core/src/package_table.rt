@@ -112,6 +112,7 @@ fn package_at(packages: &[NamedPackage], number: usize) -> Option<&Package>
 }
 
 /// A package of one version, with its name.
+#[tactic(auto, using(crate::proofs::NumberedLemmas::one_added))]
 fn named(
     alloc: Global,
     name: &str,
@@ -121,11 +122,9 @@ fn named(
     ensures name { IfOk result (λ p. string_bytes p.name ≡ name.now) }
     ensures one { IfOk result (λ p. AddsNumber None number version p.versions) }
 {
-    let mut versions = Package::new(alloc);
-    versions.add(number, version)?;
     Ok(NamedPackage {
         name: String::from_str(alloc, name)?,
-        versions,
+        versions: Package::One { number, version },
     })
 }
 
@@ -295,7 +294,7 @@ impl PackageTable {
         ensures found { IfOk result (λ first. IsTrue (is_some first) → AreFound self.new) }
     {
         if let Some(at) = self.number_of_next(name) {
-            return self.packages[at].versions.add(number, version);
+            return self.packages[at].versions.add(alloc, number, version);
         }
         self.add_package(alloc, name, number, version)?;
         Ok(Some(version))

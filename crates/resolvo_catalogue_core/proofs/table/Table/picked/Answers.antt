@@ -1,6 +1,7 @@
 use Rattle.std.proofs.Common.{List, ℕ, Option, None, Some, sym, subst}
 use Rattle.std.proofs.lemmas.Result.{IfOk-weaker}
 use Rattle.resolvo_text.specs.View.{spec_of}
+use Rattle.resolvo_catalogue_core.specs.Numbered.{numbers_of, versions_of}
 use Rattle.resolvo_catalogue_core.specs.Picked.{HasEach, IsAmong, IsPicked, is_picked}
 use Rattle.resolvo_catalogue_core.specs.Questions.{AreAll}
 use Rattle.resolvo_catalogue_core.specs.Table.{IsPackage, versions_in}
@@ -17,7 +18,7 @@ returns-in-Some c =
     let p = c.in-Some.package.now in
     let of_name = subst (λ (o : Option Package). IsPackage vs c.as_str.result.now o) (sym c.in-Some.ensures.value) (c.requires.packages c.as_str.result.now) in
     let kept = subst (λ (name : List ℕ). IsPackage vs name (Some p)) c.as_str.ensures.value of_name in
-    IfOk-weaker c.picked.result (HasEach (IsAmong p.numbers.items p.versions.items (is_picked c.args.spec.now.span c.args.outside))) (λ set. AreAll set.keys (IsPicked vs (spec_of c.args.spec.now) c.args.outside))
+    IfOk-weaker c.picked.result (HasEach (IsAmong (numbers_of p) (versions_of p) (is_picked c.args.spec.now.span c.args.outside))) (λ set. AreAll set.keys (IsPicked vs (spec_of c.args.spec.now) c.args.outside))
     (λ set has. all_picked vs (spec_of c.args.spec.now) c.args.outside p kept set has) c.picked.ensures
 
 pub returns-in-None : goal.returns-in-None

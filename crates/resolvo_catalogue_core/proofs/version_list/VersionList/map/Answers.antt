@@ -1,7 +1,7 @@
 use Rattle.std.proofs.Common.{◌∙◌, ◌++◌, ◌∷◌, [], ap, refl}
 use Rattle.resolvo_catalogue_core.proofs.Sorted.{updates_number}
 use Rattle.resolvo_catalogue_core.proofs.NumberedLemmas.{mapped}
-use Rattle.resolvo_catalogue_core.proofs.package.Package.map.Goals as goal
+use Rattle.resolvo_catalogue_core.proofs.version_list.VersionList.map.Goals as goal
 
 pub returns : goal.returns
 returns c =

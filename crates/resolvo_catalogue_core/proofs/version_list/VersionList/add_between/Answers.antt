@@ -2,7 +2,7 @@ use Rattle.std.proofs.Common.{subst}
 use Rattle.std.proofs.lemmas.Result.{on_ok_weaker}
 use Rattle.resolvo_catalogue_core.specs.Numbered.{IsSought}
 use Rattle.resolvo_catalogue_core.proofs.PickedLemmas.{mapped_among}
-use Rattle.resolvo_catalogue_core.proofs.package.Package.add_between.Goals as goal
+use Rattle.resolvo_catalogue_core.proofs.version_list.VersionList.add_between.Goals as goal
 
 pub returns-in-Some : goal.returns-in-Some
 returns-in-Some c =

@@ -1,6 +1,6 @@
 use Rattle.std.proofs.Common.{◌∙◌, sym, subst}
 use Rattle.resolvo_catalogue_core.proofs.NumberedLemmas.{sought, IsSoughtBeside}
-use Rattle.resolvo_catalogue_core.proofs.package.version_beside.Goals as goal
+use Rattle.resolvo_catalogue_core.proofs.version_list.version_beside.Goals as goal
 
 pub returns-in-Ok : goal.returns-in-Ok
 returns-in-Ok c =
