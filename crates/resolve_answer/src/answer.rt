@@ -20,6 +20,7 @@ use resolve_install::{install_report, numbers_of};
 use resolve_refusal::{install_steps, refusal_of};
 use resolvo::conflict::Conflict;
 use resolvo::problem::Problem;
+use resolvo::prove::Steps;
 use resolvo::solver::{Solver, UnsolvableOrCancelled};
 use resolvo::turns::Turn;
 use resolvo_catalogue::provider::{CatalogueProvider, Hint, RequestIds};
@@ -182,7 +183,7 @@ fn answered(
 {
     let wishes = wishes_of(alloc, catalogue, request)?;
     let free = free_wishes(alloc, wishes.as_slice())?;
-    match solver.solve(problem_of(asked, free)) {
+    match solver.solve_with(problem_of(asked, free), Steps::Reasons) {
         Ok(chosen) => Ok(installed(alloc, catalogue, request, solver, wishes, chosen.as_slice())?),
         Err(UnsolvableOrCancelled::Unsolvable(conflict)) => {
             refused(alloc, catalogue, request, solver, &conflict)

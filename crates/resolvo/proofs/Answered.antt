@@ -12,16 +12,27 @@ use Rattle.resolvo_pool_core.specs.RuleKeeping.{Packages, Rules}
 use Rattle.resolvo.specs.declared.search.SearchResult.{SearchResult}
 use Rattle.resolvo.specs.declared.search.SearchResult.TheVariants.{Chosen, Unsat}
 use Rattle.resolvo.specs.declared.prove.Solved.{Solved}
+use Rattle.resolvo.specs.declared.prove.Steps.{Steps}
+use Rattle.resolvo.specs.declared.prove.Steps.TheVariants.{All, Reasons}
 use Rattle.resolvo.specs.declared.solver.UnsolvableOrCancelled.{UnsolvableOrCancelled}
 use Rattle.resolvo.specs.declared.solver.UnsolvableOrCancelled.TheVariants.{Unsolvable, Cancelled, Memory, Ids}
-use Rattle.resolvo.specs.Solve.{AreChosenOnce, AreRightSteps, Holds, HaveProofs, IsListedIn, IsPreferred, IsSolved, EndsSo, Counts}
+use Rattle.resolvo.specs.Solve.{AreChosenOnce, AreRightSteps, Holds, HaveProofs, IsListedIn, IsPreferred, IsSolved, EndsSo, Counts, CountsBy}
 use Rattle.resolvo.specs.Conflicts.{Left, left_of, IsLeft}
 use Rattle.resolvo.specs.declared.conflict.KeptConflict.{KeptConflict}
-use Rattle.resolvo.specs.Solver.{Kept, HasNothing, IfEnded, IsAnswer, IsStopped, Keeps, Leaves, stopped_by}
+use Rattle.resolvo.specs.Solver.{Kept, HasNothing, IfEnded, IsAnswer, IsStopped, Keeps, Leaves, LeavesBy, stopped_by}
 
 -- the steps of a solved problem are right
 solved_steps : {N S : Type 0} (same : S → S → Bool) (p : Packages N S) (root : Rules) (orders : Requirement → List S → Type 0) (softs : List S) (s : Solved N S) → IsSolved same p orders root softs s → AreRightSteps same p root s.proof.items
 solved_steps same p root orders softs s solved = record { proof = solved.proof; drawn = solved.drawn; signs = solved.signs; one_place = solved.one_place }
+
+-- all steps are wanted
+all_leave : {P N S C : Type 0} (r : Result (Vec S Global) (UnsolvableOrCancelled C)) (k : Kept P N S) → Leaves r k → LeavesBy r All k
+all_leave (Ok v) k h = h
+all_leave (Err e) k h = h
+
+pub all_left : {P N S C : Type 0} (r : Result (Vec S Global) (UnsolvableOrCancelled C)) (k : Kept P N S) → LeavesBy r All k → Leaves r k
+all_left (Ok v) k h = h
+all_left (Err e) k h = h
 
 module _ {P N S C : Type 0} (old : Kept P N S) where
   -- the kept result of a search is right
@@ -75,7 +86,7 @@ module _ {P N S C : Type 0} (old : Kept P N S) where
   kept_once s ids left (Err Ids) new h once = tt
 
   -- its results
-  pub kept_leaves : (same : S → S → Bool) (p : Packages N S) (orders : Requirement → List S → Type 0) (s : Solved N S) (ids : Vec ClauseId Global) (left : Option (KeptConflict S)) (r : Result (Vec S Global) (UnsolvableOrCancelled C)) (new : Kept P N S) → old.turns ≡ [] → Keeps s ids (option_map left_of left) old r new → IsLeft same p orders s.found s.proof.items ids.items left → EndsSo s.found s.proof.items → Counts s.found s.clause_count (length s.proof.items) → Leaves r new
+  kept_leaves : (same : S → S → Bool) (p : Packages N S) (orders : Requirement → List S → Type 0) (s : Solved N S) (ids : Vec ClauseId Global) (left : Option (KeptConflict S)) (r : Result (Vec S Global) (UnsolvableOrCancelled C)) (new : Kept P N S) → old.turns ≡ [] → Keeps s ids (option_map left_of left) old r new → IsLeft same p orders s.found s.proof.items ids.items left → EndsSo s.found s.proof.items → Counts s.found s.clause_count (length s.proof.items) → Leaves r new
   kept_leaves same p orders s ids left (Ok v) new none (turns, found, kept) is ends counts =
       subst (λ (k : Kept P N S). Leaves {C = C} (Ok v) k) (sym kept)
       (subst (λ (f : SearchResult S). Counts f s.clause_count (length s.proof.items)) found counts, ap (option_map left_of) (subst (λ (f : SearchResult S). IsLeft same p orders f s.proof.items ids.items left) found is))
@@ -86,6 +97,18 @@ module _ {P N S C : Type 0} (old : Kept P N S) where
   kept_leaves same p orders s ids left (Err (Cancelled value)) new none h is ends counts = absurd h
   kept_leaves same p orders s ids left (Err Memory) new none h is ends counts = absurd h
   kept_leaves same p orders s ids left (Err Ids) new none h is ends counts = absurd h
+
+  -- its results, for the steps that are wanted
+  pub kept_leaves_by : (steps : Steps) (same : S → S → Bool) (p : Packages N S) (orders : Requirement → List S → Type 0) (s : Solved N S) (ids : Vec ClauseId Global) (left : Option (KeptConflict S)) (r : Result (Vec S Global) (UnsolvableOrCancelled C)) (new : Kept P N S) → old.turns ≡ [] → Keeps s ids (option_map left_of left) old r new → IsLeft same p orders s.found s.proof.items ids.items left → EndsSo s.found s.proof.items → CountsBy steps s.found s.clause_count (length s.proof.items) → LeavesBy r steps new
+  kept_leaves_by All same p orders s ids left r new none keeps is ends counts = all_leave r new (kept_leaves same p orders s ids left r new none keeps is ends counts)
+  kept_leaves_by Reasons same p orders s ids left (Ok v) new none (turns, found, kept) is ends counts =
+      ap (λ (k : Kept P N S). k.conflict) kept ∙ ap (option_map left_of) (subst (λ (f : SearchResult S). IsLeft same p orders f s.proof.items ids.items left) found is)
+  kept_leaves_by Reasons same p orders s ids left (Err (Unsolvable conflict)) new none (r, found, ids_are, kept) is ends counts =
+      let all : Counts s.found s.clause_count (length s.proof.items) = subst (λ (f : SearchResult S). Counts f s.clause_count (length s.proof.items)) (sym found) (subst (λ (f : SearchResult S). CountsBy Reasons f s.clause_count (length s.proof.items)) found counts) in
+      kept_leaves same p orders s ids left (Err (Unsolvable conflict)) new none (r, found, ids_are, kept) is ends all
+  kept_leaves_by Reasons same p orders s ids left (Err (Cancelled value)) new none h is ends counts = absurd h
+  kept_leaves_by Reasons same p orders s ids left (Err Memory) new none h is ends counts = absurd h
+  kept_leaves_by Reasons same p orders s ids left (Err Ids) new none h is ends counts = absurd h
 
   -- the provider is the same
   pub kept_provider : (s : Solved N S) (ids : Vec ClauseId Global) (left : Option (Left S)) (r : Result (Vec S Global) (UnsolvableOrCancelled C)) (new : Kept P N S) → Keeps s ids left old r new → new.provider ≡ old.provider

@@ -58,14 +58,7 @@ module _ {A N S C : Type 0} (same : S → S → Bool) (g : source.Ghosts A N S C
       → IsEncoding same (g.packages a) root old
       → IsSearch same (g.packages a) (g.orders a) root softs new found
 
-  -- the same with its proof
-  abbrev pub SolvesFrom : List ConditionalRequirement → List VersionSetId → List S → Encoder N S → Solved N S → Type 0
-  SolvesFrom requirements constraints softs old solved = (root : Rules) → IsRoot requirements constraints root
-      → AreCandidates same (g.packages a) softs
-      → IsEncoding same (g.packages a) root old
-      → IsSolved same (g.packages a) (g.orders a) root softs solved
-
-  -- the same, from a new encoding
+  -- the same with its proof, from a new encoding
   abbrev pub SolvesProblem : List ConditionalRequirement → List VersionSetId → List S → Solved N S → Type 0
   SolvesProblem requirements constraints softs solved = (root : Rules) → IsRoot requirements constraints root
       → AreCandidates same (g.packages a) softs

@@ -1,5 +1,5 @@
 -- The result of a search for a problem's solvables.
-use Rattle.std.specs.Prelude.{◌≡◌, ℕ, suc, ◌+◌, ◌<◌, ⊤, Bool, true, false, take, List, [], length, Option, Some, None, Contains, slice_get}
+use Rattle.std.specs.Prelude.{◌≡◌, ◌⊎◌, ℕ, suc, ◌+◌, ◌<◌, ⊤, Bool, true, false, take, List, [], length, Option, Some, None, Contains, slice_get}
 use Rattle.std.specs.Global.{Vec}
 use Rattle.resolvo_pool_core.specs.declared.id.VersionSetId.{VersionSetId}
 use Rattle.resolvo_pool_core.specs.declared.requirement.ConditionalRequirement.{ConditionalRequirement}
@@ -11,13 +11,16 @@ use Rattle.resolvo_sat.specs.First.{ArePreferred}
 use Rattle.resolvo_state.specs.declared.solver_state.SolverState.{SolverState}
 use Rattle.resolvo_state.specs.declared.atom.ProofAtom.TheVariants.{Solvable}
 use Rattle.resolvo_state.specs.Keys.{AreOnce}
+use Rattle.resolvo_state.specs.Registered.{AreTied}
+use Rattle.resolvo_state.specs.Spelled.{Spelled}
+use Rattle.resolvo_state.specs.declared.registry.Registry.{Registry}
 use Rattle.resolvo_encoder.specs.Conditions.{waiting_count}
 use Rattle.resolvo_encoder.specs.Encoded.{IsEncoding}
 use Rattle.resolvo_encoder.specs.Steps.{IsBuilt}
 use Rattle.resolvo_encoder.specs.TurnLevels.{AreAmongEncoded}
 use Rattle.resolvo_proof.specs.Drawn.{AreDrawn, HaveOneSigns}
-use Rattle.resolvo_proof.specs.Places.{HaveOnePlace}
-use Rattle.resolvo_proof.specs.Proof.{IsProof, EndsEmpty, DenyRoot}
+use Rattle.resolvo_proof.specs.Places.{HaveOnePlace, AreNamedBy}
+use Rattle.resolvo_proof.specs.Proof.{IsProof, EndsEmpty, DenyRoot, Proves}
 use Rattle.resolvo_sat.specs.RuleClauses.{Atom, IsExact}
 use Rattle.resolvo_proof.specs.declared.step.ProofLiteral.{ProofLiteral}
 use Rattle.resolvo_proof.specs.declared.step.ProofStep.{ProofStep}
@@ -25,12 +28,14 @@ use Rattle.resolvo_proof.specs.declared.step.ProofStep.TheVariants.{Derived}
 use Rattle.resolvo_proof.specs.Written.{AreSteps, AreStepsThen, IsStepAt}
 use Rattle.resolvo_encoder.specs.declared.encoder.Encoder.{Encoder}
 use Rattle.resolvo.specs.Solution.{IsUnsolvable}
-use Rattle.resolvo.specs.Turns.{AreSolvedByTurn, HasReason, IsDeniable, first_of, on_trail}
+use Rattle.resolvo.specs.Turns.{AreAccepted, AreSolvedByTurn, HasReason, IsDeniable, first_of, on_trail}
 use Rattle.resolvo.specs.declared.turns.Turn.{Turn}
 use Rattle.resolvo.specs.declared.turns.Turns.{Turns}
 use Rattle.resolvo.specs.declared.search.SearchResult.{SearchResult}
 use Rattle.resolvo.specs.declared.search.SearchResult.TheVariants.{Chosen, Unsat}
 use Rattle.resolvo.specs.declared.prove.Solved.{Solved}
+use Rattle.resolvo.specs.declared.prove.Steps.{Steps}
+use Rattle.resolvo.specs.declared.prove.Steps.TheVariants.{All, Reasons}
 
 -- the root has no requirements and no constraints, and there are no soft requirements
 abbrev pub AskNothing : {S : Type 0} → List ConditionalRequirement → List VersionSetId → List S → Type 0
@@ -162,7 +167,32 @@ abbrev pub Counts : {S : Type 0} → SearchResult S → ℕ → ℕ → Type 0
 Counts (Chosen v turns) clauses steps = clauses ≡ steps + 1
 Counts (Unsat r) clauses steps = clauses ≡ steps
 
+-- The same for the steps that are wanted: a choice may have any number of reasons.
+abbrev pub CountsBy : {S : Type 0} → Steps → SearchResult S → ℕ → ℕ → Type 0
+CountsBy All f clauses steps = Counts f clauses steps
+CountsBy Reasons (Chosen v turns) clauses steps = ⊤
+CountsBy Reasons (Unsat r) clauses steps = clauses ≡ steps
+
+-- nothing was refused, neither the problem nor a soft requirement
+abbrev pub RefusesNothing : {S : Type 0} → SearchResult S → Type 0
+RefusesNothing (Chosen v turns) = AreAccepted turns.items
+RefusesNothing (Unsat r) = ⊥
+
+-- reasons alone are wanted, and nothing needs one
+abbrev pub NeedsNone : {S : Type 0} → Steps → SearchResult S → Type 0
+NeedsNone steps f = (steps ≡ Reasons) × RefusesNothing f
+
 -- a search gives a step for each clause after the root's, and a conflict one more for itself
 abbrev pub HasSteps : {N S : Type 0} → SolverState N S → SearchResult S → List (ProofStep N S) → Type 0
 HasSteps c (Chosen v turns) steps = AreSteps c steps
 HasSteps c (Unsat r) steps = AreStepsThen c r.literals.items r.causes.items steps
+
+-- The steps are right wherever the clauses are those of a problem. They are all steps of the
+-- clauses, or none, where nothing was refused.
+pub record AreStepsOf {N S : Type 0} (c : SolverState N S) (f : SearchResult S) (steps : List (ProofStep N S)) : Type 0 where
+  pub proof : Proves c steps
+  pub drawn : (same : S → S → Bool) (p : Packages N S) → Spelled same p c → AreDrawn same p steps
+  pub signs : HaveOneSigns steps
+  pub places : (r : Registry N) (package_of : S → N) → AreTied r c → AreNamedBy r c package_of → HaveOnePlace steps
+  pub ends : EndsSo f steps
+  pub clauses : HasSteps c f steps ⊎ (RefusesNothing f × (steps ≡ []))

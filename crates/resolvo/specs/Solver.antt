@@ -22,6 +22,8 @@ use Rattle.resolvo.specs.Conflicts.{Left, AreOffers, conflict_clauses}
 use Rattle.resolvo.specs.Turns.{AreSolvedByTurn, first_of}
 use Rattle.resolvo.specs.Solve.{AreOnTrail, AreRightSteps, HasProof, IsCounted}
 use Rattle.resolvo.specs.declared.prove.Solved.{Solved}
+use Rattle.resolvo.specs.declared.prove.Steps.{Steps}
+use Rattle.resolvo.specs.declared.prove.Steps.TheVariants.{All, Reasons}
 use Rattle.resolvo.specs.declared.turns.Turn.{Turn}
 use Rattle.resolvo_pool.specs.declared.cache.CacheFault.{CacheFault}
 use Rattle.resolvo_pool.specs.declared.cache.CacheFault.TheVariants as fault
@@ -114,6 +116,12 @@ Leaves (Err (Unsolvable conflict)) k = (k.clause_count ≡ length k.proof) × En
 Leaves (Err (Cancelled value)) k = HasNothing k
 Leaves (Err Memory) k = HasNothing k
 Leaves (Err Ids) k = HasNothing k
+
+-- The results for the steps that are wanted: of a choice where reasons alone are wanted, no conflict.
+abbrev pub LeavesBy : {N S C P : Type 0} → Result (Vec S) (UnsolvableOrCancelled C) → Steps → Kept P N S → Type 0
+LeavesBy {N} {S} {C} {P} (Ok v) All k = Leaves {C = C} (Ok v) k
+LeavesBy {N} {S} {C} {P} (Ok v) Reasons k = k.conflict ≡ None
+LeavesBy {N} {S} {C} {P} (Err e) steps k = Leaves (Err e) k
 
 -- the results of a search are kept, and returned
 abbrev pub Keeps : {P N S C : Type 0} → Solved N S → Vec ClauseId → Option (Left S) → Kept P N S → Result (Vec S) (UnsolvableOrCancelled C) → Kept P N S → Type 0

@@ -109,6 +109,10 @@ pub record HasReason {N S : Type 0} (c : SolverState N S) (chosen : List S) (t :
 abbrev pub HaveReasons : {N S : Type 0} → SolverState N S → Turns S → Type 0
 HaveReasons {N} {S} c t = (turn : Turn S) → Contains t.turns.items turn → HasReason c t.chosen.keys turn
 
+-- each turn accepted its soft requirement
+abbrev pub AreAccepted : {S : Type 0} → List (Turn S) → Type 0
+AreAccepted {S} turns = (t : Turn S) → Contains turns t → t.accepted ≡ true
+
 -- whether the turn accepted its soft requirement
 abbrev pub was_accepted : SoftOutcome → Bool
 was_accepted AlreadyChosen = true

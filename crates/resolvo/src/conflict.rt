@@ -6,10 +6,10 @@ ghost use Rattle.resolvo_graph.specs.Message.{IsLengthBelow};
 ghost use Rattle.resolvo_graph.specs.Words.{meaning_by};
 ghost use Rattle.resolvo.specs.Conflicts.{clause_of_step, conflict_clauses};
 ghost use Rattle.resolvo.specs.Solver.{HoldsConflict, IsGraphOf, IsTrueOf, IsConflictMessage};
-ghost use Rattle.resolvo.specs.Solve.{AreChosenOnce, AskNothing, EndsSo, Counts};
+ghost use Rattle.resolvo.specs.Solve.{AreChosenOnce, AskNothing, EndsSo, CountsBy};
 ghost use Rattle.resolvo.specs.Results.{SolvesProblem, OffersAll, LeavesConflict};
 
-use crate::prove::{Solved, solve};
+use crate::prove::{Solved, Steps, solve_with};
 use crate::search::SearchResult;
 use crate::solver::Solver;
 use resolvo_graph::display_unsat::DisplayUnsat;
@@ -203,7 +203,7 @@ fn conflict_left<A: PackageSource>(
     }
 }
 
-/// Searches as `solve` does. Of a conflict it gives its clauses and the record of the conflict,
+/// Searches as `solve_with` does. Of a conflict it gives its clauses and the record of the conflict,
 /// too.
 pub(crate) fn solve_to_conflict<A: PackageSource, C: ScoreMap<A::NameId> + Drop>(
     alloc: Global,
@@ -212,6 +212,7 @@ pub(crate) fn solve_to_conflict<A: PackageSource, C: ScoreMap<A::NameId> + Drop>
     requirements: &[ConditionalRequirement],
     constraints: &[VersionSetId],
     softs: &[A::SolvableId],
+    steps: Steps,
 ) -> Result<
     (
         Solved<A::NameId, A::SolvableId>,
@@ -230,14 +231,23 @@ pub(crate) fn solve_to_conflict<A: PackageSource, C: ScoreMap<A::NameId> + Drop>
     ensures alone { IfOk result
         (λ s. AskNothing requirements.now constraints.now softs.now → s.0.clause_count ≡ 1) }
     ensures ends { IfOk result (λ s. EndsSo s.0.found s.0.proof.items) }
-    ensures count { IfOk result (λ s. Counts s.0.found s.0.clause_count (length s.0.proof.items)) }
+    ensures count { IfOk result
+        (λ s. CountsBy steps s.0.found s.0.clause_count (length s.0.proof.items)) }
     ensures left { IfOk result
         (λ s. LeavesConflict A.SolvableId.eq A.PackageSource answers.old
         s.0.found s.0.proof.items s.1.items s.2) }
     // After a refusal.
     ensures cancelled { IfErr result (IsCancelledBy (A.may_cancel answers.old)) }
 {
-    let solved = solve::<A, C>(alloc, answers, activity, requirements, constraints, softs)?;
+    let solved = solve_with::<A, C>(
+        alloc,
+        answers,
+        activity,
+        requirements,
+        constraints,
+        softs,
+        steps,
+    )?;
     let (clauses, conflict) = conflict_left(alloc, answers, &solved)?;
     Ok((solved, clauses, conflict))
 }

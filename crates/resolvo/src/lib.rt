@@ -13,6 +13,7 @@ pub mod turns;
 
 pub use conflict::Conflict;
 pub use problem::{EmptySolvables, Problem};
+pub use prove::Steps;
 pub use resolvo_graph::{
     ConflictCause, ConflictEdge, ConflictGraph, ConflictNode, DisplayUnsat, EdgeIndex,
     MergedConflictNode, NodeIndex,

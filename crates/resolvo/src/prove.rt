@@ -1,6 +1,6 @@
-//! A search with its proof. `Solver` keeps the result of `solve`; a program that needs no solver
+//! A search with its proof. `Solver` keeps the result of `solve_with`; a program that needs no solver
 //! may call it itself.
-ghost use Rattle.std.specs.Prelude.{◌≡◌, Bool, length, IfOk, IfErr};
+ghost use Rattle.std.specs.Prelude.{◌≡◌, Bool, true, length, IfOk, IfErr};
 ghost use Rattle.resolvo_pool.specs.Cached.{IsCancelledBy};
 ghost use Rattle.resolvo_pool_core.specs.RuleKeeping.{Packages};
 ghost use Rattle.resolvo_state.specs.declared.registry.Registry.{Registry};
@@ -12,10 +12,11 @@ ghost use Rattle.resolvo_encoder.specs.Steps.{IsBegunEncoding};
 ghost use Rattle.resolvo_proof.specs.Drawn.{AreDrawn, HaveOneSigns};
 ghost use Rattle.resolvo_proof.specs.Places.{HaveOnePlace, AreNamedBy};
 ghost use Rattle.resolvo_proof.specs.Proof.{Proves};
-ghost use Rattle.resolvo.specs.Solve.{AreChosenOnce, AskNothing, IsDenial, IsProvable, EndsSo, Counts, HasSteps};
-ghost use Rattle.resolvo.specs.Results.{SolvesFrom, SolvesProblem};
+ghost use Rattle.resolvo.specs.Solve.{AreChosenOnce, AreStepsOf, AskNothing, IsDenial, IsProvable, EndsSo, Counts, CountsBy, HasSteps, NeedsNone};
+ghost use Rattle.resolvo.specs.Results.{SolvesProblem};
 
 use crate::search::{SearchResult, search};
+use crate::turns::are_accepted;
 use resolvo_encoder::encoder::Encoder;
 use resolvo_packages::package_source::PackageSource;
 use resolvo_pool::cache::CacheFault;
@@ -39,6 +40,15 @@ pub struct Solved<N, S> {
     /// The number of cases that are still deferred.
     pub deferred_count: usize,
     pub proof: Vec<ProofStep<N, S>>,
+}
+
+/// Which steps of its proof a search writes.
+#[derive(Clone, Copy, Debug)]
+pub enum Steps {
+    /// One for each clause but the root's.
+    All,
+    /// All, where the problem or a soft requirement was refused; otherwise none.
+    Reasons,
 }
 
 /// The steps of the clauses, and of a conflict.
@@ -74,36 +84,58 @@ fn steps_of<N: Copy + Exact + Hash + Debug, S: Copy + Exact + Hash + Debug>(
     }
 }
 
+/// Whether no step is wanted.
+fn needs_none<S>(steps: Steps, found: &SearchResult<S>) -> bool
+    ensures { result ≡ true → NeedsNone steps found.now }
+{
+    match steps {
+        Steps::All => false,
+        Steps::Reasons => match found {
+            SearchResult::Chosen { turns, .. } => are_accepted(turns.as_slice()),
+            SearchResult::Unsat(_) => false,
+        },
+    }
+}
+
+/// The steps that are wanted.
+fn wanted_steps<N: Copy + Exact + Hash + Debug, S: Copy + Exact + Hash + Debug>(
+    alloc: Global,
+    coding: &SolverState<N, S>,
+    found: &SearchResult<S>,
+    steps: Steps,
+) -> R<Vec<ProofStep<N, S>>>
+    requires coding { IsCoding coding.now }
+    requires denial { IsDenial coding.now found.now }
+    // After an answer.
+    ensures steps { IfOk result (λ v. AreStepsOf coding.now found.now v.items) }
+    ensures count { IfOk result
+        (λ v. CountsBy steps found.now (length coding.now.search.clauses) (length v.items)) }
+{
+    if needs_none(steps, found) {
+        return Ok(Vec::new(alloc));
+    }
+    let written = steps_of(alloc, coding, found)?;
+    Ok(written)
+}
+
 /// Writes the proof of a search's result.
 fn prove<N: Copy + Exact + Hash + Debug + Drop, S: Copy + Exact + Hash + Debug>(
     alloc: Global,
     encoding: &Encoder<N, S>,
     found: SearchResult<S>,
+    steps: Steps,
 ) -> R<Solved<N, S>>
     requires { IsProvable encoding.now found }
     // After an answer.
     ensures found { IfOk result (λ s. s.found ≡ found) }
-    ensures count { IfOk result (λ s. Counts s.found s.clause_count (length s.proof.items)) }
+    ensures count { IfOk result
+        (λ s. CountsBy steps s.found s.clause_count (length s.proof.items)) }
     ensures clause_count { IfOk result
         (λ s. s.clause_count ≡ length encoding.now.coding.search.clauses) }
     ensures deferred { IfOk result (λ s. s.deferred_count ≡ waiting_count encoding.now) }
-    ensures proof { IfOk result (λ s. Proves encoding.now.coding s.proof.items) }
-    ensures drawn { IfOk result
-        (λ s.
-        (same : S → S → Bool) (p : Packages N S)
-        → Spelled same p encoding.now.coding
-        → AreDrawn same p s.proof.items) }
-    ensures signs { IfOk result (λ s. HaveOneSigns s.proof.items) }
-    ensures places { IfOk result
-        (λ s.
-        (r : Registry N) (package_of : S → N)
-        → AreTied r encoding.now.coding
-        → AreNamedBy r encoding.now.coding package_of
-        → HaveOnePlace s.proof.items) }
-    ensures ends { IfOk result (λ s. EndsSo s.found s.proof.items) }
-    ensures clauses { IfOk result (λ s. HasSteps encoding.now.coding found s.proof.items) }
+    ensures steps { IfOk result (λ s. AreStepsOf encoding.now.coding found s.proof.items) }
 {
-    let proof = steps_of(alloc, &encoding.coding, &found)?;
+    let proof = wanted_steps(alloc, &encoding.coding, &found, steps)?;
     Ok(Solved {
         found,
         clause_count: encoding.coding.search.clauses.len(),
@@ -112,35 +144,39 @@ fn prove<N: Copy + Exact + Hash + Debug + Drop, S: Copy + Exact + Hash + Debug>(
     })
 }
 
-/// Searches over a new encoding, and writes the proof.
-fn solve_in<A: PackageSource, C: ScoreMap<A::NameId> + Drop>(
+/// Searches for solvables that keep the rules of a root with these requirements and constraints,
+/// and of each other. Then searches for the soft requirements, in their order, and writes the
+/// steps of the proof that are wanted. It stops with `Memory`, `Ids`, or the value of a
+/// cancellation.
+pub fn solve_with<A: PackageSource, C: ScoreMap<A::NameId> + Drop>(
     alloc: Global,
     answers: &mut A,
-    encoding: &mut Encoder<A::NameId, A::SolvableId>,
     activity: Activity,
     requirements: &[ConditionalRequirement],
     constraints: &[VersionSetId],
     softs: &[A::SolvableId],
+    steps: Steps,
 ) -> Result<Solved<A::NameId, A::SolvableId>, CacheFault<A::Cancel>>
-    requires { IsBegunEncoding encoding.old }
     // Whatever the answer.
     ensures same { answers.new ≡ answers.old }
     // After an answer.
     ensures solved { IfOk result
-        (SolvesFrom A.SolvableId.eq A.PackageSource answers.old
-        requirements.now constraints.now softs.now encoding.old) }
+        (SolvesProblem A.SolvableId.eq A.PackageSource answers.old
+        requirements.now constraints.now softs.now) }
     ensures once { IfOk result (λ s. AreChosenOnce s.found) }
     ensures alone { IfOk result
         (λ s. AskNothing requirements.now constraints.now softs.now → s.clause_count ≡ 1) }
     ensures ends { IfOk result (λ s. EndsSo s.found s.proof.items) }
-    ensures count { IfOk result (λ s. Counts s.found s.clause_count (length s.proof.items)) }
+    ensures count { IfOk result
+        (λ s. CountsBy steps s.found s.clause_count (length s.proof.items)) }
     // After a refusal.
     ensures cancelled { IfErr result (IsCancelledBy (A.may_cancel answers.old)) }
 {
+    let mut encoding = Encoder::begin(alloc)?;
     match search::<A, C>(
         alloc,
         answers,
-        encoding,
+        &mut encoding,
         activity,
         requirements,
         constraints,
@@ -148,16 +184,14 @@ fn solve_in<A: PackageSource, C: ScoreMap<A::NameId> + Drop>(
     ) {
         Ok(found) => {
             // `?` converts the error
-            let solved = prove(alloc, encoding, found)?;
+            let solved = prove(alloc, &encoding, found, steps)?;
             Ok(solved)
         }
         Err(fault) => Err(fault),
     }
 }
 
-/// Searches for solvables that keep the rules of a root with these requirements and constraints,
-/// and of each other. Then searches for the soft requirements, in their order, and writes the
-/// proof. It stops with `Memory`, `Ids`, or the value of a cancellation.
+/// The same, with all steps of the proof.
 pub fn solve<A: PackageSource, C: ScoreMap<A::NameId> + Drop>(
     alloc: Global,
     answers: &mut A,
@@ -180,14 +214,13 @@ pub fn solve<A: PackageSource, C: ScoreMap<A::NameId> + Drop>(
     // After a refusal.
     ensures cancelled { IfErr result (IsCancelledBy (A.may_cancel answers.old)) }
 {
-    let mut encoding = Encoder::begin(alloc)?;
-    solve_in::<A, C>(
+    solve_with::<A, C>(
         alloc,
         answers,
-        &mut encoding,
         activity,
         requirements,
         constraints,
         softs,
+        Steps::All,
     )
 }

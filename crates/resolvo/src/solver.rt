@@ -8,11 +8,11 @@ ghost use Rattle.resolvo_packages.specs.PackageSource.{packages_by, orders_by};
 ghost use Rattle.resolvo_state.specs.Keys.{AreOnce};
 ghost use Rattle.resolvo.specs.Solve.{AskNothing};
 ghost use Rattle.resolvo.specs.Conflicts.{Left, left_of};
-ghost use Rattle.resolvo.specs.Solver.{HoldsConflict, Kept, AnswersCandidates, IfEnded, IsStopped, Keeps, Leaves, root_of, stopped_by};
+ghost use Rattle.resolvo.specs.Solver.{HoldsConflict, Kept, AnswersCandidates, IfEnded, IsStopped, Keeps, Leaves, LeavesBy, root_of, stopped_by};
 
 use crate::conflict::{Conflict, KeptConflict, solve_to_conflict};
 use crate::problem::Problem;
-use crate::prove::Solved;
+use crate::prove::{Solved, Steps};
 use crate::search::SearchResult;
 use crate::turns::Turn;
 use resolvo_packages::cached_packages::CachedPackages;
@@ -278,6 +278,37 @@ impl<D: DependencyProvider> Solver<D> {
         // After a refusal.
         ensures cancelled { IsStopped (D.may_cancel self.old.provider) result }
     {
+        self.solve_with(problem, Steps::All)
+    }
+
+    /// The same, with the steps of the proof that are wanted: `Steps::Reasons` spares a search its
+    /// proof where it refuses nothing.
+    pub fn solve_with<I: Iterator<Item = D::SolvableId>>(
+        &mut self,
+        problem: Problem<D::SolvableId, I>,
+        steps: Steps,
+    ) -> Result<Vec<D::SolvableId>, UnsolvableOrCancelled<D::Cancel>>
+        requires softs { I.can_next problem.soft_requirements }
+        requires finite { IsFinite (I.remaining problem.soft_requirements) }
+        // What the call promises.
+        ensures provider { self.new.provider ≡ self.old.provider }
+        ensures answer { IfEnded result
+            ((softs : List D.SolvableId)
+            × WholeRun I.next_gives problem.soft_requirements (λ p. softs ≡ p.items)
+            × AnswersCandidates D.SolvableId.eq
+            (packages_by D.name_of_solvable D.name_of_version_set D.members_of
+            D.condition_of D.candidates_of D.matches D.dependencies_of self.old.provider)
+            (root_of problem)
+            (orders_by D.name_of_version_set D.members_of D.candidates_of D.matches D.sorts
+            D.SolvableId.eq self.old.provider)
+            softs result self.new
+            × (AskNothing problem.requirements.items problem.constraints.items softs
+            → self.new.clause_count ≡ 1)) }
+        ensures once { IfOk result (λ v. AreOnce v.items) }
+        ensures leaves { LeavesBy result steps self.new }
+        // After a refusal.
+        ensures cancelled { IsStopped (D.may_cancel self.old.provider) result }
+    {
         self.forget();
         let Problem {
             requirements,
@@ -296,6 +327,7 @@ impl<D: DependencyProvider> Solver<D> {
             requirements.as_slice(),
             constraints.as_slice(),
             softs.as_slice(),
+            steps,
         ) {
             Ok((solved, clauses, conflict)) => self.keep(solved, clauses, conflict),
             Err(fault) => Err(UnsolvableOrCancelled::from(fault)),

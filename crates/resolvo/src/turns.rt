@@ -1,11 +1,11 @@
 //! The turns of soft requirements, as a solver lists them, and the solvables that were chosen in
 //! them.
-ghost use Rattle.std.specs.Prelude.{◌≡◌, [], OnOk, IfOk};
+ghost use Rattle.std.specs.Prelude.{◌≡◌, true, [], OnOk, IfOk};
 ghost use Rattle.indexmap.specs.IndexSet.{insert_all};
 ghost use Rattle.resolvo_store_core.specs.AtMostOne.{IsPrefixOf};
 ghost use Rattle.resolvo_encoder.specs.Steps.{IsBuilt};
 ghost use Rattle.resolvo_turn.specs.Turn.{in_turn};
-ghost use Rattle.resolvo.specs.Turns.{Records, IsTurnRecord};
+ghost use Rattle.resolvo.specs.Turns.{AreAccepted, Records, IsTurnRecord};
 
 use crate::soft_requirements::SoftOutcome;
 use indexmap::IndexSet;
@@ -95,6 +95,18 @@ fn turn_of<S>(soft: S, begin: usize, end: usize, status: SoftOutcome) -> Turn<S>
         accepted,
         step,
     }
+}
+
+/// Whether each turn accepted its soft requirement.
+pub(crate) fn are_accepted<S>(turns: &[Turn<S>]) -> bool
+    ensures { result ≡ true → AreAccepted turns.now }
+{
+    for turn in turns {
+        if !turn.accepted {
+            return false;
+        }
+    }
+    true
 }
 
 /// Lists these after the others, in their order and each once.

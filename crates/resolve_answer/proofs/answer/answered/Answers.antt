@@ -46,21 +46,21 @@ pub returns-in-Ok-clause-report : goal.returns-in-Ok-clause-report
 returns-in-Ok-clause-report c =
     let catalogue = c.args.catalogue.now in
     let source = c.args.request.now in
-    let solver = c.solve.new.self in
+    let solver = c.solve_with.new.self in
     let old = c.args.solver.now.provider in
     let wishes = c.in_ok-wishes.wishes.items in
     let (free, whole, answers, alone) = c.in-Ok.ensures.answer in
     let free_is : free ≡ free_of wishes = c.problem_of.ensures.wishes free whole ∙ (c.in_ok-free.ensures.wishes ∙ ap free_of c.as_slice.ensures.value) in
     λ asks versions over asked. c.in_ok-installed-in-Ok.ensures asks
     (subst (λ (xs : List SolvableId). IsInstalledOver catalogue source solver.provider wishes xs solver.turns solver.proof) (sym c.as_slice-in-Ok.ensures.value)
-    (answer_installed catalogue source wishes c.args.asked same exact old solver asks c.in_ok-wishes.ensures.lines versions c.in_ok-wishes.ensures.wishes c.solve.ensures.provider over asked free free_is c.in-Ok.chosen
+    (answer_installed catalogue source wishes c.args.asked same exact old solver asks c.in_ok-wishes.ensures.lines versions c.in_ok-wishes.ensures.wishes c.solve_with.ensures.provider over asked free free_is c.in-Ok.chosen
     (subst (λ (root : Rules). IsAnswerUnder root free (Ok c.in-Ok.chosen) solver old) c.problem_of.ensures.root answers)))
 
 pub returns-in-Err-Unsolvable : goal.returns-in-Err-Unsolvable
 returns-in-Err-Unsolvable c =
     let catalogue = c.args.catalogue.now in
     let source = c.args.request.now in
-    let solver = c.solve.new.self in
+    let solver = c.solve_with.new.self in
     let old = c.args.solver.now.provider in
     let wishes = c.in_ok-wishes.wishes.items in
     let conflict = c.in-Err-Unsolvable.conflict in
@@ -69,7 +69,7 @@ returns-in-Err-Unsolvable c =
     let (count, ends, turnless, holds, listed) = subst (λ (e : UnsolvableOrCancelled GivenUp). IsLeftBy (Err e) solver) is c.in-Err-Unsolvable.ensures.leaves in
     let free_is : free ≡ free_of wishes = c.problem_of.ensures.wishes free whole ∙ (c.in_ok-free.ensures.wishes ∙ ap free_of c.as_slice.ensures.value) in
     let refuted : AreRequestLines catalogue source.lines → AreWishesAt catalogue source → IsOver catalogue old → AreAsked old.ids source c.args.asked → IsRefutedOver same catalogue source solver =
-    λ asks versions over asked. answer_refuted catalogue source wishes c.args.asked same exact old solver asks c.in_ok-wishes.ensures.lines versions c.in_ok-wishes.ensures.wishes c.solve.ensures.provider over asked free free_is conflict
+    λ asks versions over asked. answer_refuted catalogue source wishes c.args.asked same exact old solver asks c.in_ok-wishes.ensures.lines versions c.in_ok-wishes.ensures.wishes c.solve_with.ensures.provider over asked free free_is conflict
     (subst (λ (root : Rules). IsAnswerUnder root free (Err (Unsolvable conflict)) solver old) c.problem_of.ensures.root (subst (λ (e : UnsolvableOrCancelled GivenUp). IsAnswerUnder (asked_of c.problem_of.result) free (Err e) solver old) is answers)) ends in
     record {
       report = if_ok c.refused.result (λ r reports asks versions over asked. reports asks (refuted asks versions over asked)) c.refused.ensures.report;
