@@ -28,7 +28,8 @@ use Rattle.resolvo_pool_core.specs.Provider.{OperandsBelow}
 use Rattle.resolvo_intern.specs.Intern.{AreBelow}
 use Rattle.resolvo_catalogue_core.proofs.Pushed.{get_new, get_kept, get_push}
 use Rattle.resolvo_catalogue.specs.declared.id_table.Numbers.{Numbers}
-use Rattle.resolvo_catalogue.specs.Ids.{NameId, Extends, AreOnce, AreSeveral, IsPlaced}
+use Rattle.resolvo_catalogue_core.specs.Listed.{AreOnce}
+use Rattle.resolvo_catalogue.specs.Ids.{NameId, Extends, AreSeveral}
 use Rattle.resolvo_catalogue.specs.Known.{sound}
 use Rattle.resolvo_catalogue.specs.Found.{AreFound, AreKept, Key, key_eq, list_number_in, text_number_in, span_key, set_key, union_key, few_key, number_by, union_number, condition_key}
 
@@ -66,12 +67,6 @@ found_in_none f none = record { found = λ v i e. absurd (none-some i (sym (none
   where
     nowhere : {V : Type 0} (i : ℕ) (v : V) → slice_get [] i ≡ Some v → ⊥
     nowhere i v e = cc
-
-pub was_placed : {V : Type 0} (vs : List V) (v : V) (i : ℕ) → slice_get vs i ≡ Some v → IsPlaced vs vs i
-was_placed vs v i at = inl (slice_get_within vs i v at, refl)
-
-pub newly_placed : {V : Type 0} (vs : List V) (v : V) → IsPlaced vs (vs ++ v ∷ []) (length vs)
-newly_placed vs v = inr (refl, length-append vs (v ∷ []))
 
 pub extends_own : {V : Type 0} (vs : List V) → Extends vs vs
 extends_own vs k x e = e

@@ -16,7 +16,7 @@ use Rattle.resolvo_pool_core.specs.declared.condition.Condition.{Condition}
 use Rattle.resolvo_pool_core.specs.declared.condition.Condition.TheVariants.{Binary, Requirement}
 use Rattle.resolvo_pool_core.specs.declared.condition.LogicalOperator.TheVariants as joins
 use Rattle.resolvo_intern.specs.Intern.{AreBelow}
-use Rattle.resolvo_catalogue_core.specs.Hash.{mix, bytes_hash}
+use Rattle.resolvo_catalogue_core.specs.Hash.{mix, numbers_hash}
 use Rattle.resolvo_catalogue.specs.declared.id_table.Numbers.{Numbers}
 use Rattle.resolvo_catalogue.specs.Ids.{NameId, AreSeveral}
 
@@ -154,13 +154,17 @@ AreKeysFound m = AreIndexed key_eq key_hash (keys_of m.entries) m.slots (number_
 
 -- ---- texts
 
+-- a hash of a text
+unfoldable pub text_hash : List ℕ → ℕ
+text_hash text = numbers_hash text
+
 -- the number of a text among the entries of a sorted map
 abbrev pub text_number_in : List (String Global × ℕ) → List ℕ → Option ℕ
 text_number_in entries text = lookup (λ k. is_eq (slice_cmp nat_cmp text (string_bytes k))) entries
 
 -- The first so many texts are found.
 abbrev pub AreTextsFound : List (List ℕ) → List ℕ → List (String Global × ℕ) → ℕ → Type 0
-AreTextsFound texts slots others count = AreIndexed bytes_eq bytes_hash texts slots (text_number_in others) count
+AreTextsFound texts slots others count = AreIndexed bytes_eq text_hash texts slots (text_number_in others) count
 
 -- ---- keys
 

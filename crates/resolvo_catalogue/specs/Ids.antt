@@ -16,6 +16,8 @@ use Rattle.resolvo_pool_core.specs.declared.requirement.Requirement.TheVariants.
 use Rattle.resolvo_pool_core.specs.declared.requirement.ConditionalRequirement.{ConditionalRequirement}
 use Rattle.resolvo_catalogue.specs.declared.id_table.Numbers.{Numbers}
 use Rattle.resolvo_intern.specs.Intern.{AreBelow}
+use Rattle.resolvo_catalogue_core.specs.Listed.{AreOnce}
+use Rattle.resolvo_catalogue_core.specs.declared.versions.KeptVersion.{KeptVersion}
 use Rattle.std.specs.Global.{Vec}
 
 abbrev pub NameId : Type 0
@@ -96,14 +98,6 @@ pub record Interns (old new : Ids) : Type 0 where
   pub grows : Grows old new
   pub same : new.solvables ≡ old.solvables
 
--- The place was there, and there are as many now; or it is the end, and there is one more.
-abbrev pub IsPlaced : {X : Type 0} → List X → List X → ℕ → Type 0
-IsPlaced old new place = ((place < length old) × (length new ≡ length old)) ⊎ ((place ≡ length old) × (length new ≡ length old + 1))
-
--- No value has two ids.
-abbrev pub AreOnce : {X : Type 0} → List X → Type 0
-AreOnce {X} xs = (i j : ℕ) (x : X) → slice_get xs i ≡ Some x → slice_get xs j ≡ Some x → i ≡ j
-
 -- No list has one element alone.
 abbrev pub AreSeveral : {X : Type 0} → List (List X) → Type 0
 AreSeveral {X} lists = (k : ℕ) (x : X) → slice_get lists k ≡ Some (x ∷ []) → ⊥
@@ -127,6 +121,10 @@ pub record AreSound (ids : Ids) : Type 0 where
   pub several : AreSeveral ids.unions
 
 -- ---- the versions
+
+-- a version as a solvable, whose package has the place of its name as id
+abbrev pub solvable_by : KeptVersion → Solvable ℕ
+solvable_by v = record { version = v.number; name = record { raw = v.«package»; tag = record {} } }
 
 -- The solvable is this version.
 abbrev pub IsSolvable : Ids → Solvable ℕ → Version → Type 0

@@ -3,14 +3,16 @@
 //! each id. No choice of names or numbers makes it slow to find an id: hashes that collide are sorted.
 //! Filled by `versions`, `dependencies` and `candidate_flags`, read by `provider`.
 
-ghost use Rattle.std.specs.Prelude.{◌≡◌, ◌<◌, ◌≤◌, ◌+◌, ◌*◌, ◌++◌, ◌∷◌, [], if◌then◌else◌, ℕ, List, bytes_eq, IfOk, IsErrOf, OnOk, OnErr, length, slice_get, Some, None};
+ghost use Rattle.std.specs.Prelude.{◌≡◌, ◌<◌, ◌≤◌, ◌+◌, ◌*◌, ◌++◌, ◌∷◌, [], if◌then◌else◌, ℕ, List, bytes_eq, IfOk, IsErrOf, OnOk, OnErr, length, map, slice_get, Some, None};
 ghost use Rattle.std.specs.Option.{option_copied};
+ghost use Rattle.std.specs.String.{string_bytes};
 ghost use Rattle.resolvo_text.specs.View.{spec_of, specs_of, cond_of, condition_of};
 ghost use Rattle.resolvo_text.specs.Line.{Is};
 ghost use Rattle.resolvo_pool_core.specs.declared.condition.Condition.TheVariants.{Binary};
 ghost use Rattle.resolvo_pool_core.specs.Provider.{OperandsBelow};
 ghost use Rattle.resolvo_pool_core.specs.declared.want.Want.TheVariants.{Ids};
-ghost use Rattle.resolvo_catalogue.specs.Ids.{Interns, Grows, IsPlaced, AreSound, LacksNumber, IsPackage, IsWord, IsSpec, AreEach, AreAlternatives, IsCondition, IsConditionOf, IsNeed};
+ghost use Rattle.resolvo_catalogue_core.specs.Listed.{AreOnce};
+ghost use Rattle.resolvo_catalogue.specs.Ids.{Interns, Grows, AreSound, LacksNumber, IsPackage, IsWord, IsSpec, AreEach, AreAlternatives, IsCondition, IsConditionOf, IsNeed};
 ghost use Rattle.resolvo_catalogue.specs.IdCounts.{id_count, ids_for_condition, ids_for_need};
 ghost use Rattle.resolvo_catalogue.specs.Found.{Key, key_eq, list_number_in, set_key, union_key, few_key, condition_key, number_at};
 
@@ -147,10 +149,20 @@ impl IdTable {
         })
     }
 
+    /// Numbers the packages of these names, where none is numbered yet.
+    pub fn name_packages(&mut self, names: &[String]) -> Result<(), AllocError>
+        requires once { AreOnce (map string_bytes names.now) }
+        requires few { length names.now ≤ 4294967295 }
+        ensures names { OnOk result (self.new ≡ record self.old { names = map string_bytes names.now }) }
+        ensures same { OnErr result (self.new ≡ self.old) }
+    {
+        self.names = TextIds::of(self.alloc, names)?;
+        Ok(())
+    }
+
     /// The id of a package.
     pub fn package(&mut self, name: &str) -> R<NameId>
         ensures package { IfOk result (λ n. IsPackage self.new n name.now) }
-        ensures place { IfOk result (λ n. IsPlaced self.old.names self.new.names n.raw) }
         ensures interns { Interns self.old self.new }
         ensures few { id_count self.new ≤ id_count self.old + 1 }
         ensures ids { IsErrOf result Ids → LacksNumber self.new }
@@ -162,6 +174,7 @@ impl IdTable {
     pub fn version(&mut self, name: NameId, number: u32) -> R<SolvableId>
         // After an answer.
         ensures id { IfOk result (λ s. s.raw ≡ length self.old.solvables) }
+        ensures few { IfOk result (λ s. s.raw < 4294967295) }
         ensures added { OnOk result
             (self.new
             ≡ record self.old

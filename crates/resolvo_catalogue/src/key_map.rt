@@ -5,7 +5,7 @@ ghost use Rattle.std.specs.Prelude.{◌≡◌, ◌<◌, ◌≤◌, ◌+◌, [], 
 ghost use Rattle.resolvo_catalogue.specs.Ids.{AreOnce};
 ghost use Rattle.resolvo_catalogue.specs.Found.{Key, IsPut, AddsKey, AreKeysFound, key_eq, key_hash, keys_of, number_at, number_from, number_if, number_in, number_of_slot, or_later, place_from, slot_at, tries};
 
-use crate::slots::{Slots, TRIES, first_place};
+use crate::slots::{Slots, TRIES, first_place, places_for};
 use resolvo_catalogue_core::mixed;
 use std::alloc::{AllocError, Global};
 use std::collections::BTreeMap;
@@ -77,7 +77,7 @@ impl KeyMap {
     {
         Ok(KeyMap {
             entries: Vec::new(alloc),
-            index: KeyIndex::new(alloc, slot_count(room))?,
+            index: KeyIndex::new(alloc, places_for(room))?,
         })
     }
 
@@ -222,17 +222,6 @@ impl KeyIndex {
         self.others.insert(key, at)?;
         Ok(())
     }
-}
-
-/// A power of two, over twice the room where that is at most 2^31.
-fn slot_count(room: usize) -> usize {
-    let mut count: usize = 16;
-    for _ in 0..27 {
-        if count / 2 <= room {
-            count = count.saturating_mul(2);
-        }
-    }
-    count
 }
 
 /// An entry, if there is one.

@@ -7,12 +7,12 @@ ghost use Rattle.resolvo_pool_core.specs.declared.want.Want.TheVariants.{Ids};
 ghost use Rattle.std.specs.Option.{option_map};
 ghost use Rattle.std.specs.Str.{bytes_eq};
 ghost use Rattle.std.specs.String.{string_bytes};
-ghost use Rattle.resolvo_catalogue.specs.Ids.{Extends, IsPlaced, AreOnce};
-ghost use Rattle.resolvo_catalogue_core.specs.Hash.{bytes_hash};
-ghost use Rattle.resolvo_catalogue.specs.Found.{AreTextsFound, IsPut, number_from, number_if, number_of_slot, or_later, place_from, slot_at, text_number_in, tries};
+ghost use Rattle.resolvo_catalogue_core.specs.Listed.{AreOnce};
+ghost use Rattle.resolvo_catalogue.specs.Ids.{Extends};
+ghost use Rattle.resolvo_catalogue.specs.Found.{AreTextsFound, IsPut, number_from, number_if, number_of_slot, or_later, place_from, slot_at, text_number_in, tries, text_hash};
 
-use crate::slots::{Slots, TRIES, first_place};
-use resolvo_catalogue_core::hash_of;
+use crate::slots::{Slots, TRIES, first_place, places_for};
+use resolvo_catalogue_core::hash_of_all;
 use resolvo_pool_core::id::next_index;
 use resolvo_pool_core::want::R;
 use std::alloc::{AllocError, Global};
@@ -72,12 +72,26 @@ impl TextIds {
         })
     }
 
+    /// These texts by their places.
+    pub fn of(alloc: Global, texts: &[String]) -> Result<TextIds, AllocError>
+        requires once { AreOnce (map string_bytes texts.now) }
+        requires few { length texts.now ≤ 4294967295 }
+        ensures { IfOk result (λ t. t ≡ map string_bytes texts.now) }
+    {
+        let copies = copies_of(alloc, texts)?;
+        let index = TextIndex::of(alloc, texts, places_for(texts.len()))?;
+        Ok(TextIds {
+            texts: copies,
+            index,
+        })
+    }
+
     /// Numbers a text that has no number.
-    fn add(&mut self, alloc: Global, text: &str) -> R<u32>
+    fn add(&mut self, alloc: Global, text: &str, hash: usize) -> R<u32>
+        requires hash { hash ≡ text_hash text.now }
         requires absent { (i : ℕ) → slice_get self.old i ≡ Some text.now → ⊥ }
         // After an answer.
         ensures text { IfOk result (λ i. slice_get self.new i ≡ Some text.now) }
-        ensures place { IfOk result (λ i. IsPlaced self.old self.new i) }
         // Whatever the answer.
         ensures extends { Extends self.old self.new }
         ensures few { length self.new ≤ length self.old + 1 }
@@ -87,7 +101,7 @@ impl TextIds {
         let index = next_index(self.texts.len())?;
         let kept = String::from_str(alloc, text)?;
         self.texts.reserve(1)?;
-        self.index.put(alloc, text, index as u32)?;
+        self.index.put(alloc, text, hash, index as u32)?;
         self.texts.push_reserved(kept);
         Ok(index as u32)
     }
@@ -105,26 +119,27 @@ impl TextIds {
     /// The number of a text, a new one where it has none.
     pub fn intern(&mut self, alloc: Global, text: &str) -> R<u32>
         ensures text { IfOk result (λ i. slice_get self.new i ≡ Some text.now) }
-        ensures place { IfOk result (λ i. IsPlaced self.old self.new i) }
         ensures extends { Extends self.old self.new }
         ensures few { length self.new ≤ length self.old + 1 }
         ensures ids { IsErrOf result Ids → 4294967295 ≤ length self.new }
     {
-        match self.find(text) {
+        let hash = hash_of_text(text);
+        match self.find(text, hash) {
             Some(id) => Ok(id),
             None => {
                 self.make_room(alloc)?;
-                self.add(alloc, text)
+                self.add(alloc, text, hash)
             }
         }
     }
 
     /// The number of a text, if it has one.
-    fn find(&self, text: &str) -> Option<u32>
+    fn find(&self, text: &str, hash: usize) -> Option<u32>
+        requires { hash ≡ text_hash text.now }
         ensures found { IfSome result (λ i. slice_get self.now i ≡ Some text.now) }
         ensures absent { result ≡ None → (i : ℕ) → slice_get self.now i ≡ Some text.now → ⊥ }
     {
-        self.index.number(&self.texts, text)
+        self.index.number(&self.texts, text, hash)
     }
 
     /// The text of a number.
@@ -161,26 +176,28 @@ impl TextIndex {
     /// The places of texts.
     fn of(alloc: Global, texts: &[String], count: usize) -> Result<TextIndex, AllocError>
         requires once { AreOnce (map string_bytes texts.now) }
-        requires few { length texts.now < 4294967295 }
+        requires few { length texts.now ≤ 4294967295 }
         ensures { IfOk result
             (λ x. AreTextsFound (map string_bytes texts.now) x.slots.numbers.items x.others.entries
             (length (map string_bytes texts.now))) }
     {
         let mut index = TextIndex::new(alloc, count)?;
         for number in 0..texts.len() {
-            index.put(alloc, texts[number].as_str(), number as u32)?;
+            let text = texts[number].as_str();
+            index.put(alloc, text, hash_of_text(text), number as u32)?;
         }
         Ok(index)
     }
 
     /// The number of a text, if it has one.
-    fn number(&self, texts: &[String], text: &str) -> Option<u32>
+    fn number(&self, texts: &[String], text: &str, hash: usize) -> Option<u32>
+        requires { hash ≡ text_hash text.now }
         ensures { result
             ≡ number_from bytes_eq (map string_bytes texts.now) self.now.slots.numbers.items
             (text_number_in self.now.others.entries text.now) tries
-            (place_from (bytes_hash text.now)) text.now }
+            (place_from (text_hash text.now)) text.now }
     {
-        let first = first_place(hash_of(text.as_bytes()));
+        let first = first_place(hash);
         for tried in 0..TRIES {
             if self.slots.is_free(first + tried) {
                 return None;
@@ -210,22 +227,33 @@ impl TextIndex {
     }
 
     /// Puts the number of a text at its place.
-    fn put(&mut self, alloc: Global, text: &str, number: u32) -> Result<(), AllocError>
-        requires { number < 4294967295 }
+    fn put(&mut self, alloc: Global, text: &str, hash: usize, number: u32) -> Result<(), AllocError>
+        requires hash { hash ≡ text_hash text.now }
+        requires number { number < 4294967295 }
         ensures put { OnOk result
-            (IsPut bytes_eq text.now (bytes_hash text.now) number self.old.slots.numbers.items
+            (IsPut bytes_eq text.now (text_hash text.now) number self.old.slots.numbers.items
             self.new.slots.numbers.items (text_number_in self.old.others.entries)
             (text_number_in self.new.others.entries)) }
         ensures slots { OnErr result (self.new.slots ≡ self.old.slots) }
         ensures others { OnErr result (self.new.others.entries ≡ self.old.others.entries) }
     {
-        let placed = self.slots.put(hash_of(text.as_bytes()), number);
+        let placed = self.slots.put(hash, number);
         if placed {
             return Ok(());
         }
         self.others.insert(String::from_str(alloc, text)?, number)?;
         Ok(())
     }
+}
+
+fn copies_of(alloc: Global, texts: &[String]) -> Result<Vec<String>, AllocError>
+    ensures { IfOk result (λ copies. map string_bytes copies.items ≡ map string_bytes texts.now) }
+{
+    let mut copies = Vec::with_capacity(alloc, texts.len())?;
+    for text in texts {
+        copies.push(String::from_str(alloc, text.as_str())?)?;
+    }
+    Ok(copies)
 }
 
 /// Whether a text is that of a number.
@@ -238,4 +266,12 @@ fn is_text(texts: &[String], number: u32, text: &str) -> bool
         Some(found) => found.as_str() == text,
         None => false,
     }
+}
+
+/// A hash of a text.
+#[tactic(auto, unfolding(crate::specs::Found::text_hash))]
+fn hash_of_text(text: &str) -> usize
+    ensures { result ≡ text_hash text.now }
+{
+    hash_of_all(text.as_bytes())
 }

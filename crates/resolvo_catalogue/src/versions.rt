@@ -1,13 +1,11 @@
-//! The versions of a catalogue as solvables, in line order, and those of each package. The name of a
-//! package is interned once, not for each version.
+//! The versions of a catalogue as solvables, in line order, and those of each package. The packages
+//! are numbered as the catalogue has them.
 
-ghost use Rattle.std.specs.Prelude.{◌≡◌, ◌≤◌, ◌<◌, ◌+◌, ◌*◌, ◌++◌, ◌∷◌, ◌==◌, [], IfOk, IsErrOf, IsOkUnless, OnOk, List, Some, length, map, slice_get, string_bytes, true, if◌then◌else◌, ℕ};
-ghost use Rattle.std.specs.Global.{Global};
-ghost use Rattle.std.specs.declared.string.String.{String};
+ghost use Rattle.std.specs.Prelude.{◌≡◌, ◌≤◌, ◌<◌, ◌+◌, ◌*◌, ◌++◌, ◌∷◌, ◌==◌, [], IfOk, IsErrOf, IsOkUnless, OnOk, length, map, true, if◌then◌else◌, ℕ};
 ghost use Rattle.resolvo_pool_core.specs.declared.want.Want.TheVariants.{Ids, Memory};
-ghost use Rattle.resolvo_catalogue_core.specs.Listed.{are_kept, kept_versions};
+ghost use Rattle.resolvo_catalogue_core.specs.Listed.{are_kept};
 ghost use Rattle.resolvo_catalogue.specs.IdCounts.{id_count};
-ghost use Rattle.resolvo_catalogue.specs.Ids.{NameId, AreEach, AreVersions, AreByPackage, Interns, IsPackage, LacksNumber, list_at};
+ghost use Rattle.resolvo_catalogue.specs.Ids.{AreVersions, AreByPackage, LacksNumber, list_at, solvable_by};
 
 use crate::id_table::IdTable;
 use resolvo_catalogue_core::{KeptVersion, Versions};
@@ -32,26 +30,10 @@ pub fn list_versions(
     ensures ids { IsErrOf result Ids → LacksNumber ids.new }
 {
     let (names, kept) = versions.parts();
-    let packages = intern_names(alloc, ids, names)?;
     let mut lists = empty_lists(alloc, names.len())?;
-    list_kept(ids, &packages, kept, &mut lists)?;
+    list_kept(ids, kept, &mut lists)?;
+    ids.name_packages(names)?;
     Ok(lists)
-}
-
-/// The ids of packages, in order.
-fn intern_names(alloc: Global, ids: &mut IdTable, names: &[String]) -> R<Vec<NameId>>
-    ensures names { IfOk result
-        (λ packages. AreEach (IsPackage ids.new) packages.items (map string_bytes names.now)) }
-    ensures interns { Interns ids.old ids.new }
-    ensures count { IfOk result (λ _. length ids.new.names ≤ length ids.old.names + length names.now) }
-    ensures few { id_count ids.new ≤ id_count ids.old + length names.now }
-    ensures ids { IsErrOf result Ids → LacksNumber ids.new }
-{
-    let mut packages = Vec::with_capacity(alloc, names.len())?;
-    for name in names {
-        packages.push(ids.package(name.as_str())?)?;
-    }
-    Ok(packages)
 }
 
 /// So many empty lists.
@@ -67,24 +49,15 @@ fn empty_lists(alloc: Global, count: usize) -> R<Vec<Vec<SolvableId>>>
     Ok(lists)
 }
 
-/// Interns the versions, and appends each to those of its package. The packages have these ids.
-fn list_kept(
-    ids: &mut IdTable,
-    packages: &[NameId],
-    kept: &[KeptVersion],
-    lists: &mut Vec<Vec<SolvableId>>,
-) -> R<()>
-    requires kept { are_kept (length packages.now) kept.now ≡ true }
-    requires places { (k : ℕ) (name : NameId)
-        → slice_get packages.now k ≡ Some name
-        → name.raw < length lists.old.items }
+/// Interns the versions, and appends each to those of its package. Its package has the place of its
+/// name as id.
+fn list_kept(ids: &mut IdTable, kept: &[KeptVersion], lists: &mut Vec<Vec<SolvableId>>) -> R<()>
+    requires kept { are_kept (length lists.old.items) kept.now ≡ true }
     requires packages { AreByPackage ids.old lists.old.items }
     requires none { ids.old.solvables ≡ [] }
     // After an answer.
-    ensures versions { OnOk result
-        ((names : List (String Global))
-        → AreEach (IsPackage ids.old) packages.now (map string_bytes names)
-        → AreVersions ids.new (kept_versions names kept.now)) }
+    ensures solvables { OnOk result (ids.new ≡ record ids.old { solvables = map solvable_by kept.now }) }
+    ensures numbered { OnOk result (length kept.now ≤ 4294967295) }
     ensures packages { OnOk result (AreByPackage ids.new lists.new.items) }
     // Whatever the answer.
     ensures few { id_count ids.new ≤ id_count ids.old + length kept.now }
@@ -92,7 +65,7 @@ fn list_kept(
     ensures ids { IsErrOf result Ids → LacksNumber ids.new }
 {
     for version in kept {
-        let package = packages[version.package as usize];
+        let package = NameId::from_raw(version.package);
         let id = ids.version(package, version.number)?;
         add(lists, package, id)?;
     }

@@ -18,7 +18,7 @@ mod version_list;
 mod versions;
 
 pub use catalogue::Catalogue;
-pub use hash::{hash_of, mixed};
+pub use hash::{hash_of_all, mixed};
 pub use laws::{
     catalogue_has_no_fault, request_has_no_fault, text_is_one_catalogue, text_is_one_request,
 };

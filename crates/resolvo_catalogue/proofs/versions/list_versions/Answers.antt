@@ -1,20 +1,22 @@
-use Rattle.std.proofs.Common.{◌≡◌, ◌∙◌, ℕ, true, length, sym, ap, subst, arith}
-use Rattle.std.specs.Prelude.{Some, slice_get}
+use Rattle.std.proofs.Common.{◌≡◌, ◌∙◌, ℕ, List, true, length, map, sym, ap, subst}
 use Rattle.std.specs.String.{string_bytes}
-use Rattle.std.proofs.lemmas.List.{length-map}
-use Rattle.std.proofs.lemmas.Option.{slice_get_within}
-use Rattle.resolvo_catalogue_core.specs.Listed.{are_kept}
-use Rattle.resolvo_catalogue.specs.Ids.{IsPackage}
-use Rattle.resolvo_catalogue.proofs.Places.{each_left, each_length}
+use Rattle.resolvo_intern.specs.declared.pool.Solvable.{Solvable}
+use Rattle.resolvo_text.specs.Line.{Version}
+use Rattle.resolvo_catalogue_core.specs.Listed.{are_kept, kept_versions}
+use Rattle.resolvo_catalogue.specs.Ids.{Ids, AreEach, IsSolvable, solvable_by}
+use Rattle.resolvo_catalogue.proofs.ListLemmas.{versions_by}
 use Rattle.resolvo_catalogue.proofs.versions.list_versions.Goals as goal
 
 pub list_kept-requires-clause-kept : goal.list_kept-requires-clause-kept
 list_kept-requires-clause-kept c =
-    let count : length c.deref.result.now ≡ length c.parts.result.0.now = ap length c.deref.ensures.value ∙ each_length (IsPackage c.intern_names.new.ids) c.in_ok-packages.packages.items _ c.in_ok-packages.ensures.names ∙ length-map c.parts.result.0.now string_bytes in
-    subst (λ (n : ℕ). are_kept n c.parts.result.1.now ≡ true) (sym count) c.parts.ensures.kept
+    subst (λ (n : ℕ). are_kept n c.parts.result.1.now ≡ true) (sym c.in_ok-lists.ensures.count) c.parts.ensures.kept
 
-pub list_kept-requires-clause-places : goal.list_kept-requires-clause-places
-list_kept-requires-clause-places c = λ k name at.
-    let b = c.intern_names.new.ids in
-    let found = each_left (IsPackage b) c.in_ok-packages.packages.items _ c.in_ok-packages.ensures.names k name (subst (λ ns. slice_get ns k ≡ Some name) c.deref.ensures.value at) in
-    omega (arith, slice_get_within b.names name.raw found.0 found.2, c.in_ok-packages.ensures.count, ap length c.requires.names, c.in_ok-lists.ensures.count)
+pub returns-clause-versions : goal.returns-clause-versions
+returns-clause-versions c =
+    let names = c.parts.result.0.now in
+    let kept = c.parts.result.1.now in
+    let d = c.name_packages.new.self in
+    let named : d.names ≡ map string_bytes names = ap (λ (ids : Ids). ids.names) c.in_ok-name_packages.ensures.names in
+    let is : d.solvables ≡ map solvable_by kept = ap (λ (ids : Ids). ids.solvables) c.in_ok-name_packages.ensures.names ∙ ap (λ (ids : Ids). ids.solvables) c.in_ok-list_kept.ensures.solvables in
+    subst (λ (versions : List Version). AreEach (IsSolvable d) d.solvables versions) c.parts.ensures.versions
+    (subst (λ (solvables : List (Solvable ℕ)). AreEach (IsSolvable d) solvables (kept_versions names kept)) (sym is) (versions_by d names kept named c.parts.ensures.kept))

@@ -1,7 +1,7 @@
 use Rattle.std.proofs.Common.{List, map, sym, subst, Global}
 use Rattle.std.specs.String.{string_bytes}
 use Rattle.std.specs.declared.string.String.{String}
-use Rattle.resolvo_catalogue.specs.Ids.{AreOnce}
+use Rattle.resolvo_catalogue_core.specs.Listed.{AreOnce}
 use Rattle.resolvo_catalogue.proofs.IndexLemmas.{texts_once}
 use Rattle.resolvo_catalogue.proofs.text_ids.TextIds.make_room.Goals as goal
 

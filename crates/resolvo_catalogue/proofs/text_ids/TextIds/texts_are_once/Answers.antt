@@ -1,6 +1,6 @@
 use Rattle.std.proofs.Common.{ℕ, List, map, subst}
 use Rattle.std.specs.String.{string_bytes}
-use Rattle.resolvo_catalogue.specs.Ids.{AreOnce}
+use Rattle.resolvo_catalogue_core.specs.Listed.{AreOnce}
 use Rattle.resolvo_catalogue.proofs.IndexLemmas.{texts_once}
 use Rattle.resolvo_catalogue.proofs.text_ids.TextIds.texts_are_once.Goals as goal
 

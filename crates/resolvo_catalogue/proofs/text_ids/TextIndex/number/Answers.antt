@@ -1,15 +1,14 @@
 use Rattle.std.proofs.Common.{◌≡◌, ◌∙◌, Some, None, map, refl, ap, arith}
 use Rattle.std.specs.Str.{bytes_eq}
 use Rattle.std.specs.String.{string_bytes}
-use Rattle.resolvo_catalogue_core.specs.Hash.{bytes_hash}
-use Rattle.resolvo_catalogue.specs.Found.{place_from, text_number_in}
+use Rattle.resolvo_catalogue.specs.Found.{place_from, text_number_in, text_hash}
 use Rattle.resolvo_catalogue.proofs.IndexLemmas.{number_first, number_here, number_free, number_last}
 use Rattle.resolvo_catalogue.proofs.text_ids.TextIndex.number.Goals as goal
 
 pub loop-tried-init : goal.loop-tried-init
 loop-tried-init c =
-    let place : c.first_place-first.result ≡ place_from (bytes_hash c.args.text.now) = c.first_place-first.ensures.place ∙ ap place_from (c.hash_of.ensures ∙ ap bytes_hash c.as_bytes.ensures.value) in
-    number_first bytes_eq (map string_bytes c.args.texts.now) c.args.self.now.slots.numbers.items (text_number_in c.args.self.now.others.entries c.args.text.now) c.args.text.now c.first_place-first.result (bytes_hash c.args.text.now) place
+    let place : c.first_place-first.result ≡ place_from (text_hash c.args.text.now) = c.first_place-first.ensures.place ∙ ap place_from c.requires in
+    number_first bytes_eq (map string_bytes c.args.texts.now) c.args.self.now.slots.numbers.items (text_number_in c.args.self.now.others.entries c.args.text.now) c.args.text.now c.first_place-first.result (text_hash c.args.text.now) place
 
 pub returns-then-is_free : goal.returns-then-is_free
 returns-then-is_free c =
