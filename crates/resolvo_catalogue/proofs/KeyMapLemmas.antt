@@ -6,7 +6,7 @@ use Rattle.std.proofs.lemmas.Bool.{cases_Bool}
 use Rattle.std.proofs.lemmas.List.{length-map, map_push}
 use Rattle.std.proofs.lemmas.Option.{none-some, slice_get-map, slice_get_within}
 use Rattle.resolvo_catalogue_core.proofs.Pushed.{get_new, get_kept, get_push}
-use Rattle.resolvo_catalogue.specs.Ids.{AreOnce}
+use Rattle.resolvo_catalogue_core.specs.Listed.{AreOnce}
 use Rattle.resolvo_catalogue.specs.Found.{Key, KeyNumbers, AreIndexed, AreKeysFound, IsPut, key_eq, key_hash, keys_of, index_of, number_from, number_if, number_in, number_of_entry, number_at, place_from, tries}
 use Rattle.resolvo_catalogue.proofs.FoundLemmas.{keys_exact, keys_own}
 use Rattle.resolvo_catalogue.proofs.IndexLemmas.{index_none, index_more, index_push, indexed_once, indexed_found, indexed_absent}

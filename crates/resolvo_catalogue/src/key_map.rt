@@ -2,7 +2,7 @@
 //! have are in a sorted map. So no choice of keys makes that slow. Used by `id_table`.
 
 ghost use Rattle.std.specs.Prelude.{◌≡◌, ◌<◌, ◌≤◌, ◌+◌, [], ℕ, Option, length, IfOk, OnOk, OnErr, None, Some, slice_get, if◌then◌else◌};
-ghost use Rattle.resolvo_catalogue.specs.Ids.{AreOnce};
+ghost use Rattle.resolvo_catalogue_core.specs.Listed.{AreOnce};
 ghost use Rattle.resolvo_catalogue.specs.Found.{Key, IsPut, AddsKey, AreKeysFound, key_eq, key_hash, keys_of, number_at, number_from, number_if, number_in, number_of_slot, or_later, place_from, slot_at, tries};
 
 use crate::slots::{Slots, TRIES, first_place, places_for};

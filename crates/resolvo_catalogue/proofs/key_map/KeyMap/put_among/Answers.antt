@@ -1,5 +1,5 @@
 use Rattle.std.proofs.Common.{◌≡◌, ◌∙◌, ◌∷◌, ◌++◌, [], ℕ, List, Some, None, cond, length, sym, ap, subst, arith}
-use Rattle.resolvo_catalogue.specs.Ids.{AreOnce}
+use Rattle.resolvo_catalogue_core.specs.Listed.{AreOnce}
 use Rattle.resolvo_catalogue.specs.Found.{Key, AreKeysFound, KeyNumbers, key_eq, keys_of, number_at}
 use Rattle.resolvo_catalogue.proofs.KeyMapLemmas.{keys_once, more_found, more_added, same_number_at}
 use Rattle.resolvo_catalogue.proofs.key_map.KeyMap.put_among.Goals as goal
