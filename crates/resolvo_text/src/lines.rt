@@ -56,7 +56,7 @@ impl<T: Drop> From<AllocFailed<T>> for ReadFault {
 }
 
 /// How many bytes a device is asked for at once.
-const PIECE: usize = 65_536;
+const PIECE: usize = 16_384;
 
 /// Reads one line after the other, and buffers no more than one piece and one line.
 ///
