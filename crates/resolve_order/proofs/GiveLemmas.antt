@@ -29,7 +29,7 @@ use Rattle.resolve_order.specs.declared.entry.Answer.TheVariants as answer
 use Rattle.resolve_order.specs.declared.install_order.InstallOrder.{InstallOrder}
 use Rattle.resolve_order.proofs.Elements.{no_element, element_cases}
 use Rattle.resolve_order.proofs.LineLemmas.{first_lines, more_lines}
-use Rattle.resolve_order.proofs.OpenLemmas.{IsOfPackage, lines_added}
+use Rattle.resolve_order.proofs.OpenLemmas.{IsNumbered, lines_added}
 use Rattle.resolve_order.proofs.PickLemmas.{flag_means, members_more}
 
 pub no_entries : (catalogue request : List Line) (x : InstallOrder) (n : ℕ) → x.answers.items ≡ [] → x.lines.items ≡ lines_to n → n ≡ length request → ((i : ℕ) → contains nat_cmp x.open_lines.again i ≡ true → ⊥) → x.open_lines.below ≡ 0
@@ -78,8 +78,8 @@ listing_more catalogue request chosen seen before after e v numbers at more line
 -- ---- packages of what was added
 
 pub entry_package : (catalogue : List Line) (kept : Chosen) (chosen entries : Set) (n : VersionNo) (v : Version) (p : Option ℕ) → slice_get (listed catalogue) n.0 ≡ Some v → Contains chosen v → Holds catalogue kept chosen entries → p ≡ slice_get kept.packages.items n.0
-    → IsOfPackage (listed catalogue) p v
-entry_package catalogue kept chosen entries n v p at in_chosen h is = let has = h.packages n.0 v at in_chosen in (has.0, is ∙ has.1, has.2)
+    → IsNumbered (listed catalogue) n.0 p v
+entry_package catalogue kept chosen entries n v p at in_chosen h is = let has = h.packages n.0 v at in_chosen in (at, has.2 ∙ sym (is ∙ has.1))
 
 -- one of the versions that were chosen
 pub one_chosen : (versions : List Version) (numbers : List VersionNo) (i : ℕ) (d : VersionNo) (seen all : Set) → all ≡ seen ++ members versions numbers → i < length numbers → (w : Version) → Contains (members versions (get_or numbers i d ∷ [])) w → Contains all w
@@ -92,13 +92,13 @@ one_chosen versions numbers i d seen all is lt w c =
     parts = ap (members versions) (sym (take-append-drop (i + 1) numbers)) ∙ flat_map-append (λ (n : VersionNo). option_to_list (slice_get versions n.0)) (take (i + 1) numbers) (drop (i + 1) numbers)
 
 pub choice_packages : (catalogue : List Line) (kept : Chosen) (chosen all entries : Set) (n : VersionNo) (p : Option ℕ) → Holds catalogue kept all entries → ((w : Version) → Contains (members (listed catalogue) (n ∷ [])) w → Contains all w) → p ≡ slice_get kept.packages.items n.0
-    → (w : Version) → Contains (chosen ++ members (listed catalogue) (n ∷ [])) w → Contains chosen w ⊎ IsOfPackage (listed catalogue) p w
+    → (w : Version) → Contains (chosen ++ members (listed catalogue) (n ∷ [])) w → Contains chosen w ⊎ IsNumbered (listed catalogue) n.0 p w
 choice_packages catalogue kept chosen all entries n p h within is w c = elim (Contains-append_cases chosen (members (listed catalogue) (n ∷ [])) w c) [
   | inl old ↦ inl old
   | inr new ↦ inr (of (slice_get (listed catalogue) n.0) refl new)
 ]
   where
-    of : (o : Option Version) → slice_get (listed catalogue) n.0 ≡ o → Contains (option_to_list o ++ []) w → IsOfPackage (listed catalogue) p w
+    of : (o : Option Version) → slice_get (listed catalogue) n.0 ≡ o → Contains (option_to_list o ++ []) w → IsNumbered (listed catalogue) n.0 p w
     of None at here = absurd (no_element w here)
     of (Some v) at here = elim (element_cases v [] w here) [
       | inl same ↦ entry_package catalogue kept all entries n w p (at ∙ ap Some same) (within w (subst (λ (o : Option Version). Contains (option_to_list o ++ []) w) (sym at) here)) h is

@@ -2,13 +2,16 @@
 use Rattle.std.proofs.Common.{◌≡◌, ◌⊎◌, inl, inr, ℕ, zero, suc, ◌<◌, ◌||◌, ◌&&◌, Bool, true, false, List, [], ◌∷◌, ◌++◌, length, Option, Some, None, refl, sym, ap, subst, ◌∙◌, length-append, arith}
 use Rattle.std.specs.Prelude.{Contains, slice_get}
 use Rattle.std.specs.Global.{Vec}
-use Rattle.std.specs.BTreeSet.{BTreeSet}
-use Rattle.std.proofs.lemmas.Bool.{false≢true, cases_Bool, cases_lt, cases_eq}
+use Rattle.std.specs.BTreeSet.{BTreeSet, contains}
+use Rattle.std.specs.Ordering.{nat_cmp}
+use Rattle.std.proofs.lemmas.Bool.{false≢true, cases_Bool, cases_lt, cases_eq, eqb-true}
 use Rattle.std.proofs.lemmas.List.Elements.{Contains-append_left, Contains-append_right, Contains-push_cases}
 use Rattle.std.proofs.lemmas.List.Folds.{list_any-append}
 use Rattle.std.proofs.lemmas.Option.{slice_get-get_or, slice_get_within, get_or_from_slice_get}
 use Rattle.resolvo_text.specs.Line.{Version, Spec, Cond, Is, And, Or, Line}
-use Rattle.resolvo_text.specs.Matches.{Set, matches, is_met, holds, condition_holds}
+use Rattle.resolvo_text.specs.declared.spec.Span.{Span}
+use Rattle.resolvo_text.specs.declared.spec.Span.TheVariants.{Any, One, Range}
+use Rattle.resolvo_text.specs.Matches.{Set, matches, is_met, is_in_span, holds, condition_holds}
 use Rattle.resolvo_catalogue_core.specs.Answers as answers
 use Rattle.resolvo_catalogue_core.specs.Answers.{IsNeededBy}
 use Rattle.resolvo_catalogue_core.specs.Listed.{listed}
@@ -16,14 +19,15 @@ use Rattle.resolvo_catalogue_core.specs.declared.rule.VersionNo.{VersionNo}
 use Rattle.resolvo_catalogue_core.proofs.TableSteps.{numbered}
 use Rattle.resolve_order.specs.Order.{line_named, MayGive, Precedes, IsNext, IsComplete}
 use Rattle.resolve_order.specs.View.{reason_of}
-use Rattle.resolve_order.specs.Kept.{first_of, AreLines, IsLineState, is_kept, KeepsAll, IsKeptByNeeds, specs_in, specs_under, IsOpen, IsFirstOpen, AreWithin, Closes, Reopens, IsSpentLine, IsWaitingLine, OthersAreIdle, IsFound}
+use Rattle.resolve_order.specs.Kept.{first_of, AreLines, IsLineState, is_kept, KeepsAll, IsKeptByNeeds, specs_in, specs_under, IsOpen, IsFirstOpen, AreWithin, Closes, Reopens, IsVersionKey, IsKeyOf, IsKeptForAll, IsSpentLine, IsWaitingLine, OthersAreIdle, IsFound}
 use Rattle.resolve_order.specs.declared.chosen.LineState.TheVariants as state
 use Rattle.resolve_order.specs.declared.entry.Reason.{Reason}
 use Rattle.resolve_order.specs.declared.open_lines.OpenLines.{OpenLines}
 use Rattle.resolve_order.specs.declared.package_lines.PackageLines.{PackageLines}
 use Rattle.resolve_order.proofs.Elements.{no_element, first_element, any_element}
 use Rattle.resolve_order.proofs.LineLemmas.{ordered_at}
-use Rattle.resolve_order.proofs.PickLemmas.{name_matched}
+use Rattle.resolve_order.proofs.PackageLemmas.{has_first}
+use Rattle.resolve_order.proofs.PickLemmas.{name_matched, in_span, version_is}
 
 -- ---- a line that isn't open
 
@@ -174,42 +178,103 @@ lines_added catalogue request chosen entries lines more x h = record {
 
 -- ---- lines that are opened
 
--- A line is open, or it isn't kept for the package.
-opened_or : (before after : BTreeSet ℕ) (below : ℕ) (kept left : PackageLines) (p : Option ℕ) (i : ℕ) → Reopens before after below kept left p → IsOpen after below i ⊎ ((q : ℕ) → p ≡ Some q → is_kept kept q i ≡ true → ⊥)
-opened_or before after below kept left None i h = inr (λ q e k. cc)
-opened_or before after below kept left (Some p) i h = elim (cases_Bool (is_kept kept p i)) [
-  | inl t ↦ elim (cases_lt i below) [ inl less ↦ inl (inl (h.opened p i refl t less)) | inr ge ↦ inl (inr (omega (arith, ge))) ]
-  | inr f ↦ inr (λ q e k. let same : p ≡ q = cc in false≢true (sym f ∙ subst (λ (j : ℕ). is_kept kept j i ≡ true) (sym same) k))
+-- lines that are opened by one key and by another
+pub reopens_both : (before mid after : BTreeSet ℕ) (below n : ℕ) (p : Option ℕ) (q : ℕ) (kept some left : PackageLines) → Reopens before mid below kept some (λ k. n ≡ k) → Reopens mid after below some left (λ k. q ≡ k) → p ≡ Some q → Reopens before after below kept left (IsVersionKey n p)
+reopens_both before mid after below n p q kept some left one two is = record {
+  opened = opened;
+  stays = λ i c. two.stays i (one.stays i c);
+  within = λ i c. elim (two.within i c) [ inl old ↦ one.within i old | inr less ↦ inr less ];
+  others = λ k i none c. two.others k i (λ e. none (inr (is ∙ ap (λ (j : ℕ). let o : Option ℕ = Some j in o) e))) (one.others k i (λ e. none (inl e)) c);
+}
+  where
+    opened : (k i : ℕ) → IsVersionKey n p k → is_kept kept k i ≡ true → i < below → contains nat_cmp after i ≡ true
+    opened k i (inl e) c less = two.stays i (one.opened k i e c less)
+    opened k i (inr e) c less = elim (cases_eq n k) [
+      | inl same ↦ two.stays i (one.opened k i same c less)
+      | inr apart ↦ two.opened k i (let other : p ≡ Some k = e in cc) (one.others k i apart c) less
+    ]
+
+pub reopens_one : (before after : BTreeSet ℕ) (below n : ℕ) (p : Option ℕ) (kept left : PackageLines) → Reopens before after below kept left (λ k. n ≡ k) → p ≡ None → Reopens before after below kept left (IsVersionKey n p)
+reopens_one before after below n p kept left one is = record {
+  opened = opened;
+  stays = one.stays;
+  within = one.within;
+  others = λ k i none c. one.others k i (λ e. none (inl e)) c;
+}
+  where
+    opened : (k i : ℕ) → IsVersionKey n p k → is_kept kept k i ≡ true → i < below → contains nat_cmp after i ≡ true
+    opened k i (inl e) c less = one.opened k i e c less
+    opened k i (inr e) c less = absurd (let none = is in cc)
+
+-- A line is open, or it isn't kept by a key of the version.
+opened_or : (before after : BTreeSet ℕ) (below : ℕ) (kept left : PackageLines) (n : ℕ) (p : Option ℕ) (i : ℕ) → Reopens before after below kept left (IsVersionKey n p) → IsOpen after below i ⊎ ((k : ℕ) → IsVersionKey n p k → is_kept kept k i ≡ true → ⊥)
+opened_or before after below kept left n p i h = elim (by_key n (inl refl)) [
+  | inl opened ↦ inl opened
+  | inr none ↦ by_package p refl none
 ]
+  where
+    by_key : (k : ℕ) → IsVersionKey n p k → IsOpen after below i ⊎ (is_kept kept k i ≡ true → ⊥)
+    by_key k is = elim (cases_Bool (is_kept kept k i)) [
+      | inl t ↦ elim (cases_lt i below) [ inl less ↦ inl (inl (h.opened k i is t less)) | inr ge ↦ inl (inr ge) ]
+      | inr f ↦ inr (λ t. false≢true (sym f ∙ t))
+    ]
 
-still_open : (before after : BTreeSet ℕ) (below : ℕ) (kept left : PackageLines) (p : Option ℕ) (i : ℕ) → Reopens before after below kept left p → IsOpen before below i → IsOpen after below i
-still_open before after below kept left p i h (inl c) = inl (h.stays i c)
-still_open before after below kept left p i h (inr le) = inr le
+    by_package : (o : Option ℕ) → p ≡ o → (is_kept kept n i ≡ true → ⊥) → IsOpen after below i ⊎ ((k : ℕ) → IsVersionKey n p k → is_kept kept k i ≡ true → ⊥)
+    by_package None is none = inr keys
+      where
+        keys : (k : ℕ) → IsVersionKey n p k → is_kept kept k i ≡ true → ⊥
+        keys k (inl e) t = none (subst (λ (j : ℕ). is_kept kept j i ≡ true) (sym e) t)
+        keys k (inr e) t = let both = is in cc
+    by_package (Some q) is none = elim (by_key q (inr is)) [ inl opened ↦ inl opened | inr other ↦ inr (keys other) ]
+      where
+        keys : (is_kept kept q i ≡ true → ⊥) → (k : ℕ) → IsVersionKey n p k → is_kept kept k i ≡ true → ⊥
+        keys other k (inl e) t = none (subst (λ (j : ℕ). is_kept kept j i ≡ true) (sym e) t)
+        keys other k (inr e) t = other (subst (λ (j : ℕ). is_kept kept j i ≡ true) (sym (let both = is in let same : q ≡ k = cc in same)) t)
 
-still_within : (before after : BTreeSet ℕ) (below count : ℕ) (kept left : PackageLines) (p : Option ℕ) → Reopens before after below kept left p → AreWithin before below count → AreWithin after below count
-still_within before after below count kept left p h within = record { bound = within.bound; all = λ i c. elim (h.within i c) [ inl old ↦ within.all i old | inr less ↦ less ] }
+still_open : (before after : BTreeSet ℕ) (below : ℕ) (kept left : PackageLines) (n : ℕ) (p : Option ℕ) (i : ℕ) → Reopens before after below kept left (IsVersionKey n p) → IsOpen before below i → IsOpen after below i
+still_open before after below kept left n p i h (inl c) = inl (h.stays i c)
+still_open before after below kept left n p i h (inr le) = inr le
 
--- Packages of what was added are the one of which lines were opened.
-abbrev pub IsOfPackage : List Version → Option ℕ → Version → Type 0
-IsOfPackage versions p v = (q : ℕ) × (p ≡ Some q) × (first_of versions v.name ≡ Some q)
+still_within : (before after : BTreeSet ℕ) (below count : ℕ) (kept left : PackageLines) (n : ℕ) (p : Option ℕ) → Reopens before after below kept left (IsVersionKey n p) → AreWithin before below count → AreWithin after below count
+still_within before after below count kept left n p h within = record { bound = within.bound; all = λ i c. elim (h.within i c) [ inl old ↦ within.all i old | inr less ↦ less ] }
 
--- A line that isn't kept for the version's package names it nowhere.
-no_match : (versions : List Version) (kept : PackageLines) (p : Option ℕ) (i : ℕ) (v : Version) (ss : List Spec) → IsOfPackage versions p v → ((q : ℕ) → p ≡ Some q → is_kept kept q i ≡ true → ⊥)
-    → ((s : Spec) → Contains ss s → (q : ℕ) → first_of versions s.name ≡ Some q → is_kept kept q i ≡ true) → (s : Spec) → Contains ss s → matches s v ≡ false
-no_match versions kept p i v ss of none all s c = elim (cases_Bool (matches s v)) [
-  | inl t ↦ absurd (none of.0 of.1 (all s c of.0 (ap (λ (name : List ℕ). first_of versions name) (sym (name_matched s v t)) ∙ of.2)))
+-- The version has this number, and its package's first version has that one.
+abbrev pub IsNumbered : List Version → ℕ → Option ℕ → Version → Type 0
+IsNumbered versions n p v = (slice_get versions n ≡ Some v) × (first_of versions v.name ≡ p)
+
+-- A SPEC that matches the version has a key of it.
+key_matched : (versions : List Version) (n : ℕ) (p : Option ℕ) (v : Version) (s : Spec) → IsNumbered versions n p v → matches s v ≡ true → (k : ℕ) × IsVersionKey n p k × IsKeyOf versions s.name s.span k
+key_matched versions n p v s is m = by_span s.span (in_span s v m)
+  where
+    same_name : v.name ≡ s.name
+    same_name = name_matched s v m
+
+    by_first : (o : Option ℕ) → first_of versions v.name ≡ o → (k : ℕ) × IsVersionKey n p k × (first_of versions s.name ≡ Some k)
+    by_first None none = absurd (has_first versions n v is.0 none)
+    by_first (Some k) first = (k, inr (sym is.1 ∙ first), ap (λ (name : List ℕ). first_of versions name) (sym same_name) ∙ first)
+
+    by_span : (span : Span) → is_in_span span v.number ≡ true → (k : ℕ) × IsVersionKey n p k × IsKeyOf versions s.name span k
+    by_span Any h = by_first (first_of versions v.name) refl
+    by_span (Range low high) h = by_first (first_of versions v.name) refl
+    by_span (One number) h = (n, inl refl, is.0 ∙ ap (λ (w : Version). let o : Option Version = Some w in o) (version_is v (record { name = s.name; number = number }) same_name (eqb-true v.number number h)))
+
+-- A line that isn't kept by a key of the version doesn't match it.
+no_match : (versions : List Version) (kept : PackageLines) (n : ℕ) (p : Option ℕ) (i : ℕ) (v : Version) (ss : List Spec) → IsNumbered versions n p v → ((k : ℕ) → IsVersionKey n p k → is_kept kept k i ≡ true → ⊥) → IsKeptForAll versions kept i ss
+    → (s : Spec) → Contains ss s → matches s v ≡ false
+no_match versions kept n p i v ss is none all s c = elim (cases_Bool (matches s v)) [
+  | inl t ↦ absurd (let k = key_matched versions n p v s is t in none k.0 k.1 (all s c k.0 k.2))
   | inr f ↦ f
 ]
 
 -- ---- chosen versions
 
-pub choice_added : (catalogue request : List Line) (chosen wide entries : Set) (lines : List Reason) (x y : OpenLines) (p : Option ℕ) → ((w : Version) → Contains wide w → Contains chosen w ⊎ IsOfPackage (listed catalogue) p w) → Reopens x.again y.again x.below x.spent y.spent p
+pub choice_added : (catalogue request : List Line) (chosen wide entries : Set) (lines : List Reason) (x y : OpenLines) (n : ℕ) (p : Option ℕ) → ((w : Version) → Contains wide w → Contains chosen w ⊎ IsNumbered (listed catalogue) n p w) → Reopens x.again y.again x.below x.spent y.spent (IsVersionKey n p)
     → y.below ≡ x.below → y.waiting ≡ x.waiting → x.closed.items ≡ [] → OthersAreIdle catalogue request chosen entries lines x → OthersAreIdle catalogue request wide entries lines y
-choice_added catalogue request chosen wide entries lines x y p added reopens below waiting closed h = record {
-  within = subst (λ (n : ℕ). AreWithin y.again n (length lines)) (sym below) (still_within x.again y.again x.below (length lines) x.spent y.spent p reopens h.within);
+choice_added catalogue request chosen wide entries lines x y n p added reopens below waiting closed h = record {
+  within = subst (λ (n : ℕ). AreWithin y.again n (length lines)) (sym below) (still_within x.again y.again x.below (length lines) x.spent y.spent n p reopens h.within);
   each = λ i r at. elim (h.each i r at) [
-    | inl still ↦ inl (subst (λ (n : ℕ). IsOpen y.again n i) (sym below) (still_open x.again y.again x.below x.spent y.spent p i reopens still))
-    | inr (inl line) ↦ elim (opened_or x.again y.again x.below x.spent y.spent p i reopens) [
+    | inl still ↦ inl (subst (λ (n : ℕ). IsOpen y.again n i) (sym below) (still_open x.again y.again x.below x.spent y.spent n p i reopens still))
+    | inr (inl line) ↦ elim (opened_or x.again y.again x.below x.spent y.spent n p i reopens) [
       | inl opened ↦ inl (subst (λ (n : ℕ). IsOpen y.again n i) (sym below) opened)
       | inr none ↦ inr (inl (spent i (line_named catalogue request (reason_of (listed catalogue) r)) line none))
     ]
@@ -221,13 +286,13 @@ choice_added catalogue request chosen wide entries lines x y p added reopens bel
     kept i l (inl c) = absurd (no_element i (subst (λ (ns : List ℕ). Contains ns i) closed c))
     kept i l (inr k) = k
 
-    spent : (i : ℕ) (l : Option Line) → IsSpentLine (listed catalogue) chosen entries x.closed.items x.spent i l → ((q : ℕ) → p ≡ Some q → is_kept x.spent q i ≡ true → ⊥) → IsSpentLine (listed catalogue) wide entries y.closed.items y.spent i l
+    spent : (i : ℕ) (l : Option Line) → IsSpentLine (listed catalogue) chosen entries x.closed.items x.spent i l → ((k : ℕ) → IsVersionKey n p k → is_kept x.spent k i ≡ true → ⊥) → IsSpentLine (listed catalogue) wide entries y.closed.items y.spent i l
     spent i l line none = record {
       is_spent = λ ss c w e any in_wide. elim (added w in_wide) [
         | inl old ↦ line.is_spent ss c w e any old
         | inr of ↦
             let f = any_element (λ s. matches s w) ss any in
-            absurd (false≢true (sym (no_match (listed catalogue) x.spent p i w ss of none (kept i l line.kept ss c e) f.0 f.1) ∙ f.2))
+            absurd (false≢true (sym (no_match (listed catalogue) x.spent n p i w ss of none (kept i l line.kept ss c e) f.0 f.1) ∙ f.2))
       ];
       kept = inr (λ ss c e s at q is. let k = kept i l line.kept ss c e s at q is in reopens.others q i (λ same. none q same k) k);
     }
@@ -262,14 +327,14 @@ same_condition : (c : Option Cond) (v : Version) (entries : Set) → ((s : Spec)
 same_condition None v entries none = refl
 same_condition (Some c) v entries none = same_holds c v entries none
 
-pub entry_added : (catalogue request : List Line) (chosen entries : Set) (lines : List Reason) (x y : OpenLines) (p : Option ℕ) (v : Version) → IsOfPackage (listed catalogue) p v → Reopens x.again y.again x.below x.waiting y.waiting p
+pub entry_added : (catalogue request : List Line) (chosen entries : Set) (lines : List Reason) (x y : OpenLines) (n : ℕ) (p : Option ℕ) (v : Version) → IsNumbered (listed catalogue) n p v → Reopens x.again y.again x.below x.waiting y.waiting (IsVersionKey n p)
     → y.below ≡ x.below → y.closed ≡ x.closed → y.spent ≡ x.spent → OthersAreIdle catalogue request chosen entries lines x → OthersAreIdle catalogue request chosen (entries ++ v ∷ []) lines y
-entry_added catalogue request chosen entries lines x y p v of reopens below closed spent h = record {
-  within = subst (λ (n : ℕ). AreWithin y.again n (length lines)) (sym below) (still_within x.again y.again x.below (length lines) x.waiting y.waiting p reopens h.within);
+entry_added catalogue request chosen entries lines x y n p v of reopens below closed spent h = record {
+  within = subst (λ (n : ℕ). AreWithin y.again n (length lines)) (sym below) (still_within x.again y.again x.below (length lines) x.waiting y.waiting n p reopens h.within);
   each = λ i r at. elim (h.each i r at) [
-    | inl still ↦ inl (subst (λ (n : ℕ). IsOpen y.again n i) (sym below) (still_open x.again y.again x.below x.waiting y.waiting p i reopens still))
+    | inl still ↦ inl (subst (λ (n : ℕ). IsOpen y.again n i) (sym below) (still_open x.again y.again x.below x.waiting y.waiting n p i reopens still))
     | inr (inl line) ↦ inr (inl (record { is_spent = λ ss c w e any in_chosen. Contains-append_left entries (v ∷ []) w (line.is_spent ss c w e any in_chosen); kept = same_kept i (line_named catalogue request (reason_of (listed catalogue) r)) line.kept }))
-    | inr (inr line) ↦ elim (opened_or x.again y.again x.below x.waiting y.waiting p i reopens) [
+    | inr (inr line) ↦ elim (opened_or x.again y.again x.below x.waiting y.waiting n p i reopens) [
       | inl opened ↦ inl (subst (λ (n : ℕ). IsOpen y.again n i) (sym below) opened)
       | inr none ↦ inr (inr (waits i (line_named catalogue request (reason_of (listed catalogue) r)) line none))
     ]
@@ -280,8 +345,8 @@ entry_added catalogue request chosen entries lines x y p v of reopens below clos
     same_kept i l (inl c) = inl (subst (λ (ns : Vec ℕ). Contains ns.items i) (sym closed) c)
     same_kept i l (inr k) = inr (subst (λ (t : PackageLines). IsKeptByNeeds (listed catalogue) t i l) (sym spent) k)
 
-    waits : (i : ℕ) (l : Option Line) → IsWaitingLine (listed catalogue) entries x.waiting i l → ((q : ℕ) → p ≡ Some q → is_kept x.waiting q i ≡ true → ⊥) → IsWaitingLine (listed catalogue) (entries ++ v ∷ []) y.waiting i l
+    waits : (i : ℕ) (l : Option Line) → IsWaitingLine (listed catalogue) entries x.waiting i l → ((k : ℕ) → IsVersionKey n p k → is_kept x.waiting k i ≡ true → ⊥) → IsWaitingLine (listed catalogue) (entries ++ v ∷ []) y.waiting i l
     waits i l line none = record {
-      waits = λ ss c e. same_condition c v entries (no_match (listed catalogue) x.waiting p i v (specs_under c) of none (line.kept ss c e)) ∙ line.waits ss c e;
+      waits = λ ss c e. same_condition c v entries (no_match (listed catalogue) x.waiting n p i v (specs_under c) of none (line.kept ss c e)) ∙ line.waits ss c e;
       kept = λ ss c e s at q is. let k = line.kept ss c e s at q is in reopens.others q i (λ same. none q same k) k;
     }

@@ -247,7 +247,7 @@ none_left_entries catalogue kept chosen entries none h v c = elim (h.left v c) [
 pub name_matched : (s : Spec) (w : Version) → matches s w ≡ true → w.name ≡ s.name
 name_matched s w m = (bytes_eq-Decides w.name s.name).0 (and_parts (bytes_eq w.name s.name) (is_in_span s.span w.number) m).0
 
-in_span : (s : Spec) (w : Version) → matches s w ≡ true → is_in_span s.span w.number ≡ true
+pub in_span : (s : Spec) (w : Version) → matches s w ≡ true → is_in_span s.span w.number ≡ true
 in_span s w m = (and_parts (bytes_eq w.name s.name) (is_in_span s.span w.number) m).1
 
 match_from : (s : Spec) (w : Version) → w.name ≡ s.name → is_in_span s.span w.number ≡ true → matches s w ≡ true
@@ -256,7 +256,7 @@ match_from s w name span = and_from (bytes_eq w.name s.name) (is_in_span s.span 
 match_is : (versions : List Version) (s : Spec) (n : ℕ) (v : Version) (b : Bool) → slice_get versions n ≡ Some v → is_match versions s n ≡ b → matches s v ≡ b
 match_is versions s n v b at is = sym (ap (λ (o : Option Version). option_map_or (λ x. matches s x) o false) at) ∙ is
 
-version_is : (u v : Version) → u.name ≡ v.name → u.number ≡ v.number → u ≡ v
+pub version_is : (u v : Version) → u.name ≡ v.name → u.number ≡ v.number → u ≡ v
 version_is u v name number = (same_version_is u v).0 (and_from (bytes_eq u.name v.name) (u.number == v.number) ((bytes_eq-Decides u.name v.name).1 name) ((Decides-eqb u.number v.number).1 number))
 
 -- the numbers of a package that is known by its first version

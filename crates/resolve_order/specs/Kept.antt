@@ -8,6 +8,8 @@ use Rattle.std.specs.BTreeSet.{BTreeSet, btree_set_len, contains}
 use Rattle.std.specs.Ordering.{nat_cmp}
 use Rattle.std.specs.List.{list_any, sum_by}
 use Rattle.resolvo_text.specs.Line.{Version, Spec, Cond, Is, And, Or, Line, Needs, Favour}
+use Rattle.resolvo_text.specs.declared.spec.Span.{Span}
+use Rattle.resolvo_text.specs.declared.spec.Span.TheVariants.{Any, One, Range}
 use Rattle.resolvo_text.specs.Matches.{Set, is_member, matches, condition_holds}
 use Rattle.resolvo_catalogue_core.specs.Answers as answers
 use Rattle.resolvo_catalogue_core.specs.Answers.{entries_of, IsNeededBy}
@@ -170,24 +172,30 @@ answers_in catalogue x = answers_of (listed catalogue) x.answers.items
 abbrev pub entries_in : List Line → InstallOrder → Set
 entries_in catalogue x = entries_of (answers_in catalogue x)
 
--- ---- lines by packages
+-- ---- lines by versions
 
--- whether line i is among the lines of a package
+-- whether line i is among the lines of a key
 abbrev pub has_line : Option (BTreeSet ℕ) → ℕ → Bool
 has_line None i = false
 has_line (Some lines) i = contains nat_cmp lines i
 
--- whether line i is kept for package p
+-- whether line i is kept by key p
 abbrev pub is_kept : PackageLines → ℕ → ℕ → Bool
 is_kept t p i = has_line (get nat_cmp t.lines p) i
 
--- The line is kept for the package, if the catalogue lists it.
-abbrev pub IsKeptFor : List Version → PackageLines → ℕ → List ℕ → Type 0
-IsKeptFor versions t i name = (p : ℕ) → first_of versions name ≡ Some p → is_kept t p i ≡ true
+-- The key of a SPEC is the number of the one version that it may match, or else that of its package's first version.
+abbrev pub IsKeyOf : List Version → List ℕ → Span → ℕ → Type 0
+IsKeyOf versions name (One number) k = slice_get versions k ≡ Some (record { name = name; number = number })
+IsKeyOf versions name Any k = first_of versions name ≡ Some k
+IsKeyOf versions name (Range low high) k = first_of versions name ≡ Some k
 
--- the same of each package of the SPECs
+-- The line is kept by the key of the SPEC, if it has one.
+abbrev pub IsKeptFor : List Version → PackageLines → ℕ → Spec → Type 0
+IsKeptFor versions t i s = (k : ℕ) → IsKeyOf versions s.name s.span k → is_kept t k i ≡ true
+
+-- the same of each of the SPECs
 abbrev pub IsKeptForAll : List Version → PackageLines → ℕ → List Spec → Type 0
-IsKeptForAll versions t i specs = (s : Spec) → Contains specs s → IsKeptFor versions t i s.name
+IsKeptForAll versions t i specs = (s : Spec) → Contains specs s → IsKeptFor versions t i s
 
 -- The second keeps each line that the first keeps.
 abbrev pub KeepsAll : PackageLines → PackageLines → Type 0
@@ -223,7 +231,7 @@ pub record IsFirstOpen (again : BTreeSet ℕ) (below i : ℕ) : Type 0 where
 abbrev pub open_count : OpenLines → ℕ → ℕ
 open_count x count = btree_set_len x.again + (count - x.below)
 
--- Line i alone is closed, and no line is kept for fewer packages. Lines that were closed before still are.
+-- Line i alone is closed, and no line is kept by fewer keys. Lines that were closed before still are.
 pub record Closes (before after : OpenLines) (i : ℕ) : Type 0 where
   pub others : (j : ℕ) → (j ≡ i → ⊥) → IsOpen before.again before.below j → IsOpen after.again after.below j
   pub within : (count : ℕ) → i < count → AreWithin before.again before.below count → AreWithin after.again after.below count
@@ -232,28 +240,32 @@ pub record Closes (before after : OpenLines) (i : ℕ) : Type 0 where
   pub spent : KeepsAll before.spent after.spent
   pub waiting : KeepsAll before.waiting after.waiting
 
--- The lines before `below` that are kept for the package are opened. All others are open or kept as before.
-pub record Reopens (before after : BTreeSet ℕ) (below : ℕ) (kept left : PackageLines) (p : Option ℕ) : Type 0 where
-  pub opened : (q i : ℕ) → p ≡ Some q → is_kept kept q i ≡ true → i < below → contains nat_cmp after i ≡ true
+-- It is a key of a version with this number, in the package whose first version has this one.
+abbrev pub IsVersionKey : ℕ → Option ℕ → ℕ → Type 0
+IsVersionKey n p k = (n ≡ k) ⊎ (p ≡ Some k)
+
+-- The lines before `below` that are kept by such keys are opened. All others are open or kept as before.
+pub record Reopens (before after : BTreeSet ℕ) (below : ℕ) (kept left : PackageLines) (IsOpened : ℕ → Type 0) : Type 0 where
+  pub opened : (k i : ℕ) → IsOpened k → is_kept kept k i ≡ true → i < below → contains nat_cmp after i ≡ true
   pub stays : (i : ℕ) → contains nat_cmp before i ≡ true → contains nat_cmp after i ≡ true
   pub within : (i : ℕ) → contains nat_cmp after i ≡ true → (contains nat_cmp before i ≡ true) ⊎ (i < below)
-  pub others : (q i : ℕ) → (p ≡ Some q → ⊥) → is_kept kept q i ≡ true → is_kept left q i ≡ true
+  pub others : (k i : ℕ) → (IsOpened k → ⊥) → is_kept kept k i ≡ true → is_kept left k i ≡ true
 
--- The line is kept for the packages of its alternatives.
+-- The line is kept by the keys of its alternatives.
 abbrev pub IsKeptByNeeds : List Version → PackageLines → ℕ → Option Line → Type 0
 IsKeptByNeeds versions spent i line = (alternatives : List Spec) (condition : Option Cond) → line ≡ Some (Needs alternatives condition) → IsKeptForAll versions spent i alternatives
 
--- Each chosen match of the line is an entry. The line is kept for the packages of its alternatives, or is to be kept.
+-- Each chosen match of the line is an entry. The line is kept by the keys of its alternatives, or is to be kept.
 pub record IsSpentLine (versions : List Version) (chosen entries : Set) (closed : List ℕ) (spent : PackageLines) (i : ℕ) (line : Option Line) : Type 0 where
   pub is_spent : IsSpent chosen entries line
   pub kept : Contains closed i ⊎ IsKeptByNeeds versions spent i line
 
--- The line's condition doesn't hold, and the line is kept for the packages of its condition.
+-- The line's condition doesn't hold, and the line is kept by the keys of its condition.
 pub record IsWaitingLine (versions : List Version) (entries : Set) (waiting : PackageLines) (i : ℕ) (line : Option Line) : Type 0 where
   pub waits : IsWaiting entries line
   pub kept : (alternatives : List Spec) (condition : Option Cond) → line ≡ Some (Needs alternatives condition) → IsKeptForAll versions waiting i (specs_under condition)
 
--- Lines that aren't open give nothing, and are kept for the packages by which they may give a version.
+-- Lines that aren't open give nothing, and are kept by the keys of the versions by which they may give one.
 pub record OthersAreIdle (catalogue request : List Line) (chosen entries : Set) (lines : List Reason) (x : OpenLines) : Type 0 where
   pub within : AreWithin x.again x.below (length lines)
   pub each : (i : ℕ) (r : Reason) → slice_get lines i ≡ Some r → IsOpen x.again x.below i

@@ -95,7 +95,7 @@ impl InstallOrder {
         self.chosen.mark(catalogue, entry.version)?;
         self.answers.push(Answer::Entry(entry))?;
         self.open_lines
-            .open_waiting(self.chosen.kept_package(entry.version))?;
+            .open_waiting(entry.version, self.chosen.kept_package(entry.version))?;
         push_lines(
             &mut self.lines,
             entry.version,

@@ -1,10 +1,10 @@
 //! Which lines may give a version. All lines are in one list. A line that gives nothing is closed
-//! until there is one more version of a package that it names: a chosen one that an alternative
-//! may match, or an entry by which its condition may hold. Used by `install_order`.
+//! until there is one more version that it may name: a chosen one for its alternatives, or an entry
+//! for its condition. Used by `install_order`.
 //!
 //! So a line is looked at once, again after each version that it gives, and again for each such
 //! version. That is many times where many versions of a package that is marked `many` come one
-//! after the other, and many lines name it, or where a line has many alternatives.
+//! after the other, and a range of many lines names it, or where a line has many alternatives.
 
 ghost use Rattle.std.specs.Prelude.{◌≡◌, ℕ, ◌<◌, ◌^◌, ◌++◌, [], length, Contains, true, None, Some, List, Option, slice_get, IfOk, IfSome, OnOk};
 ghost use Rattle.std.specs.Option.{option_copied};
@@ -15,7 +15,7 @@ ghost use Rattle.resolvo_text.specs.Matches.{Set};
 ghost use Rattle.resolvo_catalogue_core.specs.Listed.{listed, members};
 ghost use Rattle.resolve_order.specs.Order.{line_named};
 ghost use Rattle.resolve_order.specs.View.{reason_of};
-ghost use Rattle.resolve_order.specs.Kept.{Holds, AreLines, IsRuleAt, IsKeptForAll, IsOpen, IsFirstOpen, AreWithin, Closes, Reopens, OthersAreIdle, IsFound, specs_under, is_unlisted};
+ghost use Rattle.resolve_order.specs.Kept.{Holds, AreLines, IsRuleAt, IsKeptForAll, IsOpen, IsFirstOpen, AreWithin, Closes, IsVersionKey, Reopens, OthersAreIdle, IsFound, specs_under, is_unlisted};
 
 use crate::chosen::{Chosen, LineState};
 use crate::entry::{Entry, Reason};
@@ -32,9 +32,9 @@ pub struct OpenLines {
     below: usize,
     /// Closed lines of which each chosen match is an entry.
     closed: Vec<usize>,
-    /// More of them, by the packages of their alternatives.
+    /// More of them, by the keys of their alternatives.
     spent: PackageLines,
-    /// Lines whose condition doesn't hold, by the packages of the condition.
+    /// Lines whose condition doesn't hold, by the keys of the condition.
     waiting: PackageLines,
 }
 
@@ -58,24 +58,40 @@ fn line_at(lines: &[Reason], place: usize) -> Option<Reason>
     lines.get(place).copied()
 }
 
-/// Opens the lines that are kept for the package, if there is one. Those from `below` on are open.
+/// Opens the lines that are kept by the key. Those from `below` on are open.
+fn reopen_by(
+    again: &mut BTreeSet<usize>,
+    below: usize,
+    kept: &mut PackageLines,
+    key: u32,
+) -> Result<(), AllocError>
+    ensures { OnOk result (Reopens again.old again.new below kept.old kept.new (λ k. key ≡ k)) }
+{
+    let mut lines = kept.take(key);
+    while let Some(line) = lines.pop_first() {
+        if line < below {
+            again.insert(line)?;
+        }
+    }
+    Ok(())
+}
+
+/// Opens the lines that are kept by a key of the version, whose package is this one.
 fn reopen(
     again: &mut BTreeSet<usize>,
     below: usize,
     kept: &mut PackageLines,
+    version: VersionNo,
     package: Option<u32>,
 ) -> Result<(), AllocError>
-    ensures { OnOk result (Reopens again.old again.new below kept.old kept.new «package») }
+    ensures { OnOk result
+        (Reopens again.old again.new below kept.old kept.new (IsVersionKey version.0 «package»)) }
 {
-    if let Some(package) = package {
-        let mut lines = kept.take(package);
-        while let Some(line) = lines.pop_first() {
-            if line < below {
-                again.insert(line)?;
-            }
-        }
+    reopen_by(again, below, kept, version.0)?;
+    match package {
+        Some(package) => reopen_by(again, below, kept, package),
+        None => Ok(()),
     }
-    Ok(())
 }
 
 impl OpenLines {
@@ -165,7 +181,7 @@ impl OpenLines {
         Ok(())
     }
 
-    /// Keeps the closed lines by the packages of their alternatives.
+    /// Keeps the closed lines by the keys of their alternatives.
     fn keep_closed(
         &mut self,
         catalogue: &Catalogue,
@@ -188,15 +204,22 @@ impl OpenLines {
     }
 
     /// Opens the spent lines that a chosen version of this package may match.
-    fn open_spent(&mut self, package: Option<u32>) -> Result<(), AllocError>
+    fn open_spent(&mut self, version: VersionNo, package: Option<u32>) -> Result<(), AllocError>
         ensures opened { OnOk result
             (Reopens self.old.again self.new.again self.old.below
-            self.old.spent self.new.spent «package») }
+            self.old.spent self.new.spent
+            (IsVersionKey version.0 «package»)) }
         ensures below { OnOk result (self.new.below ≡ self.old.below) }
         ensures closed { OnOk result (self.new.closed ≡ self.old.closed) }
         ensures waiting { OnOk result (self.new.waiting ≡ self.old.waiting) }
     {
-        reopen(&mut self.again, self.below, &mut self.spent, package)?;
+        reopen(
+            &mut self.again,
+            self.below,
+            &mut self.spent,
+            version,
+            package,
+        )?;
         Ok(())
     }
 
@@ -218,21 +241,32 @@ impl OpenLines {
     {
         self.keep_closed(catalogue, request, lines)?;
         for version in versions {
-            self.open_spent(chosen.kept_package(*version))?;
+            self.open_spent(*version, chosen.kept_package(*version))?;
         }
         Ok(())
     }
 
     /// Opens the waiting lines whose condition may hold by a new entry of this package.
-    pub fn open_waiting(&mut self, package: Option<u32>) -> Result<(), AllocError>
+    pub fn open_waiting(
+        &mut self,
+        version: VersionNo,
+        package: Option<u32>,
+    ) -> Result<(), AllocError>
         ensures opened { OnOk result
             (Reopens self.old.again self.new.again self.old.below
-            self.old.waiting self.new.waiting «package») }
+            self.old.waiting self.new.waiting
+            (IsVersionKey version.0 «package»)) }
         ensures below { OnOk result (self.new.below ≡ self.old.below) }
         ensures closed { OnOk result (self.new.closed ≡ self.old.closed) }
         ensures spent { OnOk result (self.new.spent ≡ self.old.spent) }
     {
-        reopen(&mut self.again, self.below, &mut self.waiting, package)?;
+        reopen(
+            &mut self.again,
+            self.below,
+            &mut self.waiting,
+            version,
+            package,
+        )?;
         Ok(())
     }
 

@@ -1,6 +1,6 @@
-//! Lines by packages: which ones may give a version once there is one more of a package. A line is
-//! known by its place in the list of all lines, a package by the number of its first version. Used
-//! by `open_lines`.
+//! Lines by versions: which ones may give a version once there is one more of these. A line is
+//! known by its place in the list of all lines. The key of a SPEC is the number of the one version
+//! that it may match, or else that of its package's first version. Used by `open_lines`.
 
 ghost use Rattle.std.specs.Prelude.{◌≡◌, ◌∷◌, [], ℕ, true, Some, OnOk, List, Option};
 ghost use Rattle.std.specs.Option.{option_copied};
@@ -9,18 +9,33 @@ ghost use Rattle.std.specs.Ordering.{nat_cmp};
 ghost use Rattle.resolvo_text.specs.Line as content;
 ghost use Rattle.resolvo_text.specs.View.{spec_of, specs_of, cond_of, condition_of};
 ghost use Rattle.resolvo_catalogue_core.specs.Listed.{listed};
-ghost use Rattle.resolve_order.specs.Kept.{is_kept, IsKeptFor, IsKeptForAll, KeepsAll, IsRuleAt, IsNeedRule, specs_in, specs_under};
+ghost use Rattle.resolve_order.specs.Kept.{is_kept, IsKeyOf, IsKeptFor, IsKeptForAll, KeepsAll, IsRuleAt, IsNeedRule, specs_in, specs_under};
 
 use crate::chosen::package_of;
-use resolvo_catalogue_core::{Catalogue, Cond, Rule, Spec};
+use resolvo_catalogue_core::{Catalogue, Cond, Rule, Span, Spec};
 use std::alloc::{AllocError, Global};
 use std::collections::{BTreeMap, BTreeSet};
 
 #[derive(Drop)]
 pub struct PackageLines {
     alloc: Global,
-    /// The lines of each package.
+    /// The lines of each key.
     lines: BTreeMap<u32, BTreeSet<usize>>,
+}
+
+/// The key of a SPEC, if the catalogue lists such a version.
+fn key_of(catalogue: &Catalogue, spec: &Spec) -> Option<u32>
+    ensures { (k : ℕ)
+        → IsKeyOf (listed catalogue.now) (spec_of spec.now).name (spec_of spec.now).span k
+        → result ≡ Some k }
+{
+    match spec.span {
+        Span::One(number) => match catalogue.find(spec.name.as_str(), number) {
+            Some(version) => Some(version.0),
+            None => None,
+        },
+        Span::Any | Span::Range(..) => package_of(catalogue, spec.name.as_str()),
+    }
 }
 
 impl PackageLines {
@@ -31,22 +46,22 @@ impl PackageLines {
         }
     }
 
-    /// Keeps the line for the package.
-    fn add(&mut self, package: u32, line: usize) -> Result<(), AllocError>
-        ensures added { OnOk result (is_kept self.new «package» line ≡ true) }
+    /// Keeps the line by the key.
+    fn add(&mut self, key: u32, line: usize) -> Result<(), AllocError>
+        ensures added { OnOk result (is_kept self.new key line ≡ true) }
         ensures kept { OnOk result (KeepsAll self.old self.new) }
     {
-        if let Some(lines) = self.lines.get_mut(&package) {
+        if let Some(lines) = self.lines.get_mut(&key) {
             lines.insert(line)?;
             return Ok(());
         }
         let mut lines = BTreeSet::new(self.alloc);
         lines.insert(line)?;
-        self.lines.insert(package, lines)?;
+        self.lines.insert(key, lines)?;
         Ok(())
     }
 
-    /// The same for the package of the SPEC, if the catalogue lists it.
+    /// The same by the key of the SPEC, if it has one.
     fn add_spec(
         &mut self,
         catalogue: &Catalogue,
@@ -54,16 +69,16 @@ impl PackageLines {
         line: usize,
     ) -> Result<(), AllocError>
         ensures added { OnOk result
-            (IsKeptFor (listed catalogue.now) self.new line (spec_of spec.now).name) }
+            (IsKeptFor (listed catalogue.now) self.new line (spec_of spec.now)) }
         ensures kept { OnOk result (KeepsAll self.old self.new) }
     {
-        match package_of(catalogue, spec.name.as_str()) {
-            Some(package) => self.add(package, line),
+        match key_of(catalogue, spec) {
+            Some(key) => self.add(key, line),
             None => Ok(()),
         }
     }
 
-    /// The same for the packages of the SPECs.
+    /// The same by the keys of the SPECs.
     fn add_specs(
         &mut self,
         catalogue: &Catalogue,
@@ -80,7 +95,7 @@ impl PackageLines {
         Ok(())
     }
 
-    /// The same for the packages of the condition.
+    /// The same by the keys of the condition.
     fn add_parts(
         &mut self,
         catalogue: &Catalogue,
@@ -118,7 +133,7 @@ impl PackageLines {
         }
     }
 
-    /// Keeps the line of a rule for the packages of its alternatives, if it is a need.
+    /// Keeps the line of a rule by the keys of its alternatives, if it is a need.
     fn add_needed(
         &mut self,
         catalogue: &Catalogue,
@@ -159,7 +174,7 @@ impl PackageLines {
         }
     }
 
-    /// Keeps the line of a rule for the packages of its condition, if it is a need.
+    /// Keeps the line of a rule by the keys of its condition, if it is a need.
     fn add_required(
         &mut self,
         catalogue: &Catalogue,
@@ -198,17 +213,15 @@ impl PackageLines {
         }
     }
 
-    /// Takes the lines of the package out.
-    pub fn take(&mut self, package: u32) -> BTreeSet<usize>
-        ensures taken { (i : ℕ)
-            → is_kept self.old «package» i ≡ true
-            → contains nat_cmp result i ≡ true }
-        ensures others { (p i : ℕ)
-            → (p ≡ «package» → ⊥)
-            → is_kept self.old p i ≡ true
-            → is_kept self.new p i ≡ true }
+    /// Takes the lines of the key out.
+    pub fn take(&mut self, key: u32) -> BTreeSet<usize>
+        ensures taken { (i : ℕ) → is_kept self.old key i ≡ true → contains nat_cmp result i ≡ true }
+        ensures others { (k i : ℕ)
+            → (k ≡ key → ⊥)
+            → is_kept self.old k i ≡ true
+            → is_kept self.new k i ≡ true }
     {
-        match self.lines.remove(&package) {
+        match self.lines.remove(&key) {
             Some(lines) => lines,
             None => BTreeSet::new(self.alloc),
         }

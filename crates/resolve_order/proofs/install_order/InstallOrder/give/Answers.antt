@@ -12,5 +12,5 @@ returns-clause-listing c = λ request chosen seen v at in_chosen h.
     let p = c.kept_package.result in
     let opened = c.in_ok-open_waiting.ensures in
     listing_more catalogue request chosen seen x _ c.args.entry v c.lines_of.result.now at c.in_ok-push.ensures.items c.in_ok-push_lines.ensures c.lines_of.ensures holds
-    (entry_added catalogue request seen (entries_in catalogue x) x.lines.items x.open_lines c.open_waiting.new.self p v (entry_package catalogue c.mark.new.self chosen _ n v p at in_chosen holds c.kept_package.ensures) opened.opened opened.below opened.closed opened.spent h.idle)
+    (entry_added catalogue request seen (entries_in catalogue x) x.lines.items x.open_lines c.open_waiting.new.self n.0 p v (entry_package catalogue c.mark.new.self chosen _ n v p at in_chosen holds c.kept_package.ensures) opened.opened opened.below opened.closed opened.spent h.idle)
     h

@@ -23,7 +23,7 @@ loop-version-preserved c = record {
       let more : seen ++ members vs (take (i + 1) numbers) ≡ before ++ members vs (item ∷ []) =
       ap (λ (set : Set). seen ++ set) (members_more vs numbers i (record { 0 = 0 }) c.loop-version-test.true) ∙ sym (append_assoc seen (members vs (take i numbers)) (members vs (item ∷ []))) in
       subst (λ (set : Set). OthersAreIdle catalogue request set entries lines c.open_spent.new.self) (sym more)
-      (choice_added catalogue request before (before ++ members vs (item ∷ [])) entries lines c.loop-version.self c.open_spent.new.self c.kept_package.result
+      (choice_added catalogue request before (before ++ members vs (item ∷ [])) entries lines c.loop-version.self c.open_spent.new.self item.0 c.kept_package.result
       (choice_packages catalogue c.args.chosen.now before all entries item c.kept_package.result holds (one_chosen vs numbers i (record { 0 = 0 }) seen all is c.loop-version-test.true) c.kept_package.ensures) c.in_ok-open_spent.ensures.opened
       c.in_ok-open_spent.ensures.below c.in_ok-open_spent.ensures.waiting c.loop-version.invariant.none (c.loop-version.invariant.idle seen all entries is holds h));
 }
