@@ -59,7 +59,10 @@ def hash_of_set(number):
 
 def hash_of_bytes(text, state=0):
     """The provider's hash of a text behind what a state is of; its lowest bits choose a place."""
-    for byte in text.encode():
+    whole = len(text) // 4 * 4
+    for at in range(0, whole, 4):
+        state = mixed(state, int.from_bytes(text[at:at + 4].encode(), "little"))
+    for byte in text[whole:].encode():
         state = mixed(state, byte)
     return state
 
