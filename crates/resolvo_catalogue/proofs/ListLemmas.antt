@@ -1,5 +1,5 @@
 -- The versions as solvables, one more.
-use Rattle.std.proofs.Common.{◌≡◌, ◌==◌, if◌then◌else◌, ◌+◌, ◌<◌, ◌≤◌, ℕ, zero, suc, Bool, true, false, List, [], ◌∷◌, ◌++◌, Some, map, length, refl, sym, ap, subst, ◌∙◌, arith}
+use Rattle.std.proofs.Common.{◌≡◌, ◌==◌, if◌then◌else◌, ◌+◌, ◌<◌, ℕ, zero, suc, Bool, true, false, List, [], ◌∷◌, ◌++◌, map, length, refl, sym, ap, subst, ◌∙◌, arith}
 use Rattle.std.specs.Prelude.{nat_lt, slice_get, slice_index_or, string_bytes}
 use Rattle.std.specs.Global.{Global, Vec}
 use Rattle.std.specs.declared.string.String.{String}
@@ -11,7 +11,7 @@ use Rattle.resolvo_text.specs.Line.{Version}
 use Rattle.resolvo_catalogue_core.specs.Listed.{name_at, kept_versions, is_kept, are_kept}
 use Rattle.resolvo_catalogue_core.specs.declared.versions.KeptVersion.{KeptVersion}
 use Rattle.resolvo_intern.specs.declared.pool.Solvable.{Solvable}
-use Rattle.resolvo_catalogue.specs.Ids.{Ids, NameId, SolvableId, solvable_id, solvable_by, AreEach, IsSolvable, Grows, list_at, places_from, solvables_of}
+use Rattle.resolvo_catalogue.specs.Ids.{Ids, SolvableId, solvable_id, solvable_by, AreEach, IsSolvable, Grows, list_at, places_from, solvables_of}
 use Rattle.resolvo_catalogue.proofs.GrowLemmas.{each_as}
 use Rattle.resolvo_catalogue.proofs.Places.{places_push}
 

@@ -1,5 +1,5 @@
 -- The ids of packages, SPECs, lists of alternatives, conditions and words, and the text of each id.
-use Rattle.std.specs.Prelude.{◌≡◌, ◌⊎◌, ◌<◌, ◌≤◌, ◌+◌, ℕ, suc, ◌==◌, if◌then◌else◌, ⊤, length, slice_index_or, Bool, List, [], ◌∷◌, map, Option, Some, None, slice_get}
+use Rattle.std.specs.Prelude.{◌≡◌, ◌≤◌, ℕ, suc, ◌==◌, if◌then◌else◌, ⊤, length, slice_index_or, Bool, List, [], ◌∷◌, map, Option, Some, None, slice_get}
 use Rattle.resolvo_text.specs.Line.{Version, Spec, Cond, Is, And, Or}
 use Rattle.resolvo_pool_core.specs.declared.id.DenseId.{DenseId}
 use Rattle.resolvo_pool_core.specs.declared.id.NameTag.{NameTag}
