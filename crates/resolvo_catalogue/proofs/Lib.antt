@@ -7,6 +7,7 @@ pub mod Places
 pub mod ListLemmas
 pub mod MarkLemmas
 pub mod CoverLemmas
+pub mod TableLemmas
 pub mod PassLemmas
 pub mod Elements
 pub mod Alike

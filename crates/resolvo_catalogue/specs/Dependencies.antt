@@ -18,6 +18,10 @@ pub record VersionDependencies : Type 0 where
 abbrev pub deps_of : code.VersionDependencies → VersionDependencies
 deps_of t = record { requirements = t.requirements.items; constrains = t.constrains.items; unknown = t.unknown }
 
+-- those of no lines
+abbrev pub no_lines : VersionDependencies
+no_lines = record { requirements = []; constrains = []; unknown = None }
+
 -- ---- the need, limit or reason of a line
 
 abbrev pub need_in : Line → List (List Spec × Option Cond)

@@ -2,6 +2,7 @@ pub mod Ids
 pub mod IdCounts
 pub mod Found
 pub mod Dependencies
+pub mod Tabled
 pub mod Marked
 pub mod Known
 pub mod Provider

@@ -9,7 +9,7 @@ use Rattle.resolvo_pool_core.specs.Provider.{Listing, Hint, none, all, Needs, kn
 use Rattle.resolvo_pool_core.specs.RuleKeeping.{Packages}
 use Rattle.resolvo_catalogue.specs.Ids.{Ids, NameId, SolvableId, solvables_of}
 use Rattle.resolvo_catalogue.specs.Known.{solvable_at, name_of, set_at, members_of, condition_at}
-use Rattle.resolvo_catalogue.specs.Dependencies.{VersionDependencies}
+use Rattle.resolvo_catalogue.specs.Dependencies.{VersionDependencies, no_lines}
 use Rattle.resolvo_catalogue.specs.declared.candidate_flags.CandidateFlags.{CandidateFlags}
 use Rattle.resolvo_catalogue.specs.declared.provider.Hint as hints
 use Rattle.resolvo_catalogue.specs.declared.provider.Hint.TheVariants as hint
@@ -79,9 +79,6 @@ candidates_of p n = listing_if_any p (solvables_of p.ids n.raw)
 abbrev pub needs_of : VersionDependencies → Option StringId → Needs
 needs_of deps (Some why) = unknown why
 needs_of deps None = known deps.requirements deps.constrains
-
-abbrev pub no_lines : VersionDependencies
-no_lines = record { requirements = []; constrains = []; unknown = None }
 
 abbrev pub deps_at : Provider → SolvableId → VersionDependencies
 deps_at p s = slice_index_or p.deps s.raw no_lines

@@ -8,11 +8,7 @@ use resolvo_catalogue_core::{Catalogue, Request, Rule};
 use resolvo_pool_core::id::{StringId, VersionSetId};
 use resolvo_pool_core::requirement::ConditionalRequirement;
 use resolvo_pool_core::want::R;
-use std::alloc::{AllocError, Global};
-
-/// Room is reserved for at most so many requirements before the lines are read, so a version of
-/// nothing but limits allocates little.
-const FEW: usize = 16;
+use std::alloc::Global;
 
 /// The requirements and constraints of lines, in their order.
 #[derive(Drop)]
@@ -28,29 +24,17 @@ impl VersionDependencies {
     ghost use Rattle.resolvo_catalogue_core.specs.Questions.{IsRuleLine};
     ghost use Rattle.resolvo_catalogue.specs.Ids.{Interns, LacksNumber};
     ghost use Rattle.resolvo_catalogue.specs.IdCounts.{id_count, ids_for_dependency, dependency_ids};
-    ghost use Rattle.resolvo_catalogue.specs.Dependencies.{AreDependenciesOf, deps_of, lines_at};
+    ghost use Rattle.resolvo_catalogue.specs.Dependencies.{AreDependenciesOf, deps_of, lines_at, no_lines};
 
-    fn new(alloc: Global) -> VersionDependencies
-        ensures { deps_of result ≡ record { requirements = []; constrains = []; unknown = None } }
+    /// Those of no lines.
+    pub fn new(alloc: Global) -> VersionDependencies
+        ensures { deps_of result ≡ no_lines }
     {
         VersionDependencies {
             requirements: Vec::new(alloc),
             constrains: Vec::new(alloc),
             unknown: None,
         }
-    }
-
-    /// No dependencies, with room for so many requirements.
-    fn with_room(alloc: Global, count: usize) -> Result<VersionDependencies, AllocError>
-        ensures { IfOk result
-            (λ deps.
-            deps_of deps ≡ record { requirements = []; constrains = []; unknown = None }) }
-    {
-        Ok(VersionDependencies {
-            requirements: Vec::with_capacity(alloc, count)?,
-            constrains: Vec::new(alloc),
-            unknown: None,
-        })
     }
 
     /// Adds the requirement or constraint of a rule. A lock and an exclusion add nothing.
@@ -86,27 +70,22 @@ impl VersionDependencies {
         Ok(())
     }
 
-    /// The requirements and constraints of these lines of a catalogue.
-    pub fn of_lines(
-        alloc: Global,
-        ids: &mut IdTable,
-        catalogue: &Catalogue,
-        lines: &[u32],
-    ) -> R<VersionDependencies>
-        ensures as_ids { IfOk result
-            (λ deps. AreDependenciesOf ids.new (lines_at catalogue.now lines.now) (deps_of deps)) }
+    /// Adds the requirements and constraints of these lines of a catalogue, where there are none.
+    pub fn add_lines(&mut self, ids: &mut IdTable, catalogue: &Catalogue, lines: &[u32]) -> R<()>
+        requires { deps_of self.old ≡ no_lines }
+        ensures as_ids { OnOk result
+            (AreDependenciesOf ids.new (lines_at catalogue.now lines.now) (deps_of self.new)) }
         ensures interns { Interns ids.old ids.new }
         ensures few { id_count ids.new
             ≤ id_count ids.old + sum_by ids_for_dependency (lines_at catalogue.now lines.now) }
         ensures ids { IsErrOf result Ids → LacksNumber ids.new }
     {
-        let mut deps = VersionDependencies::with_room(alloc, lines.len().min(FEW))?;
         for line in lines {
             if let Some(rule) = catalogue.rule(*line) {
-                deps.add(ids, rule)?;
+                self.add(ids, rule)?;
             }
         }
-        Ok(deps)
+        Ok(())
     }
 
     /// The requirements and constraints of a request.

@@ -190,17 +190,12 @@ impl DependencyProvider for CatalogueProvider {
     }
 
     fn get_dependencies(&self, alloc: Global, solvable: SolvableId) -> R<Dependencies> {
-        let Some(deps) = self.deps.get(solvable.to_index()) else {
-            return Ok(Dependencies::Known(KnownDependencies {
-                requirements: Vec::new(alloc),
-                constrains: Vec::new(alloc),
-            }));
-        };
-        match deps.unknown {
+        let place = solvable.to_index();
+        match self.deps.unknown(place) {
             Some(why) => Ok(Dependencies::Unknown(why)),
             None => Ok(Dependencies::Known(KnownDependencies {
-                requirements: Vec::from_slice(alloc, deps.requirements.as_slice())?,
-                constrains: Vec::from_slice(alloc, deps.constrains.as_slice())?,
+                requirements: Vec::from_slice(alloc, self.deps.requirements(place))?,
+                constrains: Vec::from_slice(alloc, self.deps.constrains(place))?,
             })),
         }
     }

@@ -4,6 +4,7 @@
 mod candidate_flags;
 mod dependencies;
 pub mod dependency_provider;
+mod dependency_table;
 mod id_table;
 mod key_map;
 pub mod provider;

@@ -8,11 +8,11 @@ ghost use Rattle.resolvo_catalogue.specs.declared.provider.Hint.{Hint};
 ghost use Rattle.resolvo_catalogue_core.specs.Listed.{listed};
 ghost use Rattle.resolvo_catalogue.specs.Ids.{AreByPackage, AreVersions, Interns, LacksNumber};
 ghost use Rattle.resolvo_catalogue.specs.IdCounts.{LacksNumberFor, id_count, ids_for_dependency, ids_for_line};
-ghost use Rattle.resolvo_catalogue.specs.Dependencies.{deps_of};
 ghost use Rattle.resolvo_catalogue.specs.Over.{AreDependencies, IsOver};
 
 use crate::candidate_flags::{CandidateFlags, many_of, marks_of};
 use crate::dependencies::VersionDependencies;
+use crate::dependency_table::DependencyTable;
 use crate::id_table::{IdTable, Room};
 use crate::versions::list_versions;
 use resolvo_catalogue_core::{Catalogue, Request, Rule, Spec, VersionNo};
@@ -35,7 +35,7 @@ pub struct CatalogueProvider {
     pub(crate) ids: IdTable,
     /// The versions of each package, by its id, in the order of their lines.
     pub(crate) packages: Vec<Vec<SolvableId>>,
-    pub(crate) deps: Vec<VersionDependencies>,
+    pub(crate) deps: DependencyTable,
     pub(crate) marks: Vec<CandidateFlags>,
     /// Of each version, whether its package is marked `many`.
     pub(crate) many: Vec<bool>,
@@ -62,8 +62,7 @@ impl Drop for CatalogueProvider {
 }
 
 impl Model for CatalogueProvider {
-    ghost use Rattle.std.specs.Prelude.{map, is_some};
-    ghost use Rattle.resolvo_catalogue.specs.Dependencies.{deps_of};
+    ghost use Rattle.std.specs.Prelude.{is_some};
     ghost use Rattle.resolvo_catalogue.specs.Ids.{AreByPackage};
     ghost use Rattle.resolvo_catalogue.specs.Provider.{Provider};
 
@@ -72,7 +71,7 @@ impl Model for CatalogueProvider {
     ghost view = { λ p.
         record {
           ids = p.ids;
-          deps = map deps_of p.deps.items;
+          deps = p.deps;
           marks = p.marks.items;
           many = p.many.items;
           hint = p.hint;
@@ -86,7 +85,7 @@ impl Model for CatalogueProvider {
 #[derive(Drop)]
 struct Tables {
     packages: Vec<Vec<SolvableId>>,
-    deps: Vec<VersionDependencies>,
+    deps: DependencyTable,
     marks: Vec<CandidateFlags>,
     many: Vec<bool>,
 }
@@ -290,7 +289,7 @@ fn tables_of(alloc: Global, ids: &mut IdTable, catalogue: &Catalogue) -> R<Table
         → IsOver catalogue.now
         (record {
           ids = ids.new;
-          deps = map deps_of t.deps.items;
+          deps = t.deps;
           marks = t.marks.items;
           many = t.many.items;
           hint = hint;
@@ -317,27 +316,25 @@ fn tables_of(alloc: Global, ids: &mut IdTable, catalogue: &Catalogue) -> R<Table
 }
 
 /// The dependencies of each version, by its number.
-fn deps_of_lines(
-    alloc: Global,
-    ids: &mut IdTable,
-    catalogue: &Catalogue,
-) -> R<Vec<VersionDependencies>>
-    ensures deps { IfOk result (λ deps. AreDependencies ids.new catalogue.now (map deps_of deps.items)) }
+fn deps_of_lines(alloc: Global, ids: &mut IdTable, catalogue: &Catalogue) -> R<DependencyTable>
+    ensures deps { IfOk result (λ table. AreDependencies ids.new catalogue.now table) }
     ensures interns { Interns ids.old ids.new }
     ensures few { id_count ids.new ≤ id_count ids.old + sum_by ids_for_dependency catalogue.now }
     ensures ids { IsErrOf result Ids
         → AreVersions ids.old (listed catalogue.now)
         → LacksNumber ids.new }
 {
-    let mut deps = Vec::new(alloc);
     let Ok(count) = u32::try_from(catalogue.versions().len()) else {
         return Err(Want::Ids);
     };
+    let mut table = DependencyTable::with_room(alloc, count as usize)?;
+    let mut deps = VersionDependencies::new(alloc);
     for number in 0..count {
         let lines = catalogue.lines_of(VersionNo(number));
-        deps.push(VersionDependencies::of_lines(alloc, ids, catalogue, lines)?)?;
+        deps.add_lines(ids, catalogue, lines)?;
+        table.push(&mut deps)?;
     }
-    Ok(deps)
+    Ok(table)
 }
 
 /// For how many ids there is room at first: for one version set a rule, and for the lists of
