@@ -30,7 +30,7 @@ returns-in-Ok-solve_to_conflict-clause-answer g c =
 pub returns-in-Ok-solve_to_conflict-clause-leaves : goal.returns-in-Ok-solve_to_conflict-clause-leaves
 returns-in-Ok-solve_to_conflict-clause-leaves g c =
     let none : c.self.inside.turns.items ≡ [] = ap (λ k. k.turns) c.self.view_is ∙ ap (λ k. k.turns) c.forget.ensures in
-    kept_leaves_by c.args.steps (record { provider = c.solve_to_conflict.new.answers; clause_count = c.self.inside.clause_count; deferred_count = c.self.inside.deferred_count; turns = c.self.inside.turns.items; proof = c.self.inside.proof.items; conflict = option_map left_of c.self.inside.conflict }) g.D.SolvableId.PartialEq.eq (packages_by g.D.Interner.name_of_solvable g.D.Interner.name_of_version_set g.D.Interner.members_of g.D.Interner.condition_of g.D.DependencyProvider.candidates_of g.D.DependencyProvider.matches g.D.DependencyProvider.dependencies_of c.self.inside.answers) (orders_by g.D.Interner.name_of_version_set g.D.Interner.members_of g.D.DependencyProvider.candidates_of g.D.DependencyProvider.matches g.D.DependencyProvider.sorts g.D.SolvableId.PartialEq.eq c.self.inside.answers) c.in-Ok-solve_to_conflict.solved c.in-Ok-solve_to_conflict.clauses c.in-Ok-solve_to_conflict.conflict c.keep.result c.keep.new.self none c.keep.ensures c.in-Ok-solve_to_conflict.ensures.left c.in-Ok-solve_to_conflict.ensures.ends c.in-Ok-solve_to_conflict.ensures.count
+    kept_leaves_by (record { provider = c.solve_to_conflict.new.answers; clause_count = c.self.inside.clause_count; deferred_count = c.self.inside.deferred_count; turns = c.self.inside.turns.items; proof = c.self.inside.proof.items; conflict = option_map left_of c.self.inside.conflict }) c.args.steps g.D.SolvableId.PartialEq.eq (packages_by g.D.Interner.name_of_solvable g.D.Interner.name_of_version_set g.D.Interner.members_of g.D.Interner.condition_of g.D.DependencyProvider.candidates_of g.D.DependencyProvider.matches g.D.DependencyProvider.dependencies_of c.self.inside.answers) (orders_by g.D.Interner.name_of_version_set g.D.Interner.members_of g.D.DependencyProvider.candidates_of g.D.DependencyProvider.matches g.D.DependencyProvider.sorts g.D.SolvableId.PartialEq.eq c.self.inside.answers) c.in-Ok-solve_to_conflict.solved c.in-Ok-solve_to_conflict.clauses c.in-Ok-solve_to_conflict.conflict c.keep.result c.keep.new.self none c.keep.ensures c.in-Ok-solve_to_conflict.ensures.left c.in-Ok-solve_to_conflict.ensures.ends c.in-Ok-solve_to_conflict.ensures.count
 
 pub returns-in-Ok-solve_to_conflict-clause-cancelled : goal.returns-in-Ok-solve_to_conflict-clause-cancelled
 returns-in-Ok-solve_to_conflict-clause-cancelled g c = kept_unstopped (record { provider = c.solve_to_conflict.new.answers; clause_count = c.self.inside.clause_count; deferred_count = c.self.inside.deferred_count; turns = c.self.inside.turns.items; proof = c.self.inside.proof.items; conflict = option_map left_of c.self.inside.conflict }) (g.D.DependencyProvider.may_cancel c.args.self.now.provider) c.in-Ok-solve_to_conflict.solved c.in-Ok-solve_to_conflict.clauses (option_map left_of c.in-Ok-solve_to_conflict.conflict) c.keep.result c.keep.new.self c.keep.ensures
