@@ -1,10 +1,8 @@
 -- Values that are each found at their places, with one more.
-use Rattle.std.proofs.Common.{Ordering, ◌≡◌, ℕ, zero, suc, Bool, true, false, cond, List, [], ◌∷◌, ◌++◌, map, length, Option, Some, None, refl, sym, ap, subst, ◌∙◌, inl, inr, arith}
+use Rattle.std.proofs.Common.{Ordering, ◌≡◌, ℕ, zero, suc, Bool, true, false, cond, List, [], ◌∷◌, ◌++◌, length, Option, Some, None, refl, sym, ap, subst, ◌∙◌, inl, inr, arith}
 use Rattle.std.specs.Prelude.{slice_get, slice_index_or, nat_lt, nat_eq, IfSome}
 use Rattle.std.specs.Option.{option_map_or}
-use Rattle.std.specs.Global.{Global, Vec}
-use Rattle.std.specs.String.{string_bytes}
-use Rattle.std.specs.declared.string.String.{String}
+use Rattle.std.specs.Global.{Vec}
 use Rattle.std.specs.Map.{lookup, KeepsOthers, IsKeyTest, AreApart}
 use Rattle.std.specs.Str.{bytes_eq}
 use Rattle.std.specs.BTreeMap.{BTreeMap, UpdatesBy, is_at}
@@ -15,7 +13,6 @@ use Rattle.std.proofs.lemmas.Bool.{cases_Bool, cond-true, cond-false}
 use Rattle.std.proofs.lemmas.Bool.Decides.{nat_tests}
 use Rattle.std.proofs.lemmas.Map.Text.{is_eq-slice_cmp}
 use Rattle.std.proofs.lemmas.Option.{none-some, same_Some}
-use Rattle.std.proofs.lemmas.List.{length-map, map_push}
 use Rattle.resolvo_text.specs.declared.spec.Span.{Span}
 use Rattle.resolvo_text.specs.declared.spec.Span.TheVariants.{Any, One, Range}
 use Rattle.resolvo_pool_core.specs.declared.id.VersionSetId.{VersionSetId}
@@ -31,7 +28,7 @@ use Rattle.resolvo_catalogue.specs.declared.id_table.Numbers.{Numbers}
 use Rattle.resolvo_catalogue_core.specs.Listed.{AreOnce}
 use Rattle.resolvo_catalogue.specs.Ids.{NameId, Extends, AreSeveral}
 use Rattle.resolvo_catalogue.specs.Known.{sound}
-use Rattle.resolvo_catalogue.specs.Found.{AreFound, AreKept, Key, key_eq, list_number_in, text_number_in, span_key, set_key, union_key, few_key, number_by, union_number, condition_key}
+use Rattle.resolvo_catalogue.specs.Found.{AreFound, AreKept, Key, key_eq, list_number_in, span_key, set_key, union_key, few_key, number_by, union_number, condition_key}
 
 -- ---- any values
 
@@ -94,54 +91,30 @@ module _ {V : Type 0} (vs news : List V) (v : V) (more : news ≡ vs ++ v ∷ []
   pub extends_to : Extends vs news
   extends_to k x e = rw more (get_kept vs v x k e)
 
--- ---- texts
+-- ---- by lists of numbers
 
-module _ (texts news : List (String Global)) (kept : String Global) (text : List ℕ) (is_kept : string_bytes kept ≡ text) (more : news ≡ texts ++ kept ∷ []) where
-  pub text_there : (index : ℕ) → index ≡ length texts → slice_get (map string_bytes news) index ≡ Some text
-  text_there index is =
-      let all : map string_bytes news ≡ map string_bytes texts ++ text ∷ [] = rw (more, ← is_kept) (map_push string_bytes texts kept) in
-      let place : index ≡ length (map string_bytes texts) = is ∙ sym (length-map texts string_bytes) in
-      rw (all, place) (get_new (map string_bytes texts) text)
+abbrev list_cmp : Vec ℕ → Vec ℕ → Ordering
+list_cmp x y = slice_cmp nat_cmp x.items y.items
 
-  pub texts_stay : Extends (map string_bytes texts) (map string_bytes news)
-  texts_stay k x e =
-      let all : map string_bytes news ≡ map string_bytes texts ++ text ∷ [] = rw (more, ← is_kept) (map_push string_bytes texts kept) in
-      rw all (get_kept (map string_bytes texts) text x k e)
+abbrev finds : List ℕ → Vec ℕ → Bool
+finds key = is_at (λ k. slice_cmp nat_cmp key k.items)
 
--- ---- by keys
+others : (key : List ℕ) (old new : List (Vec ℕ × ℕ)) → KeepsOthers (eq_by_cmp list_cmp) (finds key) old new → (other : Vec ℕ → Bool) → IsKeyTest (eq_by_cmp list_cmp) other → AreApart (finds key) other → lookup other new ≡ lookup other old
+unfolding KeepsOthers
+others key old new h = h
 
-module _ {K : Type 0} (items : K → List ℕ) where
-  abbrev key_cmp : K → K → Ordering
-  key_cmp x y = slice_cmp nat_cmp (items x) (items y)
+apart : (bs cs : List ℕ) (k : Vec ℕ) → bytes_eq bs cs ≡ false → finds bs k ≡ true → finds cs k ≡ false
+apart bs cs k n y =
+    let same : bytes_eq bs k.items ≡ true = sym (is_eq-slice_cmp bs k.items) ∙ y in
+    is_eq-slice_cmp cs k.items ∙ (nat_list_eq_equiv.symm cs k.items ∙ sym (nat_list_eq_equiv.congr bs k.items cs same) ∙ n)
 
-  abbrev finds : List ℕ → K → Bool
-  finds key = is_at (λ k. slice_cmp nat_cmp key (items k))
-
-  others : (key : List ℕ) (old new : List (K × ℕ)) → KeepsOthers (eq_by_cmp key_cmp) (finds key) old new → (other : K → Bool) → IsKeyTest (eq_by_cmp key_cmp) other → AreApart (finds key) other → lookup other new ≡ lookup other old
-  unfolding KeepsOthers
-  others key old new h = h
-
-  apart : (bs cs : List ℕ) (k : K) → bytes_eq bs cs ≡ false → finds bs k ≡ true → finds cs k ≡ false
-  apart bs cs k n y =
-      let same : bytes_eq bs (items k) ≡ true = sym (is_eq-slice_cmp bs (items k)) ∙ y in
-      is_eq-slice_cmp cs (items k) ∙ (nat_list_eq_equiv.symm cs (items k) ∙ sym (nat_list_eq_equiv.congr bs (items k) cs same) ∙ n)
-
-  -- the number of any key, after a number is put at a key
-  put_at : (m n : BTreeMap K ℕ) (key : List ℕ) (w : Option ℕ) → UpdatesBy key_cmp (λ k. slice_cmp nat_cmp key (items k)) m n w
-      → (other : List ℕ) → lookup (finds other) n.entries ≡ cond (bytes_eq key other) w (lookup (finds other) m.entries)
-  put_at m n key w h other = elim (cases_Bool (bytes_eq key other)) [
-    | inl y ↦ subst (λ (l : List ℕ). lookup (finds l) n.entries ≡ w) ((bytes_decides key other).0 y) h.1 ∙ sym (cond-true (bytes_eq key other) w (lookup (finds other) m.entries) y)
-    | inr y ↦ others key m.entries n.entries h.3 (finds other) (λ a b. (eq_by_cmp_equiv nat_list_cmp_total).congr other (items a) (items b)) (λ k. apart key other k y) ∙ sym (cond-false (bytes_eq key other) w (lookup (finds other) m.entries) y)
-  ]
-
-pub list_number_put : (m n : BTreeMap (Vec ℕ) ℕ) (key : List ℕ) (w : Option ℕ) → UpdatesBy (λ x y. slice_cmp nat_cmp x.items y.items) (λ k. slice_cmp nat_cmp key k.items) m n w
+-- the number of any list, after a number is put at one
+pub list_number_put : (m n : BTreeMap (Vec ℕ) ℕ) (key : List ℕ) (w : Option ℕ) → UpdatesBy list_cmp (λ k. slice_cmp nat_cmp key k.items) m n w
     → (other : List ℕ) → list_number_in n.entries other ≡ cond (bytes_eq key other) w (list_number_in m.entries other)
-list_number_put m n key w h other = put_at (λ k. k.items) m n key w h other
-
--- the number of any text, after a number is put at a text
-pub text_number_put : (m n : BTreeMap (String Global) ℕ) (key : List ℕ) (w : Option ℕ) → UpdatesBy (λ x y. slice_cmp nat_cmp (string_bytes x) (string_bytes y)) (λ k. slice_cmp nat_cmp key (string_bytes k)) m n w
-    → (other : List ℕ) → text_number_in n.entries other ≡ cond (bytes_eq key other) w (text_number_in m.entries other)
-text_number_put m n key w h other = put_at string_bytes m n key w h other
+list_number_put m n key w h other = elim (cases_Bool (bytes_eq key other)) [
+  | inl y ↦ subst (λ (l : List ℕ). lookup (finds l) n.entries ≡ w) ((bytes_decides key other).0 y) h.1 ∙ sym (cond-true (bytes_eq key other) w (lookup (finds other) m.entries) y)
+  | inr y ↦ others key m.entries n.entries h.3 (finds other) (λ a b. (eq_by_cmp_equiv nat_list_cmp_total).congr other a.items b.items) (λ k. apart key other k y) ∙ sym (cond-false (bytes_eq key other) w (lookup (finds other) m.entries) y)
+]
 
 -- keys of four numbers are equal when they compare so
 same_number : (x y : ℕ) → is_eq (nat_cmp x y) ≡ true → x ≡ y

@@ -4,15 +4,14 @@ use Rattle.std.specs.Prelude.{slice_get, slice_set, nat_eq, is_some, IfSome}
 use Rattle.std.proofs.lemmas.Bool.{cases_Bool, cases_lt}
 use Rattle.std.proofs.lemmas.Bool.Decides.{Decides-eqb}
 use Rattle.std.specs.Str.{bytes_eq}
-use Rattle.std.specs.Global.{Global}
-use Rattle.std.specs.declared.string.String.{String}
+use Rattle.std.specs.Global.{Vec}
 use Rattle.std.specs.Cmp.Lexicographic.{bytes_decides}
 use Rattle.std.proofs.lemmas.List.{length-append}
 use Rattle.std.proofs.lemmas.Option.{none-some, same_Some, slice_get_within}
 use Rattle.resolvo_catalogue_core.proofs.Pushed.{get_new, get_push, get_kept}
 use Rattle.resolvo_catalogue_core.specs.Listed.{AreOnce}
 use Rattle.resolvo_catalogue.specs.Ids.{Extends}
-use Rattle.resolvo_catalogue.specs.Found.{number_in_slot, or_later, place_among, place_from, slot_at, free_by, free_from, free_of, slots_after, tries, number_if, number_of_slot, number_from, AreIndexed, AreTextsFound, IsPut, text_number_in, text_hash}
+use Rattle.resolvo_catalogue.specs.Found.{number_in_slot, or_later, place_among, place_from, slot_at, free_by, free_from, free_of, slots_after, tries, number_if, number_of_slot, number_from, AreIndexed, AreTextsFound, IsPut, list_number_in, text_hash}
 use Rattle.resolvo_catalogue.proofs.Places.{set_at, set_others, set_length}
 
 true_false : true ≡ false → ⊥
@@ -335,30 +334,30 @@ text_own : (x : List ℕ) → bytes_eq x x ≡ true
 text_own x = (bytes_decides x x).1 refl
 
 pub texts_none : (texts : List (List ℕ)) (slots : List ℕ) → AreTextsFound texts slots [] 0
-texts_none texts slots = index_none bytes_eq text_exact text_own text_hash texts slots (text_number_in []) (λ v. refl)
+texts_none texts slots = index_none bytes_eq text_exact text_own text_hash texts slots (list_number_in []) (λ v. refl)
 
-module _ (texts : List (List ℕ)) (slots : List ℕ) (others : List (String Global × ℕ)) where
-  pub text_if : AreTextsFound texts slots others (length texts) → (text : List ℕ) (r : Option ℕ) → r ≡ number_from bytes_eq texts slots (text_number_in others text) tries (place_from (text_hash text)) text → IfSome r (λ i. slice_get texts i ≡ Some text)
-  text_if h text r is = indexed_if bytes_eq text_exact text_own text_hash texts slots (text_number_in others) (length texts) h text r is
+module _ (texts : List (List ℕ)) (slots : List ℕ) (others : List (Vec ℕ × ℕ)) where
+  pub text_if : AreTextsFound texts slots others (length texts) → (text : List ℕ) (r : Option ℕ) → r ≡ number_from bytes_eq texts slots (list_number_in others text) tries (place_from (text_hash text)) text → IfSome r (λ i. slice_get texts i ≡ Some text)
+  text_if h text r is = indexed_if bytes_eq text_exact text_own text_hash texts slots (list_number_in others) (length texts) h text r is
 
-  pub text_absent : AreTextsFound texts slots others (length texts) → (text : List ℕ) (r : Option ℕ) → r ≡ number_from bytes_eq texts slots (text_number_in others text) tries (place_from (text_hash text)) text → r ≡ None → (i : ℕ) → slice_get texts i ≡ Some text → ⊥
-  text_absent h text r is none i at = indexed_absent bytes_eq text_exact text_own text_hash texts slots (text_number_in others) h text (sym is ∙ none) i at
+  pub text_absent : AreTextsFound texts slots others (length texts) → (text : List ℕ) (r : Option ℕ) → r ≡ number_from bytes_eq texts slots (list_number_in others text) tries (place_from (text_hash text)) text → r ≡ None → (i : ℕ) → slice_get texts i ≡ Some text → ⊥
+  text_absent h text r is none i at = indexed_absent bytes_eq text_exact text_own text_hash texts slots (list_number_in others) h text (sym is ∙ none) i at
 
   pub texts_once : AreTextsFound texts slots others (length texts) → AreOnce texts
-  texts_once h = indexed_once bytes_eq text_exact text_own text_hash texts slots (text_number_in others) h
+  texts_once h = indexed_once bytes_eq text_exact text_own text_hash texts slots (list_number_in others) h
 
 -- where more than all of them are found, all are
-pub texts_all : (slots : List ℕ) (others : List (String Global × ℕ)) (texts : List (List ℕ)) (count : ℕ) → AreTextsFound texts slots others count → (count < length texts → ⊥) → AreTextsFound texts slots others (length texts)
+pub texts_all : (slots : List ℕ) (others : List (Vec ℕ × ℕ)) (texts : List (List ℕ)) (count : ℕ) → AreTextsFound texts slots others count → (count < length texts → ⊥) → AreTextsFound texts slots others (length texts)
 texts_all slots others texts count h past = record { right = h.right; all = λ v n less at. h.all v n (omega (arith, less, past)) at }
 
-module _ (slots slots' : List ℕ) (others others' : List (String Global × ℕ)) (text : List ℕ) where
+module _ (slots slots' : List ℕ) (others others' : List (Vec ℕ × ℕ)) (text : List ℕ) where
   -- one text more
   pub texts_more : (texts : List (List ℕ)) (index : ℕ) → index ≡ length texts → AreTextsFound texts slots others (length texts) → ((i : ℕ) → slice_get texts i ≡ Some text → ⊥)
-      → IsPut bytes_eq text (text_hash text) index slots slots' (text_number_in others) (text_number_in others') → AreTextsFound (texts ++ text ∷ []) slots' others' (length (texts ++ text ∷ []))
-  texts_more texts index is h absent put = index_push bytes_eq text_exact text_own text_hash texts slots slots' (text_number_in others) (text_number_in others') text index is h absent put
+      → IsPut bytes_eq text (text_hash text) index slots slots' (list_number_in others) (list_number_in others') → AreTextsFound (texts ++ text ∷ []) slots' others' (length (texts ++ text ∷ []))
+  texts_more texts index is h absent put = index_push bytes_eq text_exact text_own text_hash texts slots slots' (list_number_in others) (list_number_in others') text index is h absent put
 
   -- one of the texts more that are found
   pub texts_next : (texts : List (List ℕ)) (count : ℕ) → AreOnce texts → AreTextsFound texts slots others count → slice_get texts count ≡ Some text
-      → IsPut bytes_eq text (text_hash text) count slots slots' (text_number_in others) (text_number_in others') → AreTextsFound texts slots' others' (suc count)
+      → IsPut bytes_eq text (text_hash text) count slots slots' (list_number_in others) (list_number_in others') → AreTextsFound texts slots' others' (suc count)
   texts_next texts count once h at put =
-      index_more bytes_eq text_exact text_own text_hash texts texts slots slots' (text_number_in others) (text_number_in others') count h (λ k x e. e) text (λ m w e. inl e) at (λ m e. once m count text e at) put
+      index_more bytes_eq text_exact text_own text_hash texts texts slots slots' (list_number_in others) (list_number_in others') count h (λ k x e. e) text (λ m w e. inl e) at (λ m e. once m count text e at) put

@@ -1,4 +1,5 @@
 pub mod FoundLemmas
+pub mod TextLemmas
 pub mod IndexLemmas
 pub mod KeyMapLemmas
 pub mod GrowLemmas

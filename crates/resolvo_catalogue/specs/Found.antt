@@ -1,8 +1,6 @@
 -- Values that are each found at their places, by keys that are four numbers or lists of numbers, or by themselves.
 use Rattle.std.specs.Prelude.{◌≡◌, ◌∷◌, [], ◌%◌, ◌-◌, ◌<◌, if◌then◌else◌, ℕ, zero, suc, Bool, List, length, map, Option, Some, None, slice_get, slice_set, bit_and, is_some}
-use Rattle.std.specs.Global.{Global, Vec}
-use Rattle.std.specs.String.{string_bytes}
-use Rattle.std.specs.declared.string.String.{String}
+use Rattle.std.specs.Global.{Vec}
 use Rattle.std.specs.Str.{bytes_eq}
 use Rattle.std.specs.Option.{option_map}
 use Rattle.std.specs.Map.{lookup}
@@ -158,13 +156,9 @@ AreKeysFound m = AreIndexed key_eq key_hash (keys_of m.entries) m.slots (number_
 unfoldable pub text_hash : List ℕ → ℕ
 text_hash text = numbers_hash text
 
--- the number of a text among the entries of a sorted map
-abbrev pub text_number_in : List (String Global × ℕ) → List ℕ → Option ℕ
-text_number_in entries text = lookup (λ k. is_eq (slice_cmp nat_cmp text (string_bytes k))) entries
-
 -- The first so many texts are found.
-abbrev pub AreTextsFound : List (List ℕ) → List ℕ → List (String Global × ℕ) → ℕ → Type 0
-AreTextsFound texts slots others count = AreIndexed bytes_eq text_hash texts slots (text_number_in others) count
+abbrev pub AreTextsFound : List (List ℕ) → List ℕ → List (Vec ℕ × ℕ) → ℕ → Type 0
+AreTextsFound texts slots others count = AreIndexed bytes_eq text_hash texts slots (list_number_in others) count
 
 -- ---- keys
 

@@ -1,4 +1,5 @@
 pub mod Ids
+pub mod Texts
 pub mod IdCounts
 pub mod Found
 pub mod Dependencies

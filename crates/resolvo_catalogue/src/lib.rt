@@ -10,6 +10,7 @@ mod key_map;
 pub mod provider;
 mod slots;
 mod text_ids;
+mod text_list;
 mod versions;
 
 pub use dependency_provider::GivenUp;

@@ -9,12 +9,13 @@ ghost use Rattle.std.specs.Str.{bytes_eq};
 ghost use Rattle.std.specs.String.{string_bytes};
 ghost use Rattle.resolvo_catalogue_core.specs.Listed.{AreOnce};
 ghost use Rattle.resolvo_catalogue.specs.Ids.{Extends};
-ghost use Rattle.resolvo_catalogue.specs.Found.{AreTextsFound, IsPut, number_from, number_if, number_of_slot, or_later, place_from, slot_at, text_number_in, tries, text_hash};
+ghost use Rattle.resolvo_catalogue.specs.Found.{AreTextsFound, IsPut, number_from, number_if, number_of_slot, or_later, place_from, slot_at, list_number_in, tries, text_hash};
 
 use crate::slots::{Slots, TRIES, first_place, places_for};
+use crate::text_list::TextList;
 use resolvo_catalogue_core::hash_of_all;
 use resolvo_pool_core::id::next_index;
-use resolvo_pool_core::want::R;
+use resolvo_pool_core::want::{R, Want};
 use std::alloc::{AllocError, Global};
 use std::collections::BTreeMap;
 use std::marker::Model;
@@ -23,7 +24,7 @@ use std::marker::Model;
 struct TextIndex {
     slots: Slots,
     /// The numbers of the texts whose places others have.
-    others: BTreeMap<String, u32>,
+    others: BTreeMap<Vec<u8>, u32>,
 }
 
 // split for the prover: one drop for each
@@ -37,7 +38,7 @@ impl Drop for TextIndex {
 }
 
 pub struct TextIds {
-    texts: Vec<String>,
+    texts: TextList,
     index: TextIndex,
 }
 
@@ -49,17 +50,16 @@ impl Drop for TextIds {
 }
 
 impl Model for TextIds {
-    ghost use Rattle.std.specs.Prelude.{List, ℕ, map, length};
-    ghost use Rattle.std.specs.String.{string_bytes};
+    ghost use Rattle.std.specs.Prelude.{List, ℕ, length};
     ghost use Rattle.resolvo_catalogue.specs.Found.{AreTextsFound};
 
     ghost Value = { List (List ℕ) };
 
-    ghost view = { λ t. map string_bytes t.texts.items };
+    ghost view = { λ t. t.texts };
 
     ghost invariant = { λ t.
-        AreTextsFound (map string_bytes t.texts.items) t.index.slots.numbers.items
-        t.index.others.entries (length (map string_bytes t.texts.items)) };
+        AreTextsFound t.texts t.index.slots.numbers.items t.index.others.entries
+        (length t.texts) };
 }
 
 impl TextIds {
@@ -67,7 +67,7 @@ impl TextIds {
         ensures { IfOk result (λ t. t ≡ []) }
     {
         Ok(TextIds {
-            texts: Vec::new(alloc),
+            texts: TextList::new(alloc),
             index: TextIndex::new(alloc, 0)?,
         })
     }
@@ -78,12 +78,9 @@ impl TextIds {
         requires few { length texts.now ≤ 4294967295 }
         ensures { IfOk result (λ t. t ≡ map string_bytes texts.now) }
     {
-        let copies = copies_of(alloc, texts)?;
-        let index = TextIndex::of(alloc, texts, places_for(texts.len()))?;
-        Ok(TextIds {
-            texts: copies,
-            index,
-        })
+        let texts = TextList::of(alloc, texts)?;
+        let index = TextIndex::of(alloc, &texts, places_for(texts.len()))?;
+        Ok(TextIds { texts, index })
     }
 
     /// Numbers a text that has no number.
@@ -99,11 +96,14 @@ impl TextIds {
         ensures ids { IsErrOf result Ids → 4294967295 ≤ length self.new }
     {
         let index = next_index(self.texts.len())?;
-        let kept = String::from_str(alloc, text)?;
-        self.texts.reserve(1)?;
-        self.index.put(alloc, text, hash, index as u32)?;
-        self.texts.push_reserved(kept);
-        Ok(index as u32)
+        self.texts.push(text)?;
+        match self.index.put(alloc, text.as_bytes(), hash, index as u32) {
+            Ok(()) => Ok(index as u32),
+            Err(_) => {
+                self.texts.pop();
+                Err(Want::Memory)
+            }
+        }
     }
 
     /// Makes room for one text more, so that few texts share their places.
@@ -123,7 +123,7 @@ impl TextIds {
         ensures few { length self.new ≤ length self.old + 1 }
         ensures ids { IsErrOf result Ids → 4294967295 ≤ length self.new }
     {
-        let hash = hash_of_text(text);
+        let hash = hash_of_text(text.as_bytes());
         match self.find(text, hash) {
             Some(id) => Ok(id),
             None => {
@@ -139,17 +139,14 @@ impl TextIds {
         ensures found { IfSome result (λ i. slice_get self.now i ≡ Some text.now) }
         ensures absent { result ≡ None → (i : ℕ) → slice_get self.now i ≡ Some text.now → ⊥ }
     {
-        self.index.number(&self.texts, text, hash)
+        self.index.number(&self.texts, text.as_bytes(), hash)
     }
 
     /// The text of a number.
     pub fn text(&self, id: u32) -> Option<&str>
         ensures { option_map (λ t. t.now) result ≡ slice_get self.now id }
     {
-        match self.texts.get(id as usize) {
-            Some(text) => Some(text.as_str()),
-            None => None,
-        }
+        self.texts.text(id as usize)
     }
 
     /// A law of each table: no text has two numbers. It does nothing.
@@ -174,27 +171,27 @@ impl TextIndex {
     }
 
     /// The places of texts.
-    fn of(alloc: Global, texts: &[String], count: usize) -> Result<TextIndex, AllocError>
-        requires once { AreOnce (map string_bytes texts.now) }
+    fn of(alloc: Global, texts: &TextList, count: usize) -> Result<TextIndex, AllocError>
+        requires once { AreOnce texts.now }
         requires few { length texts.now ≤ 4294967295 }
         ensures { IfOk result
-            (λ x. AreTextsFound (map string_bytes texts.now) x.slots.numbers.items x.others.entries
-            (length (map string_bytes texts.now))) }
+            (λ x. AreTextsFound texts.now x.slots.numbers.items x.others.entries
+            (length texts.now)) }
     {
         let mut index = TextIndex::new(alloc, count)?;
         for number in 0..texts.len() {
-            let text = texts[number].as_str();
+            let text = texts.at(number);
             index.put(alloc, text, hash_of_text(text), number as u32)?;
         }
         Ok(index)
     }
 
     /// The number of a text, if it has one.
-    fn number(&self, texts: &[String], text: &str, hash: usize) -> Option<u32>
+    fn number(&self, texts: &TextList, text: &[u8], hash: usize) -> Option<u32>
         requires { hash ≡ text_hash text.now }
         ensures { result
-            ≡ number_from bytes_eq (map string_bytes texts.now) self.now.slots.numbers.items
-            (text_number_in self.now.others.entries text.now) tries
+            ≡ number_from bytes_eq texts.now self.now.slots.numbers.items
+            (list_number_in self.now.others.entries text.now) tries
             (place_from (text_hash text.now)) text.now }
     {
         let first = first_place(hash);
@@ -211,10 +208,10 @@ impl TextIndex {
 
     /// The number at a place that isn't free, if it is that of the text.
     #[tactic(auto, using(crate::proofs::IndexLemmas::slot_none, crate::proofs::IndexLemmas::slot_some))]
-    fn number_at(&self, texts: &[String], text: &str, place: usize) -> Option<u32>
+    fn number_at(&self, texts: &TextList, text: &[u8], place: usize) -> Option<u32>
         requires { slot_at self.now.slots.numbers.items place ≡ Some 0 → ⊥ }
         ensures { (later : Option ℕ)
-            → number_of_slot bytes_eq (map string_bytes texts.now)
+            → number_of_slot bytes_eq texts.now
             (slot_at self.now.slots.numbers.items place) later text.now
             ≡ or_later result later }
     {
@@ -227,13 +224,19 @@ impl TextIndex {
     }
 
     /// Puts the number of a text at its place.
-    fn put(&mut self, alloc: Global, text: &str, hash: usize, number: u32) -> Result<(), AllocError>
+    fn put(
+        &mut self,
+        alloc: Global,
+        text: &[u8],
+        hash: usize,
+        number: u32,
+    ) -> Result<(), AllocError>
         requires hash { hash ≡ text_hash text.now }
         requires number { number < 4294967295 }
         ensures put { OnOk result
             (IsPut bytes_eq text.now (text_hash text.now) number self.old.slots.numbers.items
-            self.new.slots.numbers.items (text_number_in self.old.others.entries)
-            (text_number_in self.new.others.entries)) }
+            self.new.slots.numbers.items (list_number_in self.old.others.entries)
+            (list_number_in self.new.others.entries)) }
         ensures slots { OnErr result (self.new.slots ≡ self.old.slots) }
         ensures others { OnErr result (self.new.others.entries ≡ self.old.others.entries) }
     {
@@ -241,37 +244,27 @@ impl TextIndex {
         if placed {
             return Ok(());
         }
-        self.others.insert(String::from_str(alloc, text)?, number)?;
+        self.others.insert(Vec::from_slice(alloc, text)?, number)?;
         Ok(())
     }
 }
 
-fn copies_of(alloc: Global, texts: &[String]) -> Result<Vec<String>, AllocError>
-    ensures { IfOk result (λ copies. map string_bytes copies.items ≡ map string_bytes texts.now) }
-{
-    let mut copies = Vec::with_capacity(alloc, texts.len())?;
-    for text in texts {
-        copies.push(String::from_str(alloc, text.as_str())?)?;
-    }
-    Ok(copies)
-}
-
 /// Whether a text is that of a number.
-fn is_text(texts: &[String], number: u32, text: &str) -> bool
+fn is_text(texts: &TextList, number: u32, text: &[u8]) -> bool
     ensures { (later : Option ℕ)
-        → number_if bytes_eq (slice_get (map string_bytes texts.now) number) number later text.now
+        → number_if bytes_eq (slice_get texts.now number) number later text.now
         ≡ (if result then Some number else later) }
 {
-    match texts.get(number as usize) {
-        Some(found) => found.as_str() == text,
+    match texts.bytes_of(number as usize) {
+        Some(found) => found == text,
         None => false,
     }
 }
 
 /// A hash of a text.
 #[tactic(auto, unfolding(crate::specs::Found::text_hash))]
-fn hash_of_text(text: &str) -> usize
+fn hash_of_text(text: &[u8]) -> usize
     ensures { result ≡ text_hash text.now }
 {
-    hash_of_all(text.as_bytes())
+    hash_of_all(text)
 }

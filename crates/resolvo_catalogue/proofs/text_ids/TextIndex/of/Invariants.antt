@@ -1,7 +1,5 @@
-use Rattle.std.proofs.Common.{map}
-use Rattle.std.specs.String.{string_bytes}
 use Rattle.resolvo_catalogue.specs.Found.{AreTextsFound}
 use Rattle.resolvo_catalogue.proofs.text_ids.TextIndex.of.Given as goal
 
 abbrev pub invariant-loop-number : goal.invariant-loop-number
-invariant-loop-number l = AreTextsFound (map string_bytes l.texts) l.index.slots.numbers.items l.index.others.entries l.number
+invariant-loop-number l = AreTextsFound l.texts l.index.slots.numbers.items l.index.others.entries l.number
