@@ -38,8 +38,8 @@ use Rattle.resolvo_proof.specs.Drawn.{AreDrawn}
 use Rattle.resolvo_proof.specs.Trimmed.{IsTrimmedTo, IsRenumbered}
 use Rattle.resolvo_catalogue.specs.Ids.{NameId, SolvableId, AreEach, IsNeed, IsSpec, IsPackage}
 use Rattle.resolvo_catalogue.specs.Known.{name_of, name_text, set_at, spec_at, members_of, condition_at}
-use Rattle.resolvo_catalogue.specs.Dependencies.{VersionDependencies, need_in, limit_in, lines_at}
-use Rattle.resolvo_catalogue.specs.Provider.{Provider, packages_of, candidates_of, dependencies_of, matches, deps_at, no_lines}
+use Rattle.resolvo_catalogue.specs.Dependencies.{VersionDependencies, need_in, limit_in, lines_at, no_lines}
+use Rattle.resolvo_catalogue.specs.Provider.{Provider, packages_of, candidates_of, dependencies_of, matches, deps_at}
 use Rattle.resolvo_catalogue.specs.Over.{IsOver, AreAsked}
 use Rattle.resolvo_catalogue.specs.KeptSets.{DistinguishesIds, root_of}
 use Rattle.resolvo_catalogue.specs.declared.provider.RequestIds.{RequestIds}

@@ -34,8 +34,8 @@ use Rattle.resolvo_proof.specs.Steps.{literal_in}
 use Rattle.resolvo_proof.specs.declared.step.ProofLiteral.{ProofLiteral}
 use Rattle.resolvo_catalogue.specs.Ids.{NameId, SolvableId, solvable_id, solvables_of, IsPackage, IsSpec, AreEach, IsNeed, IsSolvable}
 use Rattle.resolvo_catalogue.specs.Known.{name_text, name_of, set_at, spec_at, members_of, alternatives_at}
-use Rattle.resolvo_catalogue.specs.Dependencies.{VersionDependencies}
-use Rattle.resolvo_catalogue.specs.Provider.{Provider, packages_of, candidates_of, matches, deps_at, no_lines, needs_of, dependencies_of}
+use Rattle.resolvo_catalogue.specs.Dependencies.{VersionDependencies, no_lines}
+use Rattle.resolvo_catalogue.specs.Provider.{Provider, packages_of, candidates_of, matches, deps_at, needs_of, dependencies_of}
 use Rattle.resolvo_catalogue.specs.Over.{IsOver, AreAsked}
 use Rattle.resolvo_catalogue.specs.KeptSets.{DistinguishesIds, root_of}
 use Rattle.resolvo_catalogue.specs.declared.provider.RequestIds.{RequestIds}

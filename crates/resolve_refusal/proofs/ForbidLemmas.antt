@@ -20,9 +20,9 @@ use Rattle.resolvo_sat.specs.RuleClauses.{IsExact, ForbidReason, KeepsOut}
 use Rattle.resolvo_sat.proofs.Lists.{contains_none}
 use Rattle.resolvo_catalogue.specs.Ids.{SolvableId, IsPackage, IsWord, solvable_id, solvables_of}
 use Rattle.resolvo_catalogue.specs.Known.{name_of, word_text}
-use Rattle.resolvo_catalogue.specs.Dependencies.{IsReason, VersionDependencies, reason_in, lines_at}
+use Rattle.resolvo_catalogue.specs.Dependencies.{IsReason, VersionDependencies, reason_in, lines_at, no_lines}
 use Rattle.resolvo_catalogue.specs.Marked.{IsExclusion, IsMarked}
-use Rattle.resolvo_catalogue.specs.Provider.{Provider, packages_of, listing_if_any, exclusion_of, marks_at, deps_at, no_marks, no_lines, needs_of}
+use Rattle.resolvo_catalogue.specs.Provider.{Provider, packages_of, listing_if_any, exclusion_of, marks_at, deps_at, no_marks, needs_of}
 use Rattle.resolvo_catalogue.specs.Over.{IsOver}
 use Rattle.resolvo_catalogue.specs.KeptSets.{DistinguishesIds}
 use Rattle.resolvo_catalogue.proofs.Alike.{is_package, in_from, candidate, listed_is}

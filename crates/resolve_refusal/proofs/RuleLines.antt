@@ -28,8 +28,8 @@ use Rattle.resolvo_catalogue_core.specs.Questions.{ReadRequest}
 use Rattle.resolvo_pool_core.specs.declared.requirement.Requirement.TheVariants.{Single, Union}
 use Rattle.resolvo_catalogue.specs.Ids.{Ids, NameId, SolvableId, AreEach, IsNeed, IsSpec, IsConditionOf}
 use Rattle.resolvo_catalogue.specs.Known.{spec_at, alternatives_at, condition_at, word_text}
-use Rattle.resolvo_catalogue.specs.Dependencies.{VersionDependencies, need_in, limit_in, lines_at}
-use Rattle.resolvo_catalogue.specs.Provider.{Provider, packages_of, deps_at, no_lines, dependencies_of}
+use Rattle.resolvo_catalogue.specs.Dependencies.{VersionDependencies, need_in, limit_in, lines_at, no_lines}
+use Rattle.resolvo_catalogue.specs.Provider.{Provider, packages_of, deps_at, dependencies_of}
 use Rattle.resolvo_catalogue.specs.Over.{IsOver}
 use Rattle.resolvo_catalogue.specs.KeptSets.{root_of}
 use Rattle.resolvo_catalogue.proofs.Elements.{flat_from, option_from, each_from_left, need_from, limit_from}

@@ -26,9 +26,9 @@ use Rattle.resolvo_pool_core.specs.RuleKeeping.{Rules, rules_of, is_many, is_unk
 use Rattle.resolvo_pool_core.specs.RuleKeeping as kept
 use Rattle.resolvo_catalogue.specs.Ids.{NameId, SolvableId, solvable_id, solvables_of, AreEach, IsNeed, IsSpec, IsSolvable, IsPackage}
 use Rattle.resolvo_catalogue.specs.Known.{name_of}
-use Rattle.resolvo_catalogue.specs.Dependencies.{need_in, limit_in, reason_in, lines_at}
+use Rattle.resolvo_catalogue.specs.Dependencies.{need_in, limit_in, reason_in, lines_at, no_lines}
 use Rattle.resolvo_catalogue.specs.Marked.{IsMarked}
-use Rattle.resolvo_catalogue.specs.Provider.{Provider, candidates_of, listing_of, exclusion_of, marks_at, many_at, are_many, deps_at, dependencies_of, no_lines, no_marks, packages_of}
+use Rattle.resolvo_catalogue.specs.Provider.{Provider, candidates_of, listing_of, exclusion_of, marks_at, many_at, are_many, deps_at, dependencies_of, no_marks, packages_of}
 use Rattle.resolvo_catalogue.specs.Over.{IsOver, AreDependenciesAt}
 use Rattle.resolvo_catalogue.specs.KeptSets.{Represents, DistinguishesIds, KeepsAlike, KeepsAlikeExempt}
 use Rattle.resolvo_catalogue.proofs.MarkLemmas.{one_some}
