@@ -5,7 +5,8 @@ use Rattle.std.proofs.lemmas.Bool.{eqb-true, eq-eqb, and_parts, and_from, false�
 use Rattle.resolvo_pool_core.specs.declared.requirement.Requirement.{Requirement}
 use Rattle.resolvo_pool_core.specs.declared.requirement.Requirement.TheVariants.{Single, Union}
 use Rattle.resolvo_sat.specs.RuleClauses.{Atom, IsExact, same_requirement}
-use Rattle.resolvo_catalogue.specs.Ids.{NameId, SolvableId}
+use Rattle.resolvo_terms.specs.Terms.{NameId}
+use Rattle.resolvo_catalogue.specs.Ids.{SolvableId}
 
 abbrev pub same_atom : Atom NameId SolvableId → Atom NameId SolvableId → Bool
 same_atom (Atom.solvable s) (Atom.solvable t) = s.raw == t.raw

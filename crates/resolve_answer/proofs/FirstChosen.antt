@@ -19,7 +19,8 @@ use Rattle.resolvo_pool_core.specs.Provider.{IsTriedFor, tried_first}
 use Rattle.resolvo_pool_core.specs.RuleKeeping.{is_in, IsRuleKeeping}
 use Rattle.resolvo_pool_core.specs.Text.{alternatives_of}
 use Rattle.resolvo_sat.specs.First.{IsTriedBefore, IsUnbeaten, ArePreferred}
-use Rattle.resolvo_catalogue.specs.Ids.{Ids, SolvableId, AreEach, IsSpec, AreAlternatives}
+use Rattle.resolvo_catalogue.specs.Ids.{Ids, SolvableId, IsSpec, AreAlternatives}
+use Rattle.resolvo_terms.specs.Terms.{AreEach}
 use Rattle.resolvo_catalogue.specs.Known.{set_at, members_of}
 use Rattle.resolvo_catalogue.specs.Provider.{Provider, candidates_of, packages_of, IsSorted}
 use Rattle.resolvo_catalogue.specs.CandidateOrder.{matching, IsOrder}
@@ -28,7 +29,7 @@ use Rattle.resolvo_catalogue.specs.KeptSets.{Represents, DistinguishesIds, root_
 use Rattle.resolvo_catalogue.specs.declared.provider.RequestIds.{RequestIds}
 use Rattle.resolvo_catalogue.proofs.MarkLemmas.{one_some}
 use Rattle.resolvo_catalogue.proofs.PassLemmas.{any_from}
-use Rattle.resolvo_catalogue.proofs.Places.{no_element, element_cases}
+use Rattle.resolvo_terms.proofs.Places.{no_element, element_cases}
 use Rattle.resolvo_catalogue.proofs.RulesKept.{not_false}
 use Rattle.resolve_answer.specs.Flat.{AllLines}
 use Rattle.resolve_answer.specs.First.{IsFirstMatchOf, IsMatch, IsNeeded, HoldsFirst, IsFirstChoices, is_flat_listing, is_flat_need, AreNewest, AreFirstChosen}

@@ -6,7 +6,7 @@ use Rattle.resolvo_text.specs.Matches.{Set}
 use Rattle.resolvo_text.specs.declared.spec.Span.TheVariants.{Any}
 use Rattle.resolvo_catalogue_core.specs.Grammar.{line_at}
 use Rattle.resolvo_catalogue_core.specs.Rules.{keeps, keeps_in_request}
-use Rattle.resolvo_catalogue_core.proofs.PlaceLemmas.{at_from_contains, contains_from_at}
+use Rattle.resolvo_terms.proofs.Places.{at_from_contains, contains_from_at}
 use Rattle.resolve_answer.specs.First.{IsFirstMatch, IsFirstMatchOf, IsLineOf, IsNeeded, IsFirstChoices, AreFirstChosen}
 
 abbrev a : ℕ → Version

@@ -11,8 +11,8 @@ use Rattle.resolvo_catalogue_core.specs.Grammar.{line_at, owner_of}
 use Rattle.resolvo_catalogue_core.specs.Listed.{listed}
 use Rattle.resolvo_catalogue_core.specs.Rules.{obeys}
 use Rattle.resolvo_catalogue_core.specs.Sets.{IsRuleKeeping, marks_many, is_many}
-use Rattle.resolvo_catalogue_core.proofs.PlaceLemmas.{at_from_contains, contains_from_line}
-use Rattle.resolvo_catalogue.proofs.Places.{no_element, first_element, later_element, element_cases}
+use Rattle.resolvo_terms.proofs.Places.{at_from_contains, no_element, first_element, later_element, element_cases}
+use Rattle.resolvo_catalogue_core.proofs.PlaceLemmas.{contains_from_line}
 use Rattle.resolvo_catalogue.proofs.PassLemmas.{any_from, any_to, all_from, all_to}
 use Rattle.resolvo_catalogue.proofs.Elements.{flat_from, flat_to, option_from}
 use Rattle.resolvo_catalogue.proofs.RulesKept.{not_false, bound_by, binding_by}

@@ -9,8 +9,7 @@ use Rattle.resolvo_catalogue_core.specs.Grammar.{AreCatalogueLines}
 use Rattle.resolvo_catalogue_core.specs.Listed.{listed}
 use Rattle.resolvo_catalogue_core.specs.Rules.{binds}
 use Rattle.resolvo_catalogue_core.proofs.TableLemmas.{listed_from, listed_has}
-use Rattle.resolvo_catalogue_core.proofs.PlaceLemmas.{at_from_contains, contains_from_at}
-use Rattle.resolvo_catalogue.proofs.Places.{no_element, first_element, later_element, element_cases}
+use Rattle.resolvo_terms.proofs.Places.{at_from_contains, contains_from_at, no_element, first_element, later_element, element_cases}
 use Rattle.resolvo_catalogue.proofs.PassLemmas.{any_from, any_to}
 use Rattle.resolvo_catalogue.proofs.RulesKept.{below_take, in_front, member_from, member_to}
 use Rattle.resolve_answer.specs.First.{IsFavoured, IsMatch, IsFirstMatch, IsNeeded}

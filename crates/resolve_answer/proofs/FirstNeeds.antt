@@ -11,12 +11,13 @@ use Rattle.resolvo_catalogue_core.specs.Listed.{listed}
 use Rattle.resolvo_catalogue_core.specs.Questions.{ReadRequest}
 use Rattle.resolvo_catalogue_core.specs.Rules.{keeps_in_request, obeys, binds as binds_of}
 use Rattle.resolvo_catalogue_core.specs.Sets as sets
-use Rattle.resolvo_catalogue_core.proofs.PlaceLemmas.{at_from_contains}
+use Rattle.resolvo_terms.proofs.Places.{at_from_contains, no_element, first_element, later_element, element_cases}
 use Rattle.resolvo_catalogue_core.proofs.TableLemmas.{listed_has}
 use Rattle.resolvo_pool_core.specs.declared.id.VersionSetId.{VersionSetId}
 use Rattle.resolvo_pool_core.specs.declared.requirement.ConditionalRequirement.{ConditionalRequirement}
 use Rattle.resolvo_pool_core.specs.RuleKeeping.{Rules, is_in, is_member, is_outside, meets, binds, rules_for, IsRuleKeeping}
-use Rattle.resolvo_catalogue.specs.Ids.{NameId, SolvableId, solvable_id, IsNeed, IsSpec, AreAlternatives}
+use Rattle.resolvo_terms.specs.Terms.{NameId}
+use Rattle.resolvo_catalogue.specs.Ids.{SolvableId, solvable_id, IsNeed, IsSpec, AreAlternatives}
 use Rattle.resolvo_catalogue.specs.Known.{name_of}
 use Rattle.resolvo_catalogue.specs.Dependencies.{need_in, limit_in, lines_at}
 use Rattle.resolvo_catalogue.specs.Provider.{Provider, deps_at, packages_of}
@@ -28,7 +29,6 @@ use Rattle.resolvo_catalogue.proofs.Elements.{flat_from, flat_to, each_from_left
 use Rattle.resolvo_catalogue.proofs.KeptAlike.{deps_of_it, kept_alike, mark_alike}
 use Rattle.resolvo_catalogue.proofs.MarkLemmas.{one_some}
 use Rattle.resolvo_catalogue.proofs.PassLemmas.{all_from}
-use Rattle.resolvo_catalogue.proofs.Places.{no_element, first_element, later_element, element_cases}
 use Rattle.resolvo_catalogue.proofs.RulesKept.{bound, member_from, member_to, met_member, within_from, req_from, req_to}
 use Rattle.resolve_answer.specs.First.{IsLineOf, IsNeeded}
 

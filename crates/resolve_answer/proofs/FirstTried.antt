@@ -15,7 +15,8 @@ use Rattle.resolvo_pool_core.specs.Provider as pool
 use Rattle.resolvo_pool_core.specs.Provider.{favoured_first, tried_first}
 use Rattle.resolvo_pool_core.specs.RuleKeeping.{is_in, is_match}
 use Rattle.resolvo_sat.specs.First.{IsTriedBefore}
-use Rattle.resolvo_catalogue.specs.Ids.{NameId, SolvableId, solvable_id, solvables_of, IsSpec}
+use Rattle.resolvo_terms.specs.Terms.{NameId}
+use Rattle.resolvo_catalogue.specs.Ids.{SolvableId, solvable_id, solvables_of, IsSpec}
 use Rattle.resolvo_catalogue.specs.Known.{set_at}
 use Rattle.resolvo_catalogue.specs.Marked.{IsMarked}
 use Rattle.resolvo_catalogue.specs.Provider.{Provider, candidates_of, listing_if_any, matches, marks_at, no_marks, packages_of}
@@ -26,7 +27,7 @@ use Rattle.resolvo_catalogue.proofs.Alike.{in_from, listed_is, match_same}
 use Rattle.resolvo_catalogue.proofs.KeptAlike.{its_version}
 use Rattle.resolvo_catalogue.proofs.MarkLemmas.{one_some}
 use Rattle.resolvo_catalogue.proofs.PassLemmas.{any_to}
-use Rattle.resolvo_catalogue.proofs.Places.{no_element, first_element, later_element, element_cases}
+use Rattle.resolvo_terms.proofs.Places.{no_element, first_element, later_element, element_cases}
 use Rattle.resolvo_catalogue.proofs.RulesKept.{found_in, find_some}
 use Rattle.resolvo_catalogue.proofs.TryLemmas.{tried_match, tried_sooner}
 use Rattle.resolve_answer.specs.First.{IsFavoured}

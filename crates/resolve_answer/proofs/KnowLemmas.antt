@@ -11,7 +11,8 @@ use Rattle.resolvo_catalogue_core.specs.Grammar.{AreRequestLines, line_at}
 use Rattle.resolvo_catalogue_core.specs.Listed.{listed}
 use Rattle.resolvo_catalogue_core.specs.Questions.{ReadRequest}
 use Rattle.resolvo_catalogue_core.specs.Sets.{is_many}
-use Rattle.resolvo_catalogue_core.proofs.PlaceLemmas.{at_from_contains, contains_from_line}
+use Rattle.resolvo_terms.proofs.Places.{at_from_contains}
+use Rattle.resolvo_catalogue_core.proofs.PlaceLemmas.{contains_from_line}
 use Rattle.resolvo_catalogue_core.proofs.TableLemmas.{listed_from}
 use Rattle.resolvo_pool_core.specs.declared.id.VersionSetId.{VersionSetId}
 use Rattle.resolvo_pool_core.specs.declared.id.ConditionId.{ConditionId}
@@ -36,14 +37,15 @@ use Rattle.resolvo_proof.specs.Steps.{literal_in, rule_under, clause_of, clause_
 use Rattle.resolvo_proof.specs.Proof.{IsProof}
 use Rattle.resolvo_proof.specs.Drawn.{AreDrawn}
 use Rattle.resolvo_proof.specs.Trimmed.{IsTrimmedTo, IsRenumbered}
-use Rattle.resolvo_catalogue.specs.Ids.{NameId, SolvableId, AreEach, IsNeed, IsSpec, IsPackage}
+use Rattle.resolvo_terms.specs.Terms.{NameId, AreEach}
+use Rattle.resolvo_catalogue.specs.Ids.{SolvableId, IsNeed, IsSpec, IsPackage}
 use Rattle.resolvo_catalogue.specs.Known.{name_of, name_text, set_at, spec_at, members_of, condition_at}
 use Rattle.resolvo_catalogue.specs.Dependencies.{VersionDependencies, need_in, limit_in, lines_at, no_lines}
 use Rattle.resolvo_catalogue.specs.Provider.{Provider, packages_of, candidates_of, dependencies_of, matches, deps_at}
 use Rattle.resolvo_catalogue.specs.Over.{IsOver, AreAsked}
 use Rattle.resolvo_catalogue.specs.KeptSets.{DistinguishesIds, root_of}
 use Rattle.resolvo_catalogue.specs.declared.provider.RequestIds.{RequestIds}
-use Rattle.resolvo_catalogue.specs.declared.id_table.Numbers.{Numbers}
+use Rattle.resolvo_terms.specs.declared.terms.Numbers.{Numbers}
 use Rattle.resolvo_catalogue.proofs.Alike.{is_package, candidate, in_to}
 use Rattle.resolvo_catalogue.proofs.Elements.{flat_from, option_from, each_from_left, need_from, limit_from}
 use Rattle.resolvo_catalogue.proofs.KeptAlike.{mark_alike}

@@ -8,7 +8,8 @@ use Rattle.resolvo_graph.specs.Message.{IsMessage, text_of}
 use Rattle.resolvo_graph.specs.Words.{line_text, sentence_words}
 use Rattle.resolvo_graph.specs.declared.display_line.MessageLine.{MessageLine}
 use Rattle.resolvo_proof.specs.declared.step.ProofStep.{ProofStep}
-use Rattle.resolvo_catalogue.specs.Ids.{NameId, SolvableId}
+use Rattle.resolvo_terms.specs.Terms.{NameId}
+use Rattle.resolvo_catalogue.specs.Ids.{SolvableId}
 use Rattle.resolvo_catalogue.specs.Known.{name_of}
 use Rattle.resolvo_catalogue.specs.Provider.{Provider}
 use Rattle.resolvo_proof.specs.Draw.{conflict_drawing}

@@ -25,7 +25,8 @@ use Rattle.resolvo_state.proofs.Positions.{contains_get, get_below, get_push}
 use Rattle.resolvo_proof.specs.Trimmed.{IsTrimmedWith}
 use Rattle.resolvo_proof.specs.declared.step.ProofStep.{ProofStep}
 use Rattle.resolvo_proof.specs.declared.step.ProofStep.TheVariants.{Derived}
-use Rattle.resolvo_catalogue.specs.Ids.{Ids, NameId, SolvableId, solvable_id}
+use Rattle.resolvo_catalogue.specs.Ids.{Ids, SolvableId, solvable_id}
+use Rattle.resolvo_terms.specs.Terms.{NameId}
 use Rattle.resolvo_catalogue.specs.Known.{name_of}
 use Rattle.resolvo_catalogue.specs.KeptSets.{Represents, DistinguishesIds, root_of}
 use Rattle.resolvo_catalogue.specs.Over.{IsOver, AreAsked}

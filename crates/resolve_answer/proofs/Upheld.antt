@@ -18,7 +18,8 @@ use Rattle.std.proofs.lemmas.Option.{same_Some}
 use Rattle.resolvo_pool_core.specs.declared.requirement.Requirement.{Requirement}
 use Rattle.resolvo_pool_core.specs.RuleKeeping.{Rules}
 use Rattle.resolvo_sat.specs.RuleClauses.{IsExact}
-use Rattle.resolvo_catalogue.specs.Ids.{Ids, NameId, SolvableId}
+use Rattle.resolvo_catalogue.specs.Ids.{Ids, SolvableId}
+use Rattle.resolvo_terms.specs.Terms.{NameId}
 use Rattle.resolvo_catalogue.specs.KeptSets.{root_of}
 use Rattle.resolvo_catalogue.specs.Known.{name_of}
 use Rattle.resolvo_catalogue.specs.Provider.{Provider, packages_of}

@@ -26,7 +26,8 @@ use Rattle.resolvo_proof.specs.Trimmed as proof
 use Rattle.resolvo_proof.specs.Trimmed.{IsTrimmedWith}
 use Rattle.resolvo_proof.specs.declared.step.ProofStep.{ProofStep}
 use Rattle.resolvo_proof.specs.declared.step.ProofStep.TheVariants.{Rule, Derived}
-use Rattle.resolvo_catalogue.specs.Ids.{Ids, NameId, SolvableId, solvable_id}
+use Rattle.resolvo_catalogue.specs.Ids.{Ids, SolvableId, solvable_id}
+use Rattle.resolvo_terms.specs.Terms.{NameId}
 use Rattle.resolvo_catalogue.proofs.MarkLemmas.{one_some}
 use Rattle.resolvo_report.specs.Value.{Literal, Step, Derive}
 use Rattle.resolvo_report.specs.View.{step_of}

@@ -10,7 +10,8 @@ use Rattle.resolvo_graph.specs.declared.display_line.MessageLine.{MessageLine}
 use Rattle.resolvo_pool_core.specs.declared.requirement.Requirement.{Requirement}
 use Rattle.resolvo_sat.specs.RuleClauses.{IsExact}
 use Rattle.resolvo_proof.specs.declared.step.ProofStep.{ProofStep}
-use Rattle.resolvo_catalogue.specs.Ids.{NameId, SolvableId}
+use Rattle.resolvo_terms.specs.Terms.{NameId}
+use Rattle.resolvo_catalogue.specs.Ids.{SolvableId}
 use Rattle.resolvo_catalogue.specs.Known as shows
 use Rattle.resolvo_catalogue.specs.Known.{name_of, set_at, members_of}
 use Rattle.resolvo_catalogue.specs.Provider.{Provider, packages_of}

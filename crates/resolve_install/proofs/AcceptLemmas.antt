@@ -12,7 +12,7 @@ use Rattle.resolvo_text.specs.Matches.{Set}
 use Rattle.resolvo_text.specs.Spelling.{IsNumber, IsVersion}
 use Rattle.resolvo_catalogue_core.specs.Grammar.{AreCatalogueLines}
 use Rattle.resolvo_catalogue_core.specs.Sets.{IsSingle}
-use Rattle.resolvo_catalogue_core.proofs.PlaceLemmas.{at_from_contains}
+use Rattle.resolvo_terms.proofs.Places.{at_from_contains}
 use Rattle.resolve_order.proofs.Elements.{first_element}
 use Rattle.resolvo_report.specs.Value.{Place, OfRequest, OfVersion, AnswerLine, Entry, Wished, LeftOut, Step, Install, ReportLine, InstallHead, Numbered, Answer}
 use Rattle.resolvo_report.specs.Text.{numbered, report_lines, HasText, IsAnswer, IsPlace, IsStep}

@@ -10,7 +10,7 @@ use Rattle.resolvo_catalogue_core.specs.Grammar.{line_at, AreCatalogueLines}
 use Rattle.resolvo_catalogue_core.specs.Answers as answers
 use Rattle.resolvo_catalogue_core.specs.Answers.{Answer, IsReasoned}
 use Rattle.resolvo_catalogue_core.specs.Listed.{listed}
-use Rattle.resolvo_catalogue_core.proofs.PlaceLemmas.{contains_from_at}
+use Rattle.resolvo_terms.proofs.Places.{contains_from_at}
 use Rattle.resolve_order.specs.Order.{AreTurns}
 use Rattle.resolve_order.specs.View.{turns_of}
 use Rattle.resolve_order.specs.declared.entry.Turn.{Turn}

@@ -11,24 +11,23 @@ use Rattle.resolvo_catalogue_core.specs.Grammar.{line_at, owner_of}
 use Rattle.resolvo_catalogue_core.specs.Answers.{Reason, ForRequest, ForVersion}
 use Rattle.resolvo_catalogue_core.specs.Listed.{listed, members}
 use Rattle.resolvo_catalogue_core.specs.declared.rule.VersionNo.{VersionNo}
-use Rattle.resolvo_catalogue_core.proofs.PlaceLemmas.{at_from_contains}
+use Rattle.resolvo_terms.proofs.Places.{at_from_contains, no_element, first_element, element_cases}
 use Rattle.resolve_order.specs.Order.{line_named, IsAsked, AreReached, chosen_by, chosen_in, wishes_in}
 use Rattle.resolve_order.specs.Order as texts
 use Rattle.resolve_order.proofs.Elements.{map_element, mapped_element}
 use Rattle.resolvo_pool_core.specs.declared.requirement.ConditionalRequirement.{ConditionalRequirement}
 use Rattle.resolvo_pool_core.specs.RuleKeeping.{Rules, is_in, is_forbidden, meets, binds, is_member, rules_for, IsSingle, IsRuleKeeping, IsExemptKeeping, IsReached}
 use Rattle.resolvo_pool_core.specs.RuleKeeping as kept
-use Rattle.resolvo_catalogue.specs.Ids.{SolvableId, AreEach, IsNeed}
+use Rattle.resolvo_catalogue.specs.Ids.{SolvableId, IsNeed, solvables_of}
+use Rattle.resolvo_terms.specs.Terms.{AreEach}
 use Rattle.resolvo_catalogue.specs.Known.{name_of}
 use Rattle.resolvo_catalogue.specs.Dependencies.{need_in, lines_at}
 use Rattle.resolvo_catalogue.specs.Over.{IsOver, AreDependenciesAt}
 use Rattle.resolvo_catalogue_core.specs.Questions.{BelongsTo}
 use Rattle.resolvo_catalogue.specs.Provider.{Provider, candidates_of, deps_at, packages_of}
 use Rattle.resolvo_catalogue.specs.KeptSets.{Represents, DistinguishesIds}
-use Rattle.resolvo_catalogue.specs.Ids.{solvables_of}
 use Rattle.resolvo_pool_core.specs.Provider as pool
 use Rattle.resolvo_catalogue.proofs.MarkLemmas.{one_some}
-use Rattle.resolvo_catalogue.proofs.Places.{no_element, first_element, element_cases}
 use Rattle.resolvo_catalogue.proofs.Elements.{flat_from, flat_to, option_from, option_to, each_from_left, need_from, from_lines}
 use Rattle.resolvo_catalogue.proofs.RulesKept.{req_from, member_from, member_to}
 use Rattle.resolvo_catalogue.proofs.Alike.{listed_is, in_from, in_to, need_binds, meets_same}

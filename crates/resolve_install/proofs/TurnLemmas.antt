@@ -17,7 +17,7 @@ use Rattle.resolvo_catalogue_core.specs.Answers.{ForRequest, ForVersion, Wished,
 use Rattle.resolvo_catalogue_core.specs.Listed.{listed}
 use Rattle.resolvo_catalogue_core.specs.Table.{nth}
 use Rattle.resolvo_catalogue_core.specs.declared.rule.VersionNo.{VersionNo}
-use Rattle.resolvo_catalogue_core.proofs.PlaceLemmas.{at_from_contains}
+use Rattle.resolvo_terms.proofs.Places.{at_from_contains}
 use Rattle.resolvo_catalogue_core.proofs.TableSteps.{numbered}
 use Rattle.resolve_order.specs.Order as order
 use Rattle.resolve_order.specs.Order.{AreInOrder, IsTurn, IsOneTurn, AreTurns, AreReached, wish_entry, chosen_by, chosen_in, wishes_in}

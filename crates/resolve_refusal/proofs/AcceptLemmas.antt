@@ -9,10 +9,11 @@ use Rattle.std.proofs.lemmas.List.Concat.{flat_map-append}
 use Rattle.resolvo_text.specs.Line.{Line}
 use Rattle.resolvo_catalogue_core.specs.Grammar.{line_at}
 use Rattle.resolvo_catalogue_core.specs.Questions.{ReadRequest, AreAll}
-use Rattle.resolvo_catalogue_core.proofs.PlaceLemmas.{at_from_contains, contains_from_at}
+use Rattle.resolvo_terms.proofs.Places.{at_from_contains, contains_from_at}
 use Rattle.resolvo_sat.proofs.Lists.{contains_later, map_contains, contained_any}
 use Rattle.resolvo_proof.specs.declared.step.ProofStep.{ProofStep}
-use Rattle.resolvo_catalogue.specs.Ids.{NameId, SolvableId}
+use Rattle.resolvo_terms.specs.Terms.{NameId}
+use Rattle.resolvo_catalogue.specs.Ids.{SolvableId}
 use Rattle.resolvo_catalogue.specs.Provider.{Provider}
 use Rattle.resolvo_catalogue.proofs.MarkLemmas.{one_some}
 use Rattle.resolvo_report.specs.Value.{Step, ReportLine, RefusedHead, CatalogueLine, RequestLine, Numbered, Refused}

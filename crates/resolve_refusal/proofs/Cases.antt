@@ -14,10 +14,11 @@ use Rattle.resolvo_intern.specs.Intern.{AreBelow}
 use Rattle.resolvo_store_core.specs.Cases.{cases_by, cases_within}
 use Rattle.resolvo_sat.specs.RuleClauses.{cases_under}
 use Rattle.resolvo_sat.proofs.Lists.{contains_one, contains_parts, map_contains}
-use Rattle.resolvo_catalogue.specs.Ids.{Ids, AreEach, IsSpec, IsCondition, IsConditionOf}
+use Rattle.resolvo_catalogue.specs.Ids.{Ids, IsSpec, IsCondition, IsConditionOf}
+use Rattle.resolvo_terms.specs.Terms.{AreEach}
 use Rattle.resolvo_catalogue.specs.Known.{condition_at}
 use Rattle.resolvo_catalogue.proofs.Elements.{flat_from, each_from_left}
-use Rattle.resolvo_catalogue.proofs.GrowLemmas.{each_more}
+use Rattle.resolvo_terms.proofs.GrowLemmas.{each_more}
 use Rattle.resolvo_checker.specs.StepClauses.{case_at}
 use Rattle.resolve_refusal.specs.Lines.{IsLeast, IsLineAt, IsNeedLine}
 

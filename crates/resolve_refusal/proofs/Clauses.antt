@@ -11,7 +11,7 @@ use Rattle.resolvo_text.specs.Matches as lines
 use Rattle.resolvo_catalogue_core.specs.Listed.{listed}
 use Rattle.resolvo_catalogue_core.specs.Questions.{ReadRequest}
 use Rattle.resolvo_catalogue_core.specs.Sets.{is_many}
-use Rattle.resolvo_catalogue_core.proofs.PlaceLemmas.{at_from_contains, contains_from_at}
+use Rattle.resolvo_terms.proofs.Places.{at_from_contains, contains_from_at, each_left}
 use Rattle.resolvo_pool_core.specs.declared.id.VersionSetId.{VersionSetId}
 use Rattle.resolvo_pool_core.specs.declared.id.StringId.{StringId}
 use Rattle.resolvo_intern.specs.declared.pool.Solvable.{Solvable}
@@ -32,19 +32,19 @@ use Rattle.resolvo_state.specs.Atoms.{atom_of}
 use Rattle.resolvo_proof.specs.Members.{SameMembers}
 use Rattle.resolvo_proof.specs.Steps.{literal_in}
 use Rattle.resolvo_proof.specs.declared.step.ProofLiteral.{ProofLiteral}
-use Rattle.resolvo_catalogue.specs.Ids.{NameId, SolvableId, solvable_id, solvables_of, IsPackage, IsSpec, AreEach, IsNeed, IsSolvable}
+use Rattle.resolvo_terms.specs.Terms.{NameId, AreEach}
+use Rattle.resolvo_catalogue.specs.Ids.{SolvableId, solvable_id, solvables_of, IsPackage, IsSpec, IsNeed, IsSolvable}
 use Rattle.resolvo_catalogue.specs.Known.{name_text, name_of, set_at, spec_at, members_of, alternatives_at}
 use Rattle.resolvo_catalogue.specs.Dependencies.{VersionDependencies, no_lines}
 use Rattle.resolvo_catalogue.specs.Provider.{Provider, packages_of, candidates_of, matches, deps_at, needs_of, dependencies_of}
 use Rattle.resolvo_catalogue.specs.Over.{IsOver, AreAsked}
 use Rattle.resolvo_catalogue.specs.KeptSets.{DistinguishesIds, root_of}
 use Rattle.resolvo_catalogue.specs.declared.provider.RequestIds.{RequestIds}
-use Rattle.resolvo_catalogue.specs.declared.id_table.Numbers.{Numbers}
+use Rattle.resolvo_terms.specs.declared.terms.Numbers.{Numbers}
 use Rattle.resolvo_catalogue.proofs.Alike.{member_place, listed_is, is_package, match_same, in_from, in_to, outside_same}
 use Rattle.resolvo_catalogue.proofs.KeptAlike.{its_version, package_alike, mark_alike}
 use Rattle.resolvo_catalogue.proofs.RulesKept.{con_from}
 use Rattle.resolvo_catalogue.proofs.MarkLemmas.{one_some}
-use Rattle.resolvo_catalogue.proofs.Places.{each_left}
 use Rattle.resolvo_report.specs.Value as in_report
 use Rattle.resolvo_checker.specs.StepClauses as judge
 use Rattle.resolvo_checker.proofs.Sets.{is_contained}

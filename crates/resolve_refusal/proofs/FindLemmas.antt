@@ -8,7 +8,7 @@ use Rattle.resolvo_text.specs.declared.spec.Spec as code
 use Rattle.resolvo_text.specs.View.{spec_of, specs_of}
 use Rattle.resolvo_text.specs.Line.{Spec, Line}
 use Rattle.resolvo_catalogue_core.specs.Questions.{AreAll}
-use Rattle.resolvo_catalogue_core.proofs.PlaceLemmas.{at_from_contains}
+use Rattle.resolvo_terms.proofs.Places.{at_from_contains}
 use Rattle.std.proofs.lemmas.Option.{slice_get_within, get_or_from_slice_get}
 use Rattle.std.proofs.lemmas.List.{take_more, take_all}
 use Rattle.resolvo_sat.proofs.Lists.{contains_one, contains_parts}

@@ -12,7 +12,7 @@ use Rattle.resolvo_catalogue_core.specs.Grammar.{line_at, owner_of}
 use Rattle.resolvo_catalogue_core.specs.Listed.{listed, version_at}
 use Rattle.resolvo_catalogue_core.specs.Questions.{is_rule, IsOnly, BelongsTo, LineIs, LocksAnother, Excludes, MarksUnknownOf, Forbids}
 use Rattle.resolvo_catalogue_core.specs.declared.rule.VersionNo.{VersionNo}
-use Rattle.resolvo_catalogue_core.proofs.PlaceLemmas.{at_from_contains}
+use Rattle.resolvo_terms.proofs.Places.{at_from_contains}
 use Rattle.resolvo_pool_core.specs.RuleKeeping.{is_unknown, is_forbidden, locks_out}
 use Rattle.resolvo_pool_core.specs.declared.id.StringId.{StringId}
 use Rattle.resolvo_pool_core.specs.Provider as pool

@@ -8,7 +8,7 @@ use Rattle.std.specs.Ordering.{nat_cmp, is_lt, ordering_reverse}
 use Rattle.std.specs.Str.{bytes_eq}
 use Rattle.std.specs.Cmp.Lexicographic.{slice_cmp, bytes_decides, nat_list_cmp_total}
 use Rattle.std.proofs.lemmas.Bool.{and_from, and_parts, eq-eqb, lt-ltb}
-use Rattle.resolvo_catalogue_core.proofs.PlaceLemmas.{contains_from_at}
+use Rattle.resolvo_terms.proofs.Places.{contains_from_at}
 use Rattle.resolvo_catalogue.proofs.MarkLemmas.{one_some}
 use Rattle.resolvo_sat.proofs.Lists.{contains_none, contains_cases, contains_first, contains_later, contains_map, map_contains, any_contained}
 use Rattle.resolvo_report.specs.Value.{Literal, Step, ReportLine, CatalogueLine, RequestLine, Numbered, Refused}

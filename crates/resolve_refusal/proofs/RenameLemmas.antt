@@ -17,11 +17,12 @@ use Rattle.resolvo_sat.specs.RuleClauses.{Atom, IsExact}
 use Rattle.resolvo_sat.proofs.Lists.{contains_first, contains_later, map_contains}
 use Rattle.resolvo_proof.specs.Members.{SameMembers, HaveOneSign}
 use Rattle.resolvo_proof.proofs.PassMembers.{one_pass_members}
-use Rattle.resolvo_catalogue.specs.Ids.{NameId, SolvableId, IsPackage, IsSpec, AreEach}
+use Rattle.resolvo_terms.specs.Terms.{NameId, AreEach}
+use Rattle.resolvo_catalogue.specs.Ids.{SolvableId, IsPackage, IsSpec}
 use Rattle.resolvo_catalogue.specs.Known.{name_text, set_at, spec_at, members_of, alternatives_at}
 use Rattle.resolvo_catalogue.specs.Provider.{Provider}
 use Rattle.resolvo_catalogue.specs.Over.{IsOver}
-use Rattle.resolvo_catalogue.specs.declared.id_table.Numbers.{Numbers}
+use Rattle.resolvo_terms.specs.declared.terms.Numbers.{Numbers}
 use Rattle.resolvo_report.specs.Value as in_report
 use Rattle.resolvo_checker.specs.AtomValues as judge
 use Rattle.resolvo_checker.proofs.Atoms.{same_atom_is, atom_own}

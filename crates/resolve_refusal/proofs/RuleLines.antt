@@ -10,8 +10,8 @@ use Rattle.resolvo_text.specs.Cases.{condition_cases}
 use Rattle.resolvo_text.specs.Spelling.{IsNumber}
 use Rattle.resolvo_catalogue_core.specs.Grammar.{line_at, owner_of}
 use Rattle.resolvo_catalogue_core.specs.Listed.{listed}
-use Rattle.resolvo_catalogue_core.specs.Questions.{IsVersionLine, BelongsTo, LineIs, LocksAnother}
-use Rattle.resolvo_catalogue_core.proofs.PlaceLemmas.{at_from_contains}
+use Rattle.resolvo_catalogue_core.specs.Questions.{IsVersionLine, BelongsTo, LineIs, LocksAnother, ReadRequest}
+use Rattle.resolvo_terms.proofs.Places.{at_from_contains, no_element}
 use Rattle.resolvo_catalogue_core.proofs.TableSteps.{same_version_is}
 use Rattle.resolvo_pool_core.specs.declared.id.ConditionId.{ConditionId}
 use Rattle.resolvo_pool_core.specs.declared.id.StringId.{StringId}
@@ -24,9 +24,9 @@ use Rattle.resolvo_sat.proofs.Lists.{contains_first, contains_later, any_contain
 use Rattle.resolvo_proof.specs.declared.step.ProofStep.{ProofStep}
 use Rattle.resolvo_proof.specs.declared.step.ProofStep.TheVariants.{Rule, Derived}
 use Rattle.resolvo_proof.specs.declared.step.ProofRule.TheVariants.{Needs as NeedsRule, GateOf, Shared, Limit, Outside, Locked, Excluded, Digit, AtLeastOne, Matches}
-use Rattle.resolvo_catalogue_core.specs.Questions.{ReadRequest}
 use Rattle.resolvo_pool_core.specs.declared.requirement.Requirement.TheVariants.{Single, Union}
-use Rattle.resolvo_catalogue.specs.Ids.{Ids, NameId, SolvableId, AreEach, IsNeed, IsSpec, IsConditionOf}
+use Rattle.resolvo_catalogue.specs.Ids.{Ids, SolvableId, IsNeed, IsSpec, IsConditionOf}
+use Rattle.resolvo_terms.specs.Terms.{NameId, AreEach}
 use Rattle.resolvo_catalogue.specs.Known.{spec_at, alternatives_at, condition_at, word_text}
 use Rattle.resolvo_catalogue.specs.Dependencies.{VersionDependencies, need_in, limit_in, lines_at, no_lines}
 use Rattle.resolvo_catalogue.specs.Provider.{Provider, packages_of, deps_at, dependencies_of}
@@ -35,7 +35,6 @@ use Rattle.resolvo_catalogue.specs.KeptSets.{root_of}
 use Rattle.resolvo_catalogue.proofs.Elements.{flat_from, option_from, each_from_left, need_from, limit_from}
 use Rattle.resolvo_catalogue.proofs.RulesKept.{req_from, con_from}
 use Rattle.resolvo_catalogue.proofs.CoverLemmas.{alternatives_are, spec_is}
-use Rattle.resolvo_catalogue.proofs.Places.{no_element}
 use Rattle.resolvo_report.specs.Value.{OfRequest, OfVersion, Step}
 use Rattle.resolvo_report.specs.Value as in_report
 use Rattle.resolvo_checker.specs.StepClauses.{is_owner}

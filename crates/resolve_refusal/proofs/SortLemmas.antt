@@ -11,8 +11,9 @@ use Rattle.std.proofs.lemmas.Map.Text.{is_eq-slice_cmp}
 use Rattle.std.specs.BTreeMap.{insert_entry}
 use Rattle.std.specs.declared.string.String.{String}
 use Rattle.resolvo_text.specs.Line.{Line}
-use Rattle.resolvo_catalogue.specs.Ids.{Ids, NameId, SolvableId}
-use Rattle.resolvo_catalogue.proofs.Places.{no_element, first_element, later_element, element_cases}
+use Rattle.resolvo_catalogue.specs.Ids.{Ids, SolvableId}
+use Rattle.resolvo_terms.specs.Terms.{NameId}
+use Rattle.resolvo_terms.proofs.Places.{no_element, first_element, later_element, element_cases}
 use Rattle.resolvo_sat.proofs.Lists.{contains_one, contains_left, contains_right, contains_parts, contains_first, contains_map, map_contains}
 use Rattle.resolvo_proof.specs.declared.step.ProofLiteral.{ProofLiteral}
 use Rattle.std.proofs.lemmas.List.{take_more}

@@ -6,12 +6,13 @@ use Rattle.resolvo_text.specs.Spelling.{is_name}
 use Rattle.resolvo_text.specs.Spelling as form
 use Rattle.resolvo_catalogue_core.specs.Grammar.{AreCatalogueLines}
 use Rattle.resolvo_catalogue_core.specs.Listed.{listed}
-use Rattle.resolvo_catalogue_core.proofs.PlaceLemmas.{at_from_contains}
+use Rattle.resolvo_terms.proofs.Places.{at_from_contains}
 use Rattle.resolvo_catalogue_core.proofs.TableLemmas.{listed_from}
 use Rattle.resolvo_state.specs.declared.atom.ProofAtom.{ProofAtom}
 use Rattle.resolvo_state.specs.declared.atom.ProofAtom.TheVariants as atom
 use Rattle.resolvo_proof.specs.declared.step.ProofLiteral.{ProofLiteral}
-use Rattle.resolvo_catalogue.specs.Ids.{NameId, SolvableId}
+use Rattle.resolvo_terms.specs.Terms.{NameId}
+use Rattle.resolvo_catalogue.specs.Ids.{SolvableId}
 use Rattle.resolvo_catalogue.specs.Known.{name_text}
 use Rattle.resolvo_catalogue.specs.Provider.{Provider}
 use Rattle.resolvo_catalogue.specs.Over.{IsOver}

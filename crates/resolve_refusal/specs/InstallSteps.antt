@@ -9,7 +9,8 @@ use Rattle.resolvo_state.specs.declared.atom.ProofAtom.TheVariants as atom
 use Rattle.resolvo_proof.specs.declared.step.ProofLiteral.{ProofLiteral}
 use Rattle.resolvo_proof.specs.declared.step.ProofStep.{ProofStep}
 use Rattle.resolvo_proof.specs.declared.step.ProofStep.TheVariants.{Derived}
-use Rattle.resolvo_catalogue.specs.Ids.{Ids, NameId, SolvableId}
+use Rattle.resolvo_catalogue.specs.Ids.{Ids, SolvableId}
+use Rattle.resolvo_terms.specs.Terms.{NameId}
 use Rattle.resolvo_report.specs.Value.{Step}
 use Rattle.resolvo_report.specs.Text.{IsStep}
 use Rattle.resolvo_checker.specs.Proof.{is_valid_step, every_line, IsProof}

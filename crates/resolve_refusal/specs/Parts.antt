@@ -3,7 +3,8 @@ use Rattle.std.specs.Prelude.{ℕ, List, [], length}
 use Rattle.std.specs.List.{AllZip}
 use Rattle.resolvo_text.specs.Line.{Line}
 use Rattle.resolvo_catalogue_core.specs.Questions.{AreAll}
-use Rattle.resolvo_catalogue.specs.Ids.{Ids, NameId, SolvableId}
+use Rattle.resolvo_catalogue.specs.Ids.{Ids, SolvableId}
+use Rattle.resolvo_terms.specs.Terms.{NameId}
 use Rattle.resolvo_proof.specs.declared.step.ProofStep.{ProofStep}
 use Rattle.resolvo_report.specs.Value.{Report, Refused}
 use Rattle.resolvo_report.specs.Text.{report_lines}

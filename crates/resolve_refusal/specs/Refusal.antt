@@ -20,7 +20,8 @@ use Rattle.resolvo_proof.specs.Proof.{IsProof, EndsEmpty}
 use Rattle.resolvo_proof.specs.Steps.{literal_in}
 use Rattle.resolvo_proof.specs.Members.{HaveOneSign}
 use Rattle.resolvo_proof.specs.Places.{HaveOnePlace}
-use Rattle.resolvo_catalogue.specs.Ids.{Ids, NameId, SolvableId, IsPackage, IsSpec, AreAlternatives}
+use Rattle.resolvo_catalogue.specs.Ids.{Ids, SolvableId, IsPackage, IsSpec, AreAlternatives}
+use Rattle.resolvo_terms.specs.Terms.{NameId}
 use Rattle.resolvo_catalogue.specs.Known.{name_text, spec_at, alternatives_at, word_text}
 use Rattle.resolvo_catalogue.specs.Provider.{Provider, packages_of}
 use Rattle.resolvo_catalogue.specs.Over.{IsOver, AreAsked}

@@ -13,7 +13,8 @@ use Rattle.resolvo_pool_core.specs.declared.requirement.Requirement.{Requirement
 use Rattle.resolvo_proof.specs.declared.step.ProofStep.{ProofStep}
 use Rattle.resolvo_proof.specs.declared.step.ProofStep.TheVariants.{Rule, Derived}
 use Rattle.resolvo_proof.specs.declared.step.ProofRule.TheVariants.{Needs, GateOf, Shared, Limit, Outside, Locked, Excluded, Digit, AtLeastOne, Matches}
-use Rattle.resolvo_catalogue.specs.Ids.{Ids, NameId, SolvableId}
+use Rattle.resolvo_catalogue.specs.Ids.{Ids, SolvableId}
+use Rattle.resolvo_terms.specs.Terms.{NameId}
 use Rattle.resolvo_catalogue.specs.Known.{spec_at, alternatives_at, word_text}
 use Rattle.resolvo_report.specs.Value.{Literal, Step}
 use Rattle.resolvo_report.specs.Value as in_report

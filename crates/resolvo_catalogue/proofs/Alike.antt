@@ -21,15 +21,15 @@ use Rattle.resolvo_intern.specs.Intern.{AreBelow}
 use Rattle.resolvo_pool_core.specs.Provider as pool
 use Rattle.resolvo_pool_core.specs.RuleKeeping.{IsLawful, is_in, is_match, is_outside, is_met, meets, holds, binds, binds_under}
 use Rattle.resolvo_pool_core.proofs.Conditions.{holds_by_cases}
-use Rattle.resolvo_catalogue.specs.Ids.{Ids, NameId, SolvableId, solvable_id, solvables_of, places_from, AreEach, IsSolvable, AreVersions, AreSound, IsPackage, IsSpec, AreAlternatives, IsCondition, IsConditionOf, IsNeed}
+use Rattle.resolvo_catalogue.specs.Ids.{Ids, SolvableId, solvable_id, solvables_of, places_from, IsSolvable, AreVersions, AreSound, IsPackage, IsSpec, AreAlternatives, IsCondition, IsConditionOf, IsNeed}
+use Rattle.resolvo_terms.specs.Terms.{NameId, AreEach}
 use Rattle.resolvo_catalogue.specs.Known.{solvable_at, name_of, set_at, condition_at}
 use Rattle.resolvo_catalogue.specs.Laws.{operands_below, candidates_named}
 use Rattle.resolvo_catalogue.specs.Provider.{Provider, candidates_of, listing_if_any, matches, packages_of}
 use Rattle.resolvo_catalogue.specs.KeptSets.{Represents, DistinguishesIds}
-use Rattle.resolvo_catalogue.proofs.Places.{each_right}
+use Rattle.resolvo_terms.proofs.Places.{each_right, no_element, first_element, later_element, element_cases}
 use Rattle.resolvo_catalogue.proofs.MarkLemmas.{one_some}
 use Rattle.resolvo_catalogue.proofs.PassLemmas.{any_from, any_to, same_bool}
-use Rattle.resolvo_catalogue.proofs.Places.{no_element, first_element, later_element, element_cases}
 
 -- ---- names
 

@@ -16,7 +16,7 @@ use Rattle.resolvo_catalogue.specs.IdCounts.{ids_for_version, ids_for_dependency
 use Rattle.resolvo_catalogue.specs.Dependencies.{lines_at}
 use Rattle.resolvo_catalogue.proofs.DependencyLemmas.{lines_next, lines_step, text_next, text_step}
 use Rattle.resolvo_catalogue.proofs.MarkLemmas.{one_some}
-use Rattle.resolvo_catalogue.proofs.Places.{each_length, first_element, later_element, set_others}
+use Rattle.resolvo_terms.proofs.Places.{each_length, first_element, later_element, set_others}
 
 -- ---- the rule of a line
 

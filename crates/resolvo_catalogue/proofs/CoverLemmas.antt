@@ -3,11 +3,12 @@ use Rattle.std.proofs.Common.{◌≡◌, inl, inr, ℕ, List, [], ◌∷◌, ◌
 use Rattle.std.specs.Prelude.{slice_get}
 use Rattle.std.proofs.lemmas.Option.{get_or_from_slice_get}
 use Rattle.resolvo_text.specs.Line.{Spec, Line}
-use Rattle.resolvo_catalogue_core.proofs.Pushed.{get_push}
+use Rattle.resolvo_terms.proofs.Places.{get_push}
 use Rattle.resolvo_pool_core.specs.declared.id.VersionSetId.{VersionSetId}
 use Rattle.resolvo_pool_core.specs.declared.requirement.Requirement.{Requirement}
 use Rattle.resolvo_pool_core.specs.declared.requirement.Requirement.TheVariants.{Single, Union}
-use Rattle.resolvo_catalogue.specs.Ids.{Ids, AreEach, IsSpec, AreAlternatives, Grows}
+use Rattle.resolvo_catalogue.specs.Ids.{Ids, IsSpec, AreAlternatives, Grows}
+use Rattle.resolvo_terms.specs.Terms.{AreEach}
 use Rattle.resolvo_catalogue.specs.Known.{set_at, spec_at, alternatives_at}
 use Rattle.resolvo_catalogue.specs.Dependencies.{VersionDependencies}
 use Rattle.resolvo_catalogue.specs.Over.{AreDependenciesAt}

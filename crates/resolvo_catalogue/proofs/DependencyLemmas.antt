@@ -14,7 +14,8 @@ use Rattle.resolvo_pool_core.specs.declared.id.VersionSetId.{VersionSetId}
 use Rattle.resolvo_pool_core.specs.declared.requirement.ConditionalRequirement.{ConditionalRequirement}
 use Rattle.resolvo_catalogue.specs.Ids.{Ids, IsSpec, IsNeed, IsWord, Grows}
 use Rattle.resolvo_catalogue.specs.Dependencies.{VersionDependencies, AreDependenciesOf, IsReason, need_in, limit_in, reason_in, lines_at}
-use Rattle.resolvo_catalogue.proofs.GrowLemmas.{needs_stay, specs_stay, each_more}
+use Rattle.resolvo_catalogue.proofs.GrowLemmas.{needs_stay, specs_stay}
+use Rattle.resolvo_terms.proofs.GrowLemmas.{each_more}
 
 pub last_piece : {X A : Type 0} (f : X → List A) (xs : List X) (x : X) → flat_map f (xs ++ x ∷ []) ≡ flat_map f xs ++ f x
 last_piece f xs x = flat_map-append f xs (x ∷ []) ∙ ap (λ ys. flat_map f xs ++ ys) (flat_map-cons f x [] ∙ append-nil (f x))

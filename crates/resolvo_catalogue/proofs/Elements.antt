@@ -7,10 +7,9 @@ use Rattle.std.proofs.lemmas.List.Elements.{Contains-append_left, Contains-appen
 use Rattle.resolvo_text.specs.Line.{Version, Spec, Cond, Line, Skipped, Listed, Needs, Limits, Unknown, Lock, Favour, Exclude, Many, Wish}
 use Rattle.resolvo_catalogue_core.specs.Grammar.{line_at, owner_of}
 use Rattle.resolvo_catalogue_core.specs.Questions.{AreAll, IsVersionLine, BelongsTo}
-use Rattle.resolvo_catalogue_core.proofs.PlaceLemmas.{at_from_contains, contains_from_at}
-use Rattle.resolvo_catalogue.specs.Ids.{AreEach}
+use Rattle.resolvo_terms.proofs.Places.{at_from_contains, contains_from_at, no_element, first_element, later_element, element_cases, each_left, each_right}
+use Rattle.resolvo_terms.specs.Terms.{AreEach}
 use Rattle.resolvo_catalogue.specs.Dependencies.{need_in, limit_in, reason_in, lines_at}
-use Rattle.resolvo_catalogue.proofs.Places.{no_element, first_element, later_element, element_cases, each_left, each_right}
 use Rattle.resolvo_catalogue.proofs.MarkLemmas.{one_some}
 
 -- ---- pieces

@@ -1,13 +1,13 @@
 -- The value of an id is kept, whatever else is interned.
-use Rattle.std.proofs.Common.{◌<◌, List, [], ◌∷◌, ◌++◌, Some, None, Option, refl, ◌∙◌, length}
-use Rattle.std.proofs.lemmas.Option.{slice_get_within}
-use Rattle.resolvo_text.specs.Line.{Spec, Cond, Is, And, Or}
+use Rattle.std.proofs.Common.{◌≡◌, ℕ, List, refl, sym, subst, ◌∙◌, Some}
+use Rattle.std.specs.Prelude.{Option, slice_get}
+use Rattle.resolvo_text.specs.Line.{Spec, Cond}
 use Rattle.resolvo_pool_core.specs.declared.id.VersionSetId.{VersionSetId}
-use Rattle.resolvo_pool_core.specs.declared.id.ConditionId.{ConditionId}
-use Rattle.resolvo_pool_core.specs.declared.requirement.Requirement as needs
-use Rattle.resolvo_pool_core.specs.declared.requirement.Requirement.TheVariants.{Single, Union}
 use Rattle.resolvo_pool_core.specs.declared.requirement.ConditionalRequirement.{ConditionalRequirement}
-use Rattle.resolvo_catalogue.specs.Ids.{Ids, AreEach, IsSpec, AreAlternatives, IsCondition, IsConditionOf, IsNeed, Grows, Interns}
+use Rattle.resolvo_intern.specs.declared.pool.Solvable.{Solvable}
+use Rattle.resolvo_terms.specs.Terms.{AreEach, Grows as TermsGrow, LacksNumber as LacksTerm}
+use Rattle.resolvo_terms.proofs.GrowLemmas as numbered
+use Rattle.resolvo_catalogue.specs.Ids.{Ids, terms_of, IsSpec, IsNeed, Grows, Interns, LacksNumber}
 
 pub grows_own : (ids : Ids) → Grows ids ids
 grows_own ids = record { names = λ k x e. e; words = λ k x e. e; solvables = λ k x e. e; version_sets = λ k x e. e; unions = λ k x e. e; conditions = λ k x e. e }
@@ -28,48 +28,26 @@ interns_own ids = record { grows = grows_own ids; same = refl }
 pub interns_on : (a b c : Ids) → Interns a b → Interns b c → Interns a c
 interns_on a b c g h = record { grows = grows_on a b c g.grows h.grows; same = h.same ∙ g.same }
 
-pub each_as : {X Y : Type 0} (R S : X → Y → Type 0) → ((x : X) (y : Y) → R x y → S x y) → (xs : List X) (ys : List Y) → AreEach R xs ys → AreEach S xs ys
-each_as R S f [] [] h = tt
-each_as R S f [] (y ∷ ys) h = absurd h
-each_as R S f (x ∷ xs) [] h = absurd h
-each_as R S f (x ∷ xs) (y ∷ ys) h = (f x y h.0, each_as R S f xs ys h.1)
+-- the same of the ids without the solvables
+terms_grow : (a b : Ids) → Grows a b → TermsGrow (terms_of a) (terms_of b)
+terms_grow a b g = record { names = g.names; words = g.words; version_sets = g.version_sets; unions = g.unions; conditions = g.conditions }
 
-pub each_more : {X Y : Type 0} (R : X → Y → Type 0) → (xs more : List X) (ys others : List Y) → AreEach R xs ys → AreEach R more others → AreEach R (xs ++ more) (ys ++ others)
-each_more R [] more [] others h k = k
-each_more R [] more (y ∷ ys) others h k = absurd h
-each_more R (x ∷ xs) more [] others h k = absurd h
-each_more R (x ∷ xs) more (y ∷ ys) others h k = (h.0, each_more R xs more ys others h.1 k)
+pub interns_by : (a b : Ids) → TermsGrow (terms_of a) (terms_of b) → b.solvables ≡ a.solvables → Interns a b
+interns_by a b g same = record {
+  grows = record { names = g.names; words = g.words; solvables = λ k x e. subst (λ (ss : List (Solvable ℕ)). slice_get ss k ≡ Some x) (sym same) e; version_sets = g.version_sets; unions = g.unions; conditions = g.conditions };
+  same = same;
+}
+
+pub lacks_by : (ids : Ids) → LacksTerm (terms_of ids) → LacksNumber ids
+lacks_by ids (LacksTerm.names few) = LacksNumber.names few
+lacks_by ids (LacksTerm.words few) = LacksNumber.words few
+lacks_by ids (LacksTerm.version_sets few) = LacksNumber.version_sets few
+lacks_by ids (LacksTerm.unions few) = LacksNumber.unions few
+lacks_by ids (LacksTerm.conditions few) = LacksNumber.conditions few
 
 module _ (a b : Ids) (grows : Grows a b) where
-  pub spec_stays : (v : VersionSetId) (s : Spec) → IsSpec a v s → IsSpec b v s
-  spec_stays v s h = (h.0, grows.version_sets _ _ h.1, grows.names _ _ h.2)
-
   pub specs_stay : (vs : List VersionSetId) (ss : List Spec) → AreEach (IsSpec a) vs ss → AreEach (IsSpec b) vs ss
-  specs_stay vs ss h = each_as (IsSpec a) (IsSpec b) spec_stays vs ss h
-
-  pub alternatives_stay : (r : needs.Requirement) (ss : List Spec) → AreAlternatives a r ss → AreAlternatives b r ss
-  alternatives_stay (Single v) ss h = specs_stay (v ∷ []) ss h
-  alternatives_stay (Union u) ss h = (h.0, grows.unions _ _ h.1, specs_stay h.0 ss h.2)
-
-  pub condition_stays : (c : ConditionId) (cond : Cond) → IsCondition a c cond → IsCondition b c cond
-  condition_stays c (Is s) h = (h.0, grows.conditions _ _ h.1, spec_stays h.0 s h.2)
-  condition_stays c (And l r) h = (h.0, h.1, grows.conditions _ _ h.2, condition_stays h.0 l h.3, condition_stays h.1 r h.4)
-  condition_stays c (Or l r) h = (h.0, h.1, grows.conditions _ _ h.2, condition_stays h.0 l h.3, condition_stays h.1 r h.4)
-
-  pub condition_of_stays : (c : Option ConditionId) (cond : Option Cond) → IsConditionOf a c cond → IsConditionOf b c cond
-  condition_of_stays None None h = tt
-  condition_of_stays None (Some cond) h = absurd h
-  condition_of_stays (Some c) None h = absurd h
-  condition_of_stays (Some c) (Some cond) h = condition_stays c cond h
-
-  pub need_stays : (need : ConditionalRequirement) (written : List Spec × Option Cond) → IsNeed a need written → IsNeed b need written
-  need_stays need written h = (alternatives_stay need.requirement written.0 h.0, condition_of_stays need.condition written.1 h.1)
+  specs_stay vs ss h = numbered.specs_stay (terms_of a) (terms_of b) (terms_grow a b grows) vs ss h
 
   pub needs_stay : (needs : List ConditionalRequirement) (written : List (List Spec × Option Cond)) → AreEach (IsNeed a) needs written → AreEach (IsNeed b) needs written
-  needs_stay needs written h = each_as (IsNeed a) (IsNeed b) need_stays needs written h
-
--- a condition is among the conditions
-pub condition_within : (ids : Ids) (c : ConditionId) (cond : Cond) → IsCondition ids c cond → c.0 < length ids.conditions
-condition_within ids c (Is s) h = slice_get_within ids.conditions c.0 _ h.1
-condition_within ids c (And l r) h = slice_get_within ids.conditions c.0 _ h.2
-condition_within ids c (Or l r) h = slice_get_within ids.conditions c.0 _ h.2
+  needs_stay needs written h = numbered.needs_stay (terms_of a) (terms_of b) (terms_grow a b grows) needs written h

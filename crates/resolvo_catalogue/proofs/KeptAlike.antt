@@ -16,7 +16,8 @@ use Rattle.resolvo_catalogue_core.specs.Rules as texts
 use Rattle.resolvo_catalogue_core.specs.Sets as texts_sets
 use Rattle.resolvo_catalogue_core.proofs.CatalogueFacts.{keeps_rule}
 use Rattle.resolvo_catalogue_core.proofs.TableLemmas.{listed_from}
-use Rattle.resolvo_catalogue_core.proofs.PlaceLemmas.{at_from_contains, contains_from_line}
+use Rattle.resolvo_terms.proofs.Places.{at_from_contains, no_element, first_element, each_left}
+use Rattle.resolvo_catalogue_core.proofs.PlaceLemmas.{contains_from_line}
 use Rattle.resolvo_intern.specs.declared.pool.Solvable.{Solvable}
 use Rattle.resolvo_pool_core.specs.declared.id.StringId.{StringId}
 use Rattle.resolvo_pool_core.specs.declared.id.VersionSetId.{VersionSetId}
@@ -24,22 +25,20 @@ use Rattle.resolvo_pool_core.specs.declared.requirement.ConditionalRequirement.{
 use Rattle.resolvo_pool_core.specs.Provider as pool
 use Rattle.resolvo_pool_core.specs.RuleKeeping.{Rules, rules_of, is_many, is_unknown, is_in, is_match, is_outside, meets, binds, is_forbidden, locks_out, listing_for, rules_for, IsRuleKeeping, IsSingle, Obeys}
 use Rattle.resolvo_pool_core.specs.RuleKeeping as kept
-use Rattle.resolvo_catalogue.specs.Ids.{NameId, SolvableId, solvable_id, solvables_of, AreEach, IsNeed, IsSpec, IsSolvable, IsPackage}
+use Rattle.resolvo_terms.specs.Terms.{NameId, AreEach}
+use Rattle.resolvo_catalogue.specs.Ids.{SolvableId, solvable_id, solvables_of, IsNeed, IsSpec, IsSolvable, IsPackage, Interns, AreSound}
 use Rattle.resolvo_catalogue.specs.Known.{name_of}
 use Rattle.resolvo_catalogue.specs.Dependencies.{need_in, limit_in, reason_in, lines_at, no_lines}
 use Rattle.resolvo_catalogue.specs.Marked.{IsMarked}
 use Rattle.resolvo_catalogue.specs.Provider.{Provider, candidates_of, listing_of, exclusion_of, marks_at, many_at, are_many, deps_at, dependencies_of, no_marks, packages_of}
 use Rattle.resolvo_catalogue.specs.Over.{IsOver, AreDependenciesAt}
 use Rattle.resolvo_catalogue.specs.KeptSets.{Represents, DistinguishesIds, KeepsAlike, KeepsAlikeExempt}
-use Rattle.resolvo_catalogue.proofs.MarkLemmas.{one_some}
-use Rattle.resolvo_catalogue.proofs.Places.{no_element, first_element, each_left}
+use Rattle.resolvo_catalogue.proofs.MarkLemmas.{one_some, marked_stays}
 use Rattle.resolvo_catalogue.proofs.PassLemmas.{any_from, any_to, all_from, all_to}
 use Rattle.resolvo_catalogue.proofs.Elements.{flat_from, flat_to, option_to, each_from_left, each_from_right, need_from, limit_from, reason_from, from_lines, to_lines}
 use Rattle.resolvo_catalogue.proofs.Alike.{listed_is, member_place, is_package, in_from, in_to, candidate, outside_same, need_binds, meets_same}
-use Rattle.resolvo_catalogue.specs.Ids.{Interns, AreSound}
 use Rattle.resolvo_catalogue.proofs.ListLemmas.{versions_stay}
 use Rattle.resolvo_catalogue.proofs.CoverLemmas.{deps_stay}
-use Rattle.resolvo_catalogue.proofs.MarkLemmas.{marked_stays}
 use Rattle.resolvo_catalogue.proofs.RulesKept.{bound, binding, bound_by, binding_by, not_true, not_false, is_not, member_from, member_to, met_member, member_met, within_from, within_to, found_in, find_some, one_lock, owner_there, owner_there_limit, owner_there_unknown, lock_listed, req_from, con_from, req_to, con_to, unknown_from, unknown_to, listing_is, locked_by, excluded_by, exclusion_word, exclusion_there}
 
 module _ (p : Provider) (catalogue : List Line) (over : IsOver catalogue p) (same : SolvableId → SolvableId → Bool) (apart : DistinguishesIds same) where

@@ -1,7 +1,3 @@
-pub mod FoundLemmas
-pub mod TextLemmas
-pub mod IndexLemmas
-pub mod KeyMapLemmas
 pub mod GrowLemmas
 pub mod DependencyLemmas
 pub mod Places

@@ -11,8 +11,9 @@ use Rattle.resolvo_text.specs.Line.{Version}
 use Rattle.resolvo_catalogue_core.specs.Listed.{name_at, kept_versions, is_kept, are_kept}
 use Rattle.resolvo_catalogue_core.specs.declared.versions.KeptVersion.{KeptVersion}
 use Rattle.resolvo_intern.specs.declared.pool.Solvable.{Solvable}
-use Rattle.resolvo_catalogue.specs.Ids.{Ids, SolvableId, solvable_id, solvable_by, AreEach, IsSolvable, Grows, list_at, places_from, solvables_of}
-use Rattle.resolvo_catalogue.proofs.GrowLemmas.{each_as}
+use Rattle.resolvo_catalogue.specs.Ids.{Ids, SolvableId, solvable_id, solvable_by, IsSolvable, Grows, list_at, places_from, solvables_of}
+use Rattle.resolvo_terms.specs.Terms.{AreEach}
+use Rattle.resolvo_terms.proofs.GrowLemmas.{each_as}
 use Rattle.resolvo_catalogue.proofs.Places.{places_push}
 
 pub versions_stay : (a b : Ids) → Grows a b → (ss : List (Solvable ℕ)) (vs : List Version) → AreEach (IsSolvable a) ss vs → AreEach (IsSolvable b) ss vs

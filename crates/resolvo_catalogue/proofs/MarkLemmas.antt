@@ -1,11 +1,10 @@
 -- The marks of versions, line by line.
 use Rattle.std.proofs.Common.{◌≡◌, inl, inr, ℕ, suc, ◌<◌, ◌≤◌, ◌==◌, true, false, List, [], ◌∷◌, ◌++◌, ◌+◌, take, get_or, length, Option, Some, None, refl, sym, ap, subst, ◌∙◌, arith}
 use Rattle.std.specs.Prelude.{Contains, slice_get, option_to_list, map}
-use Rattle.std.specs.List.{slice_set}
+use Rattle.std.specs.List.{slice_set, flat_map}
 use Rattle.std.proofs.lemmas.Bool.{cases_Bool, false≢true}
 use Rattle.std.proofs.lemmas.Bool.Decides.{Decides-eqb}
 use Rattle.std.proofs.lemmas.Option.{slice_get_within}
-use Rattle.std.specs.List.{flat_map}
 use Rattle.std.proofs.lemmas.List.{append-nil, take_more}
 use Rattle.resolvo_catalogue.proofs.DependencyLemmas.{last_piece}
 use Rattle.resolvo_catalogue_core.specs.declared.rule.VersionNo.{VersionNo}
@@ -17,10 +16,10 @@ use Rattle.resolvo_pool_core.specs.declared.id.StringId.{StringId}
 use Rattle.resolvo_catalogue.specs.Ids.{Ids, IsWord, Grows}
 use Rattle.resolvo_catalogue.specs.Marked.{IsExclusion, IsMarked, AreMarked}
 use Rattle.resolvo_catalogue.specs.declared.candidate_flags.CandidateFlags.{CandidateFlags}
-use Rattle.resolvo_catalogue.proofs.Places.{set_at, set_others, set_length, no_element, first_element, later_element, element_cases}
+use Rattle.resolvo_terms.proofs.Places.{set_at, set_others, set_length, no_element, first_element, later_element, element_cases, at_from_contains}
 use Rattle.std.proofs.lemmas.List.Concat.{flat_map-cons}
 use Rattle.resolvo_catalogue_core.specs.Grammar.{line_at}
-use Rattle.resolvo_catalogue_core.proofs.PlaceLemmas.{at_from_contains, contains_from_line}
+use Rattle.resolvo_catalogue_core.proofs.PlaceLemmas.{contains_from_line}
 
 pub one_some : {X : Type 0} {a b : X} → Some a ≡ Some b → a ≡ b
 one_some e = cc

@@ -2,7 +2,7 @@
 use Rattle.std.proofs.Common.{◌≡◌, inl, inr, ℕ, zero, suc, ◌<◌, Bool, true, false, List, [], ◌∷◌, take, Option, Some, None, refl, sym, ap, subst, ◌∙◌, arith}
 use Rattle.std.specs.Prelude.{◌&&◌, ◌||◌, not, Contains, slice_get, bytes_eq, option_map, option_to_list}
 use Rattle.std.specs.List.{list_any, find}
-use Rattle.std.proofs.lemmas.Bool.{cases_Bool, false≢true}
+use Rattle.std.proofs.lemmas.Bool.{cases_Bool, false≢true, cases_lt}
 use Rattle.resolvo_text.specs.Line.{Version, Spec, Cond, Line, Listed, Needs, Limits, Unknown, Lock, Exclude}
 use Rattle.resolvo_text.specs.Matches as lines
 use Rattle.resolvo_text.specs.Matches.{Set, same_version, same_package}
@@ -10,7 +10,7 @@ use Rattle.resolvo_catalogue_core.specs.Grammar.{line_at, owner_of, AreCatalogue
 use Rattle.resolvo_catalogue_core.specs.Listed.{listed}
 use Rattle.resolvo_catalogue_core.proofs.TableLemmas.{listed_has}
 use Rattle.resolvo_catalogue_core.proofs.TableSteps.{same_version_is}
-use Rattle.resolvo_catalogue_core.proofs.PlaceLemmas.{at_from_contains, contains_from_at}
+use Rattle.resolvo_terms.proofs.Places.{at_from_contains, contains_from_at, no_element, first_element, later_element, element_cases}
 use Rattle.resolvo_pool_core.specs.declared.id.StringId.{StringId}
 use Rattle.resolvo_pool_core.specs.declared.id.VersionSetId.{VersionSetId}
 use Rattle.resolvo_pool_core.specs.declared.requirement.ConditionalRequirement.{ConditionalRequirement}
@@ -21,8 +21,6 @@ use Rattle.resolvo_catalogue.specs.Dependencies.{VersionDependencies, IsReason}
 use Rattle.resolvo_catalogue.specs.Marked.{IsExclusion}
 use Rattle.resolvo_catalogue.specs.Provider.{Provider, listing_if_any, listing_of, needs_of}
 use Rattle.resolvo_catalogue.proofs.MarkLemmas.{one_some}
-use Rattle.std.proofs.lemmas.Bool.{cases_lt}
-use Rattle.resolvo_catalogue.proofs.Places.{no_element, first_element, later_element, element_cases}
 use Rattle.resolvo_catalogue.proofs.PassLemmas.{any_from, any_to}
 
 -- ---- obeyed lines, as implications

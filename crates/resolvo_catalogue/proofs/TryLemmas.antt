@@ -12,12 +12,13 @@ use Rattle.std.proofs.lemmas.Option.{slice_get_within, get_or_from_slice_get}
 use Rattle.resolvo_text.specs.Line.{Version, Spec, Line, Listed}
 use Rattle.resolvo_text.specs.Matches as texts
 use Rattle.resolvo_catalogue_core.specs.Listed.{listed}
-use Rattle.resolvo_catalogue_core.proofs.PlaceLemmas.{at_from_contains}
+use Rattle.resolvo_terms.proofs.Places.{at_from_contains, each_left, no_element, first_element, later_element, element_cases}
 use Rattle.resolvo_catalogue_core.proofs.TableLemmas.{listed_from}
 use Rattle.resolvo_pool_core.specs.declared.id.VersionSetId.{VersionSetId}
 use Rattle.resolvo_intern.specs.declared.pool.Solvable.{Solvable}
 use Rattle.resolvo_pool_core.specs.Provider.{favoured_first, tried_first, IsTriedFor}
-use Rattle.resolvo_catalogue.specs.Ids.{NameId, SolvableId, solvable_id, solvables_of, places_from, IsSolvable, IsSpec}
+use Rattle.resolvo_terms.specs.Terms.{NameId}
+use Rattle.resolvo_catalogue.specs.Ids.{SolvableId, solvable_id, solvables_of, places_from, IsSolvable, IsSpec}
 use Rattle.resolvo_catalogue.specs.Known.{solvable_at, set_at}
 use Rattle.resolvo_catalogue.specs.Provider.{Provider, candidates_of, matches, age_of, IsSorted}
 use Rattle.resolvo_catalogue.specs.KeptSets.{DistinguishesIds}
@@ -26,7 +27,6 @@ use Rattle.resolvo_catalogue.specs.CandidateOrder.{matching, IsOrder, placed, so
 use Rattle.resolvo_catalogue.proofs.Alike.{member_place, listed_is, at_version, admits}
 use Rattle.resolvo_catalogue.proofs.MarkLemmas.{one_some}
 use Rattle.resolvo_catalogue.proofs.PassLemmas.{any_from, same_bool}
-use Rattle.resolvo_catalogue.proofs.Places.{each_left, no_element, first_element, later_element, element_cases}
 
 -- ---- parts of lists
 

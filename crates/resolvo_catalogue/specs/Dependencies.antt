@@ -6,7 +6,8 @@ use Rattle.resolvo_catalogue_core.specs.Grammar.{line_at}
 use Rattle.resolvo_pool_core.specs.declared.id.StringId.{StringId}
 use Rattle.resolvo_pool_core.specs.declared.id.VersionSetId.{VersionSetId}
 use Rattle.resolvo_pool_core.specs.declared.requirement.ConditionalRequirement.{ConditionalRequirement}
-use Rattle.resolvo_catalogue.specs.Ids.{Ids, AreEach, IsNeed, IsSpec, IsWord}
+use Rattle.resolvo_catalogue.specs.Ids.{Ids, IsNeed, IsSpec, IsWord}
+use Rattle.resolvo_terms.specs.Terms.{AreEach}
 use Rattle.resolvo_catalogue.specs.declared.dependencies.VersionDependencies as code
 
 -- The requirements and constraints of lines, as ids, and the reason where they are unknown.

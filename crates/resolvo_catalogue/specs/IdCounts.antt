@@ -1,7 +1,8 @@
 -- How many ids a table has given, and how many the lines of a catalogue need at most.
-use Rattle.std.specs.Prelude.{◌+◌, ◌*◌, ◌≤◌, ℕ, List, Option, Some, None, length, sum_by}
-use Rattle.resolvo_text.specs.Line.{Spec, Cond, Is, And, Or, Line, Listed, Needs, Limits, Unknown, Exclude}
+use Rattle.std.specs.Prelude.{◌+◌, ◌≤◌, ℕ, List, length, sum_by}
+use Rattle.resolvo_text.specs.Line.{Line, Listed, Needs, Limits, Unknown, Exclude}
 use Rattle.resolvo_text.specs.View.{specs_of, list_of, condition_of}
+use Rattle.resolvo_terms.specs.TermCounts.{ids_for_need}
 use Rattle.resolvo_catalogue_core.specs.declared.rule.Rule.{Rule}
 use Rattle.resolvo_catalogue_core.specs.declared.rule.Rule.TheVariants as rule
 use Rattle.resolvo_catalogue.specs.Ids.{Ids, LacksNumber}
@@ -11,20 +12,6 @@ abbrev pub id_count : Ids → ℕ
 id_count ids = length ids.names + length ids.words + length ids.solvables + length ids.version_sets + length ids.unions + length ids.conditions
 
 -- ---- the most ids that may be needed
-
--- for each SPEC of a condition one of its package, its span and itself, and one for each two that are joined
-abbrev pub ids_for_condition : Cond → ℕ
-ids_for_condition (Is s) = 3
-ids_for_condition (And a b) = ids_for_condition a + ids_for_condition b + 1
-ids_for_condition (Or a b) = ids_for_condition a + ids_for_condition b + 1
-
-abbrev pub ids_for_any_condition : Option Cond → ℕ
-ids_for_any_condition None = 0
-ids_for_any_condition (Some condition) = ids_for_condition condition
-
--- for each alternative of a need one of its package and its span, one of all of them, and those of its condition
-abbrev pub ids_for_need : List Spec × Option Cond → ℕ
-ids_for_need written = 2 * length written.0 + 1 + ids_for_any_condition written.1
 
 -- a listed version and its package
 abbrev pub ids_for_version : Line → ℕ

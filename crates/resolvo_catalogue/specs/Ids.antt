@@ -1,27 +1,20 @@
--- The ids of packages, SPECs, lists of alternatives, conditions and words, and the text of each id.
-use Rattle.std.specs.Prelude.{◌≡◌, ◌≤◌, ℕ, suc, ◌==◌, if◌then◌else◌, ⊤, length, slice_index_or, Bool, List, [], ◌∷◌, map, Option, Some, None, slice_get}
-use Rattle.resolvo_text.specs.Line.{Version, Spec, Cond, Is, And, Or}
+-- The ids of packages, versions, SPECs, lists of alternatives, conditions and words, and the text of each id.
+use Rattle.std.specs.Prelude.{◌≡◌, ◌≤◌, ℕ, suc, ◌==◌, if◌then◌else◌, length, slice_index_or, Bool, List, [], ◌∷◌, map, Option}
+use Rattle.std.specs.Global.{Vec}
+use Rattle.resolvo_text.specs.Line.{Version, Spec, Cond}
 use Rattle.resolvo_pool_core.specs.declared.id.DenseId.{DenseId}
-use Rattle.resolvo_pool_core.specs.declared.id.NameTag.{NameTag}
 use Rattle.resolvo_pool_core.specs.declared.id.SolvableTag.{SolvableTag}
 use Rattle.resolvo_pool_core.specs.declared.id.StringId.{StringId}
 use Rattle.resolvo_pool_core.specs.declared.id.VersionSetId.{VersionSetId}
 use Rattle.resolvo_pool_core.specs.declared.id.ConditionId.{ConditionId}
 use Rattle.resolvo_intern.specs.declared.pool.Solvable.{Solvable}
 use Rattle.resolvo_pool_core.specs.declared.condition.Condition.{Condition}
-use Rattle.resolvo_pool_core.specs.declared.condition.Condition.TheVariants.{Binary, Requirement}
-use Rattle.resolvo_pool_core.specs.declared.condition.LogicalOperator.TheVariants as joins
-use Rattle.resolvo_pool_core.specs.declared.requirement.Requirement as needs
-use Rattle.resolvo_pool_core.specs.declared.requirement.Requirement.TheVariants.{Single, Union}
+use Rattle.resolvo_pool_core.specs.declared.requirement.Requirement.{Requirement}
 use Rattle.resolvo_pool_core.specs.declared.requirement.ConditionalRequirement.{ConditionalRequirement}
-use Rattle.resolvo_catalogue.specs.declared.id_table.Numbers.{Numbers}
-use Rattle.resolvo_intern.specs.Intern.{AreBelow}
-use Rattle.resolvo_catalogue_core.specs.Listed.{AreOnce}
+use Rattle.resolvo_terms.specs.declared.terms.Numbers.{Numbers}
+use Rattle.resolvo_terms.specs.Terms.{Terms, NameId, AreEach, Extends}
+use Rattle.resolvo_terms.specs.Terms as terms
 use Rattle.resolvo_catalogue_core.specs.declared.versions.KeptVersion.{KeptVersion}
-use Rattle.std.specs.Global.{Vec}
-
-abbrev pub NameId : Type 0
-NameId = DenseId NameTag ℕ
 
 abbrev pub SolvableId : Type 0
 SolvableId = DenseId SolvableTag ℕ
@@ -38,51 +31,38 @@ pub record Ids : Type 0 where
   pub unions : List (List VersionSetId)
   pub conditions : List Condition
 
--- Two lists have the same length, and each element of the first is related to that of the second at its place.
-abbrev pub AreEach : {X Y : Type 0} → (X → Y → Type 0) → List X → List Y → Type 0
-AreEach R [] [] = ⊤
-AreEach R [] (y ∷ ys) = ⊥
-AreEach R (x ∷ xs) [] = ⊥
-AreEach R (x ∷ xs) (y ∷ ys) = R x y × AreEach R xs ys
+-- those without the solvables
+abbrev pub terms_of : Ids → Terms
+terms_of ids = record { names = ids.names; words = ids.words; version_sets = ids.version_sets; unions = ids.unions; conditions = ids.conditions }
 
 -- ---- the text of an id
 
 module _ (ids : Ids) where
   abbrev pub IsPackage : NameId → List ℕ → Type 0
-  IsPackage n name = slice_get ids.names n.raw ≡ Some name
+  IsPackage n name = terms.IsPackage (terms_of ids) n name
 
   abbrev pub IsWord : StringId → List ℕ → Type 0
-  IsWord w word = slice_get ids.words w.0 ≡ Some word
+  IsWord w word = terms.IsWord (terms_of ids) w word
 
   -- The id is of the SPEC's package with its span.
   abbrev pub IsSpec : VersionSetId → Spec → Type 0
-  IsSpec v s = (n : NameId) × (slice_get ids.version_sets v.0 ≡ Some (n, record { 0 = s.span })) × IsPackage n s.name
+  IsSpec v s = terms.IsSpec (terms_of ids) v s
 
   -- One SPEC is an id of its own, a list of them a union.
-  abbrev pub AreAlternatives : needs.Requirement → List Spec → Type 0
-  AreAlternatives (Single v) alternatives = AreEach IsSpec (v ∷ []) alternatives
-  AreAlternatives (Union u) alternatives = (vs : List VersionSetId) × (slice_get ids.unions u.0 ≡ Some vs) × AreEach IsSpec vs alternatives
+  abbrev pub AreAlternatives : Requirement → List Spec → Type 0
+  AreAlternatives r alternatives = terms.AreAlternatives (terms_of ids) r alternatives
 
   abbrev pub IsCondition : ConditionId → Cond → Type 0
-  IsCondition c (Is s) = (v : VersionSetId) × (slice_get ids.conditions c.0 ≡ Some (Requirement v)) × IsSpec v s
-  IsCondition c (And a b) = (i j : ConditionId) × (slice_get ids.conditions c.0 ≡ Some (Binary joins.And i j)) × IsCondition i a × IsCondition j b
-  IsCondition c (Or a b) = (i j : ConditionId) × (slice_get ids.conditions c.0 ≡ Some (Binary joins.Or i j)) × IsCondition i a × IsCondition j b
+  IsCondition c condition = terms.IsCondition (terms_of ids) c condition
 
   abbrev pub IsConditionOf : Option ConditionId → Option Cond → Type 0
-  IsConditionOf None None = ⊤
-  IsConditionOf None (Some condition) = ⊥
-  IsConditionOf (Some c) None = ⊥
-  IsConditionOf (Some c) (Some condition) = IsCondition c condition
+  IsConditionOf c condition = terms.IsConditionOf (terms_of ids) c condition
 
   -- The requirement is that of a need with these alternatives under this condition.
   abbrev pub IsNeed : ConditionalRequirement → List Spec × Option Cond → Type 0
-  IsNeed need written = AreAlternatives need.requirement written.0 × IsConditionOf need.condition written.1
+  IsNeed need written = terms.IsNeed (terms_of ids) need written
 
 -- ---- more is interned
-
--- Each element of the first list is in the second at its place.
-abbrev pub Extends : {X : Type 0} → List X → List X → Type 0
-Extends {X} xs ys = (k : ℕ) (x : X) → slice_get xs k ≡ Some x → slice_get ys k ≡ Some x
 
 -- No earlier id has changed.
 pub record Grows (old new : Ids) : Type 0 where
@@ -98,10 +78,6 @@ pub record Interns (old new : Ids) : Type 0 where
   pub grows : Grows old new
   pub same : new.solvables ≡ old.solvables
 
--- No list has one element alone.
-abbrev pub AreSeveral : {X : Type 0} → List (List X) → Type 0
-AreSeveral {X} lists = (k : ℕ) (x : X) → slice_get lists k ≡ Some (x ∷ []) → ⊥
-
 -- No number is left for a value of some kind: the last one is given.
 pub data LacksNumber (ids : Ids) : Type 0 where
   names : 4294967295 ≤ length ids.names → LacksNumber ids
@@ -112,13 +88,8 @@ pub data LacksNumber (ids : Ids) : Type 0 where
   conditions : 4294967295 ≤ length ids.conditions → LacksNumber ids
 
 -- No value has two ids, no union is of one version set, and the operands of a condition have smaller ids than it.
-pub record AreSound (ids : Ids) : Type 0 where
-  pub below : AreBelow ids.conditions
-  pub names : AreOnce ids.names
-  pub words : AreOnce ids.words
-  pub version_sets : AreOnce ids.version_sets
-  pub unions : AreOnce ids.unions
-  pub several : AreSeveral ids.unions
+abbrev pub AreSound : Ids → Type 0
+AreSound ids = terms.AreSound (terms_of ids)
 
 -- ---- the versions
 

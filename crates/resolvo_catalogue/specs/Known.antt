@@ -1,8 +1,7 @@
 -- The values of ids: packages, versions, spans, conditions, and their texts.
 -- An id that was never handed out has no value; the answer is then the first of its kind, or empty.
-use Rattle.std.specs.Prelude.{◌&&◌, nat_lt, ℕ, List, [], ◌∷◌, ◌++◌, map, slice_get, slice_index_or, codes, if◌then◌else◌}
+use Rattle.std.specs.Prelude.{ℕ, List, [], ◌∷◌, ◌++◌, map, slice_index_or, codes}
 use Rattle.std.specs.List.{flat_map}
-use Rattle.std.specs.Option.{option_map_or}
 use Rattle.std.specs.Fmt.{decimal}
 use Rattle.resolvo_text.specs.declared.spec.Span.{Span}
 use Rattle.resolvo_text.specs.declared.spec.Span.TheVariants.{Any, One, Range}
@@ -12,15 +11,14 @@ use Rattle.resolvo_pool_core.specs.declared.id.ConditionId.{ConditionId}
 use Rattle.resolvo_pool_core.specs.declared.id.StringId.{StringId}
 use Rattle.resolvo_intern.specs.declared.pool.Solvable.{Solvable}
 use Rattle.resolvo_pool_core.specs.declared.condition.Condition.{Condition}
-use Rattle.resolvo_pool_core.specs.declared.condition.Condition.TheVariants.{Binary, Requirement}
 use Rattle.resolvo_pool_core.specs.declared.requirement.Requirement.{Requirement as Alternatives}
 use Rattle.resolvo_pool_core.specs.Text.{alternatives_of}
 use Rattle.resolvo_text.specs.Line.{Spec}
-use Rattle.resolvo_catalogue.specs.Ids.{Ids, NameId, SolvableId}
-use Rattle.resolvo_catalogue.specs.declared.id_table.Numbers.{Numbers}
-
-abbrev pub name_id : ℕ → NameId
-name_id n = record { raw = n; tag = record {} }
+use Rattle.resolvo_terms.specs.declared.terms.Numbers.{Numbers}
+use Rattle.resolvo_terms.specs.Terms.{NameId}
+use Rattle.resolvo_terms.specs.Known.{name_id}
+use Rattle.resolvo_terms.specs.Known as terms
+use Rattle.resolvo_catalogue.specs.Ids.{Ids, SolvableId, terms_of}
 
 abbrev pub solvable_at : Ids → SolvableId → Solvable ℕ
 solvable_at ids s = slice_index_or ids.solvables s.raw (record { version = 0; name = name_id 0 })
@@ -29,18 +27,13 @@ abbrev pub name_of : Ids → SolvableId → NameId
 name_of ids s = (solvable_at ids s).name
 
 abbrev pub set_at : Ids → VersionSetId → NameId × Numbers
-set_at ids v = slice_index_or ids.version_sets v.0 (name_id 0, record { 0 = Any })
+set_at ids v = terms.set_at (terms_of ids) v
 
 abbrev pub members_of : Ids → VersionSetUnionId → List VersionSetId
-members_of ids u = slice_index_or ids.unions u.0 []
-
--- the condition, if its operands have smaller ids
-abbrev pub sound : ConditionId → Condition → Condition
-sound c (Requirement v) = Requirement v
-sound c (Binary op a b) = if nat_lt a.0 c.0 && nat_lt b.0 c.0 then Binary op a b else Requirement (record { 0 = 0 })
+members_of ids u = terms.members_of (terms_of ids) u
 
 abbrev pub condition_at : Ids → ConditionId → Condition
-condition_at ids c = option_map_or (sound c) (slice_get ids.conditions c.0) (Requirement (record { 0 = 0 }))
+condition_at ids c = terms.condition_at (terms_of ids) c
 
 -- the SPEC of a version set
 abbrev pub spec_at : Ids → VersionSetId → Spec
@@ -52,7 +45,7 @@ alternatives_at ids r = map (spec_at ids) (alternatives_of (members_of ids) r)
 -- ---- texts
 
 abbrev pub name_text : Ids → NameId → List ℕ
-name_text ids n = slice_index_or ids.names n.raw []
+name_text ids n = terms.name_text (terms_of ids) n
 
 abbrev pub solvable_text : Ids → SolvableId → List ℕ
 solvable_text ids s = name_text ids (name_of ids s) ++ (codes " " ++ decimal (solvable_at ids s).version)
@@ -68,4 +61,4 @@ span_text (One n) = decimal n
 span_text (Range low high) = decimal low ++ (codes ".." ++ decimal high)
 
 abbrev pub word_text : Ids → StringId → List ℕ
-word_text ids w = slice_index_or ids.words w.0 []
+word_text ids w = terms.word_text (terms_of ids) w

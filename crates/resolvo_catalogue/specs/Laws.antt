@@ -13,8 +13,10 @@ use Rattle.resolvo_intern.specs.declared.pool.Solvable.{Solvable}
 use Rattle.resolvo_pool_core.specs.declared.condition.Condition.{Condition}
 use Rattle.resolvo_pool_core.specs.declared.condition.Condition.TheVariants.{Binary, Requirement}
 use Rattle.resolvo_pool_core.specs.Provider.{OperandsBelow, IsOf, AreOf}
-use Rattle.resolvo_catalogue.specs.Ids.{Ids, NameId, SolvableId, solvable_id, solvables_of, places_from}
-use Rattle.resolvo_catalogue.specs.Known.{name_of, name_id, solvable_at, condition_at, sound}
+use Rattle.resolvo_catalogue.specs.Ids.{Ids, SolvableId, solvable_id, solvables_of, places_from}
+use Rattle.resolvo_terms.specs.Terms.{NameId}
+use Rattle.resolvo_catalogue.specs.Known.{name_of, solvable_at, condition_at}
+use Rattle.resolvo_terms.specs.Known.{name_id, sound}
 use Rattle.resolvo_catalogue.specs.Provider.{Provider, candidates_of, listing_if_any, marks_at}
 
 -- ---- conditions

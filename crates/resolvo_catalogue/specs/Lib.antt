@@ -1,7 +1,5 @@
 pub mod Ids
-pub mod Texts
 pub mod IdCounts
-pub mod Found
 pub mod Dependencies
 pub mod Tabled
 pub mod Marked

@@ -5,7 +5,8 @@ use Rattle.resolvo_text.specs.Line.{Line}
 use Rattle.resolvo_catalogue_core.specs.Grammar.{AreCatalogueLines}
 use Rattle.resolvo_catalogue_core.specs.Listed.{listed, AreDistinct}
 use Rattle.resolvo_catalogue_core.specs.Questions.{ReadRequest, AreAll, IsVersionLine, BelongsTo}
-use Rattle.resolvo_catalogue.specs.Ids.{Ids, Interns, AreSound, AreVersions, AreEach, IsNeed, IsSpec, solvable_id}
+use Rattle.resolvo_catalogue.specs.Ids.{Ids, Interns, AreSound, AreVersions, IsNeed, IsSpec, solvable_id}
+use Rattle.resolvo_terms.specs.Terms.{AreEach}
 use Rattle.resolvo_catalogue.specs.Dependencies.{VersionDependencies, AreDependenciesOf, lines_at, need_in, limit_in}
 use Rattle.resolvo_catalogue.specs.Marked.{AreMarked, AreMany}
 use Rattle.resolvo_catalogue.specs.Provider.{Provider}

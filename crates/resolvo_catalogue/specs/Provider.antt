@@ -7,7 +7,8 @@ use Rattle.resolvo_pool_core.specs.declared.id.VersionSetId.{VersionSetId}
 use Rattle.resolvo_pool_core.specs.declared.id.StringId.{StringId}
 use Rattle.resolvo_pool_core.specs.Provider.{Listing, Hint, none, all, Needs, known, unknown}
 use Rattle.resolvo_pool_core.specs.RuleKeeping.{Packages}
-use Rattle.resolvo_catalogue.specs.Ids.{Ids, NameId, SolvableId, solvables_of}
+use Rattle.resolvo_catalogue.specs.Ids.{Ids, SolvableId, solvables_of}
+use Rattle.resolvo_terms.specs.Terms.{NameId}
 use Rattle.resolvo_catalogue.specs.Known.{solvable_at, name_of, set_at, members_of, condition_at}
 use Rattle.resolvo_catalogue.specs.Dependencies.{VersionDependencies, no_lines}
 use Rattle.resolvo_catalogue.specs.declared.candidate_flags.CandidateFlags.{CandidateFlags}

@@ -6,17 +6,13 @@ mod dependencies;
 pub mod dependency_provider;
 mod dependency_table;
 mod id_table;
-mod key_map;
 pub mod provider;
-mod slots;
-mod text_ids;
-mod text_list;
 mod versions;
 
 pub use dependency_provider::GivenUp;
-pub use id_table::Numbers;
 pub use provider::{CatalogueProvider, Hint, RequestIds};
 pub use resolvo_catalogue_core::{
     Alternatives, Catalogue, Cond, Counted, IoFault, LineReader, MemorySink, MemorySource,
     ReadFault, Request, Rule, Sink, Source, Span, Spec, Version, VersionNo, WriteFault,
 };
+pub use resolvo_terms::Numbers;

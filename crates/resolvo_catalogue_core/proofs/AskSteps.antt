@@ -22,7 +22,8 @@ use Rattle.resolvo_catalogue_core.specs.declared.rule.Rule.TheVariants as rule
 use Rattle.resolvo_catalogue_core.specs.declared.request_lines.RequestLine.{RequestLine}
 use Rattle.resolvo_catalogue_core.specs.declared.request_lines.RequestLine.TheVariants as ask
 use Rattle.resolvo_catalogue_core.specs.declared.request_lines.RequestLines.{RequestLines}
-use Rattle.resolvo_catalogue_core.proofs.Pushed.{get_new, get_push, at_kept, Grows, only_other, all_other, all_new, keyed_new, line_grows, line_within, version_line_grows}
+use Rattle.resolvo_terms.proofs.Places.{get_new, get_push}
+use Rattle.resolvo_catalogue_core.proofs.Pushed.{at_kept, Grows, only_other, all_other, all_new, keyed_new, line_grows, line_within, version_line_grows}
 use Rattle.resolvo_catalogue_core.proofs.TableLemmas.{listed_from}
 use Rattle.resolvo_catalogue_core.proofs.PlaceLemmas.{none_from, some_from, line_from_contains, contains_from_line}
 

@@ -12,7 +12,7 @@ use Rattle.resolvo_catalogue_core.specs.declared.line_table.StoredLine.{StoredLi
 use Rattle.resolvo_catalogue_core.specs.declared.line_table.LineKind.{LineKind}
 use Rattle.resolvo_catalogue_core.specs.declared.line_table.LineKind.TheVariants as line_kinds
 use Rattle.resolvo_catalogue_core.specs.Held.{is_held, are_held, kind_of_rule, kind_of_name, kind_in, kind_list, held_at, kind_at, rule_of}
-use Rattle.resolvo_catalogue_core.proofs.Pushed.{get_new}
+use Rattle.resolvo_terms.proofs.Places.{get_new}
 
 below : (a b : ℕ) → nat_lt a b ≡ true → a < b
 below a b e = grind (arith, nat_tests)

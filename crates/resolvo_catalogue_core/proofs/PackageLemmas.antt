@@ -15,7 +15,7 @@ use Rattle.resolvo_catalogue_core.specs.declared.package.Package.{Package}
 use Rattle.resolvo_catalogue_core.specs.declared.package_table.NamedPackage.{NamedPackage}
 use Rattle.resolvo_catalogue_core.specs.declared.package_table.Place.{Place}
 use Rattle.resolvo_catalogue_core.specs.declared.package_table.Place.TheVariants.{Of, Free, Full}
-use Rattle.resolvo_catalogue_core.proofs.Pushed.{get_new, get_kept, get_push}
+use Rattle.resolvo_terms.proofs.Places.{get_new, get_kept, get_push}
 
 true_false : true ≡ false → ⊥
 true_false e = cc

@@ -4,25 +4,19 @@ use Rattle.std.specs.Prelude.{◌↔◌, Contains, slice_get, slice_index_or, ma
 use Rattle.std.specs.BTreeMap.{get, get_by_text}
 use Rattle.std.specs.Ordering.{nat_cmp}
 use Rattle.std.proofs.lemmas.Option.{get_or_from_slice_get, slice_get_within, slice_get-get_or, slice_get_past}
+use Rattle.resolvo_terms.proofs.Places.{at_from_contains, contains_from_at}
 use Rattle.resolvo_text.specs.Line.{Version, Line, Skipped, Listed, Needs, Limits, Unknown, Lock, Favour, Exclude, Many, Wish}
 use Rattle.resolvo_catalogue_core.specs.Grammar.{line_at, owner_of, owner_below, MayFollow}
-use Rattle.resolvo_catalogue_core.specs.Questions.{LineIs, MarksUnknownOf, Locks, Favours, MarksMany, Excludes, IsOfPackage, number_of}
+use Rattle.resolvo_catalogue_core.specs.Questions.{LineIs, MarksUnknownOf, Locks, Favours, MarksMany, Excludes, IsOfPackage, number_of, IsVersionLine}
 use Rattle.resolvo_catalogue_core.specs.Numbered.{versions_of}
 use Rattle.resolvo_catalogue_core.specs.Packages.{package_in, first_in}
 use Rattle.resolvo_catalogue_core.specs.Table.{IsTable, IsPackage, nowhere, lines_in, versions_in, number_in, kinds_in, numbers_in}
-use Rattle.resolvo_catalogue_core.specs.Questions.{IsVersionLine}
 use Rattle.resolvo_catalogue_core.specs.declared.rule.VersionNo.{VersionNo}
 use Rattle.resolvo_catalogue_core.specs.declared.package.Package.{Package}
 use Rattle.resolvo_catalogue_core.specs.declared.table.Table.{Table}
 use Rattle.resolvo_catalogue_core.proofs.TableLemmas.{listed_has, listed_from, owner_is_last, fewer_listed, kind_at, excluded_at}
 
 -- ---- elements by their places
-
-pub at_from_contains : {X : Type 0} (xs : List X) (x : X) → Contains xs x → (k : ℕ) × (slice_get xs k ≡ Some x)
-at_from_contains xs x (k, lt, at) = (k, slice_get-get_or xs k x lt ∙ ap (λ y. Some y) at)
-
-pub contains_from_at : {X : Type 0} (xs : List X) (x : X) (k : ℕ) → slice_get xs k ≡ Some x → Contains xs x
-contains_from_at xs x k at = (k, slice_get_within xs k x at, get_or_from_slice_get xs k x x at)
 
 pub line_from_contains : (lines : List Line) (x : Line) (Q : Option Version → Line → Type 0) → Contains lines x → ((owner : Option Version) → Q owner x) → (n : ℕ) × LineIs lines n Q
 line_from_contains lines x Q has q = let h = at_from_contains lines x has in (suc h.0, (x, h.1, q (owner_of lines (suc h.0))))

@@ -10,28 +10,12 @@ use Rattle.std.specs.Map.{update}
 use Rattle.std.proofs.lemmas.List.{length-append, take-append-le}
 use Rattle.std.proofs.lemmas.List.Elements.{Contains-append_left, Contains-get_or, Contains-push, Contains-push_cases}
 use Rattle.std.proofs.lemmas.Option.{slice_get_within}
+use Rattle.resolvo_terms.proofs.Places.{get_new, get_kept, get_push}
 use Rattle.resolvo_text.specs.Line.{Version, Line}
 use Rattle.resolvo_catalogue_core.specs.Grammar.{line_at, owner_below}
-use Rattle.resolvo_catalogue_core.specs.Questions.{IsOnly, AreAll, LineIs}
-use Rattle.resolvo_catalogue_core.specs.Questions.{IsVersionLine}
+use Rattle.resolvo_catalogue_core.specs.Questions.{IsOnly, AreAll, LineIs, IsVersionLine}
 
 -- ---- lists
-
-pub get_new : {X : Type 0} (xs : List X) (x : X) → slice_get (xs ++ x ∷ []) (length xs) ≡ Some x
-get_new [] x = refl
-get_new (y ∷ xs) x = get_new xs x
-
-pub get_kept : {X : Type 0} (xs : List X) (x y : X) (n : ℕ) → slice_get xs n ≡ Some y → slice_get (xs ++ x ∷ []) n ≡ Some y
-get_kept [] x y n e = absurd cc
-get_kept (z ∷ xs) x y zero e = e
-get_kept (z ∷ xs) x y (suc n) e = get_kept xs x y n e
-
--- an element is one of before, or the new one
-pub get_push : {X : Type 0} (xs : List X) (x y : X) (n : ℕ) → slice_get (xs ++ x ∷ []) n ≡ Some y → (slice_get xs n ≡ Some y) ⊎ ((n ≡ length xs) × (x ≡ y))
-get_push [] x y zero e = inr (refl, cc)
-get_push [] x y (suc n) e = absurd cc
-get_push (z ∷ xs) x y zero e = inl e
-get_push (z ∷ xs) x y (suc n) e = elim (get_push xs x y n e) [ inl h ↦ inl h | inr h ↦ inr (ap (λ (k : ℕ). suc k) h.0, h.1) ]
 
 pub increasing_push : (xs : List ℕ) (m : ℕ) → IsStrictlyIncreasing xs → ((n : ℕ) → Contains xs n → n < m) → IsStrictlyIncreasing (xs ++ m ∷ [])
 increasing_push xs m rising below = λ k h.

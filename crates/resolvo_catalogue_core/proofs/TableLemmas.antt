@@ -10,14 +10,14 @@ use Rattle.std.proofs.lemmas.Option.{slice_get_within, slice_get-get_or, slice_g
 use Rattle.resolvo_text.specs.Line.{Version, Line, Skipped, Listed, Needs, Limits, Unknown, Lock, Favour, Exclude, Many, Wish}
 use Rattle.resolvo_catalogue_core.specs.Grammar.{owner_of, owner_below, later, version_of}
 use Rattle.resolvo_catalogue_core.specs.Listed.{listed}
-use Rattle.resolvo_catalogue_core.specs.Questions.{LineIs, BelongsTo, MarksUnknownOf, IsOwner}
+use Rattle.resolvo_catalogue_core.specs.Questions.{LineIs, BelongsTo, MarksUnknownOf, IsOwner, FavoursAt}
 use Rattle.resolvo_catalogue_core.specs.Table.{nowhere, line_of, IsKindOf, AreKindsOf}
-use Rattle.resolvo_catalogue_core.specs.Questions.{FavoursAt}
 use Rattle.resolvo_catalogue_core.specs.declared.rule.VersionNo.{VersionNo}
 use Rattle.resolvo_catalogue_core.specs.declared.rule.Rule.TheVariants as rule
 use Rattle.resolvo_catalogue_core.specs.declared.line_table.LineKind.{LineKind}
 use Rattle.resolvo_catalogue_core.specs.declared.line_table.LineKind.TheVariants as line_kinds
-use Rattle.resolvo_catalogue_core.proofs.Pushed.{get_kept, get_push, at_kept}
+use Rattle.resolvo_terms.proofs.Places.{get_kept, get_push}
+use Rattle.resolvo_catalogue_core.proofs.Pushed.{at_kept}
 
 -- ---- listed versions
 

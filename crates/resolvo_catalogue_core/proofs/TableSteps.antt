@@ -3,8 +3,8 @@ use Rattle.std.proofs.Common.{◌≡◌, ◌==◌, if◌then◌else◌, inl, inr
 use Rattle.std.specs.Prelude.{Contains, slice_get, string_bytes, nat_eq}
 use Rattle.resolvo_catalogue_core.specs.declared.package.Package.{Package}
 use Rattle.resolvo_catalogue_core.specs.Packages.{package_in, AreFound}
-use Rattle.resolvo_catalogue_core.specs.Table.{AddsNumber, AddsVersion, numbers_in}
-use Rattle.resolvo_catalogue_core.specs.Questions.{IsOfPackage, number_of}
+use Rattle.resolvo_catalogue_core.specs.Table.{AddsNumber, AddsVersion, numbers_in, nth, nowhere, line_of, Keeps, IsTable, Adds, lines_in, versions_in, kinds_in, number_in}
+use Rattle.resolvo_catalogue_core.specs.Questions.{IsOfPackage, number_of, IsOnly, AreAll, LineIs, BelongsTo, MarksUnknownOf, Locks, Favours, MarksMany, Excludes, IsFavour, IsVersionLine, FavoursAt}
 use Rattle.std.specs.BTreeMap.{get, get_by_text}
 use Rattle.std.specs.Ordering.{nat_cmp}
 use Rattle.std.specs.Map.{update}
@@ -24,17 +24,15 @@ use Rattle.resolvo_text.specs.declared.alternatives.Alternatives.{Alternatives}
 use Rattle.resolvo_text.specs.declared.condition.Cond.{Cond}
 use Rattle.resolvo_text.specs.Line.{Version, Line, Skipped, Listed, Needs, Limits, Unknown, Lock, Favour, Exclude, Many}
 use Rattle.resolvo_catalogue_core.specs.Grammar.{owner_below}
-use Rattle.resolvo_catalogue_core.specs.Questions.{IsOnly, AreAll, LineIs, BelongsTo, MarksUnknownOf, Locks, Favours, MarksMany, Excludes, IsFavour}
-use Rattle.resolvo_catalogue_core.specs.Table.{nth, nowhere, line_of, Keeps, IsTable, Adds, lines_in, versions_in, kinds_in, number_in}
 use Rattle.resolvo_catalogue_core.specs.LinesByVersion.{kept_of}
 use Rattle.resolvo_catalogue_core.specs.Numbered.{beside, IsNumbered, numbers_of, versions_of}
-use Rattle.resolvo_catalogue_core.specs.Questions.{IsVersionLine, FavoursAt}
 use Rattle.resolvo_catalogue_core.specs.declared.rule.VersionNo.{VersionNo}
 use Rattle.resolvo_catalogue_core.specs.declared.rule.Rule.TheVariants as rule
 use Rattle.resolvo_catalogue_core.specs.declared.line_table.LineKind.{LineKind}
 use Rattle.resolvo_catalogue_core.specs.declared.line_table.LineKind.TheVariants as line_kinds
 use Rattle.resolvo_catalogue_core.specs.declared.table.Table.{Table}
-use Rattle.resolvo_catalogue_core.proofs.Pushed.{get_new, get_kept, get_push, Grows, only_other, all_other, all_new, keyed_new, keyed_more, line_grows, line_within, version_line_grows, version_line_within, version_line_of_listed, get_grows}
+use Rattle.resolvo_terms.proofs.Places.{get_new, get_kept, get_push}
+use Rattle.resolvo_catalogue_core.proofs.Pushed.{Grows, only_other, all_other, all_new, keyed_new, keyed_more, line_grows, line_within, version_line_grows, version_line_within, version_line_of_listed, get_grows}
 use Rattle.resolvo_catalogue_core.proofs.PlaceLemmas.{none_from, excluded_listed, no_number}
 use Rattle.resolvo_catalogue_core.proofs.TableLemmas.{listed_same, listed_more, are_kinds_push, are_kinds_more, lines_of_more, favours_kept, favours_more, owner_listed, belongs_owner, marks_owner}
 

@@ -10,9 +10,10 @@ use Rattle.std.proofs.lemmas.Bool.Decides.{nat_tests}
 use Rattle.std.proofs.lemmas.List.{length-append, length-map, map_push}
 use Rattle.std.proofs.lemmas.Option.{get_or_from_slice_get, slice_get_within, slice_get-map}
 use Rattle.resolvo_text.specs.Line.{Version}
-use Rattle.resolvo_catalogue_core.specs.Listed.{version_by, name_at, kept_version, kept_versions, is_kept, are_kept, AreOnce, AreUsed}
+use Rattle.resolvo_catalogue_core.specs.Listed.{version_by, name_at, kept_version, kept_versions, is_kept, are_kept, AreUsed}
+use Rattle.resolvo_terms.specs.Terms.{AreOnce}
 use Rattle.resolvo_catalogue_core.specs.declared.versions.KeptVersion.{KeptVersion}
-use Rattle.resolvo_catalogue_core.proofs.Pushed.{get_new, get_kept, get_push}
+use Rattle.resolvo_terms.proofs.Places.{get_new, get_kept, get_push}
 
 below : (a b : ℕ) → nat_lt a b ≡ true → a < b
 below a b e = grind (arith, nat_tests)

@@ -1,5 +1,4 @@
 pub mod Grammar
-pub mod Hash
 pub mod Held
 pub mod Rules
 pub mod Sets

@@ -2,7 +2,7 @@
 use Rattle.std.specs.Prelude.{◌≡◌, ◌==◌, ◌+◌, ◌-◌, ◌<◌, ℕ, zero, suc, Bool, false, if◌then◌else◌, bytes_eq, bit_and, List, Option, Some, None, slice_get, slice_index_or, option_map, option_and_then}
 use Rattle.std.specs.BTreeMap.{get_by_text}
 use Rattle.std.specs.String.{string_bytes}
-use Rattle.resolvo_catalogue_core.specs.Hash.{numbers_hash}
+use Rattle.resolvo_terms.specs.Hash.{numbers_hash}
 use Rattle.resolvo_catalogue_core.specs.Numbered.{versions_of}
 use Rattle.resolvo_catalogue_core.specs.declared.rule.VersionNo.{VersionNo}
 use Rattle.resolvo_catalogue_core.specs.declared.package.Package.{Package}

@@ -2,7 +2,6 @@
 #![tactic(auto)]
 
 mod catalogue;
-mod hash;
 mod laws;
 mod line_table;
 mod lines_by_version;
@@ -18,7 +17,6 @@ mod version_list;
 mod versions;
 
 pub use catalogue::Catalogue;
-pub use hash::{hash_of_all, mixed};
 pub use laws::{
     catalogue_has_no_fault, request_has_no_fault, text_is_one_catalogue, text_is_one_request,
 };

@@ -11,9 +11,9 @@ ghost use Rattle.resolvo_catalogue_core.specs.Packages.{package_in, package_by, 
 ghost use Rattle.resolvo_catalogue_core.specs.Table.{AddsNumber, AddsVersion, number_in};
 ghost use Rattle.resolvo_catalogue_core.specs.declared.package.Package.{Package};
 
-use crate::hash::hash_of_all;
 use crate::package::Package;
 use crate::rule::VersionNo;
+use resolvo_terms::hash_of_all;
 use std::alloc::{AllocError, Global};
 use std::collections::BTreeMap;
 

@@ -5,7 +5,8 @@
 ghost use Rattle.std.specs.Prelude.{◌≡◌, ◌≤◌, ◌<◌, ◌++◌, ◌∷◌, [], ℕ, true, length, map, option_map, slice_get, OnOk, Some, None};
 ghost use Rattle.std.specs.String.{string_bytes};
 ghost use Rattle.resolvo_text.specs.Line.{Version};
-ghost use Rattle.resolvo_catalogue_core.specs.Listed.{version_by, name_at, kept_versions, are_kept, AreOnce};
+ghost use Rattle.resolvo_catalogue_core.specs.Listed.{version_by, name_at, kept_versions, are_kept};
+ghost use Rattle.resolvo_terms.specs.Terms.{AreOnce};
 
 use crate::rule::VersionNo;
 use std::alloc::{AllocError, Global};
@@ -29,7 +30,8 @@ impl Model for Versions {
     ghost use Rattle.std.specs.Prelude.{◌≡◌, ◌≤◌, List, length, map, true};
     ghost use Rattle.std.specs.String.{string_bytes};
     ghost use Rattle.resolvo_text.specs.Line.{Version};
-    ghost use Rattle.resolvo_catalogue_core.specs.Listed.{kept_versions, are_kept, AreOnce, AreUsed};
+    ghost use Rattle.resolvo_catalogue_core.specs.Listed.{kept_versions, are_kept, AreUsed};
+    ghost use Rattle.resolvo_terms.specs.Terms.{AreOnce};
 
     ghost Value = { List Version };
 

@@ -8,7 +8,7 @@ use Rattle.std.specs.Cmp.Lexicographic.{bytes_decides}
 use Rattle.std.proofs.lemmas.Bool.{false≢true, cases_Bool, cond-true, cond-false}
 use Rattle.std.proofs.lemmas.Option.{none-some, same_Some}
 use Rattle.resolvo_text.specs.Line.{Version, Spec, Line}
-use Rattle.resolvo_catalogue_core.proofs.Pushed.{get_new, get_kept}
+use Rattle.resolvo_terms.proofs.Places.{get_new, get_kept}
 use Rattle.resolvo_report.specs.Value.{Place, OfRequest, OfVersion, Step}
 use Rattle.resolvo_report.specs.Value as step
 use Rattle.resolvo_checker.specs.Numbers.{number_in}

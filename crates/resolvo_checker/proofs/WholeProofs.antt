@@ -6,7 +6,7 @@ use Rattle.std.specs.Option.{option_map}
 use Rattle.std.proofs.lemmas.Option.{none-some, slice_get-map, slice_get_read, slice_get_within}
 use Rattle.std.proofs.lemmas.List.{take_more, map-append, take-append-le}
 use Rattle.resolvo_text.specs.Line.{Line}
-use Rattle.resolvo_catalogue_core.proofs.Pushed.{get_push}
+use Rattle.resolvo_terms.proofs.Places.{get_push}
 use Rattle.resolvo_report.specs.Value.{Step}
 use Rattle.resolvo_report.specs.View.{step_of, steps_of}
 use Rattle.resolvo_report.specs.declared.step.Step.{Step as CodeStep}

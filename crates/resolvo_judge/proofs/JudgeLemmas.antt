@@ -14,7 +14,7 @@ use Rattle.resolvo_text.specs.Spelling.{Words}
 use Rattle.resolvo_text.proofs.KnownBytes.{consumed}
 use Rattle.resolvo_catalogue_core.specs.Answers.{ClaimsInstall, ClaimsRefusal}
 use Rattle.resolvo_catalogue_core.specs.Listed.{listed}
-use Rattle.resolvo_catalogue_core.proofs.Pushed.{get_push}
+use Rattle.resolvo_terms.proofs.Places.{get_push}
 use Rattle.resolvo_report.specs.declared.place.Part.{Part}
 use Rattle.resolvo_report.specs.declared.place.Part.TheVariants as part
 use Rattle.resolvo_report.specs.declared.reader.ReportReader.{ReportReader}

@@ -4,7 +4,8 @@ use Rattle.std.proofs.lemmas.Bool.{and_parts, and_from, eqb-true, eq-eqb}
 use Rattle.resolvo_pool_core.specs.RuleKeeping.{Rules}
 use Rattle.resolvo_sat.specs.RuleClauses.{IsExact}
 use Rattle.resolvo_catalogue_core.specs.Grammar.{AreRequestLines}
-use Rattle.resolvo_catalogue.specs.Ids.{SolvableId, NameId}
+use Rattle.resolvo_catalogue.specs.Ids.{SolvableId}
+use Rattle.resolvo_terms.specs.Terms.{NameId}
 use Rattle.resolvo_catalogue.specs.Over.{IsOver, AreAsked}
 use Rattle.resolvo_catalogue.specs.Provider.{Provider, packages_of}
 use Rattle.resolvo_catalogue.specs.declared.dependency_provider.GivenUp.{GivenUp}

@@ -1,5 +1,6 @@
 use Rattle.std.proofs.Common.{◌≡◌, true, sym, ap, subst}
-use Rattle.resolvo_catalogue.specs.Ids.{NameId, SolvableId}
+use Rattle.resolvo_terms.specs.Terms.{NameId}
+use Rattle.resolvo_catalogue.specs.Ids.{SolvableId}
 use Rattle.resolvo_catalogue.specs.Over.{IsOver, AreAsked}
 use Rattle.resolvo_catalogue.specs.Provider.{Provider}
 use Rattle.resolvo.specs.Solver.{Kept}

@@ -5,7 +5,8 @@ use Rattle.resolvo_proof.specs.Trimmed.{IsTrimmedWith, StaysProof}
 use Rattle.resolvo_proof.specs.Drawn.{HaveOneSigns}
 use Rattle.resolvo_proof.specs.Places.{HaveOnePlace}
 use Rattle.resolvo_proof.specs.declared.step.ProofStep.{ProofStep}
-use Rattle.resolvo_catalogue.specs.Ids.{NameId, SolvableId}
+use Rattle.resolvo_terms.specs.Terms.{NameId}
+use Rattle.resolvo_catalogue.specs.Ids.{SolvableId}
 use Rattle.resolvo_report.specs.View.{report_of, steps_of}
 use Rattle.resolve_install.specs.Install.{Serve, IsInstallOf}
 use Rattle.resolve_answer.specs.ReportTurns.{AreWanted}

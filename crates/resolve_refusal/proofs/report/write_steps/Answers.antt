@@ -2,7 +2,8 @@ use Rattle.std.proofs.Common.{◌≡◌, ◌+◌, ◌∷◌, ◌++◌, [], sym, 
 use Rattle.std.specs.List.{AllZip}
 use Rattle.std.proofs.lemmas.List.{take_more, map-append}
 use Rattle.indexmap.proofs.SetLemmas.{AllZip-push}
-use Rattle.resolvo_catalogue.specs.Ids.{NameId, SolvableId}
+use Rattle.resolvo_terms.specs.Terms.{NameId}
+use Rattle.resolvo_catalogue.specs.Ids.{SolvableId}
 use Rattle.resolvo_proof.specs.declared.step.ProofStep.{ProofStep}
 use Rattle.resolvo_report.specs.Value.{Step as ReadRequest}
 use Rattle.resolvo_report.specs.View.{step_of, steps_of}

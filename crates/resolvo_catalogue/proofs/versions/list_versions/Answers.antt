@@ -3,7 +3,8 @@ use Rattle.std.specs.String.{string_bytes}
 use Rattle.resolvo_intern.specs.declared.pool.Solvable.{Solvable}
 use Rattle.resolvo_text.specs.Line.{Version}
 use Rattle.resolvo_catalogue_core.specs.Listed.{are_kept, kept_versions}
-use Rattle.resolvo_catalogue.specs.Ids.{Ids, AreEach, IsSolvable, solvable_by}
+use Rattle.resolvo_catalogue.specs.Ids.{Ids, IsSolvable, solvable_by}
+use Rattle.resolvo_terms.specs.Terms.{AreEach}
 use Rattle.resolvo_catalogue.proofs.ListLemmas.{versions_by}
 use Rattle.resolvo_catalogue.proofs.versions.list_versions.Goals as goal
 

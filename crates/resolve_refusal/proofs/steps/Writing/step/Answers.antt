@@ -1,5 +1,6 @@
 use Rattle.std.proofs.Common.{List, ℕ, ap, map, subst, ◌∙◌}
-use Rattle.resolvo_catalogue.specs.Ids.{NameId, SolvableId}
+use Rattle.resolvo_terms.specs.Terms.{NameId}
+use Rattle.resolvo_catalogue.specs.Ids.{SolvableId}
 use Rattle.resolvo_proof.specs.declared.step.ProofLiteral.{ProofLiteral}
 use Rattle.resolvo_report.specs.Value as in_report
 use Rattle.resolvo_report.specs.View.{literals_of}

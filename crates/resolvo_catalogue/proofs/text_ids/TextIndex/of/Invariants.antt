@@ -1,5 +1,0 @@
-use Rattle.resolvo_catalogue.specs.Found.{AreTextsFound}
-use Rattle.resolvo_catalogue.proofs.text_ids.TextIndex.of.Given as goal
-
-abbrev pub invariant-loop-number : goal.invariant-loop-number
-invariant-loop-number l = AreTextsFound l.texts l.index.slots.numbers.items l.index.others.entries l.number

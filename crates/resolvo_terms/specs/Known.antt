@@ -1,0 +1,36 @@
+-- The values of numbers: packages, spans, SPECs, conditions, words.
+-- A number that was never handed out has no value; the answer is then the first of its kind, or empty.
+use Rattle.std.specs.Prelude.{◌&&◌, nat_lt, ℕ, List, [], map, slice_get, slice_index_or, if◌then◌else◌}
+use Rattle.std.specs.Option.{option_map_or}
+use Rattle.resolvo_text.specs.declared.spec.Span.TheVariants.{Any}
+use Rattle.resolvo_pool_core.specs.declared.id.VersionSetId.{VersionSetId}
+use Rattle.resolvo_pool_core.specs.declared.id.VersionSetUnionId.{VersionSetUnionId}
+use Rattle.resolvo_pool_core.specs.declared.id.ConditionId.{ConditionId}
+use Rattle.resolvo_pool_core.specs.declared.id.StringId.{StringId}
+use Rattle.resolvo_pool_core.specs.declared.condition.Condition.{Condition}
+use Rattle.resolvo_pool_core.specs.declared.condition.Condition.TheVariants.{Binary, Requirement}
+use Rattle.resolvo_terms.specs.Terms.{Terms, NameId}
+use Rattle.resolvo_terms.specs.declared.terms.Numbers.{Numbers}
+
+abbrev pub name_id : ℕ → NameId
+name_id n = record { raw = n; tag = record {} }
+
+abbrev pub set_at : Terms → VersionSetId → NameId × Numbers
+set_at t v = slice_index_or t.version_sets v.0 (name_id 0, record { 0 = Any })
+
+abbrev pub members_of : Terms → VersionSetUnionId → List VersionSetId
+members_of t u = slice_index_or t.unions u.0 []
+
+-- the condition, if its operands have smaller numbers
+abbrev pub sound : ConditionId → Condition → Condition
+sound c (Requirement v) = Requirement v
+sound c (Binary op a b) = if nat_lt a.0 c.0 && nat_lt b.0 c.0 then Binary op a b else Requirement (record { 0 = 0 })
+
+abbrev pub condition_at : Terms → ConditionId → Condition
+condition_at t c = option_map_or (sound c) (slice_get t.conditions c.0) (Requirement (record { 0 = 0 }))
+
+abbrev pub name_text : Terms → NameId → List ℕ
+name_text t n = slice_index_or t.names n.raw []
+
+abbrev pub word_text : Terms → StringId → List ℕ
+word_text t w = slice_index_or t.words w.0 []

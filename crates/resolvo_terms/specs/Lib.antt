@@ -1,0 +1,6 @@
+pub mod Hash
+pub mod Terms
+pub mod Texts
+pub mod TermCounts
+pub mod Found
+pub mod Known

@@ -1,0 +1,613 @@
+//! The numbers of packages, SPECs, lists of alternatives, conditions and words.
+//! The model is one list of each, in the order of first naming; `specs/Terms.antt` has the text of
+//! each number. No choice of names makes it slow to find a number: hashes that collide are sorted.
+
+ghost use Rattle.std.specs.Prelude.{◌≡◌, ◌<◌, ◌≤◌, ◌+◌, ◌*◌, ◌++◌, ◌∷◌, [], if◌then◌else◌, ℕ, List, bytes_eq, IfOk, IsErrOf, OnOk, OnErr, length, map, slice_get, Some, None};
+ghost use Rattle.std.specs.Option.{option_copied};
+ghost use Rattle.std.specs.String.{string_bytes};
+ghost use Rattle.resolvo_text.specs.View.{spec_of, specs_of, cond_of, condition_of};
+ghost use Rattle.resolvo_text.specs.Line.{Is};
+ghost use Rattle.resolvo_pool_core.specs.declared.condition.Condition.TheVariants.{Binary};
+ghost use Rattle.resolvo_pool_core.specs.Provider.{OperandsBelow};
+ghost use Rattle.resolvo_pool_core.specs.declared.want.Want.TheVariants.{Ids};
+ghost use Rattle.resolvo_terms.specs.Terms.{AreOnce, AreEach, Grows, AreSound, LacksNumber, IsPackage, IsWord, IsSpec, AreAlternatives, IsCondition, IsConditionOf, IsNeed};
+ghost use Rattle.resolvo_terms.specs.TermCounts.{term_count, ids_for_condition, ids_for_need};
+ghost use Rattle.resolvo_terms.specs.Found.{Key, key_eq, list_number_in, set_key, union_key, few_key, condition_key, number_at};
+
+use crate::key_map::{Key, KeyMap};
+use crate::text_ids::TextIds;
+use resolvo_intern::pool::VersionSet;
+use resolvo_pool_core::condition::{Condition, LogicalOperator};
+use resolvo_pool_core::id::{
+    ConditionId, DenseIndex, NameId, StringId, VersionSetId, VersionSetUnionId, next_index,
+};
+use resolvo_pool_core::requirement::{ConditionalRequirement, Requirement};
+use resolvo_pool_core::want::R;
+use resolvo_text::{Cond, Span, Spec};
+use std::alloc::{AllocError, Global};
+use std::collections::BTreeMap;
+use std::marker::Model;
+
+/// The numbers that a SPEC asks for, as a version set of its package.
+#[derive(Clone, Copy, Debug, Drop, PartialEq, Eq, Hash)]
+pub struct Numbers(pub Span);
+
+impl VersionSet for Numbers {
+    type V = u32;
+}
+
+/// Values in the order in which they were added, and the number of each by its key.
+struct Numbered<T: Drop> {
+    values: Vec<T>,
+    ids: KeyMap,
+    ghost few: { length ids.entries ≤ length values.items },
+}
+
+// split for the prover: one drop for each
+impl<T: Drop> Drop for Numbered<T> {
+    fn drop(self) {
+        let Numbered { values: _, ids: _ } = self;
+    }
+}
+
+/// Lists of alternatives, each once, in the order in which they were added, and the number of each.
+struct Unions {
+    values: Vec<Vec<VersionSetId>>,
+    /// The numbers of the lists of up to three.
+    short: KeyMap,
+    /// The numbers of the others.
+    long: BTreeMap<Vec<u32>, u32>,
+    ghost few: { length short.entries ≤ length values.items },
+}
+
+// split for the prover: one drop for each
+impl Drop for Unions {
+    fn drop(self) {
+        let Unions {
+            values: _,
+            short: _,
+            long: _,
+        } = self;
+    }
+}
+
+/// For how many ids of each kind there is room at first.
+#[derive(Clone, Copy, Debug)]
+pub struct Room {
+    pub version_sets: usize,
+    pub unions: usize,
+    pub conditions: usize,
+}
+
+/// The numbered values.
+pub struct Terms {
+    names: TextIds,
+    words: TextIds,
+    version_sets: Numbered<(NameId, Numbers)>,
+    unions: Unions,
+    conditions: Numbered<Condition>,
+    alloc: Global,
+}
+
+// split for the prover: one drop
+impl Drop for Terms {
+    fn drop(self) {
+        let Terms {
+            names: _,
+            words: _,
+            version_sets: _,
+            unions: _,
+            conditions: _,
+            alloc: _,
+        } = self;
+    }
+}
+
+impl Model for Terms {
+    ghost use Rattle.std.specs.Prelude.{map};
+    ghost use Rattle.resolvo_terms.specs.Terms.{Terms};
+    ghost use Rattle.resolvo_terms.specs.Found.{AreKept, number_at};
+
+    ghost Value = { Terms };
+
+    ghost view = { λ t.
+        record {
+          names = t.names;
+          words = t.words;
+          version_sets = t.version_sets.values.items;
+          unions = map (λ u. u.items) t.unions.values.items;
+          conditions = t.conditions.values.items;
+        } };
+
+    ghost invariant = { λ t.
+        AreKept t.version_sets.values.items (number_at t.version_sets.ids)
+        (map (λ u. u.items) t.unions.values.items) (number_at t.unions.short) t.unions.long.entries
+        t.conditions.values.items (number_at t.conditions.ids) };
+}
+
+impl Terms {
+    /// An empty table, with room for some ids.
+    pub fn new(alloc: Global, room: Room) -> Result<Terms, AllocError>
+        ensures { IfOk result (λ t. t
+            ≡ record
+            { names = []; words = []; version_sets = []; unions = []; conditions = [] }) }
+    {
+        Ok(Terms {
+            names: TextIds::new(alloc)?,
+            words: TextIds::new(alloc)?,
+            version_sets: Numbered::new(alloc, room.version_sets)?,
+            unions: Unions::new(alloc, room.unions)?,
+            conditions: Numbered::new(alloc, room.conditions)?,
+            alloc,
+        })
+    }
+
+    /// Numbers the packages of these names, where none is numbered yet.
+    pub fn name_packages(&mut self, names: &[String]) -> Result<(), AllocError>
+        requires once { AreOnce (map string_bytes names.now) }
+        requires few { length names.now ≤ 4294967295 }
+        ensures names { OnOk result (self.new ≡ record self.old { names = map string_bytes names.now }) }
+        ensures same { OnErr result (self.new ≡ self.old) }
+    {
+        self.names = TextIds::of(self.alloc, names)?;
+        Ok(())
+    }
+
+    /// The id of a package.
+    pub fn package(&mut self, name: &str) -> R<NameId>
+        ensures package { IfOk result (λ n. IsPackage self.new n name.now) }
+        ensures grows { Grows self.old self.new }
+        ensures few { term_count self.new ≤ term_count self.old + 1 }
+        ensures ids { IsErrOf result Ids → LacksNumber self.new }
+    {
+        Ok(NameId::from_raw(self.names.intern(self.alloc, name)?))
+    }
+
+    /// The id of a word of reason.
+    pub fn word(&mut self, word: &str) -> R<StringId>
+        ensures word { IfOk result (λ w. IsWord self.new w word.now) }
+        ensures grows { Grows self.old self.new }
+        ensures few { term_count self.new ≤ term_count self.old + 1 }
+        ensures ids { IsErrOf result Ids → LacksNumber self.new }
+    {
+        Ok(StringId(self.words.intern(self.alloc, word)?))
+    }
+
+    /// The id of a SPEC.
+    #[tactic(auto, using(crate::proofs::GrowLemmas::grows_on))]
+    pub fn spec(&mut self, spec: &Spec) -> R<VersionSetId>
+        ensures spec { IfOk result (λ v. IsSpec self.new v (spec_of spec.now)) }
+        ensures grows { Grows self.old self.new }
+        ensures few { term_count self.new ≤ term_count self.old + 2 }
+        ensures ids { IsErrOf result Ids → LacksNumber self.new }
+    {
+        let package = self.package(spec.name.as_str())?;
+        self.version_set(package, spec.span)
+    }
+
+    /// The id of a span of a package.
+    fn version_set(&mut self, name: NameId, span: Span) -> R<VersionSetId>
+        ensures version_set { IfOk result
+            (λ v. slice_get self.new.version_sets v.0 ≡ Some (name, record { 0 = span })) }
+        ensures grows { Grows self.old self.new }
+        ensures few { term_count self.new ≤ term_count self.old + 1 }
+        ensures ids { IsErrOf result Ids → LacksNumber self.new }
+    {
+        let key = key_of_set(name, span);
+        if let Some(id) = self.version_sets.number(&key) {
+            return Ok(VersionSetId(id));
+        }
+        let id = self.version_sets.add((name, Numbers(span)), key)?;
+        Ok(VersionSetId(id))
+    }
+
+    /// The ids of SPECs, in order.
+    fn specs(&mut self, specs: &[Spec]) -> R<Vec<VersionSetId>>
+        ensures specs { IfOk result (λ vs. AreEach (IsSpec self.new) vs.items (specs_of specs.now)) }
+        ensures grows { Grows self.old self.new }
+        ensures few { term_count self.new ≤ term_count self.old + 2 * length specs.now }
+        ensures ids { IsErrOf result Ids → LacksNumber self.new }
+    {
+        let mut ids = Vec::new(self.alloc);
+        for spec in specs {
+            ids.push(self.spec(spec)?)?;
+        }
+        Ok(ids)
+    }
+
+    /// The id of a list of SPECs, none or at least two.
+    fn union(&mut self, members: Vec<VersionSetId>) -> R<VersionSetUnionId>
+        requires several { (v : VersionSetId) → members.items ≡ v ∷ [] → ⊥ }
+        ensures union { IfOk result (λ u. slice_get self.new.unions u.0 ≡ Some members.items) }
+        ensures grows { Grows self.old self.new }
+        ensures few { term_count self.new ≤ term_count self.old + 1 }
+        ensures ids { IsErrOf result Ids → LacksNumber self.new }
+    {
+        match key_of_few(&members) {
+            Some(key) => self.short_union(members, key),
+            None => self.long_union(members),
+        }
+    }
+
+    /// The id of a list of SPECs that has a key.
+    fn short_union(&mut self, members: Vec<VersionSetId>, key: Key) -> R<VersionSetUnionId>
+        requires several { (v : VersionSetId) → members.items ≡ v ∷ [] → ⊥ }
+        requires key { few_key members.items ≡ Some key }
+        ensures union { IfOk result (λ u. slice_get self.new.unions u.0 ≡ Some members.items) }
+        ensures grows { Grows self.old self.new }
+        ensures few { term_count self.new ≤ term_count self.old + 1 }
+        ensures ids { IsErrOf result Ids → LacksNumber self.new }
+    {
+        if let Some(id) = self.unions.short.number(&key) {
+            return Ok(VersionSetUnionId(id));
+        }
+        let id = self.unions.add_short(members, key)?;
+        Ok(VersionSetUnionId(id))
+    }
+
+    /// The id of a longer list of SPECs.
+    fn long_union(&mut self, members: Vec<VersionSetId>) -> R<VersionSetUnionId>
+        requires several { (v : VersionSetId) → members.items ≡ v ∷ [] → ⊥ }
+        requires long { few_key members.items ≡ None }
+        ensures union { IfOk result (λ u. slice_get self.new.unions u.0 ≡ Some members.items) }
+        ensures grows { Grows self.old self.new }
+        ensures few { term_count self.new ≤ term_count self.old + 1 }
+        ensures ids { IsErrOf result Ids → LacksNumber self.new }
+    {
+        let key = key_of_union(self.alloc, &members)?;
+        if let Some(id) = self.unions.long_number(key.as_slice()) {
+            return Ok(VersionSetUnionId(id));
+        }
+        let id = self.unions.add_long(members, key)?;
+        Ok(VersionSetUnionId(id))
+    }
+
+    /// The requirement that one of the alternatives is matched.
+    #[tactic(auto, using(crate::proofs::GrowLemmas::grows_on, crate::proofs::GrowLemmas::specs_stay))]
+    pub fn alternatives(&mut self, alternatives: &[Spec]) -> R<Requirement>
+        ensures alternatives { IfOk result (λ r. AreAlternatives self.new r (specs_of alternatives.now)) }
+        ensures grows { Grows self.old self.new }
+        ensures few { term_count self.new ≤ term_count self.old + 2 * length alternatives.now + 1 }
+        ensures ids { IsErrOf result Ids → LacksNumber self.new }
+    {
+        if let [only] = alternatives {
+            return Ok(Requirement::Single(self.spec(only)?));
+        }
+        let members = self.specs(alternatives)?;
+        Ok(Requirement::Union(self.union(members)?))
+    }
+
+    /// The id of the condition that a SPEC is met.
+    #[tactic(auto, using(crate::proofs::GrowLemmas::spec_stays, crate::proofs::GrowLemmas::grows_on))]
+    fn condition_of_spec(&mut self, spec: &Spec) -> R<ConditionId>
+        ensures condition { IfOk result (λ c. IsCondition self.new c (Is (spec_of spec.now))) }
+        ensures grows { Grows self.old self.new }
+        ensures few { term_count self.new ≤ term_count self.old + 3 }
+        ensures ids { IsErrOf result Ids → LacksNumber self.new }
+    {
+        let version_set = self.spec(spec)?;
+        self.intern_condition(Condition::Requirement(version_set))
+    }
+
+    fn intern_condition(&mut self, condition: Condition) -> R<ConditionId>
+        requires { OperandsBelow condition (record { 0 = length self.old.conditions }) }
+        ensures condition { IfOk result (λ c. slice_get self.new.conditions c.0 ≡ Some condition) }
+        ensures grows { Grows self.old self.new }
+        ensures few { term_count self.new ≤ term_count self.old + 1 }
+        ensures ids { IsErrOf result Ids → LacksNumber self.new }
+    {
+        let key = key_of_condition(condition);
+        if let Some(id) = self.conditions.number(&key) {
+            return Ok(ConditionId(id));
+        }
+        let id = self.conditions.add(condition, key)?;
+        Ok(ConditionId(id))
+    }
+
+    /// The id of a condition, whose operands are interned first.
+    #[tactic(auto, using(crate::proofs::GrowLemmas::grows_on, crate::proofs::GrowLemmas::condition_stays, crate::proofs::GrowLemmas::condition_within))]
+    pub fn condition(&mut self, condition: &Cond) -> R<ConditionId>
+        ensures condition { IfOk result (λ c. IsCondition self.new c (cond_of condition.now)) }
+        ensures grows { Grows self.old self.new }
+        ensures few { term_count self.new ≤ term_count self.old + ids_for_condition (cond_of condition.now) }
+        ensures ids { IsErrOf result Ids → LacksNumber self.new }
+    {
+        match condition {
+            Cond::Spec(spec) => self.condition_of_spec(spec),
+            Cond::And(left, right) => {
+                let left = self.condition(left)?;
+                let right = self.condition(right)?;
+                self.join(LogicalOperator::And, left, right)
+            }
+            Cond::Or(left, right) => {
+                let left = self.condition(left)?;
+                let right = self.condition(right)?;
+                self.join(LogicalOperator::Or, left, right)
+            }
+        }
+    }
+
+    /// The id of two conditions that are joined.
+    fn join(
+        &mut self,
+        operator: LogicalOperator,
+        left: ConditionId,
+        right: ConditionId,
+    ) -> R<ConditionId>
+        requires left { left.0 < length self.old.conditions }
+        requires right { right.0 < length self.old.conditions }
+        // After an answer.
+        ensures joined { IfOk result
+            (λ c. slice_get self.new.conditions c.0 ≡ Some (Binary operator left right)) }
+        // Whatever the answer.
+        ensures grows { Grows self.old self.new }
+        ensures few { term_count self.new ≤ term_count self.old + 1 }
+        // After a refusal.
+        ensures ids { IsErrOf result Ids → LacksNumber self.new }
+    {
+        self.intern_condition(Condition::Binary(operator, left, right))
+    }
+
+    /// The requirement of a need.
+    #[tactic(auto, using(crate::proofs::GrowLemmas::grows_on, crate::proofs::GrowLemmas::alternatives_stay))]
+    pub fn need(
+        &mut self,
+        alternatives: &[Spec],
+        condition: Option<&Box<Cond>>,
+    ) -> R<ConditionalRequirement>
+        ensures need { IfOk result
+            (λ r.
+            IsNeed self.new r
+            (specs_of alternatives.now, condition_of (option_copied condition.entry))) }
+        ensures grows { Grows self.old self.new }
+        ensures few { term_count self.new
+            ≤ term_count self.old
+            + ids_for_need (specs_of alternatives.now, condition_of (option_copied condition.entry)) }
+        ensures ids { IsErrOf result Ids → LacksNumber self.new }
+    {
+        let requirement = self.alternatives(alternatives)?;
+        let condition = match condition {
+            Some(condition) => Some(self.condition(condition)?),
+            None => None,
+        };
+        Ok(ConditionalRequirement {
+            condition,
+            requirement,
+        })
+    }
+}
+
+impl Terms {
+    ghost use Rattle.resolvo_terms.specs.Known.{set_at, members_of, condition_at, name_text, word_text};
+
+    /// The name of a package. Calls of this kind answer for every number.
+    pub fn name(&self, name: NameId) -> &str
+        ensures { result.now ≡ name_text self.now name }
+    {
+        match self.names.text(name.into_raw()) {
+            Some(name) => name,
+            None => "",
+        }
+    }
+
+    /// The word of an id.
+    pub fn text(&self, word: StringId) -> &str
+        ensures { result.now ≡ word_text self.now word }
+    {
+        match self.words.text(word.0) {
+            Some(word) => word,
+            None => "",
+        }
+    }
+
+    /// The package of a version set.
+    pub fn set_package(&self, version_set: VersionSetId) -> NameId
+        ensures { result ≡ (set_at self.now version_set).0 }
+    {
+        match self.version_sets.values.get(version_set.to_index()) {
+            Some(set) => set.0,
+            None => NameId::from_raw(0),
+        }
+    }
+
+    /// The numbers that a version set holds.
+    pub fn span(&self, version_set: VersionSetId) -> Span
+        ensures { result ≡ (set_at self.now version_set).1.0 }
+    {
+        match self.version_sets.values.get(version_set.to_index()) {
+            Some(set) => set.1.0,
+            None => Span::Any,
+        }
+    }
+
+    /// The version sets of a union.
+    pub fn members(&self, union: VersionSetUnionId) -> &[VersionSetId]
+        ensures { result.now ≡ members_of self.now union }
+    {
+        match self.unions.values.get(union.to_index()) {
+            Some(members) => members.as_slice(),
+            None => &[],
+        }
+    }
+
+    /// The condition of an id.
+    pub fn meaning(&self, condition: ConditionId) -> Condition
+        ensures { result ≡ condition_at self.now condition }
+    {
+        match condition_at(&self.conditions.values, condition.to_index()) {
+            Some(meaning) => meaning,
+            None => Condition::Requirement(VersionSetId(0)),
+        }
+    }
+
+    /// A law of every table: no value has two ids. It does nothing.
+    pub fn ids_are_once(&self)
+        ensures { AreSound self.now }
+    {
+        self.names.texts_are_once();
+        self.words.texts_are_once();
+    }
+}
+
+impl<T: Drop> Numbered<T> {
+    /// No values.
+    fn new(alloc: Global, room: usize) -> Result<Numbered<T>, AllocError>
+        ensures values { IfOk result (λ t. t.values.items ≡ []) }
+        ensures ids { IfOk result (λ t. (key : Key) → number_at t.ids key ≡ None) }
+    {
+        Ok(Numbered {
+            values: Vec::new(alloc),
+            ids: KeyMap::new(alloc, room)?,
+        })
+    }
+
+    /// The number of a key, if it has one.
+    fn number(&self, key: &Key) -> Option<u32>
+        ensures { result ≡ number_at self.now.ids key.now }
+    {
+        self.ids.number(key)
+    }
+
+    /// Appends a value that has no number, and maps its key to its number.
+    fn add(&mut self, value: T, key: Key) -> R<u32>
+        requires { number_at self.old.ids key ≡ None }
+        // After an answer.
+        ensures id { IfOk result (λ i. i ≡ length self.old.values.items) }
+        ensures value { OnOk result (self.new.values.items ≡ self.old.values.items ++ value ∷ []) }
+        ensures key { OnOk result
+            ((other : Key)
+            → number_at self.new.ids other
+            ≡ (if key_eq key other then Some (length self.old.values.items)
+            else number_at self.old.ids other)) }
+        // After a refusal.
+        ensures kept { OnErr result (self.new.values.items ≡ self.old.values.items) }
+        ensures keys { OnErr result (self.new.ids ≡ self.old.ids) }
+        ensures ids { IsErrOf result Ids → 4294967295 ≤ length self.new.values.items }
+    {
+        let index = next_index(self.values.len())?;
+        self.values.reserve(1)?;
+        self.ids.add(key, index as u32)?;
+        self.values.push_reserved(value);
+        Ok(index as u32)
+    }
+}
+
+impl Unions {
+    /// No lists.
+    fn new(alloc: Global, room: usize) -> Result<Unions, AllocError>
+        ensures values { IfOk result (λ t. t.values.items ≡ []) }
+        ensures short { IfOk result (λ t. (key : Key) → number_at t.short key ≡ None) }
+        ensures long { IfOk result (λ t. t.long.entries ≡ []) }
+    {
+        Ok(Unions {
+            values: Vec::new(alloc),
+            short: KeyMap::new(alloc, room)?,
+            long: BTreeMap::new(alloc),
+        })
+    }
+
+    /// The number of a list that is longer than three, by its numbers, if it has one.
+    fn long_number(&self, key: &[u32]) -> Option<u32>
+        ensures { result ≡ list_number_in self.now.long.entries key.now }
+    {
+        self.long.get(key).copied()
+    }
+
+    /// Appends a list that has no number, and maps its key to its number.
+    fn add_short(&mut self, value: Vec<VersionSetId>, key: Key) -> R<u32>
+        requires { number_at self.old.short key ≡ None }
+        // After an answer.
+        ensures id { IfOk result (λ i. i ≡ length self.old.values.items) }
+        ensures value { OnOk result (self.new.values.items ≡ self.old.values.items ++ value ∷ []) }
+        ensures key { OnOk result
+            ((other : Key)
+            → number_at self.new.short other
+            ≡ (if key_eq key other then Some (length self.old.values.items)
+            else number_at self.old.short other)) }
+        // After a refusal.
+        ensures kept { OnErr result (self.new.values.items ≡ self.old.values.items) }
+        ensures keys { OnErr result (self.new.short ≡ self.old.short) }
+        ensures ids { IsErrOf result Ids → 4294967295 ≤ length self.new.values.items }
+        // Whatever the answer.
+        ensures long { self.new.long ≡ self.old.long }
+    {
+        let index = next_index(self.values.len())?;
+        self.values.reserve(1)?;
+        self.short.add(key, index as u32)?;
+        self.values.push_reserved(value);
+        Ok(index as u32)
+    }
+
+    /// Appends a long list that has no number, and maps its key to its number.
+    fn add_long(&mut self, value: Vec<VersionSetId>, key: Vec<u32>) -> R<u32>
+        // After an answer.
+        ensures id { IfOk result (λ i. i ≡ length self.old.values.items) }
+        ensures value { OnOk result (self.new.values.items ≡ self.old.values.items ++ value ∷ []) }
+        ensures key { OnOk result
+            ((other : List ℕ)
+            → list_number_in self.new.long.entries other
+            ≡ (if bytes_eq key.items other then Some (length self.old.values.items)
+            else list_number_in self.old.long.entries other)) }
+        // After a refusal.
+        ensures kept { OnErr result (self.new.values.items ≡ self.old.values.items) }
+        ensures keys { OnErr result (self.new.long.entries ≡ self.old.long.entries) }
+        ensures ids { IsErrOf result Ids → 4294967295 ≤ length self.new.values.items }
+        // Whatever the answer.
+        ensures short { self.new.short ≡ self.old.short }
+    {
+        let index = next_index(self.values.len())?;
+        self.values.reserve(1)?;
+        self.long.insert(key, index as u32)?;
+        self.values.push_reserved(value);
+        Ok(index as u32)
+    }
+}
+
+fn condition_at(conditions: &[Condition], place: usize) -> Option<Condition>
+    ensures { result ≡ slice_get conditions.now place }
+{
+    conditions.get(place).copied()
+}
+
+fn key_of_set(name: NameId, span: Span) -> Key
+    ensures { result ≡ set_key (name, record { 0 = span }) }
+{
+    match span {
+        Span::Any => (name.into_raw(), 0, 0, 0),
+        Span::One(number) => (name.into_raw(), 1, number, 0),
+        Span::Range(low, high) => (name.into_raw(), 2, low, high),
+    }
+}
+
+/// The key of a list of up to three.
+fn key_of_few(members: &[VersionSetId]) -> Option<Key>
+    ensures { result ≡ few_key members.now }
+{
+    match members {
+        [] => Some((0, 0, 0, 0)),
+        [a] => Some((1, a.0, 0, 0)),
+        [a, b] => Some((2, a.0, b.0, 0)),
+        [a, b, c] => Some((3, a.0, b.0, c.0)),
+        _ => None,
+    }
+}
+
+fn key_of_union(alloc: Global, members: &[VersionSetId]) -> Result<Vec<u32>, AllocError>
+    ensures { IfOk result (λ key. key.items ≡ union_key members.now) }
+{
+    let mut key = Vec::with_capacity(alloc, members.len())?;
+    for member in members {
+        key.push(member.0)?;
+    }
+    Ok(key)
+}
+
+fn key_of_condition(condition: Condition) -> Key
+    ensures { result ≡ condition_key condition }
+{
+    match condition {
+        Condition::Requirement(version_set) => (0, version_set.0, 0, 0),
+        Condition::Binary(LogicalOperator::And, left, right) => (1, left.0, right.0, 0),
+        Condition::Binary(LogicalOperator::Or, left, right) => (2, left.0, right.0, 0),
+    }
+}

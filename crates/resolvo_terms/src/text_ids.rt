@@ -1,0 +1,269 @@
+//! Texts, each numbered once, in the order in which they are added. The model is the list of them.
+//! A text is found at a place of its hash. Those whose places others have are in a sorted map. So no
+//! choice of texts makes that slow. Used by `terms`.
+
+ghost use Rattle.std.specs.Prelude.{◌≡◌, ◌≤◌, ◌<◌, ◌+◌, [], ℕ, List, Option, if◌then◌else◌, map, IfOk, IfSome, IsErrOf, OnOk, OnErr, length, slice_get, Some, None};
+ghost use Rattle.resolvo_pool_core.specs.declared.want.Want.TheVariants.{Ids};
+ghost use Rattle.std.specs.Option.{option_map};
+ghost use Rattle.std.specs.Str.{bytes_eq};
+ghost use Rattle.std.specs.String.{string_bytes};
+ghost use Rattle.resolvo_terms.specs.Terms.{AreOnce, Extends};
+ghost use Rattle.resolvo_terms.specs.Found.{AreTextsFound, IsPut, number_from, number_if, number_of_slot, or_later, place_from, slot_at, list_number_in, tries, text_hash};
+
+use crate::hash::hash_of_all;
+use crate::slots::{Slots, TRIES, first_place, places_for};
+use crate::text_list::TextList;
+use resolvo_pool_core::id::next_index;
+use resolvo_pool_core::want::{R, Want};
+use std::alloc::{AllocError, Global};
+use std::collections::BTreeMap;
+use std::marker::Model;
+
+/// Where texts of a list are found.
+struct TextIndex {
+    slots: Slots,
+    /// The numbers of the texts whose places others have.
+    others: BTreeMap<Vec<u8>, u32>,
+}
+
+// split for the prover: one drop for each
+impl Drop for TextIndex {
+    fn drop(self) {
+        let TextIndex {
+            slots: _,
+            others: _,
+        } = self;
+    }
+}
+
+pub struct TextIds {
+    texts: TextList,
+    index: TextIndex,
+}
+
+// split for the prover: one drop for each
+impl Drop for TextIds {
+    fn drop(self) {
+        let TextIds { texts: _, index: _ } = self;
+    }
+}
+
+impl Model for TextIds {
+    ghost use Rattle.std.specs.Prelude.{List, ℕ, length};
+    ghost use Rattle.resolvo_terms.specs.Found.{AreTextsFound};
+
+    ghost Value = { List (List ℕ) };
+
+    ghost view = { λ t. t.texts };
+
+    ghost invariant = { λ t.
+        AreTextsFound t.texts t.index.slots.numbers.items t.index.others.entries
+        (length t.texts) };
+}
+
+impl TextIds {
+    pub fn new(alloc: Global) -> Result<TextIds, AllocError>
+        ensures { IfOk result (λ t. t ≡ []) }
+    {
+        Ok(TextIds {
+            texts: TextList::new(alloc),
+            index: TextIndex::new(alloc, 0)?,
+        })
+    }
+
+    /// These texts by their places.
+    pub fn of(alloc: Global, texts: &[String]) -> Result<TextIds, AllocError>
+        requires once { AreOnce (map string_bytes texts.now) }
+        requires few { length texts.now ≤ 4294967295 }
+        ensures { IfOk result (λ t. t ≡ map string_bytes texts.now) }
+    {
+        let texts = TextList::of(alloc, texts)?;
+        let index = TextIndex::of(alloc, &texts, places_for(texts.len()))?;
+        Ok(TextIds { texts, index })
+    }
+
+    /// Numbers a text that has no number.
+    fn add(&mut self, alloc: Global, text: &str, hash: usize) -> R<u32>
+        requires hash { hash ≡ text_hash text.now }
+        requires absent { (i : ℕ) → slice_get self.old i ≡ Some text.now → ⊥ }
+        // After an answer.
+        ensures text { IfOk result (λ i. slice_get self.new i ≡ Some text.now) }
+        // Whatever the answer.
+        ensures extends { Extends self.old self.new }
+        ensures few { length self.new ≤ length self.old + 1 }
+        // After a refusal.
+        ensures ids { IsErrOf result Ids → 4294967295 ≤ length self.new }
+    {
+        let index = next_index(self.texts.len())?;
+        self.texts.push(text)?;
+        match self.index.put(alloc, text.as_bytes(), hash, index as u32) {
+            Ok(()) => Ok(index as u32),
+            Err(_) => {
+                self.texts.pop();
+                Err(Want::Memory)
+            }
+        }
+    }
+
+    /// Makes room for one text more, so that few texts share their places.
+    fn make_room(&mut self, alloc: Global) -> Result<(), AllocError>
+        ensures { self.new ≡ self.old }
+    {
+        if let Some(places) = self.index.slots.more_for(self.texts.len()) {
+            self.index = TextIndex::of(alloc, &self.texts, places)?;
+        }
+        Ok(())
+    }
+
+    /// The number of a text, a new one where it has none.
+    pub fn intern(&mut self, alloc: Global, text: &str) -> R<u32>
+        ensures text { IfOk result (λ i. slice_get self.new i ≡ Some text.now) }
+        ensures extends { Extends self.old self.new }
+        ensures few { length self.new ≤ length self.old + 1 }
+        ensures ids { IsErrOf result Ids → 4294967295 ≤ length self.new }
+    {
+        let hash = hash_of_text(text.as_bytes());
+        match self.find(text, hash) {
+            Some(id) => Ok(id),
+            None => {
+                self.make_room(alloc)?;
+                self.add(alloc, text, hash)
+            }
+        }
+    }
+
+    /// The number of a text, if it has one.
+    fn find(&self, text: &str, hash: usize) -> Option<u32>
+        requires { hash ≡ text_hash text.now }
+        ensures found { IfSome result (λ i. slice_get self.now i ≡ Some text.now) }
+        ensures absent { result ≡ None → (i : ℕ) → slice_get self.now i ≡ Some text.now → ⊥ }
+    {
+        self.index.number(&self.texts, text.as_bytes(), hash)
+    }
+
+    /// The text of a number.
+    pub fn text(&self, id: u32) -> Option<&str>
+        ensures { option_map (λ t. t.now) result ≡ slice_get self.now id }
+    {
+        self.texts.text(id as usize)
+    }
+
+    /// A law of each table: no text has two numbers. It does nothing.
+    pub fn texts_are_once(&self)
+        ensures { AreOnce self.now }
+    {
+        let _texts = &self.texts;
+    }
+}
+
+impl TextIndex {
+    /// So many places, and no texts.
+    fn new(alloc: Global, count: usize) -> Result<TextIndex, AllocError>
+        ensures { IfOk result
+            (λ x. (texts : List (List ℕ))
+            → AreTextsFound texts x.slots.numbers.items x.others.entries 0) }
+    {
+        Ok(TextIndex {
+            slots: Slots::new(alloc, count)?,
+            others: BTreeMap::new(alloc),
+        })
+    }
+
+    /// The places of texts.
+    fn of(alloc: Global, texts: &TextList, count: usize) -> Result<TextIndex, AllocError>
+        requires once { AreOnce texts.now }
+        requires few { length texts.now ≤ 4294967295 }
+        ensures { IfOk result
+            (λ x. AreTextsFound texts.now x.slots.numbers.items x.others.entries
+            (length texts.now)) }
+    {
+        let mut index = TextIndex::new(alloc, count)?;
+        for number in 0..texts.len() {
+            let text = texts.at(number);
+            index.put(alloc, text, hash_of_text(text), number as u32)?;
+        }
+        Ok(index)
+    }
+
+    /// The number of a text, if it has one.
+    fn number(&self, texts: &TextList, text: &[u8], hash: usize) -> Option<u32>
+        requires { hash ≡ text_hash text.now }
+        ensures { result
+            ≡ number_from bytes_eq texts.now self.now.slots.numbers.items
+            (list_number_in self.now.others.entries text.now) tries
+            (place_from (text_hash text.now)) text.now }
+    {
+        let first = first_place(hash);
+        for tried in 0..TRIES {
+            if self.slots.is_free(first + tried) {
+                return None;
+            }
+            if let Some(number) = self.number_at(texts, text, first + tried) {
+                return Some(number);
+            }
+        }
+        self.others.get(text).copied()
+    }
+
+    /// The number at a place that isn't free, if it is that of the text.
+    #[tactic(auto, using(crate::proofs::IndexLemmas::slot_none, crate::proofs::IndexLemmas::slot_some))]
+    fn number_at(&self, texts: &TextList, text: &[u8], place: usize) -> Option<u32>
+        requires { slot_at self.now.slots.numbers.items place ≡ Some 0 → ⊥ }
+        ensures { (later : Option ℕ)
+            → number_of_slot bytes_eq texts.now
+            (slot_at self.now.slots.numbers.items place) later text.now
+            ≡ or_later result later }
+    {
+        let number = self.slots.number_at(place)?;
+        if is_text(texts, number, text) {
+            Some(number)
+        } else {
+            None
+        }
+    }
+
+    /// Puts the number of a text at its place.
+    fn put(
+        &mut self,
+        alloc: Global,
+        text: &[u8],
+        hash: usize,
+        number: u32,
+    ) -> Result<(), AllocError>
+        requires hash { hash ≡ text_hash text.now }
+        requires number { number < 4294967295 }
+        ensures put { OnOk result
+            (IsPut bytes_eq text.now (text_hash text.now) number self.old.slots.numbers.items
+            self.new.slots.numbers.items (list_number_in self.old.others.entries)
+            (list_number_in self.new.others.entries)) }
+        ensures slots { OnErr result (self.new.slots ≡ self.old.slots) }
+        ensures others { OnErr result (self.new.others.entries ≡ self.old.others.entries) }
+    {
+        let placed = self.slots.put(hash, number);
+        if placed {
+            return Ok(());
+        }
+        self.others.insert(Vec::from_slice(alloc, text)?, number)?;
+        Ok(())
+    }
+}
+
+/// Whether a text is that of a number.
+fn is_text(texts: &TextList, number: u32, text: &[u8]) -> bool
+    ensures { (later : Option ℕ)
+        → number_if bytes_eq (slice_get texts.now number) number later text.now
+        ≡ (if result then Some number else later) }
+{
+    match texts.bytes_of(number as usize) {
+        Some(found) => found == text,
+        None => false,
+    }
+}
+
+/// A hash of a text.
+#[tactic(auto, unfolding(crate::specs::Found::text_hash))]
+fn hash_of_text(text: &[u8]) -> usize
+    ensures { result ≡ text_hash text.now }
+{
+    hash_of_all(text)
+}

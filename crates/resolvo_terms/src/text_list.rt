@@ -1,0 +1,142 @@
+//! Texts in one list of bytes, in the order in which they are added. The model is the list of them.
+//! None has memory of its own. Used by `text_ids`.
+
+ghost use Rattle.std.specs.Prelude.{◌≡◌, ◌<◌, ◌-◌, ◌∷◌, ◌++◌, [], IfOk, OnOk, OnErr, length, map, slice_get, take, Some};
+ghost use Rattle.std.specs.Option.{option_map};
+ghost use Rattle.std.specs.Str.{IsUtf8};
+ghost use Rattle.std.specs.String.{string_bytes};
+
+use std::alloc::{AllocError, Global};
+use std::marker::Model;
+
+/// Where a text lies among the bytes.
+#[derive(Clone, Copy, Debug)]
+pub struct Bounds {
+    begin: usize,
+    end: usize,
+}
+
+pub struct TextList {
+    bytes: Vec<u8>,
+    bounds: Vec<Bounds>,
+}
+
+// split for the prover: one drop for each
+impl Drop for TextList {
+    fn drop(self) {
+        let TextList {
+            bytes: _,
+            bounds: _,
+        } = self;
+    }
+}
+
+impl Model for TextList {
+    ghost use Rattle.std.specs.Prelude.{List, ℕ, map};
+    ghost use Rattle.resolvo_terms.specs.Texts.{AreTexts, text_between};
+
+    ghost Value = { List (List ℕ) };
+
+    ghost view = { λ t. map (text_between t.bytes.items) t.bounds.items };
+
+    ghost invariant = { λ t. AreTexts t.bytes.items t.bounds.items };
+}
+
+impl TextList {
+    pub fn new(alloc: Global) -> TextList
+        ensures { result ≡ [] }
+    {
+        TextList {
+            bytes: Vec::new(alloc),
+            bounds: Vec::new(alloc),
+        }
+    }
+
+    /// No texts, with room for so many, which have so many bytes.
+    fn with_room(alloc: Global, texts: usize, bytes: usize) -> Result<TextList, AllocError>
+        ensures { IfOk result (λ t. t ≡ []) }
+    {
+        Ok(TextList {
+            bytes: Vec::with_capacity(alloc, bytes)?,
+            bounds: Vec::with_capacity(alloc, texts)?,
+        })
+    }
+
+    /// Copies of texts.
+    pub fn of(alloc: Global, texts: &[String]) -> Result<TextList, AllocError>
+        ensures { IfOk result (λ t. t ≡ map string_bytes texts.now) }
+    {
+        let mut list = TextList::with_room(alloc, texts.len(), length_of_all(texts))?;
+        for text in texts {
+            list.push(text.as_str())?;
+        }
+        Ok(list)
+    }
+
+    pub fn len(&self) -> usize
+        ensures { result ≡ length self.now }
+    {
+        self.bounds.len()
+    }
+
+    /// The bytes of a text.
+    pub fn at(&self, number: usize) -> &[u8]
+        requires { number < length self.now }
+        ensures text { slice_get self.now number ≡ Some result.now }
+        ensures utf8 { IsUtf8 result.now }
+    {
+        let bounds = self.bounds[number];
+        &self.bytes[bounds.begin..bounds.end]
+    }
+
+    /// A text as bytes, if there is one of this number.
+    pub fn bytes_of(&self, number: usize) -> Option<&[u8]>
+        ensures { option_map (λ t. t.now) result ≡ slice_get self.now number }
+    {
+        if number < self.len() {
+            Some(self.at(number))
+        } else {
+            None
+        }
+    }
+
+    /// A text, if there is one of this number.
+    pub fn text(&self, number: usize) -> Option<&str>
+        ensures { option_map (λ t. t.now) result ≡ slice_get self.now number }
+    {
+        if number < self.len() {
+            std::str::from_utf8(self.at(number)).ok()
+        } else {
+            None
+        }
+    }
+
+    /// Adds a text.
+    pub fn push(&mut self, text: &str) -> Result<(), AllocError>
+        ensures added { OnOk result (self.new ≡ self.old ++ text.now ∷ []) }
+        ensures same { OnErr result (self.new ≡ self.old) }
+    {
+        let begin = self.bytes.len();
+        self.bounds.reserve(1)?;
+        self.bytes.extend_from_slice(text.as_bytes())?;
+        let end = self.bytes.len();
+        self.bounds.push_reserved(Bounds { begin, end });
+        Ok(())
+    }
+
+    /// Takes the last text away.
+    pub fn pop(&mut self)
+        ensures { self.new ≡ take (length self.old - 1) self.old }
+    {
+        self.bounds.pop();
+    }
+}
+
+/// How many bytes texts have, or at most.
+fn length_of_all(texts: &[String]) -> usize {
+    let mut length = 0usize;
+    for text in texts {
+        length = length.saturating_add(text.len());
+    }
+    length
+}
