@@ -1,4 +1,5 @@
 pub mod Positions
+mod MarkLemmas
 pub mod Seen
 pub mod FitLemmas
 pub mod OfferLemmas

@@ -1,5 +1,6 @@
--- The states of the need clauses by position, the marks of blocks, and their bounds.
-use Rattle.std.specs.Prelude.{◌≡◌, ℕ, ◌/◌, ◌<◌, ◌≤◌, cond, nat_lt, Bool, true, false, List, length, slice_index_or}
+-- The states of the need clauses by position, their marks, and the bounds of blocks.
+use Rattle.std.specs.Prelude.{◌≡◌, ℕ, ◌/◌, ◌%◌, ◌<◌, ◌≤◌, cond, nat_lt, Bool, true, false, List, length, slice_index_or}
+use Rattle.std.specs.Int.{bit_at}
 use Rattle.resolvo_decide.specs.declared.clause_states.TheConstants.{BLOCK, GROUP}
 use Rattle.resolvo_decide.specs.declared.clause_states.ClauseState.{ClauseState}
 use Rattle.resolvo_decide.specs.declared.clause_states.ClauseState.TheVariants.{Open, Satisfied, Inactive}
@@ -20,13 +21,21 @@ reopened common Open = Open
 reopened common (Satisfied within) = cond (nat_lt common within) Open (Satisfied within)
 reopened common Inactive = Inactive
 
--- whether a block may have an open clause; true past the end
+-- the word of a block, with a bit for each clause; all set past the end
+abbrev pub word_at : List ℕ → ℕ → ℕ
+word_at marks k = slice_index_or marks k 18446744073709551615
+
+-- the bit of the clause at a position: 0 where it isn't open
+unfoldable pub bit_of : List ℕ → ℕ → ℕ
+bit_of marks i = bit_at (word_at marks (i / BLOCK)) (i % BLOCK)
+
+-- a clause whose bit is 0 isn't open
+abbrev pub AreMarked : List ClauseState → List ℕ → Type 0
+AreMarked states marks = (i : ℕ) → i < length states → bit_of marks i ≡ 0 → is_open_state (state_at states i) ≡ false
+
+-- whether a group may have an open clause; true past the end
 abbrev pub mark_at : List Bool → ℕ → Bool
 mark_at marks k = slice_index_or marks k true
-
--- a block whose mark is false has no open clause
-abbrev pub AreMarked : List ClauseState → List Bool → Type 0
-AreMarked states marks = (i : ℕ) → i < length states → mark_at marks (i / BLOCK) ≡ false → is_open_state (state_at states i) ≡ false
 
 -- a group of blocks whose mark is false has no open clause
 abbrev pub AreGrouped : List ClauseState → List Bool → Type 0

@@ -1,21 +1,22 @@
 //! The state of each need clause, by its position in the queue. The model is the list of states.
-//! Marks show which blocks of positions may have an open clause; the pick skips the others, and the
-//! positions before the first that may be open. Bounds
+//! Marks, a word of bits for each block, show which clauses may be open; the pick skips the others,
+//! and the positions before the first that may be open. Bounds
 //! show how long a prefix of the trail satisfies the clauses of a block. A backjump skips a block
 //! whose bound it keeps.
 ghost use Rattle.std.specs.Prelude.{◌≡◌, ℕ, ◌<◌, ◌≤◌, ◌/◌, ◌++◌, ◌∷◌, ◌⊎◌, [], List, Bool, map, max, length, false, true, slice_set, Contains, OnOk, OnErr, IsOkUnless};
 ghost use Rattle.resolvo_pool_core.specs.declared.want.Want.TheVariants.{Memory};
 ghost use Rattle.resolvo_decide.specs.declared.clause_states.ClauseState.TheVariants.{Open};
-ghost use Rattle.resolvo_decide.specs.States.{state_at, is_open_state, reopened, mark_at, met_within, bound_at};
+ghost use Rattle.std.specs.Int.{bit_at};
+ghost use Rattle.resolvo_decide.specs.States.{state_at, is_open_state, reopened, word_at, bit_of, mark_at, met_within, bound_at};
 
 use resolvo_pool_core::want::R;
 use std::alloc::Global;
 use std::marker::Model;
 
-/// The number of consecutive clauses with one mark.
+/// The number of consecutive clauses whose marks are one word.
 const BLOCK: usize = 64;
 
-/// The number of consecutive clauses with one group mark, above the marks of their blocks.
+/// The number of consecutive clauses with one group mark, above their own marks.
 const GROUP: usize = 4096;
 
 /// The state of a need clause under the trail.
@@ -56,9 +57,9 @@ impl ClauseState {
 pub struct ClauseStates {
     /// The state of each clause.
     states: Vec<ClauseState>,
-    /// Whether a block may have an open clause.
-    marks: Vec<bool>,
-    /// Whether a group of blocks may have one.
+    /// For each block a word, with a bit for each clause: whether it may be open.
+    marks: Vec<u64>,
+    /// Whether a group of blocks may have an open clause.
     groups: Vec<bool>,
     /// For each block the length of a prefix that bounds those of its clauses. The highest number
     /// is no bound.
@@ -113,8 +114,8 @@ impl ClauseStates {
         }
     }
 
-    /// The first position from this one on whose clause is open, or the number of clauses. A block
-    /// without one is skipped until one of its clauses opens.
+    /// The first position from this one on whose clause is open, or the number of clauses. A clause
+    /// that isn't open is skipped until it opens.
     pub fn next_open(&mut self, from: usize) -> usize
         ensures behind { from ≤ result }
         ensures passed { (i : ℕ)
@@ -153,7 +154,7 @@ impl ClauseStates {
         position
     }
 
-    /// The position of the first open clause after a closed one, or the end of its block.
+    /// The first position after a closed one that may be open, or the end of its group.
     fn pass(&mut self, position: usize) -> usize
         requires within { position < length self.old }
         requires closed { is_open_state (state_at self.old position) ≡ false }
@@ -166,20 +167,12 @@ impl ClauseStates {
             → is_open_state (state_at self.old i) ≡ false }
         ensures same { self.new ≡ self.old }
     {
+        let end = self.group_end(position);
         if !is_marked(&self.groups, position / GROUP) {
-            return self.group_end(position);
-        }
-        let block = position / BLOCK;
-        let start = block * BLOCK;
-        let end = start + BLOCK.min(self.states.len() - start);
-        if !is_marked(&self.marks, block) {
             return end;
         }
-        let found = first_open(&self.states, position + 1, end);
-        if found == end && position == start {
-            set_mark(&mut self.marks, block, false);
-        }
-        found
+        clear_bit(&mut self.marks, position);
+        first_marked(&self.marks, position + 1, end)
     }
 
     /// The end of the group of a position.
@@ -216,7 +209,7 @@ impl ClauseStates {
         if position < self.states.len() {
             self.states[position] = state;
             if state.is_open() {
-                set_mark(&mut self.marks, position / BLOCK, true);
+                set_bit(&mut self.marks, position);
                 set_mark(&mut self.groups, position / GROUP, true);
                 self.opening = self.opening.min(position);
             }
@@ -230,10 +223,10 @@ impl ClauseStates {
         ensures err { OnErr result (self.new ≡ self.old) }
         ensures refusal { IsOkUnless result Memory }
     {
-        let block = self.states.len() / BLOCK;
-        mark(&mut self.marks, block)?;
-        mark(&mut self.groups, self.states.len() / GROUP)?;
-        make_bound(&mut self.bounds, block)?;
+        let position = self.states.len();
+        mark(&mut self.marks, position)?;
+        mark_group(&mut self.groups, position / GROUP)?;
+        make_bound(&mut self.bounds, position / BLOCK)?;
         self.states.push(ClauseState::Open)?;
         Ok(())
     }
@@ -310,32 +303,142 @@ impl ClauseStates {
     }
 }
 
-/// Whether a block may have an open clause.
-fn is_marked(marks: &[bool], block: usize) -> bool
-    ensures { result ≡ mark_at marks.now block }
-{
-    block >= marks.len() || marks[block]
-}
-
-/// Sets whether a block may have an open clause.
-fn set_mark(marks: &mut [bool], block: usize, mark: bool)
-    ensures { marks.new ≡ slice_set marks.old block mark }
+/// The word of marks of a block. Past the end each clause is marked.
+fn word_of(marks: &[u64], block: usize) -> u64
+    ensures { result ≡ word_at marks.now block }
 {
     if block < marks.len() {
-        marks[block] = mark;
+        marks[block]
+    } else {
+        u64::MAX
     }
 }
 
-/// Marks that a block may have an open clause, also where it is the next one.
-fn mark(marks: &mut Vec<bool>, block: usize) -> R<()>
-    ensures marked { OnOk result (mark_at marks.new.items block ≡ true) }
-    ensures kept { (k : ℕ) → mark_at marks.new.items k ≡ false → mark_at marks.old.items k ≡ false }
+/// Marks that the clause at a position may be open.
+fn set_bit(marks: &mut [u64], position: usize)
+    ensures set { bit_of marks.new position ≡ 1 }
+    ensures others { (i : ℕ) → bit_of marks.new i ≡ 0 → bit_of marks.old i ≡ 0 }
+    ensures len { length marks.new ≡ length marks.old }
+{
+    let block = position / BLOCK;
+    if block < marks.len() {
+        marks[block] |= 1u64 << (position % BLOCK);
+    }
+}
+
+/// Marks that the clause at a position isn't open.
+fn clear_bit(marks: &mut [u64], position: usize)
+    ensures others { (i : ℕ)
+        → bit_of marks.new i ≡ 0
+        → (bit_of marks.old i ≡ 0) ⊎ (i ≡ position) }
+    ensures len { length marks.new ≡ length marks.old }
+{
+    let block = position / BLOCK;
+    if block < marks.len() {
+        marks[block] &= !(1u64 << (position % BLOCK));
+    }
+}
+
+/// Marks that the clause at a position may be open, also where it is the next one.
+fn mark(marks: &mut Vec<u64>, position: usize) -> R<()>
+    ensures marked { OnOk result (bit_of marks.new.items position ≡ 1) }
+    ensures kept { (i : ℕ) → bit_of marks.new.items i ≡ 0 → bit_of marks.old.items i ≡ 0 }
+    ensures refusal { IsOkUnless result Memory }
+{
+    add_word(marks, position / BLOCK)?;
+    set_bit(marks, position);
+    Ok(())
+}
+
+/// Adds the word of a block, if it is the next one. Each of its clauses is marked.
+fn add_word(marks: &mut Vec<u64>, block: usize) -> R<()>
+    ensures kept { (i : ℕ) → bit_of marks.new.items i ≡ bit_of marks.old.items i }
     ensures refusal { IsOkUnless result Memory }
 {
     if marks.len() <= block {
-        marks.push(true)?;
+        marks.push(u64::MAX)?;
     }
-    set_mark(marks, block, true);
+    Ok(())
+}
+
+/// The first marked position in a range, or its end.
+fn first_marked(marks: &[u64], from: usize, end: usize) -> usize
+    requires { from ≤ end }
+    ensures behind { from ≤ result }
+    ensures within { result ≤ end }
+    ensures passed { (i : ℕ) → from ≤ i → i < result → bit_of marks.now i ≡ 0 }
+{
+    let block = from / BLOCK;
+    let first = block * BLOCK;
+    let place = first_bit(word_of(marks, block), from % BLOCK);
+    let last = end / BLOCK;
+    if place < BLOCK || last <= block {
+        return first + place.min(end - first);
+    }
+    let found = first_word(marks, block + 1, last);
+    let start = found * BLOCK;
+    start + first_bit(word_of(marks, found), 0).min(end - start)
+}
+
+/// The first block from this one on with a marked clause, or the last one.
+fn first_word(marks: &[u64], from: usize, last: usize) -> usize
+    requires { from ≤ last }
+    ensures behind { from ≤ result }
+    ensures within { result ≤ last }
+    ensures passed { (k : ℕ) → from ≤ k → k < result → word_at marks.now k ≡ 0 }
+{
+    let end = last.min(marks.len());
+    for block in from..end {
+        if marks[block] != 0 {
+            return block;
+        }
+    }
+    from.max(end)
+}
+
+/// The first place from this one on whose bit in a word is set, or the number of bits.
+fn first_bit(word: u64, from: usize) -> usize
+    requires { from < BLOCK }
+    ensures behind { from ≤ result }
+    ensures within { result ≤ BLOCK }
+    ensures passed { (j : ℕ) → from ≤ j → j < result → bit_at word j ≡ 0 }
+{
+    let rest = word >> from;
+    if rest == 0 {
+        BLOCK
+    } else {
+        from + rest.trailing_zeros() as usize
+    }
+}
+
+/// Whether a group may have an open clause.
+fn is_marked(groups: &[bool], group: usize) -> bool
+    ensures { result ≡ mark_at groups.now group }
+{
+    group >= groups.len() || groups[group]
+}
+
+/// Sets whether a group may have an open clause.
+fn set_mark(groups: &mut [bool], group: usize, mark: bool)
+    ensures { groups.new ≡ slice_set groups.old group mark }
+{
+    if group < groups.len() {
+        groups[group] = mark;
+    }
+}
+
+/// Marks that a group may have an open clause, also where it is the next one.
+fn mark_group(groups: &mut Vec<bool>, group: usize) -> R<()>
+    ensures marked { OnOk result (mark_at groups.new.items group ≡ true) }
+    ensures kept { (k : ℕ)
+        → mark_at groups.new.items k ≡ false
+        → mark_at groups.old.items k ≡ false }
+    ensures refusal { IsOkUnless result Memory }
+{
+    if groups.len() <= group {
+        groups.push(true)?;
+    }
+    set_mark(groups, group, true);
     Ok(())
 }
 
@@ -381,23 +484,4 @@ fn lower(bounds: &mut [u32], block: usize, common: usize)
             bounds[block] = bound;
         }
     }
-}
-
-/// The position of the first open state in a range, or its end.
-fn first_open(states: &[ClauseState], from: usize, end: usize) -> usize
-    requires order { from ≤ end }
-    requires end { end ≤ length states.now }
-    ensures behind { from ≤ result }
-    ensures within { result ≤ end }
-    ensures passed { (i : ℕ)
-        → from ≤ i
-        → i < result
-        → is_open_state (state_at states.now i) ≡ false }
-{
-    for position in from..end {
-        if states[position].is_open() {
-            return position;
-        }
-    }
-    end
 }
