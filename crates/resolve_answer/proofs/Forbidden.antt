@@ -13,7 +13,7 @@ use Rattle.resolvo_catalogue_core.specs.Answers as answer
 use Rattle.resolvo_catalogue_core.specs.Answers.{Answer, entries_of}
 use Rattle.resolvo_catalogue_core.specs.Listed.{listed}
 use Rattle.resolvo_catalogue_core.specs.Questions.{Forbids}
-use Rattle.resolvo_catalogue_core.specs.Table.{nth}
+use Rattle.resolvo_catalogue_core.specs.Kept.{nth}
 use Rattle.resolvo_catalogue_core.specs.declared.rule.VersionNo.{VersionNo}
 use Rattle.resolve_order.specs.Order as order
 use Rattle.resolve_order.specs.View.{turn_of, turns_of, wish_at}

@@ -11,7 +11,7 @@ use Rattle.resolvo_catalogue_core.specs.Grammar.{AreRequestLines}
 use Rattle.resolvo_catalogue_core.specs.Listed.{listed, members}
 use Rattle.resolvo_catalogue_core.specs.Questions.{ReadRequest}
 use Rattle.resolvo_catalogue_core.specs.Sets as texts
-use Rattle.resolvo_catalogue_core.specs.Table.{nth}
+use Rattle.resolvo_catalogue_core.specs.Kept.{nth}
 use Rattle.resolvo_catalogue_core.specs.declared.rule.VersionNo.{VersionNo}
 use Rattle.resolve_order.specs.Order.{AreReached, chosen_in, wishes_in}
 use Rattle.resolve_order.specs.Order as order

@@ -13,7 +13,7 @@ use Rattle.resolvo_catalogue_core.specs.Grammar.{AreRequestLines}
 use Rattle.resolvo_catalogue_core.specs.Listed.{listed, members}
 use Rattle.resolvo_catalogue_core.specs.Questions.{ReadRequest}
 use Rattle.resolvo_catalogue_core.specs.Sets as texts
-use Rattle.resolvo_catalogue_core.specs.Table.{nth, nowhere}
+use Rattle.resolvo_catalogue_core.specs.Kept.{nth, nowhere}
 use Rattle.resolvo_catalogue_core.specs.declared.rule.VersionNo.{VersionNo}
 use Rattle.resolve_order.specs.Order.{AreReached, chosen_by, chosen_in, wishes_in}
 use Rattle.resolve_order.specs.View.{turn_of, turns_of}

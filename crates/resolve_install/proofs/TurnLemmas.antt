@@ -15,7 +15,7 @@ use Rattle.resolvo_text.specs.Matches.{Set, is_member}
 use Rattle.resolvo_catalogue_core.specs.Grammar.{line_at}
 use Rattle.resolvo_catalogue_core.specs.Answers.{ForRequest, ForVersion, Wished, Answer, Entry, LeftOut, entries_of, wish_line_of}
 use Rattle.resolvo_catalogue_core.specs.Listed.{listed}
-use Rattle.resolvo_catalogue_core.specs.Table.{nth}
+use Rattle.resolvo_catalogue_core.specs.Kept.{nth}
 use Rattle.resolvo_catalogue_core.specs.declared.rule.VersionNo.{VersionNo}
 use Rattle.resolvo_terms.proofs.Places.{at_from_contains}
 use Rattle.resolvo_catalogue_core.proofs.TableSteps.{numbered}

@@ -8,7 +8,7 @@ use Rattle.resolvo_catalogue_core.specs.Answers.{entries_of}
 use Rattle.resolvo_catalogue_core.specs.Listed.{listed}
 use Rattle.resolvo_catalogue_core.specs.Questions.{AreAll, LineIs, IsWish, WishesAt}
 use Rattle.resolvo_catalogue_core.specs.Sets.{IsRuleKeeping}
-use Rattle.resolvo_catalogue_core.specs.Table.{nth}
+use Rattle.resolvo_catalogue_core.specs.Kept.{nth}
 use Rattle.resolvo_catalogue_core.specs.declared.rule.VersionNo.{VersionNo}
 use Rattle.resolve_order.specs.Order.{AreTurns, AreReached, chosen_in, wishes_in}
 use Rattle.resolve_order.specs.View.{turns_of}

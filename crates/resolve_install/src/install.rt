@@ -9,7 +9,7 @@ ghost use Rattle.std.specs.List.{AllByRecursion};
 ghost use Rattle.resolvo_text.specs.Spelling.{IsNumber};
 ghost use Rattle.resolvo_text.specs.View.{version_of};
 ghost use Rattle.resolvo_catalogue_core.specs.Listed.{listed};
-ghost use Rattle.resolvo_catalogue_core.specs.Table.{nth};
+ghost use Rattle.resolvo_catalogue_core.specs.Kept.{nth};
 ghost use Rattle.resolve_order.specs.declared.entry.Answer.TheVariants as answer;
 ghost use Rattle.resolve_order.specs.View as view;
 ghost use Rattle.resolvo_report.specs.View.{answer_line_of, answer_lines_of, steps_of, report_of};

@@ -14,7 +14,7 @@ use Rattle.resolvo_catalogue_core.specs.Answers as answers
 use Rattle.resolvo_catalogue_core.specs.Answers.{entry_of, entries_of}
 use Rattle.resolvo_catalogue_core.specs.Listed.{listed, members}
 use Rattle.resolvo_catalogue_core.specs.Questions.{AreAll, IsVersionLine, BelongsTo}
-use Rattle.resolvo_catalogue_core.specs.Table.{nth}
+use Rattle.resolvo_catalogue_core.specs.Kept.{nth}
 use Rattle.resolvo_catalogue_core.specs.declared.rule.VersionNo.{VersionNo}
 use Rattle.resolvo_terms.proofs.Places.{get_push}
 use Rattle.resolvo_catalogue_core.proofs.TableSteps.{numbered}

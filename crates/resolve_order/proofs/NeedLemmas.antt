@@ -1,14 +1,15 @@
 -- The rule of a need, and the keys of its SPECs.
-use Rattle.std.proofs.Common.{◌≡◌, inl, inr, ℕ, ◌<◌, ◌+◌, ◌++◌, ◌∷◌, [], List, Option, Some, None, Result, Ok, Err, OnOk, length, take, get_or, sym, ap, subst, refl, ◌∙◌}
-use Rattle.std.specs.Prelude.{Contains}
+use Rattle.std.proofs.Common.{◌≡◌, inl, inr, ℕ, ◌<◌, ◌+◌, ◌++◌, ◌∷◌, [], List, Bor, Option, Some, None, Result, Ok, Err, OnOk, length, take, get_or, sym, ap, subst, refl, ◌∙◌}
+use Rattle.std.specs.Prelude.{Contains, option_copied, option_map}
 use Rattle.std.proofs.lemmas.Bool.{false≢true}
 use Rattle.std.proofs.lemmas.List.{take_more, map-append}
 use Rattle.std.proofs.lemmas.List.Elements.{Contains-push_cases}
 use Rattle.resolvo_text.specs.Line.{Version, Spec, Cond, Line, Needs}
 use Rattle.resolvo_text.specs.View.{spec_of, specs_of}
 use Rattle.resolvo_text.specs.declared.spec.Spec as code
-use Rattle.resolvo_catalogue_core.specs.Questions.{IsRuleLine}
+use Rattle.resolvo_catalogue_core.specs.Questions.{IsRuleLine, rule_found}
 use Rattle.resolvo_catalogue_core.specs.declared.rule.Rule.{Rule}
+use Rattle.resolvo_catalogue_core.specs.declared.rule.FoundRule.{FoundRule}
 use Rattle.resolve_order.specs.Kept.{IsRuleAt, IsNeedRule, IsKeptFor, IsKeptForAll, KeepsAll}
 use Rattle.resolve_order.specs.declared.package_lines.PackageLines.{PackageLines}
 
@@ -41,3 +42,7 @@ kept_more versions before after line specs i s lt is keeps all one = λ t c. eli
   where
     more : specs_of (take (i + 1) specs) ≡ specs_of (take i specs) ++ spec_of s ∷ []
     more = ap specs_of (take_more specs i s lt ∙ ap (λ (x : code.Spec). take i specs ++ x ∷ []) (sym is)) ∙ map-append spec_of (take i specs) (s ∷ [])
+
+-- the rule that was found is that of the line where it is lent too
+pub found_at : (line named : Option Line) (found : Option FoundRule) (lent : Option (Bor Rule)) → option_copied lent ≡ option_map rule_found found → line ≡ named → IsRuleAt line (option_map rule_found found) → IsRuleAt named (option_copied lent)
+found_at line named found lent same is h = subst (λ (l : Option Line). IsRuleAt l (option_copied lent)) is (subst (IsRuleAt line) (sym same) h)

@@ -15,7 +15,7 @@ use Rattle.resolvo_catalogue_core.specs.Answers as answers
 use Rattle.resolvo_catalogue_core.specs.Answers.{entries_of, IsNeededBy}
 use Rattle.resolvo_catalogue_core.specs.Listed.{listed, AreDistinct}
 use Rattle.resolvo_catalogue_core.specs.Questions.{IsRuleLine, is_rule}
-use Rattle.resolvo_catalogue_core.specs.Table.{nth}
+use Rattle.resolvo_catalogue_core.specs.Kept.{nth}
 use Rattle.resolvo_catalogue_core.specs.declared.rule.VersionNo.{VersionNo}
 use Rattle.resolvo_catalogue_core.specs.declared.rule.Rule.{Rule}
 use Rattle.resolve_order.specs.Order.{line_named, IsAsked, Precedes, IsSorted, IsOfFirst, IsNext, IsComplete, AreInOrder, Turn, IsOneTurn}

@@ -7,7 +7,7 @@ use Rattle.resolvo_catalogue_core.specs.Answers as answers
 use Rattle.resolvo_catalogue_core.specs.Listed.{listed, members}
 use Rattle.resolvo_catalogue_core.specs.Sets.{IsSingle}
 use Rattle.resolvo_catalogue_core.specs.Questions.{WishesAt}
-use Rattle.resolvo_catalogue_core.specs.Table.{nth}
+use Rattle.resolvo_catalogue_core.specs.Kept.{nth}
 use Rattle.resolvo_catalogue_core.specs.declared.rule.VersionNo.{VersionNo}
 use Rattle.resolve_order.specs.Order as order
 use Rattle.resolve_order.specs.declared.entry.Reason.{Reason}

@@ -6,8 +6,8 @@
 //! version. That is many times where many versions of a package that is marked `many` come one
 //! after the other, and a range of many lines names it, or where a line has many alternatives.
 
-ghost use Rattle.std.specs.Prelude.{◌≡◌, ℕ, ◌<◌, ◌^◌, ◌++◌, [], length, Contains, true, None, Some, List, Option, slice_get, IfOk, IfSome, OnOk};
-ghost use Rattle.std.specs.Option.{option_copied};
+ghost use Rattle.std.specs.Prelude.{◌≡◌, ℕ, ◌<◌, ◌^◌, ◌++◌, [], length, Contains, true, None, Some, List, Option, slice_get, option_map, IfOk, IfSome, OnOk};
+ghost use Rattle.resolvo_catalogue_core.specs.Questions.{rule_found};
 ghost use Rattle.std.specs.BTreeSet.{contains};
 ghost use Rattle.std.specs.Ordering.{nat_cmp};
 ghost use Rattle.resolvo_text.specs.Line as content;
@@ -15,12 +15,12 @@ ghost use Rattle.resolvo_text.specs.Matches.{Set};
 ghost use Rattle.resolvo_catalogue_core.specs.Listed.{listed, members};
 ghost use Rattle.resolve_order.specs.Order.{line_named};
 ghost use Rattle.resolve_order.specs.View.{reason_of};
-ghost use Rattle.resolve_order.specs.Kept.{Holds, AreLines, IsRuleAt, IsKeptForAll, IsOpen, IsFirstOpen, AreWithin, Closes, IsVersionKey, Reopens, OthersAreIdle, IsFound, specs_under, is_unlisted};
+ghost use Rattle.resolve_order.specs.Kept.{Holds, AreLines, IsRuleAt, IsLineState, IfGives, IsKeptByNeeds, IsKeptForAll, KeepsAll, IsOpen, IsFirstOpen, AreWithin, Closes, IsVersionKey, Reopens, OthersAreIdle, IsFound, specs_under, is_unlisted};
 
 use crate::chosen::{Chosen, LineState};
 use crate::entry::{Entry, Reason};
 use crate::package_lines::PackageLines;
-use resolvo_catalogue_core::{Catalogue, Request, Rule, VersionNo};
+use resolvo_catalogue_core::{Catalogue, FoundRule, Request, VersionNo, found};
 use std::alloc::{AllocError, Global};
 use std::collections::BTreeSet;
 
@@ -39,16 +39,87 @@ pub struct OpenLines {
 }
 
 /// The rule of the line, if it has one.
-fn rule_at<'a>(catalogue: &'a Catalogue, request: &'a Request, reason: Reason) -> Option<&'a Rule>
-    ensures { IsRuleAt
+fn rule_at<'a>(
+    catalogue: &Catalogue,
+    request: &'a Request,
+    reason: Reason,
+) -> Result<Option<FoundRule<'a>>, AllocError>
+    ensures { IfOk result
+        (λ rule.
+        IsRuleAt
         (line_named catalogue.now request.now.lines (reason_of (listed catalogue.now) reason))
-        (option_copied result) }
+        (option_map rule_found rule)) }
 {
     match reason {
-        Reason::ForRequest { line } => request.rule(line),
-        Reason::ForVersion { line, .. } => catalogue.rule(line),
-        Reason::Wished { .. } => None,
+        Reason::ForRequest { line } => match request.rule(line) {
+            Some(rule) => Ok(Some(FoundRule::Lent(rule))),
+            None => Ok(None),
+        },
+        Reason::ForVersion { line, .. } => match catalogue.rule(line)? {
+            Some(rule) => Ok(Some(FoundRule::Made(rule))),
+            None => Ok(None),
+        },
+        Reason::Wished { .. } => Ok(None),
     }
+}
+
+/// What the line gives.
+fn state_at(
+    catalogue: &Catalogue,
+    request: &Request,
+    chosen: &Chosen,
+    reason: Reason,
+) -> Result<LineState, AllocError>
+    ensures unlisted { IfOk result
+        (λ state. IfGives state (λ n. is_unlisted chosen.now.listed.items n.0 ≡ true)) }
+    ensures state { IfOk result
+        (λ state.
+        (all entries : Set)
+        → Holds catalogue.now chosen.now all entries
+        → IsLineState catalogue.now all entries
+        (line_named catalogue.now request.now.lines (reason_of (listed catalogue.now) reason))
+        state) }
+{
+    let rule = rule_at(catalogue, request, reason)?;
+    Ok(chosen.line_state(catalogue, found(&rule)))
+}
+
+/// Keeps the line by the keys of its alternatives, if it is a need.
+fn keep_alternatives(
+    spent: &mut PackageLines,
+    catalogue: &Catalogue,
+    request: &Request,
+    reason: Reason,
+    line: usize,
+) -> Result<(), AllocError>
+    ensures added { OnOk result
+        (IsKeptByNeeds (listed catalogue.now) spent.new line
+        (line_named catalogue.now request.now.lines (reason_of (listed catalogue.now) reason))) }
+    ensures kept { OnOk result (KeepsAll spent.old spent.new) }
+{
+    let rule = rule_at(catalogue, request, reason)?;
+    spent.add_alternatives_of(catalogue, found(&rule), line)?;
+    Ok(())
+}
+
+/// Keeps the line by the keys of its condition, if it is a need.
+fn keep_condition(
+    waiting: &mut PackageLines,
+    catalogue: &Catalogue,
+    request: &Request,
+    reason: Reason,
+    line: usize,
+) -> Result<(), AllocError>
+    ensures added { OnOk result
+        ((ss : List content.Spec) (condition : Option content.Cond)
+        → line_named catalogue.now request.now.lines (reason_of (listed catalogue.now) reason)
+        ≡ Some (content.Needs ss condition)
+        → IsKeptForAll (listed catalogue.now) waiting.new line (specs_under condition)) }
+    ensures kept { OnOk result (KeepsAll waiting.old waiting.new) }
+{
+    let rule = rule_at(catalogue, request, reason)?;
+    waiting.add_condition_of(catalogue, found(&rule), line)?;
+    Ok(())
 }
 
 /// The line at a place.
@@ -164,19 +235,21 @@ impl OpenLines {
     fn close_waiting(
         &mut self,
         catalogue: &Catalogue,
+        request: &Request,
+        reason: Reason,
         line: usize,
-        rule: Option<&Rule>,
     ) -> Result<(), AllocError>
         requires { line < 2 ^ 63 }
         ensures closes { OnOk result
             (IsFirstOpen self.old.again self.old.below line → Closes self.old self.new line) }
         ensures kept { OnOk result
             ((ss : List content.Spec) (condition : Option content.Cond)
-            → IsRuleAt (Some (content.Needs ss condition)) (option_copied rule.entry)
+            → line_named catalogue.now request.now.lines (reason_of (listed catalogue.now) reason)
+            ≡ Some (content.Needs ss condition)
             → IsFirstOpen self.old.again self.old.below line
             → IsKeptForAll (listed catalogue.now) self.new.waiting line (specs_under condition)) }
     {
-        self.waiting.add_condition_of(catalogue, rule, line)?;
+        keep_condition(&mut self.waiting, catalogue, request, reason, line)?;
         self.close(line);
         Ok(())
     }
@@ -196,8 +269,7 @@ impl OpenLines {
     {
         while let Some(line) = self.closed.pop() {
             if let Some(reason) = line_at(lines, line) {
-                let rule = rule_at(catalogue, request, reason);
-                self.spent.add_alternatives_of(catalogue, rule, line)?;
+                keep_alternatives(&mut self.spent, catalogue, request, reason, line)?;
             }
         }
         Ok(())
@@ -295,10 +367,9 @@ impl OpenLines {
             → OthersAreIdle catalogue.now request.now.lines all entries lines.now self.new) }
     {
         while let Some((line, reason)) = self.first(lines) {
-            let rule = rule_at(catalogue, request, reason);
-            match chosen.line_state(catalogue, rule) {
+            match state_at(catalogue, request, chosen, reason)? {
                 LineState::Spent => self.close_spent(line)?,
-                LineState::Waiting => self.close_waiting(catalogue, line, rule)?,
+                LineState::Waiting => self.close_waiting(catalogue, request, reason, line)?,
                 LineState::Gives(version) => return Ok(Some(Entry { version, reason })),
             }
         }

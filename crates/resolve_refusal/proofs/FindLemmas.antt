@@ -1,24 +1,22 @@
 -- The lines of a place, and the first of them with a given content.
-use Rattle.std.proofs.Common.{◌≡◌, ◌<◌, ◌≤◌, ◌+◌, ◌-◌, ℕ, Bor, zero, suc, List, [], ◌∷◌, take, length, get_or, Option, Some, None, sym, ◌∙◌, ap, subst, arith, inl, inr}
-use Rattle.std.specs.Prelude.{IfSome, Contains, slice_get}
+use Rattle.std.proofs.Common.{◌≡◌, ◌<◌, ◌≤◌, ◌+◌, ◌-◌, ℕ, Bool, true, false, Bor, zero, suc, List, [], ◌∷◌, take, length, get_or, Option, Some, None, sym, ◌∙◌, ap, subst, arith, inl, inr}
+use Rattle.std.specs.Prelude.{Decides, Contains, slice_get}
 use Rattle.std.specs.List.Sorted.{IsStrictlyIncreasing}
 use Rattle.std.proofs.lemmas.List.Elements.{Contains-get_or}
-use Rattle.std.proofs.lemmas.Bool.{cases_eq, cases_lt}
+use Rattle.std.proofs.lemmas.Bool.{cases_eq, cases_lt, false≢true}
 use Rattle.resolvo_text.specs.declared.spec.Spec as code
 use Rattle.resolvo_text.specs.View.{spec_of, specs_of}
-use Rattle.resolvo_text.specs.Line.{Spec, Line}
-use Rattle.resolvo_catalogue_core.specs.Questions.{AreAll}
+use Rattle.resolvo_text.specs.Line.{Version, Spec, Line}
+use Rattle.resolvo_catalogue_core.specs.Grammar.{line_at}
+use Rattle.resolvo_catalogue_core.specs.Questions.{AreAll, IsRuleLine, is_rule}
+use Rattle.resolvo_catalogue_core.specs.declared.rule.Rule.{Rule}
 use Rattle.resolvo_terms.proofs.Places.{at_from_contains}
 use Rattle.std.proofs.lemmas.Option.{slice_get_within, get_or_from_slice_get}
 use Rattle.std.proofs.lemmas.List.{take_more, take_all}
 use Rattle.resolvo_sat.proofs.Lists.{contains_one, contains_parts}
 use Rattle.resolve_refusal.specs.declared.lines.PlaceLines.{PlaceLines}
 use Rattle.resolve_refusal.specs.declared.lines.PlaceLines.TheVariants as of_place
-use Rattle.resolve_refusal.specs.Lines.{count_of, number_at, AreLines, IsAt, NeedsIn, NeedsAs, IsNeedLine}
-
-pub some_as : {X : Type 0} {P Q : X → Type 0} (r : Option X) → ((x : X) → P x → Q x) → IfSome r P → IfSome r Q
-some_as (Some x) f h = f x h
-some_as None f h = h
+use Rattle.resolve_refusal.specs.Lines.{count_of, number_at, AreLines, IsAt, IsLineAt, NeedsIn, NeedsAs, IsNeedLine}
 
 -- ---- elements so far
 
@@ -101,3 +99,21 @@ need_here lines Among text alternatives case are i before within n k is needs = 
   needs,
   λ m below. none_smaller lines Among (IsAt text (NeedsIn alternatives case)) are i before within m (subst (λ (j : ℕ). m < j) is below),
 )
+
+-- ---- the rule of a line
+
+-- line n of the text has this rule
+abbrev pub IsLineRule : List Line → ℕ → Rule → Type 0
+IsLineRule lines n r = (l : Line) × (versions : List Version) × (owner : Option Version) × (line_at lines n ≡ Some l) × IsRuleLine versions r owner l
+
+-- what a test of the rule decides of the line
+pub decides_at : (lines : List Line) (n : ℕ) (r : Rule) (line : Line) (b : Bool) → IsLineRule lines n r → ((versions : List Version) (owner : Option Version) (l : Line) → IsRuleLine versions r owner l → Decides b (l ≡ line)) → Decides b (IsLineAt lines line n)
+decides_at lines n r line b (l, versions, owner, there, states) test =
+    let decides = test versions owner l states in (
+      λ e. there ∙ ap (λ (x : Line). Some x) (decides.0 e),
+      λ at. decides.1 (let both : Some l ≡ Some line = sym there ∙ at in cc),
+    )
+
+-- a line without a rule is no such line
+pub no_rule_at : (lines : List Line) (n : ℕ) (line : Line) → is_rule line ≡ true → ((l : Line) → line_at lines n ≡ Some l → is_rule l ≡ false) → Decides false (IsLineAt lines line n)
+no_rule_at lines n line has none = (λ e. absurd (false≢true e), λ at. absurd (false≢true (sym (none line at) ∙ has)))

@@ -14,3 +14,4 @@ pub mod Grammar
 pub mod FitLemmas
 pub mod InstallLemmas
 pub mod NumberLemmas
+pub mod KeptLemmas

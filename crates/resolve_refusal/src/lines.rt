@@ -1,20 +1,25 @@
 //! The first line of a rule in a text. The lines of a place, the request or a version, are searched
 //! in order. Where several have the rule, the first one is found.
 
-ghost use Rattle.std.specs.Prelude.{◌≡◌, ◌<◌, ℕ, List, IfOk, IfSome, IfNone, IsErrOf, Option, Some, None, false, length, slice_get};
+ghost use Rattle.std.specs.Prelude.{◌≡◌, ◌<◌, ℕ, List, IfOk, IsErrOf, Option, Some, None, length, slice_get};
 ghost use Rattle.std.specs.Bool.{Decides};
 ghost use Rattle.resolvo_text.specs.Line as content;
-ghost use Rattle.resolvo_text.specs.View.{spec_of, specs_of, cases_of};
+ghost use Rattle.resolvo_text.specs.Cases.{condition_cases};
+ghost use Rattle.resolvo_text.specs.View.{spec_of, specs_of, cases_of, cond_of, condition_of};
 ghost use Rattle.resolvo_catalogue_core.specs.Grammar.{line_at};
 ghost use Rattle.resolvo_catalogue_core.specs.Listed.{listed, AreDistinct};
-ghost use Rattle.resolvo_catalogue_core.specs.Questions.{IsRuleLine, is_rule, cases_of_line};
+ghost use Rattle.resolvo_catalogue_core.specs.Questions.{IsRuleLine, cases_of_line};
+ghost use Rattle.resolvo_catalogue_core.specs.Kept.{IsKeptLine};
+ghost use Rattle.resolvo_terms.specs.Terms.{Terms};
 ghost use Rattle.resolvo_pool_core.specs.declared.want.Want.TheVariants.{Ids};
 ghost use Rattle.resolve_refusal.specs.LacksNumbers.{HasTooManyCases};
 ghost use Rattle.resolve_refusal.specs.Lines.{count_of, number_at, AreLines, IsLeast, text_of, IsLineOf, IsLineAt, IsCaseOf, IsCaseAt, IsNeedLine, locks, ExcludesAt, MarksUnknownAt, IsWordLine, IsLockLine, IsForbidLineOf};
 
-use resolvo_catalogue_core::{Catalogue, Request, Rule, Spec, VersionNo};
+use resolvo_catalogue_core::{Catalogue, Cond, KeptRule, Request, Rule, Spec, VersionNo};
 use resolvo_pool_core::id::next_index;
 use resolvo_pool_core::want::R;
+use resolvo_terms::Terms;
+use resolvo_text::cases_in;
 use std::alloc::Global;
 
 /// A catalogue, and a request over it.
@@ -75,30 +80,6 @@ impl PlaceLines<'_> {
 }
 
 impl<'a> Texts<'a> {
-    /// The rule of line `line` of a place, if it has one. The place is a version, or none for the
-    /// request.
-    fn rule(self, place: Option<VersionNo>, line: u32) -> Option<&'a Rule>
-        ensures of_line { IfSome result
-            (λ r.
-            (l : content.Line)
-            × (versions : List content.Version)
-            × (owner : Option content.Version)
-            × (line_at (text_of self.entry.catalogue.now self.entry.request.now.lines place)
-            line
-            ≡ Some l)
-            × IsRuleLine versions r.now owner l) }
-        ensures none { IfNone result
-            ((l : content.Line)
-            → line_at (text_of self.entry.catalogue.now self.entry.request.now.lines place) line
-            ≡ Some l
-            → is_rule l ≡ false) }
-    {
-        match place {
-            None => self.request.rule(line),
-            Some(_) => self.catalogue.rule(line),
-        }
-    }
-
     /// The lines of a place.
     fn lines_of(self, place: Option<VersionNo>) -> PlaceLines<'a>
         ensures { AreLines result (IsLineOf self.entry.catalogue.now self.entry.request.now.lines
@@ -110,7 +91,8 @@ impl<'a> Texts<'a> {
         }
     }
 
-    /// The first line of a place that needs these alternatives without a condition.
+    /// The first line of a place that needs these alternatives without a condition. The place is a
+    /// version, or none for the request.
     pub fn plain_need_line(self, place: Option<VersionNo>, alternatives: &[Spec]) -> Option<u32>
         ensures { IsLeast result
             (λ n.
@@ -134,9 +116,12 @@ impl<'a> Texts<'a> {
             (IsLineAt (text_of self.entry.catalogue.now self.entry.request.now.lines place)
             (content.Needs (specs_of alternatives.now) None) line) }
     {
-        match self.rule(place, line) {
-            Some(rule) => is_plain_need(rule, alternatives),
-            None => false,
+        match place {
+            None => match self.request.rule(line) {
+                Some(rule) => is_plain_need(rule, alternatives),
+                None => false,
+            },
+            Some(_) => keeps_plain_need(self.catalogue, line, alternatives),
         }
     }
 
@@ -184,9 +169,12 @@ impl<'a> Texts<'a> {
             → HasTooManyCases
             (text_of self.entry.catalogue.now self.entry.request.now.lines place) }
     {
-        match self.rule(place, line) {
-            Some(rule) => need_case(alloc, rule, alternatives, case),
-            None => Ok(None),
+        match place {
+            None => match self.request.rule(line) {
+                Some(rule) => need_case(alloc, rule, alternatives, case),
+                None => Ok(None),
+            },
+            Some(_) => keeps_case(alloc, self.catalogue, line, alternatives, case),
         }
     }
 
@@ -214,9 +202,12 @@ impl<'a> Texts<'a> {
             (IsLineAt (text_of self.entry.catalogue.now self.entry.request.now.lines place)
             (content.Limits (spec_of spec.now)) line) }
     {
-        match self.rule(place, line) {
-            Some(rule) => is_limit(rule, spec),
-            None => false,
+        match place {
+            None => match self.request.rule(line) {
+                Some(rule) => is_limit(rule, spec),
+                None => false,
+            },
+            Some(_) => keeps_limit(self.catalogue, line, spec),
         }
     }
 
@@ -254,8 +245,9 @@ impl<'a> Texts<'a> {
         ensures { Decides result
             (IsLineAt self.entry.catalogue.now (content.Unknown word.now) line) }
     {
-        match self.catalogue.rule(line) {
-            Some(rule) => marks_unknown(rule, word),
+        let kept = self.catalogue.kept();
+        match kept.rule(line) {
+            Some(rule) => marks_unknown(rule, kept.terms(), word),
             None => false,
         }
     }
@@ -311,8 +303,9 @@ impl<'a> Texts<'a> {
     {
         // No version is listed twice, so its number identifies it.
         let _versions = self.catalogue.versions();
-        match self.catalogue.rule(line) {
-            Some(rule) => excludes(rule, version, word),
+        let kept = self.catalogue.kept();
+        match kept.rule(line) {
+            Some(rule) => excludes(rule, kept.terms(), version, word),
             None => false,
         }
     }
@@ -373,9 +366,52 @@ pub(crate) fn forbid_line(catalogue: &Catalogue, version: VersionNo) -> Option<F
 fn is_lock(catalogue: &Catalogue, line: u32) -> bool
     ensures { (l : content.Line) → line_at catalogue.now line ≡ Some l → result ≡ locks l }
 {
-    match catalogue.rule(line) {
+    match catalogue.kept().rule(line) {
         Some(rule) => locks(rule),
         None => false,
+    }
+}
+
+/// Whether this line of a catalogue needs these alternatives without a condition.
+fn keeps_plain_need(catalogue: &Catalogue, line: u32, alternatives: &[Spec]) -> bool
+    ensures { Decides result
+        (IsLineAt catalogue.now (content.Needs (specs_of alternatives.now) None) line) }
+{
+    let kept = catalogue.kept();
+    match kept.rule(line) {
+        Some(rule) => is_plain_need_kept(rule, kept.terms(), alternatives),
+        None => false,
+    }
+}
+
+/// Whether this line of a catalogue limits a version's set to this SPEC.
+fn keeps_limit(catalogue: &Catalogue, line: u32, spec: &Spec) -> bool
+    ensures { Decides result (IsLineAt catalogue.now (content.Limits (spec_of spec.now)) line) }
+{
+    let kept = catalogue.kept();
+    match kept.rule(line) {
+        Some(rule) => is_limit_kept(rule, kept.terms(), spec),
+        None => false,
+    }
+}
+
+/// The number of the first case of this line of a catalogue that equals this one, if the line needs
+/// these alternatives.
+fn keeps_case(
+    alloc: Global,
+    catalogue: &Catalogue,
+    line: u32,
+    alternatives: &[Spec],
+    case: &[Spec],
+) -> R<Option<u32>>
+    ensures case { IfOk result
+        (IsCaseAt catalogue.now (specs_of alternatives.now) (specs_of case.now) line) }
+    ensures ids { IsErrOf result Ids → HasTooManyCases catalogue.now }
+{
+    let kept = catalogue.kept();
+    match kept.rule(line) {
+        Some(rule) => need_case_kept(alloc, rule, kept.terms(), alternatives, case),
+        None => Ok(None),
     }
 }
 
@@ -392,10 +428,77 @@ fn need_case(alloc: Global, rule: &Rule, alternatives: &[Spec], case: &[Spec]) -
         → IsRuleLine versions rule.now owner line
         → 4294967295 < length (cases_of_line (Some line)) }
 {
-    if !needs(rule, alternatives) {
+    let Rule::Needs {
+        alternatives: of_line,
+        condition,
+        ..
+    } = rule
+    else {
+        return Ok(None);
+    };
+    if !same_specs(of_line.as_slice(), alternatives) {
         return Ok(None);
     }
-    let cases = rule.cases(alloc)?;
+    condition_case(alloc, condition, case)
+}
+
+/// The same of a rule that is kept. Only the condition of a need that has these alternatives is
+/// decoded.
+fn need_case_kept(
+    alloc: Global,
+    rule: KeptRule,
+    terms: &Terms,
+    alternatives: &[Spec],
+    case: &[Spec],
+) -> R<Option<u32>>
+    ensures case { IfOk result
+        (λ found.
+        (versions : List content.Version) (owner : Option content.Version) (line : content.Line)
+        → IsKeptLine terms.now versions rule owner line
+        → IsCaseOf (specs_of alternatives.now) (specs_of case.now) line found) }
+    ensures ids { IsErrOf result Ids
+        → (versions : List content.Version) (owner : Option content.Version) (line : content.Line)
+        → IsKeptLine terms.now versions rule owner line
+        → 4294967295 < length (cases_of_line (Some line)) }
+{
+    let KeptRule::Needs { need, .. } = rule else {
+        return Ok(None);
+    };
+    if !terms.are_alternatives(need.requirement, alternatives) {
+        return Ok(None);
+    }
+    let condition = terms.condition_of(need.condition)?;
+    condition_case(alloc, &condition, case)
+}
+
+/// The number of the first case of a condition, from 1, that equals this one. Without a condition
+/// there is one case, which is empty. `Ids` where there are more cases than numbers.
+fn condition_case(alloc: Global, condition: &Option<Box<Cond>>, case: &[Spec]) -> R<Option<u32>>
+    ensures case { IfOk result
+        (λ found.
+        (alternatives : List content.Spec)
+        → IsCaseOf alternatives (specs_of case.now)
+        (content.Needs alternatives (condition_of condition.now)) found) }
+    ensures ids { IsErrOf result Ids
+        → 4294967295 < length (condition_cases (condition_of condition.now)) }
+{
+    match condition {
+        None => Ok(if case.is_empty() { Some(1) } else { None }),
+        Some(condition) => case_in(alloc, condition, case),
+    }
+}
+
+/// The number of the first case of the condition, from 1, that equals this one.
+fn case_in(alloc: Global, condition: &Cond, case: &[Spec]) -> R<Option<u32>>
+    ensures case { IfOk result
+        (λ found.
+        (alternatives : List content.Spec)
+        → IsCaseOf alternatives (specs_of case.now)
+        (content.Needs alternatives (Some (cond_of condition.now))) found) }
+    ensures ids { IsErrOf result Ids
+        → 4294967295 < length (condition_cases (Some (cond_of condition.now))) }
+{
+    let cases = cases_in(alloc, condition)?;
     let Some(index) = index_of(cases.as_slice(), case) else {
         return Ok(None);
     };
@@ -444,65 +547,75 @@ fn is_limit(rule: &Rule, spec: &Spec) -> bool
     }
 }
 
-/// Whether the rule locks a version.
-fn locks(rule: &Rule) -> bool
+/// Whether the rule that is kept needs these alternatives without a condition.
+fn is_plain_need_kept(rule: KeptRule, terms: &Terms, alternatives: &[Spec]) -> bool
     ensures { (versions : List content.Version) (owner : Option content.Version)
         (line : content.Line)
-        → IsRuleLine versions rule.now owner line
+        → IsKeptLine terms.now versions rule owner line
+        → Decides result (line ≡ content.Needs (specs_of alternatives.now) None) }
+{
+    match rule {
+        KeptRule::Needs { need, .. } => {
+            need.condition.is_none() && terms.are_alternatives(need.requirement, alternatives)
+        }
+        _ => false,
+    }
+}
+
+/// Whether the rule that is kept limits its set to this SPEC.
+fn is_limit_kept(rule: KeptRule, terms: &Terms, spec: &Spec) -> bool
+    ensures { (versions : List content.Version) (owner : Option content.Version)
+        (line : content.Line)
+        → IsKeptLine terms.now versions rule owner line
+        → Decides result (line ≡ content.Limits (spec_of spec.now)) }
+{
+    match rule {
+        KeptRule::Limits { spec: of_line, .. } => terms.is_spec(of_line, spec),
+        _ => false,
+    }
+}
+
+/// Whether the rule locks a version.
+fn locks(rule: KeptRule) -> bool
+    ensures { (terms : Terms) (versions : List content.Version) (owner : Option content.Version)
+        (line : content.Line)
+        → IsKeptLine terms versions rule owner line
         → result ≡ locks line }
 {
     match rule {
-        Rule::Lock { .. } => true,
+        KeptRule::Lock { .. } => true,
         _ => false,
     }
 }
 
 /// Whether the rule marks a version's needs as unknown with this word.
-fn marks_unknown(rule: &Rule, word: &str) -> bool
+fn marks_unknown(rule: KeptRule, terms: &Terms, word: &str) -> bool
     ensures { (versions : List content.Version) (owner : Option content.Version)
         (line : content.Line)
-        → IsRuleLine versions rule.now owner line
+        → IsKeptLine terms.now versions rule owner line
         → Decides result (line ≡ content.Unknown word.now) }
 {
     match rule {
-        Rule::Unknown { word: source, .. } => source.as_str() == word,
+        KeptRule::Unknown { word: source, .. } => terms.text(source) == word,
         _ => false,
     }
 }
 
 /// Whether the rule excludes the version with this word.
-fn excludes(rule: &Rule, version: VersionNo, word: &str) -> bool
+fn excludes(rule: KeptRule, terms: &Terms, version: VersionNo, word: &str) -> bool
     ensures { (versions : List content.Version) (owner : Option content.Version)
         (line : content.Line)
         (v : content.Version)
         → AreDistinct versions
-        → IsRuleLine versions rule.now owner line
+        → IsKeptLine terms.now versions rule owner line
         → slice_get versions version.0 ≡ Some v
         → Decides result (line ≡ content.Exclude v word.now) }
 {
     match rule {
-        Rule::Exclude {
+        KeptRule::Exclude {
             version: excluded,
             word: source,
-        } => excluded.0 == version.0 && source.as_str() == word,
-        _ => false,
-    }
-}
-
-/// Whether the rule needs these alternatives, under any condition or none.
-fn needs(rule: &Rule, alternatives: &[Spec]) -> bool
-    ensures { (versions : List content.Version) (owner : Option content.Version)
-        (line : content.Line)
-        → IsRuleLine versions rule.now owner line
-        → Decides result
-        ((condition : Option content.Cond)
-        × (line ≡ content.Needs (specs_of alternatives.now) condition)) }
-{
-    match rule {
-        Rule::Needs {
-            alternatives: of_line,
-            ..
-        } => same_specs(of_line.as_slice(), alternatives),
+        } => excluded.0 == version.0 && terms.text(source) == word,
         _ => false,
     }
 }

@@ -1,5 +1,5 @@
 -- The value of an id is kept, whatever else is interned.
-use Rattle.std.proofs.Common.{◌≡◌, ℕ, List, refl, sym, subst, ◌∙◌, Some}
+use Rattle.std.proofs.Common.{◌≡◌, ℕ, List, sym, subst, ◌∙◌, Some}
 use Rattle.std.specs.Prelude.{Option, slice_get}
 use Rattle.resolvo_text.specs.Line.{Spec, Cond}
 use Rattle.resolvo_pool_core.specs.declared.id.VersionSetId.{VersionSetId}
@@ -8,9 +8,6 @@ use Rattle.resolvo_intern.specs.declared.pool.Solvable.{Solvable}
 use Rattle.resolvo_terms.specs.Terms.{AreEach, Grows as TermsGrow, LacksNumber as LacksTerm}
 use Rattle.resolvo_terms.proofs.GrowLemmas as numbered
 use Rattle.resolvo_catalogue.specs.Ids.{Ids, terms_of, IsSpec, IsNeed, Grows, Interns, LacksNumber}
-
-pub grows_own : (ids : Ids) → Grows ids ids
-grows_own ids = record { names = λ k x e. e; words = λ k x e. e; solvables = λ k x e. e; version_sets = λ k x e. e; unions = λ k x e. e; conditions = λ k x e. e }
 
 pub grows_on : (a b c : Ids) → Grows a b → Grows b c → Grows a c
 grows_on a b c g h = record {
@@ -21,9 +18,6 @@ grows_on a b c g h = record {
   unions = λ k x e. h.unions k x (g.unions k x e);
   conditions = λ k x e. h.conditions k x (g.conditions k x e);
 }
-
-pub interns_own : (ids : Ids) → Interns ids ids
-interns_own ids = record { grows = grows_own ids; same = refl }
 
 pub interns_on : (a b c : Ids) → Interns a b → Interns b c → Interns a c
 interns_on a b c g h = record { grows = grows_on a b c g.grows h.grows; same = h.same ∙ g.same }

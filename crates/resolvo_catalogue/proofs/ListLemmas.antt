@@ -1,18 +1,19 @@
 -- The versions as solvables, one more.
-use Rattle.std.proofs.Common.{◌≡◌, ◌==◌, if◌then◌else◌, ◌+◌, ◌<◌, ℕ, zero, suc, Bool, true, false, List, [], ◌∷◌, ◌++◌, map, length, refl, sym, ap, subst, ◌∙◌, arith}
-use Rattle.std.specs.Prelude.{nat_lt, slice_get, slice_index_or, string_bytes}
+use Rattle.std.proofs.Common.{◌≡◌, ◌==◌, if◌then◌else◌, ◌+◌, ◌<◌, ℕ, zero, suc, Bool, true, false, List, [], ◌∷◌, ◌++◌, map, length, refl, sym, ap, ◌∙◌, arith}
+use Rattle.std.specs.Prelude.{All, nat_lt, slice_index_or, string_bytes}
 use Rattle.std.specs.Global.{Global, Vec}
 use Rattle.std.specs.declared.string.String.{String}
 use Rattle.std.proofs.lemmas.Bool.{and_parts}
 use Rattle.std.proofs.lemmas.Bool.Decides.{nat_tests}
-use Rattle.std.proofs.lemmas.List.{map-append, append-nil, length-map}
-use Rattle.std.proofs.lemmas.Option.{slice_get-get_or}
+use Rattle.std.proofs.lemmas.List.{map-append, append-nil}
+use Rattle.std.proofs.lemmas.List.Elements.{All-cons, All-nil}
+use Rattle.std.proofs.lemmas.Option.{slice_get_within}
 use Rattle.resolvo_text.specs.Line.{Version}
 use Rattle.resolvo_catalogue_core.specs.Listed.{name_at, kept_versions, is_kept, are_kept}
 use Rattle.resolvo_catalogue_core.specs.declared.versions.KeptVersion.{KeptVersion}
 use Rattle.resolvo_intern.specs.declared.pool.Solvable.{Solvable}
-use Rattle.resolvo_catalogue.specs.Ids.{Ids, SolvableId, solvable_id, solvable_by, IsSolvable, Grows, list_at, places_from, solvables_of}
-use Rattle.resolvo_terms.specs.Terms.{AreEach}
+use Rattle.resolvo_catalogue.specs.Ids.{Ids, SolvableId, solvable_id, solvable_by, IsPackage, IsSolvable, Grows, list_at, places_from, solvables_of}
+use Rattle.resolvo_terms.specs.Terms.{NameId, AreEach}
 use Rattle.resolvo_terms.proofs.GrowLemmas.{each_as}
 use Rattle.resolvo_catalogue.proofs.Places.{places_push}
 
@@ -44,15 +45,41 @@ flags_are test names (v ∷ vs) e =
     let parts = and_parts (is_kept (length names) v) (are_kept (length names) vs) e in
     rw (flag_at test names v.«package» (below v.«package» (length names) parts.0), flags_are test names vs parts.1) refl
 
+-- ---- packages by their ids
+
+pub packages_stay : (a b : Ids) → Grows a b → (packages : List NameId) (names : List (List ℕ)) → AreEach (IsPackage a) packages names → AreEach (IsPackage b) packages names
+packages_stay a b grows packages names h = each_as (IsPackage a) (IsPackage b) (λ n name is. grows.names _ _ is) packages names h
+
+package_at : (ids : Ids) (packages : List NameId) (names : List (List ℕ)) (p : ℕ) (d : NameId) → AreEach (IsPackage ids) packages names → p < length packages → IsPackage ids (slice_index_or packages p d) (slice_index_or names p [])
+package_at ids [] names p d h within = absurd (omega (arith, within))
+package_at ids (n ∷ packages) [] p d h within = absurd h
+package_at ids (n ∷ packages) (name ∷ names) zero d h within = h.0
+package_at ids (n ∷ packages) (name ∷ names) (suc p) d h within = package_at ids packages names p d h.1 (omega (arith, within))
+
+pub packages_within : (ids : Ids) (packages : List NameId) (names : List (List ℕ)) → AreEach (IsPackage ids) packages names → All (λ n. n.raw < length ids.names) packages
+packages_within ids [] names h = All-nil (λ n. n.raw < length ids.names)
+packages_within ids (n ∷ packages) [] h = absurd h
+packages_within ids (n ∷ packages) (name ∷ names) h = All-cons (λ n. n.raw < length ids.names) n packages (slice_get_within ids.names n.raw name h.0) (packages_within ids packages names h.1)
+
 -- versions by the places of their packages' names are the solvables of these
-pub versions_by : (ids : Ids) (names : List (String Global)) (vs : List KeptVersion) → ids.names ≡ map string_bytes names → are_kept (length names) vs ≡ true → AreEach (IsSolvable ids) (map solvable_by vs) (kept_versions names vs)
-versions_by ids names [] named e = tt
-versions_by ids names (v ∷ vs) named e =
-    let parts = and_parts (is_kept (length names) v) (are_kept (length names) vs) e in
-    let within : v.«package» < length (map string_bytes names) = subst (λ n. v.«package» < n) (sym (length-map names string_bytes)) (below v.«package» (length names) parts.0) in (
-      (refl, ap (λ ns. slice_get ns v.«package») named ∙ slice_get-get_or (map string_bytes names) v.«package» [] within),
-      versions_by ids names vs named parts.1,
+pub versions_by : (ids : Ids) (names : List (String Global)) (packages : List NameId) (vs : List KeptVersion) → AreEach (IsPackage ids) packages (map string_bytes names) → are_kept (length packages) vs ≡ true → AreEach (IsSolvable ids) (map (solvable_by packages) vs) (kept_versions names vs)
+versions_by ids names packages [] named e = tt
+versions_by ids names packages (v ∷ vs) named e =
+    let parts = and_parts (is_kept (length packages) v) (are_kept (length packages) vs) e in (
+      (refl, package_at ids packages (map string_bytes names) v.«package» _ named (below v.«package» (length packages) parts.0)),
+      versions_by ids names packages vs named parts.1,
     )
+
+-- versions are listed where there were none
+pub grows_listed : (a b : Ids) (ss : List (Solvable ℕ)) → a.solvables ≡ [] → b ≡ record a { solvables = ss } → Grows a b
+grows_listed a b ss none put = rw put (record {
+  names = λ k x e. e;
+  words = λ k x e. e;
+  solvables = λ k x e. let no = rw none at e in absurd cc;
+  version_sets = λ k x e. e;
+  unions = λ k x e. e;
+  conditions = λ k x e. e;
+})
 
 -- the solvables of a package, one version more
 pub solvables_more : (a b : Ids) (s : Solvable ℕ) (id : SolvableId) (before : List SolvableId) (n : ℕ) → b.solvables ≡ a.solvables ++ s ∷ [] → id.raw ≡ length a.solvables → before ≡ solvables_of a n

@@ -1,12 +1,9 @@
 -- Lists by place: one place changed, and elements at the same place of two lists.
-use Rattle.std.proofs.Common.{◌≡◌, ◌⊎◌, inl, inr, ◌==◌, if◌then◌else◌, ℕ, zero, suc, ◌+◌, ◌<◌, Bool, List, [], ◌∷◌, ◌++◌, length, get_or, Some, refl, sym, ap, subst, ◌∙◌, arith}
-use Rattle.std.specs.Prelude.{Contains, slice_get}
-use Rattle.resolvo_terms.proofs.Places.{at_from_contains, contains_from_at}
+use Rattle.std.proofs.Common.{◌≡◌, ◌⊎◌, inl, inr, ◌==◌, if◌then◌else◌, ℕ, zero, suc, ◌+◌, ◌<◌, Bool, List, [], ◌∷◌, ◌++◌, length, get_or, refl, sym, ap, subst, ◌∙◌, arith}
 use Rattle.std.specs.List.{slice_set}
 use Rattle.std.specs.Global.{Vec}
 use Rattle.std.proofs.lemmas.Bool.{cases_Bool, false≢true}
 use Rattle.std.proofs.lemmas.Bool.Decides.{Decides-eqb}
-use Rattle.resolvo_terms.specs.Terms.{AreEach}
 use Rattle.resolvo_catalogue.specs.Ids.{list_at, places_from}
 
 -- ---- lists of lists

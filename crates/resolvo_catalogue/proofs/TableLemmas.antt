@@ -1,10 +1,9 @@
 -- Lists that are kept one after the other: one more at the end changes none.
-use Rattle.std.proofs.Common.{◌≡◌, inl, inr, ◌+◌, ◌-◌, ◌≤◌, ℕ, suc, List, [], ◌∷◌, ◌++◌, Some, map, length, take, drop, refl, sym, ap, subst, ◌∙◌, arith}
-use Rattle.std.specs.Prelude.{slice_get}
+use Rattle.std.proofs.Common.{◌≡◌, inl, inr, ◌+◌, ◌-◌, ◌≤◌, ℕ, suc, List, [], ◌∷◌, ◌++◌, length, take, drop, refl, ap, subst, ◌∙◌, arith}
 use Rattle.std.proofs.lemmas.List.{drop-append-le, take-append-le, length-append, length-drop, map-append, take_all}
 use Rattle.resolvo_pool_core.specs.declared.id.VersionSetId.{VersionSetId}
 use Rattle.resolvo_pool_core.specs.declared.requirement.ConditionalRequirement.{ConditionalRequirement}
-use Rattle.resolvo_catalogue_core.proofs.Pushed.{get_push}
+use Rattle.resolvo_terms.proofs.Places.{get_push}
 use Rattle.resolvo_catalogue.specs.declared.dependency_table.Place.{Place}
 use Rattle.resolvo_catalogue.specs.declared.dependency_table.Entry.{Entry}
 use Rattle.resolvo_catalogue.specs.Dependencies.{VersionDependencies}

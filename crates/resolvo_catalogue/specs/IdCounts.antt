@@ -1,8 +1,8 @@
 -- How many ids a table has given, and how many the lines of a catalogue need at most.
 use Rattle.std.specs.Prelude.{◌+◌, ◌≤◌, ℕ, List, length, sum_by}
-use Rattle.resolvo_text.specs.Line.{Line, Listed, Needs, Limits, Unknown, Exclude}
+use Rattle.resolvo_text.specs.Line.{Line, Listed}
 use Rattle.resolvo_text.specs.View.{specs_of, list_of, condition_of}
-use Rattle.resolvo_terms.specs.TermCounts.{ids_for_need}
+use Rattle.resolvo_terms.specs.TermCounts.{ids_for_need, ids_for_dependency, ids_for_mark}
 use Rattle.resolvo_catalogue_core.specs.declared.rule.Rule.{Rule}
 use Rattle.resolvo_catalogue_core.specs.declared.rule.Rule.TheVariants as rule
 use Rattle.resolvo_catalogue.specs.Ids.{Ids, LacksNumber}
@@ -18,28 +18,12 @@ abbrev pub ids_for_version : Line → ℕ
 ids_for_version (Listed v) = 2
 ids_for_version _ = 0
 
--- what a line asks of its version
-abbrev pub ids_for_dependency : Line → ℕ
-ids_for_dependency (Needs alternatives condition) = ids_for_need (alternatives, condition)
-ids_for_dependency (Limits s) = 2
-ids_for_dependency (Unknown reason) = 1
-ids_for_dependency _ = 0
-
--- the word of an exclusion
-abbrev pub ids_for_mark : Line → ℕ
-ids_for_mark (Exclude v reason) = 1
-ids_for_mark _ = 0
-
--- the same two of a line's rule
+-- the same of a rule of a request
 abbrev pub dependency_ids : Rule → ℕ
 dependency_ids (rule.Needs of alternatives condition) = ids_for_need (specs_of (list_of alternatives), condition_of condition)
 dependency_ids (rule.Limits of spec) = 2
 dependency_ids (rule.Unknown of word) = 1
 dependency_ids _ = 0
-
-abbrev pub mark_ids : Rule → ℕ
-mark_ids (rule.Exclude excluded word) = 1
-mark_ids _ = 0
 
 abbrev pub ids_for_line : Line → ℕ
 ids_for_line line = ids_for_version line + ids_for_dependency line + ids_for_mark line

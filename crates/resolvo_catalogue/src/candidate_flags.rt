@@ -1,17 +1,15 @@
 //! The marks of each version in the lines of a catalogue: locked, favoured, excluded.
 
-ghost use Rattle.std.specs.Prelude.{◌≡◌, ◌≤◌, ◌<◌, ◌+◌, ◌++◌, ◌∷◌, [], IfOk, IsErrOf, IsOkUnless, OnOk, List, Option, Some, false, length, map, slice_get, slice_index_or, string_bytes, sum_by, true};
-ghost use Rattle.resolvo_pool_core.specs.declared.want.Want.TheVariants.{Ids as NoIds, Memory};
+ghost use Rattle.std.specs.Prelude.{◌≡◌, ◌≤◌, ◌<◌, ◌+◌, ◌++◌, ◌∷◌, [], IfOk, IsOkUnless, List, Option, Some, false, length, map, slice_get, slice_index_or, string_bytes, true};
+ghost use Rattle.resolvo_pool_core.specs.declared.want.Want.TheVariants.{Memory};
 ghost use Rattle.resolvo_text.specs.Line.{Version, Line, Favour};
-ghost use Rattle.resolvo_catalogue_core.specs.Questions.{IsRuleLine};
+ghost use Rattle.resolvo_catalogue_core.specs.Kept.{IsKeptLine};
 ghost use Rattle.resolvo_catalogue_core.specs.Sets.{is_many};
 ghost use Rattle.resolvo_catalogue_core.specs.Listed.{listed, are_kept, AreDistinct};
-ghost use Rattle.resolvo_catalogue.specs.Ids.{Ids, Interns, LacksNumber};
-ghost use Rattle.resolvo_catalogue.specs.IdCounts.{id_count, ids_for_mark, mark_ids};
+ghost use Rattle.resolvo_catalogue.specs.Ids.{Ids, terms_of};
 ghost use Rattle.resolvo_catalogue.specs.Marked.{AreMarked, AreMany};
 
-use crate::id_table::IdTable;
-use resolvo_catalogue_core::{Catalogue, KeptVersion, Rule, VersionNo};
+use resolvo_catalogue_core::{Catalogue, KeptLines, KeptRule, KeptVersion, VersionNo};
 use resolvo_pool_core::id::StringId;
 use resolvo_pool_core::want::R;
 use std::alloc::Global;
@@ -32,18 +30,23 @@ const NO_FLAGS: CandidateFlags = CandidateFlags {
 };
 
 /// The marks of each version, by its number.
-pub fn marks_of(alloc: Global, ids: &mut IdTable, catalogue: &Catalogue) -> R<Vec<CandidateFlags>>
+pub fn marks_of(
+    alloc: Global,
+    kept: &KeptLines<'_>,
+    catalogue: &Catalogue,
+) -> R<Vec<CandidateFlags>>
+    requires { kept.now.lines ≡ catalogue.now }
     ensures marked { IfOk result
         (λ marks.
-        AreMarked ids.new catalogue.now catalogue.now (listed catalogue.now) marks.items) }
-    ensures interns { Interns ids.old ids.new }
-    ensures few { id_count ids.new ≤ id_count ids.old + sum_by ids_for_mark catalogue.now }
-    ensures ids { IsErrOf result NoIds → LacksNumber ids.new }
+        (ids : Ids)
+        → terms_of ids ≡ kept.now.terms
+        → AreMarked ids catalogue.now catalogue.now (listed catalogue.now) marks.items) }
+    ensures refusal { IsOkUnless result Memory }
 {
     let mut marks = unmarked(alloc, catalogue.versions().len())?;
-    for line in 0..catalogue.line_count() {
-        if let Some(rule) = catalogue.rule(line + 1) {
-            mark(ids, &mut marks, rule)?;
+    for line in 0..kept.line_count() {
+        if let Some(rule) = kept.rule(line + 1) {
+            mark(&mut marks, rule);
         }
     }
     for (_, version) in catalogue.favours() {
@@ -106,35 +109,29 @@ fn unmarked(alloc: Global, count: usize) -> R<Vec<CandidateFlags>>
 }
 
 /// Adds the mark of a rule. A need, a limit and an unknown mark add none.
-fn mark(ids: &mut IdTable, marks: &mut Vec<CandidateFlags>, rule: &Rule) -> R<()>
-    ensures marked { OnOk result
-        ((versions : List Version) (owner : Option Version) (line : Line)
+fn mark(marks: &mut Vec<CandidateFlags>, rule: KeptRule)
+    ensures { (ids : Ids) (versions : List Version) (owner : Option Version) (line : Line)
         (lines favours : List Line)
         → AreDistinct versions
-        → IsRuleLine versions rule.now owner line
-        → AreMarked ids.old lines favours versions marks.old.items
-        → AreMarked ids.new (lines ++ line ∷ []) favours versions marks.new.items) }
-    ensures interns { Interns ids.old ids.new }
-    ensures few { id_count ids.new ≤ id_count ids.old + mark_ids rule.now }
-    ensures ids { IsErrOf result NoIds → LacksNumber ids.new }
+        → IsKeptLine (terms_of ids) versions rule owner line
+        → AreMarked ids lines favours versions marks.old.items
+        → AreMarked ids (lines ++ line ∷ []) favours versions marks.new.items }
 {
     match rule {
-        Rule::Lock { version } => {
+        KeptRule::Lock { version } => {
             if let Some(found) = marks.get_mut(version.0 as usize) {
                 found.locked = true;
             }
         }
-        Rule::Exclude { version, word } => {
-            let word = ids.word(word)?;
+        KeptRule::Exclude { version, word } => {
             if let Some(found) = marks.get_mut(version.0 as usize) {
                 found.excluded = Some(word);
             }
         }
-        Rule::Needs { .. } => {}
-        Rule::Limits { .. } => {}
-        Rule::Unknown { .. } => {}
+        KeptRule::Needs { .. } => {}
+        KeptRule::Limits { .. } => {}
+        KeptRule::Unknown { .. } => {}
     }
-    Ok(())
 }
 
 /// Marks a version as favoured.

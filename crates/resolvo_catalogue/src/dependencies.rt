@@ -4,11 +4,11 @@ ghost use Rattle.std.specs.Prelude.{◌≡◌, ◌≤◌, ◌+◌, ◌++◌, ◌
 ghost use Rattle.resolvo_pool_core.specs.declared.want.Want.TheVariants.{Ids};
 
 use crate::id_table::IdTable;
-use resolvo_catalogue_core::{Catalogue, Request, Rule};
+use resolvo_catalogue_core::{KeptLines, KeptRule, Request, Rule};
 use resolvo_pool_core::id::{StringId, VersionSetId};
 use resolvo_pool_core::requirement::ConditionalRequirement;
 use resolvo_pool_core::want::R;
-use std::alloc::Global;
+use std::alloc::{AllocError, Global};
 
 /// The requirements and constraints of lines, in their order.
 #[derive(Drop)]
@@ -22,8 +22,10 @@ pub struct VersionDependencies {
 impl VersionDependencies {
     ghost use Rattle.resolvo_text.specs.Line.{Version, Line};
     ghost use Rattle.resolvo_catalogue_core.specs.Questions.{IsRuleLine};
-    ghost use Rattle.resolvo_catalogue.specs.Ids.{Interns, LacksNumber};
-    ghost use Rattle.resolvo_catalogue.specs.IdCounts.{id_count, ids_for_dependency, dependency_ids};
+    ghost use Rattle.resolvo_catalogue_core.specs.Kept.{IsKeptLine};
+    ghost use Rattle.resolvo_catalogue.specs.Ids.{Ids as Interned, terms_of, Interns, LacksNumber};
+    ghost use Rattle.resolvo_catalogue.specs.IdCounts.{id_count, dependency_ids};
+    ghost use Rattle.resolvo_terms.specs.TermCounts.{ids_for_dependency};
     ghost use Rattle.resolvo_catalogue.specs.Dependencies.{AreDependenciesOf, deps_of, lines_at, no_lines};
 
     /// Those of no lines.
@@ -37,11 +39,46 @@ impl VersionDependencies {
         }
     }
 
-    /// Adds the requirement or constraint of a rule. A lock and an exclusion add nothing.
+    /// Adds the requirement or constraint of a rule of a catalogue. A lock and an exclusion add
+    /// nothing.
+    fn add_kept(&mut self, rule: KeptRule) -> Result<(), AllocError>
+        ensures { OnOk result
+            ((ids : Interned) (versions : List Version) (owner : Option Version) (line : Line)
+            (lines : List Line)
+            → IsKeptLine (terms_of ids) versions rule owner line
+            → AreDependenciesOf ids lines (deps_of self.old)
+            → AreDependenciesOf ids (lines ++ line ∷ []) (deps_of self.new)) }
+    {
+        match rule {
+            KeptRule::Needs { need, .. } => self.requirements.push(need)?,
+            KeptRule::Limits { spec, .. } => self.constrains.push(spec)?,
+            KeptRule::Unknown { word, .. } => self.unknown = Some(word),
+            KeptRule::Lock { .. } | KeptRule::Exclude { .. } => {}
+        }
+        Ok(())
+    }
+
+    /// Adds the requirements and constraints of these lines of a catalogue, where there are none.
+    pub fn add_lines(&mut self, kept: &KeptLines<'_>, lines: &[u32]) -> Result<(), AllocError>
+        requires { deps_of self.old ≡ no_lines }
+        ensures { OnOk result
+            ((ids : Interned)
+            → terms_of ids ≡ kept.now.terms
+            → AreDependenciesOf ids (lines_at kept.now.lines lines.now) (deps_of self.new)) }
+    {
+        for line in lines {
+            if let Some(rule) = kept.rule(*line) {
+                self.add_kept(rule)?;
+            }
+        }
+        Ok(())
+    }
+
+    /// Adds the requirement or constraint of a rule of a request, of which no other kind is one.
     fn add(&mut self, ids: &mut IdTable, rule: &Rule) -> R<()>
         ensures as_ids { OnOk result
-            ((versions : List Version) (owner : Option Version) (line : Line) (lines : List Line)
-            → IsRuleLine versions rule.now owner line
+            ((versions : List Version) (line : Line) (lines : List Line)
+            → IsRuleLine versions rule.now None line
             → AreDependenciesOf ids.old lines (deps_of self.old)
             → AreDependenciesOf ids.new (lines ++ line ∷ []) (deps_of self.new)) }
         ensures interns { Interns ids.old ids.new }
@@ -61,29 +98,7 @@ impl VersionDependencies {
                 let version_set = ids.spec(spec)?;
                 self.constrains.push(version_set)?;
             }
-            Rule::Unknown { word, .. } => {
-                let word = ids.word(word)?;
-                self.unknown = Some(word);
-            }
-            Rule::Lock { .. } | Rule::Exclude { .. } => {}
-        }
-        Ok(())
-    }
-
-    /// Adds the requirements and constraints of these lines of a catalogue, where there are none.
-    pub fn add_lines(&mut self, ids: &mut IdTable, catalogue: &Catalogue, lines: &[u32]) -> R<()>
-        requires { deps_of self.old ≡ no_lines }
-        ensures as_ids { OnOk result
-            (AreDependenciesOf ids.new (lines_at catalogue.now lines.now) (deps_of self.new)) }
-        ensures interns { Interns ids.old ids.new }
-        ensures few { id_count ids.new
-            ≤ id_count ids.old + sum_by ids_for_dependency (lines_at catalogue.now lines.now) }
-        ensures ids { IsErrOf result Ids → LacksNumber ids.new }
-    {
-        for line in lines {
-            if let Some(rule) = catalogue.rule(*line) {
-                self.add(ids, rule)?;
-            }
+            Rule::Unknown { .. } | Rule::Lock { .. } | Rule::Exclude { .. } => {}
         }
         Ok(())
     }

@@ -1,16 +1,14 @@
 //! The ids of packages, versions, SPECs, lists of alternatives, conditions and words: the terms of the
 //! lines (`resolvo_terms`), and the versions. The model is one list of each, in the order of first
 //! interning; `specs/Ids.antt` has the text of each id.
-//! Filled by `versions`, `dependencies` and `candidate_flags`, read by `provider`.
+//! Filled by `versions` and `dependencies`, read by `provider`.
 
-ghost use Rattle.std.specs.Prelude.{◌≡◌, ◌<◌, ◌≤◌, ◌+◌, ◌++◌, ◌∷◌, [], IfOk, IsErrOf, OnOk, OnErr, length, map};
+ghost use Rattle.std.specs.Prelude.{◌≡◌, ◌<◌, ◌≤◌, ◌+◌, ◌++◌, ◌∷◌, [], IfOk, IsErrOf, OnOk, OnErr, length};
 ghost use Rattle.std.specs.Option.{option_copied};
-ghost use Rattle.std.specs.String.{string_bytes};
 ghost use Rattle.resolvo_text.specs.View.{spec_of, specs_of, condition_of};
 ghost use Rattle.resolvo_pool_core.specs.declared.want.Want.TheVariants.{Ids};
-ghost use Rattle.resolvo_terms.specs.Terms.{AreOnce};
 ghost use Rattle.resolvo_terms.specs.TermCounts.{ids_for_need};
-ghost use Rattle.resolvo_catalogue.specs.Ids.{Interns, AreSound, LacksNumber, IsWord, IsSpec, IsNeed};
+ghost use Rattle.resolvo_catalogue.specs.Ids.{terms_of, Interns, AreSound, LacksNumber, IsPackage, IsSpec, IsNeed};
 ghost use Rattle.resolvo_catalogue.specs.IdCounts.{id_count};
 
 use resolvo_catalogue_core::{Cond, Span, Spec};
@@ -22,7 +20,7 @@ use resolvo_pool_core::id::{
 };
 use resolvo_pool_core::requirement::ConditionalRequirement;
 use resolvo_pool_core::want::R;
-use resolvo_terms::{Room, Terms};
+use resolvo_terms::Terms;
 use std::alloc::{AllocError, Global};
 use std::marker::Model;
 
@@ -59,26 +57,26 @@ impl Model for IdTable {
 }
 
 impl IdTable {
-    /// An empty table, with room for some ids.
-    pub fn new(alloc: Global, room: Room) -> Result<IdTable, AllocError>
-        ensures { IfOk result (λ t. t
-            ≡ record
-            { names = []; words = []; solvables = []; version_sets = []; unions = []; conditions = [] }) }
+    /// The terms of a catalogue, and no versions.
+    pub fn over(alloc: Global, terms: &Terms) -> Result<IdTable, AllocError>
+        ensures terms { IfOk result (λ t. terms_of t ≡ terms.now) }
+        ensures none { IfOk result (λ t. t.solvables ≡ []) }
     {
         Ok(IdTable {
-            terms: Terms::new(alloc, room)?,
+            terms: terms.copy(alloc)?,
             solvables: Vec::new(alloc),
         })
     }
 
-    /// Numbers the packages of these names, where none is numbered yet.
-    pub fn name_packages(&mut self, names: &[String]) -> Result<(), AllocError>
-        requires once { AreOnce (map string_bytes names.now) }
-        requires few { length names.now ≤ 4294967295 }
-        ensures names { OnOk result (self.new ≡ record self.old { names = map string_bytes names.now }) }
-        ensures same { OnErr result (self.new ≡ self.old) }
+    /// The id of a package.
+    #[tactic(auto, using(crate::proofs::GrowLemmas::interns_by, crate::proofs::GrowLemmas::lacks_by))]
+    pub fn package(&mut self, name: &str) -> R<NameId>
+        ensures package { IfOk result (λ n. IsPackage self.new n name.now) }
+        ensures interns { Interns self.old self.new }
+        ensures few { id_count self.new ≤ id_count self.old + 1 }
+        ensures ids { IsErrOf result Ids → LacksNumber self.new }
     {
-        self.terms.name_packages(names)
+        self.terms.package(name)
     }
 
     /// The id of one version more, of this package.
@@ -100,17 +98,6 @@ impl IdTable {
             name,
         })?;
         Ok(SolvableId::from_index(index))
-    }
-
-    /// The id of a word of reason.
-    #[tactic(auto, using(crate::proofs::GrowLemmas::interns_by, crate::proofs::GrowLemmas::lacks_by))]
-    pub fn word(&mut self, word: &str) -> R<StringId>
-        ensures word { IfOk result (λ w. IsWord self.new w word.now) }
-        ensures interns { Interns self.old self.new }
-        ensures few { id_count self.new ≤ id_count self.old + 1 }
-        ensures ids { IsErrOf result Ids → LacksNumber self.new }
-    {
-        self.terms.word(word)
     }
 
     /// The id of a SPEC.
@@ -147,6 +134,13 @@ impl IdTable {
 
 impl IdTable {
     ghost use Rattle.resolvo_catalogue.specs.Known.{solvable_at, set_at, members_of, condition_at, name_text, word_text};
+
+    /// How many names there are, of packages with a version or without one.
+    pub fn name_count(&self) -> usize
+        ensures { result ≡ length self.now.names }
+    {
+        self.terms.name_count()
+    }
 
     /// The package of a solvable. Calls of this kind answer for every id.
     pub fn package_of(&self, solvable: SolvableId) -> NameId

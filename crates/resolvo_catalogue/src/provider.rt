@@ -2,12 +2,13 @@
 //! Its model is the interned values, and the dependencies and marks of each version
 //! (`specs/Provider.antt`).
 
-ghost use Rattle.std.specs.Prelude.{◌≡◌, ◌≤◌, ◌+◌, [], Bool, false, true, map, sum_by, IfOk, IsErrOf, IsOkUnless};
-ghost use Rattle.resolvo_pool_core.specs.declared.want.Want.TheVariants.{Ids, Memory};
+ghost use Rattle.std.specs.Prelude.{◌≡◌, ◌≤◌, ◌<◌, ◌+◌, [], Bool, false, length, map, sum_by, true, IfOk, IsErrOf, IsOkUnless};
+ghost use Rattle.resolvo_pool_core.specs.declared.want.Want.TheVariants.{Ids as NoIds, Memory};
 ghost use Rattle.resolvo_catalogue.specs.declared.provider.Hint.{Hint};
 ghost use Rattle.resolvo_catalogue_core.specs.Listed.{listed};
-ghost use Rattle.resolvo_catalogue.specs.Ids.{AreByPackage, AreVersions, Interns, LacksNumber};
-ghost use Rattle.resolvo_catalogue.specs.IdCounts.{LacksNumberFor, id_count, ids_for_dependency, ids_for_line};
+ghost use Rattle.resolvo_catalogue.specs.Ids.{Ids, AreByPackage, LacksNumber, terms_of};
+ghost use Rattle.resolvo_catalogue.specs.IdCounts.{LacksNumberFor, id_count, ids_for_line, ids_for_version};
+ghost use Rattle.resolvo_terms.specs.TermCounts.{ids_for_dependency};
 ghost use Rattle.resolvo_catalogue.specs.Over.{AreDependencies, IsOver};
 
 use crate::candidate_flags::{CandidateFlags, many_of, marks_of};
@@ -15,11 +16,10 @@ use crate::dependencies::VersionDependencies;
 use crate::dependency_table::DependencyTable;
 use crate::id_table::IdTable;
 use crate::versions::list_versions;
-use resolvo_catalogue_core::{Catalogue, Request, Rule, Spec, VersionNo};
+use resolvo_catalogue_core::{Catalogue, KeptLines, Request, Spec, VersionNo};
 use resolvo_pool_core::id::{NameId, SolvableId, StringId, VersionSetId};
 use resolvo_pool_core::requirement::{ConditionalRequirement, Requirement};
 use resolvo_pool_core::want::{R, Want};
-use resolvo_terms::Room;
 use std::alloc::Global;
 use std::cell::Cell;
 use std::marker::Model;
@@ -116,15 +116,16 @@ impl CatalogueProvider {
         ensures hint { IfOk result (λ p. p.hint ≡ hint) }
         ensures budget { IfOk result (λ p. p.has_budget ≡ false) }
         ensures few { IfOk result (λ p. id_count p.ids ≤ sum_by ids_for_line catalogue.now) }
-        ensures ids { IsErrOf result Ids → LacksNumberFor catalogue.now }
+        ensures ids { IsErrOf result NoIds → LacksNumberFor catalogue.now }
     {
-        let mut ids = IdTable::new(alloc, room_for(catalogue))?;
+        let kept = catalogue.kept();
+        let mut ids = IdTable::over(alloc, kept.terms())?;
         let Tables {
             packages,
             deps,
             marks,
             many,
-        } = tables_of(alloc, &mut ids, catalogue)?;
+        } = tables_of(alloc, &mut ids, &kept, catalogue)?;
         Ok(CatalogueProvider {
             ids,
             packages,
@@ -172,7 +173,7 @@ impl CatalogueProvider {
         ensures over { (catalogue : List parsed.Line) → IsOver catalogue self.old → IsOver catalogue self.new }
         ensures few { id_count self.new.ids
             ≤ id_count self.old.ids + sum_by ids_for_dependency request.now.lines }
-        ensures ids { IsErrOf result Ids → LacksNumber self.new.ids }
+        ensures ids { IsErrOf result NoIds → LacksNumber self.new.ids }
         // Which sets keep the rules of the ids.
         ensures rules { IfOk result
             (λ asked.
@@ -279,9 +280,15 @@ impl CatalogueProvider {
     }
 }
 
-/// Interns a whole catalogue, where no name and no version was interned yet.
-fn tables_of(alloc: Global, ids: &mut IdTable, catalogue: &Catalogue) -> R<Tables>
-    requires names { ids.old.names ≡ [] }
+/// The lists of a catalogue, whose terms are interned, and no version yet.
+fn tables_of(
+    alloc: Global,
+    ids: &mut IdTable,
+    kept: &KeptLines<'_>,
+    catalogue: &Catalogue,
+) -> R<Tables>
+    requires kept { kept.now.lines ≡ catalogue.now }
+    requires terms { terms_of ids.old ≡ kept.now.terms }
     requires none { ids.old.solvables ≡ [] }
     // After an answer.
     ensures over { IfOk result
@@ -298,14 +305,14 @@ fn tables_of(alloc: Global, ids: &mut IdTable, catalogue: &Catalogue) -> R<Table
         })) }
     ensures packages { IfOk result (λ t. AreByPackage ids.new t.packages.items) }
     // Whatever the answer.
-    ensures few { id_count ids.new ≤ id_count ids.old + sum_by ids_for_line catalogue.now }
+    ensures few { id_count ids.new ≤ id_count ids.old + sum_by ids_for_version catalogue.now }
     // After a refusal.
-    ensures ids { IsErrOf result Ids → LacksNumber ids.new }
+    ensures ids { IsErrOf result NoIds → LacksNumber ids.new }
 {
     catalogue.lines_are_in_place();
     let packages = list_versions(alloc, ids, catalogue.versions())?;
-    let deps = deps_of_lines(alloc, ids, catalogue)?;
-    let marks = marks_of(alloc, ids, catalogue)?;
+    let deps = deps_of_lines(alloc, kept, catalogue)?;
+    let marks = marks_of(alloc, kept, catalogue)?;
     let many = many_of(alloc, catalogue)?;
     ids.ids_are_once();
     Ok(Tables {
@@ -317,13 +324,11 @@ fn tables_of(alloc: Global, ids: &mut IdTable, catalogue: &Catalogue) -> R<Table
 }
 
 /// The dependencies of each version, by its number.
-fn deps_of_lines(alloc: Global, ids: &mut IdTable, catalogue: &Catalogue) -> R<DependencyTable>
-    ensures deps { IfOk result (λ table. AreDependencies ids.new catalogue.now table) }
-    ensures interns { Interns ids.old ids.new }
-    ensures few { id_count ids.new ≤ id_count ids.old + sum_by ids_for_dependency catalogue.now }
-    ensures ids { IsErrOf result Ids
-        → AreVersions ids.old (listed catalogue.now)
-        → LacksNumber ids.new }
+fn deps_of_lines(alloc: Global, kept: &KeptLines<'_>, catalogue: &Catalogue) -> R<DependencyTable>
+    requires { kept.now.lines ≡ catalogue.now }
+    ensures deps { IfOk result
+        (λ table. (ids : Ids) → terms_of ids ≡ kept.now.terms → AreDependencies ids catalogue.now table) }
+    ensures ids { IsErrOf result NoIds → 4294967295 < length (listed catalogue.now) }
 {
     let Ok(count) = u32::try_from(catalogue.versions().len()) else {
         return Err(Want::Ids);
@@ -332,37 +337,8 @@ fn deps_of_lines(alloc: Global, ids: &mut IdTable, catalogue: &Catalogue) -> R<D
     let mut deps = VersionDependencies::new(alloc);
     for number in 0..count {
         let lines = catalogue.lines_of(VersionNo(number));
-        deps.add_lines(ids, catalogue, lines)?;
+        deps.add_lines(kept, lines)?;
         table.push(&mut deps)?;
     }
     Ok(table)
-}
-
-/// For how many ids there is room at first: for one version set a rule, and for the lists of
-/// alternatives and the conditions of needs.
-fn room_for(catalogue: &Catalogue) -> Room {
-    let mut room = Room {
-        version_sets: 0,
-        unions: 0,
-        conditions: 0,
-    };
-    for line in 0..catalogue.line_count() {
-        if let Some(rule) = catalogue.rule(line + 1) {
-            room.version_sets = room.version_sets.saturating_add(1);
-            if let Rule::Needs {
-                alternatives,
-                condition,
-                ..
-            } = rule
-            {
-                if alternatives.len() > 1 {
-                    room.unions = room.unions.saturating_add(1);
-                }
-                if condition.is_some() {
-                    room.conditions = room.conditions.saturating_add(3);
-                }
-            }
-        }
-    }
-    room
 }

@@ -1,11 +1,12 @@
-//! The versions of a catalogue as solvables, in line order, and those of each package. The packages
-//! are numbered as the catalogue has them.
+//! The versions of a catalogue as solvables, in line order, and those of each package.
 
-ghost use Rattle.std.specs.Prelude.{◌≡◌, ◌≤◌, ◌<◌, ◌+◌, ◌*◌, ◌++◌, ◌∷◌, ◌==◌, [], IfOk, IsErrOf, IsOkUnless, OnOk, length, map, true, if◌then◌else◌, ℕ};
+ghost use Rattle.std.specs.Prelude.{All, ◌≡◌, ◌≤◌, ◌<◌, ◌+◌, ◌*◌, ◌++◌, ◌∷◌, ◌==◌, [], IfOk, IsErrOf, IsOkUnless, OnOk, length, map, true, if◌then◌else◌, ℕ};
 ghost use Rattle.resolvo_pool_core.specs.declared.want.Want.TheVariants.{Ids, Memory};
 ghost use Rattle.resolvo_catalogue_core.specs.Listed.{are_kept};
 ghost use Rattle.resolvo_catalogue.specs.IdCounts.{id_count};
-ghost use Rattle.resolvo_catalogue.specs.Ids.{AreVersions, AreByPackage, LacksNumber, list_at, solvable_by};
+ghost use Rattle.resolvo_catalogue.specs.Ids.{AreVersions, AreByPackage, Grows, Interns, IsPackage, LacksNumber, list_at, solvable_by};
+ghost use Rattle.resolvo_terms.specs.Terms.{AreEach};
+ghost use Rattle.std.specs.String.{string_bytes};
 
 use crate::id_table::IdTable;
 use resolvo_catalogue_core::{KeptVersion, Versions};
@@ -19,21 +20,36 @@ pub fn list_versions(
     ids: &mut IdTable,
     versions: &Versions,
 ) -> R<Vec<Vec<SolvableId>>>
-    requires names { ids.old.names ≡ [] }
     requires none { ids.old.solvables ≡ [] }
     // After an answer.
     ensures versions { IfOk result (λ _. AreVersions ids.new versions.now) }
     ensures packages { IfOk result (λ lists. AreByPackage ids.new lists.items) }
+    ensures grows { OnOk result (Grows ids.old ids.new) }
     // Whatever the answer.
     ensures few { id_count ids.new ≤ id_count ids.old + 2 * length versions.now }
     // After a refusal.
     ensures ids { IsErrOf result Ids → LacksNumber ids.new }
 {
     let (names, kept) = versions.parts();
-    let mut lists = empty_lists(alloc, names.len())?;
-    list_kept(ids, kept, &mut lists)?;
-    ids.name_packages(names)?;
+    let packages = packages_of(alloc, ids, names)?;
+    let mut lists = empty_lists(alloc, ids.name_count())?;
+    list_kept(ids, &packages, kept, &mut lists)?;
     Ok(lists)
+}
+
+/// The ids of the packages of these names.
+fn packages_of(alloc: Global, ids: &mut IdTable, names: &[String]) -> R<Vec<NameId>>
+    ensures packages { IfOk result
+        (λ packages. AreEach (IsPackage ids.new) packages.items (map string_bytes names.now)) }
+    ensures interns { Interns ids.old ids.new }
+    ensures few { id_count ids.new ≤ id_count ids.old + length names.now }
+    ensures ids { IsErrOf result Ids → LacksNumber ids.new }
+{
+    let mut packages = Vec::with_capacity(alloc, names.len())?;
+    for name in names {
+        packages.push(ids.package(name.as_str())?)?;
+    }
+    Ok(packages)
 }
 
 /// So many empty lists.
@@ -49,14 +65,20 @@ fn empty_lists(alloc: Global, count: usize) -> R<Vec<Vec<SolvableId>>>
     Ok(lists)
 }
 
-/// Interns the versions, and appends each to those of its package. Its package has the place of its
-/// name as id.
-fn list_kept(ids: &mut IdTable, kept: &[KeptVersion], lists: &mut Vec<Vec<SolvableId>>) -> R<()>
-    requires kept { are_kept (length lists.old.items) kept.now ≡ true }
+/// Interns the versions, and appends each to those of its package.
+fn list_kept(
+    ids: &mut IdTable,
+    packages: &[NameId],
+    kept: &[KeptVersion],
+    lists: &mut Vec<Vec<SolvableId>>,
+) -> R<()>
+    requires kept { are_kept (length packages.now) kept.now ≡ true }
+    requires within { All (λ n. n.raw < length lists.old.items) packages.now }
     requires packages { AreByPackage ids.old lists.old.items }
     requires none { ids.old.solvables ≡ [] }
     // After an answer.
-    ensures solvables { OnOk result (ids.new ≡ record ids.old { solvables = map solvable_by kept.now }) }
+    ensures solvables { OnOk result
+        (ids.new ≡ record ids.old { solvables = map (solvable_by packages.now) kept.now }) }
     ensures numbered { OnOk result (length kept.now ≤ 4294967295) }
     ensures packages { OnOk result (AreByPackage ids.new lists.new.items) }
     // Whatever the answer.
@@ -65,7 +87,7 @@ fn list_kept(ids: &mut IdTable, kept: &[KeptVersion], lists: &mut Vec<Vec<Solvab
     ensures ids { IsErrOf result Ids → LacksNumber ids.new }
 {
     for version in kept {
-        let package = NameId::from_raw(version.package);
+        let package = packages[version.package as usize];
         let id = ids.version(package, version.number)?;
         add(lists, package, id)?;
     }

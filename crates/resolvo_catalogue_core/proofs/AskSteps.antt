@@ -14,8 +14,7 @@ use Rattle.resolvo_text.specs.declared.spec.Version as code
 use Rattle.resolvo_catalogue_core.specs.Grammar.{line_at, owner_below, MayFollowInRequest, IsRequestLine, AreRequestLines}
 use Rattle.resolvo_catalogue_core.specs.Listed.{listed, AreDistinct}
 use Rattle.resolvo_catalogue_core.specs.Questions.{AreAll, LineIs, IsVersionLine, Wishes, WishesAt, IsWish, IsRuleLine, is_rule, wished_in}
-use Rattle.resolvo_catalogue_core.specs.Table.{rule_line}
-use Rattle.resolvo_catalogue_core.specs.RequestLines.{asked, asked_lines, IsAsk, IsAskedRule, KeepsAsks, AreAsks, AddsAsk, ask_at, rule_asked, wish_asked}
+use Rattle.resolvo_catalogue_core.specs.RequestLines.{rule_line, asked, asked_lines, IsAsk, IsAskedRule, KeepsAsks, AreAsks, AddsAsk, ask_at, rule_asked, wish_asked}
 use Rattle.resolvo_catalogue_core.specs.declared.rule.VersionNo.{VersionNo}
 use Rattle.resolvo_catalogue_core.specs.declared.rule.Rule.{Rule}
 use Rattle.resolvo_catalogue_core.specs.declared.rule.Rule.TheVariants as rule
@@ -107,7 +106,7 @@ wished_twice catalogue a keeps v k here present may =
 
 -- ---- rules
 
-asked_rule_is_line : (versions : List Version) (r : Rule) → IsAskedRule r → IsRuleLine versions r None (rule_line [] r)
+asked_rule_is_line : (versions : List Version) (r : Rule) → IsAskedRule r → IsRuleLine versions r None (rule_line r)
 asked_rule_is_line versions (rule.Needs None ss c) h = (refl, refl)
 asked_rule_is_line versions (rule.Needs (Some n) ss c) h = absurd cc
 asked_rule_is_line versions (rule.Limits None s) h = (refl, refl)
@@ -128,7 +127,7 @@ pub asked_rule : (a : RequestLines) (lines : List Line) → asked_lines a ≡ li
 asked_rule a lines is ok zero r e = absurd cc
 asked_rule a lines is ok (suc n) r e =
     let at = asked_by (slice_get a.asks.items n) r e in
-    (rule_line [] r, ap (λ (ls : List Line). slice_get ls n) (sym is) ∙ slice_get-map asked a.asks.items n ∙ ap (λ (o : Option RequestLine). option_map asked o) at, λ versions. asked_rule_is_line versions r (ok n (ask.Rule r) at))
+    (rule_line r, ap (λ (ls : List Line). slice_get ls n) (sym is) ∙ slice_get-map asked a.asks.items n ∙ ap (λ (o : Option RequestLine). option_map asked o) at, λ versions. asked_rule_is_line versions r (ok n (ask.Rule r) at))
 
 no_asked_rule : (x : RequestLine) → rule_asked x ≡ None → is_rule (asked x) ≡ false
 no_asked_rule ask.Nothing e = refl
@@ -167,7 +166,7 @@ asked_wish a lines is (suc n) =
     from_ask (slice_get a.asks.items n)
     ∙ ap wished_in (sym (slice_get-map asked a.asks.items n) ∙ ap (λ (ls : List Line). slice_get ls n) is)
   where
-    from_rule : (r : Rule) → None ≡ wished_in (Some (rule_line [] r))
+    from_rule : (r : Rule) → None ≡ wished_in (Some (rule_line r))
     from_rule (rule.Needs of ss c) = refl
     from_rule (rule.Limits of s) = refl
     from_rule (rule.Unknown of w) = refl

@@ -1,9 +1,10 @@
 -- The questions about a table, by the lines that it keeps.
-use Rattle.std.proofs.Common.{◌≡◌, inl, inr, ℕ, zero, suc, true, false, List, [], ◌∷◌, ◌++◌, take, Option, Some, None, refl, sym, ap, subst, ◌∙◌, option_map, arith}
-use Rattle.std.specs.Prelude.{slice_get, option_and_then, IfSome, IfNone, IfOk, Result, Ok, Err}
+use Rattle.std.proofs.Common.{◌≡◌, inl, inr, ℕ, zero, suc, ◌+◌, ◌≤◌, Bool, true, false, List, [], ◌∷◌, ◌++◌, take, Option, Some, None, refl, sym, ap, subst, ◌∙◌, option_map, arith}
+use Rattle.std.specs.Prelude.{slice_get, option_and_then, IfSome, IfNone, IfOk, Result, Ok, Err, sum_by}
 use Rattle.std.specs.Option.{option_map_or}
-use Rattle.std.proofs.lemmas.Option.{slice_get-get_or, slice_get-map, slice_get_within}
+use Rattle.std.proofs.lemmas.Option.{slice_get-map, slice_get_within}
 use Rattle.std.proofs.lemmas.List.{take-append-le}
+use Rattle.std.proofs.lemmas.List.Sums.{sum_by_push}
 use Rattle.std.proofs.Math.Seq.{take-append_seam}
 use Rattle.resolvo_terms.proofs.Places.{get_push}
 use Rattle.resolvo_text.specs.Matches.{Set}
@@ -12,9 +13,12 @@ use Rattle.resolvo_catalogue_core.specs.Grammar.{line_at, owner_of, IsCatalogueL
 use Rattle.resolvo_catalogue_core.specs.Rules.{obeys, keeps, keeps_in_request}
 use Rattle.resolvo_catalogue_core.specs.Listed.{listed, AreDistinct}
 use Rattle.resolvo_catalogue_core.specs.Questions.{IsRuleLine, is_rule, cases_of_line}
-use Rattle.resolvo_catalogue_core.specs.Table.{nth, nowhere, line_of, rule_line, IsRuleOf, Keeps, IsTable, lines_in, versions_in, kinds_in}
+use Rattle.resolvo_catalogue_core.specs.Table.{line_of, Keeps, IsTable, HasFew, lines_in, versions_in, kinds_in}
+use Rattle.resolvo_catalogue_core.specs.Kept.{kept_line, IsKeptOf, IsKeptLine}
+use Rattle.resolvo_terms.specs.Terms.{Terms}
+use Rattle.resolvo_terms.specs.TermCounts.{term_count, terms_for_line}
+use Rattle.resolvo_catalogue_core.specs.declared.kept_rule.KeptRule.{KeptRule}
 use Rattle.resolvo_catalogue_core.specs.declared.rule.Rule.{Rule}
-use Rattle.resolvo_catalogue_core.specs.declared.rule.Rule.TheVariants as rule
 use Rattle.resolvo_catalogue_core.specs.Held.{kind_at, rule_of}
 use Rattle.resolvo_catalogue_core.specs.declared.line_table.LineKind.{LineKind}
 use Rattle.resolvo_catalogue_core.specs.declared.line_table.LineKind.TheVariants as line_kinds
@@ -30,21 +34,14 @@ distinct t keeps v j k = one_number t (versions_in t) (lines_in t) keeps v j k
 
 -- ---- rules
 
-rule_line_is : (vs : List Version) (owner : Option Version) (r : Rule) → IsRuleOf vs owner r → IsRuleLine vs r owner (rule_line vs r)
-rule_line_is vs owner (rule.Needs of ss c) h = (refl, h)
-rule_line_is vs owner (rule.Limits of s) h = (refl, h)
-rule_line_is vs owner (rule.Unknown of w) h = (refl, h)
-rule_line_is vs owner (rule.Lock k) h = (nth vs k, slice_get-get_or vs k.0 nowhere h, refl)
-rule_line_is vs owner (rule.Exclude k w) h = (nth vs k, slice_get-get_or vs k.0 nowhere h, refl)
-
 -- where a rule is stored for a line, it is that line's rule
-rule_of_line : (t : Table) → IsTable t → (n : ℕ) (r : Rule) → kind_at (kinds_in t) n ≡ Some (line_kinds.Rule r) → (l : Line) × (line_at (lines_in t) n ≡ Some l) × IsRuleLine (versions_in t) r (owner_of (lines_in t) n) l
+rule_of_line : (t : Table) → IsTable t → (n : ℕ) (r : KeptRule) → kind_at (kinds_in t) n ≡ Some (line_kinds.Rule r) → (l : Line) × (line_at (lines_in t) n ≡ Some l) × IsKeptLine t.terms (versions_in t) r (owner_of (lines_in t) n) l
 rule_of_line t keeps zero r at = absurd cc
 rule_of_line t keeps (suc n) r at =
     let vs = versions_in t in
-    (rule_line vs r, slice_get-map (line_of vs) (kinds_in t) n ∙ ap (λ (o : Option LineKind). option_map (line_of vs) o) at, rule_line_is vs (owner_of (lines_in t) (suc n)) r (keeps.kinds n (line_kinds.Rule r) at))
+    (kept_line t.terms vs r, slice_get-map (line_of t.terms vs) (kinds_in t) n ∙ ap (λ (o : Option LineKind). option_map (line_of t.terms vs) o) at, (let h = keeps.kinds n (line_kinds.Rule r) at in record { is = refl; given = h.0; of = h.1 }))
 
-kind_of_option : (o : Option LineKind) (r : Rule) → option_and_then rule_of o ≡ Some r → o ≡ Some (line_kinds.Rule r)
+kind_of_option : (o : Option LineKind) (r : KeptRule) → option_and_then rule_of o ≡ Some r → o ≡ Some (line_kinds.Rule r)
 kind_of_option None r e = absurd cc
 kind_of_option (Some (line_kinds.Rule x)) r e = cc
 kind_of_option (Some line_kinds.Nothing) r e = absurd cc
@@ -52,26 +49,33 @@ kind_of_option (Some (line_kinds.Listed v)) r e = absurd cc
 kind_of_option (Some (line_kinds.Favour v)) r e = absurd cc
 kind_of_option (Some (line_kinds.Many name)) r e = absurd cc
 
-pub rule_is_line : (t : Table) (lines : List Line) → lines_in t ≡ lines → IsTable t → (n : ℕ) (r : Rule) → option_and_then rule_of (kind_at (kinds_in t) n) ≡ Some r → (l : Line) × (line_at lines n ≡ Some l) × IsRuleLine (listed lines) r (owner_of lines n) l
+pub rule_is_line : (t : Table) (lines : List Line) → lines_in t ≡ lines → IsTable t → (n : ℕ) (r : KeptRule) → option_and_then rule_of (kind_at (kinds_in t) n) ≡ Some r → (l : Line) × (line_at lines n ≡ Some l) × IsKeptLine t.terms (listed lines) r (owner_of lines n) l
 rule_is_line t lines is keeps n r e =
     let h = rule_of_line t keeps n r (kind_of_option (kind_at (kinds_in t) n) r e) in
-    subst (λ (ls : List Line). (l : Line) × (line_at ls n ≡ Some l) × IsRuleLine (listed ls) r (owner_of ls n) l) is (subst (λ (vs : List Version). (l : Line) × (line_at (lines_in t) n ≡ Some l) × IsRuleLine vs r (owner_of (lines_in t) n) l) (sym keeps.listing) h)
+    subst (λ (ls : List Line). (l : Line) × (line_at ls n ≡ Some l) × IsKeptLine t.terms (listed ls) r (owner_of ls n) l) is (subst (λ (vs : List Version). (l : Line) × (line_at (lines_in t) n ≡ Some l) × IsKeptLine t.terms vs r (owner_of (lines_in t) n) l) (sym keeps.listing) h)
 
-no_rule_line : (vs : List Version) (s : LineKind) → rule_of s ≡ None → is_rule (line_of vs s) ≡ false
-no_rule_line vs line_kinds.Nothing e = refl
-no_rule_line vs (line_kinds.Listed v) e = refl
-no_rule_line vs (line_kinds.Favour v) e = refl
-no_rule_line vs (line_kinds.Many name) e = refl
-no_rule_line vs (line_kinds.Rule r) e = absurd cc
+-- the text of a rule is that of the line for which it is stored
+pub rule_in_text : (t : Table) (lines : List Line) → lines_in t ≡ lines → IsTable t → (n : ℕ) (r : KeptRule) → option_and_then rule_of (kind_at (kinds_in t) n) ≡ Some r → (x : Rule)
+    → ((versions : List Version) (owner : Option Version) → IsKeptOf versions owner r → IsRuleLine versions x owner (kept_line t.terms versions r)) → (l : Line) × (line_at lines n ≡ Some l) × IsRuleLine (listed lines) x (owner_of lines n) l
+rule_in_text t lines is keeps n r e x made =
+    let h = rule_is_line t lines is keeps n r e in
+    (h.0, h.1, subst (λ (l : Line). IsRuleLine (listed lines) x (owner_of lines n) l) h.2.is (made (listed lines) (owner_of lines n) h.2.of))
+
+no_rule_line : (terms : Terms) (vs : List Version) (s : LineKind) → rule_of s ≡ None → is_rule (line_of terms vs s) ≡ false
+no_rule_line terms vs line_kinds.Nothing e = refl
+no_rule_line terms vs (line_kinds.Listed v) e = refl
+no_rule_line terms vs (line_kinds.Favour v) e = refl
+no_rule_line terms vs (line_kinds.Many name) e = refl
+no_rule_line terms vs (line_kinds.Rule r) e = absurd cc
 
 -- where no rule is stored for a line, the line has none
 pub no_rule : (t : Table) (lines : List Line) → lines_in t ≡ lines → (n : ℕ) → option_and_then rule_of (kind_at (kinds_in t) n) ≡ None → (l : Line) → line_at lines n ≡ Some l → is_rule l ≡ false
 no_rule t lines is zero e l at = absurd cc
-no_rule t lines is (suc n) e l at = from_kind (slice_get (kinds_in t) n) e (sym (slice_get-map (line_of (versions_in t)) (kinds_in t) n) ∙ ap (λ (ls : List Line). slice_get ls n) is ∙ at)
+no_rule t lines is (suc n) e l at = from_kind (slice_get (kinds_in t) n) e (sym (slice_get-map (line_of t.terms (versions_in t)) (kinds_in t) n) ∙ ap (λ (ls : List Line). slice_get ls n) is ∙ at)
   where
-    from_kind : (o : Option LineKind) → option_and_then rule_of o ≡ None → option_map (line_of (versions_in t)) o ≡ Some l → is_rule l ≡ false
+    from_kind : (o : Option LineKind) → option_and_then rule_of o ≡ None → option_map (line_of t.terms (versions_in t)) o ≡ Some l → is_rule l ≡ false
     from_kind None e at = absurd cc
-    from_kind (Some s) e at = let same : line_of (versions_in t) s ≡ l = cc in subst (λ (x : Line). is_rule x ≡ false) same (no_rule_line (versions_in t) s e)
+    from_kind (Some s) e at = let same : line_of t.terms (versions_in t) s ≡ l = cc in subst (λ (x : Line). is_rule x ≡ false) same (no_rule_line t.terms (versions_in t) s e)
 
 -- ---- a set that keeps a line
 
@@ -96,6 +100,13 @@ keeps_no_rule lines n set not = from_line (line_at lines n) not
 
 pub keeps_rule : (lines : List Line) (n : ℕ) (set : Set) (l : Line) → line_at lines n ≡ Some l → obeys (owner_of lines n) l set ≡ keeps lines n set
 keeps_rule lines n set l at = rw at refl
+
+-- whether the set obeys the rule that is stored for the line
+pub keeps_kept : (t : Table) (lines : List Line) → lines_in t ≡ lines → IsTable t → (n : ℕ) (r : KeptRule) → option_and_then rule_of (kind_at (kinds_in t) n) ≡ Some r → (set : Set) (answer : Bool)
+    → ((owner : Option Version) → IsKeptOf (listed lines) owner r → answer ≡ obeys owner (kept_line t.terms (listed lines) r) set) → answer ≡ keeps lines n set
+keeps_kept t lines is keeps n r e set answer obeyed =
+    let h = rule_is_line t lines is keeps n r e in
+    obeyed (owner_of lines n) h.2.of ∙ ap (λ (l : Line). obeys (owner_of lines n) l set) h.2.is ∙ keeps_rule lines n set h.0 h.1
 
 -- ---- options
 
@@ -144,6 +155,11 @@ lines_push lines more text line are new is = rw is (λ n l at.
           let above : take n (lines ++ line ∷ []) ≡ lines = rw here.0 (take-append_seam lines (line ∷ [])) in
           subst (λ (ls : List Line). (text : List ℕ) × IsCatalogueLine ls text l) (sym above) (text, subst (λ (x : Line). IsCatalogueLine lines text x) here.1 new)
     ])
+
+pub few_push : (t u : Table) (l : Line) → HasFew t → lines_in u ≡ lines_in t ++ l ∷ [] → term_count u.terms ≤ term_count t.terms + terms_for_line l → HasFew u
+few_push t u l few more counts =
+    let sums : sum_by terms_for_line (lines_in u) ≡ sum_by terms_for_line (lines_in t) + terms_for_line l = ap (λ (ls : List Line). sum_by terms_for_line ls) more ∙ sum_by_push terms_for_line (lines_in t) l in
+    omega (arith, few, sums, counts)
 
 pub request_keeps_no_rule : (lines : List Line) (n : ℕ) (set : Set) → ((l : Line) → line_at lines n ≡ Some l → is_rule l ≡ false) → true ≡ keeps_in_request lines n set
 request_keeps_no_rule lines n set not = from_line (line_at lines n) not

@@ -8,8 +8,10 @@ use Rattle.std.proofs.lemmas.Option.{slice_get-get_or}
 use Rattle.resolvo_text.specs.Line.{Version, Line, Skipped, Listed, Needs, Limits, Unknown, Lock, Favour, Exclude, Many, Wish}
 use Rattle.resolvo_catalogue_core.specs.Grammar.{line_at, owner_below}
 use Rattle.resolvo_catalogue_core.specs.Questions.{LineIs, Locks, LocksAnother, Excludes, Forbids, IsOnly, IsVersionLine}
-use Rattle.resolvo_catalogue_core.specs.Table.{nowhere, line_of, IsKindOf, IsTable, lines_in, versions_in, kinds_in, is_lock_of_another}
-use Rattle.resolvo_catalogue_core.specs.declared.rule.Rule.TheVariants as rule
+use Rattle.resolvo_catalogue_core.specs.Table.{line_of, IsKindOf, IsTable, lines_in, versions_in, kinds_in}
+use Rattle.resolvo_catalogue_core.specs.declared.kept_rule.KeptRule.TheVariants as kept
+use Rattle.resolvo_catalogue_core.specs.Kept.{nowhere, is_lock_of_another}
+use Rattle.resolvo_terms.specs.Terms.{Terms}
 use Rattle.resolvo_catalogue_core.specs.Held.{kind_at, rule_of}
 use Rattle.resolvo_catalogue_core.specs.declared.line_table.LineKind.{LineKind}
 use Rattle.resolvo_catalogue_core.specs.declared.line_table.LineKind.TheVariants as line_kinds
@@ -33,16 +35,16 @@ locks_of_another lines v n (Exclude w r, at, h) = absurd h
 locks_of_another lines v n (Wish w, at, h) = absurd h
 
 -- a locked version's number, and whether that is another than k
-lock_kind : (vs : List Version) (above : Option Version) (s : LineKind) (w : Version) (k : ℕ) → IsKindOf vs above s → line_of vs s ≡ Lock w → (j : ℕ) × (slice_get vs j ≡ Some w) × (option_map_or (λ r. is_lock_of_another r k) (rule_of s) false ≡ not (j == k))
-lock_kind vs above (line_kinds.Rule (rule.Lock j)) w k is e = (j.0, slice_get-get_or vs j.0 nowhere is ∙ cc, refl)
-lock_kind vs above line_kinds.Nothing w k is e = absurd cc
-lock_kind vs above (line_kinds.Listed j) w k is e = absurd cc
-lock_kind vs above (line_kinds.Favour j) w k is e = absurd cc
-lock_kind vs above (line_kinds.Many name) w k is e = absurd cc
-lock_kind vs above (line_kinds.Rule (rule.Needs of ss c)) w k is e = absurd cc
-lock_kind vs above (line_kinds.Rule (rule.Limits of s)) w k is e = absurd cc
-lock_kind vs above (line_kinds.Rule (rule.Unknown of r)) w k is e = absurd cc
-lock_kind vs above (line_kinds.Rule (rule.Exclude j r)) w k is e = absurd cc
+lock_kind : (t : Terms) (vs : List Version) (above : Option Version) (s : LineKind) (w : Version) (k : ℕ) → IsKindOf t vs above s → line_of t vs s ≡ Lock w → (j : ℕ) × (slice_get vs j ≡ Some w) × (option_map_or (λ r. is_lock_of_another r k) (rule_of s) false ≡ not (j == k))
+lock_kind t vs above (line_kinds.Rule (kept.Lock j)) w k is e = (j.0, slice_get-get_or vs j.0 nowhere is.1 ∙ cc, refl)
+lock_kind t vs above line_kinds.Nothing w k is e = absurd cc
+lock_kind t vs above (line_kinds.Listed j) w k is e = absurd cc
+lock_kind t vs above (line_kinds.Favour j) w k is e = absurd cc
+lock_kind t vs above (line_kinds.Many name) w k is e = absurd cc
+lock_kind t vs above (line_kinds.Rule (kept.Needs of need)) w k is e = absurd cc
+lock_kind t vs above (line_kinds.Rule (kept.Limits of s)) w k is e = absurd cc
+lock_kind t vs above (line_kinds.Rule (kept.Unknown of r)) w k is e = absurd cc
+lock_kind t vs above (line_kinds.Rule (kept.Exclude j r)) w k is e = absurd cc
 
 abbrev is_other : Table → ℕ → ℕ → Bool
 is_other t line k = option_map_or (λ r. is_lock_of_another r k) (option_and_then rule_of (kind_at (kinds_in t) line)) false
@@ -50,8 +52,8 @@ is_other t line k = option_map_or (λ r. is_lock_of_another r k) (option_and_the
 lock_at : (t : Table) → IsTable t → (line : ℕ) (w : Version) (k : ℕ) → line_at (lines_in t) line ≡ Some (Lock w) → (j : ℕ) × (slice_get (versions_in t) j ≡ Some w) × (is_other t line k ≡ not (j == k))
 lock_at t keeps zero w k at = absurd cc
 lock_at t keeps (suc n) w k at =
-    let s = lemmas.kind_at (versions_in t) (kinds_in t) n (Lock w) at in
-    let h = lock_kind (versions_in t) (owner_below (take n (lines_in t))) s.0 w k (keeps.kinds n s.0 s.1) s.2 in
+    let s = lemmas.kind_at t.terms (versions_in t) (kinds_in t) n (Lock w) at in
+    let h = lock_kind t.terms (versions_in t) (owner_below (take n (lines_in t))) s.0 w k (keeps.kinds n s.0 s.1) s.2 in
     (h.0, h.1, ap (λ (o : Option LineKind). option_map_or (λ r. is_lock_of_another r k) (option_and_then rule_of o) false) s.1 ∙ h.2)
 
 -- the line that locks a version of the package, with the version

@@ -7,7 +7,7 @@ use Rattle.std.proofs.lemmas.Bool.{and_parts, and_from}
 use Rattle.std.proofs.lemmas.Bool.Decides.{nat_tests}
 use Rattle.std.proofs.lemmas.List.{length-append, map_push}
 use Rattle.std.proofs.lemmas.Option.{slice_get-map}
-use Rattle.resolvo_catalogue_core.specs.declared.rule.Rule.{Rule}
+use Rattle.resolvo_catalogue_core.specs.declared.kept_rule.KeptRule.{KeptRule}
 use Rattle.resolvo_catalogue_core.specs.declared.line_table.StoredLine.{StoredLine}
 use Rattle.resolvo_catalogue_core.specs.declared.line_table.LineKind.{LineKind}
 use Rattle.resolvo_catalogue_core.specs.declared.line_table.LineKind.TheVariants as line_kinds
@@ -24,14 +24,14 @@ get_more (y ∷ xs) x (suc n) h = get_more xs x n (omega arith)
 
 -- ---- one more rule
 
-same_kind : (rs : List Rule) (ms : List (String Global)) (r : Rule) (h : StoredLine) → is_held (length rs) (length ms) h ≡ true → kind_in (rs ++ r ∷ []) ms h ≡ kind_in rs ms h
+same_kind : (rs : List KeptRule) (ms : List (String Global)) (r : KeptRule) (h : StoredLine) → is_held (length rs) (length ms) h ≡ true → kind_in (rs ++ r ∷ []) ms h ≡ kind_in rs ms h
 same_kind rs ms r StoredLine.Nothing e = refl
 same_kind rs ms r (StoredLine.Listed v) e = refl
 same_kind rs ms r (StoredLine.Favour v) e = refl
 same_kind rs ms r (StoredLine.Many place) e = refl
 same_kind rs ms r (StoredLine.Rule place) e = ap kind_of_rule (get_more rs r place (below place (length rs) e))
 
-pub same_list : (rs : List Rule) (ms : List (String Global)) (r : Rule) (hs : List StoredLine) → are_held (length rs) (length ms) hs ≡ true → kind_list (rs ++ r ∷ []) ms hs ≡ kind_list rs ms hs
+pub same_list : (rs : List KeptRule) (ms : List (String Global)) (r : KeptRule) (hs : List StoredLine) → are_held (length rs) (length ms) hs ≡ true → kind_list (rs ++ r ∷ []) ms hs ≡ kind_list rs ms hs
 same_list rs ms r [] e = refl
 same_list rs ms r (h ∷ hs) e =
     let parts = and_parts (is_held (length rs) (length ms) h) (are_held (length rs) (length ms) hs) e in
@@ -52,14 +52,14 @@ all_still_held count marked (h ∷ hs) e =
 
 -- ---- one more marked name
 
-same_kind_marked : (rs : List Rule) (ms : List (String Global)) (m : String Global) (h : StoredLine) → is_held (length rs) (length ms) h ≡ true → kind_in rs (ms ++ m ∷ []) h ≡ kind_in rs ms h
+same_kind_marked : (rs : List KeptRule) (ms : List (String Global)) (m : String Global) (h : StoredLine) → is_held (length rs) (length ms) h ≡ true → kind_in rs (ms ++ m ∷ []) h ≡ kind_in rs ms h
 same_kind_marked rs ms m StoredLine.Nothing e = refl
 same_kind_marked rs ms m (StoredLine.Listed v) e = refl
 same_kind_marked rs ms m (StoredLine.Favour v) e = refl
 same_kind_marked rs ms m (StoredLine.Many place) e = ap kind_of_name (get_more ms m place (below place (length ms) e))
 same_kind_marked rs ms m (StoredLine.Rule place) e = refl
 
-pub same_list_marked : (rs : List Rule) (ms : List (String Global)) (m : String Global) (hs : List StoredLine) → are_held (length rs) (length ms) hs ≡ true → kind_list rs (ms ++ m ∷ []) hs ≡ kind_list rs ms hs
+pub same_list_marked : (rs : List KeptRule) (ms : List (String Global)) (m : String Global) (hs : List StoredLine) → are_held (length rs) (length ms) hs ≡ true → kind_list rs (ms ++ m ∷ []) hs ≡ kind_list rs ms hs
 same_list_marked rs ms m [] e = refl
 same_list_marked rs ms m (h ∷ hs) e =
     let parts = and_parts (is_held (length rs) (length ms) h) (are_held (length rs) (length ms) hs) e in
@@ -101,21 +101,21 @@ pub marked_place : (count marked place : ℕ) → place < marked → is_held cou
 marked_place count marked place h = grind (arith, nat_tests)
 
 -- one more line, with a new rule
-pub pushes_rule : (rs : List Rule) (ms : List (String Global)) (r : Rule) (hs : List StoredLine) (place : ℕ) → are_held (length rs) (length ms) hs ≡ true → place ≡ length rs
+pub pushes_rule : (rs : List KeptRule) (ms : List (String Global)) (r : KeptRule) (hs : List StoredLine) (place : ℕ) → are_held (length rs) (length ms) hs ≡ true → place ≡ length rs
     → kind_list (rs ++ r ∷ []) ms (hs ++ StoredLine.Rule place ∷ []) ≡ kind_list rs ms hs ++ line_kinds.Rule r ∷ []
 pushes_rule rs ms r hs place e last =
     let here : kind_in (rs ++ r ∷ []) ms (StoredLine.Rule place) ≡ line_kinds.Rule r = ap kind_of_rule (ap (slice_get (rs ++ r ∷ [])) last ∙ get_new rs r) in
     map_push (kind_in (rs ++ r ∷ []) ms) hs (StoredLine.Rule place) ∙ rw (here, same_list rs ms r hs e) refl
 
 -- one more line, with a new marked name
-pub pushes_marked : (rs : List Rule) (ms : List (String Global)) (m : String Global) (hs : List StoredLine) (place : ℕ) → are_held (length rs) (length ms) hs ≡ true → place ≡ length ms
+pub pushes_marked : (rs : List KeptRule) (ms : List (String Global)) (m : String Global) (hs : List StoredLine) (place : ℕ) → are_held (length rs) (length ms) hs ≡ true → place ≡ length ms
     → kind_list rs (ms ++ m ∷ []) (hs ++ StoredLine.Many place ∷ []) ≡ kind_list rs ms hs ++ line_kinds.Many m ∷ []
 pushes_marked rs ms m hs place e last =
     let here : kind_in rs (ms ++ m ∷ []) (StoredLine.Many place) ≡ line_kinds.Many m = ap kind_of_name (ap (slice_get (ms ++ m ∷ [])) last ∙ get_new ms m) in
     map_push (kind_in rs (ms ++ m ∷ [])) hs (StoredLine.Many place) ∙ rw (here, same_list_marked rs ms m hs e) refl
 
 -- the rule of a line, from its stored form
-pub rule_held : (rs : List Rule) (ms : List (String Global)) (hs : List StoredLine) (line : ℕ) → option_and_then rule_of (kind_at (kind_list rs ms hs) line) ≡ option_and_then (λ h. rule_of (kind_in rs ms h)) (held_at hs line)
+pub rule_held : (rs : List KeptRule) (ms : List (String Global)) (hs : List StoredLine) (line : ℕ) → option_and_then rule_of (kind_at (kind_list rs ms hs) line) ≡ option_and_then (λ h. rule_of (kind_in rs ms h)) (held_at hs line)
 rule_held rs ms hs zero = refl
 rule_held rs ms hs (suc n) = ap (λ (o : Option LineKind). option_and_then rule_of o) (slice_get-map (kind_in rs ms) hs n) ∙ of_mapped (slice_get hs n)
   where
@@ -123,7 +123,7 @@ rule_held rs ms hs (suc n) = ap (λ (o : Option LineKind). option_and_then rule_
     of_mapped None = refl
     of_mapped (Some h) = refl
 
-pub rule_placed : (o : Option Rule) → rule_of (kind_of_rule o) ≡ o
+pub rule_placed : (o : Option KeptRule) → rule_of (kind_of_rule o) ≡ o
 rule_placed None = refl
 rule_placed (Some r) = refl
 
@@ -131,7 +131,7 @@ no_rule_of_name : (o : Option (String Global)) → rule_of (kind_of_name o) ≡ 
 no_rule_of_name None = refl
 no_rule_of_name (Some name) = refl
 
-pub no_rule_held : (rs : List Rule) (ms : List (String Global)) (h : StoredLine) → ((place : ℕ) → h ≡ StoredLine.Rule place → ⊥) → rule_of (kind_in rs ms h) ≡ None
+pub no_rule_held : (rs : List KeptRule) (ms : List (String Global)) (h : StoredLine) → ((place : ℕ) → h ≡ StoredLine.Rule place → ⊥) → rule_of (kind_in rs ms h) ≡ None
 no_rule_held rs ms StoredLine.Nothing not = refl
 no_rule_held rs ms (StoredLine.Listed v) not = refl
 no_rule_held rs ms (StoredLine.Favour v) not = refl

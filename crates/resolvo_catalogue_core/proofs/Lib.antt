@@ -11,6 +11,7 @@ pub mod TableSteps
 pub mod PlaceLemmas
 pub mod ManyLemmas
 pub mod Members
+pub mod KeptConditions
 pub mod CatalogueFacts
 pub mod ForbidLemmas
 pub mod AskSteps

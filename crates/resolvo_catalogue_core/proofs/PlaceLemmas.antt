@@ -3,14 +3,15 @@ use Rattle.std.proofs.Common.{◌≡◌, is_some, true, false, ℕ, zero, suc, �
 use Rattle.std.specs.Prelude.{◌↔◌, Contains, slice_get, slice_index_or, map, Result, Ok, Err, IfOk, OnErr, is_ok}
 use Rattle.std.specs.BTreeMap.{get, get_by_text}
 use Rattle.std.specs.Ordering.{nat_cmp}
-use Rattle.std.proofs.lemmas.Option.{get_or_from_slice_get, slice_get_within, slice_get-get_or, slice_get_past}
+use Rattle.std.proofs.lemmas.Option.{slice_get_within, slice_get-get_or, slice_get_past}
 use Rattle.resolvo_terms.proofs.Places.{at_from_contains, contains_from_at}
 use Rattle.resolvo_text.specs.Line.{Version, Line, Skipped, Listed, Needs, Limits, Unknown, Lock, Favour, Exclude, Many, Wish}
 use Rattle.resolvo_catalogue_core.specs.Grammar.{line_at, owner_of, owner_below, MayFollow}
 use Rattle.resolvo_catalogue_core.specs.Questions.{LineIs, MarksUnknownOf, Locks, Favours, MarksMany, Excludes, IsOfPackage, number_of, IsVersionLine}
 use Rattle.resolvo_catalogue_core.specs.Numbered.{versions_of}
 use Rattle.resolvo_catalogue_core.specs.Packages.{package_in, first_in}
-use Rattle.resolvo_catalogue_core.specs.Table.{IsTable, IsPackage, nowhere, lines_in, versions_in, number_in, kinds_in, numbers_in}
+use Rattle.resolvo_catalogue_core.specs.Kept.{nowhere}
+use Rattle.resolvo_catalogue_core.specs.Table.{IsTable, IsPackage, lines_in, versions_in, number_in, kinds_in, numbers_in}
 use Rattle.resolvo_catalogue_core.specs.declared.rule.VersionNo.{VersionNo}
 use Rattle.resolvo_catalogue_core.specs.declared.package.Package.{Package}
 use Rattle.resolvo_catalogue_core.specs.declared.table.Table.{Table}
@@ -296,8 +297,8 @@ no_number t keeps v unlisted = from_option (number_in (package_in t.packages v.n
 pub excluded_listed : (t : Table) → IsTable t → (v : Version) (n : ℕ) → LineIs (lines_in t) n (Excludes v) → Contains (lines_in t) (Listed v)
 excluded_listed t keeps v zero (x, at, is) = absurd cc
 excluded_listed t keeps v (suc n) (Exclude w r, at, is) =
-    let s = kind_at (versions_in t) (kinds_in t) n (Exclude w r) at in
-    let h = excluded_at (versions_in t) (owner_below (take n (lines_in t))) s.0 w r (keeps.kinds n s.0 s.1) s.2 in
+    let s = kind_at t.terms (versions_in t) (kinds_in t) n (Exclude w r) at in
+    let h = excluded_at t.terms (versions_in t) (owner_below (take n (lines_in t))) s.0 w r (keeps.kinds n s.0 s.1) s.2 in
     subst (λ (x : Version). Contains (lines_in t) (Listed x)) is (found_listed t keeps w h.0 h.1)
 excluded_listed t keeps v (suc n) (Skipped, at, is) = absurd is
 excluded_listed t keeps v (suc n) (Listed w, at, is) = absurd is

@@ -1,19 +1,25 @@
 -- A table's lines and versions, and one more line.
 use Rattle.std.proofs.Common.{◌≡◌, inl, inr, ℕ, zero, suc, ◌-◌, ◌≤◌, List, [], ◌∷◌, ◌++◌, map, length, take, drop, Option, Some, None, refl, sym, ap, subst, ◌∙◌, arith, option_map}
-use Rattle.std.specs.Prelude.{Contains, slice_get, string_bytes}
+use Rattle.std.specs.Prelude.{Contains, slice_get}
 use Rattle.std.specs.List.{cons_option}
 use Rattle.std.proofs.lemmas.List.{append-nil, length-append, take-append-le, take-append-drop}
 use Rattle.std.proofs.Math.ListN.{get_or-append}
 use Rattle.std.proofs.Math.Seq.{take-append_seam}
 use Rattle.std.proofs.lemmas.List.Elements.{filter_map-append, Contains-append_left}
 use Rattle.std.proofs.lemmas.Option.{slice_get_within, slice_get-get_or, slice_get-map}
-use Rattle.resolvo_text.specs.Line.{Version, Line, Skipped, Listed, Needs, Limits, Unknown, Lock, Favour, Exclude, Many, Wish}
+use Rattle.resolvo_text.specs.Line.{Version, Spec, Cond, Line, Skipped, Listed, Needs, Limits, Unknown, Lock, Favour, Exclude, Many, Wish}
 use Rattle.resolvo_catalogue_core.specs.Grammar.{owner_of, owner_below, later, version_of}
 use Rattle.resolvo_catalogue_core.specs.Listed.{listed}
 use Rattle.resolvo_catalogue_core.specs.Questions.{LineIs, BelongsTo, MarksUnknownOf, IsOwner, FavoursAt}
-use Rattle.resolvo_catalogue_core.specs.Table.{nowhere, line_of, IsKindOf, AreKindsOf}
+use Rattle.resolvo_catalogue_core.specs.Table.{line_of, IsKindOf, AreKindsOf}
+use Rattle.resolvo_catalogue_core.specs.Kept.{nowhere, nth, kept_line, IsGiven}
+use Rattle.resolvo_terms.specs.Terms.{Terms, AreSound, Grows, IsSpec, IsWord, IsNeed}
+use Rattle.resolvo_catalogue_core.specs.declared.kept_rule.KeptRule.{KeptRule}
+use Rattle.resolvo_terms.specs.Known.{word_text, need_at, spec_at}
+use Rattle.resolvo_terms.proofs.GrowLemmas.{need_stays, spec_stays}
+use Rattle.resolvo_terms.proofs.KnownLemmas.{need_known, spec_known, word_known}
 use Rattle.resolvo_catalogue_core.specs.declared.rule.VersionNo.{VersionNo}
-use Rattle.resolvo_catalogue_core.specs.declared.rule.Rule.TheVariants as rule
+use Rattle.resolvo_catalogue_core.specs.declared.kept_rule.KeptRule.TheVariants as kept
 use Rattle.resolvo_catalogue_core.specs.declared.line_table.LineKind.{LineKind}
 use Rattle.resolvo_catalogue_core.specs.declared.line_table.LineKind.TheVariants as line_kinds
 use Rattle.resolvo_terms.proofs.Places.{get_kept, get_push}
@@ -86,48 +92,86 @@ listed_more lines v = filter_map-append version_of lines (Listed v ∷ [])
 
 -- ---- lines
 
-pub line_of_more : (vs : List Version) (w : Version) (above : Option Version) (s : LineKind) → IsKindOf vs above s → line_of (vs ++ w ∷ []) s ≡ line_of vs s
-line_of_more vs w above line_kinds.Nothing h = refl
-line_of_more vs w above (line_kinds.Listed v) h = ap (λ (x : Version). Listed x) (get_or-append vs (w ∷ []) nowhere v.0 h)
-line_of_more vs w above (line_kinds.Favour v) h = ap (λ (x : Version). Favour x) (get_or-append vs (w ∷ []) nowhere v.0 h)
-line_of_more vs w above (line_kinds.Many name) h = refl
-line_of_more vs w above (line_kinds.Rule (rule.Needs of ss c)) h = refl
-line_of_more vs w above (line_kinds.Rule (rule.Limits of s)) h = refl
-line_of_more vs w above (line_kinds.Rule (rule.Unknown of r)) h = refl
-line_of_more vs w above (line_kinds.Rule (rule.Lock v)) h = ap (λ (x : Version). Lock x) (get_or-append vs (w ∷ []) nowhere v.0 h)
-line_of_more vs w above (line_kinds.Rule (rule.Exclude v r)) h = ap (λ (x : Version). Exclude x (string_bytes r)) (get_or-append vs (w ∷ []) nowhere v.0 h)
+pub line_of_more : (t : Terms) (vs : List Version) (w : Version) (above : Option Version) (s : LineKind) → IsKindOf t vs above s → line_of t (vs ++ w ∷ []) s ≡ line_of t vs s
+line_of_more t vs w above line_kinds.Nothing h = refl
+line_of_more t vs w above (line_kinds.Listed v) h = ap (λ (x : Version). Listed x) (get_or-append vs (w ∷ []) nowhere v.0 h)
+line_of_more t vs w above (line_kinds.Favour v) h = ap (λ (x : Version). Favour x) (get_or-append vs (w ∷ []) nowhere v.0 h)
+line_of_more t vs w above (line_kinds.Many name) h = refl
+line_of_more t vs w above (line_kinds.Rule (kept.Needs of need)) h = refl
+line_of_more t vs w above (line_kinds.Rule (kept.Limits of s)) h = refl
+line_of_more t vs w above (line_kinds.Rule (kept.Unknown of r)) h = refl
+line_of_more t vs w above (line_kinds.Rule (kept.Lock v)) h = ap (λ (x : Version). Lock x) (get_or-append vs (w ∷ []) nowhere v.0 h.1)
+line_of_more t vs w above (line_kinds.Rule (kept.Exclude v r)) h = ap (λ (x : Version). Exclude x (word_text t r)) (get_or-append vs (w ∷ []) nowhere v.0 h.1)
 
-pub lines_of_more : (vs : List Version) (w : Version) (kinds : List LineKind) → ((n : ℕ) (s : LineKind) → slice_get kinds n ≡ Some s → (above : Option Version) × IsKindOf vs above s) → map (line_of (vs ++ w ∷ [])) kinds ≡ map (line_of vs) kinds
-lines_of_more vs w [] h = refl
-lines_of_more vs w (s ∷ kinds) h =
+pub lines_of_more : (t : Terms) (vs : List Version) (w : Version) (kinds : List LineKind) → ((n : ℕ) (s : LineKind) → slice_get kinds n ≡ Some s → (above : Option Version) × IsKindOf t vs above s) → map (line_of t (vs ++ w ∷ [])) kinds ≡ map (line_of t vs) kinds
+lines_of_more t vs w [] h = refl
+lines_of_more t vs w (s ∷ kinds) h =
     let first = h 0 s refl in
-    rw (line_of_more vs w first.0 s first.1, lines_of_more vs w kinds (λ n x e. h (suc n) x e)) refl
+    rw (line_of_more t vs w first.0 s first.1, lines_of_more t vs w kinds (λ n x e. h (suc n) x e)) refl
+
+-- ---- more terms
+
+-- the line of a rule stays, whatever else is numbered
+pub kept_stays : (t u : Terms) → Grows t u → AreSound u → (vs : List Version) (r : KeptRule) → IsGiven t r → (kept_line u vs r ≡ kept_line t vs r) × IsGiven u r
+kept_stays t u grows sound vs (kept.Needs of need) h =
+    let there = need_stays t u grows need (need_at t need) h in
+    let same : need_at u need ≡ need_at t need = need_known u sound.below need (need_at t need) there in
+    (ap (λ (w : List Spec × Option Cond). Needs w.0 w.1) same, subst (λ (w : List Spec × Option Cond). IsNeed u need w) (sym same) there)
+kept_stays t u grows sound vs (kept.Limits of v) h =
+    let there = spec_stays t u grows v (spec_at t v) h in
+    let same : spec_at u v ≡ spec_at t v = spec_known u v (spec_at t v) there in
+    (ap (λ (s : Spec). Limits s) same, subst (λ (s : Spec). IsSpec u v s) (sym same) there)
+kept_stays t u grows sound vs (kept.Unknown of w) h =
+    let there = grows.words w.0 (word_text t w) h in
+    let same : word_text u w ≡ word_text t w = word_known u w (word_text t w) there in
+    (ap (λ (x : List ℕ). Unknown x) same, subst (λ (x : List ℕ). IsWord u w x) (sym same) there)
+kept_stays t u grows sound vs (kept.Lock v) h = (refl, tt)
+kept_stays t u grows sound vs (kept.Exclude v w) h =
+    let there = grows.words w.0 (word_text t w) h in
+    let same : word_text u w ≡ word_text t w = word_known u w (word_text t w) there in
+    (ap (λ (x : List ℕ). Exclude (nth vs v) x) same, subst (λ (x : List ℕ). IsWord u w x) (sym same) there)
+
+kind_stays : (t u : Terms) → Grows t u → AreSound u → (vs : List Version) (above : Option Version) (s : LineKind) → IsKindOf t vs above s → (line_of u vs s ≡ line_of t vs s) × IsKindOf u vs above s
+kind_stays t u grows sound vs above line_kinds.Nothing h = (refl, h)
+kind_stays t u grows sound vs above (line_kinds.Listed v) h = (refl, h)
+kind_stays t u grows sound vs above (line_kinds.Favour v) h = (refl, h)
+kind_stays t u grows sound vs above (line_kinds.Many name) h = (refl, h)
+kind_stays t u grows sound vs above (line_kinds.Rule r) h = let stays = kept_stays t u grows sound vs r h.0 in (stays.0, (stays.1, h.1))
+
+pub lines_stay : (t u : Terms) → Grows t u → AreSound u → (vs : List Version) (kinds : List LineKind) → ((n : ℕ) (s : LineKind) → slice_get kinds n ≡ Some s → (above : Option Version) × IsKindOf t vs above s) → map (line_of u vs) kinds ≡ map (line_of t vs) kinds
+lines_stay t u grows sound vs [] h = refl
+lines_stay t u grows sound vs (s ∷ kinds) h =
+    let first = h 0 s refl in
+    rw ((kind_stays t u grows sound vs first.0 s first.1).0, lines_stay t u grows sound vs kinds (λ n x e. h (suc n) x e)) refl
+
+pub are_kinds_stay : (t u : Terms) → Grows t u → AreSound u → (vs : List Version) (lines : List Line) (kinds : List LineKind) → AreKindsOf t vs lines kinds → AreKindsOf u vs lines kinds
+are_kinds_stay t u grows sound vs lines kinds h = λ n s at. (kind_stays t u grows sound vs (owner_below (take n lines)) s (h n s at)).1
 
 is_owner_more : (vs : List Version) (w : Version) (of : Option VersionNo) (above : Option Version) → IsOwner vs of above → IsOwner (vs ++ w ∷ []) of above
 is_owner_more vs w None above h = h
 is_owner_more vs w (Some n) above h = (h.0, get_kept vs w h.0 n.0 h.1, h.2)
 
-is_kind_more : (vs : List Version) (w : Version) (above : Option Version) (s : LineKind) → IsKindOf vs above s → IsKindOf (vs ++ w ∷ []) above s
-is_kind_more vs w above line_kinds.Nothing h = h
-is_kind_more vs w above (line_kinds.Listed v) h = omega (arith, length-append vs (w ∷ []), h)
-is_kind_more vs w above (line_kinds.Favour v) h = omega (arith, length-append vs (w ∷ []), h)
-is_kind_more vs w above (line_kinds.Many name) h = h
-is_kind_more vs w above (line_kinds.Rule (rule.Needs of ss c)) h = is_owner_more vs w of above h
-is_kind_more vs w above (line_kinds.Rule (rule.Limits of s)) h = is_owner_more vs w of above h
-is_kind_more vs w above (line_kinds.Rule (rule.Unknown of r)) h = is_owner_more vs w (Some of) above h
-is_kind_more vs w above (line_kinds.Rule (rule.Lock v)) h = omega (arith, length-append vs (w ∷ []), h)
-is_kind_more vs w above (line_kinds.Rule (rule.Exclude v r)) h = omega (arith, length-append vs (w ∷ []), h)
+is_kind_more : (t : Terms) (vs : List Version) (w : Version) (above : Option Version) (s : LineKind) → IsKindOf t vs above s → IsKindOf t (vs ++ w ∷ []) above s
+is_kind_more t vs w above line_kinds.Nothing h = h
+is_kind_more t vs w above (line_kinds.Listed v) h = omega (arith, length-append vs (w ∷ []), h)
+is_kind_more t vs w above (line_kinds.Favour v) h = omega (arith, length-append vs (w ∷ []), h)
+is_kind_more t vs w above (line_kinds.Many name) h = h
+is_kind_more t vs w above (line_kinds.Rule (kept.Needs of need)) h = (h.0, is_owner_more vs w (Some of) above h.1)
+is_kind_more t vs w above (line_kinds.Rule (kept.Limits of s)) h = (h.0, is_owner_more vs w (Some of) above h.1)
+is_kind_more t vs w above (line_kinds.Rule (kept.Unknown of r)) h = (h.0, is_owner_more vs w (Some of) above h.1)
+is_kind_more t vs w above (line_kinds.Rule (kept.Lock v)) h = (h.0, omega (arith, length-append vs (w ∷ []), h.1))
+is_kind_more t vs w above (line_kinds.Rule (kept.Exclude v r)) h = (h.0, omega (arith, length-append vs (w ∷ []), h.1))
 
-pub are_kinds_more : (vs : List Version) (w : Version) (lines : List Line) (kinds : List LineKind) → AreKindsOf vs lines kinds → AreKindsOf (vs ++ w ∷ []) lines kinds
-are_kinds_more vs w lines kinds h = λ n s at. is_kind_more vs w (owner_below (take n lines)) s (h n s at)
+pub are_kinds_more : (t : Terms) (vs : List Version) (w : Version) (lines : List Line) (kinds : List LineKind) → AreKindsOf t vs lines kinds → AreKindsOf t (vs ++ w ∷ []) lines kinds
+are_kinds_more t vs w lines kinds h = λ n s at. is_kind_more t vs w (owner_below (take n lines)) s (h n s at)
 
-pub are_kinds_push : (vs : List Version) (lines : List Line) (kinds : List LineKind) (l : Line) (s : LineKind) → length kinds ≡ length lines → AreKindsOf vs lines kinds → IsKindOf vs (owner_below lines) s → AreKindsOf vs (lines ++ l ∷ []) (kinds ++ s ∷ [])
-are_kinds_push vs lines kinds l s same h new = λ n x at.
+pub are_kinds_push : (t : Terms) (vs : List Version) (lines : List Line) (kinds : List LineKind) (l : Line) (s : LineKind) → length kinds ≡ length lines → AreKindsOf t vs lines kinds → IsKindOf t vs (owner_below lines) s → AreKindsOf t vs (lines ++ l ∷ []) (kinds ++ s ∷ [])
+are_kinds_push t vs lines kinds l s same h new = λ n x at.
     elim (get_push kinds s x n at) [
-      | inl old ↦ subst (λ (ls : List Line). IsKindOf vs (owner_below ls) x) (sym (take-append-le n lines (l ∷ []) (omega (arith, slice_get_within kinds n x old)))) (h n x old)
+      | inl old ↦ subst (λ (ls : List Line). IsKindOf t vs (owner_below ls) x) (sym (take-append-le n lines (l ∷ []) (omega (arith, slice_get_within kinds n x old)))) (h n x old)
       | inr here ↦
           let above : take n (lines ++ l ∷ []) ≡ lines = rw (here.0, same) (take-append_seam lines (l ∷ [])) in
-          subst (λ (ls : List Line). IsKindOf vs (owner_below ls) x) (sym above) (subst (λ (y : LineKind). IsKindOf vs (owner_below lines) y) here.1 new)
+          subst (λ (ls : List Line). IsKindOf t vs (owner_below ls) x) (sym above) (subst (λ (y : LineKind). IsKindOf t vs (owner_below lines) y) here.1 new)
     ]
 
 pub favours_kept : (vs : List Version) (lines : List Line) (l : Line) (f : ℕ × VersionNo) → FavoursAt vs lines f → FavoursAt vs (lines ++ l ∷ []) f
@@ -177,17 +221,17 @@ some_mapped f None y e = absurd cc
 some_mapped f (Some x) y e = (x, refl, cc)
 
 -- the kind that is kept for a line, and the line
-pub kind_at : (vs : List Version) (kinds : List LineKind) (n : ℕ) (l : Line) → slice_get (map (line_of vs) kinds) n ≡ Some l → (s : LineKind) × (slice_get kinds n ≡ Some s) × (line_of vs s ≡ l)
-kind_at vs kinds n l at = some_mapped (line_of vs) (slice_get kinds n) l (sym (slice_get-map (line_of vs) kinds n) ∙ at)
+pub kind_at : (t : Terms) (vs : List Version) (kinds : List LineKind) (n : ℕ) (l : Line) → slice_get (map (line_of t vs) kinds) n ≡ Some l → (s : LineKind) × (slice_get kinds n ≡ Some s) × (line_of t vs s ≡ l)
+kind_at t vs kinds n l at = some_mapped (line_of t vs) (slice_get kinds n) l (sym (slice_get-map (line_of t vs) kinds n) ∙ at)
 
 -- a version that a line excludes has a number
-pub excluded_at : (vs : List Version) (above : Option Version) (s : LineKind) (v : Version) (word : List ℕ) → IsKindOf vs above s → line_of vs s ≡ Exclude v word → (k : ℕ) × (slice_get vs k ≡ Some v)
-excluded_at vs above (line_kinds.Rule (rule.Exclude k r)) v word is e = (k.0, slice_get-get_or vs k.0 nowhere is ∙ cc)
-excluded_at vs above line_kinds.Nothing v word is e = absurd cc
-excluded_at vs above (line_kinds.Listed k) v word is e = absurd cc
-excluded_at vs above (line_kinds.Favour k) v word is e = absurd cc
-excluded_at vs above (line_kinds.Many name) v word is e = absurd cc
-excluded_at vs above (line_kinds.Rule (rule.Needs of ss c)) v word is e = absurd cc
-excluded_at vs above (line_kinds.Rule (rule.Limits of s)) v word is e = absurd cc
-excluded_at vs above (line_kinds.Rule (rule.Unknown of r)) v word is e = absurd cc
-excluded_at vs above (line_kinds.Rule (rule.Lock k)) v word is e = absurd cc
+pub excluded_at : (t : Terms) (vs : List Version) (above : Option Version) (s : LineKind) (v : Version) (word : List ℕ) → IsKindOf t vs above s → line_of t vs s ≡ Exclude v word → (k : ℕ) × (slice_get vs k ≡ Some v)
+excluded_at t vs above (line_kinds.Rule (kept.Exclude k r)) v word is e = (k.0, slice_get-get_or vs k.0 nowhere is.1 ∙ cc)
+excluded_at t vs above line_kinds.Nothing v word is e = absurd cc
+excluded_at t vs above (line_kinds.Listed k) v word is e = absurd cc
+excluded_at t vs above (line_kinds.Favour k) v word is e = absurd cc
+excluded_at t vs above (line_kinds.Many name) v word is e = absurd cc
+excluded_at t vs above (line_kinds.Rule (kept.Needs of need)) v word is e = absurd cc
+excluded_at t vs above (line_kinds.Rule (kept.Limits of s)) v word is e = absurd cc
+excluded_at t vs above (line_kinds.Rule (kept.Unknown of r)) v word is e = absurd cc
+excluded_at t vs above (line_kinds.Rule (kept.Lock k)) v word is e = absurd cc

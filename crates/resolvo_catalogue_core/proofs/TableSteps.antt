@@ -1,9 +1,9 @@
 -- A table with one more line, by the kind of the line.
 use Rattle.std.proofs.Common.{◌≡◌, ◌==◌, if◌then◌else◌, inl, inr, is_some, ℕ, zero, suc, Bool, true, false, not, option_map, ◌+◌, List, [], ◌∷◌, ◌++◌, map, length, take, Option, Some, None, refl, sym, ap, subst, ◌∙◌, add-one, arith}
-use Rattle.std.specs.Prelude.{Contains, slice_get, string_bytes, nat_eq}
+use Rattle.std.specs.Prelude.{◌≤◌, Contains, slice_get, string_bytes, nat_eq, Result, Ok, Err, OnOk}
 use Rattle.resolvo_catalogue_core.specs.declared.package.Package.{Package}
 use Rattle.resolvo_catalogue_core.specs.Packages.{package_in, AreFound}
-use Rattle.resolvo_catalogue_core.specs.Table.{AddsNumber, AddsVersion, numbers_in, nth, nowhere, line_of, Keeps, IsTable, Adds, lines_in, versions_in, kinds_in, number_in}
+use Rattle.resolvo_catalogue_core.specs.Table.{AddsNumber, AddsVersion, numbers_in, line_of, Keeps, IsTable, Adds, lines_in, versions_in, kinds_in, number_in}
 use Rattle.resolvo_catalogue_core.specs.Questions.{IsOfPackage, number_of, IsOnly, AreAll, LineIs, BelongsTo, MarksUnknownOf, Locks, Favours, MarksMany, Excludes, IsFavour, IsVersionLine, FavoursAt}
 use Rattle.std.specs.BTreeMap.{get, get_by_text}
 use Rattle.std.specs.Ordering.{nat_cmp}
@@ -16,37 +16,84 @@ use Rattle.resolvo_text.specs.Matches.{same_version}
 use Rattle.std.proofs.lemmas.List.{length-append, length-map, map_push}
 use Rattle.std.proofs.lemmas.Option.{get_or_from_slice_get, slice_get_within}
 use Rattle.std.proofs.lemmas.Slice.Eq.{bytes_eq-Decides}
-use Rattle.std.specs.Global.{Box, Global}
+use Rattle.std.specs.Global.{Global}
 use Rattle.std.specs.declared.string.String.{String}
-use Rattle.resolvo_text.specs.View.{spec_of, specs_of, list_of, condition_of}
-use Rattle.resolvo_text.specs.declared.spec.Spec as code
-use Rattle.resolvo_text.specs.declared.alternatives.Alternatives.{Alternatives}
-use Rattle.resolvo_text.specs.declared.condition.Cond.{Cond}
-use Rattle.resolvo_text.specs.Line.{Version, Line, Skipped, Listed, Needs, Limits, Unknown, Lock, Favour, Exclude, Many}
+use Rattle.resolvo_text.specs.Line.{Version, Spec, Cond, Line, Skipped, Listed, Needs, Limits, Unknown, Lock, Favour, Exclude, Many}
+use Rattle.resolvo_pool_core.specs.declared.id.StringId.{StringId}
+use Rattle.resolvo_pool_core.specs.declared.id.VersionSetId.{VersionSetId}
+use Rattle.resolvo_pool_core.specs.declared.requirement.ConditionalRequirement.{ConditionalRequirement}
+use Rattle.resolvo_terms.specs.Terms.{Terms, AreSound, IsNeed, IsSpec, IsWord}
+use Rattle.resolvo_terms.specs.Terms as terms
+use Rattle.resolvo_terms.specs.Known.{need_at, spec_at, word_text}
+use Rattle.resolvo_terms.specs.TermCounts.{term_count, terms_for_line}
+use Rattle.resolvo_terms.specs.Reads.{Reads}
+use Rattle.resolvo_catalogue_core.specs.Kept.{nth, nowhere}
 use Rattle.resolvo_catalogue_core.specs.Grammar.{owner_below}
 use Rattle.resolvo_catalogue_core.specs.LinesByVersion.{kept_of}
 use Rattle.resolvo_catalogue_core.specs.Numbered.{beside, IsNumbered, numbers_of, versions_of}
 use Rattle.resolvo_catalogue_core.specs.declared.rule.VersionNo.{VersionNo}
-use Rattle.resolvo_catalogue_core.specs.declared.rule.Rule.TheVariants as rule
+use Rattle.resolvo_catalogue_core.specs.declared.kept_rule.KeptRule.TheVariants as kept
 use Rattle.resolvo_catalogue_core.specs.declared.line_table.LineKind.{LineKind}
 use Rattle.resolvo_catalogue_core.specs.declared.line_table.LineKind.TheVariants as line_kinds
 use Rattle.resolvo_catalogue_core.specs.declared.table.Table.{Table}
 use Rattle.resolvo_terms.proofs.Places.{get_new, get_kept, get_push}
 use Rattle.resolvo_catalogue_core.proofs.Pushed.{Grows, only_other, all_other, all_new, keyed_new, keyed_more, line_grows, line_within, version_line_grows, version_line_within, version_line_of_listed, get_grows}
 use Rattle.resolvo_catalogue_core.proofs.PlaceLemmas.{none_from, excluded_listed, no_number}
-use Rattle.resolvo_catalogue_core.proofs.TableLemmas.{listed_same, listed_more, are_kinds_push, are_kinds_more, lines_of_more, favours_kept, favours_more, owner_listed, belongs_owner, marks_owner}
+use Rattle.resolvo_catalogue_core.proofs.TableLemmas.{lines_stay, are_kinds_stay, listed_same, listed_more, are_kinds_push, are_kinds_more, lines_of_more, favours_kept, favours_more, owner_listed, belongs_owner, marks_owner}
 
 -- ---- any line
 
 pub as_long : (t : Table) → length (kinds_in t) ≡ length (lines_in t)
-as_long t = sym (length-map (kinds_in t) (line_of (versions_in t)))
+as_long t = sym (length-map (kinds_in t) (line_of t.terms (versions_in t)))
 
 -- the table has the new line
-pub adds_from : (t u : Table) (s : LineKind) (l : Line) → u.versions ≡ t.versions → kinds_in u ≡ kinds_in t ++ s ∷ [] → line_of (versions_in t) s ≡ l → Keeps u (versions_in t) (lines_in t ++ l ∷ []) → Adds t l u
-adds_from t u s l same more is keeps =
+pub adds_from : (t u : Table) (s : LineKind) (l : Line) → u.terms ≡ t.terms → u.versions ≡ t.versions → kinds_in u ≡ kinds_in t ++ s ∷ [] → line_of t.terms (versions_in t) s ≡ l → Keeps u (versions_in t) (lines_in t ++ l ∷ []) → Adds t l u
+adds_from t u s l terms same more is keeps =
     let vs : versions_in u ≡ versions_in t = ap (λ x. versions_in (record u { versions = x })) same in
-    let lines : lines_in u ≡ lines_in t ++ l ∷ [] = rw (vs, more, ← is) (map_push (line_of (versions_in t)) (kinds_in t) s) in
-    (subst (λ (ls : List Line). Keeps u (versions_in u) ls) (sym lines) (subst (λ (x : List Version). Keeps u x (lines_in t ++ l ∷ [])) (sym vs) keeps), lines)
+    let lines : lines_in u ≡ lines_in t ++ l ∷ [] = rw (terms, vs, more, ← is) (map_push (line_of t.terms (versions_in t)) (kinds_in t) s) in
+    (subst (λ (ls : List Line). Keeps u (versions_in u) ls) (sym lines) (subst (λ (x : List Version). Keeps u x (lines_in t ++ l ∷ [])) (sym vs) keeps), lines, rw terms (omega arith))
+
+-- more terms change no line
+pub more_terms : (t : Table) (u : Terms) → IsTable t → terms.Grows t.terms u → AreSound u → (lines_in (record t { terms = u }) ≡ lines_in t) × IsTable (record t { terms = u })
+more_terms t u keeps grows sound =
+    let vs = versions_in t in
+    let same : lines_in (record t { terms = u }) ≡ lines_in t = lines_stay t.terms u grows sound vs (kinds_in t) (λ n s at. (owner_below (take n (lines_in t)), keeps.kinds n s at)) in (
+      same,
+      subst (λ (ls : List Line). Keeps (record t { terms = u }) vs ls) (sym same) (record {
+        listing = keeps.listing;
+        sound = sound;
+        kinds = are_kinds_stay t.terms u grows sound vs (lines_in t) (kinds_in t) keeps.kinds;
+        packages = keeps.packages;
+        found = keeps.found;
+        locks = keeps.locks;
+        favoured = keeps.favoured;
+        many = keeps.many;
+        excluded = keeps.excluded;
+        unknown = keeps.unknown;
+        owned = keeps.owned;
+        as_many = keeps.as_many;
+        favour_lines = keeps.favour_lines;
+        favour_versions = keeps.favour_versions;
+      }),
+    )
+
+-- a line that is added over more terms
+pub adds_over : (t : Table) (u : Terms) (l : Line) (w : Table) → IsTable t → terms.Grows t.terms u → AreSound u → term_count u ≤ term_count t.terms + terms_for_line l → w.terms ≡ u
+    → (IsTable (record t { terms = u }) → lines_in (record t { terms = u }) ≡ lines_in t → Adds (record t { terms = u }) l w) → Adds t l w
+adds_over t u l w keeps grows sound few same add =
+    let more = more_terms t u keeps grows sound in
+    let added = add more.1 more.0 in
+    (added.0, added.1 ∙ ap (λ (ls : List Line). ls ++ l ∷ []) more.0, rw same few)
+
+-- what is said of each of two clauses after an answer
+pub on_ok_both : {T E : Type 0} {P Q R : Type 0} (r : Result T E) → (P → Q → R) → OnOk r P → OnOk r Q → OnOk r R
+on_ok_both (Ok x) f p q = f p q
+on_ok_both (Err e) f p q = tt
+
+-- what was read, where something was
+pub reads_ok : {X Y : Type 0} (R : X → Y → Type 0) (x : X) (o : Option Y) → Reads R (Ok x) o → (y : Y) × (o ≡ Some y) × R x y
+reads_ok R x None h = absurd h
+reads_ok R x (Some y) h = (y, refl, h)
 
 -- a version has one number
 pub one_number : (t : Table) (vs : List Version) (lines : List Line) → Keeps t vs lines → (v : Version) (j k : ℕ) → slice_get vs j ≡ Some v → slice_get vs k ≡ Some v → j ≡ k
@@ -63,9 +110,10 @@ pub skip : (t u : Table) → IsTable t → kinds_in u ≡ kinds_in t ++ line_kin
 skip t u keeps more =
     let vs = versions_in t in
     let lines = lines_in t in
-    adds_from t (record t { line_kinds = u.line_kinds }) line_kinds.Nothing Skipped refl more refl (record {
+    adds_from t (record t { line_kinds = u.line_kinds }) line_kinds.Nothing Skipped refl refl more refl (record {
+      sound = keeps.sound;
       listing = listed_same lines Skipped refl ∙ keeps.listing;
-      kinds = rw more (are_kinds_push vs lines (kinds_in t) Skipped line_kinds.Nothing (as_long t) keeps.kinds tt);
+      kinds = rw more (are_kinds_push t.terms vs lines (kinds_in t) Skipped line_kinds.Nothing (as_long t) keeps.kinds tt);
       packages = keeps.packages;
       found = keeps.found;
       locks = λ name. only_other (keeps.locks name) (line_grows lines Skipped (Locks name)) (λ x. x);
@@ -82,15 +130,16 @@ skip t u keeps more =
 -- ---- a lock
 
 pub lock : (t u : Table) (line : ℕ) (k : VersionNo) (v : Version) (name : List ℕ) → IsTable t → line ≡ length (lines_in t) + 1 → slice_get (versions_in t) k.0 ≡ Some v → name ≡ v.name → is_some (get_by_text t.locks name) ≡ false
-    → kinds_in u ≡ kinds_in t ++ line_kinds.Rule (rule.Lock k) ∷ [] → ((name : List ℕ) → get_by_text u.locks name ≡ update bytes_eq (get_by_text t.locks) v.name (Some line) name) → Adds t (Lock v) (record t { line_kinds = u.line_kinds; locks = u.locks })
+    → kinds_in u ≡ kinds_in t ++ line_kinds.Rule (kept.Lock k) ∷ [] → ((name : List ℕ) → get_by_text u.locks name ≡ update bytes_eq (get_by_text t.locks) v.name (Some line) name) → Adds t (Lock v) (record t { line_kinds = u.line_kinds; locks = u.locks })
 lock t u line k v name keeps number at same absent more locked =
     let none : get_by_text t.locks v.name ≡ None = subst (λ (x : List ℕ). get_by_text t.locks x ≡ None) same (none_from (get_by_text t.locks name) absent) in
     let vs = versions_in t in
     let lines = lines_in t in
     let l = Lock v in
-    adds_from t (record t { line_kinds = u.line_kinds; locks = u.locks }) (line_kinds.Rule (rule.Lock k)) l refl more (ap (λ (x : Version). Lock x) (numbered vs k v at)) (record {
+    adds_from t (record t { line_kinds = u.line_kinds; locks = u.locks }) (line_kinds.Rule (kept.Lock k)) l refl refl more (ap (λ (x : Version). Lock x) (numbered vs k v at)) (record {
+      sound = keeps.sound;
       listing = listed_same lines l refl ∙ keeps.listing;
-      kinds = rw more (are_kinds_push vs lines (kinds_in t) l (line_kinds.Rule (rule.Lock k)) (as_long t) keeps.kinds (slice_get_within vs k.0 v at));
+      kinds = rw more (are_kinds_push t.terms vs lines (kinds_in t) l (line_kinds.Rule (kept.Lock k)) (as_long t) keeps.kinds (tt, slice_get_within vs k.0 v at));
       packages = keeps.packages;
       found = keeps.found;
       locks = keyed_new bytes_eq bytes_eq-Decides (get_by_text t.locks) (get_by_text u.locks) v.name line (λ name n. LineIs lines n (Locks name)) (λ name n. LineIs (lines ++ l ∷ []) n (Locks name)) (λ name. v.name ≡ name)
@@ -115,9 +164,10 @@ mark_many t u line name keeps number absent more marked =
     let vs = versions_in t in
     let lines = lines_in t in
     let l : Line = Many (string_bytes name) in
-    adds_from t (record t { line_kinds = u.line_kinds; many = u.many }) (line_kinds.Many name) l refl more refl (record {
+    adds_from t (record t { line_kinds = u.line_kinds; many = u.many }) (line_kinds.Many name) l refl refl more refl (record {
+      sound = keeps.sound;
       listing = listed_same lines l refl ∙ keeps.listing;
-      kinds = rw more (are_kinds_push vs lines (kinds_in t) l (line_kinds.Many name) (as_long t) keeps.kinds tt);
+      kinds = rw more (are_kinds_push t.terms vs lines (kinds_in t) l (line_kinds.Many name) (as_long t) keeps.kinds tt);
       packages = keeps.packages;
       found = keeps.found;
       locks = λ nm. only_other (keeps.locks nm) (line_grows lines l (Locks nm)) (λ x. x);
@@ -140,16 +190,17 @@ owner_only t keeps v k at owner j h =
     let same : h.0 ≡ v = cc (h.2, owner) in
     one_number t (versions_in t) (lines_in t) keeps v k j at (h.1 ∙ ap (λ (x : Version). Some x) same)
 
-pub need : (t u : Table) (line : ℕ) (k : VersionNo) (v : Version) (alternatives : Alternatives) (condition : Option (Box Cond)) → IsTable t → line ≡ length (lines_in t) + 1 → slice_get (versions_in t) k.0 ≡ Some v → owner_below (lines_in t) ≡ Some v
-    → kinds_in u ≡ kinds_in t ++ line_kinds.Rule (rule.Needs (Some k) alternatives condition) ∷ [] → ((j : ℕ) → kept_of u.owned j ≡ (if k.0 == j then kept_of t.owned j ++ line ∷ [] else kept_of t.owned j)) → length u.owned ≡ length t.owned
-    → Adds t (Needs (specs_of (list_of alternatives)) (condition_of condition)) (record t { line_kinds = u.line_kinds; owned = u.owned })
-need t u line k v alternatives condition keeps number at owner more recorded as_many =
+pub need : (t u : Table) (line : ℕ) (k : VersionNo) (v : Version) (given : ConditionalRequirement) (written : List Spec × Option Cond) → IsTable t → need_at t.terms given ≡ written → IsNeed t.terms given written → line ≡ length (lines_in t) + 1 → slice_get (versions_in t) k.0 ≡ Some v → owner_below (lines_in t) ≡ Some v
+    → kinds_in u ≡ kinds_in t ++ line_kinds.Rule (kept.Needs k given) ∷ [] → ((j : ℕ) → kept_of u.owned j ≡ (if k.0 == j then kept_of t.owned j ++ line ∷ [] else kept_of t.owned j)) → length u.owned ≡ length t.owned
+    → Adds t (Needs written.0 written.1) (record t { line_kinds = u.line_kinds; owned = u.owned })
+need t u line k v given written keeps is stands number at owner more recorded as_many =
     let vs = versions_in t in
     let lines = lines_in t in
-    let l : Line = Needs (specs_of (list_of alternatives)) (condition_of condition) in
-    adds_from t (record t { line_kinds = u.line_kinds; owned = u.owned }) (line_kinds.Rule (rule.Needs (Some k) alternatives condition)) l refl more refl (record {
+    let l : Line = Needs written.0 written.1 in
+    adds_from t (record t { line_kinds = u.line_kinds; owned = u.owned }) (line_kinds.Rule (kept.Needs k given)) l refl refl more (ap (λ (x : List Spec × Option Cond). Needs x.0 x.1) is) (record {
+      sound = keeps.sound;
       listing = listed_same lines l refl ∙ keeps.listing;
-      kinds = rw more (are_kinds_push vs lines (kinds_in t) l (line_kinds.Rule (rule.Needs (Some k) alternatives condition)) (as_long t) keeps.kinds (v, at, owner));
+      kinds = rw more (are_kinds_push t.terms vs lines (kinds_in t) l (line_kinds.Rule (kept.Needs k given)) (as_long t) keeps.kinds (subst (λ (x : List Spec × Option Cond). IsNeed t.terms given x) (sym is) stands, (v, at, owner)));
       packages = keeps.packages;
       found = keeps.found;
       locks = λ name. only_other (keeps.locks name) (line_grows lines l (Locks name)) (λ x. x);
@@ -164,16 +215,17 @@ need t u line k v alternatives condition keeps number at owner more recorded as_
       favour_versions = λ i f at. favours_kept vs lines l f (keeps.favour_versions i f at);
     })
 
-pub limit : (t u : Table) (line : ℕ) (k : VersionNo) (v : Version) (spec : code.Spec) → IsTable t → line ≡ length (lines_in t) + 1 → slice_get (versions_in t) k.0 ≡ Some v → owner_below (lines_in t) ≡ Some v
-    → kinds_in u ≡ kinds_in t ++ line_kinds.Rule (rule.Limits (Some k) spec) ∷ [] → ((j : ℕ) → kept_of u.owned j ≡ (if k.0 == j then kept_of t.owned j ++ line ∷ [] else kept_of t.owned j)) → length u.owned ≡ length t.owned
-    → Adds t (Limits (spec_of spec)) (record t { line_kinds = u.line_kinds; owned = u.owned })
-limit t u line k v spec keeps number at owner more recorded as_many =
+pub limit : (t u : Table) (line : ℕ) (k : VersionNo) (v : Version) (number_of_spec : VersionSetId) (s : Spec) → IsTable t → spec_at t.terms number_of_spec ≡ s → IsSpec t.terms number_of_spec s → line ≡ length (lines_in t) + 1 → slice_get (versions_in t) k.0 ≡ Some v → owner_below (lines_in t) ≡ Some v
+    → kinds_in u ≡ kinds_in t ++ line_kinds.Rule (kept.Limits k number_of_spec) ∷ [] → ((j : ℕ) → kept_of u.owned j ≡ (if k.0 == j then kept_of t.owned j ++ line ∷ [] else kept_of t.owned j)) → length u.owned ≡ length t.owned
+    → Adds t (Limits s) (record t { line_kinds = u.line_kinds; owned = u.owned })
+limit t u line k v number_of_spec s keeps is given number at owner more recorded as_many =
     let vs = versions_in t in
     let lines = lines_in t in
-    let l : Line = Limits (spec_of spec) in
-    adds_from t (record t { line_kinds = u.line_kinds; owned = u.owned }) (line_kinds.Rule (rule.Limits (Some k) spec)) l refl more refl (record {
+    let l : Line = Limits s in
+    adds_from t (record t { line_kinds = u.line_kinds; owned = u.owned }) (line_kinds.Rule (kept.Limits k number_of_spec)) l refl refl more (ap (λ (x : Spec). Limits x) is) (record {
+      sound = keeps.sound;
       listing = listed_same lines l refl ∙ keeps.listing;
-      kinds = rw more (are_kinds_push vs lines (kinds_in t) l (line_kinds.Rule (rule.Limits (Some k) spec)) (as_long t) keeps.kinds (v, at, owner));
+      kinds = rw more (are_kinds_push t.terms vs lines (kinds_in t) l (line_kinds.Rule (kept.Limits k number_of_spec)) (as_long t) keeps.kinds (subst (λ (x : Spec). IsSpec t.terms number_of_spec x) (sym is) given, (v, at, owner)));
       packages = keeps.packages;
       found = keeps.found;
       locks = λ name. only_other (keeps.locks name) (line_grows lines l (Locks name)) (λ x. x);
@@ -188,18 +240,19 @@ limit t u line k v spec keeps number at owner more recorded as_many =
       favour_versions = λ i f at. favours_kept vs lines l f (keeps.favour_versions i f at);
     })
 
-pub mark_unknown : (t u : Table) (line : ℕ) (k : VersionNo) (v : Version) (word : String Global) → IsTable t → line ≡ length (lines_in t) + 1 → slice_get (versions_in t) k.0 ≡ Some v → owner_below (lines_in t) ≡ Some v
-    → is_some (get nat_cmp t.unknown k.0) ≡ false → kinds_in u ≡ kinds_in t ++ line_kinds.Rule (rule.Unknown k word) ∷ []
+pub mark_unknown : (t u : Table) (line : ℕ) (k : VersionNo) (v : Version) (w : StringId) (word : List ℕ) → IsTable t → word_text t.terms w ≡ word → IsWord t.terms w word → line ≡ length (lines_in t) + 1 → slice_get (versions_in t) k.0 ≡ Some v → owner_below (lines_in t) ≡ Some v
+    → is_some (get nat_cmp t.unknown k.0) ≡ false → kinds_in u ≡ kinds_in t ++ line_kinds.Rule (kept.Unknown k w) ∷ []
     → ((j : ℕ) → kept_of u.owned j ≡ (if k.0 == j then kept_of t.owned j ++ line ∷ [] else kept_of t.owned j)) → length u.owned ≡ length t.owned
     → ((j : ℕ) → get nat_cmp u.unknown j ≡ update nat_eq (get nat_cmp t.unknown) k.0 (Some line) j)
-    → Adds t (Unknown (string_bytes word)) (record t { line_kinds = u.line_kinds; owned = u.owned; unknown = u.unknown })
-mark_unknown t u line k v word keeps number at owner absent more recorded as_many marked =
+    → Adds t (Unknown word) (record t { line_kinds = u.line_kinds; owned = u.owned; unknown = u.unknown })
+mark_unknown t u line k v w word keeps is given number at owner absent more recorded as_many marked =
     let vs = versions_in t in
     let lines = lines_in t in
-    let l : Line = Unknown (string_bytes word) in
-    adds_from t (record t { line_kinds = u.line_kinds; owned = u.owned; unknown = u.unknown }) (line_kinds.Rule (rule.Unknown k word)) l refl more refl (record {
+    let l : Line = Unknown word in
+    adds_from t (record t { line_kinds = u.line_kinds; owned = u.owned; unknown = u.unknown }) (line_kinds.Rule (kept.Unknown k w)) l refl refl more (ap (λ (x : List ℕ). Unknown x) is) (record {
+      sound = keeps.sound;
       listing = listed_same lines l refl ∙ keeps.listing;
-      kinds = rw more (are_kinds_push vs lines (kinds_in t) l (line_kinds.Rule (rule.Unknown k word)) (as_long t) keeps.kinds (v, at, owner));
+      kinds = rw more (are_kinds_push t.terms vs lines (kinds_in t) l (line_kinds.Rule (kept.Unknown k w)) (as_long t) keeps.kinds (subst (λ (x : List ℕ). IsWord t.terms w x) (sym is) given, (v, at, owner)));
       packages = keeps.packages;
       found = keeps.found;
       locks = λ name. only_other (keeps.locks name) (line_grows lines l (Locks name)) (λ x. x);
@@ -217,15 +270,16 @@ mark_unknown t u line k v word keeps number at owner absent more recorded as_man
 
 -- ---- exclusions and favours
 
-pub exclude : (t u : Table) (line : ℕ) (k : VersionNo) (v : Version) (word : String Global) → IsTable t → line ≡ length (lines_in t) + 1 → slice_get (versions_in t) k.0 ≡ Some v → is_some (get nat_cmp t.excluded k.0) ≡ false
-    → kinds_in u ≡ kinds_in t ++ line_kinds.Rule (rule.Exclude k word) ∷ [] → ((j : ℕ) → get nat_cmp u.excluded j ≡ update nat_eq (get nat_cmp t.excluded) k.0 (Some line) j) → Adds t (Exclude v (string_bytes word)) (record t { line_kinds = u.line_kinds; excluded = u.excluded })
-exclude t u line k v word keeps number at absent more marked =
+pub exclude : (t u : Table) (line : ℕ) (k : VersionNo) (v : Version) (w : StringId) (word : List ℕ) → IsTable t → word_text t.terms w ≡ word → IsWord t.terms w word → line ≡ length (lines_in t) + 1 → slice_get (versions_in t) k.0 ≡ Some v → is_some (get nat_cmp t.excluded k.0) ≡ false
+    → kinds_in u ≡ kinds_in t ++ line_kinds.Rule (kept.Exclude k w) ∷ [] → ((j : ℕ) → get nat_cmp u.excluded j ≡ update nat_eq (get nat_cmp t.excluded) k.0 (Some line) j) → Adds t (Exclude v word) (record t { line_kinds = u.line_kinds; excluded = u.excluded })
+exclude t u line k v w word keeps is given number at absent more marked =
     let vs = versions_in t in
     let lines = lines_in t in
-    let l : Line = Exclude v (string_bytes word) in
-    adds_from t (record t { line_kinds = u.line_kinds; excluded = u.excluded }) (line_kinds.Rule (rule.Exclude k word)) l refl more (ap (λ (x : Version). Exclude x (string_bytes word)) (numbered vs k v at)) (record {
+    let l : Line = Exclude v word in
+    adds_from t (record t { line_kinds = u.line_kinds; excluded = u.excluded }) (line_kinds.Rule (kept.Exclude k w)) l refl refl more (ap (λ (x : Version). Exclude x (word_text t.terms w)) (numbered vs k v at) ∙ ap (λ (x : List ℕ). Exclude v x) is) (record {
+      sound = keeps.sound;
       listing = listed_same lines l refl ∙ keeps.listing;
-      kinds = rw more (are_kinds_push vs lines (kinds_in t) l (line_kinds.Rule (rule.Exclude k word)) (as_long t) keeps.kinds (slice_get_within vs k.0 v at));
+      kinds = rw more (are_kinds_push t.terms vs lines (kinds_in t) l (line_kinds.Rule (kept.Exclude k w)) (as_long t) keeps.kinds (subst (λ (x : List ℕ). IsWord t.terms w x) (sym is) given, slice_get_within vs k.0 v at));
       packages = keeps.packages;
       found = keeps.found;
       locks = λ name. only_other (keeps.locks name) (line_grows lines l (Locks name)) (λ x. x);
@@ -249,9 +303,10 @@ favour t u line k v name keeps number at same absent more favoured pushed =
     let lines = lines_in t in
     let l : Line = Favour v in
     let grows : Grows (λ n. LineIs lines n IsFavour) (λ n. LineIs (lines ++ l ∷ []) n IsFavour) line (IsFavour (owner_below lines) l) = rw number (line_grows lines l IsFavour) in
-    adds_from t (record t { line_kinds = u.line_kinds; favoured = u.favoured; favours = u.favours }) (line_kinds.Favour k) l refl more (ap (λ (x : Version). Favour x) (numbered vs k v at)) (record {
+    adds_from t (record t { line_kinds = u.line_kinds; favoured = u.favoured; favours = u.favours }) (line_kinds.Favour k) l refl refl more (ap (λ (x : Version). Favour x) (numbered vs k v at)) (record {
+      sound = keeps.sound;
       listing = listed_same lines l refl ∙ keeps.listing;
-      kinds = rw more (are_kinds_push vs lines (kinds_in t) l (line_kinds.Favour k) (as_long t) keeps.kinds (slice_get_within vs k.0 v at));
+      kinds = rw more (are_kinds_push t.terms vs lines (kinds_in t) l (line_kinds.Favour k) (as_long t) keeps.kinds (slice_get_within vs k.0 v at));
       packages = keeps.packages;
       found = keeps.found;
       locks = λ name. only_other (keeps.locks name) (line_grows lines l (Locks name)) (λ x. x);
@@ -360,15 +415,16 @@ list t u k v keeps number unlisted adds found versions more kept as_many =
     let l : Line = Listed v in
     let w : Table = record t { versions = u.versions; line_kinds = u.line_kinds; packages = u.packages; owned = u.owned } in
     let here : slice_get (vs ++ v ∷ []) k.0 ≡ Some v = rw number (get_new vs v) in
-    let old : map (line_of (vs ++ v ∷ [])) (kinds_in t) ≡ lines = lines_of_more vs v (kinds_in t) (λ n s at. (owner_below (take n lines), keeps.kinds n s at)) in
-    let pushed : lines_in w ≡ map (line_of (vs ++ v ∷ [])) (kinds_in t) ++ Listed (nth (vs ++ v ∷ []) k) ∷ [] = rw (versions, more) (map_push (line_of (vs ++ v ∷ [])) (kinds_in t) (line_kinds.Listed k)) in
+    let old : map (line_of t.terms (vs ++ v ∷ [])) (kinds_in t) ≡ lines = lines_of_more t.terms vs v (kinds_in t) (λ n s at. (owner_below (take n lines), keeps.kinds n s at)) in
+    let pushed : lines_in w ≡ map (line_of t.terms (vs ++ v ∷ [])) (kinds_in t) ++ Listed (nth (vs ++ v ∷ []) k) ∷ [] = rw (versions, more) (map_push (line_of t.terms (vs ++ v ∷ [])) (kinds_in t) (line_kinds.Listed k)) in
     let lines_now : lines_in w ≡ lines ++ l ∷ [] = pushed ∙ ap (λ (ls : List Line). ls ++ Listed (nth (vs ++ v ∷ []) k) ∷ []) old ∙ ap (λ (x : Version). lines ++ Listed x ∷ []) (numbered (vs ++ v ∷ []) k v here) in
     let above = λ (n : ℕ) (is : LineIs lines n (BelongsTo v)). unlisted (owner_listed lines n v (belongs_owner v lines n is)) in
     let none_forbids = λ (n : ℕ) (is : LineIs lines n (Excludes v)). unlisted (excluded_listed t keeps v n is) in
     let none_mark = λ (n : ℕ) (is : LineIs lines n (MarksUnknownOf v)). unlisted (owner_listed lines n v (marks_owner v lines n is)) in
     let keeps_new : Keeps w (vs ++ v ∷ []) (lines ++ l ∷ []) = record {
+      sound = keeps.sound;
       listing = listed_more lines v ∙ rw keeps.listing refl;
-      kinds = rw more (are_kinds_push (vs ++ v ∷ []) lines (kinds_in t) l (line_kinds.Listed k) (as_long t) (are_kinds_more vs v lines (kinds_in t) keeps.kinds) (slice_get_within (vs ++ v ∷ []) k.0 v here));
+      kinds = rw more (are_kinds_push t.terms (vs ++ v ∷ []) lines (kinds_in t) l (line_kinds.Listed k) (as_long t) (are_kinds_more t.terms vs v lines (kinds_in t) keeps.kinds) (slice_get_within (vs ++ v ∷ []) k.0 v here));
       packages = λ name. record {
         kept = packages_kept (λ nm. package_in t.packages nm) (λ nm. package_in u.packages nm) v k adds (λ nm p is. (keeps.packages nm).kept p is) name;
         numbers = λ q. keyed_new same_version same_version_is (λ x. number_in (package_in t.packages x.name) x.number) (λ x. number_in (package_in u.packages x.name) x.number) v (length vs) (λ x n. slice_get vs n ≡ Some x) (λ x n. slice_get (vs ++ v ∷ []) n ≡ Some x) (λ x. v ≡ x)
@@ -387,7 +443,7 @@ list t u k v keeps number unlisted adds found versions more kept as_many =
       favour_lines = all_other keeps.favour_lines (line_grows lines l IsFavour) (λ x. x);
       favour_versions = λ i f at. favours_more vs v (lines ++ l ∷ []) f (favours_kept vs lines l f (keeps.favour_versions i f at));
     } in
-    (subst (λ (ls : List Line). Keeps w (versions_in w) ls) (sym lines_now) (subst (λ (x : List Version). Keeps w x (lines ++ l ∷ [])) (sym versions) keeps_new), lines_now)
+    (subst (λ (ls : List Line). Keeps w (versions_in w) ls) (sym lines_now) (subst (λ (x : List Version). Keeps w x (lines ++ l ∷ [])) (sym versions) keeps_new), lines_now, omega arith)
 
 -- an empty list more
 pub empty_more : (lists more : List (List ℕ)) → more ≡ lists ++ [] ∷ [] → (j : ℕ) → kept_of more j ≡ kept_of lists j
@@ -415,11 +471,12 @@ no_line Q zero h = absurd cc
 no_line Q (suc n) h = absurd cc
 
 -- a table of no line
-pub empty : (t : Table) → t.versions ≡ [] → kinds_in t ≡ [] → ((name : List ℕ) → package_in t.packages name ≡ None) → AreFound t.packages → t.locks.entries ≡ [] → t.favoured.entries ≡ [] → t.many.entries ≡ [] → t.excluded.entries ≡ [] → t.unknown.entries ≡ [] → t.owned ≡ [] → t.favours.items ≡ [] → IsTable t
-empty t versions kinds packages found locks favoured many excluded unknown owned favours =
+pub empty : (t : Table) → AreSound t.terms → t.versions ≡ [] → kinds_in t ≡ [] → ((name : List ℕ) → package_in t.packages name ≡ None) → AreFound t.packages → t.locks.entries ≡ [] → t.favoured.entries ≡ [] → t.many.entries ≡ [] → t.excluded.entries ≡ [] → t.unknown.entries ≡ [] → t.owned ≡ [] → t.favours.items ≡ [] → IsTable t
+empty t sound versions kinds packages found locks favoured many excluded unknown owned favours =
     let vs : versions_in t ≡ [] = rw versions refl in
     let lines : lines_in t ≡ [] = rw kinds refl in
     let keeps : Keeps t [] [] = record {
+      sound = sound;
       listing = refl;
       kinds = λ n s at. absurd (no_kind n s (rw kinds at at));
       packages = λ name. record { kept = λ p is. no_package (package_in t.packages name) p (packages name) is; numbers = λ k. no_only _ _ (ap (λ (o : Option Package). number_in o k) (packages name)) (λ n at. none_got n (record { name = name; number = k }) at); all = subst (λ (o : Option Package). AreAll (numbers_in o) (IsOfPackage [] name)) (sym (packages name)) (no_all (IsOfPackage [] name) (λ n h. none_got n h.0 h.1)) };

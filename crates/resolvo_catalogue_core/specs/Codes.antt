@@ -5,6 +5,13 @@ use Rattle.std.proofs.lemmas.List.{append-nil}
 use Rattle.std.specs.Coded.{Coded, code_by, coded_ℕ, coded_bool, coded_list, coded_option, coded×, coded⊎}
 use Rattle.resolvo_catalogue_core.specs.declared.rule.VersionNo.{VersionNo}
 use Rattle.resolvo_catalogue_core.specs.Questions.{ReadRequest}
+use Rattle.resolvo_catalogue_core.specs.Kept.{KeptLines}
+use Rattle.resolvo_terms.specs.Terms.{Terms, NameId}
+use Rattle.resolvo_terms.specs.declared.terms.Numbers.{Numbers}
+use Rattle.resolvo_pool_core.specs.declared.id.VersionSetId.{VersionSetId}
+use Rattle.resolvo_pool_core.specs.declared.condition.Condition.{Condition}
+use Rattle.resolvo_pool_core.specs.declared.condition.Condition.TheVariants.{Binary, Requirement}
+use Rattle.resolvo_pool_core.specs.declared.condition.LogicalOperator.TheVariants as joins
 use Rattle.resolvo_text.specs.declared.spec.Span.{Span}
 use Rattle.resolvo_text.specs.declared.spec.Span.TheVariants.{Any, One, Range}
 use Rattle.resolvo_text.specs.Line.{Version, Spec, Cond, Is, And, Or, Line, Skipped, Listed, Needs, Limits, Unknown, Lock, Favour, Exclude, Many, Wish}
@@ -140,3 +147,45 @@ number_code = code_by ℕ coded_ℕ (λ v. v.0) (λ n. record { 0 = n }) (λ _. 
 
 abbrev pub kind_code : Coded ReadRequest
 kind_code = code_by (List Line × List (ℕ × VersionNo)) (coded× lines_code (coded_list (coded× coded_ℕ number_code))) (λ r. (r.lines, r.wishes)) (λ p. record { lines = p.0; wishes = p.1 }) (λ _. refl)
+
+-- ---- lines as they are kept
+
+abbrev name_code : Coded NameId
+name_code = code_by ℕ coded_ℕ (λ n. n.raw) (λ k. record { raw = k; tag = record {} }) (λ _. refl)
+
+abbrev numbers_code : Coded Numbers
+numbers_code = code_by Span span_code (λ n. n.0) (λ s. record { 0 = s }) (λ _. refl)
+
+abbrev set_code : Coded VersionSetId
+set_code = code_by ℕ coded_ℕ (λ v. v.0) (λ k. record { 0 = k }) (λ _. refl)
+
+abbrev condition_parts : Condition → ℕ × (ℕ × ℕ)
+condition_parts (Requirement v) = (0, (v.0, 0))
+condition_parts (Binary joins.And a b) = (1, (a.0, b.0))
+condition_parts (Binary joins.Or a b) = (2, (a.0, b.0))
+
+abbrev condition_by : ℕ → ℕ × ℕ → Condition
+condition_by zero p = Requirement (record { 0 = p.0 })
+condition_by (suc zero) p = Binary joins.And (record { 0 = p.0 }) (record { 0 = p.1 })
+condition_by (suc (suc k)) p = Binary joins.Or (record { 0 = p.0 }) (record { 0 = p.1 })
+
+pub condition_back : (c : Condition) → condition_by (condition_parts c).0 (condition_parts c).1 ≡ c
+condition_back (Requirement v) = refl
+condition_back (Binary joins.And a b) = refl
+condition_back (Binary joins.Or a b) = refl
+
+abbrev condition_code : Coded Condition
+condition_code = code_by (ℕ × (ℕ × ℕ)) (coded× coded_ℕ (coded× coded_ℕ coded_ℕ)) condition_parts (λ p. condition_by p.0 p.1) condition_back
+
+abbrev texts_code : Coded (List (List ℕ))
+texts_code = coded_list (coded_list coded_ℕ)
+
+abbrev TermParts : Type 0
+TermParts = List (List ℕ) × (List (List ℕ) × (List (NameId × Numbers) × (List (List VersionSetId) × List Condition)))
+
+abbrev pub terms_code : Coded Terms
+terms_code = code_by TermParts (coded× texts_code (coded× texts_code (coded× (coded_list (coded× name_code numbers_code)) (coded× (coded_list (coded_list set_code)) (coded_list condition_code)))))
+    (λ t. (t.names, (t.words, (t.version_sets, (t.unions, t.conditions))))) (λ p. record { names = p.0; words = p.1.0; version_sets = p.1.1.0; unions = p.1.1.1.0; conditions = p.1.1.1.1 }) (λ _. refl)
+
+abbrev pub kept_code : Coded KeptLines
+kept_code = code_by (Terms × List Line) (coded× terms_code lines_code) (λ k. (k.terms, k.lines)) (λ p. record { terms = p.0; lines = p.1 }) (λ _. refl)

@@ -3,7 +3,7 @@ use Rattle.std.specs.Prelude.{ℕ, zero, suc, nat_lt, Bool, true, List, map, Opt
 use Rattle.std.specs.List.{list_all}
 use Rattle.std.specs.Global.{Global}
 use Rattle.std.specs.declared.string.String.{String}
-use Rattle.resolvo_catalogue_core.specs.declared.rule.Rule.{Rule}
+use Rattle.resolvo_catalogue_core.specs.declared.kept_rule.KeptRule.{KeptRule}
 use Rattle.resolvo_catalogue_core.specs.declared.line_table.LineKind.{LineKind}
 use Rattle.resolvo_catalogue_core.specs.declared.line_table.LineKind.TheVariants as line_kinds
 use Rattle.resolvo_catalogue_core.specs.declared.line_table.StoredLine.{StoredLine}
@@ -19,7 +19,7 @@ is_held count marked (StoredLine.Rule place) = nat_lt place count
 abbrev pub are_held : ℕ → ℕ → List StoredLine → Bool
 are_held count marked held = list_all (is_held count marked) held
 
-abbrev pub kind_of_rule : Option Rule → LineKind
+abbrev pub kind_of_rule : Option KeptRule → LineKind
 kind_of_rule None = line_kinds.Nothing
 kind_of_rule (Some r) = line_kinds.Rule r
 
@@ -28,14 +28,14 @@ kind_of_name None = line_kinds.Nothing
 kind_of_name (Some name) = line_kinds.Many name
 
 -- the line in whose place this is kept
-abbrev pub kind_in : List Rule → List (String Global) → StoredLine → LineKind
+abbrev pub kind_in : List KeptRule → List (String Global) → StoredLine → LineKind
 kind_in rules marked StoredLine.Nothing = line_kinds.Nothing
 kind_in rules marked (StoredLine.Listed v) = line_kinds.Listed v
 kind_in rules marked (StoredLine.Favour v) = line_kinds.Favour v
 kind_in rules marked (StoredLine.Many place) = kind_of_name (slice_get marked place)
 kind_in rules marked (StoredLine.Rule place) = kind_of_rule (slice_get rules place)
 
-abbrev pub kind_list : List Rule → List (String Global) → List StoredLine → List LineKind
+abbrev pub kind_list : List KeptRule → List (String Global) → List StoredLine → List LineKind
 kind_list rules marked held = map (kind_in rules marked) held
 
 -- the stored form of line n, from 1
@@ -48,7 +48,7 @@ abbrev pub kind_at : List LineKind → ℕ → Option LineKind
 kind_at kinds zero = None
 kind_at kinds (suc n) = slice_get kinds n
 
-abbrev pub rule_of : LineKind → Option Rule
+abbrev pub rule_of : LineKind → Option KeptRule
 rule_of (line_kinds.Rule r) = Some r
 rule_of line_kinds.Nothing = None
 rule_of (line_kinds.Listed v) = None

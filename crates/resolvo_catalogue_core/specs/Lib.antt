@@ -10,5 +10,6 @@ pub mod Packages
 pub mod Picked
 pub mod Codes
 pub mod LinesByVersion
+pub mod Kept
 pub mod Table
 pub mod RequestLines

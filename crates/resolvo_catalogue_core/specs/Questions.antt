@@ -9,6 +9,7 @@ use Rattle.resolvo_catalogue_core.specs.Grammar.{line_at, owner_of}
 use Rattle.resolvo_catalogue_core.specs.declared.rule.VersionNo.{VersionNo}
 use Rattle.resolvo_catalogue_core.specs.declared.rule.Rule.{Rule}
 use Rattle.resolvo_catalogue_core.specs.declared.rule.Rule.TheVariants as rule
+use Rattle.resolvo_catalogue_core.specs.declared.rule.FoundRule.{FoundRule}
 
 -- ---- numbers
 
@@ -106,6 +107,11 @@ pub record ReadRequest : Type 0 where
   pub wishes : List (ℕ × VersionNo)
 
 -- ---- rules
+
+-- the rule that was found
+abbrev pub rule_found : FoundRule → Rule
+rule_found (FoundRule.Lent r) = r.now
+rule_found (FoundRule.Made r) = r
 
 abbrev pub is_rule : Line → Bool
 is_rule (Needs alternatives condition) = true

@@ -4,10 +4,9 @@ use Rattle.std.specs.BTreeMap.{get}
 use Rattle.std.specs.Ordering.{nat_cmp}
 use Rattle.resolvo_text.specs.Line as parsed
 use Rattle.resolvo_text.specs.Line.{Version, Line}
-use Rattle.resolvo_text.specs.View.{version_of}
+use Rattle.resolvo_text.specs.View.{version_of, spec_of, specs_of, list_of, condition_of}
 use Rattle.resolvo_text.specs.declared.spec.Version as code
 use Rattle.resolvo_catalogue_core.specs.Questions.{IsOnly, AreAll, LineIs, IsVersionLine, Wishes, WishesAt, IsWish}
-use Rattle.resolvo_catalogue_core.specs.Table.{rule_line}
 use Rattle.resolvo_catalogue_core.specs.declared.rule.VersionNo.{VersionNo}
 use Rattle.resolvo_catalogue_core.specs.declared.rule.Rule.{Rule}
 use Rattle.resolvo_catalogue_core.specs.declared.rule.Rule.TheVariants as rule
@@ -15,10 +14,18 @@ use Rattle.resolvo_catalogue_core.specs.declared.request_lines.RequestLine.{Requ
 use Rattle.resolvo_catalogue_core.specs.declared.request_lines.RequestLine.TheVariants as ask
 use Rattle.resolvo_catalogue_core.specs.declared.request_lines.RequestLines.{RequestLines}
 
+-- the line of a rule that names no version
+abbrev pub rule_line : Rule → Line
+rule_line (rule.Needs of alternatives condition) = parsed.Needs (specs_of (list_of alternatives)) (condition_of condition)
+rule_line (rule.Limits of spec) = parsed.Limits (spec_of spec)
+rule_line (rule.Unknown of word) = parsed.Skipped
+rule_line (rule.Lock locked) = parsed.Skipped
+rule_line (rule.Exclude excluded word) = parsed.Skipped
+
 abbrev pub asked : RequestLine → Line
 asked ask.Nothing = parsed.Skipped
 asked (ask.Wish v) = parsed.Wish (version_of v)
-asked (ask.Rule r) = rule_line [] r
+asked (ask.Rule r) = rule_line r
 
 abbrev pub asked_lines : RequestLines → List Line
 asked_lines a = map asked a.asks.items

@@ -1,17 +1,17 @@
 -- A catalogue's lines as the code keeps them, and the invariants of its maps.
-use Rattle.std.specs.Prelude.{◌≡◌, ℕ, ◌<◌, ◌==◌, if◌then◌else◌, bytes_eq, Bool, false, not, ⊤, List, [], ◌++◌, ◌∷◌, map, length, take, Option, Some, None, slice_get, slice_index_or, string_bytes, option_map}
+use Rattle.std.specs.Prelude.{◌≡◌, ℕ, ◌≤◌, ◌+◌, sum_by, ◌<◌, ◌==◌, if◌then◌else◌, bytes_eq, false, ⊤, List, [], ◌++◌, ◌∷◌, map, length, take, Option, Some, None, slice_get, string_bytes, option_map}
 use Rattle.std.specs.BTreeMap.{get, get_by_text}
 use Rattle.std.specs.Ordering.{nat_cmp}
 use Rattle.resolvo_text.specs.Line as parsed
 use Rattle.resolvo_text.specs.Line.{Version, Line}
-use Rattle.resolvo_text.specs.View.{spec_of, specs_of, list_of, condition_of}
+use Rattle.resolvo_terms.specs.Terms.{Terms, AreSound}
+use Rattle.resolvo_terms.specs.TermCounts.{term_count, terms_for_line}
 use Rattle.resolvo_catalogue_core.specs.Grammar.{owner_below}
 use Rattle.resolvo_catalogue_core.specs.Listed.{listed}
-use Rattle.resolvo_catalogue_core.specs.Questions.{IsOnly, AreAll, LineIs, BelongsTo, MarksUnknownOf, Locks, Favours, MarksMany, Excludes, IsFavour, IsOwner, IsOfPackage, IsVersionLine, FavoursAt, number_of}
+use Rattle.resolvo_catalogue_core.specs.Questions.{IsOnly, AreAll, LineIs, BelongsTo, MarksUnknownOf, Locks, Favours, MarksMany, Excludes, IsFavour, IsOfPackage, IsVersionLine, FavoursAt, number_of}
 use Rattle.resolvo_catalogue_core.specs.LinesByVersion.{kept_of}
 use Rattle.resolvo_catalogue_core.specs.declared.rule.VersionNo.{VersionNo}
-use Rattle.resolvo_catalogue_core.specs.declared.rule.Rule.{Rule}
-use Rattle.resolvo_catalogue_core.specs.declared.rule.Rule.TheVariants as rule
+use Rattle.resolvo_catalogue_core.specs.Kept.{nth, kept_line, IsGiven, IsKeptOf}
 use Rattle.resolvo_catalogue_core.specs.declared.line_table.LineKind.{LineKind}
 use Rattle.resolvo_catalogue_core.specs.declared.line_table.LineKind.TheVariants as line_kinds
 use Rattle.resolvo_catalogue_core.specs.Held.{kind_list}
@@ -22,26 +22,12 @@ use Rattle.resolvo_catalogue_core.specs.declared.table.Table.{Table}
 
 -- ---- the lines
 
-abbrev pub nowhere : Version
-nowhere = record { name = []; number = 0 }
-
--- the version of a number that is in range
-abbrev pub nth : List Version → VersionNo → Version
-nth versions n = slice_index_or versions n.0 nowhere
-
-abbrev pub rule_line : List Version → Rule → Line
-rule_line versions (rule.Needs of alternatives condition) = parsed.Needs (specs_of (list_of alternatives)) (condition_of condition)
-rule_line versions (rule.Limits of spec) = parsed.Limits (spec_of spec)
-rule_line versions (rule.Unknown of word) = parsed.Unknown (string_bytes word)
-rule_line versions (rule.Lock locked) = parsed.Lock (nth versions locked)
-rule_line versions (rule.Exclude excluded word) = parsed.Exclude (nth versions excluded) (string_bytes word)
-
-abbrev pub line_of : List Version → LineKind → Line
-line_of versions line_kinds.Nothing = parsed.Skipped
-line_of versions (line_kinds.Listed v) = parsed.Listed (nth versions v)
-line_of versions (line_kinds.Favour v) = parsed.Favour (nth versions v)
-line_of versions (line_kinds.Many name) = parsed.Many (string_bytes name)
-line_of versions (line_kinds.Rule r) = rule_line versions r
+abbrev pub line_of : Terms → List Version → LineKind → Line
+line_of terms versions line_kinds.Nothing = parsed.Skipped
+line_of terms versions (line_kinds.Listed v) = parsed.Listed (nth versions v)
+line_of terms versions (line_kinds.Favour v) = parsed.Favour (nth versions v)
+line_of terms versions (line_kinds.Many name) = parsed.Many (string_bytes name)
+line_of terms versions (line_kinds.Rule r) = kept_line terms versions r
 
 abbrev pub versions_in : Table → List Version
 versions_in t = t.versions
@@ -50,35 +36,20 @@ abbrev pub kinds_in : Table → List LineKind
 kinds_in t = kind_list t.line_kinds.rules.items t.line_kinds.marked.items t.line_kinds.held.items
 
 abbrev pub lines_in : Table → List Line
-lines_in t = map (line_of (versions_in t)) (kinds_in t)
+lines_in t = map (line_of t.terms (versions_in t)) (kinds_in t)
 
 -- ---- invariants of the lines
 
--- The numbers that the rule names are listed, and the owner's is that of the version above.
-abbrev pub IsRuleOf : List Version → Option Version → Rule → Type 0
-IsRuleOf versions owner (rule.Needs of alternatives condition) = IsOwner versions of owner
-IsRuleOf versions owner (rule.Limits of spec) = IsOwner versions of owner
-IsRuleOf versions owner (rule.Unknown of word) = IsOwner versions (Some of) owner
-IsRuleOf versions owner (rule.Lock locked) = locked.0 < length versions
-IsRuleOf versions owner (rule.Exclude excluded word) = excluded.0 < length versions
+-- A rule has numbers that were given, and the owner's is that of the version above.
+abbrev pub IsKindOf : Terms → List Version → Option Version → LineKind → Type 0
+IsKindOf terms versions owner line_kinds.Nothing = ⊤
+IsKindOf terms versions owner (line_kinds.Listed v) = v.0 < length versions
+IsKindOf terms versions owner (line_kinds.Favour v) = v.0 < length versions
+IsKindOf terms versions owner (line_kinds.Many name) = ⊤
+IsKindOf terms versions owner (line_kinds.Rule r) = IsGiven terms r × IsKeptOf versions owner r
 
-abbrev pub IsKindOf : List Version → Option Version → LineKind → Type 0
-IsKindOf versions owner line_kinds.Nothing = ⊤
-IsKindOf versions owner (line_kinds.Listed v) = v.0 < length versions
-IsKindOf versions owner (line_kinds.Favour v) = v.0 < length versions
-IsKindOf versions owner (line_kinds.Many name) = ⊤
-IsKindOf versions owner (line_kinds.Rule r) = IsRuleOf versions owner r
-
-abbrev pub AreKindsOf : List Version → List Line → List LineKind → Type 0
-AreKindsOf versions lines kinds = (n : ℕ) (s : LineKind) → slice_get kinds n ≡ Some s → IsKindOf versions (owner_below (take n lines)) s
-
--- a lock of another version than this one
-abbrev pub is_lock_of_another : Rule → ℕ → Bool
-is_lock_of_another (rule.Lock locked) n = not (locked.0 == n)
-is_lock_of_another (rule.Needs of alternatives condition) n = false
-is_lock_of_another (rule.Limits of spec) n = false
-is_lock_of_another (rule.Unknown of word) n = false
-is_lock_of_another (rule.Exclude excluded word) n = false
+abbrev pub AreKindsOf : Terms → List Version → List Line → List LineKind → Type 0
+AreKindsOf terms versions lines kinds = (n : ℕ) (s : LineKind) → slice_get kinds n ≡ Some s → IsKindOf terms versions (owner_below (take n lines)) s
 
 -- ---- the maps
 
@@ -110,7 +81,8 @@ pub record AddsVersion (before : List ℕ → Option Package) (version : Version
 -- The table keeps these lines, of which these versions are listed.
 pub record Keeps (t : Table) (versions : List Version) (lines : List Line) : Type 0 where
   pub listing : listed lines ≡ versions
-  pub kinds : AreKindsOf versions lines (kinds_in t)
+  pub sound : AreSound t.terms
+  pub kinds : AreKindsOf t.terms versions lines (kinds_in t)
   pub packages : (name : List ℕ) → IsPackage versions name (package_in t.packages name)
   pub found : AreFound t.packages
   pub locks : (name : List ℕ) → IsOnly (get_by_text t.locks name) (λ n. LineIs lines n (Locks name))
@@ -126,6 +98,10 @@ pub record Keeps (t : Table) (versions : List Version) (lines : List Line) : Typ
 abbrev pub IsTable : Table → Type 0
 IsTable t = Keeps t (versions_in t) (lines_in t)
 
--- The second table keeps the line below those of the first.
+-- No more terms are numbered than the lines need.
+abbrev pub HasFew : Table → Type 0
+HasFew t = term_count t.terms ≤ sum_by terms_for_line (lines_in t)
+
+-- The second table keeps the line below those of the first, and numbers no more terms for it than it needs.
 abbrev pub Adds : Table → Line → Table → Type 0
-Adds before line after = IsTable after × (lines_in after ≡ lines_in before ++ line ∷ [])
+Adds before line after = IsTable after × (lines_in after ≡ lines_in before ++ line ∷ []) × (term_count after.terms ≤ term_count before.terms + terms_for_line line)

@@ -4,6 +4,7 @@
 
 ghost use Rattle.std.specs.Prelude.{◌≡◌};
 
+use crate::kept_lines::KeptLines;
 use crate::obey;
 use crate::rule::{Rule, VersionNo};
 use crate::table::Table;
@@ -38,13 +39,14 @@ impl Model for Catalogue {
 
     ghost coded = { lines_code };
 
-    ghost use Rattle.resolvo_catalogue_core.specs.Table.{IsTable, lines_in};
+    ghost use Rattle.resolvo_catalogue_core.specs.Table.{IsTable, HasFew, lines_in};
     ghost use Rattle.resolvo_catalogue_core.specs.Grammar.{AreCatalogueLines};
 
     ghost view = { λ c. lines_in c.table };
 
     ghost invariant = { λ c.
         IsTable c.table
+        × HasFew c.table
         × AreCatalogueLines (lines_in c.table)
         × (length (lines_in c.table) ≤ 16777216) };
 }
@@ -127,7 +129,7 @@ impl Catalogue {
     pub fn match_of(&self, spec: &Spec, version: VersionNo) -> bool
         ensures { result ≡ is_match (listed self.now) (spec_of spec.now) version.0 }
     {
-        obey::is_match(spec, &self.table.versions, version)
+        obey::is_match(obey::lent(spec), &self.table.versions, version)
     }
 
     /// The `needs`, `limits` and `unknown` lines of a version.
@@ -153,24 +155,40 @@ impl Catalogue {
         self.table.line_kinds.len() as u32
     }
 
+    /// The lines with the numbers by which they are kept.
+    pub fn kept(&self) -> KeptLines<'_>
+        ensures { result.lines ≡ self.now }
+    {
+        KeptLines { table: &self.table }
+    }
+
     /// The rule of the line, if it has one.
-    pub fn rule(&self, line: u32) -> Option<&Rule>
-        ensures of_line { IfSome result
+    pub fn rule(&self, line: u32) -> Result<Option<Rule>, AllocError>
+        ensures of_line { IfOk result
+            (λ found.
+            IfSome found
             (λ r.
             (l : parsed.Line)
             × (line_at self.now line ≡ Some l)
-            × IsRuleLine (listed self.now) r.now (owner_of self.now line) l) }
-        ensures none { IfNone result ((l : parsed.Line) → line_at self.now line ≡ Some l → is_rule l ≡ false) }
+            × IsRuleLine (listed self.now) r (owner_of self.now line) l)) }
+        ensures none { IfOk result
+            (λ found.
+            IfNone found
+            ((l : parsed.Line) → line_at self.now line ≡ Some l → is_rule l ≡ false)) }
     {
-        self.table.rule(line)
+        let kept = self.table.rule(line);
+        match kept {
+            Some(rule) => Ok(Some(rule.in_text(&self.table.terms)?)),
+            None => Ok(None),
+        }
     }
 
     /// Whether the set of these versions obeys the line. A line without a rule is obeyed.
     pub fn keeps(&self, line: u32, set: &[VersionNo]) -> bool
         ensures { result ≡ keeps self.now line (members (listed self.now) set.now) }
     {
-        match self.rule(line) {
-            Some(rule) => obey::obeys(rule, self.versions(), set),
+        match self.table.rule(line) {
+            Some(rule) => obey::obeys_kept(rule, &self.table.terms, self.versions(), set),
             None => true,
         }
     }
@@ -180,7 +198,7 @@ impl Catalogue {
     pub fn cases(&self, alloc: Global, line: u32) -> Result<Vec<Vec<Spec>>, AllocError>
         ensures { IfOk result (λ v. cases_of v.items ≡ cases_of_line (line_at self.now line)) }
     {
-        match self.rule(line) {
+        match self.rule(line)? {
             Some(rule) => rule.cases(alloc),
             None => Ok(Vec::new(alloc)),
         }
@@ -208,7 +226,7 @@ impl Catalogue {
             IsTextFault IsCatalogueLine e (S.left source.old) (S.left source.new) 16777216
             (SourceFailed S.Source source.old source.new)) }
     {
-        let mut table = Table::new(alloc);
+        let mut table = Table::new(alloc)?;
         let mut reader = LineReader::new(alloc, MOST_BYTES)?;
         let mut number: u32 = 0;
         while reader.next_line(source)? {

@@ -5,7 +5,8 @@ ghost use Rattle.std.specs.Prelude.{◌≡◌, ◌++◌, ◌∷◌, [], length, 
 ghost use Rattle.resolvo_catalogue_core.specs.Held.{is_held, are_held, held_at, kind_in, kind_list, kind_at, rule_of};
 ghost use Rattle.resolvo_catalogue_core.specs.declared.line_table.LineKind.TheVariants as kind;
 
-use crate::rule::{Rule, VersionNo};
+use crate::kept_rule::KeptRule;
+use crate::rule::VersionNo;
 use std::alloc::{AllocError, Global};
 
 /// A parsed line.
@@ -16,7 +17,7 @@ pub enum LineKind {
     Favour(VersionNo),
     /// The package of this name may have several versions side by side.
     Many(String),
-    Rule(Rule),
+    Rule(KeptRule),
 }
 
 /// The stored form of a line: for a rule, its place among the rules, for a marked package that of
@@ -44,7 +45,7 @@ fn place_of(count: usize) -> Result<u32, AllocError>
 #[derive(Drop)]
 pub struct LineTable {
     held: Vec<StoredLine>,
-    rules: Vec<Rule>,
+    rules: Vec<KeptRule>,
     /// The names of the packages that are marked `many`.
     marked: Vec<String>,
     ghost in_range: { are_held (length rules.items) (length marked.items) held.items ≡ true },
@@ -96,7 +97,7 @@ impl LineTable {
         Ok(())
     }
 
-    fn push_rule(&mut self, rule: Rule) -> Result<(), AllocError>
+    fn push_rule(&mut self, rule: KeptRule) -> Result<(), AllocError>
         ensures { OnOk result
             (kind_list self.new.rules.items self.new.marked.items self.new.held.items
             ≡ kind_list self.old.rules.items self.old.marked.items self.old.held.items ++ kind.Rule rule
@@ -130,15 +131,15 @@ impl LineTable {
         self.held.get((line - 1) as usize)
     }
 
-    fn rule_at(&self, place: u32) -> Option<&Rule>
-        ensures { option_copied result ≡ slice_get self.now.rules.items place }
+    fn rule_at(&self, place: u32) -> Option<KeptRule>
+        ensures { result ≡ slice_get self.now.rules.items place }
     {
-        self.rules.get(place as usize)
+        self.rules.get(place as usize).copied()
     }
 
     /// The rule of the line of this number, if it has one. Lines are numbered from 1.
-    pub fn rule(&self, line: u32) -> Option<&Rule>
-        ensures { option_copied result
+    pub fn rule(&self, line: u32) -> Option<KeptRule>
+        ensures { result
             ≡ option_and_then rule_of
             (kind_at (kind_list self.now.rules.items self.now.marked.items self.now.held.items) line) }
     {

@@ -1,7 +1,9 @@
 //! The rule of a line of a catalogue or a request, with versions by their numbers.
-//! Made by the readers of `table` and `request`; read by all who ask for `rule`.
+//! Made by the reader of `request`, and of the rules that a catalogue keeps (`kept_rule`) for all who ask
+//! for `rule`.
 
-ghost use Rattle.std.specs.Prelude.{◌≡◌, Option, List, Some, IfOk};
+ghost use Rattle.std.specs.Prelude.{◌≡◌, Option, List, Some, IfOk, option_copied, option_map};
+ghost use Rattle.resolvo_catalogue_core.specs.Questions.{rule_found};
 ghost use Rattle.resolvo_text.specs.Line.{Version, Line};
 ghost use Rattle.resolvo_text.specs.View.{cases_of};
 
@@ -44,7 +46,6 @@ pub enum Rule {
 
 impl Rule {
     ghost use Rattle.resolvo_catalogue_core.specs.Questions.{IsRuleLine, cases_of_line};
-    ghost use Rattle.resolvo_catalogue_core.specs.Table.{is_lock_of_another};
 
     /// The cases of a need; another rule has none.
     pub fn cases(&self, alloc: Global) -> Result<Vec<Vec<Spec>>, AllocError>
@@ -66,13 +67,22 @@ impl Rule {
             _ => Ok(Vec::new(alloc)),
         }
     }
+}
 
-    pub(crate) fn is_lock_of_another(&self, version: VersionNo) -> bool
-        ensures { result ≡ is_lock_of_another self.now version.0 }
-    {
-        match self {
-            Rule::Lock { version: locked } => locked.0 != version.0,
-            _ => false,
-        }
+/// A rule of a line: lent by a request, or made of what a catalogue keeps.
+#[derive(Drop)]
+pub enum FoundRule<'a> {
+    Lent(&'a Rule),
+    Made(Rule),
+}
+
+/// The rule that was found, if one was.
+pub fn found<'a>(rule: &'a Option<FoundRule<'_>>) -> Option<&'a Rule>
+    ensures { option_copied result ≡ option_map rule_found rule.now }
+{
+    match rule {
+        None => None,
+        Some(FoundRule::Lent(rule)) => Some(rule),
+        Some(FoundRule::Made(rule)) => Some(rule),
     }
 }

@@ -2,7 +2,7 @@
 //! The model is the list of lines, `lines_in`; `IsTable` is the invariant that the maps agree with
 //! it. Used by `catalogue`.
 
-ghost use Rattle.std.specs.Prelude.{◌≡◌, ℕ, ◌+◌, ◌<◌, ◌==◌, [], if◌then◌else◌, not, option_map, option_and_then, option_copied, map, is_some, length, slice_get, Contains, IsTrue, OnOk, OnErr, IfOk, Err, Some, None, List, true, false};
+ghost use Rattle.std.specs.Prelude.{◌≡◌, ℕ, ◌+◌, ◌<◌, ◌==◌, [], if◌then◌else◌, not, option_map, option_and_then, option_copied, map, is_some, length, slice_get, Contains, IsTrue, OnOk, OnErr, IfOk, Err, Some, None, Option, List, true, false};
 ghost use Rattle.std.specs.BTreeMap.{get, get_by_text};
 ghost use Rattle.std.specs.Ordering.{nat_cmp};
 ghost use Rattle.std.specs.Option.{option_map_or};
@@ -10,6 +10,8 @@ ghost use Rattle.std.specs.String.{string_bytes};
 ghost use Rattle.resolvo_text.specs.Line as parsed;
 ghost use Rattle.resolvo_text.specs.View.{version_of, spec_of, specs_of, list_of, condition_of, view};
 ghost use Rattle.resolvo_text.specs.declared.line.LineFault.TheVariants.{Fault};
+ghost use Rattle.resolvo_text.specs.Parse.{words_in, needs_in, spec_in};
+ghost use Rattle.resolvo_terms.specs.Terms.{IsNeed, IsSpec};
 ghost use Rattle.resolvo_catalogue_core.specs.Grammar.{MayFollow, IsCatalogueLine, owner_below};
 ghost use Rattle.resolvo_catalogue_core.specs.Questions.{number_of, AreAll, IsOwner, IsOnly, LineIs, LocksAnother, Forbids};
 ghost use Rattle.resolvo_catalogue_core.specs.Listed.{version_by};
@@ -17,16 +19,25 @@ ghost use Rattle.resolvo_catalogue_core.specs.Picked.{IsPicked};
 ghost use Rattle.resolvo_catalogue_core.specs.Table.{number_in};
 ghost use Rattle.resolvo_catalogue_core.specs.Packages.{package_in};
 
+use crate::kept_rule::KeptRule;
 use crate::line_table::{LineKind, LineTable};
 use crate::lines_by_version::LinesByVersion;
 use crate::package_table::PackageTable;
-use crate::rule::{Rule, VersionNo};
+use crate::rule::VersionNo;
 use crate::versions::Versions;
-use resolvo_text::{Alternatives, Cond, Line, LineFault, Spec, Version, line_in, listed_in};
+use resolvo_pool_core::id::VersionSetId;
+use resolvo_pool_core::requirement::ConditionalRequirement;
+use resolvo_terms::{Room, Terms};
+use resolvo_text::{
+    Alternatives, Cond, Line, LineFault, Spec, Version, limits_words, line_in, listed_in,
+    needs_words,
+};
 use std::alloc::{AllocError, Global};
 use std::collections::{BTreeMap, BTreeSet};
 
 pub struct Table {
+    /// What the rules speak of, by numbers.
+    pub terms: Terms,
     pub versions: Versions,
     pub line_kinds: LineTable,
     pub packages: PackageTable,
@@ -49,6 +60,7 @@ pub struct Table {
 impl Drop for Table {
     fn drop(self) {
         let Table {
+            terms: _,
             versions: _,
             line_kinds: _,
             packages: _,
@@ -63,16 +75,28 @@ impl Drop for Table {
     }
 }
 
+/// Nothing is known of a text before it is read.
+const NO_ROOM: Room = Room {
+    version_sets: 0,
+    unions: 0,
+    conditions: 0,
+};
+
 impl Table {
     ghost use Rattle.resolvo_catalogue_core.specs.LinesByVersion.{kept_of};
-    ghost use Rattle.resolvo_catalogue_core.specs.Table.{IsTable, Adds, lines_in, versions_in, kinds_in, numbers_in, is_lock_of_another};
+    ghost use Rattle.resolvo_catalogue_core.specs.Table.{IsTable, Adds, HasFew, lines_in, versions_in, kinds_in, numbers_in};
+    ghost use Rattle.resolvo_catalogue_core.specs.Kept.{is_lock_of_another};
     ghost use Rattle.resolvo_catalogue_core.specs.Held.{kind_at, rule_of};
 
-    pub fn new(alloc: Global) -> Self
-        ensures table { IsTable result }
-        ensures empty { lines_in result ≡ [] }
+    pub fn new(alloc: Global) -> Result<Self, AllocError>
+        ensures table { IfOk result IsTable }
+        ensures empty { IfOk result (λ t. lines_in t ≡ []) }
+        ensures few { IfOk result HasFew }
     {
-        Table {
+        let terms = Terms::new(alloc, NO_ROOM)?;
+        terms.ids_are_once();
+        Ok(Table {
+            terms,
             versions: Versions::new(alloc),
             line_kinds: LineTable::new(alloc),
             packages: PackageTable::new(alloc),
@@ -83,7 +107,7 @@ impl Table {
             unknown: BTreeMap::new(alloc),
             owned: LinesByVersion::new(alloc),
             favours: Vec::new(alloc),
-        }
+        })
     }
 
     pub fn find(&self, name: &str, number: u32) -> Option<VersionNo>
@@ -127,9 +151,8 @@ impl Table {
         self.owned.lines_of(version)
     }
 
-    pub fn rule(&self, line: u32) -> Option<&Rule>
-        ensures { option_copied result
-            ≡ option_and_then rule_of (kind_at (kinds_in self.now) line) }
+    pub fn rule(&self, line: u32) -> Option<KeptRule>
+        ensures { result ≡ option_and_then rule_of (kind_at (kinds_in self.now) line) }
     {
         self.line_kinds.rule(line)
     }
@@ -296,6 +319,50 @@ impl Table {
         Ok(())
     }
 
+    /// Adds a line of this need, whatever the number stands for.
+    fn add_need(&mut self, line: u32, need: ConditionalRequirement) -> Result<(), LineFault>
+        requires table { IsTable self.old }
+        requires line { line ≡ length (lines_in self.old) + 1 }
+        requires short { line < 16777217 }
+        // After an answer.
+        ensures ok { OnOk result
+            ((written : List parsed.Spec × Option parsed.Cond)
+            → IsNeed self.old.terms need written
+            → Adds self.old (parsed.Needs written.0 written.1) self.new) }
+        ensures placed { OnOk result
+            ((v : parsed.Version) × (owner_below (lines_in self.old) ≡ Some v)) }
+        ensures terms { self.new.terms ≡ self.old.terms }
+        ensures fault { result ≡ Err Fault → owner_below (lines_in self.old) ≡ None }
+    {
+        let owner = self.owner()?;
+        self.owned.add_line(owner, line)?;
+        self.line_kinds
+            .push(LineKind::Rule(KeptRule::Needs { owner, need }))?;
+        Ok(())
+    }
+
+    /// Adds a line of this limit, whatever the number stands for.
+    fn add_limit(&mut self, line: u32, spec: VersionSetId) -> Result<(), LineFault>
+        requires table { IsTable self.old }
+        requires line { line ≡ length (lines_in self.old) + 1 }
+        requires short { line < 16777217 }
+        // After an answer.
+        ensures ok { OnOk result
+            ((s : parsed.Spec)
+            → IsSpec self.old.terms spec s
+            → Adds self.old (parsed.Limits s) self.new) }
+        ensures placed { OnOk result
+            ((v : parsed.Version) × (owner_below (lines_in self.old) ≡ Some v)) }
+        ensures terms { self.new.terms ≡ self.old.terms }
+        ensures fault { result ≡ Err Fault → owner_below (lines_in self.old) ≡ None }
+    {
+        let owner = self.owner()?;
+        self.owned.add_line(owner, line)?;
+        self.line_kinds
+            .push(LineKind::Rule(KeptRule::Limits { owner, spec }))?;
+        Ok(())
+    }
+
     fn need(
         &mut self,
         line: u32,
@@ -317,14 +384,11 @@ impl Table {
             (parsed.Needs (specs_of (list_of alternatives)) (condition_of condition))
             → ⊥ }
     {
-        let owner = self.owner()?;
-        self.owned.add_line(owner, line)?;
-        self.line_kinds.push(LineKind::Rule(Rule::Needs {
-            owner: Some(owner),
-            alternatives,
-            condition,
-        }))?;
-        Ok(())
+        let Ok(need) = self.terms.need(alternatives.as_slice(), condition.as_ref()) else {
+            return Err(LineFault::Memory);
+        };
+        self.terms.ids_are_once();
+        self.add_need(line, need)
     }
 
     fn limit(&mut self, line: u32, spec: Spec) -> Result<(), LineFault>
@@ -339,13 +403,11 @@ impl Table {
             → MayFollow (lines_in self.old) (parsed.Limits (spec_of spec))
             → ⊥ }
     {
-        let owner = self.owner()?;
-        self.owned.add_line(owner, line)?;
-        self.line_kinds.push(LineKind::Rule(Rule::Limits {
-            owner: Some(owner),
-            spec,
-        }))?;
-        Ok(())
+        let Ok(spec) = self.terms.spec(&spec) else {
+            return Err(LineFault::Memory);
+        };
+        self.terms.ids_are_once();
+        self.add_limit(line, spec)
     }
 
     fn mark_unknown(&mut self, line: u32, word: String) -> Result<(), LineFault>
@@ -364,10 +426,14 @@ impl Table {
         if self.is_unknown(version) {
             return Err(LineFault::Fault);
         }
+        let Ok(word) = self.terms.word(&word) else {
+            return Err(LineFault::Memory);
+        };
+        self.terms.ids_are_once();
         self.unknown.insert(version.0, line)?;
         self.owned.add_line(version, line)?;
         self.line_kinds
-            .push(LineKind::Rule(Rule::Unknown { version, word }))?;
+            .push(LineKind::Rule(KeptRule::Unknown { version, word }))?;
         Ok(())
     }
 
@@ -388,9 +454,13 @@ impl Table {
         if self.is_excluded(version) {
             return Err(LineFault::Fault);
         }
+        let Ok(word) = self.terms.word(&word) else {
+            return Err(LineFault::Memory);
+        };
+        self.terms.ids_are_once();
         self.excluded.insert(version.0, line)?;
         self.line_kinds
-            .push(LineKind::Rule(Rule::Exclude { version, word }))?;
+            .push(LineKind::Rule(KeptRule::Exclude { version, word }))?;
         Ok(())
     }
 
@@ -430,7 +500,7 @@ impl Table {
         }
         self.locks.insert(version.name, line)?;
         self.line_kinds
-            .push(LineKind::Rule(Rule::Lock { version: locked }))?;
+            .push(LineKind::Rule(KeptRule::Lock { version: locked }))?;
         Ok(())
     }
 
@@ -490,8 +560,50 @@ impl Table {
         }
     }
 
+    /// Reads the words after `needs`, and adds the line.
+    fn read_need(&mut self, line: u32, words: &[u8]) -> Result<(), LineFault>
+        requires table { IsTable self.old }
+        requires line { line ≡ length (lines_in self.old) + 1 }
+        requires short { line < 16777217 }
+        ensures ok { OnOk result
+            ((l : parsed.Line)
+            × (needs_in (words_in words.now) ≡ Some l)
+            × MayFollow (lines_in self.old) l
+            × Adds self.old l self.new) }
+        ensures fault { result ≡ Err Fault
+            → (l : parsed.Line)
+            → needs_in (words_in words.now) ≡ Some l
+            → MayFollow (lines_in self.old) l
+            → ⊥ }
+    {
+        let need = self.terms.need_in(words)?;
+        self.terms.ids_are_once();
+        self.add_need(line, need)
+    }
+
+    /// Reads the words after `limits`, and adds the line.
+    fn read_limit(&mut self, line: u32, words: &[u8]) -> Result<(), LineFault>
+        requires table { IsTable self.old }
+        requires line { line ≡ length (lines_in self.old) + 1 }
+        requires short { line < 16777217 }
+        ensures ok { OnOk result
+            ((s : parsed.Spec)
+            × (spec_in (words_in words.now) ≡ Some s)
+            × MayFollow (lines_in self.old) (parsed.Limits s)
+            × Adds self.old (parsed.Limits s) self.new) }
+        ensures fault { result ≡ Err Fault
+            → (s : parsed.Spec)
+            → spec_in (words_in words.now) ≡ Some s
+            → MayFollow (lines_in self.old) (parsed.Limits s)
+            → ⊥ }
+    {
+        let spec = self.terms.spec_in(words)?;
+        self.terms.ids_are_once();
+        self.add_limit(line, spec)
+    }
+
     /// Parses the text of a line, and adds the line. A line `version` takes no memory for its name,
-    /// unless its package is new.
+    /// unless its package is new; a need or a limit takes none for a name that is known.
     pub fn read_line(&mut self, alloc: Global, number: u32, text: &[u8]) -> Result<(), LineFault>
         requires table { IsTable self.old }
         requires number { number ≡ length (lines_in self.old) + 1 }
@@ -507,6 +619,12 @@ impl Table {
     {
         if let Some((name, version)) = listed_in(text) {
             return self.list(alloc, name, version);
+        }
+        if let Some(words) = needs_words(text) {
+            return self.read_need(number, words);
+        }
+        if let Some(words) = limits_words(text) {
+            return self.read_limit(number, words);
         }
         let line = line_in(alloc, text)?;
         self.add(alloc, number, line)

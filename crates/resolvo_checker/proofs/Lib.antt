@@ -12,6 +12,7 @@ pub mod NameLemmas
 pub mod BuiltLemmas
 pub mod RuleLineLemmas
 pub mod StepLines
+pub mod KeptRules
 pub mod StepKeyLemmas
 pub mod CheckLemmas
 pub mod WholeProofs

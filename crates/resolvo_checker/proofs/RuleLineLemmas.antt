@@ -12,7 +12,7 @@ use Rattle.resolvo_catalogue_core.specs.declared.rule.Rule.TheVariants as rule
 use Rattle.resolvo_report.specs.Value.{OfVersion}
 use Rattle.resolvo_checker.specs.StepClauses.{is_owner, place_fails, membership}
 use Rattle.resolvo_checker.specs.Built.{somes}
-use Rattle.resolvo_checker.specs.RuleLines.{line_of_rule, rule_line, is_owned, owned_line, owner_in, owner_literals, is_owner_at, is_owned_by, IsValid}
+use Rattle.resolvo_checker.specs.RuleLines.{line_of_rule, rule_line, is_owned, owned_line, owner_in, owner_literals, is_owner_at, is_owned_by}
 use Rattle.resolvo_checker.proofs.Sets.{same_is}
 
 -- a line without a rule
@@ -39,14 +39,6 @@ none_owned (Some l) h = ap (λ b. cond b (Some l) None) (no_rule_owned l (h l re
 pub none_owned_by : (b : Bool) (o : Option Line) → ((l : Line) → o ≡ Some l → is_rule l ≡ false) → owned_line (cond b o None) ≡ None
 none_owned_by true o h = none_owned o h
 none_owned_by false o h = refl
-
--- the line that a rule encodes
-pub rule_encodes : (vs : List Version) (r : Rule) (owner : Option Version) (l : Line) → IsRuleLine vs r owner l → rule_line (Some l) ≡ line_of_rule vs r
-rule_encodes vs (rule.Needs of a c) owner l s = ap (λ x. rule_line (Some x)) s.0
-rule_encodes vs (rule.Limits of x) owner l s = ap (λ x. rule_line (Some x)) s.0
-rule_encodes vs (rule.Unknown of w) owner l s = ap (λ x. rule_line (Some x)) s.0
-rule_encodes vs (rule.Lock n) owner l s = ap (λ x. rule_line (Some x)) s.2 ∙ sym (ap (option_map Lock) s.1)
-rule_encodes vs (rule.Exclude n w) owner l s = ap (λ x. rule_line (Some x)) s.2 ∙ sym (ap (option_map (λ v. Exclude v _)) s.1)
 
 -- a rule of a request has no owner
 pub request_rule_encodes : (vs : List Version) (r : Rule) (l : Line) → ((versions : List Version) → IsRuleLine versions r None l) → owned_line (Some l) ≡ line_of_rule vs r
@@ -102,11 +94,3 @@ owned_literals vs (rule.Limits of x) v h = owner_literal vs of v h
 owned_literals vs (rule.Unknown of w) v h = absurd (false≢true h)
 owned_literals vs (rule.Lock n) v h = absurd (false≢true h)
 owned_literals vs (rule.Exclude n w) v h = absurd (false≢true h)
-
--- an excluded version is listed
-pub valid : (vs : List Version) (r : Rule) (owner : Option Version) (l : Line) → IsRuleLine vs r owner l → IsValid vs owner r
-valid vs (rule.Unknown of w) owner l s = s.1
-valid vs (rule.Exclude n w) owner l s = (s.0, s.1)
-valid vs (rule.Needs of a c) owner l s = tt
-valid vs (rule.Limits of x) owner l s = tt
-valid vs (rule.Lock k) owner l s = tt

@@ -1,8 +1,8 @@
 -- The clauses of steps, by the rules of their lines.
-use Rattle.std.proofs.Common.{◌≡◌, ℕ, zero, suc, Bool, true, false, List, [], ◌∷◌, Option, Some, None, refl, sym, ap, subst, ◌∙◌, cond, inl, inr, Bor, IfSome}
+use Rattle.std.proofs.Common.{◌≡◌, ℕ, zero, suc, Bool, true, false, List, [], ◌∷◌, Option, Some, None, refl, sym, ap, subst, ◌∙◌, cond, inl, inr, IfSome}
 use Rattle.std.specs.Prelude.{slice_get, ◌||◌}
 use Rattle.std.specs.Global.{Vec}
-use Rattle.std.specs.Option.{option_map, option_copied}
+use Rattle.std.specs.Option.{option_map, option_and_then}
 use Rattle.std.proofs.lemmas.Bool.{false≢true, cases_Bool, or_left, or_right}
 use Rattle.std.proofs.lemmas.Option.{slice_get-map}
 use Rattle.resolvo_text.specs.Line.{Version, Cond, Line, Skipped, Listed, Needs, Limits, Unknown, Lock, Favour, Exclude, Many, Wish}
@@ -10,10 +10,12 @@ use Rattle.resolvo_text.specs.Matches.{same_version, is_member}
 use Rattle.resolvo_text.specs.Cases.{cases}
 use Rattle.resolvo_text.specs.View.{specs_of, cases_of}
 use Rattle.resolvo_text.specs.declared.spec.Spec as code
-use Rattle.resolvo_catalogue_core.specs.Questions.{is_rule}
+use Rattle.resolvo_catalogue_core.specs.Questions.{is_rule, rule_found}
+use Rattle.resolvo_catalogue_core.specs.declared.rule.Rule.{Rule}
+use Rattle.resolvo_catalogue_core.specs.declared.rule.FoundRule.{FoundRule}
 use Rattle.resolvo_report.specs.Value.{Place}
 use Rattle.resolvo_checker.specs.StepClauses.{Clause, case_at, need_clause, gate_clause, limit_bars_clause, limit_clause, lock_clause, exclude_clause, unknown_clause}
-use Rattle.resolvo_checker.specs.RuleLines.{rule_line, is_owned, owned_line}
+use Rattle.resolvo_checker.specs.RuleLines.{line_of_rule, rule_line, is_owned, owned_line}
 use Rattle.resolvo_checker.proofs.Sets.{same_own, same_is}
 
 -- ---- lines without such a rule give no clause
@@ -130,11 +132,20 @@ unknown_rule o l = by_rule (unknown_clause o) other l where
   other (Exclude w r) h = refl
   other (Wish w) h = refl
 
--- ---- properties of a borrowed value are those of the value
+-- ---- a rule that is lent is the one that was made or found
 
-pub if_copied : {X : Type 0} (P : X → Type 0) (o : Option (Bor X)) → IfSome o (λ r. P r.now) → IfSome (option_copied o) P
-if_copied P None h = h
-if_copied P (Some r) h = h
+pub if_lent : {X : Type 0} (P : X → Type 0) (lent made : Option X) → lent ≡ made → IfSome made P → IfSome lent P
+if_lent {X = X} P lent made same h = subst (λ (o : Option X). IfSome o P) (sym same) h
+
+pub if_found : (P : Rule → Type 0) (rule : Option FoundRule) (lent : Option Rule) → lent ≡ option_map rule_found rule → IfSome rule (λ r. P (rule_found r)) → IfSome lent P
+if_found P rule lent same h = if_lent P lent (option_map rule_found rule) same (within rule h) where
+  within : (o : Option FoundRule) → IfSome o (λ r. P (rule_found r)) → IfSome (option_map rule_found o) P
+  within None k = k
+  within (Some r) k = k
+
+-- the line of a rule that is lent
+pub line_lent : (vs : List Version) (lent made : Option Rule) (l : Option Line) → lent ≡ made → l ≡ option_and_then (line_of_rule vs) made → option_and_then (line_of_rule vs) lent ≡ l
+line_lent vs lent made l same e = ap (option_and_then (line_of_rule vs)) same ∙ sym e
 
 -- ---- versions by their numbers
 

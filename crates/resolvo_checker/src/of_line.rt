@@ -1,6 +1,7 @@
 //! The rule of the line that a step names.
 
-ghost use Rattle.std.specs.Prelude.{◌≡◌, IfSome, None, List, slice_get};
+ghost use Rattle.std.specs.Prelude.{◌≡◌, IfOk, IfSome, None, List, option_map, slice_get};
+ghost use Rattle.resolvo_catalogue_core.specs.Questions.{rule_found};
 ghost use Rattle.resolvo_text.specs.Matches.{same_version};
 ghost use Rattle.std.specs.Option.{option_and_then, option_copied};
 ghost use Rattle.resolvo_text.specs.Line as spelled;
@@ -9,27 +10,33 @@ ghost use Rattle.resolvo_catalogue_core.specs.Grammar.{line_at, owner_of};
 ghost use Rattle.resolvo_catalogue_core.specs.Listed.{listed, version_by};
 ghost use Rattle.resolvo_report.specs.View.{place_of};
 ghost use Rattle.resolvo_report.specs.Value.{OfVersion};
+ghost use Rattle.resolvo_terms.specs.Terms.{Terms};
 ghost use Rattle.resolvo_checker.specs.StepClauses.{line_of, place_fails, is_owner};
 ghost use Rattle.resolvo_checker.specs.Built.{somes};
-ghost use Rattle.resolvo_checker.specs.RuleLines.{line_of_rule, rule_line, owned_line, owner_in, owner_literals, is_owned_by, IsValid};
+ghost use Rattle.resolvo_checker.specs.RuleLines.{line_of_rule, rule_line, line_of_kept, owned_line, need_line, line_of_need, need_kept as need_kept_lem, owner_in, owner_literals, is_owned_by, IsValid};
 
-use resolvo_catalogue_core::{Catalogue, Request, Rule, Version, VersionNo, Versions};
+use resolvo_catalogue_core::{
+    Catalogue, FoundRule, KeptLines, KeptRule, Request, Rule, Version, VersionNo, Versions,
+};
+use resolvo_pool_core::requirement::ConditionalRequirement;
 use resolvo_report::Place;
+use std::alloc::AllocError;
 
-/// The rule of a line of the catalogue, if it has one.
-pub fn rule_of(catalogue: &Catalogue, line: u32) -> Option<&Rule>
-    ensures from_line { rule_line (line_at catalogue.now line)
-        ≡ option_and_then (line_of_rule (listed catalogue.now)) (option_copied result) }
-    ensures valid { IfSome result (λ r. IsValid (listed catalogue.now) (owner_of catalogue.now line) r.now) }
+/// The rule of a line of the catalogue as it is kept, if it has one. No text is made of it.
+pub fn rule_of(catalogue: &Catalogue, line: u32) -> Option<KeptRule>
+    ensures from_line { (t : Terms)
+        × (rule_line (line_at catalogue.now line)
+        ≡ option_and_then (line_of_kept t (listed catalogue.now)) result) }
+    ensures valid { IfSome result (IsValid (listed catalogue.now) (owner_of catalogue.now line)) }
 {
-    match catalogue.rule(line) {
+    match catalogue.kept().rule(line) {
         Some(rule) => Some(rule),
         None => None,
     }
 }
 
 /// The rule of a `needs` or `limits` line of the request.
-fn rule_asked(request: &Request, line: u32) -> Option<&Rule>
+pub fn rule_asked(request: &Request, line: u32) -> Option<&Rule>
     ensures from_line { (vs : List spelled.Version)
         → owned_line (line_at request.now.lines line)
         ≡ option_and_then (line_of_rule vs) (option_copied result) }
@@ -74,44 +81,101 @@ fn is_owned(versions: &Versions, rule: &Rule, version: &Version) -> bool
     }
 }
 
-/// The rule of a `needs` or `limits` line of the version in the catalogue.
-pub fn rule_owned<'a>(catalogue: &'a Catalogue, version: &Version, line: u32) -> Option<&'a Rule>
-    ensures from_line { (request : List spelled.Line)
-        → owned_line (line_of catalogue.now request (OfVersion (version_of version.now)) line)
-        ≡ option_and_then (line_of_rule (listed catalogue.now)) (option_copied result) }
-    ensures owner { IfSome result
-        (λ r.
-        owner_literals (listed catalogue.now) (owner_in r.now)
-        ≡ somes (place_fails (OfVersion (version_of version.now)))) }
+/// The need that a rule is, if it is one of the version.
+fn need_kept(
+    versions: &Versions,
+    rule: KeptRule,
+    version: &Version,
+) -> Option<ConditionalRequirement>
+    ensures { result ≡ need_kept_lem versions.now rule (version_of version.now) }
 {
-    match catalogue.rule(line) {
-        Some(rule) => {
-            if is_owned(catalogue.versions(), rule, version) {
-                Some(rule)
+    match rule {
+        KeptRule::Needs { owner, need } => {
+            if is_numbered(versions, owner, version) {
+                Some(need)
             } else {
                 None
             }
         }
+        _ => None,
+    }
+}
+
+/// The need of a line of the version in the catalogue, by numbers. No text is made of the line.
+pub fn need_of(
+    kept: &KeptLines<'_>,
+    versions: &Versions,
+    version: &Version,
+    line: u32,
+) -> Option<ConditionalRequirement>
+    ensures { (catalogue request : List spelled.Line)
+        → kept.now.lines ≡ catalogue
+        → versions.now ≡ listed catalogue
+        → need_line (line_of catalogue request (OfVersion (version_of version.now)) line)
+        ≡ option_map (line_of_need kept.now.terms) result }
+{
+    match kept.rule(line) {
+        Some(rule) => need_kept(versions, rule, version),
         None => None,
+    }
+}
+
+/// The rule of a `needs` or `limits` line of the version in the catalogue.
+pub fn rule_owned(
+    catalogue: &Catalogue,
+    version: &Version,
+    line: u32,
+) -> Result<Option<Rule>, AllocError>
+    ensures from_line { IfOk result
+        (λ found.
+        (request : List spelled.Line)
+        → owned_line (line_of catalogue.now request (OfVersion (version_of version.now)) line)
+        ≡ option_and_then (line_of_rule (listed catalogue.now)) found) }
+    ensures owner { IfOk result
+        (λ found.
+        IfSome found
+        (λ r.
+        owner_literals (listed catalogue.now) (owner_in r)
+        ≡ somes (place_fails (OfVersion (version_of version.now))))) }
+{
+    match catalogue.rule(line)? {
+        Some(rule) => {
+            if is_owned(catalogue.versions(), &rule, version) {
+                Ok(Some(rule))
+            } else {
+                Ok(None)
+            }
+        }
+        None => Ok(None),
     }
 }
 
 /// The rule of a `needs` or `limits` line of the place.
 pub fn rule_at<'a>(
-    catalogue: &'a Catalogue,
+    catalogue: &Catalogue,
     request: &'a Request,
     place: &Place,
     line: u32,
-) -> Option<&'a Rule>
-    ensures from_line { owned_line (line_of catalogue.now request.now.lines (place_of place.now) line)
-        ≡ option_and_then (line_of_rule (listed catalogue.now)) (option_copied result) }
-    ensures owner { IfSome result
+) -> Result<Option<FoundRule<'a>>, AllocError>
+    ensures from_line { IfOk result
+        (λ rule.
+        owned_line (line_of catalogue.now request.now.lines (place_of place.now) line)
+        ≡ option_and_then (line_of_rule (listed catalogue.now)) (option_map rule_found rule)) }
+    ensures owner { IfOk result
+        (λ rule.
+        IfSome rule
         (λ r.
-        owner_literals (listed catalogue.now) (owner_in r.now)
-        ≡ somes (place_fails (place_of place.now))) }
+        owner_literals (listed catalogue.now) (owner_in (rule_found r))
+        ≡ somes (place_fails (place_of place.now)))) }
 {
     match place {
-        Place::Request => rule_asked(request, line),
-        Place::Version(version) => rule_owned(catalogue, version, line),
+        Place::Request => match rule_asked(request, line) {
+            Some(rule) => Ok(Some(FoundRule::Lent(rule))),
+            None => Ok(None),
+        },
+        Place::Version(version) => match rule_owned(catalogue, version, line)? {
+            Some(rule) => Ok(Some(FoundRule::Made(rule))),
+            None => Ok(None),
+        },
     }
 }

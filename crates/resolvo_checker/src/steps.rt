@@ -12,17 +12,21 @@ ghost use Rattle.resolvo_report.specs.View.{place_of, step_of};
 ghost use Rattle.resolvo_checker.specs.StepClauses.{is_listed, is_outside as is_outside_lem, is_locked_out as is_locked_out_lem, place_fails, case_fails, some_match, case_at as case_at_lem, line_of, need_clause, gate_clause, limit_bars_clause, limit_clause, lock_clause, exclude_clause, unknown_clause, shared_clause, outside_clause, matches_clause, digit_clause, any_clause, clause_of as clause_of_lem};
 ghost use Rattle.resolvo_checker.specs.Kept.{is_long};
 ghost use Rattle.resolvo_checker.specs.Built.{literals_in, member_of, somes, seen, rule_clause_of};
-ghost use Rattle.resolvo_checker.specs.RuleLines.{line_of_rule, owner_in, owner_literals, IsValid};
+ghost use Rattle.resolvo_checker.specs.RuleLines.{line_of_rule, line_of_kept, owner_in, owner_literals, IsValid};
+ghost use Rattle.resolvo_terms.specs.Terms.{Terms as TermsValue};
+ghost use Rattle.resolvo_terms.specs.Known.{cond_at};
 
 use crate::clause_parts::{
     Clause, push_any, push_bit, push_case, push_match, push_matches, push_outside, push_shared,
     push_version,
 };
-use crate::of_line::{rule_at, rule_of, rule_owned};
+use crate::of_line::{need_of, rule_asked, rule_at, rule_of, rule_owned};
 use resolvo_catalogue_core::{
-    Catalogue, Cond, Request, Rule, Spec, Version, VersionNo, Versions, is_in_span,
+    Catalogue, Cond, KeptRule, Request, Rule, Spec, Version, VersionNo, Versions, found, is_in_span,
 };
+use resolvo_pool_core::requirement::ConditionalRequirement;
 use resolvo_report::{Place, Step};
+use resolvo_terms::Terms;
 use resolvo_text::{cases_in, matches};
 use std::alloc::{AllocError, Global};
 
@@ -267,23 +271,23 @@ fn limit_bars_in(
 fn lock_in(
     alloc: Global,
     catalogue: &Catalogue,
-    rule: Option<&Rule>,
+    rule: Option<KeptRule>,
     version: &Version,
 ) -> Result<Option<Clause>, AllocError>
-    ensures { IfOk result
+    ensures { (t : TermsValue)
+        → IfOk result
         (λ o.
         seen (listed catalogue.now) o
         ≡ option_map somes
         (lock_clause catalogue.now (version_of version.now)
-        (option_and_then (line_of_rule (listed catalogue.now))
-        (option_copied rule.entry)))) }
+        (option_and_then (line_of_kept t (listed catalogue.now)) rule))) }
 {
     let Some(number) = number_of(catalogue, version) else {
         return Ok(None);
     };
     match rule {
-        Some(Rule::Lock { version: locked }) => {
-            if !is_locked_out(catalogue.versions(), *locked, version) {
+        Some(KeptRule::Lock { version: locked }) => {
+            if !is_locked_out(catalogue.versions(), locked, version) {
                 return Ok(None);
             }
             Ok(Some(absent(alloc, number)?))
@@ -295,20 +299,18 @@ fn lock_in(
 fn exclude_in(
     alloc: Global,
     catalogue: &Catalogue,
-    rule: Option<&Rule>,
+    rule: Option<KeptRule>,
 ) -> Result<Option<Clause>, AllocError>
-    ensures { (owner : Option spelled.Version)
-        → IfSome (option_copied rule.entry) (IsValid (listed catalogue.now) owner)
+    ensures { (t : TermsValue) (owner : Option spelled.Version)
+        → IfSome rule (IsValid (listed catalogue.now) owner)
         → IfOk result
         (λ o.
         seen (listed catalogue.now) o
         ≡ option_map somes
-        (exclude_clause
-        (option_and_then (line_of_rule (listed catalogue.now))
-        (option_copied rule.entry)))) }
+        (exclude_clause (option_and_then (line_of_kept t (listed catalogue.now)) rule))) }
 {
     match rule {
-        Some(Rule::Exclude { version, .. }) => Ok(Some(absent(alloc, *version)?)),
+        Some(KeptRule::Exclude { version, .. }) => Ok(Some(absent(alloc, version)?)),
         _ => Ok(None),
     }
 }
@@ -316,20 +318,18 @@ fn exclude_in(
 fn unknown_in(
     alloc: Global,
     catalogue: &Catalogue,
-    rule: Option<&Rule>,
+    rule: Option<KeptRule>,
 ) -> Result<Option<Clause>, AllocError>
-    ensures { (owner : Option spelled.Version)
-        → IfSome (option_copied rule.entry) (IsValid (listed catalogue.now) owner)
+    ensures { (t : TermsValue) (owner : Option spelled.Version)
+        → IfSome rule (IsValid (listed catalogue.now) owner)
         → IfOk result
         (λ o.
         seen (listed catalogue.now) o
         ≡ option_map somes
-        (unknown_clause owner
-        (option_and_then (line_of_rule (listed catalogue.now))
-        (option_copied rule.entry)))) }
+        (unknown_clause owner (option_and_then (line_of_kept t (listed catalogue.now)) rule))) }
 {
     match rule {
-        Some(Rule::Unknown { version, .. }) => Ok(Some(absent(alloc, *version)?)),
+        Some(KeptRule::Unknown { version, .. }) => Ok(Some(absent(alloc, version)?)),
         _ => Ok(None),
     }
 }
@@ -460,8 +460,8 @@ fn need_at(
         (need_clause catalogue.now (place_of place.now) case
         (line_of catalogue.now request.now.lines (place_of place.now) line))) }
 {
-    let rule = rule_at(catalogue, request, place, line);
-    need_in(alloc, catalogue, rule, case)
+    let rule = rule_at(catalogue, request, place, line)?;
+    need_in(alloc, catalogue, found(&rule), case)
 }
 
 fn gate_at(
@@ -478,8 +478,8 @@ fn gate_at(
         (gate_clause (version_of version.now)
         (line_of catalogue.now request (OfVersion (version_of version.now)) line))) }
 {
-    let rule = rule_owned(catalogue, version, line);
-    gate_in(alloc, catalogue, rule)
+    let rule = rule_owned(catalogue, version, line)?;
+    gate_in(alloc, catalogue, rule.as_ref())
 }
 
 fn limit_at(
@@ -496,8 +496,8 @@ fn limit_at(
         (limit_clause (place_of place.now)
         (line_of catalogue.now request.now.lines (place_of place.now) line))) }
 {
-    let rule = rule_at(catalogue, request, place, line);
-    limit_in(alloc, catalogue, rule)
+    let rule = rule_at(catalogue, request, place, line)?;
+    limit_in(alloc, catalogue, found(&rule))
 }
 
 fn limit_bars_at(
@@ -515,8 +515,8 @@ fn limit_bars_at(
         (limit_bars_clause catalogue.now (place_of place.now) (version_of version.now)
         (line_of catalogue.now request.now.lines (place_of place.now) line))) }
 {
-    let rule = rule_at(catalogue, request, place, line);
-    limit_bars_in(alloc, catalogue, rule, version)
+    let rule = rule_at(catalogue, request, place, line)?;
+    limit_bars_in(alloc, catalogue, found(&rule), version)
 }
 
 fn lock_at(
@@ -531,8 +531,7 @@ fn lock_at(
         ≡ option_map somes
         (lock_clause catalogue.now (version_of version.now) (line_at catalogue.now line))) }
 {
-    let rule = rule_of(catalogue, line);
-    lock_in(alloc, catalogue, rule, version)
+    lock_in(alloc, catalogue, rule_of(catalogue, line), version)
 }
 
 fn exclude_at(alloc: Global, catalogue: &Catalogue, line: u32) -> Result<Option<Clause>, AllocError>
@@ -541,8 +540,7 @@ fn exclude_at(alloc: Global, catalogue: &Catalogue, line: u32) -> Result<Option<
         seen (listed catalogue.now) o
         ≡ option_map somes (exclude_clause (line_at catalogue.now line))) }
 {
-    let rule = rule_of(catalogue, line);
-    exclude_in(alloc, catalogue, rule)
+    exclude_in(alloc, catalogue, rule_of(catalogue, line))
 }
 
 fn unknown_at(alloc: Global, catalogue: &Catalogue, line: u32) -> Result<Option<Clause>, AllocError>
@@ -552,8 +550,7 @@ fn unknown_at(alloc: Global, catalogue: &Catalogue, line: u32) -> Result<Option<
         ≡ option_map somes
         (unknown_clause (owner_of catalogue.now line) (line_at catalogue.now line))) }
 {
-    let rule = rule_of(catalogue, line);
-    unknown_in(alloc, catalogue, rule)
+    unknown_in(alloc, catalogue, rule_of(catalogue, line))
 }
 
 /// The clause of a rule step, if the step fits its line. A derived step has none here.
@@ -611,6 +608,66 @@ fn has_case(alloc: Global, rule: Option<&Rule>, case: u32) -> Result<bool, Alloc
     }
 }
 
+/// Whether the condition of a need has the case of this number, from 1.
+fn has_need_case(
+    alloc: Global,
+    terms: &Terms,
+    need: ConditionalRequirement,
+    case: u32,
+) -> Result<bool, AllocError>
+    ensures { IfOk result
+        (λ fine. fine ≡ is_some (case_at_lem (option_map (cond_at terms.now) need.condition) case)) }
+{
+    let condition = terms.condition_of(need.condition)?;
+    Ok(case_at(alloc, &condition, case)?.is_some())
+}
+
+/// Whether the line of the version in the catalogue is a need with the case of this number, from 1.
+/// No text is made of its alternatives.
+fn has_kept_case(
+    alloc: Global,
+    catalogue: &Catalogue,
+    version: &Version,
+    line: u32,
+    case: u32,
+) -> Result<bool, AllocError>
+    ensures { (request : List spelled.Line)
+        → IfOk result
+        (λ fine.
+        fine
+        ≡ is_some
+        (need_clause catalogue.now (OfVersion (version_of version.now)) case
+        (line_of catalogue.now request (OfVersion (version_of version.now)) line))) }
+{
+    let kept = catalogue.kept();
+    match need_of(&kept, catalogue.versions(), version, line) {
+        Some(need) => has_need_case(alloc, kept.terms(), need, case),
+        None => Ok(false),
+    }
+}
+
+/// Whether the line of the place is a need with the case of this number, from 1.
+fn has_need(
+    alloc: Global,
+    catalogue: &Catalogue,
+    request: &Request,
+    place: &Place,
+    line: u32,
+    case: u32,
+) -> Result<bool, AllocError>
+    ensures { IfOk result
+        (λ fine.
+        fine
+        ≡ is_some
+        (need_clause catalogue.now (place_of place.now) case
+        (line_of catalogue.now request.now.lines (place_of place.now) line))) }
+{
+    match place {
+        Place::Request => has_case(alloc, rule_asked(request, line), case),
+        Place::Version(version) => has_kept_case(alloc, catalogue, version, line, case),
+    }
+}
+
 /// Whether a long step has a clause. None is built.
 pub fn has_clause(
     alloc: Global,
@@ -625,8 +682,7 @@ pub fn has_clause(
 {
     match step {
         Step::Need { place, line, case } => {
-            let rule = rule_at(catalogue, request, place, *line);
-            has_case(alloc, rule, *case)
+            has_need(alloc, catalogue, request, place, *line, *case)
         }
         _ => Ok(true),
     }

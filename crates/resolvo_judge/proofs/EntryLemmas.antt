@@ -2,12 +2,15 @@
 use Rattle.std.proofs.Common.{◌≡◌, ℕ, zero, suc, ◌+◌, ◌<◌, Bool, true, false, not, ◌&&◌, ◌||◌, List, [], ◌∷◌, ◌++◌, map, length, Option, Some, None, is_some, if◌then◌else◌, ◌==◌, refl, sym, ap, subst, ◌∙◌, arith}
 use Rattle.std.specs.Prelude.{nat_lt, nat_eq, slice_get}
 use Rattle.std.specs.List.{list_any, list_all}
+use Rattle.std.specs.Option.{option_map}
 use Rattle.std.proofs.lemmas.List.{append-nil}
 use Rattle.std.proofs.lemmas.List.Concat.{flat_map-append}
 use Rattle.std.proofs.lemmas.Bool.{and_parts, or_left, or_right, lt-ltb, ltb-true}
 use Rattle.std.proofs.lemmas.Option.{same_Some}
 use Rattle.resolvo_text.specs.Line.{Version, Line, Skipped, Listed, Needs, Limits, Unknown, Lock, Favour, Exclude, Many, Wish}
-use Rattle.resolvo_checker.specs.RuleLines.{owned_line}
+use Rattle.resolvo_checker.specs.RuleLines.{owned_line, need_line, line_of_need}
+use Rattle.resolvo_pool_core.specs.declared.requirement.ConditionalRequirement.{ConditionalRequirement}
+use Rattle.resolvo_terms.specs.Terms.{Terms}
 use Rattle.resolvo_catalogue_core.specs.Questions.{wished_in}
 use Rattle.resolvo_text.specs.Matches.{Set, same_version, is_member}
 use Rattle.resolvo_report.specs.Value.{AnswerLine, Entry, Wished, LeftOut}
@@ -166,6 +169,26 @@ gives_owned (Some (Favour w)) entries v = refl
 gives_owned (Some (Many name)) entries v = refl
 gives_owned (Some (Exclude w r)) entries v = refl
 gives_owned (Some (Wish w)) entries v = refl
+
+gives_needed : (o : Option Line) (entries : Set) (v : Version) → gives (need_line o) entries v ≡ gives o entries v
+gives_needed None entries v = refl
+gives_needed (Some Skipped) entries v = refl
+gives_needed (Some (Listed w)) entries v = refl
+gives_needed (Some (Needs ss c)) entries v = refl
+gives_needed (Some (Limits s)) entries v = refl
+gives_needed (Some (Unknown r)) entries v = refl
+gives_needed (Some (Lock w)) entries v = refl
+gives_needed (Some (Favour w)) entries v = refl
+gives_needed (Some (Many name)) entries v = refl
+gives_needed (Some (Exclude w r)) entries v = refl
+gives_needed (Some (Wish w)) entries v = refl
+
+-- a line of which a need is kept by numbers, and one of which none is
+pub gives_kept : (o : Option Line) (t : Terms) (need : Option ConditionalRequirement) (n : ConditionalRequirement) (entries : Set) (v : Version) → need_line o ≡ option_map (line_of_need t) need → need ≡ Some n → gives (Some (line_of_need t n)) entries v ≡ gives o entries v
+gives_kept o t need n entries v e is = ap (λ (x : Option Line). gives x entries v) (sym (e ∙ ap (λ (x : Option ConditionalRequirement). option_map (line_of_need t) x) is)) ∙ gives_needed o entries v
+
+pub gives_none : (o : Option Line) (t : Terms) (need : Option ConditionalRequirement) (entries : Set) (v : Version) → need_line o ≡ option_map (line_of_need t) need → need ≡ None → false ≡ gives o entries v
+gives_none o t need entries v e is = ap (λ (x : Option Line). gives x entries v) (sym (e ∙ ap (λ (x : Option ConditionalRequirement). option_map (line_of_need t) x) is)) ∙ gives_needed o entries v
 
 -- an element that passes at a place passes
 pub any_at : {X : Type 0} (p : X → Bool) (xs : List X) (i : ℕ) (x : X) → slice_get xs i ≡ Some x → p x ≡ true → list_any p xs ≡ true

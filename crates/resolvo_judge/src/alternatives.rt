@@ -2,8 +2,11 @@
 //! a long line. It is only a hint: no answer depends on it.
 
 use resolvo_catalogue_core::{Catalogue, Request, Rule, Span, Spec, Version};
-use resolvo_checker::of_line::rule_at;
+use resolvo_checker::of_line::{need_of, rule_asked};
+use resolvo_pool_core::id::VersionSetId;
+use resolvo_pool_core::requirement::Requirement;
 use resolvo_report::{AnswerLine, Place};
+use resolvo_terms::Terms;
 use std::alloc::{AllocError, Global};
 use std::collections::BTreeMap;
 use std::ops::Bound;
@@ -63,19 +66,20 @@ fn add_first(
 fn add_place(
     alloc: Global,
     packages: &mut AlternativesByPackage,
-    spec: &Spec,
+    name: &str,
+    span: Span,
     place: usize,
 ) -> Result<(), AllocError> {
-    let Some((first, last)) = ends_of(spec.span) else {
+    let Some((first, last)) = ends_of(span) else {
         return Ok(());
     };
     let alternative = Alternative { place, last };
-    if let Some(numbers) = packages.get_mut(spec.name.as_str()) {
+    if let Some(numbers) = packages.get_mut(name) {
         return add_first(numbers, first, alternative);
     }
     let mut numbers = BTreeMap::new(alloc);
     numbers.insert(first, alternative)?;
-    packages.insert(spec.name.clone()?, numbers)?;
+    packages.insert(String::from_str(alloc, name)?, numbers)?;
     Ok(())
 }
 
@@ -91,14 +95,36 @@ fn keep_last(numbers: &mut BTreeMap<u32, Alternative>) {
     }
 }
 
-fn packages_of(alloc: Global, alternatives: &[Spec]) -> Result<AlternativesByPackage, AllocError> {
-    let mut packages = BTreeMap::new(alloc);
-    for place in 0..alternatives.len() {
-        add_place(alloc, &mut packages, &alternatives[place], place)?;
-    }
+fn keep_last_of_all(packages: &mut AlternativesByPackage) {
     for numbers in packages.values_mut() {
         keep_last(numbers);
     }
+}
+
+/// The table of a line of the request.
+fn packages_of(alloc: Global, alternatives: &[Spec]) -> Result<AlternativesByPackage, AllocError> {
+    let mut packages = BTreeMap::new(alloc);
+    for place in 0..alternatives.len() {
+        let spec = &alternatives[place];
+        add_place(alloc, &mut packages, spec.name.as_str(), spec.span, place)?;
+    }
+    keep_last_of_all(&mut packages);
+    Ok(packages)
+}
+
+/// The table of a line of the catalogue, by the numbers of its alternatives.
+fn packages_kept(
+    alloc: Global,
+    terms: &Terms,
+    alternatives: &[VersionSetId],
+) -> Result<AlternativesByPackage, AllocError> {
+    let mut packages = BTreeMap::new(alloc);
+    for place in 0..alternatives.len() {
+        let spec = alternatives[place];
+        let name = terms.name(terms.set_package(spec));
+        add_place(alloc, &mut packages, name, terms.span(spec), place)?;
+    }
+    keep_last_of_all(&mut packages);
     Ok(packages)
 }
 
@@ -112,20 +138,11 @@ fn place_at(packages: &AlternativesByPackage, version: &Version) -> Option<usize
 
 /// The place of an alternative that matches the version, by the line's table.
 fn place_in(
-    alloc: Global,
-    tables: &mut BTreeMap<u32, AlternativesByPackage>,
+    tables: &BTreeMap<u32, AlternativesByPackage>,
     line: u32,
-    alternatives: &[Spec],
     version: &Version,
-) -> Result<Option<usize>, AllocError> {
-    if !tables.contains_key(&line) {
-        let packages = packages_of(alloc, alternatives)?;
-        tables.insert(line, packages)?;
-    }
-    match tables.get(&line) {
-        Some(packages) => Ok(place_at(packages, version)),
-        None => Ok(None),
-    }
+) -> Option<usize> {
+    place_at(tables.get(&line)?, version)
 }
 
 impl Alternatives {
@@ -134,6 +151,54 @@ impl Alternatives {
             catalogue: BTreeMap::new(alloc),
             request: BTreeMap::new(alloc),
         }
+    }
+
+    /// The place of the alternative that the version matches, where the line of the request has many.
+    fn place_asked(
+        &mut self,
+        alloc: Global,
+        request: &Request,
+        line: u32,
+        version: &Version,
+    ) -> Result<Option<usize>, AllocError> {
+        let Some(Rule::Needs { alternatives, .. }) = rule_asked(request, line) else {
+            return Ok(None);
+        };
+        if alternatives.len() <= FEW {
+            return Ok(None);
+        }
+        if !self.request.contains_key(&line) {
+            let packages = packages_of(alloc, alternatives.as_slice())?;
+            self.request.insert(line, packages)?;
+        }
+        Ok(place_in(&self.request, line, version))
+    }
+
+    /// The place of the alternative that the version matches, where the owner's line has many.
+    fn place_kept(
+        &mut self,
+        alloc: Global,
+        catalogue: &Catalogue,
+        owner: &Version,
+        line: u32,
+        version: &Version,
+    ) -> Result<Option<usize>, AllocError> {
+        let kept = catalogue.kept();
+        let Some(need) = need_of(&kept, catalogue.versions(), owner, line) else {
+            return Ok(None);
+        };
+        let Requirement::Union(union) = need.requirement else {
+            return Ok(None);
+        };
+        let alternatives = kept.terms().members(union);
+        if alternatives.len() <= FEW {
+            return Ok(None);
+        }
+        if !self.catalogue.contains_key(&line) {
+            let packages = packages_kept(alloc, kept.terms(), alternatives)?;
+            self.catalogue.insert(line, packages)?;
+        }
+        Ok(place_in(&self.catalogue, line, version))
     }
 
     /// The place of the alternative that an entry matches, where its line has many.
@@ -152,17 +217,9 @@ impl Alternatives {
         else {
             return Ok(None);
         };
-        let Some(Rule::Needs { alternatives, .. }) = rule_at(catalogue, request, place, *line)
-        else {
-            return Ok(None);
-        };
-        if alternatives.len() <= FEW {
-            return Ok(None);
-        }
-        let specs = alternatives.as_slice();
         match place {
-            Place::Request => place_in(alloc, &mut self.request, *line, specs, version),
-            Place::Version(_) => place_in(alloc, &mut self.catalogue, *line, specs, version),
+            Place::Request => self.place_asked(alloc, request, *line, version),
+            Place::Version(owner) => self.place_kept(alloc, catalogue, owner, *line, version),
         }
     }
 }

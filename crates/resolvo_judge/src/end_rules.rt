@@ -1,6 +1,6 @@
 //! Whether the entries of an `install` report keep all rules, at the report's end.
 
-ghost use Rattle.std.specs.Prelude.{◌≡◌, ℕ, List, Option, Some, None, IsTrue, false, slice_get};
+ghost use Rattle.std.specs.Prelude.{◌≡◌, ℕ, List, Option, Some, None, IfOk, IsTrue, true, false, slice_get};
 ghost use Rattle.resolvo_text.specs.Line as spelled;
 ghost use Rattle.resolvo_text.specs.Line.{Lock};
 ghost use Rattle.resolvo_text.specs.Matches.{Set, is_member};
@@ -11,6 +11,7 @@ ghost use Rattle.resolvo_judge.specs.EndRules.{KeepsAll};
 
 use crate::chosen::Chosen;
 use resolvo_catalogue_core::{Catalogue, Request, Rule, VersionNo, Versions};
+use std::alloc::AllocError;
 
 /// Whether the version of this number is chosen.
 fn is_chosen(chosen: &Chosen, versions: &Versions, number: VersionNo) -> bool
@@ -76,13 +77,34 @@ fn obeys(chosen: &Chosen, versions: &Versions, rule: &Rule) -> bool
     }
 }
 
-/// Whether they obey the line of the catalogue. A line without a rule is obeyed.
-fn keeps_line(chosen: &Chosen, catalogue: &Catalogue, line: u32) -> bool
-    ensures { (set : Set) → Holds chosen.now set → result ≡ keeps catalogue.now line set }
+/// Whether the line belongs to a version that isn't chosen. So it is obeyed, whatever it says.
+fn is_idle(chosen: &Chosen, catalogue: &Catalogue, line: u32) -> bool
+    ensures { (set : Set)
+        → Holds chosen.now set
+        → IsTrue result
+        → keeps catalogue.now line set ≡ true }
 {
-    match catalogue.rule(line) {
-        Some(rule) => obeys(chosen, catalogue.versions(), rule),
+    match catalogue.kept().rule(line) {
+        Some(rule) => match rule.owner() {
+            Some(owner) => !is_chosen(chosen, catalogue.versions(), owner),
+            None => false,
+        },
         None => true,
+    }
+}
+
+/// Whether they obey the line of the catalogue. A line without a rule is obeyed.
+fn keeps_line(chosen: &Chosen, catalogue: &Catalogue, line: u32) -> Result<bool, AllocError>
+    ensures { (set : Set)
+        → Holds chosen.now set
+        → IfOk result (λ is. is ≡ keeps catalogue.now line set) }
+{
+    if is_idle(chosen, catalogue, line) {
+        return Ok(true);
+    }
+    match catalogue.rule(line)? {
+        Some(rule) => Ok(obeys(chosen, catalogue.versions(), &rule)),
+        None => Ok(true),
     }
 }
 
@@ -97,24 +119,21 @@ fn keeps_request_line(chosen: &Chosen, catalogue: &Catalogue, request: &Request,
 }
 
 /// Whether they obey all lines of the catalogue.
-fn keeps_catalogue(chosen: &Chosen, catalogue: &Catalogue) -> bool
+fn keeps_catalogue(chosen: &Chosen, catalogue: &Catalogue) -> Result<bool, AllocError>
     ensures yes { (set : Set)
         → Holds chosen.now set
-        → IsTrue result
-        → (n : ℕ)
-        → IsTrue (keeps catalogue.now n set) }
+        → IfOk result (λ all. IsTrue all → (n : ℕ) → IsTrue (keeps catalogue.now n set)) }
     ensures no { (set : Set)
         → Holds chosen.now set
-        → result ≡ false
-        → ((n : ℕ) → IsTrue (keeps catalogue.now n set))
-        → ⊥ }
+        → IfOk result
+        (λ all. all ≡ false → ((n : ℕ) → IsTrue (keeps catalogue.now n set)) → ⊥) }
 {
     for index in 0..catalogue.line_count() {
-        if !keeps_line(chosen, catalogue, index + 1) {
-            return false;
+        if !keeps_line(chosen, catalogue, index + 1)? {
+            return Ok(false);
         }
     }
-    true
+    Ok(true)
 }
 
 /// Whether they obey all lines of the request.
@@ -139,8 +158,15 @@ fn keeps_request(chosen: &Chosen, catalogue: &Catalogue, request: &Request) -> b
 }
 
 /// Whether the chosen versions obey all lines of both texts.
-pub fn keeps_all(chosen: &Chosen, catalogue: &Catalogue, request: &Request) -> bool
-    ensures { (set : Set) → Holds chosen.now set → KeepsAll catalogue.now request.now.lines set result }
+pub fn keeps_all(
+    chosen: &Chosen,
+    catalogue: &Catalogue,
+    request: &Request,
+) -> Result<bool, AllocError>
+    ensures { (set : Set)
+        → Holds chosen.now set
+        → IfOk result (KeepsAll catalogue.now request.now.lines set) }
 {
-    keeps_catalogue(chosen, catalogue) && keeps_request(chosen, catalogue, request)
+    let all = keeps_catalogue(chosen, catalogue)?;
+    Ok(all && keeps_request(chosen, catalogue, request))
 }

@@ -17,9 +17,10 @@ ghost use Rattle.resolvo_judge.specs.KeptAnswers.{KeepsAnswers, KeepsLines, Deci
 
 use crate::chosen::Chosen;
 use crate::forbidden_wishes::ForbiddenWishes;
+use crate::kept_reasons::gives_at;
 use crate::versions::Versions;
 use resolvo_catalogue_core::{Catalogue, Request, Rule, Spec, Version};
-use resolvo_checker::of_line::rule_at;
+use resolvo_checker::of_line::rule_asked;
 use resolvo_checker::steps::number_of;
 use resolvo_report::{AnswerLine, Place};
 use resolvo_text::matches;
@@ -159,20 +160,31 @@ impl Entries {
         line: u32,
         alternative: Option<usize>,
         version: &Version,
-    ) -> bool
+    ) -> Result<bool, AllocError>
         ensures { (before : List model.AnswerLine)
             → KeepsAnswers self.now before
-            → result
+            → IfOk result
+            (λ is.
+            is
             ≡ is_reason_lem catalogue.now request.now.lines (entries_of before)
-            (place_of place.now) line (version_of version.now) }
+            (place_of place.now) line (version_of version.now)) }
     {
-        self.is_place_taken(place)
-            && gives(
-                &self.chosen,
-                rule_at(catalogue, request, place, line),
-                alternative,
-                version,
-            )
+        if !self.is_place_taken(place) {
+            return Ok(false);
+        }
+        match place {
+            Place::Request => {
+                Ok(gives(
+                    &self.chosen,
+                    rule_asked(request, line),
+                    alternative,
+                    version,
+                ))
+            }
+            Place::Version(owner) => {
+                gives_at(&self.chosen, catalogue, owner, line, alternative, version)
+            }
+        }
     }
 
     /// Whether no line so far names a wish of this line or of a later one.
@@ -216,9 +228,10 @@ impl Entries {
             (model.Entry (version_of version.now) (place_of place.now) line) fits self.new) }
         ensures few { IfOk result (λ fits. self.new.chosen.count < self.old.chosen.count + 2) }
     {
-        if !self.may_enter(catalogue, version)
-            || !self.is_reason(catalogue, request, place, line, alternative, version)
-        {
+        if !self.may_enter(catalogue, version) {
+            return Ok(false);
+        }
+        if !self.is_reason(catalogue, request, place, line, alternative, version)? {
             return Ok(false);
         }
         self.chosen.add(version)?;

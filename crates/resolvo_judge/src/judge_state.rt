@@ -270,17 +270,17 @@ fn installs(
     request: &Request,
     judging: &JudgeState,
     clauses: &Clauses,
-) -> bool
+) -> Result<bool, AllocError>
     ensures { (r : ReportValue)
         → is_refusal_lem (report_lines r) ≡ false
         → JudgeInvariant catalogue.now request.now.lines judging.now clauses.now.kept (report_lines r)
-        → DecidesEnd catalogue.now request.now.lines (report_lines r) result }
+        → IfOk result (DecidesEnd catalogue.now request.now.lines (report_lines r)) }
 {
     let entries = &judging.entries;
-    if !keeps_all(&entries.chosen, catalogue, request) || !entries.are_wishes_answered(request) {
-        return false;
+    if !keeps_all(&entries.chosen, catalogue, request)? || !entries.are_wishes_answered(request) {
+        return Ok(false);
     }
-    judging.forbidden && are_earlier(entries.forbidden.steps(), clauses.len())
+    Ok(judging.forbidden && are_earlier(entries.forbidden.steps(), clauses.len()))
 }
 
 /// Whether the report may end after its lines, all of which passed.
@@ -289,13 +289,13 @@ pub fn may_end(
     request: &Request,
     judging: &JudgeState,
     clauses: &Clauses,
-) -> bool
+) -> Result<bool, AllocError>
     ensures { (r : ReportValue)
         → JudgeInvariant catalogue.now request.now.lines judging.now clauses.now.kept (report_lines r)
-        → DecidesEnd catalogue.now request.now.lines (report_lines r) result }
+        → IfOk result (DecidesEnd catalogue.now request.now.lines (report_lines r)) }
 {
     if judging.refused {
-        return judging.log.ends_empty;
+        return Ok(judging.log.ends_empty);
     }
     installs(catalogue, request, judging, clauses)
 }

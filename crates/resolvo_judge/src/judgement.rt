@@ -90,7 +90,7 @@ fn judge_lines<S: Source>(
         }
         number += 1;
     }
-    if may_end(catalogue, request, &judging, clauses) {
+    if may_end(catalogue, request, &judging, clauses)? {
         Ok(Verdict::Yes)
     } else {
         Ok(Verdict::No(number))

@@ -9,6 +9,7 @@ mod forbid;
 mod forbidden_wishes;
 mod judge_state;
 mod judgement;
+mod kept_reasons;
 mod laws;
 mod log;
 mod named;

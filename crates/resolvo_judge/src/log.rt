@@ -169,7 +169,7 @@ fn name_catalogue(
             catalogue: marks,
             ..
         } => name_in_catalogue(catalogue, marks, line),
-        Premises::All => Ok(catalogue.rule(line).is_some()),
+        Premises::All => Ok(catalogue.kept().rule(line).is_some()),
     }
 }
 

@@ -43,7 +43,7 @@ pub fn name_in_catalogue(
         → (n : ℕ)
         → flag_at marks.new.items n ≡ ((line == n) || flag_at marks.old.items n)) }
 {
-    match catalogue.rule(line) {
+    match catalogue.kept().rule(line) {
         Some(_) => {
             mark(marks, line)?;
             Ok(true)

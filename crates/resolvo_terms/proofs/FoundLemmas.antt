@@ -1,6 +1,8 @@
 -- Values that are each found at their places, with one more.
 use Rattle.std.proofs.Common.{Ordering, ◌≡◌, ℕ, zero, suc, Bool, true, false, cond, List, [], ◌∷◌, ◌++◌, length, Option, Some, None, refl, sym, ap, subst, ◌∙◌, inl, inr, arith}
-use Rattle.std.specs.Prelude.{slice_get, slice_index_or, nat_lt, nat_eq, IfSome}
+use Rattle.std.specs.Prelude.{slice_get, slice_index_or, nat_lt, nat_eq, vec_len, IfSome, IsSomeAnd, MatchOption}
+use Rattle.std.specs.List.{AllZip, each_same}
+use Rattle.std.proofs.lemmas.Map.Entries.{lookup_clone}
 use Rattle.std.specs.Option.{option_map_or}
 use Rattle.std.specs.Global.{Vec}
 use Rattle.std.specs.Map.{lookup, KeepsOthers, IsKeyTest, AreApart}
@@ -115,6 +117,17 @@ list_number_put m n key w h other = elim (cases_Bool (bytes_eq key other)) [
   | inl y ↦ subst (λ (l : List ℕ). lookup (finds l) n.entries ≡ w) ((bytes_decides key other).0 y) h.1 ∙ sym (cond-true (bytes_eq key other) w (lookup (finds other) m.entries) y)
   | inr y ↦ others key m.entries n.entries h.3 (finds other) (λ a b. (eq_by_cmp_equiv nat_list_cmp_total).congr other a.items b.items) (λ k. apart key other k y) ∙ sym (cond-false (bytes_eq key other) w (lookup (finds other) m.entries) y)
 ]
+
+-- a copy of a map answers the same
+same_found : (o p : Option ℕ) → MatchOption o (p ≡ None) (λ v. IsSomeAnd p (λ w. w ≡ v)) → p ≡ o
+same_found None p h = h
+same_found (Some v) None h = absurd h
+same_found (Some v) (Some w) h = ap (λ (n : ℕ). Some n) h
+
+pub list_numbers_cloned : (es fs : List (Vec ℕ × ℕ)) → AllZip (λ p q. (AllZip (λ x y. y ≡ x) p.0.items q.0.items × (vec_len q.0 ≡ vec_len p.0)) × (q.1 ≡ p.1)) es fs → (key : List ℕ) → list_number_in fs key ≡ list_number_in es key
+list_numbers_cloned es fs h key =
+    same_found (list_number_in es key) (list_number_in fs key)
+    (lookup_clone (λ (x y : Vec ℕ). AllZip (λ a b. b ≡ a) x.items y.items × (vec_len y ≡ vec_len x)) (λ (v w : ℕ). w ≡ v) (λ k. is_eq (slice_cmp nat_cmp key k.items)) (λ x y c. ap (λ (l : List ℕ). is_eq (slice_cmp nat_cmp key l)) (each_same x.items y.items c.0)) es fs h)
 
 -- keys of four numbers are equal when they compare so
 same_number : (x y : ℕ) → is_eq (nat_cmp x y) ≡ true → x ≡ y
@@ -267,6 +280,23 @@ module _ (ss : List (NameId × Numbers)) (si : Key → Option ℕ) (us : List (L
           go : (b : Option Key) → number_by new (list_number_in long (union_key w)) b ≡ cond (agree (Some key) b (bytes_eq (union_key u) (union_key w))) (Some (length us)) (number_by short (list_number_in long (union_key w)) b)
           go None = refl
           go (Some b) = put b
+
+  -- where the map of the longer unions answers the same
+  pub long_alike : (new : List (Vec ℕ × ℕ)) → ((key : List ℕ) → list_number_in new key ≡ list_number_in long key) → AreKept ss si us short new cs ci
+  long_alike new same = record {
+    sets = h.sets;
+    unions = record { found = λ u i e. h.unions.found u i (sym (alike u) ∙ e); all = λ u i e. alike u ∙ h.unions.all u i e };
+    conditions = h.conditions;
+    below = h.below;
+    several = h.several;
+  }
+    where
+      alike : (u : List VersionSetId) → union_number short new u ≡ union_number short long u
+      alike u = go (few_key u)
+        where
+          go : (o : Option Key) → number_by short (list_number_in new (union_key u)) o ≡ number_by short (list_number_in long (union_key u)) o
+          go None = same (union_key u)
+          go (Some k) = refl
 
   pub long_unions_more : (u : List VersionSetId) (new : List (Vec ℕ × ℕ)) → ((v : VersionSetId) → u ≡ v ∷ [] → ⊥) → few_key u ≡ None → list_number_in long (union_key u) ≡ None → ((other : List ℕ) → list_number_in new other ≡ cond (bytes_eq (union_key u) other) (Some (length us)) (list_number_in long other)) → AreKept ss si (us ++ u ∷ []) short new cs ci
   long_unions_more u new several is none put = record {

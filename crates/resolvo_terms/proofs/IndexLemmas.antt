@@ -361,3 +361,10 @@ module _ (slots slots' : List ℕ) (others others' : List (Vec ℕ × ℕ)) (tex
       → IsPut bytes_eq text (text_hash text) count slots slots' (list_number_in others) (list_number_in others') → AreTextsFound texts slots' others' (suc count)
   texts_next texts count once h at put =
       index_more bytes_eq text_exact text_own text_hash texts texts slots slots' (list_number_in others) (list_number_in others') count h (λ k x e. e) text (λ m w e. inl e) at (λ m e. once m count text e at) put
+
+-- where the map answers the same
+pub indexed_alike : {V : Type 0} (eq : V → V → Bool) (hash : V → ℕ) (values : List V) (slots : List ℕ) (others news : V → Option ℕ) (count : ℕ) → ((v : V) → news v ≡ others v) → AreIndexed eq hash values slots others count → AreIndexed eq hash values slots news count
+indexed_alike eq hash values slots others news count same h = record {
+  right = λ v n at. h.right v n (sym (same v) ∙ at);
+  all = λ v n less at. ap (λ (o : Option ℕ). number_from eq values slots o tries (place_from (hash v)) v) (same v) ∙ h.all v n less at;
+}

@@ -4,3 +4,7 @@ pub mod TextLemmas
 pub mod IndexLemmas
 pub mod KeyMapLemmas
 pub mod GrowLemmas
+pub mod KnownLemmas
+pub mod ReadLemmas
+pub mod NameLemmas
+pub mod CompareLemmas

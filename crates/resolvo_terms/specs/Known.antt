@@ -1,14 +1,20 @@
 -- The values of numbers: packages, spans, SPECs, conditions, words.
 -- A number that was never handed out has no value; the answer is then the first of its kind, or empty.
-use Rattle.std.specs.Prelude.{◌&&◌, nat_lt, ℕ, List, [], map, slice_get, slice_index_or, if◌then◌else◌}
+use Rattle.std.specs.Prelude.{◌&&◌, nat_lt, ℕ, zero, suc, List, [], map, Option, slice_get, slice_index_or, if◌then◌else◌}
+use Rattle.std.specs.Option.{option_map}
 use Rattle.std.specs.Option.{option_map_or}
 use Rattle.resolvo_text.specs.declared.spec.Span.TheVariants.{Any}
+use Rattle.resolvo_text.specs.Line.{Spec, Cond, Is, And, Or}
 use Rattle.resolvo_pool_core.specs.declared.id.VersionSetId.{VersionSetId}
 use Rattle.resolvo_pool_core.specs.declared.id.VersionSetUnionId.{VersionSetUnionId}
 use Rattle.resolvo_pool_core.specs.declared.id.ConditionId.{ConditionId}
 use Rattle.resolvo_pool_core.specs.declared.id.StringId.{StringId}
 use Rattle.resolvo_pool_core.specs.declared.condition.Condition.{Condition}
 use Rattle.resolvo_pool_core.specs.declared.condition.Condition.TheVariants.{Binary, Requirement}
+use Rattle.resolvo_pool_core.specs.declared.condition.LogicalOperator.TheVariants as joins
+use Rattle.resolvo_pool_core.specs.declared.requirement.Requirement.{Requirement as Alternatives}
+use Rattle.resolvo_pool_core.specs.declared.requirement.ConditionalRequirement.{ConditionalRequirement}
+use Rattle.resolvo_pool_core.specs.Text.{alternatives_of}
 use Rattle.resolvo_terms.specs.Terms.{Terms, NameId}
 use Rattle.resolvo_terms.specs.declared.terms.Numbers.{Numbers}
 
@@ -34,3 +40,29 @@ name_text t n = slice_index_or t.names n.raw []
 
 abbrev pub word_text : Terms → StringId → List ℕ
 word_text t w = slice_index_or t.words w.0 []
+
+-- ---- what lines say
+
+abbrev pub spec_at : Terms → VersionSetId → Spec
+spec_at t v = record { name = name_text t (set_at t v).0; span = (set_at t v).1.0 }
+
+abbrev pub alternatives_at : Terms → Alternatives → List Spec
+alternatives_at t r = map (spec_at t) (alternatives_of (members_of t) r)
+
+-- a condition by its operands
+abbrev pub cond_by : Terms → (ConditionId → Cond) → Condition → Cond
+cond_by t below (Requirement v) = Is (spec_at t v)
+cond_by t below (Binary joins.And a b) = And (below a) (below b)
+cond_by t below (Binary joins.Or a b) = Or (below a) (below b)
+
+-- the condition, looked at n steps down; operands have smaller numbers, so its own number and one are enough
+abbrev pub cond_within : Terms → ℕ → ConditionId → Cond
+cond_within t zero c = Is (spec_at t (record { 0 = 0 }))
+cond_within t (suc n) c = cond_by t (cond_within t n) (condition_at t c)
+
+abbrev pub cond_at : Terms → ConditionId → Cond
+cond_at t c = cond_within t (suc c.0) c
+
+-- the alternatives and the condition of a need
+abbrev pub need_at : Terms → ConditionalRequirement → List Spec × Option Cond
+need_at t need = (alternatives_at t need.requirement, option_map (cond_at t) need.condition)

@@ -4,3 +4,5 @@ pub mod Texts
 pub mod TermCounts
 pub mod Found
 pub mod Known
+pub mod Reads
+pub mod Names

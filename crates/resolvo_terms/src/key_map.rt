@@ -81,6 +81,16 @@ impl KeyMap {
         })
     }
 
+    /// The same keys with the same numbers.
+    pub fn copy(&self, alloc: Global) -> Result<KeyMap, AllocError>
+        ensures { IfOk result (λ m. m ≡ self.now) }
+    {
+        Ok(KeyMap {
+            entries: Vec::from_slice(alloc, &self.entries)?,
+            index: self.index.copy(alloc)?,
+        })
+    }
+
     /// The number of a key, if it has one.
     pub fn number(&self, key: &Key) -> Option<u32>
         ensures { result ≡ number_at self.now key.now }
@@ -147,6 +157,17 @@ impl KeyIndex {
         Ok(KeyIndex {
             slots: Slots::new(alloc, count)?,
             others: BTreeMap::new(alloc),
+        })
+    }
+
+    /// The same keys at the same places.
+    fn copy(&self, alloc: Global) -> Result<KeyIndex, AllocError>
+        ensures slots { IfOk result (λ x. x.slots.numbers.items ≡ self.now.slots.numbers.items) }
+        ensures others { IfOk result (λ x. x.others.entries ≡ self.now.others.entries) }
+    {
+        Ok(KeyIndex {
+            slots: self.slots.copy(alloc)?,
+            others: self.others.clone()?,
         })
     }
 

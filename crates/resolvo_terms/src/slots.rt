@@ -32,6 +32,15 @@ impl Slots {
         })
     }
 
+    /// The same numbers at the same places.
+    pub fn copy(&self, alloc: Global) -> Result<Slots, AllocError>
+        ensures { IfOk result (λ s. s.numbers.items ≡ self.now.numbers.items) }
+    {
+        Ok(Slots {
+            numbers: Vec::from_slice(alloc, &self.numbers)?,
+        })
+    }
+
     /// How many places there should be for more than so many numbers, if these are too few.
     pub fn more_for(&self, count: usize) -> Option<usize>
         ensures { IfSome result (λ places. count < 4294967295) }

@@ -2,19 +2,23 @@
 //! The model is one list of each, in the order of first naming; `specs/Terms.antt` has the text of
 //! each number. No choice of names makes it slow to find a number: hashes that collide are sorted.
 
-ghost use Rattle.std.specs.Prelude.{◌≡◌, ◌<◌, ◌≤◌, ◌+◌, ◌*◌, ◌++◌, ◌∷◌, [], if◌then◌else◌, ℕ, List, bytes_eq, IfOk, IsErrOf, OnOk, OnErr, length, map, slice_get, Some, None};
+ghost use Rattle.std.specs.Prelude.{◌≡◌, ◌<◌, ◌≤◌, ◌+◌, ◌*◌, ◌++◌, ◌∷◌, [], if◌then◌else◌, ℕ, List, bytes_eq, IfOk, IfSome, IsTrue, IsErrOf, OnOk, OnErr, length, map, slice_get, Some, None};
+ghost use Rattle.std.specs.Bool.{Decides};
 ghost use Rattle.std.specs.Option.{option_copied};
 ghost use Rattle.std.specs.String.{string_bytes};
 ghost use Rattle.resolvo_text.specs.View.{spec_of, specs_of, cond_of, condition_of};
 ghost use Rattle.resolvo_text.specs.Line.{Is};
+ghost use Rattle.resolvo_text.specs.Parse.{name_in};
 ghost use Rattle.resolvo_pool_core.specs.declared.condition.Condition.TheVariants.{Binary};
 ghost use Rattle.resolvo_pool_core.specs.Provider.{OperandsBelow};
 ghost use Rattle.resolvo_pool_core.specs.declared.want.Want.TheVariants.{Ids};
 ghost use Rattle.resolvo_terms.specs.Terms.{AreOnce, AreEach, Grows, AreSound, LacksNumber, IsPackage, IsWord, IsSpec, AreAlternatives, IsCondition, IsConditionOf, IsNeed};
 ghost use Rattle.resolvo_terms.specs.TermCounts.{term_count, ids_for_condition, ids_for_need};
+ghost use Rattle.resolvo_terms.specs.Reads.{Reads};
 ghost use Rattle.resolvo_terms.specs.Found.{Key, key_eq, list_number_in, set_key, union_key, few_key, condition_key, number_at};
 
 use crate::key_map::{Key, KeyMap};
+use crate::names::Names;
 use crate::text_ids::TextIds;
 use resolvo_intern::pool::VersionSet;
 use resolvo_pool_core::condition::{Condition, LogicalOperator};
@@ -23,7 +27,7 @@ use resolvo_pool_core::id::{
 };
 use resolvo_pool_core::requirement::{ConditionalRequirement, Requirement};
 use resolvo_pool_core::want::R;
-use resolvo_text::{Cond, Span, Spec};
+use resolvo_text::{Cond, LineFault, Span, Spec};
 use std::alloc::{AllocError, Global};
 use std::collections::BTreeMap;
 use std::marker::Model;
@@ -81,12 +85,15 @@ pub struct Room {
 
 /// The numbered values.
 pub struct Terms {
-    names: TextIds,
+    names: Names,
     words: TextIds,
     version_sets: Numbered<(NameId, Numbers)>,
     unions: Unions,
     conditions: Numbered<Condition>,
-    alloc: Global,
+    /// For each package the number of the version set that was asked for last, or any number. A guess:
+    /// who uses it looks at the version set.
+    recent: Vec<u32>,
+    pub(crate) alloc: Global,
 }
 
 // split for the prover: one drop
@@ -98,6 +105,7 @@ impl Drop for Terms {
             version_sets: _,
             unions: _,
             conditions: _,
+            recent: _,
             alloc: _,
         } = self;
     }
@@ -133,24 +141,29 @@ impl Terms {
             { names = []; words = []; version_sets = []; unions = []; conditions = [] }) }
     {
         Ok(Terms {
-            names: TextIds::new(alloc)?,
+            names: Names::new(alloc)?,
             words: TextIds::new(alloc)?,
             version_sets: Numbered::new(alloc, room.version_sets)?,
             unions: Unions::new(alloc, room.unions)?,
             conditions: Numbered::new(alloc, room.conditions)?,
+            recent: Vec::new(alloc),
             alloc,
         })
     }
 
-    /// Numbers the packages of these names, where none is numbered yet.
-    pub fn name_packages(&mut self, names: &[String]) -> Result<(), AllocError>
-        requires once { AreOnce (map string_bytes names.now) }
-        requires few { length names.now ≤ 4294967295 }
-        ensures names { OnOk result (self.new ≡ record self.old { names = map string_bytes names.now }) }
-        ensures same { OnErr result (self.new ≡ self.old) }
+    /// The same values with the same numbers.
+    pub fn copy(&self, alloc: Global) -> Result<Terms, AllocError>
+        ensures { IfOk result (λ t. t ≡ self.now) }
     {
-        self.names = TextIds::of(self.alloc, names)?;
-        Ok(())
+        Ok(Terms {
+            names: self.names.copy(alloc)?,
+            words: self.words.copy(alloc)?,
+            version_sets: self.version_sets.copy(alloc)?,
+            unions: self.unions.copy(alloc)?,
+            conditions: self.conditions.copy(alloc)?,
+            recent: Vec::new(alloc),
+            alloc,
+        })
     }
 
     /// The id of a package.
@@ -161,6 +174,15 @@ impl Terms {
         ensures ids { IsErrOf result Ids → LacksNumber self.new }
     {
         Ok(NameId::from_raw(self.names.intern(self.alloc, name)?))
+    }
+
+    /// The id of the package that a word names.
+    pub(crate) fn package_in(&mut self, word: &[u8]) -> Result<NameId, LineFault>
+        ensures package { Reads (IsPackage self.new) result (name_in word.now) }
+        ensures grows { Grows self.old self.new }
+        ensures few { term_count self.new ≤ term_count self.old + 1 }
+    {
+        Ok(NameId::from_raw(self.names.read(self.alloc, word)?))
     }
 
     /// The id of a word of reason.
@@ -186,7 +208,52 @@ impl Terms {
     }
 
     /// The id of a span of a package.
-    fn version_set(&mut self, name: NameId, span: Span) -> R<VersionSetId>
+    pub(crate) fn version_set(&mut self, name: NameId, span: Span) -> R<VersionSetId>
+        ensures version_set { IfOk result
+            (λ v. slice_get self.new.version_sets v.0 ≡ Some (name, record { 0 = span })) }
+        ensures grows { Grows self.old self.new }
+        ensures few { term_count self.new ≤ term_count self.old + 1 }
+        ensures ids { IsErrOf result Ids → LacksNumber self.new }
+    {
+        if let Some(id) = self.recent_set(name, span) {
+            return Ok(id);
+        }
+        let id = self.keyed_set(name, span)?;
+        self.remember(name, id)?;
+        Ok(id)
+    }
+
+    /// The version set that was asked for last of its package, if it has this span.
+    fn recent_set(&self, name: NameId, span: Span) -> Option<VersionSetId>
+        ensures { IfSome result
+            (λ v. slice_get self.now.version_sets v.0 ≡ Some (name, record { 0 = span })) }
+    {
+        let number = *self.recent.get(name.to_index())?;
+        let set = *self.version_sets.values.get(number as usize)?;
+        if is_set(set, name, span) {
+            Some(VersionSetId(number))
+        } else {
+            None
+        }
+    }
+
+    /// The version set was asked for last of its package.
+    fn remember(&mut self, name: NameId, set: VersionSetId) -> Result<(), AllocError>
+        ensures { self.new ≡ self.old }
+    {
+        let at = name.to_index();
+        if at >= self.names.len() {
+            return Ok(());
+        }
+        lengthen(&mut self.recent, at + 1)?;
+        if let Some(recent) = self.recent.get_mut(at) {
+            *recent = set.0;
+        }
+        Ok(())
+    }
+
+    /// The id of a span of a package, by its key.
+    fn keyed_set(&mut self, name: NameId, span: Span) -> R<VersionSetId>
         ensures version_set { IfOk result
             (λ v. slice_get self.new.version_sets v.0 ≡ Some (name, record { 0 = span })) }
         ensures grows { Grows self.old self.new }
@@ -216,7 +283,7 @@ impl Terms {
     }
 
     /// The id of a list of SPECs, none or at least two.
-    fn union(&mut self, members: Vec<VersionSetId>) -> R<VersionSetUnionId>
+    pub(crate) fn union(&mut self, members: Vec<VersionSetId>) -> R<VersionSetUnionId>
         requires several { (v : VersionSetId) → members.items ≡ v ∷ [] → ⊥ }
         ensures union { IfOk result (λ u. slice_get self.new.unions u.0 ≡ Some members.items) }
         ensures grows { Grows self.old self.new }
@@ -390,6 +457,13 @@ impl Terms {
         }
     }
 
+    /// How many names there are.
+    pub fn name_count(&self) -> usize
+        ensures { result ≡ length self.now.names }
+    {
+        self.names.len()
+    }
+
     /// The word of an id.
     pub fn text(&self, word: StringId) -> &str
         ensures { result.now ≡ word_text self.now word }
@@ -449,6 +523,23 @@ impl Terms {
     }
 }
 
+impl<T: Drop + Copy> Numbered<T> {
+    /// The same values with the same numbers.
+    fn copy(&self, alloc: Global) -> Result<Numbered<T>, AllocError>
+        ensures values { IfOk result (λ t. t.values.items ≡ self.now.values.items) }
+        ensures ids { IfOk result (λ t. t.ids ≡ self.now.ids) }
+    {
+        let mut values = Vec::with_capacity(alloc, self.values.len())?;
+        for value in &self.values {
+            values.push(*value)?;
+        }
+        Ok(Numbered {
+            values,
+            ids: self.ids.copy(alloc)?,
+        })
+    }
+}
+
 impl<T: Drop> Numbered<T> {
     /// No values.
     fn new(alloc: Global, room: usize) -> Result<Numbered<T>, AllocError>
@@ -492,7 +583,40 @@ impl<T: Drop> Numbered<T> {
     }
 }
 
+/// The same version sets in a list of their own.
+fn members_copied(alloc: Global, members: &[VersionSetId]) -> Result<Vec<VersionSetId>, AllocError>
+    ensures { IfOk result (λ copy. copy.items ≡ members.now) }
+{
+    let mut copy = Vec::with_capacity(alloc, members.len())?;
+    for member in members {
+        copy.push(*member)?;
+    }
+    Ok(copy)
+}
+
 impl Unions {
+    /// The same lists with the same numbers.
+    fn copy(&self, alloc: Global) -> Result<Unions, AllocError>
+        ensures values { IfOk result
+            (λ t. map (λ u. u.items) t.values.items ≡ map (λ u. u.items) self.now.values.items) }
+        ensures short { IfOk result (λ t. t.short ≡ self.now.short) }
+        ensures long { IfOk result
+            (λ t.
+            (key : List ℕ)
+            → list_number_in t.long.entries key
+            ≡ list_number_in self.now.long.entries key) }
+    {
+        let mut values = Vec::with_capacity(alloc, self.values.len())?;
+        for members in &self.values {
+            values.push(members_copied(alloc, members)?)?;
+        }
+        Ok(Unions {
+            values,
+            short: self.short.copy(alloc)?,
+            long: self.long.clone()?,
+        })
+    }
+
     /// No lists.
     fn new(alloc: Global, room: usize) -> Result<Unions, AllocError>
         ensures values { IfOk result (λ t. t.values.items ≡ []) }
@@ -567,6 +691,33 @@ fn condition_at(conditions: &[Condition], place: usize) -> Option<Condition>
     ensures { result ≡ slice_get conditions.now place }
 {
     conditions.get(place).copied()
+}
+
+/// Makes a list this long, where it is shorter.
+fn lengthen(numbers: &mut Vec<u32>, count: usize) -> Result<(), AllocError> {
+    for _ in numbers.len()..count {
+        numbers.push(0)?;
+    }
+    Ok(())
+}
+
+/// Whether a version set is of this package and span.
+fn is_set(set: (NameId, Numbers), name: NameId, span: Span) -> bool
+    ensures { IsTrue result → set ≡ (name, record { 0 = span }) }
+{
+    set.0.into_raw() == name.into_raw() && is_span(set.1.0, span)
+}
+
+/// Whether two spans are one.
+pub(crate) fn is_span(first: Span, span: Span) -> bool
+    ensures { Decides result (first ≡ span) }
+{
+    match (first, span) {
+        (Span::Any, Span::Any) => true,
+        (Span::One(first), Span::One(number)) => first == number,
+        (Span::Range(bottom, top), Span::Range(low, high)) => bottom == low && top == high,
+        _ => false,
+    }
 }
 
 fn key_of_set(name: NameId, span: Span) -> Key

@@ -2,16 +2,15 @@
 //! A text is found at a place of its hash. Those whose places others have are in a sorted map. So no
 //! choice of texts makes that slow. Used by `terms`.
 
-ghost use Rattle.std.specs.Prelude.{◌≡◌, ◌≤◌, ◌<◌, ◌+◌, [], ℕ, List, Option, if◌then◌else◌, map, IfOk, IfSome, IsErrOf, OnOk, OnErr, length, slice_get, Some, None};
+ghost use Rattle.std.specs.Prelude.{◌≡◌, ◌≤◌, ◌<◌, ◌+◌, [], ℕ, List, Option, if◌then◌else◌, IfOk, IfSome, IsErrOf, OnOk, OnErr, length, slice_get, Some, None};
 ghost use Rattle.resolvo_pool_core.specs.declared.want.Want.TheVariants.{Ids};
 ghost use Rattle.std.specs.Option.{option_map};
 ghost use Rattle.std.specs.Str.{bytes_eq};
-ghost use Rattle.std.specs.String.{string_bytes};
 ghost use Rattle.resolvo_terms.specs.Terms.{AreOnce, Extends};
 ghost use Rattle.resolvo_terms.specs.Found.{AreTextsFound, IsPut, number_from, number_if, number_of_slot, or_later, place_from, slot_at, list_number_in, tries, text_hash};
 
 use crate::hash::hash_of_all;
-use crate::slots::{Slots, TRIES, first_place, places_for};
+use crate::slots::{Slots, TRIES, first_place};
 use crate::text_list::TextList;
 use resolvo_pool_core::id::next_index;
 use resolvo_pool_core::want::{R, Want};
@@ -71,15 +70,14 @@ impl TextIds {
         })
     }
 
-    /// These texts by their places.
-    pub fn of(alloc: Global, texts: &[String]) -> Result<TextIds, AllocError>
-        requires once { AreOnce (map string_bytes texts.now) }
-        requires few { length texts.now ≤ 4294967295 }
-        ensures { IfOk result (λ t. t ≡ map string_bytes texts.now) }
+    /// The same texts with the same numbers.
+    pub fn copy(&self, alloc: Global) -> Result<TextIds, AllocError>
+        ensures { IfOk result (λ t. t ≡ self.now) }
     {
-        let texts = TextList::of(alloc, texts)?;
-        let index = TextIndex::of(alloc, &texts, places_for(texts.len()))?;
-        Ok(TextIds { texts, index })
+        Ok(TextIds {
+            texts: self.texts.copy(alloc)?,
+            index: self.index.copy(alloc)?,
+        })
     }
 
     /// Numbers a text that has no number.
@@ -141,6 +139,20 @@ impl TextIds {
         self.index.number(&self.texts, text.as_bytes(), hash)
     }
 
+    /// How many texts there are.
+    pub fn len(&self) -> usize
+        ensures { result ≡ length self.now }
+    {
+        self.texts.len()
+    }
+
+    /// The number of a text as bytes, if it has one.
+    pub fn number(&self, text: &[u8]) -> Option<u32>
+        ensures { IfSome result (λ i. slice_get self.now i ≡ Some text.now) }
+    {
+        self.index.number(&self.texts, text, hash_of_text(text))
+    }
+
     /// The text of a number.
     pub fn text(&self, id: u32) -> Option<&str>
         ensures { option_map (λ t. t.now) result ≡ slice_get self.now id }
@@ -166,6 +178,21 @@ impl TextIndex {
         Ok(TextIndex {
             slots: Slots::new(alloc, count)?,
             others: BTreeMap::new(alloc),
+        })
+    }
+
+    /// The same texts at the same places.
+    fn copy(&self, alloc: Global) -> Result<TextIndex, AllocError>
+        ensures slots { IfOk result (λ x. x.slots.numbers.items ≡ self.now.slots.numbers.items) }
+        ensures others { IfOk result
+            (λ x.
+            (text : List ℕ)
+            → list_number_in x.others.entries text
+            ≡ list_number_in self.now.others.entries text) }
+    {
+        Ok(TextIndex {
+            slots: self.slots.copy(alloc)?,
+            others: self.others.clone()?,
         })
     }
 

@@ -1,10 +1,9 @@
 //! Texts in one list of bytes, in the order in which they are added. The model is the list of them.
 //! None has memory of its own. Used by `text_ids`.
 
-ghost use Rattle.std.specs.Prelude.{◌≡◌, ◌<◌, ◌-◌, ◌∷◌, ◌++◌, [], IfOk, OnOk, OnErr, length, map, slice_get, take, Some};
+ghost use Rattle.std.specs.Prelude.{◌≡◌, ◌<◌, ◌-◌, ◌∷◌, ◌++◌, [], IfOk, OnOk, OnErr, length, slice_get, take, Some};
 ghost use Rattle.std.specs.Option.{option_map};
 ghost use Rattle.std.specs.Str.{IsUtf8};
-ghost use Rattle.std.specs.String.{string_bytes};
 
 use std::alloc::{AllocError, Global};
 use std::marker::Model;
@@ -52,25 +51,14 @@ impl TextList {
         }
     }
 
-    /// No texts, with room for so many, which have so many bytes.
-    fn with_room(alloc: Global, texts: usize, bytes: usize) -> Result<TextList, AllocError>
-        ensures { IfOk result (λ t. t ≡ []) }
+    /// The same texts.
+    pub fn copy(&self, alloc: Global) -> Result<TextList, AllocError>
+        ensures { IfOk result (λ t. t ≡ self.now) }
     {
         Ok(TextList {
-            bytes: Vec::with_capacity(alloc, bytes)?,
-            bounds: Vec::with_capacity(alloc, texts)?,
+            bytes: Vec::from_slice(alloc, &self.bytes)?,
+            bounds: Vec::from_slice(alloc, &self.bounds)?,
         })
-    }
-
-    /// Copies of texts.
-    pub fn of(alloc: Global, texts: &[String]) -> Result<TextList, AllocError>
-        ensures { IfOk result (λ t. t ≡ map string_bytes texts.now) }
-    {
-        let mut list = TextList::with_room(alloc, texts.len(), length_of_all(texts))?;
-        for text in texts {
-            list.push(text.as_str())?;
-        }
-        Ok(list)
     }
 
     pub fn len(&self) -> usize
@@ -130,13 +118,4 @@ impl TextList {
     {
         self.bounds.pop();
     }
-}
-
-/// How many bytes texts have, or at most.
-fn length_of_all(texts: &[String]) -> usize {
-    let mut length = 0usize;
-    for text in texts {
-        length = length.saturating_add(text.len());
-    }
-    length
 }

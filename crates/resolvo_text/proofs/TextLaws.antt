@@ -1,12 +1,13 @@
 -- The text of a line: parsing and spelling are inverse.
-use Rattle.std.proofs.Common.{◌≡◌, ℕ, ◌^◌, ◌<◌, inl, inr, Bool, true, false, not, eqb, List, [], ◌∷◌, ◌++◌, get_or, Option, Some, None, All, refl, sym, ap, subst, ◌∙◌, arith, ⊎_elim}
+use Rattle.std.proofs.Common.{◌≡◌, ℕ, ◌^◌, ◌<◌, ◌-◌, inl, inr, Bool, true, false, not, eqb, List, [], ◌∷◌, ◌++◌, take, drop, length, get_or, Option, Some, None, All, refl, sym, ap, subst, ◌∙◌, arith, ⊎_elim}
 use Rattle.std.specs.Prelude.{codes, IsTrue}
 use Rattle.std.specs.Fmt.{decimal}
+use Rattle.std.specs.Option.{option_map}
 use Rattle.std.specs.List.{AllByRecursion, join_with_byte, slice_split, list_all}
 use Rattle.std.proofs.lemmas.Bool.{and_parts, ne_eqb, eqb-true}
 use Rattle.std.proofs.lemmas.Bool.Decides.{nat_tests}
 use Rattle.std.proofs.lemmas.Option.{same_Some}
-use Rattle.std.proofs.lemmas.List.{get_or_default}
+use Rattle.std.proofs.lemmas.List.{get_or_default, length-drop, take_all}
 use Rattle.std.proofs.lemmas.List.Elements.{All-append, All-from_recursion}
 use Rattle.std.proofs.lemmas.List.Splits.{slice_split_at, slice_split_none, join_with_byte-slice_split}
 use Rattle.std.proofs.lemmas.Str.Parse.{digit_at}
@@ -14,7 +15,7 @@ use Rattle.resolvo_text.specs.declared.spec.Span.{Span}
 use Rattle.resolvo_text.specs.declared.spec.Span.TheVariants.{Any, One, Range}
 use Rattle.resolvo_text.specs.Line.{Version, Spec, Cond, Line, Skipped, Listed, Needs, Limits, Unknown, Lock, Favour, Exclude, Many, Wish}
 use Rattle.resolvo_text.specs.Spelling.{Words, starts_name, continues_name, is_word, is_reserved, is_name, IsVersion, IsSpec, IsSpan, version_words, span_words, spec_words, alternatives_words, AreWordsOf, AreWordsOfCondition, Written, Lone, Group, Both, Either, IsWritten, written_words, SpellsLine, HasForm, Spells, IsSkipped}
-use Rattle.resolvo_text.specs.Parse.{◌>>=◌, is_space, word_at, version_in, line_by, is_skipped, line_in}
+use Rattle.resolvo_text.specs.Parse.{◌>>=◌, is_space, word_at, words_in, version_in, spec_in, needs_in, line_by, is_skipped, line_in}
 use Rattle.resolvo_text.proofs.NumberLemmas.{digits}
 use Rattle.resolvo_text.proofs.AlternativeLemmas.{bind_some}
 use Rattle.resolvo_text.proofs.PartLaws.{word_takes, chosen}
@@ -196,3 +197,35 @@ version_takes_line text rest v begins is =
 pub no_version_line : (text rest : List ℕ) → text ≡ codes "version " ++ rest → version_in (slice_split is_space rest) ≡ None → (v : Version) → SpellsLine text (Listed v) → ⊥
 no_version_line text rest begins none v =
     spells_none text (ap line_in begins ∙ version_line rest ∙ ap (λ (o : Option Version). o >>= λ w. Some (Listed w)) none) (Listed v)
+
+-- ---- lines `needs` and `limits`
+
+needs_line : (rest : List ℕ) → line_in (codes "needs " ++ rest) ≡ needs_in (slice_split is_space rest)
+unfolding line_in line_by
+needs_line rest =
+    let split : slice_split is_space (codes "needs" ++ 32 ∷ rest) ≡ codes "needs" ∷ slice_split is_space rest = slice_split_at is_space (codes "needs") 32 rest (by_test (codes "needs") refl) refl in
+    ap (λ (ws : Words). word_at ws >>= λ x. line_by x.0 x.1) split
+
+as_map : (o : Option Spec) → (o >>= λ s. Some (Limits s)) ≡ option_map (λ s. Limits s) o
+as_map None = refl
+as_map (Some s) = refl
+
+limits_line : (rest : List ℕ) → line_in (codes "limits " ++ rest) ≡ option_map (λ s. Limits s) (spec_in (slice_split is_space rest))
+unfolding line_in line_by
+limits_line rest =
+    let split : slice_split is_space (codes "limits" ++ 32 ∷ rest) ≡ codes "limits" ∷ slice_split is_space rest = slice_split_at is_space (codes "limits") 32 rest (by_test (codes "limits") refl) refl in
+    ap (λ (ws : Words). word_at ws >>= λ x. line_by x.0 x.1) split ∙ as_map (spec_in (slice_split is_space rest))
+
+-- all that is left from a place on
+from_place : (n : ℕ) (text : List ℕ) → take (length text - n) (drop n text) ≡ drop n text
+from_place n text = take_all (length text - n) (drop n text) (let left = length-drop n text in omega (arith, left))
+
+pub needs_from : (text : List ℕ) → text ≡ codes "needs " ++ drop 6 text → line_in text ≡ needs_in (words_in (take (length text - 5) (drop 5 text)))
+needs_from text begins =
+    let words : take (length text - 5) (drop 5 text) ≡ 32 ∷ drop 6 text = from_place 5 text ∙ ap (λ (t : List ℕ). drop 5 t) begins in
+    ap line_in begins ∙ needs_line (drop 6 text) ∙ sym (ap (λ (t : List ℕ). needs_in (words_in t)) words)
+
+pub limits_from : (text : List ℕ) → text ≡ codes "limits " ++ drop 7 text → line_in text ≡ option_map (λ s. Limits s) (spec_in (words_in (take (length text - 6) (drop 6 text))))
+limits_from text begins =
+    let words : take (length text - 6) (drop 6 text) ≡ 32 ∷ drop 7 text = from_place 6 text ∙ ap (λ (t : List ℕ). drop 6 t) begins in
+    ap line_in begins ∙ limits_line (drop 7 text) ∙ sym (ap (λ (t : List ℕ). option_map (λ s. Limits s) (spec_in (words_in t))) words)

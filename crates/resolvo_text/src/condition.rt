@@ -83,7 +83,7 @@ const DEEPEST: u32 = 16;
 
 /// The condition of a line `needs`: all that follows its alternatives.
 #[tactic(auto, unfolding(crate::specs::Parse::condition_in))]
-pub(crate) fn condition_in(alloc: Global, words: &[u8]) -> Result<Option<Box<Cond>>, LineFault>
+pub fn condition_in(alloc: Global, words: &[u8]) -> Result<Option<Box<Cond>>, LineFault>
     ensures { Gives condition_of result (condition_in (words_in words.now)) }
 {
     let (found, condition) = skip(words, b"if");

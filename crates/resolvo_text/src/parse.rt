@@ -312,6 +312,30 @@ pub fn listed_in(text: &[u8]) -> Option<(&str, u32)>
     name_and_number(after_version(text)?)
 }
 
+/// The words after the keyword of a line `needs`, if a text begins so.
+pub fn needs_words(text: &[u8]) -> Option<&[u8]>
+    ensures { IfSome result (λ words. line_in text.now ≡ needs_in (words_in words.now)) }
+{
+    if text.starts_with(b"needs ") {
+        Some(&text[5..])
+    } else {
+        None
+    }
+}
+
+/// The words after the keyword of a line `limits`, if a text begins so.
+pub fn limits_words(text: &[u8]) -> Option<&[u8]>
+    ensures { IfSome result
+        (λ words.
+        line_in text.now ≡ option_map (λ s. parsed.Limits s) (spec_in (words_in words.now))) }
+{
+    if text.starts_with(b"limits ") {
+        Some(&text[6..])
+    } else {
+        None
+    }
+}
+
 /// A text is that of one line at most.
 pub fn text_is_one_line()
     ensures { (text : List ℕ) (a b : parsed.Line) → SpellsLine text a → SpellsLine text b → a ≡ b }

@@ -19,10 +19,17 @@ fn starts_name(b: u8) -> bool
     b.is_ascii_alphanumeric() || b == b'_'
 }
 
+// A small letter is the most frequent, so it takes the fewest tests.
 fn continues_name(b: u8) -> bool
     ensures { result ≡ continues_name b }
 {
-    starts_name(b) || b == b'-' || b == b'.'
+    if b >= b'a' {
+        return b <= b'z';
+    }
+    if b <= b'9' {
+        return b >= b'-' && b != b'/';
+    }
+    (b >= b'A' && b <= b'Z') || b == b'_'
 }
 
 fn is_reserved(word: &[u8]) -> bool

@@ -3,7 +3,7 @@ use Rattle.std.specs.Prelude.{slice_get, unwrap_or}
 use Rattle.std.proofs.lemmas.Option.{unwrap_or-slice_get}
 use Rattle.resolvo_text.specs.Line.{Version}
 use Rattle.resolvo_catalogue_core.specs.Listed.{listed}
-use Rattle.resolvo_catalogue_core.specs.Table.{nowhere}
+use Rattle.resolvo_catalogue_core.specs.Kept.{nowhere}
 use Rattle.resolve_install.proofs.install.version_at.Goals as goal
 
 pub returns-in-None : goal.returns-in-None

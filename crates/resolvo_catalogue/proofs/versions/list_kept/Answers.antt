@@ -15,17 +15,15 @@ loop-version-preserved c =
     let a = c.loop-version.ids in
     let b = c.version.new.self in
     let kept = c.args.kept.now in
+    let by = solvable_by c.args.packages.now in
     let none : KeptVersion = record { «package» = 0; number = 0 } in
-    let item = slice_index_or kept i none in
-    let s : Solvable ℕ = record { version = item.number; name = c.from_raw-package.result } in
-    let is : s ≡ solvable_by item = ap (λ (k : ℕ). let x : Solvable ℕ = record { version = item.number; name = record { raw = k; tag = record {} } } in x) c.from_raw-package.ensures in
-    let before : a.solvables ≡ map solvable_by (take i kept) = ap (λ (ids : Ids). ids.solvables) inv.0 in
+    let s : Solvable ℕ = by (slice_index_or kept i none) in
+    let before : a.solvables ≡ map by (take i kept) = ap (λ (ids : Ids). ids.solvables) inv.0 in
     let added : b ≡ record a { solvables = a.solvables ++ s ∷ [] } = c.in_ok-id.ensures.added in
-    let count : length a.solvables ≡ i = ap length before ∙ length-map (take i kept) solvable_by ∙ length-take-le i kept (omega (arith, c.loop-version-test.true)) in (
+    let count : length a.solvables ≡ i = ap length before ∙ length-map (take i kept) by ∙ length-take-le i kept (omega (arith, c.loop-version-test.true)) in (
       added
           ∙ ap (λ (ids : Ids). record ids { solvables = ids.solvables ++ s ∷ [] }) inv.0
-          ∙ ap (λ (x : Solvable ℕ). record first { solvables = map solvable_by (take i kept) ++ x ∷ [] }) is
-          ∙ ap (λ (xs : List (Solvable ℕ)). record first { solvables = xs }) (sym (map_more solvable_by kept i none c.loop-version-test.true)),
+          ∙ ap (λ (xs : List (Solvable ℕ)). record first { solvables = xs }) (sym (map_more by kept i none c.loop-version-test.true)),
       λ n. c.in_ok-add.ensures.added n ∙ solvables_more a b s c.in_ok-id.id _ n (ap (λ (ids : Ids). ids.solvables) added) c.in_ok-id.ensures.id (inv.1 n),
       c.in_ok-add.ensures.count ∙ inv.2,
       omega (arith, count, c.in_ok-id.ensures.id, c.in_ok-id.ensures.few),

@@ -7,7 +7,7 @@ use Rattle.resolvo_checker.specs.StepClauses.{Clause, line_of, gate_clause}
 use Rattle.resolvo_checker.specs.Built.{seen, somes}
 use Rattle.resolvo_checker.specs.RuleLines.{owner_in, owner_literals}
 use Rattle.resolvo_checker.specs.StepClauses.{place_fails}
-use Rattle.resolvo_checker.proofs.StepLines.{if_copied, gate_owned}
+use Rattle.resolvo_checker.proofs.StepLines.{if_lent, line_lent, gate_owned}
 use Rattle.resolvo_checker.proofs.steps.gate_at.Goals as goal
 
 pub returns : goal.returns
@@ -15,5 +15,5 @@ returns c = λ request.
     let vs = listed c.args.catalogue.now in
     let v = version_of c.args.version.now in
     subst (λ (x : Option Clause). IfOk c.gate_in.result (λ o. seen vs o ≡ option_map somes x))
-    (ap (gate_clause v) (sym (c.rule_owned-rule.ensures.from_line request)) ∙ gate_owned v (line_of c.args.catalogue.now request (OfVersion v) c.args.line))
-    (c.gate_in.ensures v (if_copied (λ r. owner_literals vs (owner_in r) ≡ somes (place_fails (OfVersion v))) c.rule_owned-rule.result c.rule_owned-rule.ensures.owner))
+    (ap (gate_clause v) (line_lent vs _ _ _ c.as_ref.ensures.value (c.in_ok-rule.ensures.from_line request)) ∙ gate_owned v (line_of c.args.catalogue.now request (OfVersion v) c.args.line))
+    (c.gate_in.ensures v (if_lent (λ r. owner_literals vs (owner_in r) ≡ somes (place_fails (OfVersion v))) _ _ c.as_ref.ensures.value c.in_ok-rule.ensures.owner))

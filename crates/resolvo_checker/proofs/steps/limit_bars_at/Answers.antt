@@ -7,7 +7,7 @@ use Rattle.resolvo_checker.specs.StepClauses.{Clause, line_of, limit_bars_clause
 use Rattle.resolvo_checker.specs.Built.{seen, somes}
 use Rattle.resolvo_checker.specs.RuleLines.{owner_in, owner_literals}
 use Rattle.resolvo_checker.specs.StepClauses.{place_fails}
-use Rattle.resolvo_checker.proofs.StepLines.{if_copied, limit_bars_owned}
+use Rattle.resolvo_checker.proofs.StepLines.{if_found, line_lent, limit_bars_owned}
 use Rattle.resolvo_checker.proofs.steps.limit_bars_at.Goals as goal
 
 pub returns : goal.returns
@@ -15,5 +15,5 @@ returns c =
     let vs = listed c.args.catalogue.now in
     let p = place_of c.args.place.now in
     subst (λ (x : Option Clause). IfOk c.limit_bars_in.result (λ o. seen vs o ≡ option_map somes x))
-    (ap (limit_bars_clause c.args.catalogue.now (place_of c.args.place.now) (version_of c.args.version.now)) (sym c.rule_at-rule.ensures.from_line) ∙ limit_bars_owned c.args.catalogue.now (place_of c.args.place.now) (version_of c.args.version.now) (line_of c.args.catalogue.now c.args.request.now.lines (place_of c.args.place.now) c.args.line))
-    (c.limit_bars_in.ensures p (if_copied (λ r. owner_literals vs (owner_in r) ≡ somes (place_fails p)) c.rule_at-rule.result c.rule_at-rule.ensures.owner))
+    (ap (limit_bars_clause c.args.catalogue.now (place_of c.args.place.now) (version_of c.args.version.now)) (line_lent vs _ _ _ c.found.ensures c.in_ok-rule.ensures.from_line) ∙ limit_bars_owned c.args.catalogue.now (place_of c.args.place.now) (version_of c.args.version.now) (line_of c.args.catalogue.now c.args.request.now.lines (place_of c.args.place.now) c.args.line))
+    (c.limit_bars_in.ensures p (if_found (λ r. owner_literals vs (owner_in r) ≡ somes (place_fails p)) c.in_ok-rule.rule _ c.found.ensures c.in_ok-rule.ensures.owner))

@@ -4,13 +4,13 @@ use Rattle.resolvo_catalogue_core.specs.Grammar.{line_at, owner_of}
 use Rattle.resolvo_catalogue_core.specs.Listed.{listed}
 use Rattle.resolvo_checker.specs.StepClauses.{Clause, unknown_clause}
 use Rattle.resolvo_checker.specs.Built.{seen, somes}
-use Rattle.resolvo_checker.specs.RuleLines.{IsValid}
-use Rattle.resolvo_checker.proofs.StepLines.{if_copied, unknown_rule}
+use Rattle.resolvo_checker.proofs.StepLines.{unknown_rule}
 use Rattle.resolvo_checker.proofs.steps.unknown_at.Goals as goal
 
 pub returns : goal.returns
 returns c =
     let vs = listed c.args.catalogue.now in
+    let f = c.rule_of.ensures.from_line in
     subst (λ (x : Option Clause). IfOk c.unknown_in.result (λ o. seen vs o ≡ option_map somes x))
-    (ap (unknown_clause (owner_of c.args.catalogue.now c.args.line)) (sym c.rule_of-rule.ensures.from_line) ∙ unknown_rule (owner_of c.args.catalogue.now c.args.line) (line_at c.args.catalogue.now c.args.line))
-    (c.unknown_in.ensures (owner_of c.args.catalogue.now c.args.line) (if_copied (IsValid vs (owner_of c.args.catalogue.now c.args.line)) c.rule_of-rule.result c.rule_of-rule.ensures.valid))
+    (ap (unknown_clause (owner_of c.args.catalogue.now c.args.line)) (sym f.1) ∙ unknown_rule (owner_of c.args.catalogue.now c.args.line) (line_at c.args.catalogue.now c.args.line))
+    (c.unknown_in.ensures f.0 (owner_of c.args.catalogue.now c.args.line) c.rule_of.ensures.valid)

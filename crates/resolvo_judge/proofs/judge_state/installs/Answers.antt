@@ -16,7 +16,7 @@ returns-then-judging c = λ r install represents.
     let req = c.args.request.now.lines in
     let answers = answers_in (report_lines r) in
     let j = c.args.judging.now in
-    let keeps = subst (λ (b : Bool). KeepsAll cat req (entries_of answers) b) c.if-not-keeps_all.false (c.keeps_all.ensures (entries_of answers) represents.entries.chosen) in
+    let keeps = subst (λ (b : Bool). KeepsAll cat req (entries_of answers) b) c.if-not-branch.false (c.in_ok-keeps_all.ensures (entries_of answers) represents.entries.chosen) in
     let answered = subst (λ (b : Bool). AreWishesAnswered req answers b) c.if-not-are_wishes_answered.false (c.are_wishes_answered.ensures answers represents.entries represents.lines) in
     install_ends cat req j c.args.clauses.now.kept r _ install represents keeps answered
     (c.are_earlier.ensures
@@ -30,7 +30,7 @@ returns-else-judging c = λ r install represents.
     let req = c.args.request.now.lines in
     let answers = answers_in (report_lines r) in
     let j = c.args.judging.now in
-    let keeps = subst (λ (b : Bool). KeepsAll cat req (entries_of answers) b) c.if-not-keeps_all.false (c.keeps_all.ensures (entries_of answers) represents.entries.chosen) in
+    let keeps = subst (λ (b : Bool). KeepsAll cat req (entries_of answers) b) c.if-not-branch.false (c.in_ok-keeps_all.ensures (entries_of answers) represents.entries.chosen) in
     let answered = subst (λ (b : Bool). AreWishesAnswered req answers b) c.if-not-are_wishes_answered.false (c.are_wishes_answered.ensures answers represents.entries represents.lines) in
     install_ends cat req j c.args.clauses.now.kept r _ install represents keeps answered
     (c.if-judging.false ∙ sym (ap (λ (b : Bool). b && list_all (is_earlier (length c.args.clauses.now.kept)) j.entries.forbidden.steps.items) c.if-judging.false))

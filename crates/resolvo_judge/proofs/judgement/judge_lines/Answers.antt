@@ -96,20 +96,20 @@ loop-judging-preserved g c =
       c.in_ok-line.ensures.failures ∙ inv.1,
     )
 
-pub returns-then-may_end-clause-verdict : goal.returns-then-may_end-clause-verdict
-returns-then-may_end-clause-verdict g c = λ text e.
+pub returns-then-branch-clause-verdict : goal.returns-then-branch-clause-verdict
+returns-then-branch-clause-verdict g c = λ text e.
     let inv = c.loop-judging.invariant in
     let r = c.loop-judging.reader in
     let end = subst (λ (o : Option ReportLine). IfNone o (IsAtEnd (left r (g.S.Source.left c.loop-judging.source)) × IsTrue (may_end r.part))) c.in_default-2.is c.in_ok-line.ensures.end in
-    let ends = subst (λ (b : Bool). DecidesEnd c.args.catalogue.now c.args.request.now.lines (report_lines inv.0.report) b) c.if-may_end.true (c.may_end.ensures inv.0.report inv.0.represents) in
+    let ends = subst (λ (b : Bool). DecidesEnd c.args.catalogue.now c.args.request.now.lines (report_lines inv.0.report) b) c.if-branch.true (c.in_ok-may_end.ensures inv.0.report inv.0.represents) in
     (inv.0.report, upheld _ _ _ _ r c.loop-judging.judging c.loop-judging.clauses _ inv.0 end.0 end.1 ends text e)
 
-pub returns-then-may_end-clause-counted : goal.returns-then-may_end-clause-counted
-returns-then-may_end-clause-counted g c = λ text e.
+pub returns-then-branch-clause-counted : goal.returns-then-branch-clause-counted
+returns-then-branch-clause-counted g c = λ text e.
     let inv = c.loop-judging.invariant in
     let r = c.loop-judging.reader in
     let end = subst (λ (o : Option ReportLine). IfNone o (IsAtEnd (left r (g.S.Source.left c.loop-judging.source)) × IsTrue (may_end r.part))) c.in_default-2.is c.in_ok-line.ensures.end in
-    let ends = subst (λ (b : Bool). DecidesEnd c.args.catalogue.now c.args.request.now.lines (report_lines inv.0.report) b) c.if-may_end.true (c.may_end.ensures inv.0.report inv.0.represents) in
+    let ends = subst (λ (b : Bool). DecidesEnd c.args.catalogue.now c.args.request.now.lines (report_lines inv.0.report) b) c.if-branch.true (c.in_ok-may_end.ensures inv.0.report inv.0.represents) in
     let u = upheld _ _ _ _ r c.loop-judging.judging c.loop-judging.clauses _ inv.0 end.0 end.1 ends text e in
     (inv.0.report, u.report, u.is, inv.0.named, inv.0.counted)
 
@@ -118,6 +118,6 @@ returns-clause-verdict g c =
     let inv = c.loop-judging.invariant in
     let r = c.loop-judging.reader in
     let end = subst (λ (o : Option ReportLine). IfNone o (IsAtEnd (left r (g.S.Source.left c.loop-judging.source)) × IsTrue (may_end r.part))) c.in_default-2.is c.in_ok-line.ensures.end in
-    let ends = subst (λ (b : Bool). DecidesEnd c.args.catalogue.now c.args.request.now.lines (report_lines inv.0.report) b) c.if-may_end.false (c.may_end.ensures inv.0.report inv.0.represents) in
+    let ends = subst (λ (b : Bool). DecidesEnd c.args.catalogue.now c.args.request.now.lines (report_lines inv.0.report) b) c.if-branch.false (c.in_ok-may_end.ensures inv.0.report inv.0.represents) in
     refused_here c.args.catalogue.now c.args.request.now.lines _ _ (report_lines inv.0.report) r.part r.number r.lines.room c.loop-judging.number inv.0.read inv.0.passed inv.0.next_line
     (end_refused c.args.catalogue.now c.args.request.now.lines (report_lines inv.0.report) r.part _ end.0 ends)

@@ -1,6 +1,6 @@
 use Rattle.std.proofs.Common.{List, subst, arith}
 use Rattle.resolvo_catalogue_core.specs.Listed.{listed}
-use Rattle.resolvo_catalogue_core.specs.Table.{nth}
+use Rattle.resolvo_catalogue_core.specs.Kept.{nth}
 use Rattle.resolve_order.specs.Kept.{AreLines, OthersAreIdle, IsFound, entries_in}
 use Rattle.resolve_order.specs.declared.entry.Reason.{Reason}
 use Rattle.resolve_order.proofs.FinishLemmas.{ready, seen_all, extends_none, extends_again, extends_opened, number_at, extends_more}

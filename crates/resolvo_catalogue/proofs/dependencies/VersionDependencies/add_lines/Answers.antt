@@ -1,29 +1,16 @@
-use Rattle.std.proofs.Common.{arith}
+use Rattle.std.proofs.Common.{sym}
 use Rattle.resolvo_catalogue.specs.Dependencies.{deps_of}
-use Rattle.resolvo_catalogue.specs.IdCounts.{ids_for_dependency}
-use Rattle.resolvo_catalogue.proofs.CountLemmas.{rule_dependency, lines_more, lines_no_less, lines_within}
-use Rattle.resolvo_catalogue.proofs.GrowLemmas.{interns_on}
 use Rattle.resolvo_catalogue.proofs.DependencyLemmas.{lines_next, lines_step, deps_none}
 use Rattle.resolvo_catalogue.proofs.dependencies.VersionDependencies.add_lines.Goals as goal
-use Rattle.resolvo_catalogue.proofs.dependencies.VersionDependencies.add_lines.Goals.{in-Some+in_ok-add, in_default}
+use Rattle.resolvo_catalogue.proofs.dependencies.VersionDependencies.add_lines.Goals.{in-Some+in_ok-add_kept, in_default}
 
 pub loop-line-preserved : goal.loop-line-preserved
 loop-line-preserved c = elim c.match-rule.branch [
-  | in-Some+in_ok-add w ↦
-      let of_line = rw w.in-Some.is at c.rule.ensures.of_line in (
-        rw (w.ids-is, w.self-is, lines_step c.args.catalogue.now c.args.lines.now c.loop-line.line-index _ _ c.loop-line-test.true of_line.1) (w.in_ok-add.ensures.as_ids _ _ of_line.0 _ of_line.2 c.loop-line.invariant.0),
-        rw w.ids-is (interns_on _ _ _ c.loop-line.invariant.1 w.in_ok-add.ensures.interns),
-        rw w.ids-is (omega (arith, c.loop-line.invariant.2, w.in_ok-add.ensures.few, rule_dependency _ _ _ of_line.0 of_line.2, lines_more ids_for_dependency c.args.catalogue.now c.args.lines.now c.loop-line.line-index _ of_line.0 c.loop-line-test.true of_line.1)),
-      )
-  | in_default w ↦
-      let none = rw w.in_default.is at c.rule.ensures.none in (
-        rw (w.ids-is, w.self-is, lines_next c.args.catalogue.now c.args.lines.now c.loop-line.line-index 0 c.loop-line-test.true) (deps_none c.loop-line.ids (deps_of c.loop-line.self) c.args.catalogue.now _ _ c.loop-line.invariant.0 none),
-        rw w.ids-is c.loop-line.invariant.1,
-        rw w.ids-is (omega (arith, c.loop-line.invariant.2, lines_no_less ids_for_dependency c.args.catalogue.now c.args.lines.now c.loop-line.line-index 0 c.loop-line-test.true)),
-      )
+  | in-Some+in_ok-add_kept w ↦ λ ids same.
+      let of_line = rw (w.in-Some.is, sym same) at c.rule.ensures.of_line in
+      rw (w.self-is, lines_step c.args.kept.now.lines c.args.lines.now c.loop-line.line-index _ _ c.loop-line-test.true of_line.1)
+      (w.in_ok-add_kept.ensures ids _ _ of_line.0 _ of_line.2 (c.loop-line.invariant ids same))
+  | in_default w ↦ λ ids same.
+      let none = rw w.in_default.is at c.rule.ensures.none in
+      rw (w.self-is, lines_next c.args.kept.now.lines c.args.lines.now c.loop-line.line-index 0 c.loop-line-test.true) (deps_none ids (deps_of c.loop-line.self) c.args.kept.now.lines _ _ (c.loop-line.invariant ids same) none)
 ]
-
-pub returns-in_err-add-clause-few : goal.returns-in_err-add-clause-few
-returns-in_err-add-clause-few c =
-    let of_line = rw c.in-Some.is at c.rule.ensures.of_line in
-    omega (arith, c.loop-line.invariant.2, c.in_err-add.ensures.few, rule_dependency _ _ _ of_line.0 of_line.2, lines_within ids_for_dependency c.args.catalogue.now c.args.lines.now c.loop-line.line-index _ of_line.0 c.loop-line-test.true of_line.1)

@@ -1,6 +1,6 @@
 use Rattle.std.proofs.Common.{[], arith}
 use Rattle.resolvo_catalogue.specs.Dependencies.{deps_of}
-use Rattle.resolvo_catalogue.specs.IdCounts.{ids_for_dependency}
+use Rattle.resolvo_terms.specs.TermCounts.{ids_for_dependency}
 use Rattle.resolvo_catalogue.proofs.CountLemmas.{rule_dependency, text_more, text_no_less, text_within}
 use Rattle.resolvo_catalogue.proofs.GrowLemmas.{interns_on}
 use Rattle.resolvo_catalogue.proofs.DependencyLemmas.{text_next, text_step, deps_none}
@@ -11,7 +11,7 @@ pub loop-line-preserved : goal.loop-line-preserved
 loop-line-preserved c = elim c.match-rule.branch [
   | in-Some+in_ok-add w ↦
       let of_line = rw w.in-Some.is at c.rule.ensures.of_line in (
-        rw (w.ids-is, w.deps-is, text_step c.args.request.now.lines c.loop-line.line of_line.0 of_line.1) (w.in_ok-add.ensures.as_ids [] _ of_line.0 _ (of_line.2 []) c.loop-line.invariant.0),
+        rw (w.ids-is, w.deps-is, text_step c.args.request.now.lines c.loop-line.line of_line.0 of_line.1) (w.in_ok-add.ensures.as_ids [] of_line.0 _ (of_line.2 []) c.loop-line.invariant.0),
         rw w.ids-is (interns_on _ _ _ c.loop-line.invariant.1 w.in_ok-add.ensures.interns),
         rw w.ids-is (omega (arith, c.loop-line.invariant.2, w.in_ok-add.ensures.few, rule_dependency [] _ _ of_line.0 (of_line.2 []), text_more ids_for_dependency c.args.request.now.lines c.loop-line.line of_line.0 of_line.1)),
       )

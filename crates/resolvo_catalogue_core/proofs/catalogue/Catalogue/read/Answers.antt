@@ -5,20 +5,21 @@ use Rattle.resolvo_text.specs.Reader.{left, unread, TakesLine}
 use Rattle.resolvo_text.proofs.ReadTo.{at_start, one_more, read_fails}
 use Rattle.resolvo_catalogue_core.specs.Grammar.{IsCatalogueLine}
 use Rattle.resolvo_catalogue_core.specs.Table.{lines_in}
-use Rattle.resolvo_catalogue_core.proofs.CatalogueFacts.{no_lines, lines_push}
+use Rattle.resolvo_catalogue_core.proofs.CatalogueFacts.{no_lines, lines_push, few_push}
 use Rattle.resolvo_catalogue_core.proofs.catalogue.Catalogue.read.Goals as goal
 
 pub loop-reader-init : goal.loop-reader-init
 loop-reader-init g c =
     let known = g.S.Source.left c.args.source.now in
     let reader = c.in_ok-reader.reader in
-    let empty = c.new-table.ensures.empty in (
-      at_start IsCatalogueLine known (left reader known) (unread reader) (lines_in c.new-table.result) 16777216 reader.room refl c.in_ok-reader.ensures.fresh empty c.in_ok-reader.ensures.room,
-      c.new-table.ensures.table,
-      no_lines (lines_in c.new-table.result) empty,
+    let empty = c.in_ok-table.ensures.empty in (
+      at_start IsCatalogueLine known (left reader known) (unread reader) (lines_in c.in_ok-table.table) 16777216 reader.room refl c.in_ok-reader.ensures.fresh empty c.in_ok-reader.ensures.room,
+      c.in_ok-table.ensures.table,
+      no_lines (lines_in c.in_ok-table.table) empty,
       sym (ap (λ ls. length ls) empty),
       omega (arith, c.in_ok-reader.ensures.room),
       refl,
+      c.in_ok-table.ensures.few,
     )
 
 pub returns-in_err-next_line-clause-fault : goal.returns-in_err-next_line-clause-fault
@@ -46,4 +47,5 @@ loop-reader-preserved g c =
       omega (arith, c.loop-reader.invariant.3, ap (λ ls. length ls) new.2.1, length-append old (new.0 ∷ [])),
       omega (arith, c.in_ok-next_line.ensures.progress c.if-branch.true, c.loop-reader.invariant.4),
       c.in_ok-next_line.ensures.failures ∙ c.loop-reader.invariant.5,
+      few_push c.loop-reader.table c.read_line.new.self new.0 c.loop-reader.invariant.6 new.2.1 new.2.2,
     )

@@ -1,8 +1,12 @@
-use Rattle.std.proofs.Common.{◌∙◌, sym}
-use Rattle.resolvo_text.specs.View.{version_of}
+use Rattle.std.proofs.Common.{◌∙◌, ◌+◌, ℕ, List, length, refl, ap, sym, subst}
 use Rattle.std.specs.String.{string_bytes}
+use Rattle.resolvo_text.specs.View.{version_of}
+use Rattle.resolvo_text.specs.Line.{Line, Exclude}
+use Rattle.resolvo_terms.specs.Terms.{IsWord}
+use Rattle.resolvo_catalogue_core.specs.declared.table.Table.{Table}
+use Rattle.resolvo_terms.proofs.KnownLemmas.{word_known}
 use Rattle.resolvo_catalogue_core.proofs.Sorted.{updates_number}
-use Rattle.resolvo_catalogue_core.proofs.TableSteps.{exclude}
+use Rattle.resolvo_catalogue_core.proofs.TableSteps.{adds_over, exclude}
 use Rattle.resolvo_catalogue_core.proofs.PlaceLemmas.{exclude_placed, excluded_twice}
 use Rattle.resolvo_catalogue_core.proofs.table.Table.exclude.Goals as goal
 
@@ -14,5 +18,12 @@ returns-clause-placed c = exclude_placed c.args.self.now c.requires.table (versi
 
 pub returns-clause-ok : goal.returns-clause-ok
 returns-clause-ok c =
-    exclude c.args.self.now (record c.args.self.now { line_kinds = c.push.new.self; excluded = c.insert.new.self }) c.args.line c.in_ok-version.version (version_of c.args.version) c.args.word c.requires.table c.requires.line
-    c.in_ok-version.ensures.found (sym c.is_excluded.ensures ∙ c.if-is_excluded.false) c.in_ok-push.ensures (updates_number c.in_ok-version.version.0 c.args.self.now.excluded c.insert.new.self _ c.in_ok-insert.ensures.updates.0)
+    let t = c.args.self.now in
+    let u = c.word.new.self in
+    let w = c.in-Ok.word in
+    let word = string_bytes c.args.word in
+    let is : IsWord u w word = subst (λ (x : List ℕ). IsWord u w x) c.deref.ensures c.in-Ok.ensures.word in
+    let now : Table = record t { terms = u; line_kinds = c.push.new.self; excluded = c.insert.new.self } in
+    adds_over t u (Exclude (version_of c.args.version) word) now c.requires.table c.word.ensures.grows c.ids_are_once.ensures c.word.ensures.few refl
+    (λ keeps same. exclude (record t { terms = u }) now c.args.line c.in_ok-version.version (version_of c.args.version) w word keeps (word_known u w word is) is (c.requires.line ∙ ap (λ (ls : List Line). length ls + 1) (sym same))
+    c.in_ok-version.ensures.found (sym c.is_excluded.ensures ∙ c.if-is_excluded.false) c.in_ok-push.ensures (updates_number c.in_ok-version.version.0 t.excluded c.insert.new.self _ c.in_ok-insert.ensures.updates.0))

@@ -1,7 +1,12 @@
-use Rattle.std.proofs.Common.{◌∙◌, sym}
+use Rattle.std.proofs.Common.{◌∙◌, ◌+◌, ℕ, List, length, refl, ap, sym, subst}
 use Rattle.std.specs.String.{string_bytes}
+use Rattle.resolvo_text.specs.Line.{Line, Unknown}
+use Rattle.resolvo_terms.specs.Terms.{IsWord}
+use Rattle.resolvo_catalogue_core.specs.declared.table.Table.{Table}
+use Rattle.resolvo_terms.proofs.KnownLemmas.{word_known}
+use Rattle.resolvo_catalogue_core.specs.Grammar.{owner_below}
 use Rattle.resolvo_catalogue_core.proofs.Sorted.{updates_number}
-use Rattle.resolvo_catalogue_core.proofs.TableSteps.{mark_unknown}
+use Rattle.resolvo_catalogue_core.proofs.TableSteps.{adds_over, mark_unknown}
 use Rattle.resolvo_catalogue_core.proofs.PlaceLemmas.{unknown_placed, unknown_twice}
 use Rattle.resolvo_catalogue_core.proofs.table.Table.mark_unknown.Goals as goal
 
@@ -17,6 +22,13 @@ returns-clause-placed c =
 
 pub returns-clause-ok : goal.returns-clause-ok
 returns-clause-ok c =
+    let t = c.args.self.now in
+    let u = c.word.new.self in
+    let w = c.in-Ok.word in
+    let word = string_bytes c.args.word in
     let owner = c.in_ok-version.ensures.found in
-    mark_unknown c.args.self.now (record c.args.self.now { line_kinds = c.push.new.self; owned = c.add_line.new.self; unknown = c.insert.new.self }) c.args.line c.in_ok-version.version owner.0 c.args.word c.requires.table c.requires.line
-    owner.1 owner.2 (sym c.is_unknown.ensures ∙ c.if-is_unknown.false) c.in_ok-push.ensures c.in_ok-add_line.ensures.added c.in_ok-add_line.ensures.same (updates_number c.in_ok-version.version.0 c.args.self.now.unknown c.insert.new.self _ c.in_ok-insert.ensures.updates.0)
+    let is : IsWord u w word = subst (λ (x : List ℕ). IsWord u w x) c.deref.ensures c.in-Ok.ensures.word in
+    let now : Table = record t { terms = u; line_kinds = c.push.new.self; owned = c.add_line.new.self; unknown = c.insert.new.self } in
+    adds_over t u (Unknown word) now c.requires.table c.word.ensures.grows c.ids_are_once.ensures c.word.ensures.few refl
+    (λ keeps same. mark_unknown (record t { terms = u }) now c.args.line c.in_ok-version.version owner.0 w word keeps (word_known u w word is) is (c.requires.line ∙ ap (λ (ls : List Line). length ls + 1) (sym same))
+    owner.1 (ap owner_below same ∙ owner.2) (sym c.is_unknown.ensures ∙ c.if-is_unknown.false) c.in_ok-push.ensures c.in_ok-add_line.ensures.added c.in_ok-add_line.ensures.same (updates_number c.in_ok-version.version.0 t.unknown c.insert.new.self _ c.in_ok-insert.ensures.updates.0))

@@ -1,7 +1,9 @@
-use Rattle.std.proofs.Common.{subst}
-use Rattle.resolvo_text.specs.Line.{Line, Listed}
+use Rattle.std.proofs.Common.{◌≡◌, ◌∙◌, Option, Some, None, refl, ap, sym, subst, option_map}
+use Rattle.std.proofs.lemmas.Result.{on_ok_weaker}
+use Rattle.resolvo_text.specs.Line.{Spec, Line, Listed, Limits}
 use Rattle.resolvo_text.specs.View.{view}
-use Rattle.resolvo_text.proofs.TextLaws.{one_line}
+use Rattle.resolvo_text.specs.Parse.{words_in, spec_in}
+use Rattle.resolvo_text.proofs.TextLaws.{line_again, line_takes, one_line}
 use Rattle.resolvo_catalogue_core.specs.Grammar.{MayFollow}
 use Rattle.resolvo_catalogue_core.specs.Listed.{version_by}
 use Rattle.resolvo_catalogue_core.specs.Table.{lines_in}
@@ -11,6 +13,24 @@ pub returns-in-Some-clause-fault : goal.returns-in-Some-clause-fault
 returns-in-Some-clause-fault c = λ e line p.
     let same = one_line c.args.text.now line (Listed (version_by c.in-Some.name.now c.in-Some.version)) p.parsed c.in-Some.ensures.listed in
     c.list.ensures.fault e (subst (λ (l : Line). MayFollow (lines_in c.args.self.now) l) same p.place)
+
+pub returns-in-Some-needs_words-clause-ok : goal.returns-in-Some-needs_words-clause-ok
+returns-in-Some-needs_words-clause-ok c = on_ok_weaker c.read_need.result (λ h. (h.0, record { parsed = line_takes c.args.text.now h.0 (c.in-Some-needs_words.ensures ∙ h.1); place = h.2 }, h.3)) c.read_need.ensures.ok
+
+pub returns-in-Some-needs_words-clause-fault : goal.returns-in-Some-needs_words-clause-fault
+returns-in-Some-needs_words-clause-fault c = λ e line p. c.read_need.ensures.fault e line (sym c.in-Some-needs_words.ensures ∙ line_again c.args.text.now line p.parsed.form p.parsed.spelled) p.place
+
+limit_of : (o : Option Spec) (line : Line) → option_map (λ (s : Spec). Limits s) o ≡ Some line → (s : Spec) × (o ≡ Some s) × (line ≡ Limits s)
+limit_of None line e = absurd cc
+limit_of (Some s) line e = (s, refl, cc)
+
+pub returns-in-Some-limits_words-clause-ok : goal.returns-in-Some-limits_words-clause-ok
+returns-in-Some-limits_words-clause-ok c = on_ok_weaker c.read_limit.result (λ h. (Limits h.0, record { parsed = line_takes c.args.text.now (Limits h.0) (c.in-Some-limits_words.ensures ∙ ap (λ (o : Option Spec). option_map (λ (s : Spec). Limits s) o) h.1); place = h.2 }, h.3)) c.read_limit.ensures.ok
+
+pub returns-in-Some-limits_words-clause-fault : goal.returns-in-Some-limits_words-clause-fault
+returns-in-Some-limits_words-clause-fault c = λ e line p.
+    let s = limit_of (spec_in (words_in c.in-Some-limits_words.words.now)) line (sym c.in-Some-limits_words.ensures ∙ line_again c.args.text.now line p.parsed.form p.parsed.spelled) in
+    c.read_limit.ensures.fault e s.0 s.1 (subst (λ (l : Line). MayFollow (lines_in c.args.self.now) l) s.2 p.place)
 
 pub returns-clause-fault : goal.returns-clause-fault
 returns-clause-fault c = λ e line p.

@@ -4,7 +4,7 @@ use Rattle.resolvo_terms.specs.declared.terms.Numbers.{Numbers}
 use Rattle.resolvo_terms.specs.Terms.{Terms, NameId}
 use Rattle.resolvo_terms.specs.Found.{AreKept, Key, key_eq, set_key, number_at}
 use Rattle.resolvo_terms.proofs.FoundLemmas.{sets_more, last_there, extends_to}
-use Rattle.resolvo_terms.proofs.terms.Terms.version_set.Goals as goal
+use Rattle.resolvo_terms.proofs.terms.Terms.keyed_set.Goals as goal
 
 pub returns-in-Some-clause-version_set : goal.returns-in-Some-clause-version_set
 returns-in-Some-clause-version_set c =

@@ -1,0 +1,60 @@
+-- The first of some texts are known to spell names.
+use Rattle.std.proofs.Common.{◌≡◌, ◌∙◌, ◌<◌, ◌≤◌, ◌⊎◌, inl, inr, ℕ, zero, suc, true, List, [], Option, Some, Ok, length, refl, sym, ap, subst, arith}
+use Rattle.std.specs.Prelude.{slice_get}
+use Rattle.std.proofs.lemmas.Option.{slice_get_within, slice_get-get_or, same_Some, cond_some}
+use Rattle.resolvo_text.specs.Spelling.{is_name}
+use Rattle.resolvo_text.specs.Parse.{name_in}
+use Rattle.resolvo_terms.specs.Terms.{Extends}
+use Rattle.resolvo_terms.specs.Names.{AreChecked}
+use Rattle.resolvo_terms.specs.Reads.{Reads}
+
+few_more : (old new : List (List ℕ)) (n : ℕ) → Extends old new → n ≤ length old → n ≤ length new
+few_more old new zero more l = omega arith
+few_more old new (suc n) more l =
+    let within = slice_get_within new n _ (more n _ (slice_get-get_or old n [] (omega (arith, l)))) in
+    omega (arith, within)
+
+-- They are known where more texts are added.
+pub checked_stay : (old new : List (List ℕ)) (n : ℕ) → Extends old new → AreChecked old n → AreChecked new n
+checked_stay old new n more are = record {
+  few = few_more old new n more are.few;
+  names = λ i text l at.
+      let there = slice_get-get_or old i [] (omega (arith, l, are.few)) in
+      subst (λ (t : List ℕ). is_name t ≡ true) (same_Some _ text (sym (more i _ there) ∙ at)) (are.names i _ l there);
+}
+
+below_or : (n k : ℕ) → k < suc n → (k < n) ⊎ (k ≡ n)
+below_or zero zero l = inr refl
+below_or zero (suc k) l = absurd (omega (arith, l))
+below_or (suc n) zero l = inl (omega arith)
+below_or (suc n) (suc k) l = elim (below_or n k (omega (arith, l))) [
+  | inl y ↦ inl (omega (arith, y))
+  | inr y ↦ inr (ap suc y)
+]
+
+-- The next one is known, if it spells a name.
+pub checked_next : (texts : List (List ℕ)) (n : ℕ) (name : List ℕ) → AreChecked texts n → slice_get texts n ≡ Some name → is_name name ≡ true → AreChecked texts (suc n)
+checked_next texts n name are at is = record {
+  few = let within = slice_get_within texts n name at in omega (arith, within);
+  names = λ i text l there. elim (below_or n i l) [
+    | inl y ↦ are.names i text y there
+    | inr y ↦ subst (λ (t : List ℕ). is_name t ≡ true) (same_Some name text (sym at ∙ subst (λ (k : ℕ). slice_get texts k ≡ Some text) y there)) is
+  ];
+}
+
+-- ---- what a word spells
+
+spelled : (word : List ℕ) → is_name word ≡ true → name_in word ≡ Some word
+unfolding name_in
+spelled word is = rw is refl
+
+-- A known name is what its word spells.
+pub known_read : (texts : List (List ℕ)) (i : ℕ) (word : List ℕ) → slice_get texts i ≡ Some word → is_name word ≡ true → Reads (λ n name. slice_get texts n ≡ Some name) (Ok i) (name_in word)
+known_read texts i word at is = subst (λ (o : Option (List ℕ)). Reads (λ n name. slice_get texts n ≡ Some name) (Ok i) o) (sym (spelled word is)) at
+
+-- What a word spells is a name.
+pub named_in : (word name : List ℕ) → name_in word ≡ Some name → is_name name ≡ true
+unfolding name_in
+named_in word name e =
+    let g = cond_some (is_name word) word name e in
+    subst (λ (w : List ℕ). is_name w ≡ true) g.1 g.0

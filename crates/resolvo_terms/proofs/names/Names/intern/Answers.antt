@@ -1,0 +1,5 @@
+use Rattle.resolvo_terms.proofs.NameLemmas.{checked_stay}
+use Rattle.resolvo_terms.proofs.names.Names.intern.Goals as goal
+
+pub invariant_of-self : goal.invariant_of-self
+invariant_of-self c = checked_stay c.self.inside.texts c.intern.new.self c.self.inside.checked c.intern.ensures.extends c.self.invariant

@@ -1,0 +1,118 @@
+//! Names of packages, each numbered once, in the order in which they are added. The model is the list
+//! of them. The first of them were read from words, so each of those is known to spell a name: a
+//! word that is one of them needs no look at its bytes. Used by `terms`.
+
+ghost use Rattle.std.specs.Prelude.{◌≡◌, ◌≤◌, ◌+◌, [], IfOk, IsErrOf, length, slice_get, Some};
+ghost use Rattle.std.specs.Option.{option_map};
+ghost use Rattle.resolvo_pool_core.specs.declared.want.Want.TheVariants.{Ids};
+ghost use Rattle.resolvo_text.specs.Parse.{name_in};
+ghost use Rattle.resolvo_terms.specs.Terms.{AreOnce, Extends};
+ghost use Rattle.resolvo_terms.specs.Reads.{Reads};
+
+use crate::text_ids::TextIds;
+use resolvo_pool_core::want::R;
+use resolvo_text::{LineFault, name_in};
+use std::alloc::{AllocError, Global};
+use std::marker::Model;
+
+pub struct Names {
+    texts: TextIds,
+    /// So many of the first texts are known to spell names.
+    checked: usize,
+}
+
+// split for the prover: one drop
+impl Drop for Names {
+    fn drop(self) {
+        let Names {
+            texts: _,
+            checked: _,
+        } = self;
+    }
+}
+
+impl Model for Names {
+    ghost use Rattle.std.specs.Prelude.{List, ℕ};
+    ghost use Rattle.resolvo_terms.specs.Names.{AreChecked};
+
+    ghost Value = { List (List ℕ) };
+
+    ghost view = { λ n. n.texts };
+
+    ghost invariant = { λ n. AreChecked n.texts n.checked };
+}
+
+impl Names {
+    pub fn new(alloc: Global) -> Result<Names, AllocError>
+        ensures { IfOk result (λ n. n ≡ []) }
+    {
+        Ok(Names {
+            texts: TextIds::new(alloc)?,
+            checked: 0,
+        })
+    }
+
+    /// The same names with the same numbers.
+    pub fn copy(&self, alloc: Global) -> Result<Names, AllocError>
+        ensures { IfOk result (λ n. n ≡ self.now) }
+    {
+        Ok(Names {
+            texts: self.texts.copy(alloc)?,
+            checked: self.checked,
+        })
+    }
+
+    /// The number of a name, a new one where it has none.
+    pub fn intern(&mut self, alloc: Global, name: &str) -> R<u32>
+        ensures text { IfOk result (λ i. slice_get self.new i ≡ Some name.now) }
+        ensures extends { Extends self.old self.new }
+        ensures few { length self.new ≤ length self.old + 1 }
+        ensures ids { IsErrOf result Ids → 4294967295 ≤ length self.new }
+    {
+        self.texts.intern(alloc, name)
+    }
+
+    /// The number of the name that a word spells, a new one where it has none.
+    pub fn read(&mut self, alloc: Global, word: &[u8]) -> Result<u32, LineFault>
+        ensures name { Reads (λ i name. slice_get self.new i ≡ Some name) result (name_in word.now) }
+        ensures extends { Extends self.old self.new }
+        ensures few { length self.new ≤ length self.old + 1 }
+    {
+        if let Some(number) = self.texts.number(word) {
+            if (number as usize) < self.checked {
+                return Ok(number);
+            }
+        }
+        let Some(name) = name_in(word) else {
+            return Err(LineFault::Fault);
+        };
+        let Ok(number) = self.texts.intern(alloc, name) else {
+            return Err(LineFault::Memory);
+        };
+        if number as usize == self.checked {
+            self.checked += 1;
+        }
+        Ok(number)
+    }
+
+    /// How many names there are.
+    pub fn len(&self) -> usize
+        ensures { result ≡ length self.now }
+    {
+        self.texts.len()
+    }
+
+    /// The name of a number.
+    pub fn text(&self, id: u32) -> Option<&str>
+        ensures { option_map (λ t. t.now) result ≡ slice_get self.now id }
+    {
+        self.texts.text(id)
+    }
+
+    /// A law of each table: no name has two numbers. It does nothing.
+    pub fn texts_are_once(&self)
+        ensures { AreOnce self.now }
+    {
+        self.texts.texts_are_once()
+    }
+}
