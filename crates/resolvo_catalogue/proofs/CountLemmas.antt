@@ -1,5 +1,5 @@
 -- How many ids are given, against how many the lines need at most.
-use Rattle.std.proofs.Common.{◌≡◌, ◌+◌, ◌*◌, ◌≤◌, ℕ, List, [], ◌∷◌, take, length, Option, Some, Result, Ok, Err, refl, sym, ap, subst, ◌∙◌, arith}
+use Rattle.std.proofs.Common.{◌≡◌, ◌+◌, ◌≤◌, ℕ, List, [], ◌∷◌, take, length, Option, Some, Result, Ok, Err, refl, sym, ap, subst, ◌∙◌, arith}
 use Rattle.std.specs.Prelude.{IsErrOf, option_to_list, sum_by}
 use Rattle.std.specs.Result.{IsErrAnd}
 use Rattle.resolvo_pool_core.specs.declared.want.Want.{Want}
@@ -13,7 +13,7 @@ use Rattle.resolvo_catalogue_core.specs.declared.rule.Rule.TheVariants as rule
 use Rattle.resolvo_intern.specs.declared.pool.Solvable.{Solvable}
 use Rattle.resolvo_terms.specs.Terms.{Terms}
 use Rattle.resolvo_catalogue.specs.Ids.{Ids, AreVersions, LacksNumber, terms_of}
-use Rattle.resolvo_catalogue.specs.IdCounts.{id_count, ids_for_version, ids_for_line, dependency_ids}
+use Rattle.resolvo_catalogue.specs.IdCounts.{id_count, ids_for_line, dependency_ids}
 use Rattle.resolvo_terms.specs.TermCounts.{term_count, ids_for_dependency, terms_for_line}
 use Rattle.resolvo_catalogue.proofs.DependencyLemmas.{text_next, text_step}
 use Rattle.resolvo_terms.proofs.Places.{each_length}
@@ -43,12 +43,12 @@ module _ (f : Line → ℕ) (lines : List Line) where
   pub text_within : (i : ℕ) (l : Line) → line_at lines (i + 1) ≡ Some l → sum_by f (take i lines) + f l ≤ sum_by f lines
   text_within i l at = omega (arith, text_more i l at, sum_by-take-le f lines (i + 1))
 
--- what the versions need
-pub versions_part : (lines : List Line) → sum_by ids_for_version lines ≡ 2 * length (listed lines)
-versions_part [] = refl
-versions_part (line ∷ lines) = omega (arith, versions_part lines, first line, sum_by-cons ids_for_version line lines)
+-- what the lines need is one id for each version, and their terms
+pub both_parts : (lines : List Line) → sum_by ids_for_line lines ≡ length (listed lines) + sum_by terms_for_line lines
+both_parts [] = refl
+both_parts (line ∷ lines) = omega (arith, both_parts lines, first line, sum_by-cons ids_for_line line lines, sum_by-cons terms_for_line line lines)
   where
-    first : (l : Line) → ids_for_version l + 2 * length (listed lines) ≡ 2 * length (listed (l ∷ lines))
+    first : (l : Line) → ids_for_line l + length (listed lines) ≡ length (listed (l ∷ lines)) + terms_for_line l
     first Skipped = omega arith
     first (Listed v) = omega arith
     first (Needs ss c) = omega arith
@@ -60,11 +60,6 @@ versions_part (line ∷ lines) = omega (arith, versions_part lines, first line, 
     first (Many name) = omega arith
     first (Wish v) = omega arith
 
--- what the lines need is what their versions and their terms need
-pub both_parts : (lines : List Line) → sum_by ids_for_line lines ≡ sum_by ids_for_version lines + sum_by terms_for_line lines
-both_parts [] = refl
-both_parts (line ∷ lines) = omega (arith, both_parts lines, sum_by-cons ids_for_line line lines, sum_by-cons ids_for_version line lines, sum_by-cons terms_for_line line lines)
-
 -- ---- versions
 
 -- there are as many solvables as versions, so no number is left
@@ -73,7 +68,7 @@ too_many ids versions are many = LacksNumber.solvables (let e : length ids.solva
 
 -- Over a table of terms, which are no more than the lines need, only versions are given ids.
 pub count_over : (ids new : Ids) (terms : Terms) (kept lines : List Line) → terms_of ids ≡ terms → ids.solvables ≡ [] → kept ≡ lines → term_count terms ≤ sum_by terms_for_line kept
-    → id_count new ≤ id_count ids + sum_by ids_for_version lines → id_count new ≤ sum_by ids_for_line lines
+    → id_count new ≤ id_count ids + length (listed lines) → id_count new ≤ sum_by ids_for_line lines
 count_over ids new terms kept lines over none same few more =
     let count : term_count (terms_of ids) ≡ term_count terms = ap term_count over in
     let no : length ids.solvables ≡ 0 = ap (λ (ss : List (Solvable ℕ)). length ss) none in

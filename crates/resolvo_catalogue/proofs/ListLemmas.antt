@@ -1,19 +1,22 @@
 -- The versions as solvables, one more.
-use Rattle.std.proofs.Common.{◌≡◌, ◌==◌, if◌then◌else◌, ◌+◌, ◌<◌, ℕ, zero, suc, Bool, true, false, List, [], ◌∷◌, ◌++◌, map, length, refl, sym, ap, ◌∙◌, arith}
-use Rattle.std.specs.Prelude.{All, nat_lt, slice_index_or, string_bytes}
+use Rattle.std.proofs.Common.{◌≡◌, ◌==◌, if◌then◌else◌, ◌+◌, ◌<◌, ℕ, zero, suc, Bool, true, false, List, [], ◌∷◌, ◌++◌, map, length, Option, Some, None, refl, sym, ap, subst, ◌∙◌, arith}
+use Rattle.std.specs.Prelude.{All, Contains, IsSome, nat_lt, option_map, slice_get, slice_index_or, string_bytes}
 use Rattle.std.specs.Global.{Global, Vec}
 use Rattle.std.specs.declared.string.String.{String}
 use Rattle.std.proofs.lemmas.Bool.{and_parts}
 use Rattle.std.proofs.lemmas.Bool.Decides.{nat_tests}
 use Rattle.std.proofs.lemmas.List.{map-append, append-nil}
 use Rattle.std.proofs.lemmas.List.Elements.{All-cons, All-nil}
-use Rattle.std.proofs.lemmas.Option.{slice_get_within}
+use Rattle.std.proofs.lemmas.Option.{slice_get-map, slice_get_within, get_or_from_slice_get}
 use Rattle.resolvo_text.specs.Line.{Version}
-use Rattle.resolvo_catalogue_core.specs.Listed.{name_at, kept_versions, is_kept, are_kept}
+use Rattle.resolvo_catalogue_core.specs.Listed.{name_at, kept_version, kept_versions, is_kept, are_kept, AreUsed}
 use Rattle.resolvo_catalogue_core.specs.declared.versions.KeptVersion.{KeptVersion}
 use Rattle.resolvo_intern.specs.declared.pool.Solvable.{Solvable}
 use Rattle.resolvo_catalogue.specs.Ids.{Ids, SolvableId, solvable_id, solvable_by, IsPackage, IsSolvable, Grows, list_at, places_from, solvables_of}
+use Rattle.resolvo_terms.specs.Known.{place_of}
 use Rattle.resolvo_terms.specs.Terms.{NameId, AreEach}
+use Rattle.resolvo_terms.proofs.Places.{at_from_contains}
+use Rattle.resolvo_terms.proofs.TextPlaces.{has_place}
 use Rattle.resolvo_terms.proofs.GrowLemmas.{each_as}
 use Rattle.resolvo_catalogue.proofs.Places.{places_push}
 
@@ -69,6 +72,25 @@ versions_by ids names packages (v ∷ vs) named e =
       (refl, package_at ids packages (map string_bytes names) v.«package» _ named (below v.«package» (length packages) parts.0)),
       versions_by ids names packages vs named parts.1,
     )
+
+-- a package that is there is found
+pub some_package : (texts : List (List ℕ)) (text : List ℕ) (r : Option NameId) → Contains texts text → option_map (λ n. n.raw) r ≡ place_of texts text → IsSome r
+some_package texts text None has is = let at = at_from_contains texts text has in absurd (has_place texts text at.0 at.1 (sym is))
+some_package texts text (Some n) has is = refl
+
+name_is : (names : List (String Global)) (k : ℕ) (d : String Global) → k < length names → name_at names k ≡ string_bytes (slice_index_or names k d)
+name_is [] k d within = absurd (omega (arith, within))
+name_is (n ∷ names) zero d within = refl
+name_is (n ∷ names) (suc k) d within = name_is names k d (omega (arith, within))
+
+-- where the packages of all versions are there, so are those of all names
+pub names_named : (texts : List (List ℕ)) (names : List (String Global)) (kept : List KeptVersion) → AreUsed (length names) kept → All (λ v. Contains texts v.name) (kept_versions names kept) → All (λ name. Contains texts (string_bytes name)) names
+names_named texts names kept used named = λ k d within.
+    let u = used k within in
+    let v : Version = kept_version names u.1 in
+    let at : slice_get (kept_versions names kept) u.0 ≡ Some v = slice_get-map (kept_version names) kept u.0 ∙ ap (λ (o : Option KeptVersion). option_map (kept_version names) o) u.2 in
+    let has : Contains texts v.name = subst (λ (x : Version). Contains texts x.name) (get_or_from_slice_get (kept_versions names kept) u.0 v v at) (named u.0 v (slice_get_within (kept_versions names kept) u.0 v at)) in
+    subst (λ (x : List ℕ). Contains texts x) (ap (λ (n : ℕ). name_at names n) u.3 ∙ name_is names k d within) has
 
 -- versions are listed where there were none
 pub grows_listed : (a b : Ids) (ss : List (Solvable ℕ)) → a.solvables ≡ [] → b ≡ record a { solvables = ss } → Grows a b

@@ -4,11 +4,12 @@
 //! Filled by `versions` and `dependencies`, read by `provider`.
 
 ghost use Rattle.std.specs.Prelude.{◌≡◌, ◌<◌, ◌≤◌, ◌+◌, ◌++◌, ◌∷◌, [], IfOk, IsErrOf, OnOk, OnErr, length};
-ghost use Rattle.std.specs.Option.{option_copied};
+ghost use Rattle.std.specs.Option.{option_copied, option_map};
 ghost use Rattle.resolvo_text.specs.View.{spec_of, specs_of, condition_of};
 ghost use Rattle.resolvo_pool_core.specs.declared.want.Want.TheVariants.{Ids};
+ghost use Rattle.resolvo_terms.specs.Known.{place_of};
 ghost use Rattle.resolvo_terms.specs.TermCounts.{ids_for_need};
-ghost use Rattle.resolvo_catalogue.specs.Ids.{terms_of, Interns, AreSound, LacksNumber, IsPackage, IsSpec, IsNeed};
+ghost use Rattle.resolvo_catalogue.specs.Ids.{terms_of, Interns, AreSound, LacksNumber, IsSpec, IsNeed};
 ghost use Rattle.resolvo_catalogue.specs.IdCounts.{id_count};
 
 use resolvo_catalogue_core::{Cond, Span, Spec};
@@ -68,17 +69,6 @@ impl IdTable {
         })
     }
 
-    /// The id of a package.
-    #[tactic(auto, using(crate::proofs::GrowLemmas::interns_by, crate::proofs::GrowLemmas::lacks_by))]
-    pub fn package(&mut self, name: &str) -> R<NameId>
-        ensures package { IfOk result (λ n. IsPackage self.new n name.now) }
-        ensures interns { Interns self.old self.new }
-        ensures few { id_count self.new ≤ id_count self.old + 1 }
-        ensures ids { IsErrOf result Ids → LacksNumber self.new }
-    {
-        self.terms.package(name)
-    }
-
     /// The id of one version more, of this package.
     pub fn version(&mut self, name: NameId, number: u32) -> R<SolvableId>
         // After an answer.
@@ -134,6 +124,13 @@ impl IdTable {
 
 impl IdTable {
     ghost use Rattle.resolvo_catalogue.specs.Known.{solvable_at, set_at, members_of, condition_at, name_text, word_text};
+
+    /// The id of a package, if it has one.
+    pub fn find_package(&self, name: &str) -> Option<NameId>
+        ensures { option_map (λ n. n.raw) result ≡ place_of self.now.names name.now }
+    {
+        self.terms.find_package(name)
+    }
 
     /// How many names there are, of packages with a version or without one.
     pub fn name_count(&self) -> usize

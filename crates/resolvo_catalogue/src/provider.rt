@@ -2,12 +2,12 @@
 //! Its model is the interned values, and the dependencies and marks of each version
 //! (`specs/Provider.antt`).
 
-ghost use Rattle.std.specs.Prelude.{◌≡◌, ◌≤◌, ◌<◌, ◌+◌, [], Bool, false, length, map, sum_by, true, IfOk, IsErrOf, IsOkUnless};
+ghost use Rattle.std.specs.Prelude.{All, Contains, ◌≡◌, ◌≤◌, ◌<◌, ◌+◌, [], Bool, false, length, map, sum_by, true, IfOk, IsErrOf, IsOkUnless};
 ghost use Rattle.resolvo_pool_core.specs.declared.want.Want.TheVariants.{Ids as NoIds, Memory};
 ghost use Rattle.resolvo_catalogue.specs.declared.provider.Hint.{Hint};
 ghost use Rattle.resolvo_catalogue_core.specs.Listed.{listed};
 ghost use Rattle.resolvo_catalogue.specs.Ids.{Ids, AreByPackage, LacksNumber, terms_of};
-ghost use Rattle.resolvo_catalogue.specs.IdCounts.{LacksNumberFor, id_count, ids_for_line, ids_for_version};
+ghost use Rattle.resolvo_catalogue.specs.IdCounts.{LacksNumberFor, id_count, ids_for_line};
 ghost use Rattle.resolvo_terms.specs.TermCounts.{ids_for_dependency};
 ghost use Rattle.resolvo_catalogue.specs.Over.{AreDependencies, IsOver};
 
@@ -289,6 +289,7 @@ fn tables_of(
 ) -> R<Tables>
     requires kept { kept.now.lines ≡ catalogue.now }
     requires terms { terms_of ids.old ≡ kept.now.terms }
+    requires named { All (λ v. Contains ids.old.names v.name) (listed catalogue.now) }
     requires none { ids.old.solvables ≡ [] }
     // After an answer.
     ensures over { IfOk result
@@ -305,7 +306,7 @@ fn tables_of(
         })) }
     ensures packages { IfOk result (λ t. AreByPackage ids.new t.packages.items) }
     // Whatever the answer.
-    ensures few { id_count ids.new ≤ id_count ids.old + sum_by ids_for_version catalogue.now }
+    ensures few { id_count ids.new ≤ id_count ids.old + length (listed catalogue.now) }
     // After a refusal.
     ensures ids { IsErrOf result NoIds → LacksNumber ids.new }
 {

@@ -1,10 +1,10 @@
 //! The versions of a catalogue as solvables, in line order, and those of each package.
 
-ghost use Rattle.std.specs.Prelude.{All, ◌≡◌, ◌≤◌, ◌<◌, ◌+◌, ◌*◌, ◌++◌, ◌∷◌, ◌==◌, [], IfOk, IsErrOf, IsOkUnless, OnOk, length, map, true, if◌then◌else◌, ℕ};
+ghost use Rattle.std.specs.Prelude.{All, Contains, ◌≡◌, ◌≤◌, ◌<◌, ◌+◌, ◌++◌, ◌∷◌, ◌==◌, [], IfOk, IsErrOf, IsOkUnless, OnOk, length, map, true, if◌then◌else◌, ℕ};
 ghost use Rattle.resolvo_pool_core.specs.declared.want.Want.TheVariants.{Ids, Memory};
 ghost use Rattle.resolvo_catalogue_core.specs.Listed.{are_kept};
 ghost use Rattle.resolvo_catalogue.specs.IdCounts.{id_count};
-ghost use Rattle.resolvo_catalogue.specs.Ids.{AreVersions, AreByPackage, Grows, Interns, IsPackage, LacksNumber, list_at, solvable_by};
+ghost use Rattle.resolvo_catalogue.specs.Ids.{AreVersions, AreByPackage, Grows, IsPackage, LacksNumber, list_at, solvable_by};
 ghost use Rattle.resolvo_terms.specs.Terms.{AreEach};
 ghost use Rattle.std.specs.String.{string_bytes};
 
@@ -20,36 +20,44 @@ pub fn list_versions(
     ids: &mut IdTable,
     versions: &Versions,
 ) -> R<Vec<Vec<SolvableId>>>
+    requires named { All (λ v. Contains ids.old.names v.name) versions.now }
     requires none { ids.old.solvables ≡ [] }
     // After an answer.
     ensures versions { IfOk result (λ _. AreVersions ids.new versions.now) }
     ensures packages { IfOk result (λ lists. AreByPackage ids.new lists.items) }
     ensures grows { OnOk result (Grows ids.old ids.new) }
     // Whatever the answer.
-    ensures few { id_count ids.new ≤ id_count ids.old + 2 * length versions.now }
+    ensures few { id_count ids.new ≤ id_count ids.old + length versions.now }
     // After a refusal.
     ensures ids { IsErrOf result Ids → LacksNumber ids.new }
 {
     let (names, kept) = versions.parts();
-    let packages = packages_of(alloc, ids, names)?;
+    let packages = packages_of(alloc, &*ids, names)?;
     let mut lists = empty_lists(alloc, ids.name_count())?;
     list_kept(ids, &packages, kept, &mut lists)?;
     Ok(lists)
 }
 
 /// The ids of the packages of these names.
-fn packages_of(alloc: Global, ids: &mut IdTable, names: &[String]) -> R<Vec<NameId>>
+fn packages_of(alloc: Global, ids: &IdTable, names: &[String]) -> R<Vec<NameId>>
+    requires { All (λ name. Contains ids.now.names (string_bytes name)) names.now }
     ensures packages { IfOk result
-        (λ packages. AreEach (IsPackage ids.new) packages.items (map string_bytes names.now)) }
-    ensures interns { Interns ids.old ids.new }
-    ensures few { id_count ids.new ≤ id_count ids.old + length names.now }
-    ensures ids { IsErrOf result Ids → LacksNumber ids.new }
+        (λ packages. AreEach (IsPackage ids.now) packages.items (map string_bytes names.now)) }
+    ensures refusal { IsOkUnless result Memory }
 {
     let mut packages = Vec::with_capacity(alloc, names.len())?;
     for name in names {
-        packages.push(ids.package(name.as_str())?)?;
+        packages.push(package_of(ids, name.as_str()))?;
     }
     Ok(packages)
+}
+
+/// The id of a package that has one.
+fn package_of(ids: &IdTable, name: &str) -> NameId
+    requires { Contains ids.now.names name.now }
+    ensures { IsPackage ids.now result name.now }
+{
+    ids.find_package(name).unwrap()
 }
 
 /// So many empty lists.

@@ -9,9 +9,9 @@ use Rattle.resolvo_text.specs.Line.{Version, Line, Skipped, Listed, Needs, Limit
 use Rattle.resolvo_catalogue_core.specs.Grammar.{line_at, owner_of, owner_below, MayFollow}
 use Rattle.resolvo_catalogue_core.specs.Questions.{LineIs, MarksUnknownOf, Locks, Favours, MarksMany, Excludes, IsOfPackage, number_of, IsVersionLine}
 use Rattle.resolvo_catalogue_core.specs.Numbered.{versions_of}
-use Rattle.resolvo_catalogue_core.specs.Packages.{package_in, first_in}
+use Rattle.resolvo_catalogue_core.specs.Packages.{first_in}
 use Rattle.resolvo_catalogue_core.specs.Kept.{nowhere}
-use Rattle.resolvo_catalogue_core.specs.Table.{IsTable, IsPackage, lines_in, versions_in, number_in, kinds_in, numbers_in}
+use Rattle.resolvo_catalogue_core.specs.Table.{IsTable, IsPackage, lines_in, versions_in, package_named, number_in, kinds_in, numbers_in}
 use Rattle.resolvo_catalogue_core.specs.declared.rule.VersionNo.{VersionNo}
 use Rattle.resolvo_catalogue_core.specs.declared.package.Package.{Package}
 use Rattle.resolvo_catalogue_core.specs.declared.table.Table.{Table}
@@ -53,32 +53,32 @@ listed_at t keeps v h = listed_from (lines_in t) v h.0.0 (rw keeps.listing h.1)
 -- ---- versions
 
 -- the result of a search for a version by its name
-pub found_at : (t : Table) → IsTable t → (v : Version) (name : List ℕ) (r : Option VersionNo) (n : VersionNo) → name ≡ v.name → option_map number_of r ≡ number_in (package_in t.packages name) v.number → r ≡ Some n → slice_get (versions_in t) n.0 ≡ Some v
+pub found_at : (t : Table) → IsTable t → (v : Version) (name : List ℕ) (r : Option VersionNo) (n : VersionNo) → name ≡ v.name → option_map number_of r ≡ number_in (package_named t name) v.number → r ≡ Some n → slice_get (versions_in t) n.0 ≡ Some v
 found_at t keeps v name r n same is found =
-    let in_name : number_in (package_in t.packages v.name) v.number ≡ number_in (package_in t.packages name) v.number = rw same refl in
+    let in_name : number_in (package_named t v.name) v.number ≡ number_in (package_named t name) v.number = rw same refl in
     (((keeps.packages v.name).numbers v.number) n.0).0 (in_name ∙ sym is ∙ ap (λ o. option_map number_of o) found)
 
 pub found_listed : (t : Table) → IsTable t → (v : Version) (k : ℕ) → slice_get (versions_in t) k ≡ Some v → Contains (lines_in t) (Listed v)
 found_listed t keeps v k at = listed_from (lines_in t) v k (rw keeps.listing at)
 
-pub not_found : (t : Table) → IsTable t → (v : Version) (name : List ℕ) (r : Option VersionNo) → name ≡ v.name → option_map number_of r ≡ number_in (package_in t.packages name) v.number → r ≡ None → Contains (lines_in t) (Listed v) → ⊥
+pub not_found : (t : Table) → IsTable t → (v : Version) (name : List ℕ) (r : Option VersionNo) → name ≡ v.name → option_map number_of r ≡ number_in (package_named t name) v.number → r ≡ None → Contains (lines_in t) (Listed v) → ⊥
 not_found t keeps v name r same is none has =
     let h = listed_has (lines_in t) v has in
     let at : slice_get (versions_in t) h.0 ≡ Some v = subst (λ (vs : List Version). slice_get vs h.0 ≡ Some v) keeps.listing h.1 in
-    let in_name : number_in (package_in t.packages name) v.number ≡ number_in (package_in t.packages v.name) v.number = rw same refl in
+    let in_name : number_in (package_named t name) v.number ≡ number_in (package_named t v.name) v.number = rw same refl in
     none_is_some (sym (ap (λ o. option_map number_of o) none) ∙ is ∙ in_name ∙ (((keeps.packages v.name).numbers v.number) h.0).1 at)
 
 -- a version is listed where its package has its number, and only there
-pub listed_by_number : (t : Table) → IsTable t → (v : Version) → is_some (number_in (package_in t.packages v.name) v.number) ≡ true → Contains (lines_in t) (Listed v)
+pub listed_by_number : (t : Table) → IsTable t → (v : Version) → is_some (number_in (package_named t v.name) v.number) ≡ true → Contains (lines_in t) (Listed v)
 listed_by_number t keeps v is =
-    let some = some_from (number_in (package_in t.packages v.name) v.number) is in
+    let some = some_from (number_in (package_named t v.name) v.number) is in
     found_listed t keeps v some.0 ((((keeps.packages v.name).numbers v.number) some.0).0 some.1)
 
-pub unlisted_by_number : (t : Table) → IsTable t → (v : Version) → is_some (number_in (package_in t.packages v.name) v.number) ≡ false → Contains (lines_in t) (Listed v) → ⊥
+pub unlisted_by_number : (t : Table) → IsTable t → (v : Version) → is_some (number_in (package_named t v.name) v.number) ≡ false → Contains (lines_in t) (Listed v) → ⊥
 unlisted_by_number t keeps v is has =
     let h = listed_has (lines_in t) v has in
     let at : slice_get (versions_in t) h.0 ≡ Some v = subst (λ (vs : List Version). slice_get vs h.0 ≡ Some v) keeps.listing h.1 in
-    none_is_some (sym (none_from (number_in (package_in t.packages v.name) v.number) is) ∙ (((keeps.packages v.name).numbers v.number) h.0).1 at)
+    none_is_some (sym (none_from (number_in (package_named t v.name) v.number) is) ∙ (((keeps.packages v.name).numbers v.number) h.0).1 at)
 
 -- ---- locks, favours, exclusions
 
@@ -164,22 +164,22 @@ excluded_twice t keeps v word k here present may = let some = some_from (get nat
 -- ---- `many` lines
 
 -- no version is listed of a package that has no numbers
-pub none_listed : (t : Table) → IsTable t → (name : List ℕ) → numbers_in (package_in t.packages name) ≡ [] → (n : ℕ) → Contains (lines_in t) (Listed (record { name = name; number = n })) → ⊥
+pub none_listed : (t : Table) → IsTable t → (name : List ℕ) → numbers_in (package_named t name) ≡ [] → (n : ℕ) → Contains (lines_in t) (Listed (record { name = name; number = n })) → ⊥
 none_listed t keeps name none n has =
     let v : Version = record { name = name; number = n } in
     let h = listed_has (lines_in t) v has in
     let at : slice_get (versions_in t) h.0 ≡ Some v = subst (λ (vs : List Version). slice_get vs h.0 ≡ Some v) keeps.listing h.1 in
-    let found : Contains (numbers_in (package_in t.packages name)) h.0 = ((keeps.packages name).all.all h.0).1 (v, at, refl) in
+    let found : Contains (numbers_in (package_named t name)) h.0 = ((keeps.packages name).all.all h.0).1 (v, at, refl) in
     let there : Contains [] h.0 = subst (λ (xs : List ℕ). Contains xs h.0) none found in
     omega (arith, there.1)
 
 -- and one is of a package that has some
-pub some_listed : (t : Table) → IsTable t → (name : List ℕ) (k : ℕ) → Contains (numbers_in (package_in t.packages name)) k → (n : ℕ) × Contains (lines_in t) (Listed (record { name = name; number = n }))
+pub some_listed : (t : Table) → IsTable t → (name : List ℕ) (k : ℕ) → Contains (numbers_in (package_named t name)) k → (n : ℕ) × Contains (lines_in t) (Listed (record { name = name; number = n }))
 some_listed t keeps name k has =
     let v = ((keeps.packages name).all.all k).0 has in
     (v.0.number, subst (λ (x : List ℕ). Contains (lines_in t) (Listed (record { name = x; number = v.0.number }))) v.2 (found_listed t keeps v.0 k v.1))
 
-pub many_placed : (t : Table) → IsTable t → (name : List ℕ) → is_some (get_by_text t.many name) ≡ false → numbers_in (package_in t.packages name) ≡ [] → MayFollow (lines_in t) (Many name)
+pub many_placed : (t : Table) → IsTable t → (name : List ℕ) → is_some (get_by_text t.many name) ≡ false → numbers_in (package_named t name) ≡ [] → MayFollow (lines_in t) (Many name)
 many_placed t keeps name absent none =
     let unmarked : get_by_text t.many name ≡ None = none_from (get_by_text t.many name) absent in (
       λ has.
@@ -205,7 +205,7 @@ many_twice t keeps name present may =
     from_line n (Exclude w r, at, is) = is
     from_line n (Wish w, at, is) = is
 
-pub many_below : (t : Table) → IsTable t → (name : List ℕ) (k : ℕ) → Contains (numbers_in (package_in t.packages name)) k → MayFollow (lines_in t) (Many name) → ⊥
+pub many_below : (t : Table) → IsTable t → (name : List ℕ) (k : ℕ) → Contains (numbers_in (package_named t name)) k → MayFollow (lines_in t) (Many name) → ⊥
 many_below t keeps name k has may = let v = some_listed t keeps name k has in may.1 v.0 v.1
 
 -- ---- unknown marks
@@ -255,8 +255,8 @@ owner_there t keeps count is some =
     (get_or (versions_in t) (count - 1) nowhere, at, owner_at_end t keeps ∙ ap (λ (n : ℕ). slice_get (versions_in t) (n - 1)) (sym is) ∙ at)
 
 -- the first version of a package has its name
-pub first_alike : (t : Table) → IsTable t → (name : List ℕ) (number : VersionNo) → number.0 ≡ length (versions_in t) → (v : Version) → slice_get (versions_in t) (first_in (package_in t.packages name) number).0 ≡ Some v → v.name ≡ name
-first_alike t keeps name number last v at = of_package (package_in t.packages name) (keeps.packages name) at
+pub first_alike : (t : Table) → IsTable t → (name : List ℕ) (number : VersionNo) → number.0 ≡ length (versions_in t) → (v : Version) → slice_get (versions_in t) (first_in (package_named t name) number).0 ≡ Some v → v.name ≡ name
+first_alike t keeps name number last v at = of_package (package_named t name) (keeps.packages name) at
   where
     of_list : (xs : List VersionNo) → ((n : ℕ) → Contains (map number_of xs) n → IsOfPackage (versions_in t) name n) → slice_get (versions_in t) (slice_index_or xs 0 number).0 ≡ Some v → v.name ≡ name
     of_list [] all at = absurd (omega (arith, last, slice_get_within (versions_in t) number.0 v at))
@@ -270,8 +270,8 @@ first_alike t keeps name number last v at = of_package (package_in t.packages na
     of_package (Some p) is at = of_list (versions_of p) (λ n has. (is.all.all n).0 has) at
 
 -- of a package whose first version isn't there, no version is listed
-pub first_new : (t : Table) → IsTable t → (name : List ℕ) (number : VersionNo) → slice_get (versions_in t) (first_in (package_in t.packages name) number).0 ≡ None → (k : ℕ) (v : Version) → slice_get (versions_in t) k ≡ Some v → v.name ≡ name → ⊥
-first_new t keeps name number none k v at same = of_package (package_in t.packages name) (keeps.packages name) none
+pub first_new : (t : Table) → IsTable t → (name : List ℕ) (number : VersionNo) → slice_get (versions_in t) (first_in (package_named t name) number).0 ≡ None → (k : ℕ) (v : Version) → slice_get (versions_in t) k ≡ Some v → v.name ≡ name → ⊥
+first_new t keeps name number none k v at same = of_package (package_named t name) (keeps.packages name) none
   where
     of_list : (xs : List VersionNo) → ((n : ℕ) → Contains (map number_of xs) n ↔ IsOfPackage (versions_in t) name n) → slice_get (versions_in t) (slice_index_or xs 0 number).0 ≡ None → ⊥
     of_list [] all none = let there : Contains [] k = (all k).1 (v, at, same) in omega (arith, there.1)
@@ -286,8 +286,8 @@ first_new t keeps name number none k v at same = of_package (package_in t.packag
 
 -- ---- a version that isn't listed
 
-pub no_number : (t : Table) → IsTable t → (v : Version) → (Contains (lines_in t) (Listed v) → ⊥) → number_in (package_in t.packages v.name) v.number ≡ None
-no_number t keeps v unlisted = from_option (number_in (package_in t.packages v.name) v.number) (λ k is. unlisted (found_listed t keeps v k (((keeps.packages v.name).numbers v.number k).0 is)))
+pub no_number : (t : Table) → IsTable t → (v : Version) → (Contains (lines_in t) (Listed v) → ⊥) → number_in (package_named t v.name) v.number ≡ None
+no_number t keeps v unlisted = from_option (number_in (package_named t v.name) v.number) (λ k is. unlisted (found_listed t keeps v k (((keeps.packages v.name).numbers v.number k).0 is)))
   where
     from_option : (o : Option ℕ) → ((k : ℕ) → o ≡ Some k → ⊥) → o ≡ None
     from_option None h = refl

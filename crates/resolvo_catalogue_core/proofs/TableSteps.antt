@@ -2,8 +2,8 @@
 use Rattle.std.proofs.Common.{◌≡◌, ◌==◌, if◌then◌else◌, inl, inr, is_some, ℕ, zero, suc, Bool, true, false, not, option_map, ◌+◌, List, [], ◌∷◌, ◌++◌, map, length, take, Option, Some, None, refl, sym, ap, subst, ◌∙◌, add-one, arith}
 use Rattle.std.specs.Prelude.{◌≤◌, Contains, slice_get, string_bytes, nat_eq, Result, Ok, Err, OnOk}
 use Rattle.resolvo_catalogue_core.specs.declared.package.Package.{Package}
-use Rattle.resolvo_catalogue_core.specs.Packages.{package_in, AreFound}
-use Rattle.resolvo_catalogue_core.specs.Table.{AddsNumber, AddsVersion, numbers_in, line_of, Keeps, IsTable, Adds, lines_in, versions_in, kinds_in, number_in}
+use Rattle.resolvo_catalogue_core.specs.Packages.{package_in}
+use Rattle.resolvo_catalogue_core.specs.Table.{AddsNumber, AddsVersion, IsPackage, package_named, numbers_in, line_of, Keeps, IsTable, Adds, lines_in, versions_in, kinds_in, number_in}
 use Rattle.resolvo_catalogue_core.specs.Questions.{IsOfPackage, number_of, IsOnly, AreAll, LineIs, BelongsTo, MarksUnknownOf, Locks, Favours, MarksMany, Excludes, IsFavour, IsVersionLine, FavoursAt}
 use Rattle.std.specs.BTreeMap.{get, get_by_text}
 use Rattle.std.specs.Ordering.{nat_cmp}
@@ -36,7 +36,9 @@ use Rattle.resolvo_catalogue_core.specs.declared.kept_rule.KeptRule.TheVariants 
 use Rattle.resolvo_catalogue_core.specs.declared.line_table.LineKind.{LineKind}
 use Rattle.resolvo_catalogue_core.specs.declared.line_table.LineKind.TheVariants as line_kinds
 use Rattle.resolvo_catalogue_core.specs.declared.table.Table.{Table}
+use Rattle.resolvo_terms.proofs.NameLemmas.{few_more}
 use Rattle.resolvo_terms.proofs.Places.{get_new, get_kept, get_push}
+use Rattle.resolvo_catalogue_core.proofs.PackageLemmas.{more_names, none_in}
 use Rattle.resolvo_catalogue_core.proofs.Pushed.{Grows, only_other, all_other, all_new, keyed_new, keyed_more, line_grows, line_within, version_line_grows, version_line_within, version_line_of_listed, get_grows}
 use Rattle.resolvo_catalogue_core.proofs.PlaceLemmas.{none_from, excluded_listed, no_number}
 use Rattle.resolvo_catalogue_core.proofs.TableLemmas.{lines_stay, are_kinds_stay, listed_same, listed_more, are_kinds_push, are_kinds_more, lines_of_more, favours_kept, favours_more, owner_listed, belongs_owner, marks_owner}
@@ -63,8 +65,8 @@ more_terms t u keeps grows sound =
         listing = keeps.listing;
         sound = sound;
         kinds = are_kinds_stay t.terms u grows sound vs (lines_in t) (kinds_in t) keeps.kinds;
-        packages = keeps.packages;
-        found = keeps.found;
+        packages = λ name. subst (λ (o : Option Package). IsPackage vs name o) (sym (more_names t.terms.names u.names t.packages name grows.names sound.names keeps.places)) (keeps.packages name);
+        places = few_more t.terms.names u.names (length t.packages.places.items) grows.names keeps.places;
         locks = keeps.locks;
         favoured = keeps.favoured;
         many = keeps.many;
@@ -115,7 +117,7 @@ skip t u keeps more =
       listing = listed_same lines Skipped refl ∙ keeps.listing;
       kinds = rw more (are_kinds_push t.terms vs lines (kinds_in t) Skipped line_kinds.Nothing (as_long t) keeps.kinds tt);
       packages = keeps.packages;
-      found = keeps.found;
+      places = keeps.places;
       locks = λ name. only_other (keeps.locks name) (line_grows lines Skipped (Locks name)) (λ x. x);
       favoured = λ name. only_other (keeps.favoured name) (line_grows lines Skipped (Favours name)) (λ x. x);
       many = λ name. only_other (keeps.many name) (line_grows lines Skipped (MarksMany name)) (λ x. x);
@@ -141,7 +143,7 @@ lock t u line k v name keeps number at same absent more locked =
       listing = listed_same lines l refl ∙ keeps.listing;
       kinds = rw more (are_kinds_push t.terms vs lines (kinds_in t) l (line_kinds.Rule (kept.Lock k)) (as_long t) keeps.kinds (tt, slice_get_within vs k.0 v at));
       packages = keeps.packages;
-      found = keeps.found;
+      places = keeps.places;
       locks = keyed_new bytes_eq bytes_eq-Decides (get_by_text t.locks) (get_by_text u.locks) v.name line (λ name n. LineIs lines n (Locks name)) (λ name n. LineIs (lines ++ l ∷ []) n (Locks name)) (λ name. v.name ≡ name)
           locked none keeps.locks (λ name. rw number (line_grows lines l (Locks name))) refl (λ name same. same);
       favoured = λ name. only_other (keeps.favoured name) (line_grows lines l (Favours name)) (λ x. x);
@@ -169,7 +171,7 @@ mark_many t u line name keeps number absent more marked =
       listing = listed_same lines l refl ∙ keeps.listing;
       kinds = rw more (are_kinds_push t.terms vs lines (kinds_in t) l (line_kinds.Many name) (as_long t) keeps.kinds tt);
       packages = keeps.packages;
-      found = keeps.found;
+      places = keeps.places;
       locks = λ nm. only_other (keeps.locks nm) (line_grows lines l (Locks nm)) (λ x. x);
       favoured = λ nm. only_other (keeps.favoured nm) (line_grows lines l (Favours nm)) (λ x. x);
       many = keyed_new bytes_eq bytes_eq-Decides (get_by_text t.many) (get_by_text u.many) (string_bytes name) line (λ nm n. LineIs lines n (MarksMany nm)) (λ nm n. LineIs (lines ++ l ∷ []) n (MarksMany nm)) (λ nm. string_bytes name ≡ nm)
@@ -202,7 +204,7 @@ need t u line k v given written keeps is stands number at owner more recorded as
       listing = listed_same lines l refl ∙ keeps.listing;
       kinds = rw more (are_kinds_push t.terms vs lines (kinds_in t) l (line_kinds.Rule (kept.Needs k given)) (as_long t) keeps.kinds (subst (λ (x : List Spec × Option Cond). IsNeed t.terms given x) (sym is) stands, (v, at, owner)));
       packages = keeps.packages;
-      found = keeps.found;
+      places = keeps.places;
       locks = λ name. only_other (keeps.locks name) (line_grows lines l (Locks name)) (λ x. x);
       favoured = λ name. only_other (keeps.favoured name) (line_grows lines l (Favours name)) (λ x. x);
       many = λ name. only_other (keeps.many name) (line_grows lines l (MarksMany name)) (λ x. x);
@@ -227,7 +229,7 @@ limit t u line k v number_of_spec s keeps is given number at owner more recorded
       listing = listed_same lines l refl ∙ keeps.listing;
       kinds = rw more (are_kinds_push t.terms vs lines (kinds_in t) l (line_kinds.Rule (kept.Limits k number_of_spec)) (as_long t) keeps.kinds (subst (λ (x : Spec). IsSpec t.terms number_of_spec x) (sym is) given, (v, at, owner)));
       packages = keeps.packages;
-      found = keeps.found;
+      places = keeps.places;
       locks = λ name. only_other (keeps.locks name) (line_grows lines l (Locks name)) (λ x. x);
       favoured = λ name. only_other (keeps.favoured name) (line_grows lines l (Favours name)) (λ x. x);
       many = λ name. only_other (keeps.many name) (line_grows lines l (MarksMany name)) (λ x. x);
@@ -254,7 +256,7 @@ mark_unknown t u line k v w word keeps is given number at owner absent more reco
       listing = listed_same lines l refl ∙ keeps.listing;
       kinds = rw more (are_kinds_push t.terms vs lines (kinds_in t) l (line_kinds.Rule (kept.Unknown k w)) (as_long t) keeps.kinds (subst (λ (x : List ℕ). IsWord t.terms w x) (sym is) given, (v, at, owner)));
       packages = keeps.packages;
-      found = keeps.found;
+      places = keeps.places;
       locks = λ name. only_other (keeps.locks name) (line_grows lines l (Locks name)) (λ x. x);
       favoured = λ name. only_other (keeps.favoured name) (line_grows lines l (Favours name)) (λ x. x);
       many = λ name. only_other (keeps.many name) (line_grows lines l (MarksMany name)) (λ x. x);
@@ -281,7 +283,7 @@ exclude t u line k v w word keeps is given number at absent more marked =
       listing = listed_same lines l refl ∙ keeps.listing;
       kinds = rw more (are_kinds_push t.terms vs lines (kinds_in t) l (line_kinds.Rule (kept.Exclude k w)) (as_long t) keeps.kinds (subst (λ (x : List ℕ). IsWord t.terms w x) (sym is) given, slice_get_within vs k.0 v at));
       packages = keeps.packages;
-      found = keeps.found;
+      places = keeps.places;
       locks = λ name. only_other (keeps.locks name) (line_grows lines l (Locks name)) (λ x. x);
       favoured = λ name. only_other (keeps.favoured name) (line_grows lines l (Favours name)) (λ x. x);
       many = λ name. only_other (keeps.many name) (line_grows lines l (MarksMany name)) (λ x. x);
@@ -308,7 +310,7 @@ favour t u line k v name keeps number at same absent more favoured pushed =
       listing = listed_same lines l refl ∙ keeps.listing;
       kinds = rw more (are_kinds_push t.terms vs lines (kinds_in t) l (line_kinds.Favour k) (as_long t) keeps.kinds (slice_get_within vs k.0 v at));
       packages = keeps.packages;
-      found = keeps.found;
+      places = keeps.places;
       locks = λ name. only_other (keeps.locks name) (line_grows lines l (Locks name)) (λ x. x);
       favoured = keyed_new bytes_eq bytes_eq-Decides (get_by_text t.favoured) (get_by_text u.favoured) v.name line (λ name n. LineIs lines n (Favours name)) (λ name n. LineIs (lines ++ l ∷ []) n (Favours name)) (λ name. v.name ≡ name)
           favoured none keeps.favoured (λ name. rw number (line_grows lines l (Favours name))) refl (λ name same. same);
@@ -406,10 +408,10 @@ of_package_grows vs v name = record {
   added = λ same. (v, get_new vs v, same);
 }
 
-pub list : (t u : Table) (k : VersionNo) (v : Version) → IsTable t → k.0 ≡ length (versions_in t) → (Contains (lines_in t) (Listed v) → ⊥) → AddsVersion (λ name. package_in t.packages name) v k (λ name. package_in u.packages name) → AreFound u.packages
+pub list : (t u : Table) (k : VersionNo) (v : Version) → IsTable t → k.0 ≡ length (versions_in t) → (Contains (lines_in t) (Listed v) → ⊥) → AddsVersion (λ name. package_named t name) v k (λ name. package_in t.terms.names u.packages name) → length u.packages.places.items ≤ length t.terms.names
     → versions_in u ≡ versions_in t ++ v ∷ [] → kinds_in u ≡ kinds_in t ++ line_kinds.Listed k ∷ [] → ((j : ℕ) → kept_of u.owned j ≡ kept_of t.owned j) → length u.owned ≡ length t.owned + 1
     → Adds t (Listed v) (record t { versions = u.versions; line_kinds = u.line_kinds; packages = u.packages; owned = u.owned })
-list t u k v keeps number unlisted adds found versions more kept as_many =
+list t u k v keeps number unlisted adds places versions more kept as_many =
     let vs = versions_in t in
     let lines = lines_in t in
     let l : Line = Listed v in
@@ -426,13 +428,13 @@ list t u k v keeps number unlisted adds found versions more kept as_many =
       listing = listed_more lines v ∙ rw keeps.listing refl;
       kinds = rw more (are_kinds_push t.terms (vs ++ v ∷ []) lines (kinds_in t) l (line_kinds.Listed k) (as_long t) (are_kinds_more t.terms vs v lines (kinds_in t) keeps.kinds) (slice_get_within (vs ++ v ∷ []) k.0 v here));
       packages = λ name. record {
-        kept = packages_kept (λ nm. package_in t.packages nm) (λ nm. package_in u.packages nm) v k adds (λ nm p is. (keeps.packages nm).kept p is) name;
-        numbers = λ q. keyed_new same_version same_version_is (λ x. number_in (package_in t.packages x.name) x.number) (λ x. number_in (package_in u.packages x.name) x.number) v (length vs) (λ x n. slice_get vs n ≡ Some x) (λ x n. slice_get (vs ++ v ∷ []) n ≡ Some x) (λ x. v ≡ x)
-            (λ x. rw (← number) (number_updated (λ nm. package_in t.packages nm) (λ nm. package_in u.packages nm) v k adds x)) (no_number t keeps v unlisted) (λ x. (keeps.packages x.name).numbers x.number) (λ x. get_grows vs v x) refl (λ x same. same) (record { name = name; number = q });
-        all = keyed_more bytes_eq bytes_eq-Decides (λ nm. numbers_in (package_in t.packages nm)) (λ nm. numbers_in (package_in u.packages nm)) v.name (length vs) (λ nm. IsOfPackage vs nm) (λ nm. IsOfPackage (vs ++ v ∷ []) nm) (λ nm. v.name ≡ nm)
-            (λ nm. rw (← number) (all_updated (λ x. package_in t.packages x) (λ x. package_in u.packages x) v k adds nm)) (λ nm. (keeps.packages nm).all) (of_package_grows vs v) (λ nm n h. slice_get_within vs n h.0 h.1) refl (λ nm same. same) name;
+        kept = packages_kept (λ nm. package_named t nm) (λ nm. package_in t.terms.names u.packages nm) v k adds (λ nm p is. (keeps.packages nm).kept p is) name;
+        numbers = λ q. keyed_new same_version same_version_is (λ x. number_in (package_named t x.name) x.number) (λ x. number_in (package_in t.terms.names u.packages x.name) x.number) v (length vs) (λ x n. slice_get vs n ≡ Some x) (λ x n. slice_get (vs ++ v ∷ []) n ≡ Some x) (λ x. v ≡ x)
+            (λ x. rw (← number) (number_updated (λ nm. package_named t nm) (λ nm. package_in t.terms.names u.packages nm) v k adds x)) (no_number t keeps v unlisted) (λ x. (keeps.packages x.name).numbers x.number) (λ x. get_grows vs v x) refl (λ x same. same) (record { name = name; number = q });
+        all = keyed_more bytes_eq bytes_eq-Decides (λ nm. numbers_in (package_named t nm)) (λ nm. numbers_in (package_in t.terms.names u.packages nm)) v.name (length vs) (λ nm. IsOfPackage vs nm) (λ nm. IsOfPackage (vs ++ v ∷ []) nm) (λ nm. v.name ≡ nm)
+            (λ nm. rw (← number) (all_updated (λ x. package_named t x) (λ x. package_in t.terms.names u.packages x) v k adds nm)) (λ nm. (keeps.packages nm).all) (of_package_grows vs v) (λ nm n h. slice_get_within vs n h.0 h.1) refl (λ nm same. same) name;
       };
-      found = found;
+      places = places;
       locks = λ name. only_other (keeps.locks name) (line_grows lines l (Locks name)) (λ x. x);
       favoured = λ name. only_other (keeps.favoured name) (line_grows lines l (Favours name)) (λ x. x);
       many = λ name. only_other (keeps.many name) (line_grows lines l (MarksMany name)) (λ x. x);
@@ -471,16 +473,17 @@ no_line Q zero h = absurd cc
 no_line Q (suc n) h = absurd cc
 
 -- a table of no line
-pub empty : (t : Table) → AreSound t.terms → t.versions ≡ [] → kinds_in t ≡ [] → ((name : List ℕ) → package_in t.packages name ≡ None) → AreFound t.packages → t.locks.entries ≡ [] → t.favoured.entries ≡ [] → t.many.entries ≡ [] → t.excluded.entries ≡ [] → t.unknown.entries ≡ [] → t.owned ≡ [] → t.favours.items ≡ [] → IsTable t
-empty t sound versions kinds packages found locks favoured many excluded unknown owned favours =
+pub empty : (t : Table) → AreSound t.terms → t.versions ≡ [] → kinds_in t ≡ [] → t.packages.places.items ≡ [] → t.locks.entries ≡ [] → t.favoured.entries ≡ [] → t.many.entries ≡ [] → t.excluded.entries ≡ [] → t.unknown.entries ≡ [] → t.owned ≡ [] → t.favours.items ≡ [] → IsTable t
+empty t sound versions kinds places locks favoured many excluded unknown owned favours =
     let vs : versions_in t ≡ [] = rw versions refl in
     let lines : lines_in t ≡ [] = rw kinds refl in
+    let packages : (name : List ℕ) → package_named t name ≡ None = λ name. none_in t.terms.names t.packages name places in
     let keeps : Keeps t [] [] = record {
       sound = sound;
       listing = refl;
       kinds = λ n s at. absurd (no_kind n s (rw kinds at at));
-      packages = λ name. record { kept = λ p is. no_package (package_in t.packages name) p (packages name) is; numbers = λ k. no_only _ _ (ap (λ (o : Option Package). number_in o k) (packages name)) (λ n at. none_got n (record { name = name; number = k }) at); all = subst (λ (o : Option Package). AreAll (numbers_in o) (IsOfPackage [] name)) (sym (packages name)) (no_all (IsOfPackage [] name) (λ n h. none_got n h.0 h.1)) };
-      found = found;
+      packages = λ name. record { kept = λ p is. no_package (package_named t name) p (packages name) is; numbers = λ k. no_only _ _ (ap (λ (o : Option Package). number_in o k) (packages name)) (λ n at. none_got n (record { name = name; number = k }) at); all = subst (λ (o : Option Package). AreAll (numbers_in o) (IsOfPackage [] name)) (sym (packages name)) (no_all (IsOfPackage [] name) (λ n h. none_got n h.0 h.1)) };
+      places = omega (arith, ap (λ (ps : List (Option Package)). length ps) places);
       locks = λ name. no_only _ _ (rw locks refl) (no_line (Locks name));
       favoured = λ name. no_only _ _ (rw favoured refl) (no_line (Favours name));
       many = λ name. no_only _ _ (rw many refl) (no_line (MarksMany name));

@@ -17,7 +17,7 @@ use Rattle.resolvo_catalogue_core.specs.declared.line_table.LineKind.TheVariants
 use Rattle.resolvo_catalogue_core.specs.Held.{kind_list}
 use Rattle.resolvo_catalogue_core.specs.declared.package.Package.{Package}
 use Rattle.resolvo_catalogue_core.specs.Numbered.{beside, numbers_of, versions_of, IsNumbered}
-use Rattle.resolvo_catalogue_core.specs.Packages.{package_in, AreFound}
+use Rattle.resolvo_catalogue_core.specs.Packages.{package_at, package_in}
 use Rattle.resolvo_catalogue_core.specs.declared.table.Table.{Table}
 
 -- ---- the lines
@@ -53,6 +53,10 @@ AreKindsOf terms versions lines kinds = (n : ℕ) (s : LineKind) → slice_get k
 
 -- ---- the maps
 
+-- the package of a name
+abbrev pub package_named : Table → List ℕ → Option Package
+package_named t name = package_in t.terms.names t.packages name
+
 -- the number of the package's version
 abbrev pub number_in : Option Package → ℕ → Option ℕ
 number_in None k = None
@@ -78,13 +82,18 @@ pub record AddsVersion (before : List ℕ → Option Package) (version : Version
   pub added : (p : Package) × (after version.name ≡ Some p) × AddsNumber (before version.name) version.number number p
   pub others : (name : List ℕ) → bytes_eq version.name name ≡ false → after name ≡ before name
 
+-- The package at this number has this version besides those that it had, and no other package is changed.
+pub record PutsVersion (before : List (Option Package)) (at number : ℕ) (version : VersionNo) (after : List (Option Package)) : Type 0 where
+  pub added : (p : Package) × (package_at after at ≡ Some p) × AddsNumber (package_at before at) number version p
+  pub others : (n : ℕ) → (at ≡ n → ⊥) → package_at after n ≡ package_at before n
+
 -- The table keeps these lines, of which these versions are listed.
 pub record Keeps (t : Table) (versions : List Version) (lines : List Line) : Type 0 where
   pub listing : listed lines ≡ versions
   pub sound : AreSound t.terms
   pub kinds : AreKindsOf t.terms versions lines (kinds_in t)
-  pub packages : (name : List ℕ) → IsPackage versions name (package_in t.packages name)
-  pub found : AreFound t.packages
+  pub packages : (name : List ℕ) → IsPackage versions name (package_named t name)
+  pub places : length t.packages.places.items ≤ length t.terms.names
   pub locks : (name : List ℕ) → IsOnly (get_by_text t.locks name) (λ n. LineIs lines n (Locks name))
   pub favoured : (name : List ℕ) → IsOnly (get_by_text t.favoured name) (λ n. LineIs lines n (Favours name))
   pub many : (name : List ℕ) → IsOnly (get_by_text t.many name) (λ n. LineIs lines n (MarksMany name))

@@ -1,7 +1,7 @@
 //! The lines of a catalogue with the numbers by which they are kept: for those who need no texts. The
 //! model is the lines, and the terms that the numbers are of. Read by the provider and the reports.
 
-ghost use Rattle.std.specs.Prelude.{◌≡◌, ◌≤◌, sum_by, IfSome, IfNone, false, length, Some};
+ghost use Rattle.std.specs.Prelude.{All, Contains, ◌≡◌, ◌≤◌, sum_by, IfSome, IfNone, false, length, Some};
 ghost use Rattle.resolvo_text.specs.Line as parsed;
 ghost use Rattle.resolvo_catalogue_core.specs.Grammar.{line_at, owner_of};
 ghost use Rattle.resolvo_catalogue_core.specs.Kept.{IsKeptLine};
@@ -39,10 +39,12 @@ impl<'a> Model for KeptLines<'a> {
 }
 
 impl<'a> KeptLines<'a> {
-    /// What the rules speak of, by numbers. There are no more than the lines need.
+    /// What the lines speak of, by numbers. There are no more than the lines need. The package of each
+    /// listed version has a number.
     pub fn terms(&self) -> &'a Terms
         ensures terms { result.now ≡ self.now.terms }
         ensures few { term_count result.now ≤ sum_by terms_for_line self.now.lines }
+        ensures named { All (λ v. Contains result.now.names v.name) (listed self.now.lines) }
     {
         &self.table.terms
     }

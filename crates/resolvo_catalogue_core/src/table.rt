@@ -11,21 +11,21 @@ ghost use Rattle.resolvo_text.specs.Line as parsed;
 ghost use Rattle.resolvo_text.specs.View.{version_of, spec_of, specs_of, list_of, condition_of, view};
 ghost use Rattle.resolvo_text.specs.declared.line.LineFault.TheVariants.{Fault};
 ghost use Rattle.resolvo_text.specs.Parse.{words_in, needs_in, spec_in};
-ghost use Rattle.resolvo_terms.specs.Terms.{IsNeed, IsSpec};
+ghost use Rattle.resolvo_terms.specs.Terms.{IsNeed, IsPackage, IsSpec};
 ghost use Rattle.resolvo_catalogue_core.specs.Grammar.{MayFollow, IsCatalogueLine, owner_below};
 ghost use Rattle.resolvo_catalogue_core.specs.Questions.{number_of, AreAll, IsOwner, IsOnly, LineIs, LocksAnother, Forbids};
 ghost use Rattle.resolvo_catalogue_core.specs.Listed.{version_by};
 ghost use Rattle.resolvo_catalogue_core.specs.Picked.{IsPicked};
-ghost use Rattle.resolvo_catalogue_core.specs.Table.{number_in};
-ghost use Rattle.resolvo_catalogue_core.specs.Packages.{package_in};
+ghost use Rattle.resolvo_catalogue_core.specs.Table.{number_in, package_named};
 
 use crate::kept_rule::KeptRule;
 use crate::line_table::{LineKind, LineTable};
 use crate::lines_by_version::LinesByVersion;
+use crate::package::Package;
 use crate::package_table::PackageTable;
 use crate::rule::VersionNo;
 use crate::versions::Versions;
-use resolvo_pool_core::id::VersionSetId;
+use resolvo_pool_core::id::{NameId, VersionSetId};
 use resolvo_pool_core::requirement::ConditionalRequirement;
 use resolvo_terms::{Room, Terms};
 use resolvo_text::{
@@ -110,19 +110,28 @@ impl Table {
         })
     }
 
+    /// The package of a name, if a version of it is listed.
+    fn package(&self, name: &str) -> Option<&Package>
+        ensures value { option_copied result ≡ package_named self.now name.now }
+    {
+        match self.terms.find_package(name) {
+            Some(number) => self.packages.get(number),
+            None => None,
+        }
+    }
+
     pub fn find(&self, name: &str, number: u32) -> Option<VersionNo>
         requires { IsTable self.now }
-        ensures { option_map number_of result
-            ≡ number_in (package_in self.now.packages name.now) number }
+        ensures { option_map number_of result ≡ number_in (package_named self.now name.now) number }
     {
-        let package = self.packages.get(name)?;
+        let package = self.package(name)?;
         package.find(number)
     }
 
     pub fn versions_of(&self, name: &str) -> &[VersionNo]
-        ensures { map number_of result.now ≡ numbers_in (package_in self.now.packages name.now) }
+        ensures { map number_of result.now ≡ numbers_in (package_named self.now name.now) }
     {
-        match self.packages.get(name) {
+        match self.package(name) {
             Some(package) => package.versions(),
             None => &[],
         }
@@ -139,7 +148,7 @@ impl Table {
         ensures { IfOk result
             (λ set. AreAll set.keys (IsPicked (versions_in self.now) (spec_of spec.now) outside)) }
     {
-        match self.packages.get(spec.name.as_str()) {
+        match self.package(spec.name.as_str()) {
             Some(package) => package.picked(alloc, spec.span, outside),
             None => Ok(BTreeSet::new(alloc)),
         }
@@ -298,6 +307,36 @@ impl Table {
         Ok(())
     }
 
+    /// Lists a version of the package of this number and name.
+    fn list_at(
+        &mut self,
+        alloc: Global,
+        id: NameId,
+        name: &str,
+        number: u32,
+    ) -> Result<(), LineFault>
+        requires table { IsTable self.old }
+        requires short { length (lines_in self.old) < 16777216 }
+        requires named { IsPackage self.old.terms id name.now }
+        // After an answer.
+        ensures ok { OnOk result (Adds self.old (parsed.Listed (version_by name.now number)) self.new) }
+        ensures placed { OnOk result
+            (MayFollow (lines_in self.old) (parsed.Listed (version_by name.now number))) }
+        ensures terms { self.new.terms ≡ self.old.terms }
+        ensures fault { result ≡ Err Fault
+            → MayFollow (lines_in self.old) (parsed.Listed (version_by name.now number))
+            → ⊥ }
+    {
+        let version = VersionNo(self.versions.len() as u32);
+        let Some(first) = self.packages.add(alloc, id, number, version)? else {
+            return Err(LineFault::Fault);
+        };
+        self.owned.add_version()?;
+        self.versions.push(alloc, first, name, number)?;
+        self.line_kinds.push(LineKind::Listed(version))?;
+        Ok(())
+    }
+
     /// Lists a version of the package of this name.
     fn list(&mut self, alloc: Global, name: &str, number: u32) -> Result<(), LineFault>
         requires table { IsTable self.old }
@@ -309,14 +348,11 @@ impl Table {
             → MayFollow (lines_in self.old) (parsed.Listed (version_by name.now number))
             → ⊥ }
     {
-        let version = VersionNo(self.versions.len() as u32);
-        let Some(first) = self.packages.add(alloc, name, number, version)? else {
-            return Err(LineFault::Fault);
+        let Ok(id) = self.terms.package(name) else {
+            return Err(LineFault::Memory);
         };
-        self.owned.add_version()?;
-        self.versions.push(alloc, first, name, number)?;
-        self.line_kinds.push(LineKind::Listed(version))?;
-        Ok(())
+        self.terms.ids_are_once();
+        self.list_at(alloc, id, name, number)
     }
 
     /// Adds a line of this need, whatever the number stands for.
@@ -506,7 +542,7 @@ impl Table {
 
     /// Whether a line lists a version of the package.
     fn lists_package(&self, name: &str) -> bool
-        ensures { result ≡ not (length (numbers_in (package_in self.now.packages name.now)) == 0) }
+        ensures { result ≡ not (length (numbers_in (package_named self.now name.now)) == 0) }
     {
         !self.versions_of(name).is_empty()
     }

@@ -5,7 +5,7 @@
 ghost use Rattle.std.specs.Prelude.{◌≡◌, ◌≤◌, ◌<◌, ◌++◌, ◌∷◌, [], ℕ, true, length, map, option_map, slice_get, OnOk, Some, None};
 ghost use Rattle.std.specs.String.{string_bytes};
 ghost use Rattle.resolvo_text.specs.Line.{Version};
-ghost use Rattle.resolvo_catalogue_core.specs.Listed.{version_by, name_at, kept_versions, are_kept};
+ghost use Rattle.resolvo_catalogue_core.specs.Listed.{version_by, name_at, kept_versions, are_kept, AreUsed};
 ghost use Rattle.resolvo_terms.specs.Terms.{AreOnce};
 
 use crate::rule::VersionNo;
@@ -91,12 +91,13 @@ impl Versions {
         }
     }
 
-    /// The names of the packages, each once, and the versions by these.
+    /// The names of the packages, each once and each that of a version, and the versions by these.
     pub fn parts(&self) -> (&[String], &[KeptVersion])
         ensures versions { kept_versions result.0.now result.1.now ≡ self.now }
         ensures kept { are_kept (length result.0.now) result.1.now ≡ true }
         ensures few { length result.0.now ≤ length result.1.now }
         ensures once { AreOnce (map string_bytes result.0.now) }
+        ensures used { AreUsed (length result.0.now) result.1.now }
     {
         (&self.names, &self.kept)
     }

@@ -1,5 +1,5 @@
 -- The first of some texts are known to spell names.
-use Rattle.std.proofs.Common.{◌≡◌, ◌∙◌, ◌<◌, ◌≤◌, ◌⊎◌, inl, inr, ℕ, zero, suc, true, List, [], Option, Some, Ok, length, refl, sym, ap, subst, arith}
+use Rattle.std.proofs.Common.{◌≡◌, ◌∙◌, ◌+◌, ◌<◌, ◌≤◌, ◌⊎◌, inl, inr, ℕ, zero, suc, true, List, [], Option, Some, Ok, length, refl, sym, ap, subst, arith}
 use Rattle.std.specs.Prelude.{slice_get}
 use Rattle.std.proofs.lemmas.Option.{slice_get_within, slice_get-get_or, same_Some, cond_some}
 use Rattle.resolvo_text.specs.Spelling.{is_name}
@@ -8,7 +8,7 @@ use Rattle.resolvo_terms.specs.Terms.{Extends}
 use Rattle.resolvo_terms.specs.Names.{AreChecked}
 use Rattle.resolvo_terms.specs.Reads.{Reads}
 
-few_more : (old new : List (List ℕ)) (n : ℕ) → Extends old new → n ≤ length old → n ≤ length new
+pub few_more : (old new : List (List ℕ)) (n : ℕ) → Extends old new → n ≤ length old → n ≤ length new
 few_more old new zero more l = omega arith
 few_more old new (suc n) more l =
     let within = slice_get_within new n _ (more n _ (slice_get-get_or old n [] (omega (arith, l)))) in
@@ -41,6 +41,11 @@ checked_next texts n name are at is = record {
     | inr y ↦ subst (λ (t : List ℕ). is_name t ≡ true) (same_Some name text (sym at ∙ subst (λ (k : ℕ). slice_get texts k ≡ Some text) y there)) is
   ];
 }
+
+pub checked_more : (texts : List (List ℕ)) (n i : ℕ) (name : List ℕ) → AreChecked texts n → slice_get texts i ≡ Some name → i ≡ n → is_name name ≡ true → AreChecked texts (n + 1)
+checked_more texts n i name are at same is =
+    let next : suc n ≡ n + 1 = omega arith in
+    subst (λ (k : ℕ). AreChecked texts k) next (checked_next texts n name are (subst (λ (k : ℕ). slice_get texts k ≡ Some name) same at) is)
 
 -- ---- what a word spells
 

@@ -1,8 +1,9 @@
 -- The values of numbers: packages, spans, SPECs, conditions, words.
 -- A number that was never handed out has no value; the answer is then the first of its kind, or empty.
-use Rattle.std.specs.Prelude.{◌&&◌, nat_lt, ℕ, zero, suc, List, [], map, Option, slice_get, slice_index_or, if◌then◌else◌}
+use Rattle.std.specs.Prelude.{◌&&◌, nat_lt, ℕ, zero, suc, List, [], ◌∷◌, map, Option, Some, None, slice_get, slice_index_or, if◌then◌else◌}
 use Rattle.std.specs.Option.{option_map}
 use Rattle.std.specs.Option.{option_map_or}
+use Rattle.std.specs.Str.{bytes_eq}
 use Rattle.resolvo_text.specs.declared.spec.Span.TheVariants.{Any}
 use Rattle.resolvo_text.specs.Line.{Spec, Cond, Is, And, Or}
 use Rattle.resolvo_pool_core.specs.declared.id.VersionSetId.{VersionSetId}
@@ -40,6 +41,11 @@ name_text t n = slice_index_or t.names n.raw []
 
 abbrev pub word_text : Terms → StringId → List ℕ
 word_text t w = slice_index_or t.words w.0 []
+
+-- the number of a text, if it is one of these
+abbrev pub place_of : List (List ℕ) → List ℕ → Option ℕ
+place_of [] text = None
+place_of (first ∷ texts) text = if bytes_eq first text then Some 0 else option_map (λ n. suc n) (place_of texts text)
 
 -- ---- what lines say
 

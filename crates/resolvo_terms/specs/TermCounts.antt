@@ -1,6 +1,6 @@
 -- How many numbers are given, and how many a need asks for at most.
 use Rattle.std.specs.Prelude.{◌+◌, ◌*◌, ℕ, List, Option, Some, None, length}
-use Rattle.resolvo_text.specs.Line.{Spec, Cond, Is, And, Or, Line, Needs, Limits, Unknown, Exclude}
+use Rattle.resolvo_text.specs.Line.{Spec, Cond, Is, And, Or, Line, Listed, Needs, Limits, Unknown, Exclude}
 use Rattle.resolvo_terms.specs.Terms.{Terms}
 
 -- the numbers of all kinds that are given
@@ -33,6 +33,11 @@ abbrev pub ids_for_mark : Line → ℕ
 ids_for_mark (Exclude v reason) = 1
 ids_for_mark _ = 0
 
--- both
+-- the package of a listed version
+abbrev pub ids_for_package : Line → ℕ
+ids_for_package (Listed v) = 1
+ids_for_package _ = 0
+
+-- all three
 abbrev pub terms_for_line : Line → ℕ
-terms_for_line line = ids_for_dependency line + ids_for_mark line
+terms_for_line line = ids_for_dependency line + ids_for_mark line + ids_for_package line

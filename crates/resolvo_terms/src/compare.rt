@@ -16,7 +16,7 @@ impl Terms {
     pub fn is_spec(&self, version_set: VersionSetId, spec: &Spec) -> bool
         ensures { Decides result (spec_at self.now version_set ≡ spec_of spec.now) }
     {
-        self.name(self.set_package(version_set)) == spec.name.as_str()
+        self.name_bytes(self.set_package(version_set)) == spec.name.as_bytes()
             && is_span(self.span(version_set), spec.span)
     }
 

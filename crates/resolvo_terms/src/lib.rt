@@ -12,5 +12,4 @@ mod terms;
 mod text_ids;
 mod text_list;
 
-pub use hash::hash_of_all;
 pub use terms::{Numbers, Room, Terms};

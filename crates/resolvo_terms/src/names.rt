@@ -1,17 +1,19 @@
 //! Names of packages, each numbered once, in the order in which they are added. The model is the list
-//! of them. The first of them were read from words, so each of those is known to spell a name: a
-//! word that is one of them needs no look at its bytes. Used by `terms`.
+//! of them. The bytes of the first were looked at when they were added, so each of those is known to
+//! spell a name: a word that is one of them needs no other look. Used by `terms`.
 
-ghost use Rattle.std.specs.Prelude.{◌≡◌, ◌≤◌, ◌+◌, [], IfOk, IsErrOf, length, slice_get, Some};
+ghost use Rattle.std.specs.Prelude.{◌≡◌, ◌≤◌, ◌+◌, [], ℕ, List, IfOk, IsErrOf, length, slice_get, Some};
 ghost use Rattle.std.specs.Option.{option_map};
 ghost use Rattle.resolvo_pool_core.specs.declared.want.Want.TheVariants.{Ids};
 ghost use Rattle.resolvo_text.specs.Parse.{name_in};
+ghost use Rattle.resolvo_terms.specs.Known.{place_of};
+ghost use Rattle.resolvo_terms.specs.Names.{AreChecked};
 ghost use Rattle.resolvo_terms.specs.Terms.{AreOnce, Extends};
 ghost use Rattle.resolvo_terms.specs.Reads.{Reads};
 
 use crate::text_ids::TextIds;
 use resolvo_pool_core::want::R;
-use resolvo_text::{LineFault, name_in};
+use resolvo_text::{LineFault, is_name, name_in};
 use std::alloc::{AllocError, Global};
 use std::marker::Model;
 
@@ -19,6 +21,9 @@ pub struct Names {
     texts: TextIds,
     /// So many of the first texts are known to spell names.
     checked: usize,
+    /// The number of the name that was interned last, or any number. A guess: who uses it looks at
+    /// the name.
+    last: u32,
 }
 
 // split for the prover: one drop
@@ -27,6 +32,7 @@ impl Drop for Names {
         let Names {
             texts: _,
             checked: _,
+            last: _,
         } = self;
     }
 }
@@ -49,6 +55,7 @@ impl Names {
         Ok(Names {
             texts: TextIds::new(alloc)?,
             checked: 0,
+            last: 0,
         })
     }
 
@@ -59,17 +66,25 @@ impl Names {
         Ok(Names {
             texts: self.texts.copy(alloc)?,
             checked: self.checked,
+            last: self.last,
         })
     }
 
-    /// The number of a name, a new one where it has none.
+    /// The number of a name, a new one where it has none. That of the last one is found without a
+    /// search: a catalogue has the versions of a package side by side.
     pub fn intern(&mut self, alloc: Global, name: &str) -> R<u32>
         ensures text { IfOk result (λ i. slice_get self.new i ≡ Some name.now) }
         ensures extends { Extends self.old self.new }
         ensures few { length self.new ≤ length self.old + 1 }
         ensures ids { IsErrOf result Ids → 4294967295 ≤ length self.new }
     {
-        self.texts.intern(alloc, name)
+        if self.texts.has(self.last, name.as_bytes()) {
+            return Ok(self.last);
+        }
+        let number = self.texts.intern(alloc, name)?;
+        self.last = number;
+        self.checked = checked_with(self.checked, number, name);
+        Ok(number)
     }
 
     /// The number of the name that a word spells, a new one where it has none.
@@ -95,6 +110,13 @@ impl Names {
         Ok(number)
     }
 
+    /// The number of a name, if it has one.
+    pub fn number(&self, name: &str) -> Option<u32>
+        ensures { result ≡ place_of self.now name.now }
+    {
+        self.texts.number(name.as_bytes())
+    }
+
     /// How many names there are.
     pub fn len(&self) -> usize
         ensures { result ≡ length self.now }
@@ -109,10 +131,31 @@ impl Names {
         self.texts.text(id)
     }
 
+    /// A name as bytes, if there is one of this number.
+    pub fn bytes_of(&self, id: u32) -> Option<&[u8]>
+        ensures { option_map (λ t. t.now) result ≡ slice_get self.now id }
+    {
+        self.texts.bytes_of(id)
+    }
+
     /// A law of each table: no name has two numbers. It does nothing.
     pub fn texts_are_once(&self)
         ensures { AreOnce self.now }
     {
         self.texts.texts_are_once()
+    }
+}
+
+/// How many of the first texts are known to spell names, where so many are and this one was added.
+fn checked_with(checked: usize, number: u32, name: &str) -> usize
+    ensures { (texts : List (List ℕ))
+        → AreChecked texts checked
+        → slice_get texts number ≡ Some name.now
+        → AreChecked texts result }
+{
+    if number as usize == checked && is_name(name.as_bytes()) {
+        checked + 1
+    } else {
+        checked
     }
 }

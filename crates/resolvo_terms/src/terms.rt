@@ -4,7 +4,7 @@
 
 ghost use Rattle.std.specs.Prelude.{◌≡◌, ◌<◌, ◌≤◌, ◌+◌, ◌*◌, ◌++◌, ◌∷◌, [], if◌then◌else◌, ℕ, List, bytes_eq, IfOk, IfSome, IsTrue, IsErrOf, OnOk, OnErr, length, map, slice_get, Some, None};
 ghost use Rattle.std.specs.Bool.{Decides};
-ghost use Rattle.std.specs.Option.{option_copied};
+ghost use Rattle.std.specs.Option.{option_copied, option_map};
 ghost use Rattle.std.specs.String.{string_bytes};
 ghost use Rattle.resolvo_text.specs.View.{spec_of, specs_of, cond_of, condition_of};
 ghost use Rattle.resolvo_text.specs.Line.{Is};
@@ -445,7 +445,7 @@ impl Terms {
 }
 
 impl Terms {
-    ghost use Rattle.resolvo_terms.specs.Known.{set_at, members_of, condition_at, name_text, word_text};
+    ghost use Rattle.resolvo_terms.specs.Known.{set_at, members_of, condition_at, name_text, place_of, word_text};
 
     /// The name of a package. Calls of this kind answer for every number.
     pub fn name(&self, name: NameId) -> &str
@@ -454,6 +454,26 @@ impl Terms {
         match self.names.text(name.into_raw()) {
             Some(name) => name,
             None => "",
+        }
+    }
+
+    /// The id of a package, if it has one.
+    pub fn find_package(&self, name: &str) -> Option<NameId>
+        ensures { option_map (λ n. n.raw) result ≡ place_of self.now.names name.now }
+    {
+        match self.names.number(name) {
+            Some(number) => Some(NameId::from_raw(number)),
+            None => None,
+        }
+    }
+
+    /// The name of a number as bytes.
+    pub(crate) fn name_bytes(&self, name: NameId) -> &[u8]
+        ensures { result.now ≡ name_text self.now name }
+    {
+        match self.names.bytes_of(name.into_raw()) {
+            Some(name) => name,
+            None => b"",
         }
     }
 

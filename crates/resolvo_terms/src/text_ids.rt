@@ -2,11 +2,12 @@
 //! A text is found at a place of its hash. Those whose places others have are in a sorted map. So no
 //! choice of texts makes that slow. Used by `terms`.
 
-ghost use Rattle.std.specs.Prelude.{◌≡◌, ◌≤◌, ◌<◌, ◌+◌, [], ℕ, List, Option, if◌then◌else◌, IfOk, IfSome, IsErrOf, OnOk, OnErr, length, slice_get, Some, None};
+ghost use Rattle.std.specs.Prelude.{◌≡◌, ◌≤◌, ◌<◌, ◌+◌, [], ℕ, List, Option, if◌then◌else◌, IfOk, IfSome, IsErrOf, IsTrue, OnOk, OnErr, length, slice_get, Some, None};
 ghost use Rattle.resolvo_pool_core.specs.declared.want.Want.TheVariants.{Ids};
 ghost use Rattle.std.specs.Option.{option_map};
 ghost use Rattle.std.specs.Str.{bytes_eq};
 ghost use Rattle.resolvo_terms.specs.Terms.{AreOnce, Extends};
+ghost use Rattle.resolvo_terms.specs.Known.{place_of};
 ghost use Rattle.resolvo_terms.specs.Found.{AreTextsFound, IsPut, number_from, number_if, number_of_slot, or_later, place_from, slot_at, list_number_in, tries, text_hash};
 
 use crate::hash::hash_of_all;
@@ -148,9 +149,20 @@ impl TextIds {
 
     /// The number of a text as bytes, if it has one.
     pub fn number(&self, text: &[u8]) -> Option<u32>
-        ensures { IfSome result (λ i. slice_get self.now i ≡ Some text.now) }
+        ensures found { IfSome result (λ i. slice_get self.now i ≡ Some text.now) }
+        ensures place { result ≡ place_of self.now text.now }
     {
         self.index.number(&self.texts, text, hash_of_text(text))
+    }
+
+    /// Whether this is the text of a number.
+    pub fn has(&self, id: u32, text: &[u8]) -> bool
+        ensures { IsTrue result → slice_get self.now id ≡ Some text.now }
+    {
+        match self.texts.bytes_of(id as usize) {
+            Some(bytes) => bytes == text,
+            None => false,
+        }
     }
 
     /// The text of a number.
@@ -158,6 +170,13 @@ impl TextIds {
         ensures { option_map (λ t. t.now) result ≡ slice_get self.now id }
     {
         self.texts.text(id as usize)
+    }
+
+    /// A text as bytes, if there is one of this number.
+    pub fn bytes_of(&self, id: u32) -> Option<&[u8]>
+        ensures { option_map (λ t. t.now) result ≡ slice_get self.now id }
+    {
+        self.texts.bytes_of(id as usize)
     }
 
     /// A law of each table: no text has two numbers. It does nothing.

@@ -1,10 +1,15 @@
-use Rattle.std.proofs.Common.{◌≡◌, ap, length, arith}
+use Rattle.std.proofs.Common.{◌≡◌, List, ap, sym, subst, length, arith}
+use Rattle.std.specs.Prelude.{All, Contains}
+use Rattle.resolvo_text.specs.Line.{Version}
 use Rattle.resolvo_pool_core.specs.declared.want.Want.TheVariants.{Ids as NoIds}
 use Rattle.resolvo_catalogue_core.specs.Listed.{listed}
-use Rattle.resolvo_catalogue.proofs.CountLemmas.{same_fault, too_many, versions_part}
+use Rattle.resolvo_catalogue.proofs.CountLemmas.{same_fault, too_many}
 use Rattle.resolvo_catalogue.proofs.CoverLemmas.{deps_stay}
 use Rattle.resolvo_catalogue.proofs.MarkLemmas.{marked_stays}
 use Rattle.resolvo_catalogue.proofs.provider.tables_of.Goals as goal
+
+pub list_versions-requires-clause-named : goal.list_versions-requires-clause-named
+list_versions-requires-clause-named c = subst (λ (vs : List Version). All (λ v. Contains c.args.ids.now.names v.name) vs) (sym c.versions.ensures.listed) c.requires.named
 
 pub returns-clause-over : goal.returns-clause-over
 returns-clause-over c hint has_budget =
@@ -29,12 +34,12 @@ returns-clause-over c hint has_budget =
 pub returns-in_err-packages-clause-few : goal.returns-in_err-packages-clause-few
 returns-in_err-packages-clause-few c =
     let count : length c.versions.result.now ≡ length (listed c.args.catalogue.now) = ap length c.versions.ensures.listed in
-    omega (arith, count, versions_part c.args.catalogue.now, c.in_err-packages.ensures.few)
+    omega (arith, count, c.in_err-packages.ensures.few)
 
 pub returns-in_err-deps-clause-few : goal.returns-in_err-deps-clause-few
 returns-in_err-deps-clause-few c =
     let count : length c.versions.result.now ≡ length (listed c.args.catalogue.now) = ap length c.versions.ensures.listed in
-    omega (arith, count, versions_part c.args.catalogue.now, c.in_ok-packages.ensures.few)
+    omega (arith, count, c.in_ok-packages.ensures.few)
 
 pub returns-in_err-deps-clause-ids : goal.returns-in_err-deps-clause-ids
 returns-in_err-deps-clause-ids c = λ is.
@@ -44,14 +49,14 @@ returns-in_err-deps-clause-ids c = λ is.
 pub returns-in_err-marks-clause-few : goal.returns-in_err-marks-clause-few
 returns-in_err-marks-clause-few c =
     let count : length c.versions.result.now ≡ length (listed c.args.catalogue.now) = ap length c.versions.ensures.listed in
-    omega (arith, count, versions_part c.args.catalogue.now, c.in_ok-packages.ensures.few)
+    omega (arith, count, c.in_ok-packages.ensures.few)
 
 pub returns-in_err-many-clause-few : goal.returns-in_err-many-clause-few
 returns-in_err-many-clause-few c =
     let count : length c.versions.result.now ≡ length (listed c.args.catalogue.now) = ap length c.versions.ensures.listed in
-    omega (arith, count, versions_part c.args.catalogue.now, c.in_ok-packages.ensures.few)
+    omega (arith, count, c.in_ok-packages.ensures.few)
 
 pub returns-clause-few : goal.returns-clause-few
 returns-clause-few c =
     let count : length c.versions.result.now ≡ length (listed c.args.catalogue.now) = ap length c.versions.ensures.listed in
-    omega (arith, count, versions_part c.args.catalogue.now, c.in_ok-packages.ensures.few)
+    omega (arith, count, c.in_ok-packages.ensures.few)

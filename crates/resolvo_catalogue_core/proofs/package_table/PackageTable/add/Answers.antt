@@ -1,96 +1,54 @@
-use Rattle.std.proofs.Common.{◌≡◌, ◌∙◌, ℕ, Option, Some, None, length, not, is_some, refl, sym, ap, subst, arith}
-use Rattle.std.specs.Prelude.{IfOk, IfSome, option_map, slice_get}
-use Rattle.std.specs.BTreeMap.{get_by_text}
-use Rattle.std.proofs.lemmas.Option.{slice_get_read, slice_get_within}
-use Rattle.resolvo_catalogue_core.specs.Listed.{version_by}
-use Rattle.resolvo_catalogue_core.specs.Packages.{package_number, package_in, package_by, first_in}
-use Rattle.resolvo_catalogue_core.specs.Table.{number_in}
+use Rattle.std.proofs.Common.{◌≡◌, ◌∙◌, ◌+◌, ◌<◌, ℕ, Option, Some, length, not, is_some, sym, ap, subst, arith}
+use Rattle.std.specs.Prelude.{IfOk, IfSome}
+use Rattle.resolvo_terms.proofs.Places.{set_length}
+use Rattle.resolvo_catalogue_core.specs.Packages.{package_at, first_in}
+use Rattle.resolvo_catalogue_core.specs.Table.{number_in, AddsNumber}
+use Rattle.resolvo_catalogue_core.specs.declared.rule.VersionNo.{VersionNo}
 use Rattle.resolvo_catalogue_core.specs.declared.package.Package.{Package}
-use Rattle.resolvo_catalogue_core.specs.declared.package_table.NamedPackage.{NamedPackage}
 use Rattle.resolvo_catalogue_core.proofs.CatalogueFacts.{ok_map}
-use Rattle.resolvo_catalogue_core.proofs.TableSteps.{new_number}
-use Rattle.resolvo_catalogue_core.proofs.PackageLemmas.{number_sound, adds_there, found_still}
+use Rattle.resolvo_catalogue_core.proofs.PackageLemmas.{puts, read_at}
 use Rattle.resolvo_catalogue_core.proofs.package_table.PackageTable.add.Goals as goal
 
 pub index_mut-requires : goal.index_mut-requires
-index_mut-requires c =
-    let t = c.args.self.now in
-    let s = number_sound t.packages.items t.slots.items t.mask (λ name. get_by_text t.others name) c.args.name.now c.in-Some.at (sym c.in-Some.ensures) in
-    omega (arith, slice_get_within t.packages.items c.in-Some.at s.0 s.1, t.packages.ok)
+index_mut-requires c = omega (arith, c.in_ok-lengthen.ensures.long)
 
-pub returns-in-Some-clause-new : goal.returns-in-Some-clause-new
-returns-in-Some-clause-new c =
-    let t = c.args.self.now in
-    let ps = t.packages.items in
-    let n = c.in-Some.at in
-    let s = number_sound ps t.slots.items t.mask (λ name. get_by_text t.others name) c.args.name.now n (sym c.in-Some.ensures) in
-    let at : slice_get ps n ≡ Some c.index_mut.result.now = slice_get_read ps (length ps) n c.index_mut.result.now refl (slice_get_within ps n s.0 s.1) c.index_mut.ensures.value in
-    let number : package_number t c.args.name.now ≡ Some n = sym c.in-Some.ensures in
-    let found : Some c.index_mut.result.now.versions ≡ package_in t c.args.name.now = sym (ap (λ (o : Option ℕ). package_by ps o) number ∙ ap (λ (o : Option NamedPackage). option_map (λ (p : NamedPackage). p.versions) o) at) in
-    ok_map c.add.result c.add.ensures.new (λ added is. is ∙ ap (λ b. not b) (new_number (package_in t c.args.name.now) _ c.args.number found))
-
-pub returns-in-Some-clause-first : goal.returns-in-Some-clause-first
-returns-in-Some-clause-first c =
-    let t = c.args.self.now in
-    let ps = t.packages.items in
-    let n = c.in-Some.at in
-    let s = number_sound ps t.slots.items t.mask (λ name. get_by_text t.others name) c.args.name.now n (sym c.in-Some.ensures) in
-    let at : slice_get ps n ≡ Some c.index_mut.result.now = slice_get_read ps (length ps) n c.index_mut.result.now refl (slice_get_within ps n s.0 s.1) c.index_mut.ensures.value in
-    let number : package_number t c.args.name.now ≡ Some n = sym c.in-Some.ensures in
-    let found : Some c.index_mut.result.now.versions ≡ package_in t c.args.name.now = sym (ap (λ (o : Option ℕ). package_by ps o) number ∙ ap (λ (o : Option NamedPackage). option_map (λ (p : NamedPackage). p.versions) o) at) in
-    subst (λ (o : Option Package). IfOk c.add.result (λ first. IfSome first (λ v. v ≡ first_in o c.args.version))) found c.add.ensures.first
-
-pub returns-in-Some-clause-put : goal.returns-in-Some-clause-put
-returns-in-Some-clause-put c =
-    let t = c.args.self.now in
-    let ps = t.packages.items in
-    let n = c.in-Some.at in
-    let s = number_sound ps t.slots.items t.mask (λ name. get_by_text t.others name) c.args.name.now n (sym c.in-Some.ensures) in
-    let at : slice_get ps n ≡ Some c.index_mut.result.now = slice_get_read ps (length ps) n c.index_mut.result.now refl (slice_get_within ps n s.0 s.1) c.index_mut.ensures.value in
-    let number : package_number t c.args.name.now ≡ Some n = sym c.in-Some.ensures in
-    ok_map c.add.result c.add.ensures.put (λ added adds is. adds_there ps t.slots.items t.mask (λ name. get_by_text t.others name) c.requires.found n c.index_mut.result.now (record c.index_mut.result.now { versions = c.add.new.self }) at refl (version_by c.args.name.now c.args.number) c.args.version number (adds is))
-
-pub returns-in-Some-clause-found : goal.returns-in-Some-clause-found
-returns-in-Some-clause-found c =
-    let t = c.args.self.now in
-    let ps = t.packages.items in
-    let n = c.in-Some.at in
-    let s = number_sound ps t.slots.items t.mask (λ name. get_by_text t.others name) c.args.name.now n (sym c.in-Some.ensures) in
-    let at : slice_get ps n ≡ Some c.index_mut.result.now = slice_get_read ps (length ps) n c.index_mut.result.now refl (slice_get_within ps n s.0 s.1) c.index_mut.ensures.value in
-    ok_map c.add.result c.add.ensures.put (λ added adds is. found_still ps t.slots.items t.mask (λ name. get_by_text t.others name) c.requires.found n c.index_mut.result.now (record c.index_mut.result.now { versions = c.add.new.self }) at refl)
-
-pub add-requires : goal.add-requires
-add-requires c =
-    let t = c.args.self.now in
-    let ps = t.packages.items in
-    let n = c.in-Some.at in
-    let s = number_sound ps t.slots.items t.mask (λ name. get_by_text t.others name) c.args.name.now n (sym c.in-Some.ensures) in
-    let at : slice_get ps n ≡ Some c.index_mut.result.now = slice_get_read ps (length ps) n c.index_mut.result.now refl (slice_get_within ps n s.0 s.1) c.index_mut.ensures.value in
-    let number : package_number t c.args.name.now ≡ Some n = sym c.in-Some.ensures in
-    c.requires.kept c.args.name.now c.index_mut.result.now.versions (ap (λ (o : Option ℕ). package_by ps o) number ∙ ap (λ (o : Option NamedPackage). option_map (λ (p : NamedPackage). p.versions) o) at)
-
-pub add_package-requires : goal.add_package-requires
-add_package-requires c =
-    let t = c.args.self.now in
-    record {
-      found = c.requires.found;
-      absent = sym c.in_default.ensures;
-    }
+pub add_to-requires : goal.add_to-requires
+add_to-requires c = λ p is.
+    let mid = c.lengthen.new.places.items in
+    let at = c.to_index-at.result in
+    let read = read_at mid at c.index_mut.result.now (omega (arith, c.in_ok-lengthen.ensures.long)) c.index_mut.ensures.value in
+    c.requires p (ap (λ (n : ℕ). package_at c.args.self.now.places.items n) (sym c.to_index-at.ensures.index) ∙ sym (read ∙ c.in_ok-lengthen.ensures.same at) ∙ is)
 
 pub returns-clause-new : goal.returns-clause-new
 returns-clause-new c =
-    let t = c.args.self.now in
-    let number : package_number t c.args.name.now ≡ None = sym c.in_default.ensures in
-    ap (λ (o : Option ℕ). not (is_some (number_in (package_by t.packages.items o) c.args.number))) (sym number)
+    let mid = c.lengthen.new.places.items in
+    let at = c.to_index-at.result in
+    let read = read_at mid at c.index_mut.result.now (omega (arith, c.in_ok-lengthen.ensures.long)) c.index_mut.ensures.value in
+    let was : c.index_mut.result.now ≡ package_at c.args.self.now.places.items c.args.name.raw = read ∙ c.in_ok-lengthen.ensures.same at ∙ ap (λ (n : ℕ). package_at c.args.self.now.places.items n) c.to_index-at.ensures.index in
+    subst (λ (o : Option Package). IfOk c.add_to.result (λ first. is_some first ≡ not (is_some (number_in o c.args.number)))) was c.add_to.ensures.new
 
 pub returns-clause-first : goal.returns-clause-first
 returns-clause-first c =
-    let t = c.args.self.now in
-    let number : package_number t c.args.name.now ≡ None = sym c.in_default.ensures in
-    ap (λ (o : Option ℕ). first_in (package_by t.packages.items o) c.args.version) (sym number)
+    let mid = c.lengthen.new.places.items in
+    let at = c.to_index-at.result in
+    let read = read_at mid at c.index_mut.result.now (omega (arith, c.in_ok-lengthen.ensures.long)) c.index_mut.ensures.value in
+    let was : c.index_mut.result.now ≡ package_at c.args.self.now.places.items c.args.name.raw = read ∙ c.in_ok-lengthen.ensures.same at ∙ ap (λ (n : ℕ). package_at c.args.self.now.places.items n) c.to_index-at.ensures.index in
+    subst (λ (o : Option Package). IfOk c.add_to.result (λ first. IfSome first (λ v. v ≡ first_in o c.args.version))) was c.add_to.ensures.first
 
 pub returns-clause-put : goal.returns-clause-put
-returns-clause-put c = λ _. c.in_ok-add_package.ensures.put
+returns-clause-put c =
+    let old = c.args.self.now.places.items in
+    let mid = c.lengthen.new.places.items in
+    let at = c.to_index-at.result in
+    let within : at < length mid = omega (arith, c.in_ok-lengthen.ensures.long) in
+    let was : c.index_mut.result.now ≡ package_at old at = read_at mid at c.index_mut.result.now within c.index_mut.ensures.value ∙ c.in_ok-lengthen.ensures.same at in
+    rw (← c.to_index-at.ensures.index)
+    (ok_map c.add_to.result c.add_to.ensures.put (λ first added is.
+    let a = added is in
+    puts old mid at c.args.number c.args.version c.add_to.new.place c.in_ok-lengthen.ensures.same within
+    (a.0, a.1, subst (λ (o : Option Package). AddsNumber o c.args.number c.args.version a.0) was a.2)))
 
-pub returns-clause-found : goal.returns-clause-found
-returns-clause-found c = λ _. c.in_ok-add_package.ensures.found
+pub returns-clause-few : goal.returns-clause-few
+returns-clause-few c = λ bound short below.
+    let few = c.in_ok-lengthen.ensures.few bound short (omega (arith, below, c.to_index-at.ensures.index)) in
+    omega (arith, few, set_length c.lengthen.new.places.items c.to_index-at.result c.add_to.new.place)

@@ -4,8 +4,7 @@ use Rattle.std.specs.Str.{bytes_eq}
 use Rattle.std.specs.BTreeMap.{get_by_text}
 use Rattle.std.specs.String.{string_bytes}
 use Rattle.std.proofs.lemmas.Map.Text.{btree_map_updates_text}
-use Rattle.resolvo_catalogue_core.specs.Packages.{package_in}
-use Rattle.resolvo_catalogue_core.specs.Table.{numbers_in}
+use Rattle.resolvo_catalogue_core.specs.Table.{package_named, numbers_in}
 use Rattle.resolvo_catalogue_core.proofs.TableSteps.{mark_many}
 use Rattle.resolvo_catalogue_core.proofs.PlaceLemmas.{many_placed, many_twice, many_below}
 use Rattle.resolvo_catalogue_core.proofs.ManyLemmas.{first_number, no_numbers}
@@ -19,8 +18,8 @@ returns-then-is_many-clause-fault c = λ e.
 pub returns-then-lists_package-clause-fault : goal.returns-then-lists_package-clause-fault
 returns-then-lists_package-clause-fault c =
     let name = string_bytes c.args.name in
-    let some = first_number (numbers_in (package_in c.args.self.now.packages name))
-    (subst (λ (x : List ℕ). not (length (numbers_in (package_in c.args.self.now.packages x)) == 0) ≡ true) c.deref-2.ensures (sym c.lists_package.ensures ∙ c.if-lists_package.true)) in
+    let some = first_number (numbers_in (package_named c.args.self.now name))
+    (subst (λ (x : List ℕ). not (length (numbers_in (package_named c.args.self.now x)) == 0) ≡ true) c.deref-2.ensures (sym c.lists_package.ensures ∙ c.if-lists_package.true)) in
     λ e. many_below c.args.self.now c.requires.table name some.0 some.1
 
 pub returns-clause-placed : goal.returns-clause-placed
@@ -28,8 +27,8 @@ returns-clause-placed c =
     let name = string_bytes c.args.name in
     many_placed c.args.self.now c.requires.table name
     (subst (λ (x : List ℕ). is_some (get_by_text c.args.self.now.many x) ≡ false) c.deref.ensures (sym c.is_many.ensures ∙ c.if-is_many.false))
-    (no_numbers (numbers_in (package_in c.args.self.now.packages name))
-    (subst (λ (x : List ℕ). not (length (numbers_in (package_in c.args.self.now.packages x)) == 0) ≡ false) c.deref-2.ensures (sym c.lists_package.ensures ∙ c.if-lists_package.false)))
+    (no_numbers (numbers_in (package_named c.args.self.now name))
+    (subst (λ (x : List ℕ). not (length (numbers_in (package_named c.args.self.now x)) == 0) ≡ false) c.deref-2.ensures (sym c.lists_package.ensures ∙ c.if-lists_package.false)))
 
 pub returns-clause-ok : goal.returns-clause-ok
 returns-clause-ok c =

@@ -9,9 +9,9 @@ use Rattle.resolvo_terms.proofs.names.Names.read.Goals as goal
 pub returns-then-number-self-clause-name : goal.returns-then-number-self-clause-name
 returns-then-number-self-clause-name c =
     let word : List ℕ = c.args.word.now in
-    let named = c.self.invariant.names c.in-Some.number word c.if-number-self.true c.in-Some.ensures in
+    let named = c.self.invariant.names c.in-Some.number word c.if-number-self.true c.in-Some.ensures.found in
     subst (λ (xs : List (List ℕ)). Reads (λ n name. slice_get xs n ≡ Some name) (Ok c.in-Some.number) (name_in word)) c.self.view_is
-    (known_read c.self.inside.texts c.in-Some.number word c.in-Some.ensures named)
+    (known_read c.self.inside.texts c.in-Some.number word c.in-Some.ensures.found named)
 
 pub invariant_of-self : goal.invariant_of-self
 invariant_of-self c = checked_stay c.self.inside.texts c.intern.new.self c.self.inside.checked c.intern.ensures.extends c.self.invariant
