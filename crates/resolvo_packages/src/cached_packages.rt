@@ -56,7 +56,7 @@ impl<D: DependencyProvider> CachedPackages<D> {
             (λ v. v.items ≡ map (offer_by (D.name_of_solvable self.now)) solvables.now) }
         ensures refusal { IsOkUnless result Memory }
     {
-        let mut offered = Vec::new(self.alloc);
+        let mut offered = Vec::with_capacity(self.alloc, solvables.len())?;
         for solvable in solvables {
             offered.push(Offered {
                 solvable: *solvable,
