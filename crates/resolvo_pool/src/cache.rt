@@ -502,26 +502,26 @@ impl<D: DependencyProvider> SolverCache<D> {
         ensures extends { Extends D.NameId.eq D.SolvableId.eq self.old self.new }
         ensures only { AddsSorted self.old self.new }
         // After a refusal.
-        ensures err { OnErr result (AddsMatching self.old self.new) }
+        ensures err { OnErr result (AddsNames self.old self.new) }
         ensures cancelled { IfErr result (IsCancelledBy (D.may_cancel self.old.provider)) }
         ensures ids { IsErrOf result Ids → D.may_lack_ids self.old.provider }
     {
         if self.has_sorted_candidates(Requirement::Single(version_set)) {
             return Ok(());
         }
-        self.cache_matching_candidates(version_set)?;
         let name = self.provider.version_set_name(version_set);
         self.cache_candidates(name)?;
         self.keep_sorted(version_set)?;
         Ok(())
     }
 
-    /// Sorts the cached matching candidates of a version set, and caches the list.
+    /// Filters the cached candidates of a version set's package, sorts those that match it, and
+    /// caches the list.
     fn keep_sorted(&mut self, version_set: VersionSetId) -> R<()>
-        requires matching { among same_set self.old.matching version_set ≡ true }
         requires listed { among D.NameId.eq self.old.names
             (D.name_of_version_set self.old.provider version_set)
             ≡ true }
+        requires fresh { is_sorted self.old.sorted version_set ≡ false }
         // The answer is cached.
         ensures there { OnOk result (is_sorted self.new.sorted version_set ≡ true) }
         // What else changes.
@@ -531,17 +531,14 @@ impl<D: DependencyProvider> SolverCache<D> {
         ensures err { OnErr result (self.new ≡ self.old) }
         ensures ids { IsErrOf result WantIds → D.may_lack_ids self.old.provider }
     {
-        if self.sorted.contains_key(&version_set) {
-            return Ok(());
-        }
         let list = self.sorted_list(version_set)?;
         self.sorted.insert(version_set, list)?;
         Ok(())
     }
 
-    /// The cached matching candidates of a version set in the order in which they are tried.
+    /// The candidates of a version set's package that match it, in the order in which they are
+    /// tried.
     fn sorted_list(&self, version_set: VersionSetId) -> R<Vec<D::SolvableId>>
-        requires matching { among same_set self.now.matching version_set ≡ true }
         requires listed { among D.NameId.eq self.now.names
             (D.name_of_version_set self.now.provider version_set)
             ≡ true }
@@ -556,7 +553,7 @@ impl<D: DependencyProvider> SolverCache<D> {
             v.items) }
         ensures ids { IsErrOf result WantIds → D.may_lack_ids self.now.provider }
     {
-        let mut list = Vec::from_slice(self.alloc, self.matching_candidates(version_set))?;
+        let mut list = self.filtered(version_set, false)?;
         self.provider
             .sort_candidates(self.alloc, list.as_mut_slice())?;
         let name = self.provider.version_set_name(version_set);
@@ -791,11 +788,11 @@ impl<D: DependencyProvider> SolverCache<D> {
             (D.name_of_solvable self.now.provider solvable)))
             solvable)) }
     {
-        if self.has_dependencies(solvable) {
+        let name = self.provider.solvable_name(solvable);
+        if self.has_candidates(name) && self.hinted.contains(solvable) {
             return true;
         }
-        let name = self.provider.solvable_name(solvable);
-        self.has_candidates(name) && self.hinted.contains(solvable)
+        self.has_dependencies(solvable)
     }
 }
 
