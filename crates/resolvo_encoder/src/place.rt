@@ -152,8 +152,15 @@ fn group<N: Copy + Exact + Hash + Debug + Drop, S: Copy + Exact + Hash + Debug>(
         return Ok(());
     }
     let mut names = IndexSet::with_capacity(alloc, list.len())?;
+    let mut is_grouped = true;
+    let mut last = list[0].name;
     for one in list.iter() {
-        names.insert(one.name)?;
+        let is_new = names.insert(one.name)?;
+        is_grouped = is_grouped && (is_new || one.name == last);
+        last = one.name;
+    }
+    if is_grouped {
+        return Ok(());
     }
     list.sort_by_key(|one| names.get_index_of(&one.name))?;
     Ok(())
