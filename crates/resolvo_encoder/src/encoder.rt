@@ -206,13 +206,58 @@ impl<N: Copy + Exact + Hash + Debug + Drop, S: Copy + Exact + Hash + Debug> Enco
         ensures ids { IsErrOf result Ids → LacksNumberFor need.requirement self.new }
     {
         self.fix_candidates(alloc, need.requirement, offered)?;
+        self.require_again(alloc, parent, need, offered.len())?;
+        Ok(())
+    }
+
+    /// Whether a requirement has its candidates.
+    pub fn is_fixed(&self, requirement: Requirement) -> bool
+        ensures { result ≡ has_candidates self.now.lists requirement }
+    {
+        self.lists.candidates(requirement).is_some()
+    }
+
+    /// How many candidates a requirement has.
+    pub fn candidate_count(&self, requirement: Requirement) -> usize {
+        match self.lists.candidates(requirement) {
+            Some(candidates) => candidates.len(),
+            None => 0,
+        }
+    }
+
+    /// Encodes a parent's unconditional requirement, which has its candidates, and so many of them.
+    /// Where they are many, and the parent isn't the root, it uses a gate.
+    pub fn require_again(
+        &mut self,
+        alloc: Global,
+        parent: Option<S>,
+        need: ConditionalRequirement,
+        count: usize,
+    ) -> R<()>
+        requires { IsBuilt self.old }
+        // After an answer.
+        ensures encoded { OnOk result
+            ((p : Packages N S) (root : Rules)
+            → IsLawful p
+            → IsEncoding S.eq p root self.old
+            → has_candidates self.old.lists need.requirement ≡ true
+            → IsGuarded S.eq p (rules_of self.old) need.requirement
+            → Needs S.eq p root parent need
+            → IsEncoding S.eq p root self.new
+            × IsNeedEncoded S.eq p (rules_of self.new) parent need []) }
+        ensures lists { OnOk result (self.new.lists ≡ self.old.lists) }
+        ensures kept { OnOk result (Extends self.old self.new) }
+        ensures built { OnOk result (IsBuilt self.new) }
+        // After a refusal.
+        ensures ids { IsErrOf result Ids → LacksNumberFor need.requirement self.new }
+    {
         match parent {
             None => {
                 self.need_directly(alloc, VariableId::root(), None, need)?;
                 Ok(())
             }
             Some(solvable) => {
-                self.require_of(alloc, solvable, need, offered.len())?;
+                self.require_of(alloc, solvable, need, count)?;
                 Ok(())
             }
         }
@@ -398,7 +443,9 @@ impl<N: Copy + Exact + Hash + Debug + Drop, S: Copy + Exact + Hash + Debug> Enco
             (candidates_in self.now.lists requirement))) }
         ensures refusal { IsOkUnless result Memory }
     {
-        let mut literals = Vec::new(alloc);
+        // The parent's literal, and a short condition.
+        let count = self.candidate_count(requirement).saturating_add(4);
+        let mut literals = Vec::with_capacity(alloc, count)?;
         literals.push(Literal::new(variable, true))?;
         if let Some(condition) = self.lists.condition(condition) {
             literals.extend_from_slice(condition)?;

@@ -139,7 +139,8 @@ pub fn guard<A: PackageSource>(
     }
 }
 
-/// Encodes that a parent needs a candidate of a requirement, whose packages are guarded.
+/// Encodes that a parent needs a candidate of a requirement, whose packages are guarded. Where it
+/// has its candidates, they were added as parents before.
 fn require<A: PackageSource>(
     alloc: Global,
     answers: &mut A,
@@ -161,6 +162,11 @@ fn require<A: PackageSource>(
     ensures ids { IsErrOf result Ids
         → StopsNeed A.SolvableId.eq A.PackageSource answers.old parent need encoding.new }
 {
+    if encoding.is_fixed(need.requirement) {
+        let count = encoding.candidate_count(need.requirement);
+        encoding.require_again(alloc, parent, need, count)?;
+        return Ok(());
+    }
     let offered = answers.candidates(need.requirement)?;
     encoding.require(alloc, parent, need, offered.as_slice())?;
     add_available(answers, encoding, offered.as_slice())?;

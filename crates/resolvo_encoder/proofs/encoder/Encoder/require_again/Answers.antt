@@ -1,0 +1,38 @@
+use Rattle.std.proofs.Common.{◌≡◌, inl, Option, Some, None, [], sym, ap, subst, rules}
+use Rattle.resolvo_pool_core.specs.declared.id.VariableId.{VariableId}
+use Rattle.resolvo_sat.specs.RuleClauses.{IsExact}
+use Rattle.resolvo_state.specs.declared.clause_kind.ClauseKind.TheVariants as Kind
+use Rattle.resolvo_encoder.specs.Encoded.{rules_of}
+use Rattle.resolvo_store_core.specs.Clauses.{root as root_variable}
+use Rattle.resolvo_sat.specs.SearchEnd.{IsNeedEncoded}
+use Rattle.resolvo_encoder.specs.Steps.{Needs, LacksNumberFor}
+use Rattle.resolvo_encoder.proofs.NeedLemmas.{needed_keeps, need_extends}
+use Rattle.resolvo_encoder.proofs.BuildLemmas.{built_encodes}
+use Rattle.resolvo_encoder.proofs.encoder.Encoder.require_again.Goals as goal
+
+pub returns-in_ok-need_directly-in-None-clause-encoded : goal.returns-in_ok-need_directly-in-None-clause-encoded
+returns-in_ok-need_directly-in-None-clause-encoded g c = λ p root lawful e has guarded needs.
+    let exact : IsExact g.S.PartialEq.eq = record { one = g.met.S.Exact.exact; own = g.met.S.Eq.laws.refl } in
+    let rooted : c.root.result ≡ root_variable = ap (λ n. let v : VariableId = record { 0 = n } in v) c.root.ensures in
+    let own : Needs g.S.PartialEq.eq p root None c.args.need = subst (λ (x : Option _). Needs g.S.PartialEq.eq p root x c.args.need) c.in-None.is needs in
+    let (kind, rule) = needed_keeps g.S.PartialEq.eq exact p root lawful None c.args.need c.root.result c.args.self.now c.need_directly.new.self e has guarded rooted own c.in_ok-need_directly-in-None.ensures.needed in
+    (kind, subst (λ (x : Option _). IsNeedEncoded g.S.PartialEq.eq p (rules_of c.need_directly.new.self) x c.args.need []) (sym c.in-None.is) (inl rule))
+
+pub returns-in_ok-need_directly-in-None-clause-kept : goal.returns-in_ok-need_directly-in-None-clause-kept
+returns-in_ok-need_directly-in-None-clause-kept g c =
+    let needed = c.in_ok-need_directly-in-None.ensures.needed in
+    need_extends (Kind.Needs None c.args.need needed.case) c.root.result None c.args.need.requirement c.args.self.now c.need_directly.new.self needed.states
+
+pub returns-in_ok-need_directly-in-None-clause-built : goal.returns-in_ok-need_directly-in-None-clause-built
+returns-in_ok-need_directly-in-None-clause-built g c =
+    let needed = c.in_ok-need_directly-in-None.ensures.needed in
+    built_encodes (Kind.Needs None c.args.need needed.case) c.root.result None c.args.need.requirement c.args.self.now c.need_directly.new.self c.requires (λ name s place bit h. absurd cc) needed.states
+
+pub returns-in_ok-require_of-in-Some-clause-encoded : goal.returns-in_ok-require_of-in-Some-clause-encoded
+returns-in_ok-require_of-in-Some-clause-encoded g c = λ p root lawful e has guarded needs.
+    let own : Needs g.S.PartialEq.eq p root (Some c.in-Some.solvable) c.args.need = subst (λ (x : Option _). Needs g.S.PartialEq.eq p root x c.args.need) c.in-Some.is needs in
+    let (kind, encoded) = c.in_ok-require_of-in-Some.ensures.encoded p root lawful e has guarded own in
+    (kind, subst (λ (x : Option _). IsNeedEncoded g.S.PartialEq.eq p (rules_of c.require_of.new.self) x c.args.need []) (sym c.in-Some.is) encoded)
+
+pub returns-in_err-need_directly-in-None-clause-ids : goal.returns-in_err-need_directly-in-None-clause-ids
+returns-in_err-need_directly-in-None-clause-ids g c = search (rules, LacksNumberFor.coding)
