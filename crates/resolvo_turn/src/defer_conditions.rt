@@ -26,7 +26,7 @@ pub fn solvables_of<N, S: Copy>(alloc: Global, offered: &[Offered<N, S>]) -> R<V
     ensures solvables { IfOk result (λ v. v.items ≡ offered_solvables offered.now) }
     ensures refusal { IsOkUnless result Memory }
 {
-    let mut solvables = Vec::new(alloc);
+    let mut solvables = Vec::with_capacity(alloc, offered.len())?;
     for one in offered {
         solvables.push(one.solvable)?;
     }
@@ -63,7 +63,7 @@ fn conjuncts_of<A: PackageSource>(
     ensures cancelled { IfErr result (IsCancelledBy (A.may_cancel answers.old)) }
     ensures ids { IsErrOf result Ids → A.may_lack_ids answers.old }
 {
-    let mut conjuncts = Vec::new(alloc);
+    let mut conjuncts = Vec::with_capacity(alloc, case.len())?;
     for version_set in case {
         let conjunct = conjunct_of(alloc, answers, *version_set)?;
         conjuncts.push(conjunct)?;

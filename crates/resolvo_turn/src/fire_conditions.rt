@@ -68,7 +68,7 @@ fn sets_of<A: PackageSource>(
     ensures cancelled { IfErr result (IsCancelledBy (A.may_cancel answers.old)) }
     ensures ids { IsErrOf result Ids → A.may_lack_ids answers.old }
 {
-    let mut sets = Vec::new(alloc);
+    let mut sets = Vec::with_capacity(alloc, case.len())?;
     for version_set in case {
         let set = set_of(alloc, answers, *version_set)?;
         sets.push(set)?;
