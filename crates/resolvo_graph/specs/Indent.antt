@@ -1,12 +1,31 @@
 -- The indent of a line of the message.
-use Rattle.std.specs.Prelude.{ℕ, ◌++◌, Bool, List, [], ◌∷◌, cond, drop}
+use Rattle.std.specs.Prelude.{ℕ, ◌++◌, Bool, true, false, List, [], ◌∷◌, cond, drop, replicate}
+use Rattle.std.specs.List.{flat_map}
 use Rattle.resolvo_graph.specs.declared.indenter.ChildOrder.{ChildOrder}
 use Rattle.resolvo_graph.specs.declared.indenter.ChildOrder.TheVariants.{HasRemainingSiblings, Last}
+use Rattle.resolvo_graph.specs.declared.indenter.FirstLevel.{FirstLevel}
+use Rattle.resolvo_graph.specs.declared.indenter.FirstLevel.TheVariants.{Shown, Hidden, Awaited}
+use Rattle.resolvo_graph.specs.declared.indenter.Stretch.{Stretch}
 
 -- the levels of a line, the topmost first
 pub record Indent : Type 0 where
   pub levels : List ChildOrder
   pub top_level_indent : Bool
+
+-- the levels of a stretch: one, and as many more
+abbrev pub levels_in : Stretch → List ChildOrder
+levels_in s = s.order ∷ replicate s.more s.order
+
+-- the levels by the first one and the stretches of those that have a sign
+abbrev pub levels_with : FirstLevel → List Stretch → List ChildOrder
+levels_with Shown ss = flat_map levels_in ss
+levels_with (Hidden o) ss = o ∷ flat_map levels_in ss
+levels_with Awaited ss = []
+
+abbrev pub has_sign : FirstLevel → Bool
+has_sign Shown = true
+has_sign (Hidden o) = false
+has_sign Awaited = false
 
 -- the sign of the line's own level, in UTF-8: a tee or a corner, a dash, a space
 abbrev pub own_sign : ChildOrder → List ℕ
