@@ -15,6 +15,7 @@ pub mod ServeLemmas
 pub mod Upheld
 pub mod JoinLemmas
 pub mod SplitLemmas
+pub mod PlainLemmas
 pub mod WriterLemmas
 pub mod LengthLemmas
 pub mod MessageLemmas

@@ -1,10 +1,12 @@
-//! The lines of a text, kept while it is written: no copy of the whole text is made.
+//! The lines of a text, kept while it is written: no copy of the whole text is made. Bytes without
+//! a newline are taken at once.
 
-ghost use Rattle.std.specs.Prelude.{ℕ, List, ◌++◌, ◌∷◌, [], IfOk, IsOkUnless, OnOk, IfSome};
+ghost use Rattle.std.specs.Prelude.{ℕ, true, ◌≡◌, List, ◌++◌, ◌∷◌, [], IfOk, IsOkUnless, OnOk, IfSome};
 ghost use Rattle.resolvo_pool_core.specs.declared.want.Want.TheVariants.{Memory};
 ghost use Rattle.resolvo_report.specs.View.{messages_of};
-ghost use Rattle.resolve_answer.specs.Message.{AreLinesOf, AreBegun};
+ghost use Rattle.resolve_answer.specs.Message.{AreLinesOf, AreBegun, IsPlain};
 
+use memchr::memchr;
 use resolvo_pool_core::want::{R, Want};
 use std::alloc::Global;
 use std::fmt;
@@ -19,6 +21,20 @@ struct Lines {
 }
 
 impl Lines {
+    /// Takes bytes that have no newline.
+    fn push_plain(&mut self, bytes: &[u8]) -> R<()>
+        requires { IsPlain bytes.now }
+        ensures pushed { OnOk result
+            ((text : List ℕ)
+            → AreBegun text (messages_of self.old.whole.items) self.old.begun.items
+            → AreBegun (text ++ bytes.now)
+            (messages_of self.new.whole.items) self.new.begun.items) }
+        ensures refusal { IsOkUnless result Memory }
+    {
+        self.begun.extend_from_slice(bytes)?;
+        Ok(())
+    }
+
     /// Takes one byte more. A whole line has room for exactly its bytes.
     fn push(&mut self, byte: u8) -> R<()>
         ensures pushed { OnOk result
@@ -39,6 +55,16 @@ impl Lines {
     }
 }
 
+/// Whether these bytes have no newline.
+fn is_plain(bytes: &[u8]) -> bool
+    ensures { result ≡ true → IsPlain bytes.now }
+{
+    match memchr(b'\n', bytes) {
+        Some(_) => false,
+        None => true,
+    }
+}
+
 impl fmt::Write for Lines {
     ghost write_str_gives = { λ s bs t.
         (text : List ℕ)
@@ -46,7 +72,14 @@ impl fmt::Write for Lines {
         → AreBegun (text ++ bs) (messages_of t.whole.items) t.begun.items };
 
     fn write_str(&mut self, s: &str) -> fmt::Result {
-        for byte in s.as_bytes() {
+        let bytes = s.as_bytes();
+        if is_plain(bytes) {
+            let Ok(()) = self.push_plain(bytes) else {
+                return Err(fmt::Error);
+            };
+            return Ok(());
+        }
+        for byte in bytes {
             let Ok(()) = self.push(*byte) else {
                 return Err(fmt::Error);
             };
