@@ -15,6 +15,7 @@ ghost use Rattle.resolvo_graph.specs.Walk.{is_among};
 ghost use Rattle.resolvo_graph.specs.Runs.{runs_of};
 ghost use Rattle.resolvo_graph.specs.Tree.{siblings, is_missing, candidates_at, reason_in, is_admitting, admitted_in, same_set, verdict_in, admitted_lines, further_lines, outlook_of, shown_of, covered_with, is_covered, firsts_after, in_rank, verdict_of, needs_of, is_passed, lines_with, version_lines, lines_at, entries_below, covered_after, IsTree, solvable_at_node, order_before};
 
+use crate::above::Above;
 use crate::display_line::{MessageLine, Outlook, Sentence, Verdict, Versions};
 use crate::graph::{ConflictGraph, ConflictNode, Edge, NodeIndex};
 use crate::indenter::{ChildOrder, Indenter};
@@ -46,7 +47,7 @@ pub(crate) enum DisplayOp<S = SolvableId> {
 pub(crate) struct Entry<S = SolvableId> {
     op: DisplayOp<S>,
     indenter: Indenter,
-    above: Vec<NodeIndex>,
+    above: Above,
 }
 
 impl<S> Model for Entry<S> {
@@ -55,7 +56,7 @@ impl<S> Model for Entry<S> {
 
     ghost Value = { Entry S };
 
-    ghost view = { λ e. record { op = e.op; indent = e.indenter; above = e.above.items } };
+    ghost view = { λ e. record { op = e.op; indent = e.indenter; above = e.above } };
 }
 
 /// The input of a message: the graph, the installable nodes, and the merged versions.
@@ -129,7 +130,7 @@ impl<S: Copy + Exact + Hash + Debug> Findings<'_, S> {
             alloc,
             ops,
             &Indenter::new(alloc, top_level_indent),
-            &[],
+            &Above::none(alloc)?,
             stack,
         )
     }
@@ -157,15 +158,9 @@ impl<S: Copy + Exact + Hash + Debug> Findings<'_, S> {
             above,
         } = entry;
         match op {
-            DisplayOp::Requirement(run) => self.write_run(
-                alloc,
-                &run,
-                indenter,
-                above.as_slice(),
-                writer,
-            ),
+            DisplayOp::Requirement(run) => self.write_run(alloc, &run, indenter, &above, writer),
             DisplayOp::Candidate(node, version) => {
-                if self.is_passed(&writer.covered, node, version, above.as_slice()) {
+                if self.is_passed(&writer.covered, node, version, &above) {
                     return Ok(());
                 }
                 self.write_version(alloc, node, version, indenter, above, writer)
@@ -174,13 +169,7 @@ impl<S: Copy + Exact + Hash + Debug> Findings<'_, S> {
     }
 
     /// Whether a line covers a version already, or it is below itself.
-    fn is_passed(
-        &self,
-        covered: &IndexSet<S>,
-        node: NodeIndex,
-        version: S,
-        above: &[NodeIndex],
-    ) -> bool
+    fn is_passed(&self, covered: &IndexSet<S>, node: NodeIndex, version: S, above: &Above) -> bool
         ensures { result
             ≡ is_passed (findings S.eq self.now) covered.now.keys node version above.now }
     {
@@ -193,7 +182,7 @@ impl<S: Copy + Exact + Hash + Debug> Findings<'_, S> {
         alloc: Global,
         run: &Run,
         indenter: Indenter,
-        above: &[NodeIndex],
+        above: &Above,
         writer: &mut TreeWriter<S>,
     ) -> R<()>
         ensures covered { writer.new.covered.keys ≡ writer.old.covered.keys }
@@ -226,7 +215,7 @@ impl<S: Copy + Exact + Hash + Debug> Findings<'_, S> {
         node: NodeIndex,
         version: S,
         indenter: Indenter,
-        above: Vec<NodeIndex>,
+        above: Above,
         writer: &mut TreeWriter<S>,
     ) -> R<()>
         ensures covered { OnOk result
@@ -235,7 +224,7 @@ impl<S: Copy + Exact + Hash + Debug> Findings<'_, S> {
         ensures stack { OnOk result
             (writer.new.stack.items
             ≡ writer.old.stack.items ++ reverse
-            (siblings indenter (above.items ++ node ∷ [])
+            (siblings indenter (above ++ node ∷ [])
             (reverse
             (needs_of (findings S.eq self.now) (verdict_of (findings S.eq self.now) node)
             (edges_of self.now.graph.now node))))) }
@@ -258,22 +247,20 @@ impl<S: Copy + Exact + Hash + Debug> Findings<'_, S> {
         node: NodeIndex,
         edges: &[Edge<S>],
         indenter: &Indenter,
-        above: Vec<NodeIndex>,
+        above: Above,
         stack: &mut Vec<Entry<S>>,
     ) -> R<()>
         ensures stack { OnOk result
             (stack.new.items
             ≡ stack.old.items ++ reverse
-            (siblings indenter.now (above.items ++ node ∷ [])
+            (siblings indenter.now (above ++ node ∷ [])
             (reverse
             (needs_of (findings S.eq self.now)
             (verdict_in self.now.graph.now edges.now) edges.now)))) }
         ensures refusal { IsOkUnless result Memory }
     {
-        let mut above = above;
-        above.push(node)?;
         let needs = self.needs(alloc, self.verdict(edges), edges)?;
-        place(alloc, needs, indenter, above.as_slice(), stack)
+        place(alloc, needs, indenter, &above.with(alloc, node)?, stack)
     }
 
     /// Adds the lines of a version with these edges.
@@ -521,7 +508,7 @@ fn place<S: Copy + Exact + Hash + Debug>(
     alloc: Global,
     ops: Vec<DisplayOp<S>>,
     indenter: &Indenter,
-    above: &[NodeIndex],
+    above: &Above,
     stack: &mut Vec<Entry<S>>,
 ) -> R<()>
     ensures stack { OnOk result
@@ -543,7 +530,7 @@ fn sibling<S: Copy + Exact + Hash + Debug>(
     op: DisplayOp<S>,
     indenter: &Indenter,
     order: ChildOrder,
-    above: &[NodeIndex],
+    above: &Above,
 ) -> R<Entry<S>>
     ensures entry { IfOk result
         (λ e. e ≡ record { op = op; indent = level_below indenter.now order; above = above.now }) }
@@ -552,7 +539,7 @@ fn sibling<S: Copy + Exact + Hash + Debug>(
     Ok(Entry {
         op,
         indenter: indenter.push_level(alloc, order)?,
-        above: Vec::from_slice(alloc, above)?,
+        above: above.share()?,
     })
 }
 
