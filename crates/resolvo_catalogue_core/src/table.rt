@@ -27,7 +27,7 @@ use crate::rule::VersionNo;
 use crate::versions::Versions;
 use resolvo_pool_core::id::{NameId, VersionSetId};
 use resolvo_pool_core::requirement::ConditionalRequirement;
-use resolvo_terms::{Room, Terms};
+use resolvo_terms::Terms;
 use resolvo_text::{
     Alternatives, Cond, Line, LineFault, Spec, Version, limits_words, line_in, listed_in,
     needs_words,
@@ -75,13 +75,6 @@ impl Drop for Table {
     }
 }
 
-/// Nothing is known of a text before it is read.
-const NO_ROOM: Room = Room {
-    version_sets: 0,
-    unions: 0,
-    conditions: 0,
-};
-
 impl Table {
     ghost use Rattle.resolvo_catalogue_core.specs.LinesByVersion.{kept_of};
     ghost use Rattle.resolvo_catalogue_core.specs.Table.{IsTable, Adds, HasFew, lines_in, versions_in, kinds_in, numbers_in};
@@ -93,7 +86,7 @@ impl Table {
         ensures empty { IfOk result (λ t. lines_in t ≡ []) }
         ensures few { IfOk result HasFew }
     {
-        let terms = Terms::new(alloc, NO_ROOM)?;
+        let terms = Terms::new(alloc)?;
         terms.ids_are_once();
         Ok(Table {
             terms,

@@ -6,7 +6,7 @@ ghost use Rattle.resolvo_terms.specs.Terms.{AreOnce};
 ghost use Rattle.resolvo_terms.specs.Found.{Key, IsPut, AddsKey, AreKeysFound, key_eq, key_hash, keys_of, number_at, number_from, number_if, number_in, number_of_slot, or_later, place_from, slot_at, tries};
 
 use crate::hash::mixed;
-use crate::slots::{Slots, TRIES, first_place, places_for};
+use crate::slots::{Slots, TRIES, first_place};
 use std::alloc::{AllocError, Global};
 use std::collections::BTreeMap;
 use std::marker::Model;
@@ -69,15 +69,15 @@ impl Model for KeyMap {
 }
 
 impl KeyMap {
-    /// No keys, with places for so many.
+    /// No keys.
     #[tactic(auto, using(crate::proofs::KeyMapLemmas::no_number, crate::proofs::KeyMapLemmas::none_found))]
-    pub fn new(alloc: Global, room: usize) -> Result<KeyMap, AllocError>
+    pub fn new(alloc: Global) -> Result<KeyMap, AllocError>
         ensures none { IfOk result (λ m. (key : Key) → number_at m key ≡ None) }
         ensures entries { IfOk result (λ m. length m.entries ≡ 0) }
     {
         Ok(KeyMap {
             entries: Vec::new(alloc),
-            index: KeyIndex::new(alloc, places_for(room))?,
+            index: KeyIndex::new(alloc, 0)?,
         })
     }
 

@@ -12,4 +12,4 @@ mod terms;
 mod text_ids;
 mod text_list;
 
-pub use terms::{Numbers, Room, Terms};
+pub use terms::{Numbers, Terms};

@@ -115,18 +115,6 @@ impl Slots {
     }
 }
 
-/// A power of two, over twice the count where that is at most 2^31: how many places so many numbers
-/// get.
-pub fn places_for(count: usize) -> usize {
-    let mut places = FEW;
-    for _ in 0..27 {
-        if places / 2 <= count {
-            places = places.saturating_mul(2);
-        }
-    }
-    places
-}
-
 /// The first place of a hash.
 pub fn first_place(hash: usize) -> usize
     ensures place { result ≡ place_from hash }

@@ -75,14 +75,6 @@ impl Drop for Unions {
     }
 }
 
-/// For how many ids of each kind there is room at first.
-#[derive(Clone, Copy, Debug)]
-pub struct Room {
-    pub version_sets: usize,
-    pub unions: usize,
-    pub conditions: usize,
-}
-
 /// The numbered values.
 pub struct Terms {
     names: Names,
@@ -134,8 +126,8 @@ impl Model for Terms {
 }
 
 impl Terms {
-    /// An empty table, with room for some ids.
-    pub fn new(alloc: Global, room: Room) -> Result<Terms, AllocError>
+    /// An empty table.
+    pub fn new(alloc: Global) -> Result<Terms, AllocError>
         ensures { IfOk result (λ t. t
             ≡ record
             { names = []; words = []; version_sets = []; unions = []; conditions = [] }) }
@@ -143,9 +135,9 @@ impl Terms {
         Ok(Terms {
             names: Names::new(alloc)?,
             words: TextIds::new(alloc)?,
-            version_sets: Numbered::new(alloc, room.version_sets)?,
-            unions: Unions::new(alloc, room.unions)?,
-            conditions: Numbered::new(alloc, room.conditions)?,
+            version_sets: Numbered::new(alloc)?,
+            unions: Unions::new(alloc)?,
+            conditions: Numbered::new(alloc)?,
             recent: Vec::new(alloc),
             alloc,
         })
@@ -562,13 +554,13 @@ impl<T: Drop + Copy> Numbered<T> {
 
 impl<T: Drop> Numbered<T> {
     /// No values.
-    fn new(alloc: Global, room: usize) -> Result<Numbered<T>, AllocError>
+    fn new(alloc: Global) -> Result<Numbered<T>, AllocError>
         ensures values { IfOk result (λ t. t.values.items ≡ []) }
         ensures ids { IfOk result (λ t. (key : Key) → number_at t.ids key ≡ None) }
     {
         Ok(Numbered {
             values: Vec::new(alloc),
-            ids: KeyMap::new(alloc, room)?,
+            ids: KeyMap::new(alloc)?,
         })
     }
 
@@ -638,14 +630,14 @@ impl Unions {
     }
 
     /// No lists.
-    fn new(alloc: Global, room: usize) -> Result<Unions, AllocError>
+    fn new(alloc: Global) -> Result<Unions, AllocError>
         ensures values { IfOk result (λ t. t.values.items ≡ []) }
         ensures short { IfOk result (λ t. (key : Key) → number_at t.short key ≡ None) }
         ensures long { IfOk result (λ t. t.long.entries ≡ []) }
     {
         Ok(Unions {
             values: Vec::new(alloc),
-            short: KeyMap::new(alloc, room)?,
+            short: KeyMap::new(alloc)?,
             long: BTreeMap::new(alloc),
         })
     }
