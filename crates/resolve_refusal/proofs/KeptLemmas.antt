@@ -1,9 +1,9 @@
--- What a rule by numbers says of its line: whether it locks a version, marks one as unknown, or excludes one.
-use Rattle.std.proofs.Common.{◌≡◌, ℕ, Bool, true, false, List, Option, Some, None, Result, Ok, Err, refl, sym, ap, subst, ◌∙◌}
+-- What a rule by numbers says of its line: whether it excludes a version, and what a test of the rule decides.
+use Rattle.std.proofs.Common.{◌≡◌, ℕ, Bool, true, false, List, Option, Some, None, Result, Ok, Err, sym, ap, subst, ◌∙◌}
 use Rattle.std.specs.Prelude.{Decides, IfOk, slice_get}
 use Rattle.std.proofs.lemmas.Bool.{false≢true}
 use Rattle.std.proofs.lemmas.Option.{slice_get-get_or, get_or_from_slice_get}
-use Rattle.resolvo_text.specs.Line.{Version, Spec, Line, Unknown, Exclude}
+use Rattle.resolvo_text.specs.Line.{Version, Spec, Line, Exclude}
 use Rattle.resolvo_pool_core.specs.declared.id.StringId.{StringId}
 use Rattle.resolvo_terms.specs.Terms.{Terms}
 use Rattle.resolvo_terms.specs.Known.{word_text}
@@ -14,34 +14,9 @@ use Rattle.resolvo_catalogue_core.specs.Questions.{is_rule}
 use Rattle.resolvo_catalogue_core.specs.declared.rule.VersionNo.{VersionNo}
 use Rattle.resolvo_catalogue_core.specs.declared.kept_rule.KeptRule.{KeptRule}
 use Rattle.resolvo_catalogue_core.specs.declared.kept_rule.KeptRule.TheVariants as kept
-use Rattle.resolve_refusal.specs.Lines.{locks, IsLineAt, IsAt, IsCaseOf, IsCaseAt, NeedsIn}
+use Rattle.resolve_refusal.specs.Lines.{IsLineAt, IsCaseOf, IsCaseAt, NeedsIn}
 
 module _ (t : Terms) (versions : List Version) (owner : Option Version) (line : Line) where
-  pub no_lock_kept : (r : KeptRule) → ((locked : VersionNo) → r ≡ kept.Lock locked → ⊥) → IsKeptLine t versions r owner line → false ≡ locks line
-  no_lock_kept (kept.Needs above need) other h = ap locks h.is
-  no_lock_kept (kept.Limits above v) other h = ap locks h.is
-  no_lock_kept (kept.Unknown above w) other h = ap locks h.is
-  no_lock_kept (kept.Lock locked) other h = absurd (other locked refl)
-  no_lock_kept (kept.Exclude excluded w) other h = ap locks h.is
-
-  pub no_mark_kept : (word : List ℕ) (r : KeptRule) → ((marked : VersionNo) (w : StringId) → r ≡ kept.Unknown marked w → ⊥) → IsKeptLine t versions r owner line → line ≡ Unknown word → ⊥
-  no_mark_kept word (kept.Needs above need) other h e = (let both = h.is ∙ e in absurd cc)
-  no_mark_kept word (kept.Limits above v) other h e = (let both = h.is ∙ e in absurd cc)
-  no_mark_kept word (kept.Unknown above w) other h e = absurd (other above w refl)
-  no_mark_kept word (kept.Lock locked) other h e = (let both = h.is ∙ e in absurd cc)
-  no_mark_kept word (kept.Exclude excluded w) other h e = (let both = h.is ∙ e in absurd cc)
-
-  pub no_exclusion_kept : (excluded : Version) (word : List ℕ) (r : KeptRule) → ((named : VersionNo) (w : StringId) → r ≡ kept.Exclude named w → ⊥) → IsKeptLine t versions r owner line → line ≡ Exclude excluded word → ⊥
-  no_exclusion_kept excluded word (kept.Needs above need) other h e = (let both = h.is ∙ e in absurd cc)
-  no_exclusion_kept excluded word (kept.Limits above v) other h e = (let both = h.is ∙ e in absurd cc)
-  no_exclusion_kept excluded word (kept.Unknown above w) other h e = (let both = h.is ∙ e in absurd cc)
-  no_exclusion_kept excluded word (kept.Lock locked) other h e = (let both = h.is ∙ e in absurd cc)
-  no_exclusion_kept excluded word (kept.Exclude named w) other h e = absurd (other named w refl)
-
-  -- the word of a mark is that of its number
-  pub mark_kept : (marked : VersionNo) (w : StringId) (word : List ℕ) → IsKeptLine t versions (kept.Unknown marked w) owner line → line ≡ Unknown word → word_text t w ≡ word
-  mark_kept marked w word h e = (let both : Unknown (word_text t w) ≡ Unknown word = h.is ∙ e in cc)
-
   module _ (excluded : VersionNo) (w : StringId) (number : ℕ) (v : Version) (at : slice_get versions number ≡ Some v) (h : IsKeptLine t versions (kept.Exclude excluded w) owner line) where
     -- a rule that excludes a version by its number
     pub excludes_it : (word : List ℕ) → excluded.0 ≡ number → word_text t w ≡ word → line ≡ Exclude v word

@@ -1,6 +1,6 @@
 -- Whether a line is allowed below those of a table, by its maps.
 use Rattle.std.proofs.Common.{◌≡◌, is_some, true, false, ℕ, zero, suc, ◌-◌, ◌<◌, ◌≤◌, List, [], ◌∷◌, length, get_or, take, Option, Some, None, refl, sym, ap, subst, ◌∙◌, arith, option_map}
-use Rattle.std.specs.Prelude.{◌↔◌, Contains, slice_get, slice_index_or, map, Result, Ok, Err, IfOk, OnErr, is_ok}
+use Rattle.std.specs.Prelude.{◌↔◌, Contains, slice_get, slice_index_or, map}
 use Rattle.std.specs.BTreeMap.{get, get_by_text}
 use Rattle.std.specs.Ordering.{nat_cmp}
 use Rattle.std.proofs.lemmas.Option.{slice_get_within, slice_get-get_or, slice_get_past}
@@ -38,14 +38,6 @@ none_from (Some x) e = absurd cc
 pub some_from : {X : Type 0} (o : Option X) → is_some o ≡ true → (x : X) × (o ≡ Some x)
 some_from None e = absurd cc
 some_from (Some x) e = (x, refl)
-
-pub ok_from : {T E : Type 0} {P : T → Type 0} (r : Result T E) → IfOk r P → is_ok r ≡ true → (x : T) × P x
-ok_from (Ok x) h e = (x, h)
-ok_from (Err y) h e = absurd cc
-
-pub err_from : {T E : Type 0} {P : Type 0} (r : Result T E) → OnErr r P → is_ok r ≡ false → P
-err_from (Ok x) h e = absurd cc
-err_from (Err y) h e = h
 
 pub listed_at : (t : Table) → IsTable t → (v : Version) → (n : VersionNo) × (slice_get (versions_in t) n.0 ≡ Some v) → Contains (lines_in t) (Listed v)
 listed_at t keeps v h = listed_from (lines_in t) v h.0.0 (rw keeps.listing h.1)

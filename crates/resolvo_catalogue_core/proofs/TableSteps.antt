@@ -3,7 +3,7 @@ use Rattle.std.proofs.Common.{◌≡◌, ◌==◌, if◌then◌else◌, inl, inr
 use Rattle.std.specs.Prelude.{◌≤◌, Contains, slice_get, string_bytes, nat_eq, Result, Ok, Err, OnOk}
 use Rattle.resolvo_catalogue_core.specs.declared.package.Package.{Package}
 use Rattle.resolvo_catalogue_core.specs.Packages.{package_in}
-use Rattle.resolvo_catalogue_core.specs.Table.{AddsNumber, AddsVersion, IsPackage, package_named, numbers_in, line_of, Keeps, IsTable, Adds, lines_in, versions_in, kinds_in, number_in}
+use Rattle.resolvo_catalogue_core.specs.Table.{AddsVersion, IsPackage, package_named, numbers_in, line_of, Keeps, IsTable, Adds, lines_in, versions_in, kinds_in, number_in}
 use Rattle.resolvo_catalogue_core.specs.Questions.{IsOfPackage, number_of, IsOnly, AreAll, LineIs, BelongsTo, MarksUnknownOf, Locks, Favours, MarksMany, Excludes, IsFavour, IsVersionLine, FavoursAt}
 use Rattle.std.specs.BTreeMap.{get, get_by_text}
 use Rattle.std.specs.Ordering.{nat_cmp}
@@ -329,12 +329,6 @@ favour t u line k v name keeps number at same absent more favoured pushed =
     })
 
 -- ---- packages
-
-pub adds_version : (before after : List ℕ → Option Package) (v : Version) (k : VersionNo) (p : Package) (name : List ℕ) → name ≡ v.name → ((q : List ℕ) → after q ≡ update bytes_eq before name (Some p) q) → AddsNumber (before name) v.number k p → AddsVersion before v k after
-adds_version before after v k p name same updated adds = record {
-  added = (p, ap after (sym same) ∙ updated name ∙ rw ((bytes_eq-Decides name name).1 refl) refl, rw (← same) adds);
-  others = λ q apart. updated q ∙ rw (same, apart) refl;
-}
 
 -- whether a number is new, by the package before
 pub new_number : (o : Option Package) (p : Package) (k : ℕ) → Some p ≡ o → is_some (beside (numbers_of p) (versions_of p) k) ≡ is_some (number_in o k)
