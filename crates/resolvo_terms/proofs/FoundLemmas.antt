@@ -1,6 +1,6 @@
 -- Values that are each found at their places, with one more.
-use Rattle.std.proofs.Common.{Ordering, ◌≡◌, ℕ, zero, suc, Bool, true, false, cond, List, [], ◌∷◌, ◌++◌, length, Option, Some, None, refl, sym, ap, subst, ◌∙◌, inl, inr, arith}
-use Rattle.std.specs.Prelude.{slice_get, slice_index_or, nat_lt, nat_eq, vec_len, IfSome, IsSomeAnd, MatchOption}
+use Rattle.std.proofs.Common.{Ordering, ◌≡◌, ℕ, zero, suc, Bool, true, false, cond, List, [], ◌∷◌, ◌++◌, length, map, Option, Some, None, refl, sym, ap, subst, ◌∙◌, inl, inr, arith}
+use Rattle.std.specs.Prelude.{slice_get, slice_index_or, nat_lt, vec_len, IsSomeAnd, MatchOption}
 use Rattle.std.specs.List.{AllZip, each_same}
 use Rattle.std.proofs.lemmas.Map.Entries.{lookup_clone}
 use Rattle.std.specs.Option.{option_map_or}
@@ -14,7 +14,6 @@ use Rattle.std.specs.Ordering.{nat_cmp, is_eq, eq_by_cmp, ordering_then}
 use Rattle.std.proofs.lemmas.Bool.{cases_Bool, cond-true, cond-false}
 use Rattle.std.proofs.lemmas.Bool.Decides.{nat_tests}
 use Rattle.std.proofs.lemmas.Map.Text.{is_eq-slice_cmp}
-use Rattle.std.proofs.lemmas.Option.{none-some, same_Some}
 use Rattle.resolvo_text.specs.declared.spec.Span.{Span}
 use Rattle.resolvo_text.specs.declared.spec.Span.TheVariants.{Any, One, Range}
 use Rattle.resolvo_pool_core.specs.declared.id.VersionSetId.{VersionSetId}
@@ -27,64 +26,18 @@ use Rattle.resolvo_pool_core.specs.Provider.{OperandsBelow}
 use Rattle.resolvo_intern.specs.Intern.{AreBelow}
 use Rattle.resolvo_terms.proofs.Places.{get_new, get_kept, get_push}
 use Rattle.resolvo_terms.specs.declared.terms.Numbers.{Numbers}
-use Rattle.resolvo_terms.specs.Terms.{AreOnce}
 use Rattle.resolvo_terms.specs.Terms.{NameId, Extends, AreSeveral}
 use Rattle.resolvo_terms.specs.Known.{sound}
-use Rattle.resolvo_terms.specs.Found.{AreFound, AreKept, Key, key_eq, list_number_in, span_key, set_key, union_key, few_key, number_by, union_number, condition_key}
+use Rattle.resolvo_terms.specs.declared.key_index.KeyIndex.{KeyIndex}
+use Rattle.resolvo_terms.specs.Found.{AreKept, AreKeyed, HasMore, Key, key_eq, list_number_in, span_key, set_key, condition_key}
 
 -- ---- any values
-
-module _ {V : Type 0} (eq : V → V → Bool) (exact : (x y : V) → eq x y ≡ true → x ≡ y) (own : (x : V) → eq x x ≡ true) where
-  pub found_more : (f g : V → Option ℕ) (vs : List V) (v : V) → AreFound f vs → f v ≡ None → ((w : V) → g w ≡ cond (eq v w) (Some (length vs)) (f w)) → AreFound g (vs ++ v ∷ [])
-  found_more f g vs v h none is = record {
-    found = λ w i e. elim (cases_Bool (eq v w)) [
-      | inl y ↦
-          let here : length vs ≡ i = same_Some (length vs) i (subst (λ (b : Bool). cond b (Some (length vs)) (f w) ≡ Some i) y (sym (is w) ∙ e)) in
-          subst (λ (n : ℕ). slice_get (vs ++ v ∷ []) n ≡ Some w) here (get_new vs v ∙ ap (λ (x : V). Some x) (exact v w y))
-      | inr n ↦ get_kept vs v w i (h.found w i (subst (λ (b : Bool). cond b (Some (length vs)) (f w) ≡ Some i) n (sym (is w) ∙ e)))
-    ];
-    all = λ w i e. elim (get_push vs v w i e) [
-      | inl old ↦ elim (cases_Bool (eq v w)) [
-        | inl y ↦ absurd (none-some i (sym none ∙ subst (λ (x : V). f x ≡ Some i) (sym (exact v w y)) (h.all w i old)))
-        | inr n ↦ is w ∙ subst (λ (b : Bool). cond b (Some (length vs)) (f w) ≡ Some i) (sym n) (h.all w i old)
-      ]
-      | inr last ↦
-          let same : eq v w ≡ true = subst (λ (x : V). eq v x ≡ true) last.1 (own v) in
-          is w ∙ subst (λ (b : Bool). cond b (Some (length vs)) (f w) ≡ Some i) (sym same) (ap (λ (n : ℕ). Some n) (sym last.0))
-    ];
-  }
-
-module _ {V : Type 0} (f : V → Option ℕ) (vs : List V) (h : AreFound f vs) where
-  pub found_once : AreOnce vs
-  found_once i j x a b = same_Some i j (sym (h.all x i a) ∙ h.all x j b)
-
-  pub not_found : (v : V) → f v ≡ None → (i : ℕ) → slice_get vs i ≡ Some v → ⊥
-  not_found v none i at = none-some i (sym none ∙ h.all v i at)
-
-pub found_in_none : {V : Type 0} (f : V → Option ℕ) → ((v : V) → f v ≡ None) → AreFound f []
-found_in_none f none = record { found = λ v i e. absurd (none-some i (sym (none v) ∙ e)); all = λ v i e. absurd (nowhere i v e) }
-  where
-    nowhere : {V : Type 0} (i : ℕ) (v : V) → slice_get [] i ≡ Some v → ⊥
-    nowhere i v e = cc
 
 pub extends_own : {V : Type 0} (vs : List V) → Extends vs vs
 extends_own vs k x e = e
 
 pub extends_more : {V : Type 0} (vs : List V) (v : V) → Extends vs (vs ++ v ∷ [])
 extends_more vs v k x e = get_kept vs v x k e
-
--- a found value is at its place
-pub found_if : {V : Type 0} (f : V → Option ℕ) (vs : List V) → AreFound f vs → (v : V) (r : Option ℕ) → r ≡ f v → IfSome r (λ i. slice_get vs i ≡ Some v)
-found_if f vs h v None is = tt
-found_if f vs h v (Some i) is = h.found v i (sym is)
-
--- a value that isn't in the list isn't found
-pub none_found : {V : Type 0} (f : V → Option ℕ) (vs : List V) → AreFound f vs → (v : V) → ((i : ℕ) → slice_get vs i ≡ Some v → ⊥) → f v ≡ None
-none_found f vs h v nowhere = go (f v) refl
-  where
-    go : (r : Option ℕ) → f v ≡ r → f v ≡ None
-    go None is = is
-    go (Some i) is = absurd (nowhere i (h.found v i is))
 
 module _ {V : Type 0} (vs news : List V) (v : V) (more : news ≡ vs ++ v ∷ []) where
   pub last_there : (i : ℕ) → i ≡ length vs → slice_get news i ≡ Some v
@@ -151,12 +104,6 @@ keys_exact x y e =
 pub keys_own : (x : Key) → key_eq x x ≡ true
 keys_own x = rw (tied_itself nat_cmp_total x.0, tied_itself nat_cmp_total x.1, tied_itself nat_cmp_total x.2, tied_itself nat_cmp_total x.3) refl
 
--- the values after one more, whose key had no number
-keyed_more : {V : Type 0} (key : V → Key) → ((x y : V) → key x ≡ key y → x ≡ y) → (old new : Key → Option ℕ) (vs : List V) (v : V) → AreFound (λ x. old (key x)) vs → old (key v) ≡ None
-    → ((other : Key) → new other ≡ cond (key_eq (key v) other) (Some (length vs)) (old other)) → AreFound (λ x. new (key x)) (vs ++ v ∷ [])
-keyed_more key exact old new vs v h none put =
-    found_more (λ x y. key_eq (key x) (key y)) (λ x y e. exact x y (keys_exact (key x) (key y) e)) (λ x. keys_own (key x)) (λ x. old (key x)) (λ x. new (key x)) vs v h none (λ x. put (key x))
-
 -- ---- values of one key are one
 
 spans_exact : (a b : Span) → span_key a ≡ span_key b → a ≡ b
@@ -173,70 +120,17 @@ spans_exact (Range bottom top) (Range low high) e =
     let highs : top ≡ high = ap (λ k. k.2) e in
     ap (λ (k : ℕ). Range k top) lows ∙ ap (λ (k : ℕ). Range low k) highs
 
-sets_exact : (x y : NameId × Numbers) → set_key x ≡ set_key y → x ≡ y
+pub sets_exact : (x y : NameId × Numbers) → set_key x ≡ set_key y → x ≡ y
 sets_exact x y e =
     let names : x.0.raw ≡ y.0.raw = ap (λ k. k.0) e in
     let spans : span_key x.1.0 ≡ span_key y.1.0 = ap (λ (k : Key). let t : ℕ × ℕ × ℕ = (k.1, k.2, k.3) in t) e in
     ap (λ (n : ℕ). let p : NameId × Numbers = (record { raw = n; tag = record {} }, x.1) in p) names
     ∙ ap (λ (s : Span). let p : NameId × Numbers = (y.0, record { 0 = s }) in p) (spans_exact x.1.0 y.1.0 spans)
 
-unions_exact : (xs ys : List VersionSetId) → union_key xs ≡ union_key ys → xs ≡ ys
-unions_exact [] [] e = refl
-unions_exact [] (y ∷ ys) e = absurd cc
-unions_exact (x ∷ xs) [] e = absurd cc
-unions_exact (x ∷ xs) (y ∷ ys) e =
-    let heads : x.0 ≡ y.0 = cc in
-    let tails : union_key xs ≡ union_key ys = cc in
-    ap (λ (n : ℕ). let v : VersionSetId = record { 0 = n } in v ∷ xs) heads ∙ ap (λ (zs : List VersionSetId). y ∷ zs) (unions_exact xs ys tails)
-
-abbrev key_in : Option Key → Key
-key_in None = (0, 0, 0, 0)
-key_in (Some k) = k
-
--- the list of up to three that has a key
-abbrev list_of : Key → List VersionSetId
-list_of k = cond (nat_eq k.0 0) [] (cond (nat_eq k.0 1) (record { 0 = k.1 } ∷ []) (cond (nat_eq k.0 2) (record { 0 = k.1 } ∷ record { 0 = k.2 } ∷ []) (record { 0 = k.1 } ∷ record { 0 = k.2 } ∷ record { 0 = k.3 } ∷ [])))
-
-list_back : (xs : List VersionSetId) (k : Key) → few_key xs ≡ Some k → list_of k ≡ xs
-list_back [] k e = sym (ap (λ (o : Option Key). list_of (key_in o)) e)
-list_back (a ∷ []) k e = sym (ap (λ (o : Option Key). list_of (key_in o)) e)
-list_back (a ∷ b ∷ []) k e = sym (ap (λ (o : Option Key). list_of (key_in o)) e)
-list_back (a ∷ b ∷ c ∷ []) k e = sym (ap (λ (o : Option Key). list_of (key_in o)) e)
-list_back (a ∷ b ∷ c ∷ d ∷ rest) k e = absurd cc
-
-few_exact : (xs ys : List VersionSetId) (k : Key) → few_key xs ≡ Some k → few_key ys ≡ Some k → xs ≡ ys
-few_exact xs ys k x y = sym (list_back xs k x) ∙ list_back ys k y
-
--- whether two lists are one, by their keys, or by their numbers where neither has one
-abbrev agree : Option Key → Option Key → Bool → Bool
-agree None None same = same
-agree None (Some b) same = false
-agree (Some a) None same = false
-agree (Some a) (Some b) same = key_eq a b
-
-abbrev union_eq : List VersionSetId → List VersionSetId → Bool
-union_eq v w = agree (few_key v) (few_key w) (bytes_eq (union_key v) (union_key w))
-
-union_eq_exact : (v w : List VersionSetId) → union_eq v w ≡ true → v ≡ w
-union_eq_exact v w = go (few_key v) (few_key w) refl refl
-  where
-    go : (a b : Option Key) → few_key v ≡ a → few_key w ≡ b → agree a b (bytes_eq (union_key v) (union_key w)) ≡ true → v ≡ w
-    go None None x y e = unions_exact v w ((bytes_decides (union_key v) (union_key w)).0 e)
-    go None (Some b) x y e = absurd cc
-    go (Some a) None x y e = absurd cc
-    go (Some a) (Some b) x y e = few_exact v w b (x ∙ ap (λ (k : Key). Some k) (keys_exact a b e)) y
-
-union_eq_own : (v : List VersionSetId) → union_eq v v ≡ true
-union_eq_own v = go (few_key v)
-  where
-    go : (a : Option Key) → agree a a (bytes_eq (union_key v) (union_key v)) ≡ true
-    go None = (bytes_decides (union_key v) (union_key v)).1 refl
-    go (Some a) = keys_own a
-
 joined : (op : LogicalOperator) (a b c d : ConditionId) → a.0 ≡ c.0 → b.0 ≡ d.0 → Binary op a b ≡ Binary op c d
 joined op a b c d left right = ap (λ (n : ℕ). Binary op (record { 0 = n }) b) left ∙ ap (λ (n : ℕ). Binary op c (record { 0 = n })) right
 
-conditions_exact : (x y : Condition) → condition_key x ≡ condition_key y → x ≡ y
+pub conditions_exact : (x y : Condition) → condition_key x ≡ condition_key y → x ≡ y
 conditions_exact (Requirement v) (Requirement w) e = let same : v.0 ≡ w.0 = ap (λ k. k.1) e in ap (λ (n : ℕ). let q : Condition = Requirement (record { 0 = n }) in q) same
 conditions_exact (Requirement v) (Binary And c d) e = let head : 0 ≡ 1 = ap (λ k. k.0) e in absurd (omega (arith, head))
 conditions_exact (Requirement v) (Binary Or c d) e = let head : 0 ≡ 2 = ap (λ k. k.0) e in absurd (omega (arith, head))
@@ -255,79 +149,38 @@ conditions_exact (Binary Or a b) (Binary And c d) e = let head : 2 ≡ 1 = ap (�
 
 -- ---- one more of each kind
 
-module _ (ss : List (NameId × Numbers)) (si : Key → Option ℕ) (us : List (List VersionSetId)) (short : Key → Option ℕ) (long : List (Vec ℕ × ℕ)) (cs : List Condition) (ci : Key → Option ℕ) (h : AreKept ss si us short long cs ci) where
-  pub sets_more : (s : NameId × Numbers) (new : Key → Option ℕ) → si (set_key s) ≡ None → ((other : Key) → new other ≡ cond (key_eq (set_key s) other) (Some (length ss)) (si other)) → AreKept (ss ++ s ∷ []) new us short long cs ci
-  sets_more s new none put = record { sets = keyed_more set_key sets_exact si new ss s h.sets none put; unions = h.unions; conditions = h.conditions; below = h.below; several = h.several }
+module _ (ss : List (NameId × Numbers)) (si : KeyIndex) (us : List (List VersionSetId)) (cs : List Condition) (ci : KeyIndex) (h : AreKept ss si us cs ci) where
+  pub sets_more : (news : List (NameId × Numbers)) (new : KeyIndex) → AreKeyed (map set_key news) new → AreKept news new us cs ci
+  sets_more news new keyed = record { sets = keyed; conditions = h.conditions; below = h.below; several = h.several }
 
   still_several : (u : List VersionSetId) → ((v : VersionSetId) → u ≡ v ∷ [] → ⊥) → AreSeveral (us ++ u ∷ [])
   still_several u several k v e = elim (get_push us u (v ∷ []) k e) [ inl old ↦ h.several k v old | inr last ↦ several v last.1 ]
 
-  pub short_unions_more : (u : List VersionSetId) (key : Key) (new : Key → Option ℕ) → ((v : VersionSetId) → u ≡ v ∷ [] → ⊥) → few_key u ≡ Some key → short key ≡ None → ((other : Key) → new other ≡ cond (key_eq key other) (Some (length us)) (short other)) → AreKept ss si (us ++ u ∷ []) new long cs ci
-  short_unions_more u key new several is none put = record {
+  pub unions_more : (u : List VersionSetId) (news : List (List VersionSetId)) → ((v : VersionSetId) → u ≡ v ∷ [] → ⊥) → HasMore us u news → AreKept ss si news cs ci
+  unions_more u news several more = record {
     sets = h.sets;
-    unions = found_more union_eq union_eq_exact union_eq_own (union_number short long) (union_number new long) us u h.unions unset step;
     conditions = h.conditions;
     below = h.below;
-    several = still_several u several;
+    several = elim more [ inl same ↦ subst AreSeveral (sym same) h.several | inr one ↦ subst AreSeveral (sym one) (still_several u several) ];
   }
-    where
-      unset : union_number short long u ≡ None
-      unset = ap (λ (o : Option Key). number_by short (list_number_in long (union_key u)) o) is ∙ none
 
-      step : (w : List VersionSetId) → union_number new long w ≡ cond (union_eq u w) (Some (length us)) (union_number short long w)
-      step w = subst (λ (o : Option Key). number_by new (list_number_in long (union_key w)) (few_key w) ≡ cond (agree o (few_key w) (bytes_eq (union_key u) (union_key w))) (Some (length us)) (number_by short (list_number_in long (union_key w)) (few_key w))) (sym is) (go (few_key w))
-        where
-          go : (b : Option Key) → number_by new (list_number_in long (union_key w)) b ≡ cond (agree (Some key) b (bytes_eq (union_key u) (union_key w))) (Some (length us)) (number_by short (list_number_in long (union_key w)) b)
-          go None = refl
-          go (Some b) = put b
+  -- where no condition was added
+  pub conditions_same : (news : List Condition) (new : KeyIndex) → news ≡ cs → AreKeyed (map condition_key news) new → AreKept ss si us news new
+  conditions_same news new same keyed = record { sets = h.sets; conditions = keyed; below = subst AreBelow (sym same) h.below; several = h.several }
 
-  -- where the map of the longer unions answers the same
-  pub long_alike : (new : List (Vec ℕ × ℕ)) → ((key : List ℕ) → list_number_in new key ≡ list_number_in long key) → AreKept ss si us short new cs ci
-  long_alike new same = record {
+  pub conditions_more : (c : Condition) (news : List Condition) (new : KeyIndex) → OperandsBelow c (record { 0 = length cs }) → HasMore cs c news → AreKeyed (map condition_key news) new → AreKept ss si us news new
+  conditions_more c news new under more keyed = record {
     sets = h.sets;
-    unions = record { found = λ u i e. h.unions.found u i (sym (alike u) ∙ e); all = λ u i e. alike u ∙ h.unions.all u i e };
-    conditions = h.conditions;
-    below = h.below;
+    conditions = keyed;
+    below = elim more [ inl same ↦ subst AreBelow (sym same) h.below | inr one ↦ subst AreBelow (sym one) still_below ];
     several = h.several;
   }
     where
-      alike : (u : List VersionSetId) → union_number short new u ≡ union_number short long u
-      alike u = go (few_key u)
-        where
-          go : (o : Option Key) → number_by short (list_number_in new (union_key u)) o ≡ number_by short (list_number_in long (union_key u)) o
-          go None = same (union_key u)
-          go (Some k) = refl
-
-  pub long_unions_more : (u : List VersionSetId) (new : List (Vec ℕ × ℕ)) → ((v : VersionSetId) → u ≡ v ∷ [] → ⊥) → few_key u ≡ None → list_number_in long (union_key u) ≡ None → ((other : List ℕ) → list_number_in new other ≡ cond (bytes_eq (union_key u) other) (Some (length us)) (list_number_in long other)) → AreKept ss si (us ++ u ∷ []) short new cs ci
-  long_unions_more u new several is none put = record {
-    sets = h.sets;
-    unions = found_more union_eq union_eq_exact union_eq_own (union_number short long) (union_number short new) us u h.unions unset step;
-    conditions = h.conditions;
-    below = h.below;
-    several = still_several u several;
-  }
-    where
-      unset : union_number short long u ≡ None
-      unset = ap (λ (o : Option Key). number_by short (list_number_in long (union_key u)) o) is ∙ none
-
-      step : (w : List VersionSetId) → union_number short new w ≡ cond (union_eq u w) (Some (length us)) (union_number short long w)
-      step w = subst (λ (o : Option Key). number_by short (list_number_in new (union_key w)) (few_key w) ≡ cond (agree o (few_key w) (bytes_eq (union_key u) (union_key w))) (Some (length us)) (number_by short (list_number_in long (union_key w)) (few_key w))) (sym is) (go (few_key w))
-        where
-          go : (b : Option Key) → number_by short (list_number_in new (union_key w)) b ≡ cond (agree None b (bytes_eq (union_key u) (union_key w))) (Some (length us)) (number_by short (list_number_in long (union_key w)) b)
-          go None = put (union_key w)
-          go (Some b) = refl
-
-  pub conditions_more : (c : Condition) (new : Key → Option ℕ) → OperandsBelow c (record { 0 = length cs }) → ci (condition_key c) ≡ None → ((other : Key) → new other ≡ cond (key_eq (condition_key c) other) (Some (length cs)) (ci other)) → AreKept ss si us short long (cs ++ c ∷ []) new
-  conditions_more c new under none put = record {
-    sets = h.sets;
-    unions = h.unions;
-    conditions = keyed_more condition_key conditions_exact ci new cs c h.conditions none put;
-    below = λ i x e. elim (get_push cs c x i e) [
-      | inl old ↦ h.below i x old
-      | inr last ↦ subst (λ (y : Condition). OperandsBelow y (record { 0 = i })) last.1 (subst (λ (n : ℕ). OperandsBelow c (record { 0 = n })) (sym last.0) under)
-    ];
-    several = h.several;
-  }
+      still_below : AreBelow (cs ++ c ∷ [])
+      still_below i x e = elim (get_push cs c x i e) [
+        | inl old ↦ h.below i x old
+        | inr last ↦ subst (λ (y : Condition). OperandsBelow y (record { 0 = i })) last.1 (subst (λ (n : ℕ). OperandsBelow c (record { 0 = n })) (sym last.0) under)
+      ]
 
 -- ---- the condition of an id
 

@@ -3,7 +3,8 @@ pub mod TextPlaces
 pub mod FoundLemmas
 pub mod TextLemmas
 pub mod IndexLemmas
-pub mod KeyMapLemmas
+pub mod KeyedLemmas
+pub mod ListLemmas
 pub mod GrowLemmas
 pub mod KnownLemmas
 pub mod ReadLemmas

@@ -1,8 +1,7 @@
 -- Values that are each found at their places, by keys that are four numbers or lists of numbers, or by themselves.
-use Rattle.std.specs.Prelude.{◌≡◌, ◌∷◌, [], ◌%◌, ◌-◌, ◌<◌, if◌then◌else◌, ℕ, zero, suc, Bool, List, length, map, Option, Some, None, slice_get, slice_set, bit_and, is_some}
+use Rattle.std.specs.Prelude.{◌≡◌, ◌∷◌, ◌++◌, ◌⊎◌, [], ◌%◌, ◌-◌, ◌<◌, if◌then◌else◌, ℕ, zero, suc, Bool, List, length, map, Option, Some, None, slice_get, slice_set, bit_and, is_some}
 use Rattle.std.specs.Global.{Vec}
 use Rattle.std.specs.Str.{bytes_eq}
-use Rattle.std.specs.Option.{option_map}
 use Rattle.std.specs.Map.{lookup}
 use Rattle.std.specs.declared.cmp.Ordering.{Ordering}
 use Rattle.std.specs.Ordering.{is_eq, nat_cmp, ordering_then}
@@ -16,12 +15,8 @@ use Rattle.resolvo_pool_core.specs.declared.condition.LogicalOperator.TheVariant
 use Rattle.resolvo_intern.specs.Intern.{AreBelow}
 use Rattle.resolvo_terms.specs.Hash.{mix, numbers_hash}
 use Rattle.resolvo_terms.specs.declared.terms.Numbers.{Numbers}
+use Rattle.resolvo_terms.specs.declared.key_index.KeyIndex.{KeyIndex}
 use Rattle.resolvo_terms.specs.Terms.{NameId, AreSeveral}
-
--- Each value is found at its place, and no other value is found.
-pub record AreFound {V : Type 0} (find : V → Option ℕ) (values : List V) : Type 0 where
-  pub found : (v : V) (i : ℕ) → find v ≡ Some i → slice_get values i ≡ Some v
-  pub all : (v : V) (i : ℕ) → slice_get values i ≡ Some v → find v ≡ Some i
 
 -- the key of a version set or a condition
 abbrev pub Key : Type 0
@@ -114,41 +109,23 @@ pub record IsPut {V : Type 0} (eq : V → V → Bool) (v : V) (hash n : ℕ) (sl
   pub at_place : news ≡ slots_after (free_of slots hash) slots n
   pub in_map : (w : V) → new_others w ≡ (if is_some (free_of slots hash) then others w else if eq v w then Some n else others w)
 
--- ---- keys at places
-
--- what lies at each place, each key with its number, and where those are among these whose places others have
-pub record KeyNumbers : Type 0 where
-  pub slots : List ℕ
-  pub entries : List (Key × ℕ)
-  pub others : List (Key × ℕ)
+-- ---- values by keys
 
 -- a hash of a key
 unfoldable pub key_hash : Key → ℕ
 key_hash key = mix (mix (mix key.0 key.1) key.2) key.3
 
-abbrev pub keys_of : List (Key × ℕ) → List Key
-keys_of entries = map (λ e. e.0) entries
+-- where the value of a key is
+abbrev pub keyed_number : List Key → KeyIndex → Key → Option ℕ
+keyed_number keys index key = number_from key_eq keys index.slots.numbers.items (number_in index.others.entries key) tries (place_from (key_hash key)) key
 
--- where a key is among the entries
-abbrev pub index_of : KeyNumbers → Key → Option ℕ
-index_of m key = number_from key_eq (keys_of m.entries) m.slots (number_in m.others key) tries (place_from (key_hash key)) key
+-- Each value is found by its key.
+abbrev pub AreKeyed : List Key → KeyIndex → Type 0
+AreKeyed keys index = AreIndexed key_eq key_hash keys index.slots.numbers.items (number_in index.others.entries) (length keys)
 
--- the number of an entry
-abbrev pub number_of_entry : List (Key × ℕ) → Option ℕ → Option ℕ
-number_of_entry entries None = None
-number_of_entry entries (Some i) = option_map (λ e. e.1) (slice_get entries i)
-
--- the number of a key
-abbrev pub number_at : KeyNumbers → Key → Option ℕ
-number_at m key = number_of_entry m.entries (index_of m key)
-
--- a key more has a number
-abbrev pub AddsKey : Key → ℕ → KeyNumbers → KeyNumbers → Type 0
-AddsKey key n old new = (other : Key) → number_at new other ≡ (if key_eq key other then Some n else number_at old other)
-
--- each key is found
-abbrev pub AreKeysFound : KeyNumbers → Type 0
-AreKeysFound m = AreIndexed key_eq key_hash (keys_of m.entries) m.slots (number_in m.others) (length (keys_of m.entries))
+-- The values are those of before, and maybe one more at their end.
+abbrev pub HasMore : {V : Type 0} → List V → V → List V → Type 0
+HasMore values v news = (news ≡ values) ⊎ (news ≡ values ++ v ∷ [])
 
 -- ---- texts
 
@@ -170,34 +147,14 @@ span_key (Range low high) = (2, low, high)
 abbrev pub set_key : NameId × Numbers → Key
 set_key s = (s.0.raw, (span_key s.1.0).0, (span_key s.1.0).1, (span_key s.1.0).2)
 
-abbrev pub union_key : List VersionSetId → List ℕ
-union_key members = map (λ v. v.0) members
-
--- the key of a list of up to three
-abbrev pub few_key : List VersionSetId → Option Key
-few_key [] = Some (0, 0, 0, 0)
-few_key (a ∷ []) = Some (1, a.0, 0, 0)
-few_key (a ∷ b ∷ []) = Some (2, a.0, b.0, 0)
-few_key (a ∷ b ∷ c ∷ []) = Some (3, a.0, b.0, c.0)
-few_key (a ∷ b ∷ c ∷ d ∷ rest) = None
-
--- the number of a list by its key, or by its numbers where it has none
-abbrev pub number_by : (Key → Option ℕ) → Option ℕ → Option Key → Option ℕ
-number_by short long None = long
-number_by short long (Some key) = short key
-
-abbrev pub union_number : (Key → Option ℕ) → List (Vec ℕ × ℕ) → List VersionSetId → Option ℕ
-union_number short long u = number_by short (list_number_in long (union_key u)) (few_key u)
-
 abbrev pub condition_key : Condition → Key
 condition_key (Requirement v) = (0, v.0, 0, 0)
 condition_key (Binary joins.And a b) = (1, a.0, b.0, 0)
 condition_key (Binary joins.Or a b) = (2, a.0, b.0, 0)
 
--- Version sets, unions and conditions are found by their keys; no union is of one version set, and operands come first.
-pub record AreKept (ss : List (NameId × Numbers)) (si : Key → Option ℕ) (us : List (List VersionSetId)) (short : Key → Option ℕ) (long : List (Vec ℕ × ℕ)) (cs : List Condition) (ci : Key → Option ℕ) : Type 0 where
-  pub sets : AreFound (λ s. si (set_key s)) ss
-  pub unions : AreFound (union_number short long) us
-  pub conditions : AreFound (λ c. ci (condition_key c)) cs
+-- Version sets and conditions are found by their keys; no union is of one version set, and operands come first.
+pub record AreKept (ss : List (NameId × Numbers)) (si : KeyIndex) (us : List (List VersionSetId)) (cs : List Condition) (ci : KeyIndex) : Type 0 where
+  pub sets : AreKeyed (map set_key ss) si
+  pub conditions : AreKeyed (map condition_key cs) ci
   pub below : AreBelow cs
   pub several : AreSeveral us

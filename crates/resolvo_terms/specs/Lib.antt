@@ -3,6 +3,7 @@ pub mod Terms
 pub mod Texts
 pub mod TermCounts
 pub mod Found
+pub mod Lists
 pub mod Known
 pub mod Reads
 pub mod Names

@@ -1,5 +1,5 @@
 -- What is read as numbers, beside what the parser of texts reads.
-use Rattle.std.specs.Prelude.{◌≡◌, ◌≤◌, ◌+◌, ⊤, Option, Some, None, Result, Ok, Err, List}
+use Rattle.std.specs.Prelude.{◌≡◌, ◌≤◌, ◌+◌, Option, Some, None, Result, Ok, Err, List}
 use Rattle.resolvo_text.specs.Line.{Line, Spec, Cond, Needs}
 use Rattle.resolvo_text.specs.declared.line.LineFault.{LineFault}
 use Rattle.resolvo_text.specs.Parse.{Fails}

@@ -1,5 +1,5 @@
 //! Hashes of bytes and of numbers, by which values are sorted or guessed. Whoever uses one compares
-//! the values too. Used by `text_ids` and `key_map`, and by
+//! the values too. Used by `text_ids`, `key_index` and `unions`, and by
 //! the packages of a catalogue.
 
 ghost use Rattle.std.specs.Prelude.{◌≡◌, ◌≤◌, ◌+◌, length};

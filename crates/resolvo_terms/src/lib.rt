@@ -4,12 +4,15 @@
 mod compare;
 mod decode;
 mod hash;
-mod key_map;
+mod key_index;
 mod names;
+mod numbered;
 mod read;
+mod set_lists;
 mod slots;
 mod terms;
 mod text_ids;
 mod text_list;
+mod unions;
 
 pub use terms::{Numbers, Terms};

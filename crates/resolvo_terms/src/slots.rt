@@ -1,6 +1,6 @@
 //! Places of numbers, found by hashes. A hash has a few places, one after the other, so a look-up is
 //! short whatever the values are. Whoever finds a number there compares its value. Used by
-//! `text_ids` and `key_map`.
+//! `text_ids`, `key_index` and `unions`.
 
 ghost use Rattle.std.specs.Prelude.{◌≡◌, ◌<◌, false, replicate, is_some, IfOk, IfSome, IsTrue, Some, slice_get};
 ghost use Rattle.resolvo_terms.specs.Found.{free_of, number_in_slot, place_among, place_from, slot_at, slots_after};

@@ -15,11 +15,13 @@ ghost use Rattle.resolvo_pool_core.specs.declared.want.Want.TheVariants.{Ids};
 ghost use Rattle.resolvo_terms.specs.Terms.{AreOnce, AreEach, Grows, AreSound, LacksNumber, IsPackage, IsWord, IsSpec, AreAlternatives, IsCondition, IsConditionOf, IsNeed};
 ghost use Rattle.resolvo_terms.specs.TermCounts.{term_count, ids_for_condition, ids_for_need};
 ghost use Rattle.resolvo_terms.specs.Reads.{Reads};
-ghost use Rattle.resolvo_terms.specs.Found.{Key, key_eq, list_number_in, set_key, union_key, few_key, condition_key, number_at};
+ghost use Rattle.resolvo_terms.specs.Found.{set_key, condition_key};
 
-use crate::key_map::{Key, KeyMap};
+use crate::key_index::{HasKey, Key};
 use crate::names::Names;
+use crate::numbered::Numbered;
 use crate::text_ids::TextIds;
+use crate::unions::Unions;
 use resolvo_intern::pool::VersionSet;
 use resolvo_pool_core::condition::{Condition, LogicalOperator};
 use resolvo_pool_core::id::{
@@ -29,7 +31,6 @@ use resolvo_pool_core::requirement::{ConditionalRequirement, Requirement};
 use resolvo_pool_core::want::R;
 use resolvo_text::{Cond, LineFault, Span, Spec};
 use std::alloc::{AllocError, Global};
-use std::collections::BTreeMap;
 use std::marker::Model;
 
 /// The numbers that a SPEC asks for, as a version set of its package.
@@ -40,38 +41,27 @@ impl VersionSet for Numbers {
     type V = u32;
 }
 
-/// Values in the order in which they were added, and the number of each by its key.
-struct Numbered<T: Drop> {
-    values: Vec<T>,
-    ids: KeyMap,
-    ghost few: { length ids.entries ≤ length values.items },
-}
+impl HasKey for (NameId, Numbers) {
+    ghost key_of = { set_key };
 
-// split for the prover: one drop for each
-impl<T: Drop> Drop for Numbered<T> {
-    fn drop(self) {
-        let Numbered { values: _, ids: _ } = self;
+    fn key(&self) -> Key {
+        match self.1.0 {
+            Span::Any => (self.0.into_raw(), 0, 0, 0),
+            Span::One(number) => (self.0.into_raw(), 1, number, 0),
+            Span::Range(low, high) => (self.0.into_raw(), 2, low, high),
+        }
     }
 }
 
-/// Lists of alternatives, each once, in the order in which they were added, and the number of each.
-struct Unions {
-    values: Vec<Vec<VersionSetId>>,
-    /// The numbers of the lists of up to three.
-    short: KeyMap,
-    /// The numbers of the others.
-    long: BTreeMap<Vec<u32>, u32>,
-    ghost few: { length short.entries ≤ length values.items },
-}
+impl HasKey for Condition {
+    ghost key_of = { condition_key };
 
-// split for the prover: one drop for each
-impl Drop for Unions {
-    fn drop(self) {
-        let Unions {
-            values: _,
-            short: _,
-            long: _,
-        } = self;
+    fn key(&self) -> Key {
+        match *self {
+            Condition::Requirement(version_set) => (0, version_set.0, 0, 0),
+            Condition::Binary(LogicalOperator::And, left, right) => (1, left.0, right.0, 0),
+            Condition::Binary(LogicalOperator::Or, left, right) => (2, left.0, right.0, 0),
+        }
     }
 }
 
@@ -104,9 +94,8 @@ impl Drop for Terms {
 }
 
 impl Model for Terms {
-    ghost use Rattle.std.specs.Prelude.{map};
     ghost use Rattle.resolvo_terms.specs.Terms.{Terms};
-    ghost use Rattle.resolvo_terms.specs.Found.{AreKept, number_at};
+    ghost use Rattle.resolvo_terms.specs.Found.{AreKept};
 
     ghost Value = { Terms };
 
@@ -115,14 +104,13 @@ impl Model for Terms {
           names = t.names;
           words = t.words;
           version_sets = t.version_sets.values.items;
-          unions = map (λ u. u.items) t.unions.values.items;
+          unions = t.unions;
           conditions = t.conditions.values.items;
         } };
 
     ghost invariant = { λ t.
-        AreKept t.version_sets.values.items (number_at t.version_sets.ids)
-        (map (λ u. u.items) t.unions.values.items) (number_at t.unions.short) t.unions.long.entries
-        t.conditions.values.items (number_at t.conditions.ids) };
+        AreKept t.version_sets.values.items t.version_sets.index
+        t.unions t.conditions.values.items t.conditions.index };
 }
 
 impl Terms {
@@ -245,6 +233,7 @@ impl Terms {
     }
 
     /// The id of a span of a package, by its key.
+    #[tactic(auto, using(crate::proofs::FoundLemmas::sets_exact, crate::proofs::FoundLemmas::sets_more, crate::proofs::KeyedLemmas::more_length))]
     fn keyed_set(&mut self, name: NameId, span: Span) -> R<VersionSetId>
         ensures version_set { IfOk result
             (λ v. slice_get self.new.version_sets v.0 ≡ Some (name, record { 0 = span })) }
@@ -252,11 +241,7 @@ impl Terms {
         ensures few { term_count self.new ≤ term_count self.old + 1 }
         ensures ids { IsErrOf result Ids → LacksNumber self.new }
     {
-        let key = key_of_set(name, span);
-        if let Some(id) = self.version_sets.number(&key) {
-            return Ok(VersionSetId(id));
-        }
-        let id = self.version_sets.add((name, Numbers(span)), key)?;
+        let id = self.version_sets.intern((name, Numbers(span)))?;
         Ok(VersionSetId(id))
     }
 
@@ -275,6 +260,7 @@ impl Terms {
     }
 
     /// The id of a list of SPECs, none or at least two.
+    #[tactic(auto, using(crate::proofs::KeyedLemmas::more_length))]
     pub(crate) fn union(&mut self, members: Vec<VersionSetId>) -> R<VersionSetUnionId>
         requires several { (v : VersionSetId) → members.items ≡ v ∷ [] → ⊥ }
         ensures union { IfOk result (λ u. slice_get self.new.unions u.0 ≡ Some members.items) }
@@ -282,42 +268,7 @@ impl Terms {
         ensures few { term_count self.new ≤ term_count self.old + 1 }
         ensures ids { IsErrOf result Ids → LacksNumber self.new }
     {
-        match key_of_few(&members) {
-            Some(key) => self.short_union(members, key),
-            None => self.long_union(members),
-        }
-    }
-
-    /// The id of a list of SPECs that has a key.
-    fn short_union(&mut self, members: Vec<VersionSetId>, key: Key) -> R<VersionSetUnionId>
-        requires several { (v : VersionSetId) → members.items ≡ v ∷ [] → ⊥ }
-        requires key { few_key members.items ≡ Some key }
-        ensures union { IfOk result (λ u. slice_get self.new.unions u.0 ≡ Some members.items) }
-        ensures grows { Grows self.old self.new }
-        ensures few { term_count self.new ≤ term_count self.old + 1 }
-        ensures ids { IsErrOf result Ids → LacksNumber self.new }
-    {
-        if let Some(id) = self.unions.short.number(&key) {
-            return Ok(VersionSetUnionId(id));
-        }
-        let id = self.unions.add_short(members, key)?;
-        Ok(VersionSetUnionId(id))
-    }
-
-    /// The id of a longer list of SPECs.
-    fn long_union(&mut self, members: Vec<VersionSetId>) -> R<VersionSetUnionId>
-        requires several { (v : VersionSetId) → members.items ≡ v ∷ [] → ⊥ }
-        requires long { few_key members.items ≡ None }
-        ensures union { IfOk result (λ u. slice_get self.new.unions u.0 ≡ Some members.items) }
-        ensures grows { Grows self.old self.new }
-        ensures few { term_count self.new ≤ term_count self.old + 1 }
-        ensures ids { IsErrOf result Ids → LacksNumber self.new }
-    {
-        let key = key_of_union(self.alloc, &members)?;
-        if let Some(id) = self.unions.long_number(key.as_slice()) {
-            return Ok(VersionSetUnionId(id));
-        }
-        let id = self.unions.add_long(members, key)?;
+        let id = self.unions.intern(self.alloc, &members)?;
         Ok(VersionSetUnionId(id))
     }
 
@@ -348,6 +299,7 @@ impl Terms {
         self.intern_condition(Condition::Requirement(version_set))
     }
 
+    #[tactic(auto, using(crate::proofs::FoundLemmas::conditions_exact, crate::proofs::FoundLemmas::conditions_same, crate::proofs::KeyedLemmas::more_length))]
     fn intern_condition(&mut self, condition: Condition) -> R<ConditionId>
         requires { OperandsBelow condition (record { 0 = length self.old.conditions }) }
         ensures condition { IfOk result (λ c. slice_get self.new.conditions c.0 ≡ Some condition) }
@@ -355,11 +307,7 @@ impl Terms {
         ensures few { term_count self.new ≤ term_count self.old + 1 }
         ensures ids { IsErrOf result Ids → LacksNumber self.new }
     {
-        let key = key_of_condition(condition);
-        if let Some(id) = self.conditions.number(&key) {
-            return Ok(ConditionId(id));
-        }
-        let id = self.conditions.add(condition, key)?;
+        let id = self.conditions.intern(condition)?;
         Ok(ConditionId(id))
     }
 
@@ -510,8 +458,8 @@ impl Terms {
     pub fn members(&self, union: VersionSetUnionId) -> &[VersionSetId]
         ensures { result.now ≡ members_of self.now union }
     {
-        match self.unions.values.get(union.to_index()) {
-            Some(members) => members.as_slice(),
+        match self.unions.get(union.to_index()) {
+            Some(members) => members,
             None => &[],
         }
     }
@@ -532,170 +480,7 @@ impl Terms {
     {
         self.names.texts_are_once();
         self.words.texts_are_once();
-    }
-}
-
-impl<T: Drop + Copy> Numbered<T> {
-    /// The same values with the same numbers.
-    fn copy(&self, alloc: Global) -> Result<Numbered<T>, AllocError>
-        ensures values { IfOk result (λ t. t.values.items ≡ self.now.values.items) }
-        ensures ids { IfOk result (λ t. t.ids ≡ self.now.ids) }
-    {
-        let mut values = Vec::with_capacity(alloc, self.values.len())?;
-        for value in &self.values {
-            values.push(*value)?;
-        }
-        Ok(Numbered {
-            values,
-            ids: self.ids.copy(alloc)?,
-        })
-    }
-}
-
-impl<T: Drop> Numbered<T> {
-    /// No values.
-    fn new(alloc: Global) -> Result<Numbered<T>, AllocError>
-        ensures values { IfOk result (λ t. t.values.items ≡ []) }
-        ensures ids { IfOk result (λ t. (key : Key) → number_at t.ids key ≡ None) }
-    {
-        Ok(Numbered {
-            values: Vec::new(alloc),
-            ids: KeyMap::new(alloc)?,
-        })
-    }
-
-    /// The number of a key, if it has one.
-    fn number(&self, key: &Key) -> Option<u32>
-        ensures { result ≡ number_at self.now.ids key.now }
-    {
-        self.ids.number(key)
-    }
-
-    /// Appends a value that has no number, and maps its key to its number.
-    fn add(&mut self, value: T, key: Key) -> R<u32>
-        requires { number_at self.old.ids key ≡ None }
-        // After an answer.
-        ensures id { IfOk result (λ i. i ≡ length self.old.values.items) }
-        ensures value { OnOk result (self.new.values.items ≡ self.old.values.items ++ value ∷ []) }
-        ensures key { OnOk result
-            ((other : Key)
-            → number_at self.new.ids other
-            ≡ (if key_eq key other then Some (length self.old.values.items)
-            else number_at self.old.ids other)) }
-        // After a refusal.
-        ensures kept { OnErr result (self.new.values.items ≡ self.old.values.items) }
-        ensures keys { OnErr result (self.new.ids ≡ self.old.ids) }
-        ensures ids { IsErrOf result Ids → 4294967295 ≤ length self.new.values.items }
-    {
-        let index = next_index(self.values.len())?;
-        self.values.reserve(1)?;
-        self.ids.add(key, index as u32)?;
-        self.values.push_reserved(value);
-        Ok(index as u32)
-    }
-}
-
-/// The same version sets in a list of their own.
-fn members_copied(alloc: Global, members: &[VersionSetId]) -> Result<Vec<VersionSetId>, AllocError>
-    ensures { IfOk result (λ copy. copy.items ≡ members.now) }
-{
-    let mut copy = Vec::with_capacity(alloc, members.len())?;
-    for member in members {
-        copy.push(*member)?;
-    }
-    Ok(copy)
-}
-
-impl Unions {
-    /// The same lists with the same numbers.
-    fn copy(&self, alloc: Global) -> Result<Unions, AllocError>
-        ensures values { IfOk result
-            (λ t. map (λ u. u.items) t.values.items ≡ map (λ u. u.items) self.now.values.items) }
-        ensures short { IfOk result (λ t. t.short ≡ self.now.short) }
-        ensures long { IfOk result
-            (λ t.
-            (key : List ℕ)
-            → list_number_in t.long.entries key
-            ≡ list_number_in self.now.long.entries key) }
-    {
-        let mut values = Vec::with_capacity(alloc, self.values.len())?;
-        for members in &self.values {
-            values.push(members_copied(alloc, members)?)?;
-        }
-        Ok(Unions {
-            values,
-            short: self.short.copy(alloc)?,
-            long: self.long.clone()?,
-        })
-    }
-
-    /// No lists.
-    fn new(alloc: Global) -> Result<Unions, AllocError>
-        ensures values { IfOk result (λ t. t.values.items ≡ []) }
-        ensures short { IfOk result (λ t. (key : Key) → number_at t.short key ≡ None) }
-        ensures long { IfOk result (λ t. t.long.entries ≡ []) }
-    {
-        Ok(Unions {
-            values: Vec::new(alloc),
-            short: KeyMap::new(alloc)?,
-            long: BTreeMap::new(alloc),
-        })
-    }
-
-    /// The number of a list that is longer than three, by its numbers, if it has one.
-    fn long_number(&self, key: &[u32]) -> Option<u32>
-        ensures { result ≡ list_number_in self.now.long.entries key.now }
-    {
-        self.long.get(key).copied()
-    }
-
-    /// Appends a list that has no number, and maps its key to its number.
-    fn add_short(&mut self, value: Vec<VersionSetId>, key: Key) -> R<u32>
-        requires { number_at self.old.short key ≡ None }
-        // After an answer.
-        ensures id { IfOk result (λ i. i ≡ length self.old.values.items) }
-        ensures value { OnOk result (self.new.values.items ≡ self.old.values.items ++ value ∷ []) }
-        ensures key { OnOk result
-            ((other : Key)
-            → number_at self.new.short other
-            ≡ (if key_eq key other then Some (length self.old.values.items)
-            else number_at self.old.short other)) }
-        // After a refusal.
-        ensures kept { OnErr result (self.new.values.items ≡ self.old.values.items) }
-        ensures keys { OnErr result (self.new.short ≡ self.old.short) }
-        ensures ids { IsErrOf result Ids → 4294967295 ≤ length self.new.values.items }
-        // Whatever the answer.
-        ensures long { self.new.long ≡ self.old.long }
-    {
-        let index = next_index(self.values.len())?;
-        self.values.reserve(1)?;
-        self.short.add(key, index as u32)?;
-        self.values.push_reserved(value);
-        Ok(index as u32)
-    }
-
-    /// Appends a long list that has no number, and maps its key to its number.
-    fn add_long(&mut self, value: Vec<VersionSetId>, key: Vec<u32>) -> R<u32>
-        // After an answer.
-        ensures id { IfOk result (λ i. i ≡ length self.old.values.items) }
-        ensures value { OnOk result (self.new.values.items ≡ self.old.values.items ++ value ∷ []) }
-        ensures key { OnOk result
-            ((other : List ℕ)
-            → list_number_in self.new.long.entries other
-            ≡ (if bytes_eq key.items other then Some (length self.old.values.items)
-            else list_number_in self.old.long.entries other)) }
-        // After a refusal.
-        ensures kept { OnErr result (self.new.values.items ≡ self.old.values.items) }
-        ensures keys { OnErr result (self.new.long.entries ≡ self.old.long.entries) }
-        ensures ids { IsErrOf result Ids → 4294967295 ≤ length self.new.values.items }
-        // Whatever the answer.
-        ensures short { self.new.short ≡ self.old.short }
-    {
-        let index = next_index(self.values.len())?;
-        self.values.reserve(1)?;
-        self.long.insert(key, index as u32)?;
-        self.values.push_reserved(value);
-        Ok(index as u32)
+        self.unions.lists_are_once();
     }
 }
 
@@ -729,48 +514,5 @@ pub(crate) fn is_span(first: Span, span: Span) -> bool
         (Span::One(first), Span::One(number)) => first == number,
         (Span::Range(bottom, top), Span::Range(low, high)) => bottom == low && top == high,
         _ => false,
-    }
-}
-
-fn key_of_set(name: NameId, span: Span) -> Key
-    ensures { result ≡ set_key (name, record { 0 = span }) }
-{
-    match span {
-        Span::Any => (name.into_raw(), 0, 0, 0),
-        Span::One(number) => (name.into_raw(), 1, number, 0),
-        Span::Range(low, high) => (name.into_raw(), 2, low, high),
-    }
-}
-
-/// The key of a list of up to three.
-fn key_of_few(members: &[VersionSetId]) -> Option<Key>
-    ensures { result ≡ few_key members.now }
-{
-    match members {
-        [] => Some((0, 0, 0, 0)),
-        [a] => Some((1, a.0, 0, 0)),
-        [a, b] => Some((2, a.0, b.0, 0)),
-        [a, b, c] => Some((3, a.0, b.0, c.0)),
-        _ => None,
-    }
-}
-
-fn key_of_union(alloc: Global, members: &[VersionSetId]) -> Result<Vec<u32>, AllocError>
-    ensures { IfOk result (λ key. key.items ≡ union_key members.now) }
-{
-    let mut key = Vec::with_capacity(alloc, members.len())?;
-    for member in members {
-        key.push(member.0)?;
-    }
-    Ok(key)
-}
-
-fn key_of_condition(condition: Condition) -> Key
-    ensures { result ≡ condition_key condition }
-{
-    match condition {
-        Condition::Requirement(version_set) => (0, version_set.0, 0, 0),
-        Condition::Binary(LogicalOperator::And, left, right) => (1, left.0, right.0, 0),
-        Condition::Binary(LogicalOperator::Or, left, right) => (2, left.0, right.0, 0),
     }
 }

@@ -1,0 +1,13 @@
+use Rattle.std.proofs.Common.{◌∙◌, sym}
+use Rattle.resolvo_terms.specs.Found.{key_eq, key_hash, number_in}
+use Rattle.resolvo_terms.proofs.IndexLemmas.{put_placed, put_mapped}
+use Rattle.resolvo_terms.proofs.key_index.KeyIndex.put.Goals as goal
+
+pub returns-then-placed-clause-put : goal.returns-then-placed-clause-put
+returns-then-placed-clause-put c =
+    put_placed key_eq c.args.key (key_hash c.args.key) c.hash_of_key.result c.args.at c.hash_of_key.ensures c.args.self.now.slots.numbers.items c.put-placed.new.self.numbers.items (number_in c.args.self.now.others.entries) c.put-placed.ensures.slots (sym c.if-placed.true ∙ c.put-placed.ensures.put)
+
+pub returns-clause-put : goal.returns-clause-put
+returns-clause-put c =
+    put_mapped key_eq c.args.key (key_hash c.args.key) c.hash_of_key.result c.args.at c.hash_of_key.ensures c.args.self.now.slots.numbers.items c.put-placed.new.self.numbers.items (number_in c.args.self.now.others.entries) c.put-placed.ensures.slots
+    (number_in c.insert.new.self.entries) (sym c.if-placed.false ∙ c.put-placed.ensures.put) c.in_ok-insert.ensures.updates.0
