@@ -1,5 +1,5 @@
 -- The first of some texts are known to spell names.
-use Rattle.std.proofs.Common.{◌≡◌, ◌∙◌, ◌+◌, ◌<◌, ◌≤◌, ◌⊎◌, inl, inr, ℕ, zero, suc, true, List, [], Option, Some, Ok, length, refl, sym, ap, subst, arith}
+use Rattle.std.proofs.Common.{◌≡◌, ◌∙◌, ◌+◌, ◌<◌, ◌≤◌, ◌⊎◌, inl, inr, ℕ, zero, suc, true, false, List, [], Option, Some, None, Ok, length, refl, sym, ap, subst, arith}
 use Rattle.std.specs.Prelude.{slice_get}
 use Rattle.std.proofs.lemmas.Option.{slice_get_within, slice_get-get_or, same_Some, cond_some}
 use Rattle.resolvo_text.specs.Spelling.{is_name}
@@ -56,6 +56,16 @@ spelled word is = rw is refl
 -- A known name is what its word spells.
 pub known_read : (texts : List (List ℕ)) (i : ℕ) (word : List ℕ) → slice_get texts i ≡ Some word → is_name word ≡ true → Reads (λ n name. slice_get texts n ≡ Some name) (Ok i) (name_in word)
 known_read texts i word at is = subst (λ (o : Option (List ℕ)). Reads (λ n name. slice_get texts n ≡ Some name) (Ok i) o) (sym (spelled word is)) at
+
+-- A word that is no name spells none.
+pub no_name : (word : List ℕ) → is_name word ≡ false → name_in word ≡ None
+unfolding name_in
+no_name word is = rw is refl
+
+-- What a word spells is the word.
+pub spells_itself : (word name : List ℕ) → name_in word ≡ Some name → word ≡ name
+unfolding name_in
+spells_itself word name e = (cond_some (is_name word) word name e).1
 
 -- What a word spells is a name.
 pub named_in : (word name : List ℕ) → name_in word ≡ Some name → is_name name ≡ true

@@ -3,10 +3,12 @@ use Rattle.std.proofs.Common.{◌≡◌, ◌∙◌, ◌≤◌, ◌<◌, ◌+◌,
 use Rattle.std.specs.Prelude.{codes, Result, Ok, Err, slice_get}
 use Rattle.std.proofs.lemmas.List.{length_push}
 use Rattle.resolvo_text.specs.Line.{Spec, Cond, Line, Needs}
-use Rattle.resolvo_text.specs.Spelling.{Words}
+use Rattle.resolvo_text.specs.Spelling.{Words, is_name}
+use Rattle.resolvo_text.specs.declared.spec.Span.TheVariants.{Any}
 use Rattle.resolvo_text.specs.declared.line.LineFault.{LineFault}
 use Rattle.resolvo_text.specs.declared.line.LineFault.TheVariants.{Fault, Memory}
-use Rattle.resolvo_text.specs.Parse.{◌>>=◌, Fails, spec_at, skip, with_first, alternatives_at, condition_in, needs_in}
+use Rattle.resolvo_text.specs.Parse.{◌>>=◌, Fails, name_in, span_at, spec_at, skip, with_first, alternatives_at, condition_in, needs_in, words_in}
+use Rattle.resolvo_text.proofs.TextLaws.{name_is_one_word}
 use Rattle.resolvo_text.proofs.AlternativeLemmas.{with_prefix, at_start, goes_on, ends}
 use Rattle.resolvo_pool_core.specs.declared.id.VersionSetId.{VersionSetId}
 use Rattle.resolvo_pool_core.specs.declared.id.VersionSetUnionId.{VersionSetUnionId}
@@ -94,3 +96,12 @@ pub alternatives_read : {B : Type 0} (t : Terms) (start : ℕ) (r : needs.Requir
     → (ss : List Spec) × (o ≡ Some (ss, f b)) × AreAlternatives t r ss × (term_count t ≤ start + 2 * length ss + 1)
 alternatives_read t start r b f (Some y) h = (y.0, ap (λ (ws : Words). Some (y.0, ws)) (sym h.1), h.0, h.2)
 alternatives_read t start r b f None h = absurd h
+
+-- the need of one word that is a name
+lone_need : (name : List ℕ) → is_name name ≡ true → needs_in (name ∷ []) ≡ Some (Needs (record { name = name; span = Any } ∷ []) None)
+unfolding needs_in alternatives_at spec_at name_in skip span_at condition_in
+lone_need name is = rw is refl
+
+-- the need of words that are one name
+pub lone_text : (text name : List ℕ) (space : ℕ) → text ≡ space ∷ name → is_name name ≡ true → needs_in (words_in text) ≡ Some (Needs (record { name = name; span = Any } ∷ []) None)
+lone_text text name space is named = ap (λ (t : List ℕ). needs_in (words_in t)) is ∙ ap needs_in (name_is_one_word name named) ∙ lone_need name named

@@ -2,30 +2,63 @@
 //! the values too. Used by `text_ids`, `key_index` and `unions`, and by
 //! the packages of a catalogue.
 
-ghost use Rattle.std.specs.Prelude.{◌≡◌, ◌≤◌, ◌+◌, length};
-ghost use Rattle.resolvo_terms.specs.Hash.{four_at, mix, numbers_hash};
+ghost use Rattle.std.specs.Prelude.{◌≡◌, ◌<◌, ◌≤◌, ◌+◌, length};
+ghost use Rattle.resolvo_terms.specs.Hash.{eight_at, few_of, four_at, last_of, mix, numbers_hash};
 
-/// A hash of bytes: of four at a time as one number, and then of each that is left.
+/// A hash of bytes: of eight at a time as one number, then of the last ones, and of how many there
+/// are.
 #[tactic(auto, unfolding(crate::specs::Hash::numbers_hash))]
 pub fn hash_of_all(bytes: &[u8]) -> usize
     ensures { result ≡ numbers_hash bytes.now }
 {
-    let fours = bytes.len() / 4;
+    let eights = bytes.len() / 8;
     let mut hash = 0;
-    for four in 0..fours {
-        hash = mixed(hash, four_at(bytes, four * 4));
+    for eight in 0..eights {
+        hash = mixed(hash, eight_at(bytes, eight * 8));
     }
-    let rest = &bytes[fours * 4..];
-    for byte in rest {
-        hash = mixed(hash, *byte as usize);
+    let whole = mixed(hash, last_of(bytes));
+    mixed(whole, bytes.len())
+}
+
+/// The last eight bytes as a number. Of less than eight, all of them.
+fn last_of(bytes: &[u8]) -> usize
+    ensures { result ≡ last_of bytes.now }
+{
+    let length = bytes.len();
+    if length >= 8 {
+        return eight_at(bytes, length - 8);
     }
-    hash
+    if length >= 4 {
+        return four_at(bytes, 0) + four_at(bytes, length - 4) * 4_294_967_296;
+    }
+    few_of(bytes)
+}
+
+/// The first byte, the one in the middle and the last one as a number: of less than four bytes, all.
+fn few_of(bytes: &[u8]) -> usize
+    ensures { result ≡ few_of bytes.now }
+{
+    let length = bytes.len();
+    if length == 0 {
+        return 0;
+    }
+    let low = bytes[0] as usize + bytes[length / 2] as usize * 256;
+    low + bytes[length - 1] as usize * 65_536
+}
+
+/// Eight bytes from a place on, as a number.
+fn eight_at(bytes: &[u8], at: usize) -> usize
+    requires { at + 8 ≤ length bytes.now }
+    ensures { result ≡ eight_at bytes.now at }
+{
+    four_at(bytes, at) + four_at(bytes, at + 4) * 4_294_967_296
 }
 
 /// Four bytes from a place on, as a number.
 fn four_at(bytes: &[u8], at: usize) -> usize
     requires { at + 4 ≤ length bytes.now }
-    ensures { result ≡ four_at bytes.now at }
+    ensures number { result ≡ four_at bytes.now at }
+    ensures small { result < 4294967296 }
 {
     let low = bytes[at] as usize + bytes[at + 1] as usize * 256;
     let high = bytes[at + 2] as usize + bytes[at + 3] as usize * 256;

@@ -2,16 +2,18 @@
 //! of them. The bytes of the first were looked at when they were added, so each of those is known to
 //! spell a name: a word that is one of them needs no other look. Used by `terms`.
 
-ghost use Rattle.std.specs.Prelude.{◌≡◌, ◌≤◌, ◌+◌, [], ℕ, List, IfOk, IsErrOf, length, slice_get, Some};
+ghost use Rattle.std.specs.Prelude.{◌≡◌, ◌≤◌, ◌+◌, [], ℕ, List, IfOk, IfSome, IsErrOf, length, slice_get, Some, true};
 ghost use Rattle.std.specs.Option.{option_map};
 ghost use Rattle.resolvo_pool_core.specs.declared.want.Want.TheVariants.{Ids};
 ghost use Rattle.resolvo_text.specs.Parse.{name_in};
+ghost use Rattle.resolvo_text.specs.Spelling.{is_name};
+ghost use Rattle.resolvo_terms.specs.Found.{text_hash};
 ghost use Rattle.resolvo_terms.specs.Known.{place_of};
 ghost use Rattle.resolvo_terms.specs.Names.{AreChecked};
 ghost use Rattle.resolvo_terms.specs.Terms.{AreOnce, Extends};
 ghost use Rattle.resolvo_terms.specs.Reads.{Reads};
 
-use crate::text_ids::TextIds;
+use crate::text_ids::{TextIds, hash_of_text};
 use resolvo_pool_core::want::R;
 use resolvo_text::{LineFault, is_name, name_in};
 use std::alloc::{AllocError, Global};
@@ -87,21 +89,58 @@ impl Names {
         Ok(number)
     }
 
+    /// The number of a word that is known to spell a name.
+    pub fn known(&self, word: &[u8]) -> Option<u32>
+        ensures number { IfSome result (λ i. slice_get self.now i ≡ Some word.now) }
+        ensures name { IfSome result (λ i. is_name word.now ≡ true) }
+    {
+        let number = self.texts.number(word)?;
+        if (number as usize) < self.checked {
+            Some(number)
+        } else {
+            None
+        }
+    }
+
     /// The number of the name that a word spells, a new one where it has none.
     pub fn read(&mut self, alloc: Global, word: &[u8]) -> Result<u32, LineFault>
         ensures name { Reads (λ i name. slice_get self.new i ≡ Some name) result (name_in word.now) }
         ensures extends { Extends self.old self.new }
         ensures few { length self.new ≤ length self.old + 1 }
     {
-        if let Some(number) = self.texts.number(word) {
-            if (number as usize) < self.checked {
-                return Ok(number);
-            }
+        let hash = hash_of_text(word);
+        if let Some(number) = self.texts.find(word, hash) {
+            return self.read_old(number, word);
         }
+        self.read_new(alloc, word, hash)
+    }
+
+    /// The number of a word that has one, if it spells a name.
+    fn read_old(&self, number: u32, word: &[u8]) -> Result<u32, LineFault>
+        requires { slice_get self.now number ≡ Some word.now }
+        ensures { Reads (λ i name. slice_get self.now i ≡ Some name) result (name_in word.now) }
+    {
+        if (number as usize) < self.checked {
+            return Ok(number);
+        }
+        if is_name(word) {
+            return Ok(number);
+        }
+        Err(LineFault::Fault)
+    }
+
+    /// The number of the name that a word spells, which has none.
+    fn read_new(&mut self, alloc: Global, word: &[u8], hash: usize) -> Result<u32, LineFault>
+        requires hash { hash ≡ text_hash word.now }
+        requires absent { (i : ℕ) → slice_get self.old i ≡ Some word.now → ⊥ }
+        ensures name { Reads (λ i name. slice_get self.new i ≡ Some name) result (name_in word.now) }
+        ensures extends { Extends self.old self.new }
+        ensures few { length self.new ≤ length self.old + 1 }
+    {
         let Some(name) = name_in(word) else {
             return Err(LineFault::Fault);
         };
-        let Ok(number) = self.texts.intern(alloc, name) else {
+        let Ok(number) = self.texts.add_new(alloc, name, hash) else {
             return Err(LineFault::Memory);
         };
         if number as usize == self.checked {

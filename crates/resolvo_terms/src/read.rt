@@ -1,7 +1,7 @@
 //! The words of a line as numbers: a SPEC, alternatives, a need. No text is kept but that of a name
 //! that is new. The law is the parser of `resolvo_text`; called by the reader of a catalogue.
 
-ghost use Rattle.std.specs.Prelude.{◌≡◌, ◌∷◌, ◌<◌, ◌≤◌, ◌+◌, ◌*◌, [], ℕ, List, Option, length, IfOk, OnErr, Ok, Err};
+ghost use Rattle.std.specs.Prelude.{◌≡◌, ◌∷◌, ◌<◌, ◌≤◌, ◌+◌, ◌*◌, [], ℕ, List, Option, length, IfOk, IfSome, OnErr, Ok, Err, Some, None};
 ghost use Rattle.resolvo_text.specs.declared.line.LineFault.TheVariants.{Memory};
 ghost use Rattle.resolvo_text.specs.Line as parsed;
 ghost use Rattle.resolvo_text.specs.View.{condition_of};
@@ -14,7 +14,7 @@ use crate::terms::Terms;
 use resolvo_pool_core::id::{ConditionId, VersionSetId};
 use resolvo_pool_core::requirement::{ConditionalRequirement, Requirement};
 use resolvo_pool_core::want::R;
-use resolvo_text::{Cond, LineFault, condition_in, no_more, skip, span_at, word_at};
+use resolvo_text::{Cond, LineFault, Span, condition_in, no_more, skip, span_at, word_at};
 
 /// The room that is made at first for alternatives that a bar parts.
 const FEW: usize = 2;
@@ -117,9 +117,37 @@ impl Terms {
         }
     }
 
-    /// The need of the words after `needs`. A condition is read as a value of its own: few needs have
-    /// one.
+    /// The version set of a need, if its words are one name and it was asked for last of the package.
+    fn lone_set(&self, words: &[u8]) -> Option<VersionSetId>
+        ensures { IfSome result
+            (λ v.
+            (s : parsed.Spec)
+            × (needs_in (words_in words.now) ≡ Some (parsed.Needs (s ∷ []) None))
+            × IsSpec self.now v s) }
+    {
+        let parts = words.split_first()?;
+        let package = self.known_package(parts.1)?;
+        self.recent_set(package, Span::Any)
+    }
+
+    /// The need of the words after `needs`. Most needs are one name that is known: its words are not
+    /// told apart.
     pub fn need_in(&mut self, words: &[u8]) -> Result<ConditionalRequirement, LineFault>
+        ensures need { Reads (IsNeedRead self.old self.new) result (needs_in (words_in words.now)) }
+        ensures grows { Grows self.old self.new }
+    {
+        if let Some(set) = self.lone_set(words) {
+            return Ok(ConditionalRequirement {
+                condition: None,
+                requirement: Requirement::Single(set),
+            });
+        }
+        self.parts_in(words)
+    }
+
+    /// The same, part by part. A condition is read as a value of its own: few needs have one.
+    #[inline(never)]
+    fn parts_in(&mut self, words: &[u8]) -> Result<ConditionalRequirement, LineFault>
         ensures need { Reads (IsNeedRead self.old self.new) result (needs_in (words_in words.now)) }
         ensures grows { Grows self.old self.new }
     {

@@ -2,13 +2,14 @@
 //! The model is one list of each, in the order of first naming; `specs/Terms.antt` has the text of
 //! each number. No choice of names makes it slow to find a number: hashes that collide are sorted.
 
-ghost use Rattle.std.specs.Prelude.{◌≡◌, ◌<◌, ◌≤◌, ◌+◌, ◌*◌, ◌++◌, ◌∷◌, [], if◌then◌else◌, ℕ, List, bytes_eq, IfOk, IfSome, IsTrue, IsErrOf, OnOk, OnErr, length, map, slice_get, Some, None};
+ghost use Rattle.std.specs.Prelude.{◌≡◌, ◌<◌, ◌≤◌, ◌+◌, ◌*◌, ◌++◌, ◌∷◌, [], if◌then◌else◌, ℕ, List, bytes_eq, IfOk, IfSome, IsTrue, IsErrOf, OnOk, OnErr, length, map, slice_get, Some, None, true};
 ghost use Rattle.std.specs.Bool.{Decides};
 ghost use Rattle.std.specs.Option.{option_copied, option_map};
 ghost use Rattle.std.specs.String.{string_bytes};
 ghost use Rattle.resolvo_text.specs.View.{spec_of, specs_of, cond_of, condition_of};
 ghost use Rattle.resolvo_text.specs.Line.{Is};
 ghost use Rattle.resolvo_text.specs.Parse.{name_in};
+ghost use Rattle.resolvo_text.specs.Spelling.{is_name};
 ghost use Rattle.resolvo_pool_core.specs.declared.condition.Condition.TheVariants.{Binary};
 ghost use Rattle.resolvo_pool_core.specs.Provider.{OperandsBelow};
 ghost use Rattle.resolvo_pool_core.specs.declared.want.Want.TheVariants.{Ids};
@@ -165,6 +166,15 @@ impl Terms {
         Ok(NameId::from_raw(self.names.read(self.alloc, word)?))
     }
 
+    /// The id of the package that a word names, if it is known to be a name.
+    pub(crate) fn known_package(&self, word: &[u8]) -> Option<NameId>
+        ensures package { IfSome result (λ n. IsPackage self.now n word.now) }
+        ensures name { IfSome result (λ n. is_name word.now ≡ true) }
+    {
+        let number = self.names.known(word)?;
+        Some(NameId::from_raw(number))
+    }
+
     /// The id of a word of reason.
     pub fn word(&mut self, word: &str) -> R<StringId>
         ensures word { IfOk result (λ w. IsWord self.new w word.now) }
@@ -204,7 +214,7 @@ impl Terms {
     }
 
     /// The version set that was asked for last of its package, if it has this span.
-    fn recent_set(&self, name: NameId, span: Span) -> Option<VersionSetId>
+    pub(crate) fn recent_set(&self, name: NameId, span: Span) -> Option<VersionSetId>
         ensures { IfSome result
             (λ v. slice_get self.now.version_sets v.0 ≡ Some (name, record { 0 = span })) }
     {

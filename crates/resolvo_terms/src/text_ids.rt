@@ -81,7 +81,55 @@ impl TextIds {
         })
     }
 
-    /// Numbers a text that has no number.
+    /// Makes room for one text more, so that few texts share their places.
+    fn make_room(&mut self, alloc: Global) -> Result<(), AllocError>
+        ensures { self.new ≡ self.old }
+    {
+        if let Some(places) = self.index.slots.more_for(self.texts.len()) {
+            self.index = TextIndex::of(alloc, &self.texts, places)?;
+        }
+        Ok(())
+    }
+
+    /// The number of a text, a new one where it has none.
+    pub fn intern(&mut self, alloc: Global, text: &str) -> R<u32>
+        ensures text { IfOk result (λ i. slice_get self.new i ≡ Some text.now) }
+        ensures extends { Extends self.old self.new }
+        ensures few { length self.new ≤ length self.old + 1 }
+        ensures ids { IsErrOf result Ids → 4294967295 ≤ length self.new }
+    {
+        let bytes = text.as_bytes();
+        let hash = hash_of_text(bytes);
+        match self.find(bytes, hash) {
+            Some(id) => Ok(id),
+            None => self.add_new(alloc, text, hash),
+        }
+    }
+
+    /// The number of a text of this hash, if it has one.
+    pub fn find(&self, text: &[u8], hash: usize) -> Option<u32>
+        requires { hash ≡ text_hash text.now }
+        ensures found { IfSome result (λ i. slice_get self.now i ≡ Some text.now) }
+        ensures absent { result ≡ None → (i : ℕ) → slice_get self.now i ≡ Some text.now → ⊥ }
+    {
+        self.index.number(&self.texts, text, hash)
+    }
+
+    /// Numbers a text of this hash that has no number.
+    #[inline(never)]
+    pub fn add_new(&mut self, alloc: Global, text: &str, hash: usize) -> R<u32>
+        requires hash { hash ≡ text_hash text.now }
+        requires absent { (i : ℕ) → slice_get self.old i ≡ Some text.now → ⊥ }
+        ensures text { IfOk result (λ i. slice_get self.new i ≡ Some text.now) }
+        ensures extends { Extends self.old self.new }
+        ensures few { length self.new ≤ length self.old + 1 }
+        ensures ids { IsErrOf result Ids → 4294967295 ≤ length self.new }
+    {
+        self.make_room(alloc)?;
+        self.add(alloc, text, hash)
+    }
+
+    /// The same, where there is room.
     fn add(&mut self, alloc: Global, text: &str, hash: usize) -> R<u32>
         requires hash { hash ≡ text_hash text.now }
         requires absent { (i : ℕ) → slice_get self.old i ≡ Some text.now → ⊥ }
@@ -102,42 +150,6 @@ impl TextIds {
                 Err(Want::Memory)
             }
         }
-    }
-
-    /// Makes room for one text more, so that few texts share their places.
-    fn make_room(&mut self, alloc: Global) -> Result<(), AllocError>
-        ensures { self.new ≡ self.old }
-    {
-        if let Some(places) = self.index.slots.more_for(self.texts.len()) {
-            self.index = TextIndex::of(alloc, &self.texts, places)?;
-        }
-        Ok(())
-    }
-
-    /// The number of a text, a new one where it has none.
-    pub fn intern(&mut self, alloc: Global, text: &str) -> R<u32>
-        ensures text { IfOk result (λ i. slice_get self.new i ≡ Some text.now) }
-        ensures extends { Extends self.old self.new }
-        ensures few { length self.new ≤ length self.old + 1 }
-        ensures ids { IsErrOf result Ids → 4294967295 ≤ length self.new }
-    {
-        let hash = hash_of_text(text.as_bytes());
-        match self.find(text, hash) {
-            Some(id) => Ok(id),
-            None => {
-                self.make_room(alloc)?;
-                self.add(alloc, text, hash)
-            }
-        }
-    }
-
-    /// The number of a text, if it has one.
-    fn find(&self, text: &str, hash: usize) -> Option<u32>
-        requires { hash ≡ text_hash text.now }
-        ensures found { IfSome result (λ i. slice_get self.now i ≡ Some text.now) }
-        ensures absent { result ≡ None → (i : ℕ) → slice_get self.now i ≡ Some text.now → ⊥ }
-    {
-        self.index.number(&self.texts, text.as_bytes(), hash)
     }
 
     /// How many texts there are.
@@ -231,8 +243,27 @@ impl TextIndex {
         Ok(index)
     }
 
-    /// The number of a text, if it has one.
+    /// The number of a text, if it has one. Most texts are at the first place of their hash.
     fn number(&self, texts: &TextList, text: &[u8], hash: usize) -> Option<u32>
+        requires { hash ≡ text_hash text.now }
+        ensures { result
+            ≡ number_from bytes_eq texts.now self.now.slots.numbers.items
+            (list_number_in self.now.others.entries text.now) tries
+            (place_from (text_hash text.now)) text.now }
+    {
+        let first = first_place(hash);
+        if self.slots.is_free(first) {
+            return None;
+        }
+        if let Some(number) = self.number_at(texts, text, first) {
+            return Some(number);
+        }
+        self.number_among(texts, text, hash)
+    }
+
+    /// The same, where the first place is not that of the text.
+    #[inline(never)]
+    fn number_among(&self, texts: &TextList, text: &[u8], hash: usize) -> Option<u32>
         requires { hash ≡ text_hash text.now }
         ensures { result
             ≡ number_from bytes_eq texts.now self.now.slots.numbers.items
@@ -308,7 +339,7 @@ fn is_text(texts: &TextList, number: u32, text: &[u8]) -> bool
 
 /// A hash of a text.
 #[tactic(auto, unfolding(crate::specs::Found::text_hash))]
-fn hash_of_text(text: &[u8]) -> usize
+pub fn hash_of_text(text: &[u8]) -> usize
     ensures { result ≡ text_hash text.now }
 {
     hash_of_all(text)

@@ -54,6 +54,10 @@ word_bytes (b ∷ bs) h = let p = and_parts (starts_name b) (list_all continues_
 name_has_no_space : (name : List ℕ) → IsTrue (is_name name) → NoSpace name
 name_has_no_space name h = All-from_recursion _ name (word_bytes name (and_parts (is_word name) (not (is_reserved name)) h).0)
 
+-- A text that is a name is one word.
+pub name_is_one_word : (name : List ℕ) → is_name name ≡ true → slice_split is_space name ≡ name ∷ []
+name_is_one_word name h = slice_split_none is_space name (name_has_no_space name h)
+
 number_has_no_space : (n : ℕ) → n < 2 ^ 32 → NoSpace (decimal n)
 number_has_no_space n small = λ k d lt. let r = digit_at (decimal n) k (digits n small) lt in rw (get_or_default (decimal n) k d 0 lt) (ne_eqb (get_or (decimal n) k 0) 32 (λ e. absurd (omega arith)))
 

@@ -125,6 +125,7 @@ impl LineReader {
     ///
     /// Each whole line of the piece is returned before the device is read again. After a fault the
     /// reader can't be used any more.
+    #[inline]
     pub fn next_line<S: Source>(&mut self, source: &mut S) -> Result<bool, ReadFault>
         // After an answer.
         ensures taken { IfOk result
@@ -194,6 +195,7 @@ impl LineReader {
     }
 
     /// Takes the next line over as many pieces as it has.
+    #[inline(never)]
     fn take_across<S: Source>(&mut self, source: &mut S) -> Result<bool, ReadFault>
         // After an answer.
         ensures copied { OnOk result (self.new.in_place ≡ false) }

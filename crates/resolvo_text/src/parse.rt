@@ -4,7 +4,7 @@
 //! space. A parser of a part returns the part and what is left. Readers of whole texts call
 //! `line_in`; the parser of reports calls the parsers of parts.
 
-ghost use Rattle.std.specs.Prelude.{◌≡◌, ◌≢◌, ◌<◌, ◌≤◌, ◌∷◌, ◌++◌, List, ℕ, codes, length, Err, IfOk, IfSome, IfNone, MatchOption};
+ghost use Rattle.std.specs.Prelude.{◌≡◌, ◌≢◌, ◌<◌, ◌≤◌, ◌∷◌, ◌++◌, List, ℕ, codes, length, Err, Some, IfOk, IfSome, IfNone, IsTrue, MatchOption};
 ghost use Rattle.std.specs.List.{position, slice_split};
 ghost use Rattle.std.specs.Option.{option_map};
 ghost use Rattle.std.specs.String.{string_bytes};
@@ -250,8 +250,11 @@ fn line_by(alloc: Global, keyword: &[u8], words: &[u8]) -> Result<Line, LineFaul
     Err(LineFault::Fault)
 }
 
-fn is_skipped(text: &[u8]) -> bool
-    ensures { result ≡ is_skipped text.now }
+/// Whether a text is empty or a comment.
+#[tactic(auto, unfolding(crate::specs::Parse::line_in))]
+pub fn is_skipped(text: &[u8]) -> bool
+    ensures value { result ≡ is_skipped text.now }
+    ensures line { IsTrue result → line_in text.now ≡ Some parsed.Skipped }
 {
     match text.split_first() {
         Some((first, _)) => *first == b'#',

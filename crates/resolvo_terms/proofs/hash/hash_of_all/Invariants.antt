@@ -1,10 +1,6 @@
-use Rattle.std.proofs.Common.{◌≡◌, ◌-◌, ◌*◌, take}
-use Rattle.std.specs.List.{fold}
-use Rattle.resolvo_terms.specs.Hash.{mix, fours_hash}
+use Rattle.std.proofs.Common.{◌≡◌, ◌-◌, ◌*◌}
+use Rattle.resolvo_terms.specs.Hash.{eights_hash}
 use Rattle.resolvo_terms.proofs.hash.hash_of_all.Given as goal
 
-abbrev pub invariant-loop-four : goal.invariant-loop-four
-invariant-loop-four l = fours_hash l.bytes (l.fours - l.four) (l.four * 4) l.hash ≡ fours_hash l.bytes l.fours 0 0
-
-abbrev pub invariant-loop-byte : goal.invariant-loop-byte
-invariant-loop-byte l = l.hash ≡ fold mix (fours_hash l.bytes l.fours 0 0) (take l.byte-index l.rest)
+abbrev pub invariant-loop-eight : goal.invariant-loop-eight
+invariant-loop-eight l = eights_hash l.bytes (l.eights - l.eight) (l.eight * 8) l.hash ≡ eights_hash l.bytes l.eights 0 0

@@ -1,20 +1,18 @@
-use Rattle.std.proofs.Common.{◌≡◌, ◌∙◌, ℕ, List, Some, sym, ap, subst}
+use Rattle.std.proofs.Common.{◌≡◌, ℕ, List, Some, sym, subst}
 use Rattle.std.specs.Prelude.{slice_get, IfSome}
-use Rattle.std.specs.Str.{bytes_eq}
-use Rattle.resolvo_terms.specs.Found.{number_from, place_from, list_number_in, tries, text_hash}
 use Rattle.resolvo_terms.proofs.IndexLemmas.{text_if, text_absent}
 use Rattle.resolvo_terms.proofs.text_ids.TextIds.find.Goals as goal
 
 pub returns-clause-found : goal.returns-clause-found
 returns-clause-found c =
     let text : List ℕ = c.args.text.now in
-    let is = c.number.ensures ∙ ap (λ (t : List ℕ). number_from bytes_eq c.self.inside.texts c.self.inside.index.slots.numbers.items (list_number_in c.self.inside.index.others.entries t) tries (place_from (text_hash t)) t) c.as_bytes.ensures.value in
+    let is = c.number.ensures in
     subst (λ (xs : List (List ℕ)). IfSome c.number.result (λ i. slice_get xs i ≡ Some text)) c.self.view_is
     (text_if c.self.inside.texts c.self.inside.index.slots.numbers.items c.self.inside.index.others.entries c.self.invariant text c.number.result is)
 
 pub returns-clause-absent : goal.returns-clause-absent
 returns-clause-absent c = λ none i at.
     let text : List ℕ = c.args.text.now in
-    let is = c.number.ensures ∙ ap (λ (t : List ℕ). number_from bytes_eq c.self.inside.texts c.self.inside.index.slots.numbers.items (list_number_in c.self.inside.index.others.entries t) tries (place_from (text_hash t)) t) c.as_bytes.ensures.value in
+    let is = c.number.ensures in
     text_absent c.self.inside.texts c.self.inside.index.slots.numbers.items c.self.inside.index.others.entries c.self.invariant text c.number.result is none i
     (subst (λ (xs : List (List ℕ)). slice_get xs i ≡ Some text) (sym c.self.view_is) at)
