@@ -29,8 +29,8 @@ use resolvo_pool_core::id::{NameId, VersionSetId};
 use resolvo_pool_core::requirement::ConditionalRequirement;
 use resolvo_terms::Terms;
 use resolvo_text::{
-    Alternatives, Cond, Line, LineFault, Spec, Version, limits_words, line_in, listed_in,
-    needs_words,
+    Alternatives, Cond, Line, LineFault, Spec, Version, is_skipped, limits_words, line_in,
+    listed_in, needs_words,
 };
 use std::alloc::{AllocError, Global};
 use std::collections::{BTreeMap, BTreeSet};
@@ -646,15 +646,36 @@ impl Table {
             → IsCatalogueLine (lines_in self.old) text.now line
             → ⊥ }
     {
-        if let Some((name, version)) = listed_in(text) {
-            return self.list(alloc, name, version);
-        }
         if let Some(words) = needs_words(text) {
             return self.read_need(number, words);
+        }
+        if is_skipped(text) {
+            return self.skip();
+        }
+        if let Some((name, version)) = listed_in(text) {
+            return self.list(alloc, name, version);
         }
         if let Some(words) = limits_words(text) {
             return self.read_limit(number, words);
         }
+        self.read_rare(alloc, number, text)
+    }
+
+    /// Parses the text of a line of whatever kind, and adds the line.
+    #[inline(never)]
+    fn read_rare(&mut self, alloc: Global, number: u32, text: &[u8]) -> Result<(), LineFault>
+        requires table { IsTable self.old }
+        requires number { number ≡ length (lines_in self.old) + 1 }
+        requires short { number < 16777217 }
+        ensures ok { OnOk result
+            ((line : parsed.Line)
+            × IsCatalogueLine (lines_in self.old) text.now line
+            × Adds self.old line self.new) }
+        ensures fault { result ≡ Err Fault
+            → (line : parsed.Line)
+            → IsCatalogueLine (lines_in self.old) text.now line
+            → ⊥ }
+    {
         let line = line_in(alloc, text)?;
         self.add(alloc, number, line)
     }

@@ -1,7 +1,6 @@
 use Rattle.std.proofs.Common.{◌≡◌, ◌∙◌, Option, Some, None, refl, ap, sym, subst, option_map}
 use Rattle.std.proofs.lemmas.Result.{on_ok_weaker}
-use Rattle.resolvo_text.specs.Line.{Spec, Line, Listed, Limits}
-use Rattle.resolvo_text.specs.View.{view}
+use Rattle.resolvo_text.specs.Line.{Spec, Line, Skipped, Listed, Limits}
 use Rattle.resolvo_text.specs.Parse.{words_in, spec_in}
 use Rattle.resolvo_text.proofs.TextLaws.{line_again, line_takes, one_line}
 use Rattle.resolvo_catalogue_core.specs.Grammar.{MayFollow}
@@ -9,16 +8,16 @@ use Rattle.resolvo_catalogue_core.specs.Listed.{version_by}
 use Rattle.resolvo_catalogue_core.specs.Table.{lines_in}
 use Rattle.resolvo_catalogue_core.proofs.table.Table.read_line.Goals as goal
 
-pub returns-in-Some-clause-fault : goal.returns-in-Some-clause-fault
-returns-in-Some-clause-fault c = λ e line p.
-    let same = one_line c.args.text.now line (Listed (version_by c.in-Some.name.now c.in-Some.version)) p.parsed c.in-Some.ensures.listed in
+pub returns-in-Some-listed_in-clause-fault : goal.returns-in-Some-listed_in-clause-fault
+returns-in-Some-listed_in-clause-fault c = λ e line p.
+    let same = one_line c.args.text.now line (Listed (version_by c.in-Some-listed_in.name.now c.in-Some-listed_in.version)) p.parsed c.in-Some-listed_in.ensures.listed in
     c.list.ensures.fault e (subst (λ (l : Line). MayFollow (lines_in c.args.self.now) l) same p.place)
 
-pub returns-in-Some-needs_words-clause-ok : goal.returns-in-Some-needs_words-clause-ok
-returns-in-Some-needs_words-clause-ok c = on_ok_weaker c.read_need.result (λ h. (h.0, record { parsed = line_takes c.args.text.now h.0 (c.in-Some-needs_words.ensures ∙ h.1); place = h.2 }, h.3)) c.read_need.ensures.ok
+pub returns-in-Some-clause-ok : goal.returns-in-Some-clause-ok
+returns-in-Some-clause-ok c = on_ok_weaker c.read_need.result (λ h. (h.0, record { parsed = line_takes c.args.text.now h.0 (c.in-Some.ensures ∙ h.1); place = h.2 }, h.3)) c.read_need.ensures.ok
 
-pub returns-in-Some-needs_words-clause-fault : goal.returns-in-Some-needs_words-clause-fault
-returns-in-Some-needs_words-clause-fault c = λ e line p. c.read_need.ensures.fault e line (sym c.in-Some-needs_words.ensures ∙ line_again c.args.text.now line p.parsed.form p.parsed.spelled) p.place
+pub returns-in-Some-clause-fault : goal.returns-in-Some-clause-fault
+returns-in-Some-clause-fault c = λ e line p. c.read_need.ensures.fault e line (sym c.in-Some.ensures ∙ line_again c.args.text.now line p.parsed.form p.parsed.spelled) p.place
 
 limit_of : (o : Option Spec) (line : Line) → option_map (λ (s : Spec). Limits s) o ≡ Some line → (s : Spec) × (o ≡ Some s) × (line ≡ Limits s)
 limit_of None line e = absurd cc
@@ -32,7 +31,8 @@ returns-in-Some-limits_words-clause-fault c = λ e line p.
     let s = limit_of (spec_in (words_in c.in-Some-limits_words.words.now)) line (sym c.in-Some-limits_words.ensures ∙ line_again c.args.text.now line p.parsed.form p.parsed.spelled) in
     c.read_limit.ensures.fault e s.0 s.1 (subst (λ (l : Line). MayFollow (lines_in c.args.self.now) l) s.2 p.place)
 
-pub returns-clause-fault : goal.returns-clause-fault
-returns-clause-fault c = λ e line p.
-    let same = one_line c.args.text.now line (view c.in_ok-line.line) p.parsed c.in_ok-line.ensures.parsed in
-    c.add.ensures.fault e (subst (λ (l : Line). MayFollow (lines_in c.args.self.now) l) same p.place)
+pub returns-then-is_skipped-clause-ok : goal.returns-then-is_skipped-clause-ok
+returns-then-is_skipped-clause-ok c = on_ok_weaker c.skip.result (λ h. (Skipped, record { parsed = line_takes c.args.text.now Skipped (c.is_skipped.ensures.line c.if-is_skipped.true); place = tt }, h)) c.skip.ensures.ok
+
+pub returns-then-is_skipped-clause-fault : goal.returns-then-is_skipped-clause-fault
+returns-then-is_skipped-clause-fault c = λ e line p. absurd (c.skip.ensures.memory e)
