@@ -283,6 +283,7 @@ impl TextIndex {
     }
 
     /// The number at a place that isn't free, if it is that of the text.
+    #[inline(always)]
     #[tactic(auto, using(crate::proofs::IndexLemmas::slot_none, crate::proofs::IndexLemmas::slot_some))]
     fn number_at(&self, texts: &TextList, text: &[u8], place: usize) -> Option<u32>
         requires { slot_at self.now.slots.numbers.items place ≡ Some 0 → ⊥ }

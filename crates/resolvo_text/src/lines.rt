@@ -125,7 +125,7 @@ impl LineReader {
     ///
     /// Each whole line of the piece is returned before the device is read again. After a fault the
     /// reader can't be used any more.
-    #[inline]
+    #[inline(always)]
     pub fn next_line<S: Source>(&mut self, source: &mut S) -> Result<bool, ReadFault>
         // After an answer.
         ensures taken { IfOk result
