@@ -70,6 +70,7 @@ impl LineTable {
     }
 
     /// Adds a line.
+    #[inline(always)]
     pub fn push(&mut self, kind: LineKind) -> Result<(), AllocError>
         ensures { OnOk result
             (kind_list self.new.rules.items self.new.marked.items self.new.held.items
@@ -85,6 +86,7 @@ impl LineTable {
         }
     }
 
+    #[inline(always)]
     fn hold(&mut self, held: StoredLine) -> Result<(), AllocError>
         requires { is_held (length self.old.rules.items) (length self.old.marked.items) held ≡ true }
         ensures { OnOk result
@@ -97,6 +99,7 @@ impl LineTable {
         Ok(())
     }
 
+    #[inline(always)]
     fn push_rule(&mut self, rule: KeptRule) -> Result<(), AllocError>
         ensures { OnOk result
             (kind_list self.new.rules.items self.new.marked.items self.new.held.items
