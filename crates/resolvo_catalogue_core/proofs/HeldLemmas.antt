@@ -7,6 +7,8 @@ use Rattle.std.proofs.lemmas.Bool.{and_parts, and_from}
 use Rattle.std.proofs.lemmas.Bool.Decides.{nat_tests}
 use Rattle.std.proofs.lemmas.List.{length-append, map_push}
 use Rattle.std.proofs.lemmas.Option.{slice_get-map}
+use Rattle.resolvo_pool_core.specs.declared.id.VersionSetId.{VersionSetId}
+use Rattle.resolvo_catalogue_core.specs.declared.rule.VersionNo.{VersionNo}
 use Rattle.resolvo_catalogue_core.specs.declared.kept_rule.KeptRule.{KeptRule}
 use Rattle.resolvo_catalogue_core.specs.declared.line_table.StoredLine.{StoredLine}
 use Rattle.resolvo_catalogue_core.specs.declared.line_table.LineKind.{LineKind}
@@ -29,6 +31,8 @@ same_kind rs ms r StoredLine.Nothing e = refl
 same_kind rs ms r (StoredLine.Listed v) e = refl
 same_kind rs ms r (StoredLine.Favour v) e = refl
 same_kind rs ms r (StoredLine.Many place) e = refl
+same_kind rs ms r (StoredLine.Need owner spec) e = refl
+same_kind rs ms r (StoredLine.Limit owner spec) e = refl
 same_kind rs ms r (StoredLine.Rule place) e = ap kind_of_rule (get_more rs r place (below place (length rs) e))
 
 pub same_list : (rs : List KeptRule) (ms : List (String Global)) (r : KeptRule) (hs : List StoredLine) → are_held (length rs) (length ms) hs ≡ true → kind_list (rs ++ r ∷ []) ms hs ≡ kind_list rs ms hs
@@ -42,6 +46,8 @@ still_held count marked StoredLine.Nothing e = refl
 still_held count marked (StoredLine.Listed v) e = refl
 still_held count marked (StoredLine.Favour v) e = refl
 still_held count marked (StoredLine.Many place) e = e
+still_held count marked (StoredLine.Need owner spec) e = refl
+still_held count marked (StoredLine.Limit owner spec) e = refl
 still_held count marked (StoredLine.Rule place) e = grind (arith, nat_tests)
 
 pub all_still_held : (count marked : ℕ) (hs : List StoredLine) → are_held count marked hs ≡ true → are_held (count + 1) marked hs ≡ true
@@ -57,6 +63,8 @@ same_kind_marked rs ms m StoredLine.Nothing e = refl
 same_kind_marked rs ms m (StoredLine.Listed v) e = refl
 same_kind_marked rs ms m (StoredLine.Favour v) e = refl
 same_kind_marked rs ms m (StoredLine.Many place) e = ap kind_of_name (get_more ms m place (below place (length ms) e))
+same_kind_marked rs ms m (StoredLine.Need owner spec) e = refl
+same_kind_marked rs ms m (StoredLine.Limit owner spec) e = refl
 same_kind_marked rs ms m (StoredLine.Rule place) e = refl
 
 pub same_list_marked : (rs : List KeptRule) (ms : List (String Global)) (m : String Global) (hs : List StoredLine) → are_held (length rs) (length ms) hs ≡ true → kind_list rs (ms ++ m ∷ []) hs ≡ kind_list rs ms hs
@@ -70,6 +78,8 @@ still_held_marked count marked StoredLine.Nothing e = refl
 still_held_marked count marked (StoredLine.Listed v) e = refl
 still_held_marked count marked (StoredLine.Favour v) e = refl
 still_held_marked count marked (StoredLine.Many place) e = grind (arith, nat_tests)
+still_held_marked count marked (StoredLine.Need owner spec) e = refl
+still_held_marked count marked (StoredLine.Limit owner spec) e = refl
 still_held_marked count marked (StoredLine.Rule place) e = e
 
 pub all_still_held_marked : (count marked : ℕ) (hs : List StoredLine) → are_held count marked hs ≡ true → are_held count (marked + 1) hs ≡ true
@@ -131,9 +141,11 @@ no_rule_of_name : (o : Option (String Global)) → rule_of (kind_of_name o) ≡ 
 no_rule_of_name None = refl
 no_rule_of_name (Some name) = refl
 
-pub no_rule_held : (rs : List KeptRule) (ms : List (String Global)) (h : StoredLine) → ((place : ℕ) → h ≡ StoredLine.Rule place → ⊥) → rule_of (kind_in rs ms h) ≡ None
-no_rule_held rs ms StoredLine.Nothing not = refl
-no_rule_held rs ms (StoredLine.Listed v) not = refl
-no_rule_held rs ms (StoredLine.Favour v) not = refl
-no_rule_held rs ms (StoredLine.Many place) not = no_rule_of_name (slice_get ms place)
-no_rule_held rs ms (StoredLine.Rule place) not = absurd (not place refl)
+pub no_rule_held : (rs : List KeptRule) (ms : List (String Global)) (h : StoredLine) → ((owner : VersionNo) (spec : VersionSetId) → h ≡ StoredLine.Need owner spec → ⊥) → ((owner : VersionNo) (spec : VersionSetId) → h ≡ StoredLine.Limit owner spec → ⊥) → ((place : ℕ) → h ≡ StoredLine.Rule place → ⊥) → rule_of (kind_in rs ms h) ≡ None
+no_rule_held rs ms StoredLine.Nothing need limit rule = refl
+no_rule_held rs ms (StoredLine.Listed v) need limit rule = refl
+no_rule_held rs ms (StoredLine.Favour v) need limit rule = refl
+no_rule_held rs ms (StoredLine.Many place) need limit rule = no_rule_of_name (slice_get ms place)
+no_rule_held rs ms (StoredLine.Need owner spec) need limit rule = absurd (need owner spec refl)
+no_rule_held rs ms (StoredLine.Limit owner spec) need limit rule = absurd (limit owner spec refl)
+no_rule_held rs ms (StoredLine.Rule place) need limit rule = absurd (rule place refl)

@@ -1,9 +1,13 @@
--- The stored form of a catalogue's lines, the rules apart.
+-- The stored form of a catalogue's lines, the longer rules apart.
 use Rattle.std.specs.Prelude.{ℕ, zero, suc, nat_lt, Bool, true, List, map, Option, Some, None, slice_get}
 use Rattle.std.specs.List.{list_all}
 use Rattle.std.specs.Global.{Global}
 use Rattle.std.specs.declared.string.String.{String}
+use Rattle.resolvo_pool_core.specs.declared.id.VersionSetId.{VersionSetId}
+use Rattle.resolvo_pool_core.specs.declared.requirement.Requirement.TheVariants.{Single}
+use Rattle.resolvo_pool_core.specs.declared.requirement.ConditionalRequirement.{ConditionalRequirement}
 use Rattle.resolvo_catalogue_core.specs.declared.kept_rule.KeptRule.{KeptRule}
+use Rattle.resolvo_catalogue_core.specs.declared.kept_rule.KeptRule.TheVariants as kept
 use Rattle.resolvo_catalogue_core.specs.declared.line_table.LineKind.{LineKind}
 use Rattle.resolvo_catalogue_core.specs.declared.line_table.LineKind.TheVariants as line_kinds
 use Rattle.resolvo_catalogue_core.specs.declared.line_table.StoredLine.{StoredLine}
@@ -14,6 +18,8 @@ is_held count marked StoredLine.Nothing = true
 is_held count marked (StoredLine.Listed v) = true
 is_held count marked (StoredLine.Favour v) = true
 is_held count marked (StoredLine.Many place) = nat_lt place marked
+is_held count marked (StoredLine.Need owner spec) = true
+is_held count marked (StoredLine.Limit owner spec) = true
 is_held count marked (StoredLine.Rule place) = nat_lt place count
 
 abbrev pub are_held : ℕ → ℕ → List StoredLine → Bool
@@ -27,12 +33,18 @@ abbrev pub kind_of_name : Option (String Global) → LineKind
 kind_of_name None = line_kinds.Nothing
 kind_of_name (Some name) = line_kinds.Many name
 
+-- the need of one SPEC without condition
+abbrev pub alone : VersionSetId → ConditionalRequirement
+alone spec = record { condition = None; requirement = Single spec }
+
 -- the line in whose place this is kept
 abbrev pub kind_in : List KeptRule → List (String Global) → StoredLine → LineKind
 kind_in rules marked StoredLine.Nothing = line_kinds.Nothing
 kind_in rules marked (StoredLine.Listed v) = line_kinds.Listed v
 kind_in rules marked (StoredLine.Favour v) = line_kinds.Favour v
 kind_in rules marked (StoredLine.Many place) = kind_of_name (slice_get marked place)
+kind_in rules marked (StoredLine.Need owner spec) = line_kinds.Rule (kept.Needs owner (alone spec))
+kind_in rules marked (StoredLine.Limit owner spec) = line_kinds.Rule (kept.Limits owner spec)
 kind_in rules marked (StoredLine.Rule place) = kind_of_rule (slice_get rules place)
 
 abbrev pub kind_list : List KeptRule → List (String Global) → List StoredLine → List LineKind

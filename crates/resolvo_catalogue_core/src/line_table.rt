@@ -1,5 +1,4 @@
-//! The parsed lines, with the rules in a list of their own: a line without a rule takes little
-//! memory. The model is `kind_list`, the list of the parsed lines. Used by `table`.
+//! The parsed lines, with the longer rules in a list of their own: most lines take little memory. The model is `kind_list`, the list of the parsed lines. Used by `table`.
 
 ghost use Rattle.std.specs.Prelude.{◌≡◌, ◌++◌, ◌∷◌, [], length, true, IfOk, OnOk, option_and_then, option_copied, slice_get};
 ghost use Rattle.resolvo_catalogue_core.specs.Held.{is_held, are_held, held_at, kind_in, kind_list, kind_at, rule_of};
@@ -7,6 +6,8 @@ ghost use Rattle.resolvo_catalogue_core.specs.declared.line_table.LineKind.TheVa
 
 use crate::kept_rule::KeptRule;
 use crate::rule::VersionNo;
+use resolvo_pool_core::id::VersionSetId;
+use resolvo_pool_core::requirement::{ConditionalRequirement, Requirement};
 use std::alloc::{AllocError, Global};
 
 /// A parsed line.
@@ -20,14 +21,22 @@ pub enum LineKind {
     Rule(KeptRule),
 }
 
-/// The stored form of a line: for a rule, its place among the rules, for a marked package that of
-/// its name.
+/// The stored form of a line. A need of one SPEC without condition and a limit are stored whole; of
+/// another rule its place among the rules, of a marked package that of its name.
 #[derive(Clone, Copy, Debug)]
 pub enum StoredLine {
     Nothing,
     Listed(VersionNo),
     Favour(VersionNo),
     Many(u32),
+    Need {
+        owner: VersionNo,
+        spec: VersionSetId,
+    },
+    Limit {
+        owner: VersionNo,
+        spec: VersionSetId,
+    },
     Rule(u32),
 }
 
@@ -106,6 +115,26 @@ impl LineTable {
             ≡ kind_list self.old.rules.items self.old.marked.items self.old.held.items ++ kind.Rule rule
             ∷ []) }
     {
+        match rule {
+            KeptRule::Needs {
+                owner,
+                need: ConditionalRequirement {
+                    condition: None,
+                    requirement: Requirement::Single(spec),
+                },
+            } => self.hold(StoredLine::Need { owner, spec }),
+            KeptRule::Limits { owner, spec } => self.hold(StoredLine::Limit { owner, spec }),
+            _ => self.push_long(rule),
+        }
+    }
+
+    /// Adds a rule that has a place among the rules.
+    fn push_long(&mut self, rule: KeptRule) -> Result<(), AllocError>
+        ensures { OnOk result
+            (kind_list self.new.rules.items self.new.marked.items self.new.held.items
+            ≡ kind_list self.old.rules.items self.old.marked.items self.old.held.items ++ kind.Rule rule
+            ∷ []) }
+    {
         let place = place_of(self.rules.len())?;
         self.rules.push(rule)?;
         self.held.push(StoredLine::Rule(place))?;
@@ -146,8 +175,17 @@ impl LineTable {
             ≡ option_and_then rule_of
             (kind_at (kind_list self.now.rules.items self.now.marked.items self.now.held.items) line) }
     {
-        match self.held_at(line)? {
-            StoredLine::Rule(place) => self.rule_at(*place),
+        let held = self.held_at(line)?;
+        match *held {
+            StoredLine::Need { owner, spec } => Some(KeptRule::Needs {
+                owner,
+                need: ConditionalRequirement {
+                    condition: None,
+                    requirement: Requirement::Single(spec),
+                },
+            }),
+            StoredLine::Limit { owner, spec } => Some(KeptRule::Limits { owner, spec }),
+            StoredLine::Rule(place) => self.rule_at(place),
             _ => None,
         }
     }

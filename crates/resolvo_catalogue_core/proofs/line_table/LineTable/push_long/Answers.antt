@@ -2,7 +2,7 @@ use Rattle.std.proofs.Common.{◌≡◌, ◌+◌, List, length, true, is_ok, sym
 use Rattle.resolvo_catalogue_core.specs.declared.line_table.StoredLine.{StoredLine}
 use Rattle.resolvo_catalogue_core.specs.Held.{are_held}
 use Rattle.resolvo_catalogue_core.proofs.HeldLemmas.{all_still_held, held_if, held_place, one_longer, pushes_rule}
-use Rattle.resolvo_catalogue_core.proofs.line_table.LineTable.push_rule.Goals as goal
+use Rattle.resolvo_catalogue_core.proofs.line_table.LineTable.push_long.Goals as goal
 
 pub invariant_of-self-2 : goal.invariant_of-self-2
 invariant_of-self-2 c =
