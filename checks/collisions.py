@@ -47,24 +47,23 @@ def hash_of_number(number):
 
 
 def mixed(state, number):
-    """The provider's hash of what a state is of, and one number more."""
+    """The hash of keys and texts: of what a state is of, and one number more."""
     product = (state ^ number) * MULTIPLIER & MASK
     return product ^ product >> 32
 
 
 def hash_of_set(number):
-    """The provider's hash of the version set of one number of the first package."""
+    """The hash of the version set of one number of the first package."""
     return mixed(mixed(mixed(0, 1), number), 0)
 
 
-def hash_of_bytes(text, state=0):
-    """The provider's hash of a text behind what a state is of; its lowest bits choose a place."""
-    whole = len(text) // 4 * 4
-    for at in range(0, whole, 4):
-        state = mixed(state, int.from_bytes(text[at:at + 4].encode(), "little"))
-    for byte in text[whole:].encode():
-        state = mixed(state, byte)
-    return state
+def hash_of_text(text):
+    """The hash of a name or word among the terms; its lowest bits choose a place. For eight bytes or more."""
+    bytes_of, state = text.encode(), 0
+    for at in range(0, len(bytes_of) // 8 * 8, 8):
+        state = mixed(state, int.from_bytes(bytes_of[at:at + 8], "little"))
+    last = int.from_bytes(bytes_of[-8:], "little")
+    return mixed(mixed(state, last), len(bytes_of))
 
 
 def texts(count, collide):
@@ -85,13 +84,11 @@ def numbers(count, collide, hash_of=hash_of_number):
 
 
 def crowded(count, collide):
-    """So many names of 32 bytes, whose places in the provider's table are few, or any."""
+    """So many names of 32 bytes, whose places in the table of names are few, or any."""
     mask = (1 << max(1, (count // 12).bit_length())) - 1 if collide else 0
-    front = "names_of_the_provider_places"
-    state = hash_of_bytes(front)
     ends = ("".join(last) for last in itertools.product(WORD, repeat=4))
-    found = (front + end for end in ends if hash_of_bytes(end, state) & mask == 0)
-    return list(itertools.islice(found, count))
+    names = ("names_that_have_a_few_places" + end for end in ends)
+    return list(itertools.islice((name for name in names if hash_of_text(name) & mask == 0), count))
 
 
 def packages(size, collide):
@@ -123,13 +120,13 @@ def spans(size, collide):
 
 
 def sets(size, collide):
-    """The same with spans whose places in the provider's table are few."""
+    """The same with spans whose places in the table of version sets are few."""
     found = numbers(min(size // 18, 1 << 12), collide, hash_of_set)
     return ["version a 1\n", *(f"needs a {number} | a\n" for number in found)], "needs a\n"
 
 
 def places(size, collide):
-    """Each line a need of another package, whose places in the provider's table are few."""
+    """Each line a need of another package, whose places in the table of names are few."""
     names = crowded(min(size // 43, 1 << 12), collide)
     return ["version a 1\n", *(f"needs {name} | a\n" for name in names)], "needs a\n"
 

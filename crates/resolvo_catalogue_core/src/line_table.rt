@@ -1,4 +1,5 @@
-//! The parsed lines, with the longer rules in a list of their own: most lines take little memory. The model is `kind_list`, the list of the parsed lines. Used by `table`.
+//! The parsed lines, with the longer rules in a list of their own: most lines take little memory. The
+//! model is `kind_list`, the list of the parsed lines. Used by `table`.
 
 ghost use Rattle.std.specs.Prelude.{◌≡◌, ◌++◌, ◌∷◌, [], length, true, IfOk, OnOk, option_and_then, option_copied, slice_get};
 ghost use Rattle.resolvo_catalogue_core.specs.Held.{is_held, are_held, held_at, kind_in, kind_list, kind_at, rule_of};

@@ -1,6 +1,5 @@
 //! Hashes of bytes and of numbers, by which values are sorted or guessed. Whoever uses one compares
-//! the values too. Used by `text_ids`, `key_index` and `unions`, and by
-//! the packages of a catalogue.
+//! the values too. Used by `text_ids`, `key_index` and `unions`.
 
 ghost use Rattle.std.specs.Prelude.{◌≡◌, ◌<◌, ◌≤◌, ◌+◌, length};
 ghost use Rattle.resolvo_terms.specs.Hash.{eight_at, few_of, four_at, last_of, mix, numbers_hash};
