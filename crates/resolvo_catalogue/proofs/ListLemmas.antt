@@ -1,22 +1,18 @@
 -- The versions as solvables, one more.
-use Rattle.std.proofs.Common.{◌≡◌, ◌==◌, if◌then◌else◌, ◌+◌, ◌<◌, ℕ, zero, suc, Bool, true, false, List, [], ◌∷◌, ◌++◌, map, length, Option, Some, None, refl, sym, ap, subst, ◌∙◌, arith}
-use Rattle.std.specs.Prelude.{All, Contains, IsSome, nat_lt, option_map, slice_get, slice_index_or, string_bytes}
-use Rattle.std.specs.Global.{Global, Vec}
-use Rattle.std.specs.declared.string.String.{String}
+use Rattle.std.proofs.Common.{◌≡◌, ◌==◌, if◌then◌else◌, ◌+◌, ◌<◌, ℕ, zero, suc, Bool, true, false, List, [], ◌∷◌, ◌++◌, map, length, refl, sym, ap, ◌∙◌, arith}
+use Rattle.std.specs.Prelude.{nat_lt, slice_index_or}
+use Rattle.std.specs.Global.{Vec}
 use Rattle.std.proofs.lemmas.Bool.{and_parts}
 use Rattle.std.proofs.lemmas.Bool.Decides.{nat_tests}
-use Rattle.std.proofs.lemmas.List.{map-append, append-nil}
-use Rattle.std.proofs.lemmas.List.Elements.{All-cons, All-nil}
-use Rattle.std.proofs.lemmas.Option.{slice_get-map, slice_get_within, get_or_from_slice_get}
-use Rattle.resolvo_text.specs.Line.{Version}
-use Rattle.resolvo_catalogue_core.specs.Listed.{name_at, kept_version, kept_versions, is_kept, are_kept, AreUsed}
+use Rattle.std.proofs.lemmas.Option.{slice_get-get_or}
+use Rattle.std.proofs.lemmas.List.{length-map, map-append, append-nil}
+use Rattle.resolvo_text.specs.Line.{Version, Line}
+use Rattle.resolvo_catalogue_core.specs.Listed.{listed, name_at, kept_version, kept_versions, is_kept, are_kept}
+use Rattle.resolvo_catalogue_core.specs.Kept.{KeptLines}
 use Rattle.resolvo_catalogue_core.specs.declared.versions.KeptVersion.{KeptVersion}
 use Rattle.resolvo_intern.specs.declared.pool.Solvable.{Solvable}
-use Rattle.resolvo_catalogue.specs.Ids.{Ids, SolvableId, solvable_id, solvable_by, IsPackage, IsSolvable, Grows, list_at, places_from, solvables_of}
-use Rattle.resolvo_terms.specs.Known.{place_of}
-use Rattle.resolvo_terms.specs.Terms.{NameId, AreEach}
-use Rattle.resolvo_terms.proofs.Places.{at_from_contains}
-use Rattle.resolvo_terms.proofs.TextPlaces.{has_place}
+use Rattle.resolvo_catalogue.specs.Ids.{Ids, SolvableId, solvable_id, solvable_by, IsSolvable, Grows, list_at, places_from, solvables_of, terms_of}
+use Rattle.resolvo_terms.specs.Terms.{Terms, AreEach}
 use Rattle.resolvo_terms.proofs.GrowLemmas.{each_as}
 use Rattle.resolvo_catalogue.proofs.Places.{places_push}
 
@@ -31,66 +27,35 @@ empty_push [] v none h (suc n) = refl
 empty_push (l ∷ lists) v none h zero = h 0
 empty_push (l ∷ lists) v none h (suc n) = empty_push lists v none (λ k. h (suc k)) n
 
--- ---- versions by the places of their packages' names
+-- ---- versions by the numbers of their packages' names
 
 below : (a b : ℕ) → nat_lt a b ≡ true → a < b
 below a b e = grind (arith, nat_tests)
 
-flag_at : (test : List ℕ → Bool) (names : List (String Global)) (p : ℕ) → p < length names → slice_index_or (map (λ n. test (string_bytes n)) names) p false ≡ test (name_at names p)
-flag_at test [] p h = absurd (omega arith)
-flag_at test (n ∷ names) zero h = refl
-flag_at test (n ∷ names) (suc p) h = flag_at test names p (omega arith)
+-- each is a solvable, whose package has the version's name
+pub versions_by : (ids : Ids) (vs : List KeptVersion) → are_kept (length ids.names) vs ≡ true → AreEach (IsSolvable ids) (map solvable_by vs) (kept_versions ids.names vs)
+versions_by ids [] e = tt
+versions_by ids (v ∷ vs) e =
+    let parts = and_parts (is_kept (length ids.names) v) (are_kept (length ids.names) vs) e in
+    ((refl, slice_get-get_or ids.names v.«package».raw [] (below v.«package».raw (length ids.names) parts.0)), versions_by ids vs parts.1)
+
+-- a version that is kept is within so many
+pub kept_within : (count : ℕ) (vs : List KeptVersion) (k : ℕ) (d : KeptVersion) → are_kept count vs ≡ true → k < length vs → (slice_index_or vs k d).«package».raw < count
+kept_within count [] k d e within = absurd (omega (arith, within))
+kept_within count (v ∷ vs) zero d e within = below v.«package».raw count (and_parts (is_kept count v) (are_kept count vs) e).0
+kept_within count (v ∷ vs) (suc k) d e within = kept_within count vs k d (and_parts (is_kept count v) (are_kept count vs) e).1 (omega (arith, within))
 
 -- the flag of the package of each version
-pub flags_are : (test : List ℕ → Bool) (names : List (String Global)) (vs : List KeptVersion) → are_kept (length names) vs ≡ true → map (λ v. slice_index_or (map (λ n. test (string_bytes n)) names) v.«package» false) vs ≡ map (λ v. test v.name) (kept_versions names vs)
-flags_are test names [] e = refl
-flags_are test names (v ∷ vs) e =
-    let parts = and_parts (is_kept (length names) v) (are_kept (length names) vs) e in
-    rw (flag_at test names v.«package» (below v.«package» (length names) parts.0), flags_are test names vs parts.1) refl
+pub flags_are : (test : List ℕ → Bool) (names : List (List ℕ)) (vs : List KeptVersion) → map (λ v. test (name_at names v.«package».raw)) vs ≡ map (λ v. test v.name) (kept_versions names vs)
+flags_are test names [] = refl
+flags_are test names (v ∷ vs) = rw (flags_are test names vs) refl
 
--- ---- packages by their ids
+-- The kept versions are those that the lines list, also by the names of ids that have these terms.
+pub as_listed : (ids : Ids) (k : KeptLines) (vs : List KeptVersion) (lines : List Line) → terms_of ids ≡ k.terms → k.lines ≡ lines → kept_versions k.terms.names vs ≡ listed k.lines → kept_versions ids.names vs ≡ listed lines
+as_listed ids k vs lines terms same is = ap (λ (t : Terms). kept_versions t.names vs) terms ∙ is ∙ ap listed same
 
-pub packages_stay : (a b : Ids) → Grows a b → (packages : List NameId) (names : List (List ℕ)) → AreEach (IsPackage a) packages names → AreEach (IsPackage b) packages names
-packages_stay a b grows packages names h = each_as (IsPackage a) (IsPackage b) (λ n name is. grows.names _ _ is) packages names h
-
-package_at : (ids : Ids) (packages : List NameId) (names : List (List ℕ)) (p : ℕ) (d : NameId) → AreEach (IsPackage ids) packages names → p < length packages → IsPackage ids (slice_index_or packages p d) (slice_index_or names p [])
-package_at ids [] names p d h within = absurd (omega (arith, within))
-package_at ids (n ∷ packages) [] p d h within = absurd h
-package_at ids (n ∷ packages) (name ∷ names) zero d h within = h.0
-package_at ids (n ∷ packages) (name ∷ names) (suc p) d h within = package_at ids packages names p d h.1 (omega (arith, within))
-
-pub packages_within : (ids : Ids) (packages : List NameId) (names : List (List ℕ)) → AreEach (IsPackage ids) packages names → All (λ n. n.raw < length ids.names) packages
-packages_within ids [] names h = All-nil (λ n. n.raw < length ids.names)
-packages_within ids (n ∷ packages) [] h = absurd h
-packages_within ids (n ∷ packages) (name ∷ names) h = All-cons (λ n. n.raw < length ids.names) n packages (slice_get_within ids.names n.raw name h.0) (packages_within ids packages names h.1)
-
--- versions by the places of their packages' names are the solvables of these
-pub versions_by : (ids : Ids) (names : List (String Global)) (packages : List NameId) (vs : List KeptVersion) → AreEach (IsPackage ids) packages (map string_bytes names) → are_kept (length packages) vs ≡ true → AreEach (IsSolvable ids) (map (solvable_by packages) vs) (kept_versions names vs)
-versions_by ids names packages [] named e = tt
-versions_by ids names packages (v ∷ vs) named e =
-    let parts = and_parts (is_kept (length packages) v) (are_kept (length packages) vs) e in (
-      (refl, package_at ids packages (map string_bytes names) v.«package» _ named (below v.«package» (length packages) parts.0)),
-      versions_by ids names packages vs named parts.1,
-    )
-
--- a package that is there is found
-pub some_package : (texts : List (List ℕ)) (text : List ℕ) (r : Option NameId) → Contains texts text → option_map (λ n. n.raw) r ≡ place_of texts text → IsSome r
-some_package texts text None has is = let at = at_from_contains texts text has in absurd (has_place texts text at.0 at.1 (sym is))
-some_package texts text (Some n) has is = refl
-
-name_is : (names : List (String Global)) (k : ℕ) (d : String Global) → k < length names → name_at names k ≡ string_bytes (slice_index_or names k d)
-name_is [] k d within = absurd (omega (arith, within))
-name_is (n ∷ names) zero d within = refl
-name_is (n ∷ names) (suc k) d within = name_is names k d (omega (arith, within))
-
--- where the packages of all versions are there, so are those of all names
-pub names_named : (texts : List (List ℕ)) (names : List (String Global)) (kept : List KeptVersion) → AreUsed (length names) kept → All (λ v. Contains texts v.name) (kept_versions names kept) → All (λ name. Contains texts (string_bytes name)) names
-names_named texts names kept used named = λ k d within.
-    let u = used k within in
-    let v : Version = kept_version names u.1 in
-    let at : slice_get (kept_versions names kept) u.0 ≡ Some v = slice_get-map (kept_version names) kept u.0 ∙ ap (λ (o : Option KeptVersion). option_map (kept_version names) o) u.2 in
-    let has : Contains texts v.name = subst (λ (x : Version). Contains texts x.name) (get_or_from_slice_get (kept_versions names kept) u.0 v v at) (named u.0 v (slice_get_within (kept_versions names kept) u.0 v at)) in
-    subst (λ (x : List ℕ). Contains texts x) (ap (λ (n : ℕ). name_at names n) u.3 ∙ name_is names k d within) has
+pub as_many : (names : List (List ℕ)) (vs : List KeptVersion) (lines : List Line) → kept_versions names vs ≡ listed lines → length vs ≡ length (listed lines)
+as_many names vs lines is = sym (length-map vs (kept_version names)) ∙ ap (λ (ws : List Version). length ws) is
 
 -- versions are listed where there were none
 pub grows_listed : (a b : Ids) (ss : List (Solvable ℕ)) → a.solvables ≡ [] → b ≡ record a { solvables = ss } → Grows a b

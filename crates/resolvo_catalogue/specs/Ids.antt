@@ -93,9 +93,9 @@ AreSound ids = terms.AreSound (terms_of ids)
 
 -- ---- the versions
 
--- a version as a solvable, whose package is one of these by the place of its name
-abbrev pub solvable_by : List NameId → KeptVersion → Solvable ℕ
-solvable_by packages v = record { version = v.number; name = slice_index_or packages v.«package» (record { raw = 0; tag = record {} }) }
+-- a version as a solvable
+abbrev pub solvable_by : KeptVersion → Solvable ℕ
+solvable_by v = record { version = v.number; name = v.«package» }
 
 -- The solvable is this version.
 abbrev pub IsSolvable : Ids → Solvable ℕ → Version → Type 0

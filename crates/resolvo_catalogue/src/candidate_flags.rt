@@ -1,17 +1,19 @@
 //! The marks of each version in the lines of a catalogue: locked, favoured, excluded.
 
-ghost use Rattle.std.specs.Prelude.{◌≡◌, ◌≤◌, ◌<◌, ◌+◌, ◌++◌, ◌∷◌, [], IfOk, IsOkUnless, List, Option, Some, false, length, map, slice_get, slice_index_or, string_bytes, true};
+ghost use Rattle.std.specs.Prelude.{◌≡◌, ◌≤◌, ◌<◌, ◌+◌, ◌++◌, ◌∷◌, [], IfOk, IsOkUnless, List, Option, Some, length, slice_get};
 ghost use Rattle.resolvo_pool_core.specs.declared.want.Want.TheVariants.{Memory};
 ghost use Rattle.resolvo_text.specs.Line.{Version, Line, Favour};
 ghost use Rattle.resolvo_catalogue_core.specs.Kept.{IsKeptLine};
 ghost use Rattle.resolvo_catalogue_core.specs.Sets.{is_many};
-ghost use Rattle.resolvo_catalogue_core.specs.Listed.{listed, are_kept, AreDistinct};
+ghost use Rattle.resolvo_catalogue_core.specs.Listed.{listed, AreDistinct};
 ghost use Rattle.resolvo_catalogue.specs.Ids.{Ids, terms_of};
+ghost use Rattle.resolvo_terms.specs.Known.{name_text};
 ghost use Rattle.resolvo_catalogue.specs.Marked.{AreMarked, AreMany};
 
-use resolvo_catalogue_core::{Catalogue, KeptLines, KeptRule, KeptVersion, VersionNo};
-use resolvo_pool_core::id::StringId;
+use resolvo_catalogue_core::{Catalogue, KeptLines, KeptRule, VersionNo};
+use resolvo_pool_core::id::{NameId, StringId};
 use resolvo_pool_core::want::R;
+use resolvo_terms::Terms;
 use std::alloc::Global;
 
 /// The marks of one version.
@@ -56,40 +58,25 @@ pub fn marks_of(
 }
 
 /// Of each version, by its number, whether its package is marked `many`.
-pub fn many_of(alloc: Global, catalogue: &Catalogue) -> R<Vec<bool>>
+pub fn many_of(alloc: Global, kept: &KeptLines<'_>, catalogue: &Catalogue) -> R<Vec<bool>>
+    requires { kept.now.lines ≡ catalogue.now }
     ensures many { IfOk result (λ flags. AreMany catalogue.now flags.items) }
     ensures refusal { IsOkUnless result Memory }
 {
-    let (names, kept) = catalogue.versions().parts();
-    let of_names = many_names(alloc, catalogue, names)?;
-    flags_of(alloc, &of_names, kept)
-}
-
-/// Of each package, whether it is marked `many`.
-fn many_names(alloc: Global, catalogue: &Catalogue, names: &[String]) -> R<Vec<bool>>
-    ensures many { IfOk result
-        (λ flags. flags.items ≡ map (λ name. is_many catalogue.now (string_bytes name)) names.now) }
-    ensures refusal { IsOkUnless result Memory }
-{
-    let mut flags = Vec::with_capacity(alloc, names.len())?;
-    for name in names {
-        flags.push(catalogue.is_many(name.as_str()))?;
+    let terms = kept.terms();
+    let versions = kept.versions();
+    let mut flags = Vec::with_capacity(alloc, versions.len())?;
+    for version in versions {
+        flags.push(is_many(catalogue, terms, version.package))?;
     }
     Ok(flags)
 }
 
-/// Of each version, the flag of its package.
-fn flags_of(alloc: Global, of_names: &[bool], kept: &[KeptVersion]) -> R<Vec<bool>>
-    requires { are_kept (length of_names.now) kept.now ≡ true }
-    ensures flags { IfOk result
-        (λ flags. flags.items ≡ map (λ v. slice_index_or of_names.now v.«package» false) kept.now) }
-    ensures refusal { IsOkUnless result Memory }
+/// Whether the package of this number is marked `many`. No name is looked at where none is.
+fn is_many(catalogue: &Catalogue, terms: &Terms, name: NameId) -> bool
+    ensures { result ≡ is_many catalogue.now (name_text terms.now name) }
 {
-    let mut flags = Vec::with_capacity(alloc, kept.len())?;
-    for version in kept {
-        flags.push(of_names[version.package as usize])?;
-    }
-    Ok(flags)
+    catalogue.marks_many() && catalogue.is_many(terms.name(name))
 }
 
 /// No marks of so many versions.

@@ -2,7 +2,7 @@
 //! Its model is the interned values, and the dependencies and marks of each version
 //! (`specs/Provider.antt`).
 
-ghost use Rattle.std.specs.Prelude.{All, Contains, ◌≡◌, ◌≤◌, ◌<◌, ◌+◌, [], Bool, false, length, map, sum_by, true, IfOk, IsErrOf, IsOkUnless};
+ghost use Rattle.std.specs.Prelude.{◌≡◌, ◌≤◌, ◌<◌, ◌+◌, [], Bool, false, length, map, sum_by, true, IfOk, IsErrOf, IsOkUnless};
 ghost use Rattle.resolvo_pool_core.specs.declared.want.Want.TheVariants.{Ids as NoIds, Memory};
 ghost use Rattle.resolvo_catalogue.specs.declared.provider.Hint.{Hint};
 ghost use Rattle.resolvo_catalogue_core.specs.Listed.{listed};
@@ -289,7 +289,6 @@ fn tables_of(
 ) -> R<Tables>
     requires kept { kept.now.lines ≡ catalogue.now }
     requires terms { terms_of ids.old ≡ kept.now.terms }
-    requires named { All (λ v. Contains ids.old.names v.name) (listed catalogue.now) }
     requires none { ids.old.solvables ≡ [] }
     // After an answer.
     ensures over { IfOk result
@@ -311,10 +310,10 @@ fn tables_of(
     ensures ids { IsErrOf result NoIds → LacksNumber ids.new }
 {
     catalogue.lines_are_in_place();
-    let packages = list_versions(alloc, ids, catalogue.versions())?;
+    let packages = list_versions(alloc, ids, kept.versions())?;
     let deps = deps_of_lines(alloc, kept, catalogue)?;
     let marks = marks_of(alloc, kept, catalogue)?;
-    let many = many_of(alloc, catalogue)?;
+    let many = many_of(alloc, kept, catalogue)?;
     ids.ids_are_once();
     Ok(Tables {
         packages,

@@ -1,21 +1,19 @@
 -- Packages by the numbers of their names: an empty place more, a version more, more names.
 use Rattle.std.proofs.Common.{◌≡◌, ◌∙◌, ◌<◌, ◌≤◌, inl, inr, ℕ, zero, suc, true, false, List, [], ◌∷◌, ◌++◌, length, get_or, Option, Some, None, refl, sym, ap, subst, arith}
-use Rattle.std.specs.Prelude.{All, Contains, slice_get, slice_set, option_and_then}
+use Rattle.std.specs.Prelude.{slice_get, slice_set, option_and_then}
 use Rattle.std.specs.Str.{bytes_eq}
 use Rattle.std.proofs.lemmas.Bool.{cases_lt}
-use Rattle.std.proofs.lemmas.Option.{none-some, same_Some, slice_get-get_or, slice_get_read, get_or_from_slice_get}
+use Rattle.std.proofs.lemmas.Option.{same_Some, slice_get-get_or, slice_get_read, get_or_from_slice_get}
 use Rattle.std.proofs.lemmas.Slice.Eq.{bytes_eq-Decides}
 use Rattle.resolvo_text.specs.Line.{Version}
 use Rattle.resolvo_terms.specs.Known.{place_of}
 use Rattle.resolvo_terms.specs.Terms.{AreOnce, Extends}
-use Rattle.resolvo_terms.proofs.Places.{contains_from_at}
 use Rattle.resolvo_terms.proofs.TextPlaces.{place_is, has_place, is_place}
 use Rattle.resolvo_catalogue_core.specs.Packages.{package_at, package_in}
-use Rattle.resolvo_catalogue_core.specs.Table.{AddsNumber, AddsVersion, PutsVersion, IsTable, package_named, number_in, versions_in}
+use Rattle.resolvo_catalogue_core.specs.Table.{AddsNumber, AddsVersion, PutsVersion}
 use Rattle.resolvo_catalogue_core.specs.declared.rule.VersionNo.{VersionNo}
 use Rattle.resolvo_catalogue_core.specs.declared.package.Package.{Package}
 use Rattle.resolvo_catalogue_core.specs.declared.package_table.PackageTable.{PackageTable}
-use Rattle.resolvo_catalogue_core.specs.declared.table.Table.{Table}
 
 true_false : true ≡ false → ⊥
 true_false e = cc
@@ -112,14 +110,3 @@ adds_by names old new at v k once named puts = record {
     go name apart (Some i) is = puts.others i (λ same.
         let one : v.name ≡ name = same_Some v.name name (sym named ∙ (ap (λ (n : ℕ). slice_get names n) same ∙ place_is names name i is)) in
         true_false (sym ((bytes_eq-Decides v.name name).1 one) ∙ apart))
-
--- the package of each listed version has a number
-pub versions_named : (t : Table) → IsTable t → All (λ v. Contains t.terms.names v.name) (versions_in t)
-versions_named t keeps = λ k d within.
-    let v = get_or (versions_in t) k d in
-    let at : slice_get (versions_in t) k ≡ Some v = slice_get-get_or (versions_in t) k d within in
-    by v k (place_of t.terms.names v.name) refl (((keeps.packages v.name).numbers v.number k).1 at)
-  where
-    by : (v : Version) (k : ℕ) (o : Option ℕ) → place_of t.terms.names v.name ≡ o → number_in (package_named t v.name) v.number ≡ Some k → Contains t.terms.names v.name
-    by v k (Some i) is found = contains_from_at t.terms.names v.name i (place_is t.terms.names v.name i is)
-    by v k None is found = absurd (none-some k (sym (ap (λ (o : Option ℕ). number_in (package_of t.packages.places.items o) v.number) is) ∙ found))

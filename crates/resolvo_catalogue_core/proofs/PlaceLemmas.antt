@@ -1,19 +1,16 @@
 -- Whether a line is allowed below those of a table, by its maps.
-use Rattle.std.proofs.Common.{◌≡◌, is_some, true, false, ℕ, zero, suc, ◌-◌, ◌<◌, ◌≤◌, List, [], ◌∷◌, length, get_or, take, Option, Some, None, refl, sym, ap, subst, ◌∙◌, arith, option_map}
-use Rattle.std.specs.Prelude.{◌↔◌, Contains, slice_get, slice_index_or, map}
+use Rattle.std.proofs.Common.{◌≡◌, is_some, true, false, ℕ, zero, suc, ◌-◌, ◌<◌, ◌≤◌, List, [], length, get_or, take, Option, Some, None, refl, sym, ap, subst, ◌∙◌, arith, option_map}
+use Rattle.std.specs.Prelude.{Contains, slice_get}
 use Rattle.std.specs.BTreeMap.{get, get_by_text}
 use Rattle.std.specs.Ordering.{nat_cmp}
-use Rattle.std.proofs.lemmas.Option.{slice_get_within, slice_get-get_or, slice_get_past}
+use Rattle.std.proofs.lemmas.Option.{slice_get-get_or, slice_get_past}
 use Rattle.resolvo_terms.proofs.Places.{at_from_contains, contains_from_at}
 use Rattle.resolvo_text.specs.Line.{Version, Line, Skipped, Listed, Needs, Limits, Unknown, Lock, Favour, Exclude, Many, Wish}
 use Rattle.resolvo_catalogue_core.specs.Grammar.{line_at, owner_of, owner_below, MayFollow}
-use Rattle.resolvo_catalogue_core.specs.Questions.{LineIs, MarksUnknownOf, Locks, Favours, MarksMany, Excludes, IsOfPackage, number_of, IsVersionLine}
-use Rattle.resolvo_catalogue_core.specs.Numbered.{versions_of}
-use Rattle.resolvo_catalogue_core.specs.Packages.{first_in}
+use Rattle.resolvo_catalogue_core.specs.Questions.{LineIs, MarksUnknownOf, Locks, Favours, MarksMany, Excludes, number_of, IsVersionLine}
 use Rattle.resolvo_catalogue_core.specs.Kept.{nowhere}
-use Rattle.resolvo_catalogue_core.specs.Table.{IsTable, IsPackage, lines_in, versions_in, package_named, number_in, kinds_in, numbers_in}
+use Rattle.resolvo_catalogue_core.specs.Table.{IsTable, lines_in, versions_in, package_named, number_in, kinds_in, numbers_in}
 use Rattle.resolvo_catalogue_core.specs.declared.rule.VersionNo.{VersionNo}
-use Rattle.resolvo_catalogue_core.specs.declared.package.Package.{Package}
 use Rattle.resolvo_catalogue_core.specs.declared.table.Table.{Table}
 use Rattle.resolvo_catalogue_core.proofs.TableLemmas.{listed_has, listed_from, owner_is_last, fewer_listed, kind_at, excluded_at}
 
@@ -231,50 +228,20 @@ unknown_twice t keeps v word k here owner present may = let some = some_from (ge
 
 -- ---- owners
 
-pub versions_few : (t : Table) → IsTable t → length t.versions ≤ length (lines_in t)
+pub versions_few : (t : Table) → IsTable t → length (versions_in t) ≤ length (lines_in t)
 versions_few t keeps = omega (arith, fewer_listed (lines_in t), ap (λ (vs : List Version). length vs) keeps.listing)
 
-owner_at_end : (t : Table) → IsTable t → owner_below (lines_in t) ≡ slice_get (versions_in t) (length t.versions - 1)
+owner_at_end : (t : Table) → IsTable t → owner_below (lines_in t) ≡ slice_get (versions_in t) (length (versions_in t) - 1)
 owner_at_end t keeps = owner_is_last (lines_in t) ∙ rw keeps.listing refl
 
-pub owner_none : (t : Table) → IsTable t → length t.versions ≡ 0 → owner_below (lines_in t) ≡ None
-owner_none t keeps none = owner_at_end t keeps ∙ slice_get_past (versions_in t) (length t.versions - 1) (omega (arith))
+pub owner_none : (t : Table) → IsTable t → length (versions_in t) ≡ 0 → owner_below (lines_in t) ≡ None
+owner_none t keeps none = owner_at_end t keeps ∙ slice_get_past (versions_in t) (length (versions_in t) - 1) (omega (arith))
 
-pub owner_there : (t : Table) → IsTable t → (count : ℕ) → count ≡ length t.versions → (count ≡ 0 → ⊥) → (v : Version) × (slice_get (versions_in t) (count - 1) ≡ Some v) × (owner_below (lines_in t) ≡ Some v)
+pub owner_there : (t : Table) → IsTable t → (count : ℕ) → count ≡ length (versions_in t) → (count ≡ 0 → ⊥) → (v : Version) × (slice_get (versions_in t) (count - 1) ≡ Some v) × (owner_below (lines_in t) ≡ Some v)
 owner_there t keeps count is some =
     let within : count - 1 < length (versions_in t) = omega (arith, is, some) in
     let at = slice_get-get_or (versions_in t) (count - 1) nowhere within in
     (get_or (versions_in t) (count - 1) nowhere, at, owner_at_end t keeps ∙ ap (λ (n : ℕ). slice_get (versions_in t) (n - 1)) (sym is) ∙ at)
-
--- the first version of a package has its name
-pub first_alike : (t : Table) → IsTable t → (name : List ℕ) (number : VersionNo) → number.0 ≡ length (versions_in t) → (v : Version) → slice_get (versions_in t) (first_in (package_named t name) number).0 ≡ Some v → v.name ≡ name
-first_alike t keeps name number last v at = of_package (package_named t name) (keeps.packages name) at
-  where
-    of_list : (xs : List VersionNo) → ((n : ℕ) → Contains (map number_of xs) n → IsOfPackage (versions_in t) name n) → slice_get (versions_in t) (slice_index_or xs 0 number).0 ≡ Some v → v.name ≡ name
-    of_list [] all at = absurd (omega (arith, last, slice_get_within (versions_in t) number.0 v at))
-    of_list (x ∷ xs) all at =
-        let h = all x.0 (0, omega arith, refl) in
-        let same : h.0 ≡ v = cc (h.1, at) in
-        ap (λ (w : Version). w.name) (sym same) ∙ h.2
-
-    of_package : (o : Option Package) → IsPackage (versions_in t) name o → slice_get (versions_in t) (first_in o number).0 ≡ Some v → v.name ≡ name
-    of_package None is at = absurd (omega (arith, last, slice_get_within (versions_in t) number.0 v at))
-    of_package (Some p) is at = of_list (versions_of p) (λ n has. (is.all.all n).0 has) at
-
--- of a package whose first version isn't there, no version is listed
-pub first_new : (t : Table) → IsTable t → (name : List ℕ) (number : VersionNo) → slice_get (versions_in t) (first_in (package_named t name) number).0 ≡ None → (k : ℕ) (v : Version) → slice_get (versions_in t) k ≡ Some v → v.name ≡ name → ⊥
-first_new t keeps name number none k v at same = of_package (package_named t name) (keeps.packages name) none
-  where
-    of_list : (xs : List VersionNo) → ((n : ℕ) → Contains (map number_of xs) n ↔ IsOfPackage (versions_in t) name n) → slice_get (versions_in t) (slice_index_or xs 0 number).0 ≡ None → ⊥
-    of_list [] all none = let there : Contains [] k = (all k).1 (v, at, same) in omega (arith, there.1)
-    of_list (x ∷ xs) all none =
-        let h = (all x.0).0 (0, omega arith, refl) in
-        let both : ◌≡◌ {A = Option Version} None (Some h.0) = sym none ∙ h.1 in
-        absurd cc
-
-    of_package : (o : Option Package) → IsPackage (versions_in t) name o → slice_get (versions_in t) (first_in o number).0 ≡ None → ⊥
-    of_package None is none = let there : Contains [] k = (is.all.all k).1 (v, at, same) in omega (arith, there.1)
-    of_package (Some p) is none = of_list (versions_of p) is.all.all none
 
 -- ---- a version that isn't listed
 

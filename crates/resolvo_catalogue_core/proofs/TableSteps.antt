@@ -28,6 +28,7 @@ use Rattle.resolvo_terms.specs.Known.{need_at, spec_at, word_text}
 use Rattle.resolvo_terms.specs.TermCounts.{term_count, terms_for_line}
 use Rattle.resolvo_terms.specs.Reads.{Reads}
 use Rattle.resolvo_catalogue_core.specs.Kept.{nth, nowhere}
+use Rattle.resolvo_catalogue_core.specs.Listed.{kept_versions, are_kept}
 use Rattle.resolvo_catalogue_core.specs.Grammar.{owner_below}
 use Rattle.resolvo_catalogue_core.specs.LinesByVersion.{kept_of}
 use Rattle.resolvo_catalogue_core.specs.Numbered.{beside, IsNumbered, numbers_of, versions_of}
@@ -39,6 +40,7 @@ use Rattle.resolvo_catalogue_core.specs.declared.table.Table.{Table}
 use Rattle.resolvo_terms.proofs.NameLemmas.{few_more}
 use Rattle.resolvo_terms.proofs.Places.{get_new, get_kept, get_push}
 use Rattle.resolvo_catalogue_core.proofs.PackageLemmas.{more_names, none_in}
+use Rattle.resolvo_catalogue_core.proofs.VersionLemmas.{same_versions, still_kept}
 use Rattle.resolvo_catalogue_core.proofs.Pushed.{Grows, only_other, all_other, all_new, keyed_new, keyed_more, line_grows, line_within, version_line_grows, version_line_within, version_line_of_listed, get_grows}
 use Rattle.resolvo_catalogue_core.proofs.PlaceLemmas.{none_from, excluded_listed, no_number}
 use Rattle.resolvo_catalogue_core.proofs.TableLemmas.{lines_stay, are_kinds_stay, listed_same, listed_more, are_kinds_push, are_kinds_more, lines_of_more, favours_kept, favours_more, owner_listed, belongs_owner, marks_owner}
@@ -51,33 +53,36 @@ as_long t = sym (length-map (kinds_in t) (line_of t.terms (versions_in t)))
 -- the table has the new line
 pub adds_from : (t u : Table) (s : LineKind) (l : Line) → u.terms ≡ t.terms → u.versions ≡ t.versions → kinds_in u ≡ kinds_in t ++ s ∷ [] → line_of t.terms (versions_in t) s ≡ l → Keeps u (versions_in t) (lines_in t ++ l ∷ []) → Adds t l u
 adds_from t u s l terms same more is keeps =
-    let vs : versions_in u ≡ versions_in t = ap (λ x. versions_in (record u { versions = x })) same in
-    let lines : lines_in u ≡ lines_in t ++ l ∷ [] = rw (terms, vs, more, ← is) (map_push (line_of t.terms (versions_in t)) (kinds_in t) s) in
+    let vs : versions_in u ≡ versions_in t = rw (terms, same) refl in
+    let lines : lines_in u ≡ lines_in t ++ l ∷ [] = rw (terms, same, more, ← is) (map_push (line_of t.terms (versions_in t)) (kinds_in t) s) in
     (subst (λ (ls : List Line). Keeps u (versions_in u) ls) (sym lines) (subst (λ (x : List Version). Keeps u x (lines_in t ++ l ∷ [])) (sym vs) keeps), lines, rw terms (omega arith))
 
 -- more terms change no line
 pub more_terms : (t : Table) (u : Terms) → IsTable t → terms.Grows t.terms u → AreSound u → (lines_in (record t { terms = u }) ≡ lines_in t) × IsTable (record t { terms = u })
 more_terms t u keeps grows sound =
+    let w : Table = record t { terms = u } in
     let vs = versions_in t in
-    let same : lines_in (record t { terms = u }) ≡ lines_in t = lines_stay t.terms u grows sound vs (kinds_in t) (λ n s at. (owner_below (take n (lines_in t)), keeps.kinds n s at)) in (
-      same,
-      subst (λ (ls : List Line). Keeps (record t { terms = u }) vs ls) (sym same) (record {
-        listing = keeps.listing;
-        sound = sound;
-        kinds = are_kinds_stay t.terms u grows sound vs (lines_in t) (kinds_in t) keeps.kinds;
-        packages = λ name. subst (λ (o : Option Package). IsPackage vs name o) (sym (more_names t.terms.names u.names t.packages name grows.names sound.names keeps.places)) (keeps.packages name);
-        places = few_more t.terms.names u.names (length t.packages.places.items) grows.names keeps.places;
-        locks = keeps.locks;
-        favoured = keeps.favoured;
-        many = keeps.many;
-        excluded = keeps.excluded;
-        unknown = keeps.unknown;
-        owned = keeps.owned;
-        as_many = keeps.as_many;
-        favour_lines = keeps.favour_lines;
-        favour_versions = keeps.favour_versions;
-      }),
-    )
+    let named : versions_in w ≡ vs = same_versions t.terms.names u.names t.versions.items grows.names keeps.named in
+    let stay : map (line_of u vs) (kinds_in t) ≡ lines_in t = lines_stay t.terms u grows sound vs (kinds_in t) (λ n s at. (owner_below (take n (lines_in t)), keeps.kinds n s at)) in
+    let same : lines_in w ≡ lines_in t = ap (λ (x : List Version). map (line_of u x) (kinds_in t)) named ∙ stay in
+    let keeps_new : Keeps w vs (lines_in t) = record {
+      listing = keeps.listing;
+      sound = sound;
+      kinds = are_kinds_stay t.terms u grows sound vs (lines_in t) (kinds_in t) keeps.kinds;
+      packages = λ name. subst (λ (o : Option Package). IsPackage vs name o) (sym (more_names t.terms.names u.names t.packages name grows.names sound.names keeps.places)) (keeps.packages name);
+      places = few_more t.terms.names u.names (length t.packages.places.items) grows.names keeps.places;
+      named = still_kept (length t.terms.names) (length u.names) t.versions.items (few_more t.terms.names u.names (length t.terms.names) grows.names (omega arith)) keeps.named;
+      locks = keeps.locks;
+      favoured = keeps.favoured;
+      many = keeps.many;
+      excluded = keeps.excluded;
+      unknown = keeps.unknown;
+      owned = keeps.owned;
+      as_many = keeps.as_many;
+      favour_lines = keeps.favour_lines;
+      favour_versions = keeps.favour_versions;
+    } in
+    (same, subst (λ (ls : List Line). Keeps w (versions_in w) ls) (sym same) (subst (λ (x : List Version). Keeps w x (lines_in t)) (sym named) keeps_new))
 
 -- a line that is added over more terms
 pub adds_over : (t : Table) (u : Terms) (l : Line) (w : Table) → IsTable t → terms.Grows t.terms u → AreSound u → term_count u ≤ term_count t.terms + terms_for_line l → w.terms ≡ u
@@ -118,6 +123,7 @@ skip t u keeps more =
       kinds = rw more (are_kinds_push t.terms vs lines (kinds_in t) Skipped line_kinds.Nothing (as_long t) keeps.kinds tt);
       packages = keeps.packages;
       places = keeps.places;
+      named = keeps.named;
       locks = λ name. only_other (keeps.locks name) (line_grows lines Skipped (Locks name)) (λ x. x);
       favoured = λ name. only_other (keeps.favoured name) (line_grows lines Skipped (Favours name)) (λ x. x);
       many = λ name. only_other (keeps.many name) (line_grows lines Skipped (MarksMany name)) (λ x. x);
@@ -144,6 +150,7 @@ lock t u line k v name keeps number at same absent more locked =
       kinds = rw more (are_kinds_push t.terms vs lines (kinds_in t) l (line_kinds.Rule (kept.Lock k)) (as_long t) keeps.kinds (tt, slice_get_within vs k.0 v at));
       packages = keeps.packages;
       places = keeps.places;
+      named = keeps.named;
       locks = keyed_new bytes_eq bytes_eq-Decides (get_by_text t.locks) (get_by_text u.locks) v.name line (λ name n. LineIs lines n (Locks name)) (λ name n. LineIs (lines ++ l ∷ []) n (Locks name)) (λ name. v.name ≡ name)
           locked none keeps.locks (λ name. rw number (line_grows lines l (Locks name))) refl (λ name same. same);
       favoured = λ name. only_other (keeps.favoured name) (line_grows lines l (Favours name)) (λ x. x);
@@ -172,6 +179,7 @@ mark_many t u line name keeps number absent more marked =
       kinds = rw more (are_kinds_push t.terms vs lines (kinds_in t) l (line_kinds.Many name) (as_long t) keeps.kinds tt);
       packages = keeps.packages;
       places = keeps.places;
+      named = keeps.named;
       locks = λ nm. only_other (keeps.locks nm) (line_grows lines l (Locks nm)) (λ x. x);
       favoured = λ nm. only_other (keeps.favoured nm) (line_grows lines l (Favours nm)) (λ x. x);
       many = keyed_new bytes_eq bytes_eq-Decides (get_by_text t.many) (get_by_text u.many) (string_bytes name) line (λ nm n. LineIs lines n (MarksMany nm)) (λ nm n. LineIs (lines ++ l ∷ []) n (MarksMany nm)) (λ nm. string_bytes name ≡ nm)
@@ -205,6 +213,7 @@ need t u line k v given written keeps is stands number at owner more recorded as
       kinds = rw more (are_kinds_push t.terms vs lines (kinds_in t) l (line_kinds.Rule (kept.Needs k given)) (as_long t) keeps.kinds (subst (λ (x : List Spec × Option Cond). IsNeed t.terms given x) (sym is) stands, (v, at, owner)));
       packages = keeps.packages;
       places = keeps.places;
+      named = keeps.named;
       locks = λ name. only_other (keeps.locks name) (line_grows lines l (Locks name)) (λ x. x);
       favoured = λ name. only_other (keeps.favoured name) (line_grows lines l (Favours name)) (λ x. x);
       many = λ name. only_other (keeps.many name) (line_grows lines l (MarksMany name)) (λ x. x);
@@ -230,6 +239,7 @@ limit t u line k v number_of_spec s keeps is given number at owner more recorded
       kinds = rw more (are_kinds_push t.terms vs lines (kinds_in t) l (line_kinds.Rule (kept.Limits k number_of_spec)) (as_long t) keeps.kinds (subst (λ (x : Spec). IsSpec t.terms number_of_spec x) (sym is) given, (v, at, owner)));
       packages = keeps.packages;
       places = keeps.places;
+      named = keeps.named;
       locks = λ name. only_other (keeps.locks name) (line_grows lines l (Locks name)) (λ x. x);
       favoured = λ name. only_other (keeps.favoured name) (line_grows lines l (Favours name)) (λ x. x);
       many = λ name. only_other (keeps.many name) (line_grows lines l (MarksMany name)) (λ x. x);
@@ -257,6 +267,7 @@ mark_unknown t u line k v w word keeps is given number at owner absent more reco
       kinds = rw more (are_kinds_push t.terms vs lines (kinds_in t) l (line_kinds.Rule (kept.Unknown k w)) (as_long t) keeps.kinds (subst (λ (x : List ℕ). IsWord t.terms w x) (sym is) given, (v, at, owner)));
       packages = keeps.packages;
       places = keeps.places;
+      named = keeps.named;
       locks = λ name. only_other (keeps.locks name) (line_grows lines l (Locks name)) (λ x. x);
       favoured = λ name. only_other (keeps.favoured name) (line_grows lines l (Favours name)) (λ x. x);
       many = λ name. only_other (keeps.many name) (line_grows lines l (MarksMany name)) (λ x. x);
@@ -284,6 +295,7 @@ exclude t u line k v w word keeps is given number at absent more marked =
       kinds = rw more (are_kinds_push t.terms vs lines (kinds_in t) l (line_kinds.Rule (kept.Exclude k w)) (as_long t) keeps.kinds (subst (λ (x : List ℕ). IsWord t.terms w x) (sym is) given, slice_get_within vs k.0 v at));
       packages = keeps.packages;
       places = keeps.places;
+      named = keeps.named;
       locks = λ name. only_other (keeps.locks name) (line_grows lines l (Locks name)) (λ x. x);
       favoured = λ name. only_other (keeps.favoured name) (line_grows lines l (Favours name)) (λ x. x);
       many = λ name. only_other (keeps.many name) (line_grows lines l (MarksMany name)) (λ x. x);
@@ -311,6 +323,7 @@ favour t u line k v name keeps number at same absent more favoured pushed =
       kinds = rw more (are_kinds_push t.terms vs lines (kinds_in t) l (line_kinds.Favour k) (as_long t) keeps.kinds (slice_get_within vs k.0 v at));
       packages = keeps.packages;
       places = keeps.places;
+      named = keeps.named;
       locks = λ name. only_other (keeps.locks name) (line_grows lines l (Locks name)) (λ x. x);
       favoured = keyed_new bytes_eq bytes_eq-Decides (get_by_text t.favoured) (get_by_text u.favoured) v.name line (λ name n. LineIs lines n (Favours name)) (λ name n. LineIs (lines ++ l ∷ []) n (Favours name)) (λ name. v.name ≡ name)
           favoured none keeps.favoured (λ name. rw number (line_grows lines l (Favours name))) refl (λ name same. same);
@@ -403,9 +416,9 @@ of_package_grows vs v name = record {
 }
 
 pub list : (t u : Table) (k : VersionNo) (v : Version) → IsTable t → k.0 ≡ length (versions_in t) → (Contains (lines_in t) (Listed v) → ⊥) → AddsVersion (λ name. package_named t name) v k (λ name. package_in t.terms.names u.packages name) → length u.packages.places.items ≤ length t.terms.names
-    → versions_in u ≡ versions_in t ++ v ∷ [] → kinds_in u ≡ kinds_in t ++ line_kinds.Listed k ∷ [] → ((j : ℕ) → kept_of u.owned j ≡ kept_of t.owned j) → length u.owned ≡ length t.owned + 1
+    → kept_versions t.terms.names u.versions.items ≡ versions_in t ++ v ∷ [] → are_kept (length t.terms.names) u.versions.items ≡ true → kinds_in u ≡ kinds_in t ++ line_kinds.Listed k ∷ [] → ((j : ℕ) → kept_of u.owned j ≡ kept_of t.owned j) → length u.owned ≡ length t.owned + 1
     → Adds t (Listed v) (record t { versions = u.versions; line_kinds = u.line_kinds; packages = u.packages; owned = u.owned })
-list t u k v keeps number unlisted adds places versions more kept as_many =
+list t u k v keeps number unlisted adds places versions named more kept as_many =
     let vs = versions_in t in
     let lines = lines_in t in
     let l : Line = Listed v in
@@ -429,6 +442,7 @@ list t u k v keeps number unlisted adds places versions more kept as_many =
             (λ nm. rw (← number) (all_updated (λ x. package_named t x) (λ x. package_in t.terms.names u.packages x) v k adds nm)) (λ nm. (keeps.packages nm).all) (of_package_grows vs v) (λ nm n h. slice_get_within vs n h.0 h.1) refl (λ nm same. same) name;
       };
       places = places;
+      named = named;
       locks = λ name. only_other (keeps.locks name) (line_grows lines l (Locks name)) (λ x. x);
       favoured = λ name. only_other (keeps.favoured name) (line_grows lines l (Favours name)) (λ x. x);
       many = λ name. only_other (keeps.many name) (line_grows lines l (MarksMany name)) (λ x. x);
@@ -467,7 +481,7 @@ no_line Q zero h = absurd cc
 no_line Q (suc n) h = absurd cc
 
 -- a table of no line
-pub empty : (t : Table) → AreSound t.terms → t.versions ≡ [] → kinds_in t ≡ [] → t.packages.places.items ≡ [] → t.locks.entries ≡ [] → t.favoured.entries ≡ [] → t.many.entries ≡ [] → t.excluded.entries ≡ [] → t.unknown.entries ≡ [] → t.owned ≡ [] → t.favours.items ≡ [] → IsTable t
+pub empty : (t : Table) → AreSound t.terms → t.versions.items ≡ [] → kinds_in t ≡ [] → t.packages.places.items ≡ [] → t.locks.entries ≡ [] → t.favoured.entries ≡ [] → t.many.entries ≡ [] → t.excluded.entries ≡ [] → t.unknown.entries ≡ [] → t.owned ≡ [] → t.favours.items ≡ [] → IsTable t
 empty t sound versions kinds places locks favoured many excluded unknown owned favours =
     let vs : versions_in t ≡ [] = rw versions refl in
     let lines : lines_in t ≡ [] = rw kinds refl in
@@ -478,6 +492,7 @@ empty t sound versions kinds places locks favoured many excluded unknown owned f
       kinds = λ n s at. absurd (no_kind n s (rw kinds at at));
       packages = λ name. record { kept = λ p is. no_package (package_named t name) p (packages name) is; numbers = λ k. no_only _ _ (ap (λ (o : Option Package). number_in o k) (packages name)) (λ n at. none_got n (record { name = name; number = k }) at); all = subst (λ (o : Option Package). AreAll (numbers_in o) (IsOfPackage [] name)) (sym (packages name)) (no_all (IsOfPackage [] name) (λ n h. none_got n h.0 h.1)) };
       places = omega (arith, ap (λ (ps : List (Option Package)). length ps) places);
+      named = rw versions refl;
       locks = λ name. no_only _ _ (rw locks refl) (no_line (Locks name));
       favoured = λ name. no_only _ _ (rw favoured refl) (no_line (Favours name));
       many = λ name. no_only _ _ (rw many refl) (no_line (MarksMany name));

@@ -1,8 +1,6 @@
 -- The packages of a catalogue, by the numbers of their names.
-use Rattle.std.specs.Prelude.{ℕ, List, Option, Some, None, option_and_then, slice_index_or}
+use Rattle.std.specs.Prelude.{ℕ, List, Option, None, option_and_then, slice_index_or}
 use Rattle.resolvo_terms.specs.Known.{place_of}
-use Rattle.resolvo_catalogue_core.specs.Numbered.{versions_of}
-use Rattle.resolvo_catalogue_core.specs.declared.rule.VersionNo.{VersionNo}
 use Rattle.resolvo_catalogue_core.specs.declared.package.Package.{Package}
 use Rattle.resolvo_catalogue_core.specs.declared.package_table.PackageTable.{PackageTable}
 
@@ -13,8 +11,3 @@ package_at places n = slice_index_or places n None
 -- the package of a name, whose number is its place among these names
 abbrev pub package_in : List (List ℕ) → PackageTable → List ℕ → Option Package
 package_in names t name = option_and_then (λ n. package_at t.places.items n) (place_of names name)
-
--- the first version of the package, and this one where there is none
-abbrev pub first_in : Option Package → VersionNo → VersionNo
-first_in None version = version
-first_in (Some p) version = slice_index_or (versions_of p) 0 version

@@ -1,5 +1,5 @@
 -- A catalogue's lines as the code keeps them, and the invariants of its maps.
-use Rattle.std.specs.Prelude.{◌≡◌, ℕ, ◌≤◌, ◌+◌, sum_by, ◌<◌, ◌==◌, if◌then◌else◌, bytes_eq, false, ⊤, List, [], ◌++◌, ◌∷◌, map, length, take, Option, Some, None, slice_get, string_bytes, option_map}
+use Rattle.std.specs.Prelude.{◌≡◌, ℕ, ◌≤◌, ◌+◌, sum_by, ◌<◌, ◌==◌, if◌then◌else◌, bytes_eq, false, true, ⊤, List, [], ◌++◌, ◌∷◌, map, length, take, Option, Some, None, slice_get, string_bytes, option_map}
 use Rattle.std.specs.BTreeMap.{get, get_by_text}
 use Rattle.std.specs.Ordering.{nat_cmp}
 use Rattle.resolvo_text.specs.Line as parsed
@@ -7,7 +7,7 @@ use Rattle.resolvo_text.specs.Line.{Version, Line}
 use Rattle.resolvo_terms.specs.Terms.{Terms, AreSound}
 use Rattle.resolvo_terms.specs.TermCounts.{term_count, terms_for_line}
 use Rattle.resolvo_catalogue_core.specs.Grammar.{owner_below}
-use Rattle.resolvo_catalogue_core.specs.Listed.{listed}
+use Rattle.resolvo_catalogue_core.specs.Listed.{listed, kept_versions, are_kept}
 use Rattle.resolvo_catalogue_core.specs.Questions.{IsOnly, AreAll, LineIs, BelongsTo, MarksUnknownOf, Locks, Favours, MarksMany, Excludes, IsFavour, IsOfPackage, IsVersionLine, FavoursAt, number_of}
 use Rattle.resolvo_catalogue_core.specs.LinesByVersion.{kept_of}
 use Rattle.resolvo_catalogue_core.specs.declared.rule.VersionNo.{VersionNo}
@@ -30,7 +30,7 @@ line_of terms versions (line_kinds.Many name) = parsed.Many (string_bytes name)
 line_of terms versions (line_kinds.Rule r) = kept_line terms versions r
 
 abbrev pub versions_in : Table → List Version
-versions_in t = t.versions
+versions_in t = kept_versions t.terms.names t.versions.items
 
 abbrev pub kinds_in : Table → List LineKind
 kinds_in t = kind_list t.line_kinds.rules.items t.line_kinds.marked.items t.line_kinds.held.items
@@ -94,6 +94,7 @@ pub record Keeps (t : Table) (versions : List Version) (lines : List Line) : Typ
   pub kinds : AreKindsOf t.terms versions lines (kinds_in t)
   pub packages : (name : List ℕ) → IsPackage versions name (package_named t name)
   pub places : length t.packages.places.items ≤ length t.terms.names
+  pub named : are_kept (length t.terms.names) t.versions.items ≡ true
   pub locks : (name : List ℕ) → IsOnly (get_by_text t.locks name) (λ n. LineIs lines n (Locks name))
   pub favoured : (name : List ℕ) → IsOnly (get_by_text t.favoured name) (λ n. LineIs lines n (Favours name))
   pub many : (name : List ℕ) → IsOnly (get_by_text t.many name) (λ n. LineIs lines n (MarksMany name))

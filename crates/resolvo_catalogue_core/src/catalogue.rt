@@ -73,11 +73,11 @@ impl Catalogue {
     }
 
     /// The listed versions in line order. The place of a version is its number.
-    pub fn versions(&self) -> &Versions
-        ensures listed { result.now ≡ listed self.now }
+    pub fn versions(&self) -> Versions<'_>
+        ensures listed { result ≡ listed self.now }
         ensures distinct { AreDistinct (listed self.now) }
     {
-        &self.table.versions
+        self.table.versions()
     }
 
     /// The number of a version, if it is listed.
@@ -111,6 +111,13 @@ impl Catalogue {
         self.table.is_many(name)
     }
 
+    /// Whether a line marks a package `many`.
+    pub fn marks_many(&self) -> bool
+        ensures { result ≡ false → (name : List ℕ) → is_many self.now name ≡ false }
+    {
+        self.table.marks_many()
+    }
+
     /// The versions of the SPEC's package that it matches; with `outside`, those that it doesn't.
     /// The others aren't visited.
     pub fn picked(
@@ -129,7 +136,7 @@ impl Catalogue {
     pub fn match_of(&self, spec: &Spec, version: VersionNo) -> bool
         ensures { result ≡ is_match (listed self.now) (spec_of spec.now) version.0 }
     {
-        obey::is_match(obey::lent(spec), &self.table.versions, version)
+        obey::is_match(obey::lent(spec), &self.table.versions(), version)
     }
 
     /// The `needs`, `limits` and `unknown` lines of a version.
@@ -188,7 +195,7 @@ impl Catalogue {
         ensures { result ≡ keeps self.now line (members (listed self.now) set.now) }
     {
         match self.table.rule(line) {
-            Some(rule) => obey::obeys_kept(rule, &self.table.terms, self.versions(), set),
+            Some(rule) => obey::obeys_kept(rule, &self.table.terms, &self.versions(), set),
             None => true,
         }
     }

@@ -1,16 +1,17 @@
 //! The lines of a catalogue with the numbers by which they are kept: for those who need no texts. The
 //! model is the lines, and the terms that the numbers are of. Read by the provider and the reports.
 
-ghost use Rattle.std.specs.Prelude.{All, Contains, ◌≡◌, ◌≤◌, sum_by, IfSome, IfNone, false, length, Some};
+ghost use Rattle.std.specs.Prelude.{◌≡◌, ◌≤◌, sum_by, IfSome, IfNone, false, true, length, Some};
 ghost use Rattle.resolvo_text.specs.Line as parsed;
 ghost use Rattle.resolvo_catalogue_core.specs.Grammar.{line_at, owner_of};
 ghost use Rattle.resolvo_catalogue_core.specs.Kept.{IsKeptLine};
-ghost use Rattle.resolvo_catalogue_core.specs.Listed.{listed};
+ghost use Rattle.resolvo_catalogue_core.specs.Listed.{listed, kept_versions, are_kept, AreDistinct};
 ghost use Rattle.resolvo_catalogue_core.specs.Questions.{is_rule};
 ghost use Rattle.resolvo_terms.specs.TermCounts.{term_count, terms_for_line};
 
 use crate::kept_rule::KeptRule;
 use crate::table::Table;
+use crate::versions::KeptVersion;
 use resolvo_terms::Terms;
 use std::marker::Model;
 
@@ -39,14 +40,21 @@ impl<'a> Model for KeptLines<'a> {
 }
 
 impl<'a> KeptLines<'a> {
-    /// What the lines speak of, by numbers. There are no more than the lines need. The package of each
-    /// listed version has a number.
+    /// What the lines speak of, by numbers. There are no more than the lines need.
     pub fn terms(&self) -> &'a Terms
         ensures terms { result.now ≡ self.now.terms }
         ensures few { term_count result.now ≤ sum_by terms_for_line self.now.lines }
-        ensures named { All (λ v. Contains result.now.names v.name) (listed self.now.lines) }
     {
         &self.table.terms
+    }
+
+    /// The listed versions in line order, by the numbers of their packages' names among these terms.
+    pub fn versions(&self) -> &'a [KeptVersion]
+        ensures versions { kept_versions self.now.terms.names result.now ≡ listed self.now.lines }
+        ensures named { are_kept (length self.now.terms.names) result.now ≡ true }
+        ensures distinct { AreDistinct (listed self.now.lines) }
+    {
+        &self.table.versions
     }
 
     pub fn line_count(&self) -> u32

@@ -58,7 +58,7 @@ fn fits(spec: LentSpec<'_>, version: (&str, u32)) -> bool
 }
 
 /// Whether the SPEC matches the version of this number.
-pub fn is_match(spec: LentSpec<'_>, versions: &Versions, number: VersionNo) -> bool
+pub fn is_match(spec: LentSpec<'_>, versions: &Versions<'_>, number: VersionNo) -> bool
     ensures { result ≡ is_match versions.now (lent_spec spec.entry) number.0 }
 {
     match versions.get(number) {
@@ -68,20 +68,20 @@ pub fn is_match(spec: LentSpec<'_>, versions: &Versions, number: VersionNo) -> b
 }
 
 // split for the prover: list and set
-fn any_matches(spec: LentSpec<'_>, versions: &Versions, set: &[VersionNo]) -> bool
+fn any_matches(spec: LentSpec<'_>, versions: &Versions<'_>, set: &[VersionNo]) -> bool
     ensures { result
         ≡ list_any (λ n. is_match versions.now (lent_spec spec.entry) n.0) set.now }
 {
     set.iter().any(|number| is_match(spec, versions, *number))
 }
 
-fn is_met(spec: LentSpec<'_>, versions: &Versions, set: &[VersionNo]) -> bool
+fn is_met(spec: LentSpec<'_>, versions: &Versions<'_>, set: &[VersionNo]) -> bool
     ensures { result ≡ is_met (lent_spec spec.entry) (members versions.now set.now) }
 {
     any_matches(spec, versions, set)
 }
 
-fn holds(condition: &Cond, versions: &Versions, set: &[VersionNo]) -> bool
+fn holds(condition: &Cond, versions: &Versions<'_>, set: &[VersionNo]) -> bool
     ensures { result ≡ holds (cond_of condition.now) (members versions.now set.now) }
 {
     match condition {
@@ -91,7 +91,11 @@ fn holds(condition: &Cond, versions: &Versions, set: &[VersionNo]) -> bool
     }
 }
 
-fn condition_holds(condition: Option<&Box<Cond>>, versions: &Versions, set: &[VersionNo]) -> bool
+fn condition_holds(
+    condition: Option<&Box<Cond>>,
+    versions: &Versions<'_>,
+    set: &[VersionNo],
+) -> bool
     ensures { result
         ≡ condition_holds (condition_of (option_copied condition.entry))
         (members versions.now set.now) }
@@ -103,7 +107,7 @@ fn condition_holds(condition: Option<&Box<Cond>>, versions: &Versions, set: &[Ve
 }
 
 // split for the prover: list and set
-fn any_is_met(alternatives: &[Spec], versions: &Versions, set: &[VersionNo]) -> bool
+fn any_is_met(alternatives: &[Spec], versions: &Versions<'_>, set: &[VersionNo]) -> bool
     ensures { result
         ≡ list_any (λ s. is_met (spec_of s) (members versions.now set.now))
         alternatives.now }
@@ -113,7 +117,7 @@ fn any_is_met(alternatives: &[Spec], versions: &Versions, set: &[VersionNo]) -> 
         .any(|spec| is_met(lent(spec), versions, set))
 }
 
-fn is_met_by_one(alternatives: &[Spec], versions: &Versions, set: &[VersionNo]) -> bool
+fn is_met_by_one(alternatives: &[Spec], versions: &Versions<'_>, set: &[VersionNo]) -> bool
     ensures { result
         ≡ is_met_by_one (specs_of alternatives.now) (members versions.now set.now) }
 {
@@ -144,7 +148,7 @@ fn is_within(spec: LentSpec<'_>, version: (&str, u32)) -> bool
     version.0 != spec.name || fits(spec, version)
 }
 
-fn is_within_at(spec: LentSpec<'_>, versions: &Versions, number: VersionNo) -> bool
+fn is_within_at(spec: LentSpec<'_>, versions: &Versions<'_>, number: VersionNo) -> bool
     ensures { result
         ≡ option_map_or
         (λ v. not (bytes_eq v.name (lent_spec spec.entry).name) || matches (lent_spec spec.entry) v)
@@ -157,7 +161,7 @@ fn is_within_at(spec: LentSpec<'_>, versions: &Versions, number: VersionNo) -> b
 }
 
 // split for the prover: list and set
-fn all_are_within(spec: LentSpec<'_>, versions: &Versions, set: &[VersionNo]) -> bool
+fn all_are_within(spec: LentSpec<'_>, versions: &Versions<'_>, set: &[VersionNo]) -> bool
     ensures { result
         ≡ list_all
         (λ n.
@@ -171,7 +175,7 @@ fn all_are_within(spec: LentSpec<'_>, versions: &Versions, set: &[VersionNo]) ->
         .all(|number| is_within_at(spec, versions, *number))
 }
 
-fn are_within(spec: LentSpec<'_>, versions: &Versions, set: &[VersionNo]) -> bool
+fn are_within(spec: LentSpec<'_>, versions: &Versions<'_>, set: &[VersionNo]) -> bool
     ensures { result
         ≡ list_all
         (λ v. not (bytes_eq v.name (lent_spec spec.entry).name) || matches (lent_spec spec.entry) v)
@@ -190,7 +194,7 @@ fn keeps_lock(locked: (&str, u32), version: (&str, u32)) -> bool
     version.0 != locked.0 || version.1 == locked.1
 }
 
-fn keeps_lock_at(locked: (&str, u32), versions: &Versions, number: VersionNo) -> bool
+fn keeps_lock_at(locked: (&str, u32), versions: &Versions<'_>, number: VersionNo) -> bool
     ensures { result
         ≡ option_map_or
         (λ w.
@@ -205,7 +209,7 @@ fn keeps_lock_at(locked: (&str, u32), versions: &Versions, number: VersionNo) ->
 }
 
 // split for the prover: list and set
-fn all_keep_lock(locked: (&str, u32), versions: &Versions, set: &[VersionNo]) -> bool
+fn all_keep_lock(locked: (&str, u32), versions: &Versions<'_>, set: &[VersionNo]) -> bool
     ensures { result
         ≡ list_all
         (λ n.
@@ -220,7 +224,7 @@ fn all_keep_lock(locked: (&str, u32), versions: &Versions, set: &[VersionNo]) ->
         .all(|number| keeps_lock_at(locked, versions, *number))
 }
 
-fn obeys_lock(locked: VersionNo, versions: &Versions, set: &[VersionNo]) -> bool
+fn obeys_lock(locked: VersionNo, versions: &Versions<'_>, set: &[VersionNo]) -> bool
     ensures { (v : Version)
         → slice_get versions.now locked.0 ≡ Some v
         → result ≡ obeys None (Lock v) (members versions.now set.now) }
@@ -244,7 +248,7 @@ fn binds(owner: Option<VersionNo>, set: &[VersionNo]) -> bool
 }
 
 /// Whether the set obeys the rule. The numbers in the rule are those of listed versions.
-pub fn obeys(rule: &Rule, versions: &Versions, set: &[VersionNo]) -> bool
+pub fn obeys(rule: &Rule, versions: &Versions<'_>, set: &[VersionNo]) -> bool
     requires { AreDistinct versions.now }
     ensures { (owner : Option Version) (line : Line)
         → IsRuleLine versions.now rule.now owner line
@@ -270,7 +274,12 @@ pub fn obeys(rule: &Rule, versions: &Versions, set: &[VersionNo]) -> bool
 }
 
 /// Whether the condition of a number holds.
-fn holds_kept(condition: ConditionId, terms: &Terms, versions: &Versions, set: &[VersionNo]) -> bool
+fn holds_kept(
+    condition: ConditionId,
+    terms: &Terms,
+    versions: &Versions<'_>,
+    set: &[VersionNo],
+) -> bool
     ensures { result ≡ holds (cond_at terms.now condition) (members versions.now set.now) }
 {
     match terms.meaning(condition) {
@@ -287,7 +296,7 @@ fn holds_kept(condition: ConditionId, terms: &Terms, versions: &Versions, set: &
 fn condition_holds_kept(
     condition: Option<ConditionId>,
     terms: &Terms,
-    versions: &Versions,
+    versions: &Versions<'_>,
     set: &[VersionNo],
 ) -> bool
     ensures { result
@@ -304,7 +313,7 @@ fn condition_holds_kept(
 fn any_kept_is_met(
     specs: &[VersionSetId],
     terms: &Terms,
-    versions: &Versions,
+    versions: &Versions<'_>,
     set: &[VersionNo],
 ) -> bool
     ensures { result
@@ -319,7 +328,7 @@ fn any_kept_is_met(
 fn kept_is_met_by_one(
     requirement: Requirement,
     terms: &Terms,
-    versions: &Versions,
+    versions: &Versions<'_>,
     set: &[VersionNo],
 ) -> bool
     ensures { result
@@ -333,7 +342,7 @@ fn kept_is_met_by_one(
 
 /// Whether the set obeys the rule that is kept so. The numbers of versions in the rule are those of
 /// listed ones.
-pub fn obeys_kept(rule: KeptRule, terms: &Terms, versions: &Versions, set: &[VersionNo]) -> bool
+pub fn obeys_kept(rule: KeptRule, terms: &Terms, versions: &Versions<'_>, set: &[VersionNo]) -> bool
     requires { AreDistinct versions.now }
     ensures { (owner : Option Version)
         → IsKeptOf versions.now owner rule

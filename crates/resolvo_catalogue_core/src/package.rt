@@ -2,7 +2,7 @@
 //! Their model is the list of their numbers and that of the versions, `numbers_of` and `versions_of`.
 //! Used by `package_table`.
 
-ghost use Rattle.std.specs.Prelude.{◌≡◌, Some, IsTrue, IfOk, IfSome, OnOk, not, is_some, slice_index_or, true, false};
+ghost use Rattle.std.specs.Prelude.{◌≡◌, Some, IsTrue, IfOk, OnOk, not, is_some, true, false};
 ghost use Rattle.std.specs.Ordering.{nat_cmp};
 ghost use Rattle.std.specs.BTreeMap.Range.{range_contains, IsLeBy, IsLtBy};
 ghost use Rattle.std.specs.Range.Bound.{IsForward};
@@ -156,24 +156,20 @@ impl Package {
         }
     }
 
-    /// Adds a version, if the package has none of this number; returns the package's first version
-    /// then.
+    /// Adds a version, if the package has none of this number; says whether it did.
     pub fn add(
         &mut self,
         alloc: Global,
         number: u32,
         version: VersionNo,
-    ) -> Result<Option<VersionNo>, AllocError>
+    ) -> Result<bool, AllocError>
         requires { IsNumbered self.old }
         ensures new { IfOk result
-            (λ first.
-            is_some first
-            ≡ not (is_some (beside (numbers_of self.old) (versions_of self.old) number))) }
-        ensures first { IfOk result
-            (λ first. IfSome first (λ v. v ≡ slice_index_or (versions_of self.old) 0 version)) }
+            (λ added.
+            added ≡ not (is_some (beside (numbers_of self.old) (versions_of self.old) number))) }
         ensures put { IfOk result
-            (λ first.
-            IsTrue (is_some first)
+            (λ added.
+            IsTrue added
             → AddsNumber (Some self.old) number version self.new) }
     {
         match self {

@@ -1,9 +1,9 @@
 //! The packages of a catalogue, by the numbers of their names among its terms. So a name is hashed
 //! once, there, and no package keeps it. Used by `table`.
 
-ghost use Rattle.std.specs.Prelude.{◌≡◌, ℕ, ◌<◌, ◌≤◌, [], not, length, option_copied, is_some, IsTrue, IfOk, IfSome, OnOk, Some};
+ghost use Rattle.std.specs.Prelude.{◌≡◌, ℕ, ◌<◌, ◌≤◌, [], not, length, option_copied, is_some, IsTrue, IfOk, OnOk, Some};
 ghost use Rattle.resolvo_catalogue_core.specs.Numbered.{IsNumbered};
-ghost use Rattle.resolvo_catalogue_core.specs.Packages.{first_in, package_at};
+ghost use Rattle.resolvo_catalogue_core.specs.Packages.{package_at};
 ghost use Rattle.resolvo_catalogue_core.specs.Table.{AddsNumber, PutsVersion, number_in};
 ghost use Rattle.resolvo_catalogue_core.specs.declared.package.Package.{Package};
 
@@ -34,28 +34,27 @@ fn lengthen(places: &mut Vec<Option<Package>>, count: usize) -> Result<(), Alloc
     Ok(())
 }
 
-/// Adds a version to those of a package, if it isn't listed; returns the package's first version
-/// then. Where there is no package it makes one.
+/// Adds a version to those of a package, if it isn't listed; says whether it did. Where there is no
+/// package it makes one.
 #[tactic(auto, using(crate::proofs::NumberedLemmas::one_added))]
 fn add_to(
     place: &mut Option<Package>,
     alloc: Global,
     number: u32,
     version: VersionNo,
-) -> Result<Option<VersionNo>, AllocError>
+) -> Result<bool, AllocError>
     requires { (p : Package) → place.old ≡ Some p → IsNumbered p }
-    ensures new { IfOk result (λ first. is_some first ≡ not (is_some (number_in place.old number))) }
-    ensures first { IfOk result (λ first. IfSome first (λ v. v ≡ first_in place.old version)) }
+    ensures new { IfOk result (λ added. added ≡ not (is_some (number_in place.old number))) }
     ensures put { IfOk result
-        (λ first.
-        IsTrue (is_some first)
+        (λ added.
+        IsTrue added
         → (p : Package) × (place.new ≡ Some p) × AddsNumber place.old number version p) }
 {
     match place {
         Some(package) => package.add(alloc, number, version),
         None => {
             *place = Some(Package::One { number, version });
-            Ok(Some(version))
+            Ok(true)
         }
     }
 }
@@ -79,27 +78,22 @@ impl PackageTable {
         }
     }
 
-    /// Adds a version to those of the package of this number, if it isn't listed; returns the
-    /// package's first version then.
+    /// Adds a version to those of the package of this number, if it isn't listed; says whether it
+    /// did.
     pub fn add(
         &mut self,
         alloc: Global,
         name: NameId,
         number: u32,
         version: VersionNo,
-    ) -> Result<Option<VersionNo>, AllocError>
+    ) -> Result<bool, AllocError>
         requires { (p : Package) → package_at self.old.places.items name.raw ≡ Some p → IsNumbered p }
         ensures new { IfOk result
-            (λ first.
-            is_some first
-            ≡ not (is_some (number_in (package_at self.old.places.items name.raw) number))) }
-        ensures first { IfOk result
-            (λ first.
-            IfSome first
-            (λ v. v ≡ first_in (package_at self.old.places.items name.raw) version)) }
+            (λ added.
+            added ≡ not (is_some (number_in (package_at self.old.places.items name.raw) number))) }
         ensures put { IfOk result
-            (λ first.
-            IsTrue (is_some first)
+            (λ added.
+            IsTrue added
             → PutsVersion self.old.places.items name.raw number version self.new.places.items) }
         ensures few { (bound : ℕ)
             → length self.old.places.items ≤ bound

@@ -80,7 +80,7 @@ impl Request {
         ensures { result ≡ keeps_in_request self.now.lines line (members (listed catalogue.now) set.now) }
     {
         match self.rule(line) {
-            Some(rule) => obey::obeys(rule, catalogue.versions(), set),
+            Some(rule) => obey::obeys(rule, &catalogue.versions(), set),
             None => true,
         }
     }

@@ -11,7 +11,8 @@ ghost use Rattle.resolvo_text.specs.Line as parsed;
 ghost use Rattle.resolvo_text.specs.View.{version_of, spec_of, specs_of, list_of, condition_of, view};
 ghost use Rattle.resolvo_text.specs.declared.line.LineFault.TheVariants.{Fault};
 ghost use Rattle.resolvo_text.specs.Parse.{words_in, needs_in, spec_in};
-ghost use Rattle.resolvo_terms.specs.Terms.{IsNeed, IsPackage, IsSpec};
+ghost use Rattle.resolvo_terms.specs.Known.{name_text};
+ghost use Rattle.resolvo_terms.specs.Terms.{IsNeed, IsSpec};
 ghost use Rattle.resolvo_catalogue_core.specs.Grammar.{MayFollow, IsCatalogueLine, owner_below};
 ghost use Rattle.resolvo_catalogue_core.specs.Questions.{number_of, AreAll, IsOwner, IsOnly, LineIs, LocksAnother, Forbids};
 ghost use Rattle.resolvo_catalogue_core.specs.Listed.{version_by};
@@ -24,7 +25,7 @@ use crate::lines_by_version::LinesByVersion;
 use crate::package::Package;
 use crate::package_table::PackageTable;
 use crate::rule::VersionNo;
-use crate::versions::Versions;
+use crate::versions::{KeptVersion, Versions};
 use resolvo_pool_core::id::{NameId, VersionSetId};
 use resolvo_pool_core::requirement::ConditionalRequirement;
 use resolvo_terms::Terms;
@@ -38,7 +39,8 @@ use std::collections::{BTreeMap, BTreeSet};
 pub struct Table {
     /// What the rules speak of, by numbers.
     pub terms: Terms,
-    pub versions: Versions,
+    /// The listed versions in line order.
+    pub versions: Vec<KeptVersion>,
     pub line_kinds: LineTable,
     pub packages: PackageTable,
     /// The line that locks a version of the package.
@@ -90,7 +92,7 @@ impl Table {
         terms.ids_are_once();
         Ok(Table {
             terms,
-            versions: Versions::new(alloc),
+            versions: Vec::new(alloc),
             line_kinds: LineTable::new(alloc),
             packages: PackageTable::new(alloc),
             locks: BTreeMap::new(alloc),
@@ -101,6 +103,16 @@ impl Table {
             owned: LinesByVersion::new(alloc),
             favours: Vec::new(alloc),
         })
+    }
+
+    /// The listed versions, with their names.
+    pub fn versions(&self) -> Versions<'_>
+        ensures { result ≡ versions_in self.now }
+    {
+        Versions {
+            terms: &self.terms,
+            kept: &self.versions,
+        }
     }
 
     /// The package of a name, if a version of it is listed.
@@ -224,7 +236,7 @@ impl Table {
             × (slice_get (versions_in self.now) version.0 ≡ Some v)
             × Forbids (lines_in self.now) v n) }
     {
-        match self.versions.get(version) {
+        match self.versions().get(version) {
             Some(found) => self.forbidden_as(found.0, version),
             None => None,
         }
@@ -261,6 +273,13 @@ impl Table {
         ensures { result ≡ is_some (get_by_text self.now.many name.now) }
     {
         self.many.contains_key(name)
+    }
+
+    /// Whether versions of some package may be side by side.
+    pub fn marks_many(&self) -> bool
+        ensures { result ≡ false → (name : List ℕ) → get_by_text self.now.many name ≡ None }
+    {
+        !self.many.is_empty()
     }
 
     /// The version that a line below these belongs to.
@@ -300,32 +319,32 @@ impl Table {
         Ok(())
     }
 
-    /// Lists a version of the package of this number and name.
-    fn list_at(
-        &mut self,
-        alloc: Global,
-        id: NameId,
-        name: &str,
-        number: u32,
-    ) -> Result<(), LineFault>
+    /// Lists a version of the package of this number.
+    fn list_at(&mut self, alloc: Global, id: NameId, number: u32) -> Result<(), LineFault>
         requires table { IsTable self.old }
         requires short { length (lines_in self.old) < 16777216 }
-        requires named { IsPackage self.old.terms id name.now }
+        requires named { id.raw < length self.old.terms.names }
         // After an answer.
-        ensures ok { OnOk result (Adds self.old (parsed.Listed (version_by name.now number)) self.new) }
+        ensures ok { OnOk result
+            (Adds self.old (parsed.Listed (version_by (name_text self.old.terms id) number)) self.new) }
         ensures placed { OnOk result
-            (MayFollow (lines_in self.old) (parsed.Listed (version_by name.now number))) }
+            (MayFollow (lines_in self.old)
+            (parsed.Listed (version_by (name_text self.old.terms id) number))) }
         ensures terms { self.new.terms ≡ self.old.terms }
         ensures fault { result ≡ Err Fault
-            → MayFollow (lines_in self.old) (parsed.Listed (version_by name.now number))
+            → MayFollow (lines_in self.old)
+            (parsed.Listed (version_by (name_text self.old.terms id) number))
             → ⊥ }
     {
         let version = VersionNo(self.versions.len() as u32);
-        let Some(first) = self.packages.add(alloc, id, number, version)? else {
+        if !self.packages.add(alloc, id, number, version)? {
             return Err(LineFault::Fault);
-        };
+        }
         self.owned.add_version()?;
-        self.versions.push(alloc, first, name, number)?;
+        self.versions.push(KeptVersion {
+            package: id,
+            number,
+        })?;
         self.line_kinds.push(LineKind::Listed(version))?;
         Ok(())
     }
@@ -345,7 +364,7 @@ impl Table {
             return Err(LineFault::Memory);
         };
         self.terms.ids_are_once();
-        self.list_at(alloc, id, name, number)
+        self.list_at(alloc, id, number)
     }
 
     /// Adds a line of this need, whatever the number stands for.

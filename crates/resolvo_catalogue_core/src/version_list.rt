@@ -3,7 +3,7 @@
 //! map is made only when a version is added whose number is not above the last one. Used by
 //! `package`.
 
-ghost use Rattle.std.specs.Prelude.{◌≡◌, ℕ, [], ◌∷◌, None, Some, IsTrue, IfOk, IfSome, OnOk, length, not, is_some, slice_get, slice_index_or, true, false};
+ghost use Rattle.std.specs.Prelude.{◌≡◌, ℕ, [], ◌∷◌, None, Some, IsTrue, IfOk, OnOk, length, not, is_some, slice_get, true, false};
 ghost use Rattle.std.specs.BTreeMap.{get};
 ghost use Rattle.std.specs.Ordering.{nat_cmp};
 ghost use Rattle.resolvo_catalogue_core.specs.Numbered.{beside, AreRising, IsAbove, IsSought, AreNumbered};
@@ -86,30 +86,26 @@ impl VersionList {
         }
     }
 
-    /// Adds a version, if there is none of this number; returns the first version then.
-    pub fn add(&mut self, number: u32, version: VersionNo) -> Result<Option<VersionNo>, AllocError>
+    /// Adds a version, if there is none of this number; says whether it did.
+    pub fn add(&mut self, number: u32, version: VersionNo) -> Result<bool, AllocError>
         requires { AreNumbered self.old }
         ensures new { IfOk result
-            (λ first.
-            is_some first
-            ≡ not (is_some (beside self.old.numbers.items self.old.versions.items number))) }
-        ensures first { IfOk result
-            (λ first. IfSome first (λ v. v ≡ slice_index_or self.old.versions.items 0 version)) }
+            (λ added.
+            added ≡ not (is_some (beside self.old.numbers.items self.old.versions.items number))) }
         ensures put { IfOk result
-            (λ first.
-            IsTrue (is_some first)
+            (λ added.
+            IsTrue added
             → AddsNumber (Some (Several self.old)) number version (Several self.new)) }
     {
-        let first = first_of(&self.versions, version);
         if self.goes_on(number) {
             self.push(number, version)?;
-            return Ok(Some(first));
+            return Ok(true);
         }
         if self.find(number).is_some() {
-            return Ok(None);
+            return Ok(false);
         }
         self.map(number, version)?;
-        Ok(Some(first))
+        Ok(true)
     }
 
     /// Whether the numbers rise, and still rise with this one.
@@ -169,16 +165,6 @@ impl VersionList {
         self.numbers.push(number)?;
         self.versions.push(version)?;
         Ok(())
-    }
-}
-
-/// The first of the versions; this one where there is none.
-fn first_of(versions: &[VersionNo], version: VersionNo) -> VersionNo
-    ensures { result ≡ slice_index_or versions.now 0 version }
-{
-    match versions.first() {
-        Some(first) => *first,
-        None => version,
     }
 }
 

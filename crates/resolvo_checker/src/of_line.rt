@@ -55,7 +55,7 @@ fn is_same(version: &Version, listed: (&str, u32)) -> bool
 }
 
 /// Whether this number is that of the version.
-fn is_numbered(versions: &Versions, number: VersionNo, version: &Version) -> bool
+fn is_numbered(versions: &Versions<'_>, number: VersionNo, version: &Version) -> bool
     ensures { result ≡ is_owner (version_of version.now) (slice_get versions.now number.0) }
 {
     match versions.get(number) {
@@ -65,7 +65,7 @@ fn is_numbered(versions: &Versions, number: VersionNo, version: &Version) -> boo
 }
 
 /// Whether the rule is a `needs` or `limits` line of the version.
-fn is_owned(versions: &Versions, rule: &Rule, version: &Version) -> bool
+fn is_owned(versions: &Versions<'_>, rule: &Rule, version: &Version) -> bool
     ensures { result ≡ is_owned_by versions.now rule.now (version_of version.now) }
 {
     match rule {
@@ -83,7 +83,7 @@ fn is_owned(versions: &Versions, rule: &Rule, version: &Version) -> bool
 
 /// The need that a rule is, if it is one of the version.
 fn need_kept(
-    versions: &Versions,
+    versions: &Versions<'_>,
     rule: KeptRule,
     version: &Version,
 ) -> Option<ConditionalRequirement>
@@ -104,7 +104,7 @@ fn need_kept(
 /// The need of a line of the version in the catalogue, by numbers. No text is made of the line.
 pub fn need_of(
     kept: &KeptLines<'_>,
-    versions: &Versions,
+    versions: &Versions<'_>,
     version: &Version,
     line: u32,
 ) -> Option<ConditionalRequirement>
@@ -140,7 +140,7 @@ pub fn rule_owned(
 {
     match catalogue.rule(line)? {
         Some(rule) => {
-            if is_owned(catalogue.versions(), &rule, version) {
+            if is_owned(&catalogue.versions(), &rule, version) {
                 Ok(Some(rule))
             } else {
                 Ok(None)

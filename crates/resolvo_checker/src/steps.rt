@@ -55,7 +55,7 @@ fn is_locked_by(locked: (&str, u32), version: &Version) -> bool
 }
 
 /// Whether the lock of the version of this number excludes the version.
-fn is_locked_out(versions: &Versions, locked: VersionNo, version: &Version) -> bool
+fn is_locked_out(versions: &Versions<'_>, locked: VersionNo, version: &Version) -> bool
     ensures { result
         ≡ option_map_or (λ w. is_locked_out_lem w (version_of version.now))
         (slice_get versions.now locked.0) false }
@@ -287,7 +287,7 @@ fn lock_in(
     };
     match rule {
         Some(KeptRule::Lock { version: locked }) => {
-            if !is_locked_out(catalogue.versions(), locked, version) {
+            if !is_locked_out(&catalogue.versions(), locked, version) {
                 return Ok(None);
             }
             Ok(Some(absent(alloc, number)?))
@@ -640,7 +640,7 @@ fn has_kept_case(
         (line_of catalogue.now request (OfVersion (version_of version.now)) line))) }
 {
     let kept = catalogue.kept();
-    match need_of(&kept, catalogue.versions(), version, line) {
+    match need_of(&kept, &catalogue.versions(), version, line) {
         Some(need) => has_need_case(alloc, kept.terms(), need, case),
         None => Ok(false),
     }

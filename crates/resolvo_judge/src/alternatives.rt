@@ -184,7 +184,7 @@ impl Alternatives {
         version: &Version,
     ) -> Result<Option<usize>, AllocError> {
         let kept = catalogue.kept();
-        let Some(need) = need_of(&kept, catalogue.versions(), owner, line) else {
+        let Some(need) = need_of(&kept, &catalogue.versions(), owner, line) else {
             return Ok(None);
         };
         let Requirement::Union(union) = need.requirement else {

@@ -14,7 +14,7 @@ use resolvo_catalogue_core::{Catalogue, Request, Rule, VersionNo, Versions};
 use std::alloc::AllocError;
 
 /// Whether the version of this number is chosen.
-fn is_chosen(chosen: &Chosen, versions: &Versions, number: VersionNo) -> bool
+fn is_chosen(chosen: &Chosen, versions: &Versions<'_>, number: VersionNo) -> bool
     ensures { (set : Set) (v : spelled.Version)
         → Holds chosen.now set
         → slice_get versions.now number.0 ≡ Some v
@@ -27,7 +27,7 @@ fn is_chosen(chosen: &Chosen, versions: &Versions, number: VersionNo) -> bool
 }
 
 /// Whether a rule of this owner applies: the owner is chosen, or there is none.
-fn binds(chosen: &Chosen, versions: &Versions, owner: Option<VersionNo>) -> bool
+fn binds(chosen: &Chosen, versions: &Versions<'_>, owner: Option<VersionNo>) -> bool
     ensures { (set : Set) (whose : Option spelled.Version)
         → Holds chosen.now set
         → IsOwner versions.now owner whose
@@ -39,7 +39,7 @@ fn binds(chosen: &Chosen, versions: &Versions, owner: Option<VersionNo>) -> bool
     }
 }
 
-fn keeps_lock(chosen: &Chosen, versions: &Versions, locked: VersionNo) -> bool
+fn keeps_lock(chosen: &Chosen, versions: &Versions<'_>, locked: VersionNo) -> bool
     ensures { (set : Set) (v : spelled.Version)
         → Holds chosen.now set
         → slice_get versions.now locked.0 ≡ Some v
@@ -52,7 +52,7 @@ fn keeps_lock(chosen: &Chosen, versions: &Versions, locked: VersionNo) -> bool
 }
 
 /// Whether the chosen versions obey the rule. The numbers in the rule are those of listed versions.
-fn obeys(chosen: &Chosen, versions: &Versions, rule: &Rule) -> bool
+fn obeys(chosen: &Chosen, versions: &Versions<'_>, rule: &Rule) -> bool
     ensures { (set : Set) (owner : Option spelled.Version) (line : spelled.Line)
         → Holds chosen.now set
         → IsRuleLine versions.now rule.now owner line
@@ -86,7 +86,7 @@ fn is_idle(chosen: &Chosen, catalogue: &Catalogue, line: u32) -> bool
 {
     match catalogue.kept().rule(line) {
         Some(rule) => match rule.owner() {
-            Some(owner) => !is_chosen(chosen, catalogue.versions(), owner),
+            Some(owner) => !is_chosen(chosen, &catalogue.versions(), owner),
             None => false,
         },
         None => true,
@@ -103,7 +103,7 @@ fn keeps_line(chosen: &Chosen, catalogue: &Catalogue, line: u32) -> Result<bool,
         return Ok(true);
     }
     match catalogue.rule(line)? {
-        Some(rule) => Ok(obeys(chosen, catalogue.versions(), &rule)),
+        Some(rule) => Ok(obeys(chosen, &catalogue.versions(), &rule)),
         None => Ok(true),
     }
 }
@@ -113,7 +113,7 @@ fn keeps_request_line(chosen: &Chosen, catalogue: &Catalogue, request: &Request,
     ensures { (set : Set) → Holds chosen.now set → result ≡ keeps_in_request request.now.lines line set }
 {
     match request.rule(line) {
-        Some(rule) => obeys(chosen, catalogue.versions(), rule),
+        Some(rule) => obeys(chosen, &catalogue.versions(), rule),
         None => true,
     }
 }

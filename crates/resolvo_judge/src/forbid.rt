@@ -32,7 +32,7 @@ fn is_same(listed: (&str, u32), wish: &Version) -> bool
 /// Whether the version of this number is the wish, or an entry above its line.
 fn is_listed_among(
     chosen: &Chosen,
-    versions: &Versions,
+    versions: &Versions<'_>,
     version: VersionNo,
     forbidden: &Forbidden,
 ) -> bool
@@ -54,7 +54,12 @@ fn is_listed_among(
 }
 
 /// Whether the built literal is `not` of the wish, or of an entry above its line.
-fn built_forbids(chosen: &Chosen, versions: &Versions, built: &Built, forbidden: &Forbidden) -> bool
+fn built_forbids(
+    chosen: &Chosen,
+    versions: &Versions<'_>,
+    built: &Built,
+    forbidden: &Forbidden,
+) -> bool
     ensures { (set : Set)
         → Holds chosen.now set
         → result
@@ -107,7 +112,7 @@ fn literal_forbids(chosen: &Chosen, literal: &Literal, forbidden: &Forbidden) ->
 /// Whether each literal of a built clause is such a literal.
 fn all_built_forbid(
     chosen: &Chosen,
-    versions: &Versions,
+    versions: &Versions<'_>,
     clause: &[Built],
     forbidden: &Forbidden,
 ) -> bool
@@ -144,7 +149,7 @@ fn all_forbid(chosen: &Chosen, literals: &[Literal], forbidden: &Forbidden) -> b
 /// Whether the built clause forbids each of the wishes.
 fn rule_forbids(
     chosen: &Chosen,
-    versions: &Versions,
+    versions: &Versions<'_>,
     clause: &[Built],
     wishes: &[Forbidden],
 ) -> bool
@@ -194,7 +199,7 @@ fn rule_step_forbids(
         → fine ≡ list_all (clause_forbids set clause) (map forbidden_of wishes.now)) }
 {
     match clause_of(alloc, catalogue, request, step)? {
-        Some(clause) => Ok(rule_forbids(chosen, catalogue.versions(), &clause, wishes)),
+        Some(clause) => Ok(rule_forbids(chosen, &catalogue.versions(), &clause, wishes)),
         None => Ok(false),
     }
 }

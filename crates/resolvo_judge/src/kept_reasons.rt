@@ -142,7 +142,7 @@ pub fn gives_at(
         (version_of version.now)) }
 {
     let kept = catalogue.kept();
-    match need_of(&kept, catalogue.versions(), owner, line) {
+    match need_of(&kept, &catalogue.versions(), owner, line) {
         Some(need) => need_gives(chosen, kept.terms(), need, place, version),
         None => Ok(false),
     }

@@ -1,24 +1,34 @@
-use Rattle.std.proofs.Common.{◌≡◌, ◌∙◌, ℕ, true, false, map, length, sym, ap, subst}
-use Rattle.std.specs.Prelude.{slice_index_or, string_bytes}
-use Rattle.std.proofs.lemmas.List.{length-map}
+use Rattle.std.proofs.Common.{◌≡◌, ◌∷◌, [], ◌++◌, ◌∙◌, Bool, List, take, map, sym, ap}
+use Rattle.std.specs.Prelude.{slice_index_or}
+use Rattle.std.proofs.lemmas.List.{map_more, take_all}
 use Rattle.resolvo_text.specs.Line.{Version}
-use Rattle.resolvo_catalogue_core.specs.Listed.{are_kept}
+use Rattle.resolvo_terms.specs.Known.{name_id, name_text}
+use Rattle.resolvo_terms.specs.Terms.{Terms}
+use Rattle.resolvo_catalogue_core.specs.Listed.{listed, name_at}
 use Rattle.resolvo_catalogue_core.specs.Sets.{is_many}
-use Rattle.resolvo_catalogue_core.proofs.CatalogueFacts.{ok_map}
+use Rattle.resolvo_catalogue_core.specs.declared.versions.KeptVersion.{KeptVersion}
 use Rattle.resolvo_catalogue.proofs.ListLemmas.{flags_are}
 use Rattle.resolvo_catalogue.proofs.candidate_flags.many_of.Goals as goal
 
-pub flags_of-requires : goal.flags_of-requires
-flags_of-requires c =
-    let names = c.parts.result.0.now in
-    let count : length c.deref.result.now ≡ length names = ap length c.deref.ensures.value ∙ ap length c.in_ok-of_names.ensures.many ∙ length-map names (λ n. is_many c.args.catalogue.now (string_bytes n)) in
-    subst (λ (n : ℕ). are_kept n c.parts.result.1.now ≡ true) (sym count) c.parts.ensures.kept
+pub loop-version-preserved : goal.loop-version-preserved
+loop-version-preserved c =
+    let lines = c.args.catalogue.now in
+    let names = c.args.kept.now.terms.names in
+    let vs = c.versions-versions.result.now in
+    let i = c.loop-version.version-index in
+    let none : KeptVersion = record { «package» = name_id 0; number = 0 } in
+    let one : KeptVersion = slice_index_or vs i none in
+    let flag : c.is_many.result ≡ is_many lines (name_at names one.«package».raw) = c.is_many.ensures ∙ ap (λ (t : Terms). is_many lines (name_text t one.«package»)) c.terms-terms.ensures.terms in
+    c.in_ok-push.ensures.items
+    ∙ (ap (λ (flags : List Bool). flags ++ c.is_many.result ∷ []) c.loop-version.invariant
+    ∙ (ap (λ (b : Bool). map (λ (v : KeptVersion). is_many lines (name_at names v.«package».raw)) (take i vs) ++ b ∷ []) flag
+    ∙ sym (map_more (λ (v : KeptVersion). is_many lines (name_at names v.«package».raw)) vs i none c.loop-version-test.true)))
 
 pub returns-clause-many : goal.returns-clause-many
 returns-clause-many c =
     let lines = c.args.catalogue.now in
-    let names = c.parts.result.0.now in
-    let kept = c.parts.result.1.now in
-    let of_names = c.deref.ensures.value ∙ c.in_ok-of_names.ensures.many in
-    let whole = flags_are (λ name. is_many lines name) names kept c.parts.ensures.kept ∙ ap (map (λ (v : Version). is_many lines v.name)) (c.parts.ensures.versions ∙ c.versions.ensures.listed) in
-    ok_map c.flags_of.result c.flags_of.ensures.flags (λ flags is. is ∙ ap (λ xs. map (λ v. slice_index_or xs v.«package» false) kept) of_names ∙ whole)
+    let kept = c.args.kept.now in
+    let vs = c.versions-versions.result.now in
+    let all = rw (take_all c.loop-version.version-index vs c.loop-version-test.false) at c.loop-version.invariant in
+    all ∙ (flags_are (is_many lines) kept.terms.names vs
+    ∙ (ap (map (λ (v : Version). is_many lines v.name)) (c.versions-versions.ensures.versions ∙ ap listed c.requires)))

@@ -29,5 +29,5 @@ loop-number-preserved c =
 
 pub returns-in_default-clause-ids : goal.returns-in_default-clause-ids
 returns-in_default-clause-ids c = λ is.
-    let count : length (listed c.args.catalogue.now) ≡ length c.versions.result.now = ap length (sym c.versions.ensures.listed) in
+    let count : length (listed c.args.catalogue.now) ≡ length c.versions.result = ap length (sym c.versions.ensures.listed) in
     grind (arith, count)

@@ -4,7 +4,8 @@ use Rattle.std.proofs.lemmas.List.{length-map, length-take-le, map_more}
 use Rattle.resolvo_intern.specs.declared.pool.Solvable.{Solvable}
 use Rattle.resolvo_catalogue_core.specs.declared.versions.KeptVersion.{KeptVersion}
 use Rattle.resolvo_catalogue.specs.Ids.{Ids, solvable_by}
-use Rattle.resolvo_catalogue.proofs.ListLemmas.{solvables_more}
+use Rattle.resolvo_terms.specs.Known.{name_id}
+use Rattle.resolvo_catalogue.proofs.ListLemmas.{kept_within, solvables_more}
 use Rattle.resolvo_catalogue.proofs.versions.list_kept.Goals as goal
 
 pub loop-version-preserved : goal.loop-version-preserved
@@ -15,8 +16,8 @@ loop-version-preserved c =
     let a = c.loop-version.ids in
     let b = c.version.new.self in
     let kept = c.args.kept.now in
-    let by = solvable_by c.args.packages.now in
-    let none : KeptVersion = record { «package» = 0; number = 0 } in
+    let by = solvable_by in
+    let none : KeptVersion = record { «package» = name_id 0; number = 0 } in
     let s : Solvable ℕ = by (slice_index_or kept i none) in
     let before : a.solvables ≡ map by (take i kept) = ap (λ (ids : Ids). ids.solvables) inv.0 in
     let added : b ≡ record a { solvables = a.solvables ++ s ∷ [] } = c.in_ok-id.ensures.added in
@@ -29,3 +30,8 @@ loop-version-preserved c =
       omega (arith, count, c.in_ok-id.ensures.id, c.in_ok-id.ensures.few),
       omega (arith, c.loop-version-test.true),
     )
+
+pub add-requires : goal.add-requires
+add-requires c =
+    let none : KeptVersion = record { «package» = name_id 0; number = 0 } in
+    omega (arith, c.loop-version.invariant.2, kept_within (length c.args.lists.now.items) c.args.kept.now c.loop-version.version-index none c.requires.kept c.loop-version-test.true)

@@ -1,9 +1,8 @@
-use Rattle.std.proofs.Common.{◌≡◌, ◌∙◌, ◌+◌, ◌<◌, ℕ, Option, Some, length, not, is_some, sym, ap, subst, arith}
-use Rattle.std.specs.Prelude.{IfOk, IfSome}
+use Rattle.std.proofs.Common.{◌≡◌, ◌∙◌, ◌<◌, ℕ, Option, length, not, is_some, sym, ap, subst, arith}
+use Rattle.std.specs.Prelude.{IfOk}
 use Rattle.resolvo_terms.proofs.Places.{set_length}
-use Rattle.resolvo_catalogue_core.specs.Packages.{package_at, first_in}
+use Rattle.resolvo_catalogue_core.specs.Packages.{package_at}
 use Rattle.resolvo_catalogue_core.specs.Table.{number_in, AddsNumber}
-use Rattle.resolvo_catalogue_core.specs.declared.rule.VersionNo.{VersionNo}
 use Rattle.resolvo_catalogue_core.specs.declared.package.Package.{Package}
 use Rattle.resolvo_catalogue_core.proofs.CatalogueFacts.{ok_map}
 use Rattle.resolvo_catalogue_core.proofs.PackageLemmas.{puts, read_at}
@@ -25,15 +24,7 @@ returns-clause-new c =
     let at = c.to_index-at.result in
     let read = read_at mid at c.index_mut.result.now (omega (arith, c.in_ok-lengthen.ensures.long)) c.index_mut.ensures.value in
     let was : c.index_mut.result.now ≡ package_at c.args.self.now.places.items c.args.name.raw = read ∙ c.in_ok-lengthen.ensures.same at ∙ ap (λ (n : ℕ). package_at c.args.self.now.places.items n) c.to_index-at.ensures.index in
-    subst (λ (o : Option Package). IfOk c.add_to.result (λ first. is_some first ≡ not (is_some (number_in o c.args.number)))) was c.add_to.ensures.new
-
-pub returns-clause-first : goal.returns-clause-first
-returns-clause-first c =
-    let mid = c.lengthen.new.places.items in
-    let at = c.to_index-at.result in
-    let read = read_at mid at c.index_mut.result.now (omega (arith, c.in_ok-lengthen.ensures.long)) c.index_mut.ensures.value in
-    let was : c.index_mut.result.now ≡ package_at c.args.self.now.places.items c.args.name.raw = read ∙ c.in_ok-lengthen.ensures.same at ∙ ap (λ (n : ℕ). package_at c.args.self.now.places.items n) c.to_index-at.ensures.index in
-    subst (λ (o : Option Package). IfOk c.add_to.result (λ first. IfSome first (λ v. v ≡ first_in o c.args.version))) was c.add_to.ensures.first
+    subst (λ (o : Option Package). IfOk c.add_to.result (λ added. added ≡ not (is_some (number_in o c.args.number)))) was c.add_to.ensures.new
 
 pub returns-clause-put : goal.returns-clause-put
 returns-clause-put c =
@@ -43,7 +34,7 @@ returns-clause-put c =
     let within : at < length mid = omega (arith, c.in_ok-lengthen.ensures.long) in
     let was : c.index_mut.result.now ≡ package_at old at = read_at mid at c.index_mut.result.now within c.index_mut.ensures.value ∙ c.in_ok-lengthen.ensures.same at in
     rw (← c.to_index-at.ensures.index)
-    (ok_map c.add_to.result c.add_to.ensures.put (λ first added is.
+    (ok_map c.add_to.result c.add_to.ensures.put (λ new added is.
     let a = added is in
     puts old mid at c.args.number c.args.version c.add_to.new.place c.in_ok-lengthen.ensures.same within
     (a.0, a.1, subst (λ (o : Option Package). AddsNumber o c.args.number c.args.version a.0) was a.2)))
