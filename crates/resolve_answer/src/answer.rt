@@ -46,7 +46,7 @@ fn installed_over(
     alloc: Global,
     catalogue: &Catalogue,
     request: &Request,
-    provider: &CatalogueProvider,
+    provider: &CatalogueProvider<'_>,
     wishes: Vec<Wish>,
     found: Found<'_>,
     proof: Vec<ProofStep<NameId, SolvableId>>,
@@ -77,7 +77,7 @@ fn installed(
     alloc: Global,
     catalogue: &Catalogue,
     request: &Request,
-    solver: &mut Solver<CatalogueProvider>,
+    solver: &mut Solver<CatalogueProvider<'_>>,
     wishes: Vec<Wish>,
     chosen: &[SolvableId],
 ) -> R<Report>
@@ -110,7 +110,7 @@ fn refused(
     alloc: Global,
     catalogue: &Catalogue,
     request: &Request,
-    solver: &mut Solver<CatalogueProvider>,
+    solver: &mut Solver<CatalogueProvider<'_>>,
     conflict: &Conflict,
 ) -> Result<Report, Stop>
     requires { HoldsConflict solver.old conflict.now.clauses.items }
@@ -164,7 +164,7 @@ fn answered(
     alloc: Global,
     catalogue: &Catalogue,
     request: &Request,
-    solver: &mut Solver<CatalogueProvider>,
+    solver: &mut Solver<CatalogueProvider<'_>>,
     asked: RequestIds,
 ) -> Result<Report, Stop>
     ensures report { IfOk result
@@ -199,7 +199,7 @@ fn answered_by(
     alloc: Global,
     catalogue: &Catalogue,
     request: &Request,
-    provider: CatalogueProvider,
+    provider: CatalogueProvider<'_>,
     asked: RequestIds,
     release: Release,
 ) -> Result<Report, Stop>
@@ -207,14 +207,14 @@ fn answered_by(
         (λ r.
         AreRequestLines catalogue.now request.now.lines
         → AreWishesAt catalogue.now request.now
-        → IsOver catalogue.now provider
-        → AreAsked provider.ids request.now asked
+        → IsOver catalogue.now provider.entry
+        → AreAsked provider.entry.ids request.now asked
         → IsReportOf catalogue.now request.now.lines (report_of r)) }
-    ensures stop { IfErr result (IsStopOf (provider.has_budget ≡ true)
+    ensures stop { IfErr result (IsStopOf (provider.entry.has_budget ≡ true)
         (AreRequestLines catalogue.now request.now.lines
         → AreWishesAt catalogue.now request.now
-        → IsOver catalogue.now provider
-        → AreAsked provider.ids request.now asked
+        → IsOver catalogue.now provider.entry
+        → AreAsked provider.entry.ids request.now asked
         → HaveLongReport catalogue.now request.now.lines)) }
 {
     let mut solver = Solver::new(alloc, provider);
@@ -224,7 +224,11 @@ fn answered_by(
 }
 
 /// The provider of a catalogue, with a budget or without one.
-fn provider_of(alloc: Global, catalogue: &Catalogue, budget: Option<u64>) -> R<CatalogueProvider>
+fn provider_of(
+    alloc: Global,
+    catalogue: &Catalogue,
+    budget: Option<u64>,
+) -> R<CatalogueProvider<'_>>
     ensures over { IfOk result (λ p. IsOver catalogue.now p) }
     ensures budget { IfOk result (λ p. p.has_budget ≡ true → IsSome budget) }
 {

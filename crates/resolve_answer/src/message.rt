@@ -18,7 +18,7 @@ use std::alloc::Global;
 /// may have: then no memory is asked for its lines.
 pub(crate) fn message_of(
     alloc: Global,
-    solver: &Solver<CatalogueProvider>,
+    solver: &Solver<CatalogueProvider<'_>>,
     conflict: &Conflict,
 ) -> R<Option<Vec<Vec<u8>>>>
     requires { HoldsConflict solver.now conflict.now.clauses.items }

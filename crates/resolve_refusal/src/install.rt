@@ -28,7 +28,7 @@ pub fn install_steps(
     alloc: Global,
     catalogue: &Catalogue,
     request: &Request,
-    provider: &CatalogueProvider,
+    provider: &CatalogueProvider<'_>,
     steps: &[ProofStep<NameId, SolvableId>],
 ) -> R<Vec<Step>>
     ensures steps { IfOk result

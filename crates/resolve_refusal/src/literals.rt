@@ -23,7 +23,7 @@ use std::collections::BTreeMap;
 pub(crate) fn sorted_literals(
     alloc: Global,
     catalogue: &Catalogue,
-    provider: &CatalogueProvider,
+    provider: &CatalogueProvider<'_>,
     literals: &[ProofLiteral<NameId, SolvableId>],
 ) -> R<Vec<Literal>>
     ensures same { IfOk result
@@ -54,7 +54,7 @@ pub(crate) fn sorted_literals(
 fn atom_of(
     alloc: Global,
     catalogue: &Catalogue,
-    provider: &CatalogueProvider,
+    provider: &CatalogueProvider<'_>,
     atom: ProofAtom<NameId, SolvableId>,
 ) -> R<Atom>
     ensures atom { IfOk result (λ a. atom_of a ≡ atom_at catalogue.now provider.now.ids atom) }

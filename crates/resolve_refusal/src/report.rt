@@ -51,7 +51,7 @@ pub fn refusal_of(
     alloc: Global,
     catalogue: &Catalogue,
     request: &Request,
-    provider: &CatalogueProvider,
+    provider: &CatalogueProvider<'_>,
     steps: &[ProofStep<NameId, SolvableId>],
 ) -> R<Refusal>
     ensures refusal { IfOk result
@@ -91,7 +91,7 @@ pub fn refusal_of(
 pub(crate) fn write_steps(
     alloc: Global,
     texts: Texts,
-    provider: &CatalogueProvider,
+    provider: &CatalogueProvider<'_>,
     steps: &[ProofStep<NameId, SolvableId>],
 ) -> R<Vec<Step>>
     ensures names_rule { IfOk result

@@ -35,7 +35,7 @@ pub(crate) const MOST_STEPS: usize = 4_294_967_295;
 pub(crate) struct Writing<'a> {
     pub alloc: Global,
     pub texts: Texts<'a>,
-    pub provider: &'a CatalogueProvider,
+    pub provider: &'a CatalogueProvider<'a>,
 }
 
 impl Writing<'_> {

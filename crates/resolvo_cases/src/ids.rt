@@ -47,7 +47,7 @@ fn is_written<I: Interner>(alloc: Global, interner: &I, requirement: Requirement
 /// Whether a need with alternatives is written by them, and is these.
 fn are_alternatives(
     alloc: Global,
-    provider: &CatalogueProvider,
+    provider: &CatalogueProvider<'_>,
     requirement: Requirement,
 ) -> R<bool> {
     if !is_written(alloc, provider, requirement)? {
@@ -56,7 +56,7 @@ fn are_alternatives(
     Ok(are_three(provider.alternatives_of(requirement)?.as_slice()))
 }
 
-fn have_one_id(alloc: Global, provider: &CatalogueProvider, asked: &RequestIds) -> R<bool> {
+fn have_one_id(alloc: Global, provider: &CatalogueProvider<'_>, asked: &RequestIds) -> R<bool> {
     match asked.requirements.last() {
         Some(need) if has_one_id_each(asked) => {
             are_alternatives(alloc, provider, need.requirement)

@@ -165,7 +165,7 @@ fn wishes_of(alloc: Global, catalogue: &Catalogue, root: &RequestIds) -> R<Vec<S
 fn is_root_chosen<S: SolverUnderTest>(
     alloc: Global,
     solver: &S,
-    provider: CatalogueProvider,
+    provider: CatalogueProvider<'_>,
     asked: Asked<'_, SolvableId>,
     set: &mut Vec<VersionNo>,
 ) -> R<bool> {
@@ -183,7 +183,7 @@ fn is_asked_chosen<S: SolverUnderTest>(
     alloc: Global,
     solver: &S,
     catalogue: &Catalogue,
-    provider: CatalogueProvider,
+    provider: CatalogueProvider<'_>,
     root: &RequestIds,
     set: &mut Vec<VersionNo>,
 ) -> R<bool> {

@@ -49,7 +49,7 @@ pub fn request_in(alloc: Global, lines: &str, catalogue: &Catalogue) -> R<Reques
 fn answer_root<S: SolverUnderTest>(
     alloc: Global,
     solver: &S,
-    provider: CatalogueProvider,
+    provider: CatalogueProvider<'_>,
     passed: u32,
     root: &RequestIds,
     answer: &mut Answer,

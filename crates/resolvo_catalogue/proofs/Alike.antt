@@ -21,7 +21,8 @@ use Rattle.resolvo_intern.specs.Intern.{AreBelow}
 use Rattle.resolvo_pool_core.specs.Provider as pool
 use Rattle.resolvo_pool_core.specs.RuleKeeping.{IsLawful, is_in, is_match, is_outside, is_met, meets, holds, binds, binds_under}
 use Rattle.resolvo_pool_core.proofs.Conditions.{holds_by_cases}
-use Rattle.resolvo_catalogue.specs.Ids.{Ids, SolvableId, solvable_id, solvables_of, places_from, IsSolvable, AreVersions, AreSound, IsPackage, IsSpec, AreAlternatives, IsCondition, IsConditionOf, IsNeed}
+use Rattle.resolvo_catalogue_core.specs.Kept.{places_from}
+use Rattle.resolvo_catalogue.specs.Ids.{Ids, SolvableId, solvable_id, solvables_of, IsSolvable, AreVersions, AreSound, IsPackage, IsSpec, AreAlternatives, IsCondition, IsConditionOf, IsNeed}
 use Rattle.resolvo_terms.specs.Terms.{NameId, AreEach}
 use Rattle.resolvo_catalogue.specs.Known.{solvable_at, name_of, set_at, condition_at}
 use Rattle.resolvo_catalogue.specs.Laws.{operands_below, candidates_named}

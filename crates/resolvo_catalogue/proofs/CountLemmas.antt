@@ -1,8 +1,6 @@
 -- How many ids are given, against how many the lines need at most.
-use Rattle.std.proofs.Common.{◌≡◌, ◌+◌, ◌≤◌, ℕ, List, [], ◌∷◌, take, length, Option, Some, Result, Ok, Err, refl, sym, ap, subst, ◌∙◌, arith}
-use Rattle.std.specs.Prelude.{IsErrOf, option_to_list, sum_by}
-use Rattle.std.specs.Result.{IsErrAnd}
-use Rattle.resolvo_pool_core.specs.declared.want.Want.{Want}
+use Rattle.std.proofs.Common.{◌≡◌, ◌+◌, ◌≤◌, ℕ, List, [], ◌∷◌, take, length, Option, Some, refl, ap, subst, ◌∙◌, arith}
+use Rattle.std.specs.Prelude.{option_to_list, sum_by}
 use Rattle.std.proofs.lemmas.List.Sums.{sum_by-append, sum_by-cons, sum_by-take-le, sum_by_push}
 use Rattle.resolvo_text.specs.Line.{Version, Line, Skipped, Listed, Needs, Limits, Unknown, Lock, Favour, Exclude, Many, Wish}
 use Rattle.resolvo_catalogue_core.specs.Grammar.{line_at}
@@ -10,9 +8,8 @@ use Rattle.resolvo_catalogue_core.specs.Listed.{listed}
 use Rattle.resolvo_catalogue_core.specs.Questions.{IsRuleLine}
 use Rattle.resolvo_catalogue_core.specs.declared.rule.Rule.{Rule}
 use Rattle.resolvo_catalogue_core.specs.declared.rule.Rule.TheVariants as rule
-use Rattle.resolvo_intern.specs.declared.pool.Solvable.{Solvable}
-use Rattle.resolvo_terms.specs.Terms.{Terms}
-use Rattle.resolvo_catalogue.specs.Ids.{Ids, AreVersions, LacksNumber, terms_of}
+use Rattle.resolvo_catalogue_core.specs.Kept.{KeptLines, AreKept}
+use Rattle.resolvo_catalogue.specs.Ids.{Ids, AreVersions, IsSolvable, terms_of}
 use Rattle.resolvo_catalogue.specs.IdCounts.{id_count, ids_for_line, dependency_ids}
 use Rattle.resolvo_terms.specs.TermCounts.{term_count, ids_for_dependency, terms_for_line}
 use Rattle.resolvo_catalogue.proofs.DependencyLemmas.{text_next, text_step}
@@ -62,20 +59,9 @@ both_parts (line ∷ lines) = omega (arith, both_parts lines, first line, sum_by
 
 -- ---- versions
 
--- there are as many solvables as versions, so no number is left
-pub too_many : (ids : Ids) (versions : List Version) → AreVersions ids versions → 4294967295 ≤ length versions → LacksNumber ids
-too_many ids versions are many = LacksNumber.solvables (let e : length ids.solvables ≡ length versions = each_length _ ids.solvables versions are in omega (arith, e, many))
-
--- Over a table of terms, which are no more than the lines need, only versions are given ids.
-pub count_over : (ids new : Ids) (terms : Terms) (kept lines : List Line) → terms_of ids ≡ terms → ids.solvables ≡ [] → kept ≡ lines → term_count terms ≤ sum_by terms_for_line kept
-    → id_count new ≤ id_count ids + length (listed lines) → id_count new ≤ sum_by ids_for_line lines
-count_over ids new terms kept lines over none same few more =
-    let count : term_count (terms_of ids) ≡ term_count terms = ap term_count over in
-    let no : length ids.solvables ≡ 0 = ap (λ (ss : List (Solvable ℕ)). length ss) none in
-    let within : term_count terms ≤ sum_by terms_for_line lines = subst (λ (ls : List Line). term_count terms ≤ sum_by terms_for_line ls) same few in
-    omega (arith, count, no, within, more, both_parts lines)
-
--- the fault of a call, where it is that of the caller
-pub same_fault : {T U : Type 0} (r : Result U Want) (w fault : Want) → IsErrAnd r (λ f. f ≡ w) → IsErrOf r fault → IsErrOf {T = T} (Err w) fault
-same_fault (Ok x) w fault h is = absurd h
-same_fault (Err f) w fault h is = let same : f ≡ fault = cc in ap (λ (x : Want). Err x) (sym h ∙ same)
+-- the terms and the versions of a catalogue, which are no more than its lines need
+pub count_over : (ids : Ids) (k : KeptLines) (lines : List Line) → AreKept k → terms_of ids ≡ k.terms → AreVersions ids (listed k.lines) → k.lines ≡ lines → id_count ids ≤ sum_by ids_for_line lines
+count_over ids k lines kept same are is =
+    let count : term_count (terms_of ids) ≡ term_count k.terms = ap term_count same in
+    let versions : length ids.solvables ≡ length (listed k.lines) = each_length (IsSolvable ids) ids.solvables (listed k.lines) are in
+    subst (λ (ls : List Line). id_count ids ≤ sum_by ids_for_line ls) is (omega (arith, count, versions, kept.few, both_parts k.lines))

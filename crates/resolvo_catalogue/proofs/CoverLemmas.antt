@@ -1,9 +1,8 @@
 -- A provider covers its catalogue: the dependencies of each version, and the values of ids.
-use Rattle.std.proofs.Common.{◌≡◌, inl, inr, ℕ, List, [], ◌∷◌, ◌++◌, map, length, Some, refl, sym, ap, subst, ◌∙◌}
+use Rattle.std.proofs.Common.{◌≡◌, ℕ, List, [], ◌∷◌, map, Some, refl, ap, ◌∙◌}
 use Rattle.std.specs.Prelude.{slice_get}
 use Rattle.std.proofs.lemmas.Option.{get_or_from_slice_get}
 use Rattle.resolvo_text.specs.Line.{Spec, Line}
-use Rattle.resolvo_terms.proofs.Places.{get_push}
 use Rattle.resolvo_pool_core.specs.declared.id.VersionSetId.{VersionSetId}
 use Rattle.resolvo_pool_core.specs.declared.requirement.Requirement.{Requirement}
 use Rattle.resolvo_pool_core.specs.declared.requirement.Requirement.TheVariants.{Single, Union}
@@ -39,9 +38,3 @@ deps_at_stay a b grows lines k t h = (h.0, h.1, deps_of_stay a b grows _ t h.2)
 
 pub deps_stay : (a b : Ids) → Grows a b → (lines : List Line) (deps : List VersionDependencies) → ((k : ℕ) (t : VersionDependencies) → slice_get deps k ≡ Some t → AreDependenciesAt a lines k t) → (k : ℕ) (t : VersionDependencies) → slice_get deps k ≡ Some t → AreDependenciesAt b lines k t
 deps_stay a b grows lines deps h k t e = deps_at_stay a b grows lines k t (h k t e)
-
-pub deps_push : (ids : Ids) (lines : List Line) (deps : List VersionDependencies) (x : VersionDependencies) → ((k : ℕ) (t : VersionDependencies) → slice_get deps k ≡ Some t → AreDependenciesAt ids lines k t) → AreDependenciesAt ids lines (length deps) x → (k : ℕ) (t : VersionDependencies) → slice_get (deps ++ x ∷ []) k ≡ Some t → AreDependenciesAt ids lines k t
-deps_push ids lines deps x h new k t e = elim (get_push deps x t k e) [
-  | inl old ↦ h k t old
-  | inr last ↦ subst (λ (y : VersionDependencies). AreDependenciesAt ids lines k y) last.1 (subst (λ (n : ℕ). AreDependenciesAt ids lines n x) (sym last.0) new)
-]

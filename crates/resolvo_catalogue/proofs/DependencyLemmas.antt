@@ -1,10 +1,10 @@
 -- The dependencies of lines, line by line.
-use Rattle.std.proofs.Common.{◌≡◌, ℕ, zero, suc, ◌<◌, ◌+◌, false, List, [], ◌∷◌, ◌++◌, take, length, get_or, Option, Some, None, refl, ap, subst, ◌∙◌, arith}
+use Rattle.std.proofs.Common.{◌≡◌, ℕ, zero, suc, ◌+◌, false, List, [], ◌∷◌, ◌++◌, take, Option, Some, None, refl, ap, subst, ◌∙◌, arith}
 use Rattle.std.specs.Prelude.{option_to_list, slice_get}
 use Rattle.std.specs.List.{flat_map}
 use Rattle.std.proofs.lemmas.Grind.{flat_map-append}
 use Rattle.std.proofs.lemmas.List.Concat.{flat_map-cons}
-use Rattle.std.proofs.lemmas.List.{append-nil, take_more}
+use Rattle.std.proofs.lemmas.List.{append-nil}
 use Rattle.std.proofs.lemmas.List.Elements.{Contains-push}
 use Rattle.resolvo_text.specs.Line.{Spec, Cond, Line, Skipped, Listed, Needs, Limits, Unknown, Lock, Favour, Exclude, Many, Wish}
 use Rattle.resolvo_catalogue_core.specs.Grammar.{line_at}
@@ -13,7 +13,7 @@ use Rattle.resolvo_pool_core.specs.declared.id.StringId.{StringId}
 use Rattle.resolvo_pool_core.specs.declared.id.VersionSetId.{VersionSetId}
 use Rattle.resolvo_pool_core.specs.declared.requirement.ConditionalRequirement.{ConditionalRequirement}
 use Rattle.resolvo_catalogue.specs.Ids.{Ids, IsSpec, IsNeed, IsWord, Grows}
-use Rattle.resolvo_catalogue.specs.Dependencies.{VersionDependencies, AreDependenciesOf, IsReason, need_in, limit_in, reason_in, lines_at}
+use Rattle.resolvo_catalogue.specs.Dependencies.{VersionDependencies, AreDependenciesOf, IsReason, need_in, limit_in, reason_in}
 use Rattle.resolvo_catalogue.proofs.GrowLemmas.{needs_stay, specs_stay}
 use Rattle.resolvo_terms.proofs.GrowLemmas.{each_more}
 
@@ -73,15 +73,6 @@ module _ (ids : Ids) (ls : List Line) (deps : VersionDependencies) (h : AreDepen
   deps_no_rule (Unknown r) e = absurd cc
   deps_no_rule (Lock v) e = absurd cc
   deps_no_rule (Exclude v r) e = absurd cc
-
--- the lines of one number more
-pub lines_next : (lines : List Line) (numbers : List ℕ) (i d : ℕ) → i < length numbers → lines_at lines (take (i + 1) numbers) ≡ lines_at lines (take i numbers) ++ option_to_list (line_at lines (get_or numbers i d))
-lines_next lines numbers i d within =
-    ap (λ (ns : List ℕ). lines_at lines ns) (take_more numbers i d within)
-    ∙ last_piece (λ (m : ℕ). option_to_list (line_at lines m)) (take i numbers) (get_or numbers i d)
-
-pub lines_step : (lines : List Line) (numbers : List ℕ) (i d : ℕ) (l : Line) → i < length numbers → line_at lines (get_or numbers i d) ≡ Some l → lines_at lines (take (i + 1) numbers) ≡ lines_at lines (take i numbers) ++ l ∷ []
-lines_step lines numbers i d l within at = lines_next lines numbers i d within ∙ ap (λ o. lines_at lines (take i numbers) ++ option_to_list o) at
 
 text_suc : (lines : List Line) (i : ℕ) → take (suc i) lines ≡ take i lines ++ option_to_list (slice_get lines i)
 text_suc [] zero = refl

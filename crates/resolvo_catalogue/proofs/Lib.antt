@@ -1,6 +1,5 @@
 pub mod GrowLemmas
 pub mod DependencyLemmas
-pub mod Places
 pub mod ListLemmas
 pub mod MarkLemmas
 pub mod CoverLemmas

@@ -1,5 +1,5 @@
 -- The marks of versions, line by line.
-use Rattle.std.proofs.Common.{◌≡◌, inl, inr, ℕ, suc, ◌<◌, ◌≤◌, ◌==◌, true, false, List, [], ◌∷◌, ◌++◌, ◌+◌, take, get_or, length, Option, Some, None, refl, sym, ap, subst, ◌∙◌, arith}
+use Rattle.std.proofs.Common.{◌≡◌, inl, inr, ℕ, zero, suc, ◌<◌, ◌≤◌, ◌==◌, true, false, List, [], ◌∷◌, ◌++◌, ◌+◌, take, get_or, length, Option, Some, None, refl, sym, ap, subst, ◌∙◌, arith}
 use Rattle.std.specs.Prelude.{Contains, slice_get, option_to_list, map}
 use Rattle.std.specs.List.{slice_set, flat_map}
 use Rattle.std.proofs.lemmas.Bool.{cases_Bool, false≢true}
@@ -14,7 +14,7 @@ use Rattle.resolvo_text.specs.Line.{Version, Spec, Cond, Line, Needs, Limits, Un
 use Rattle.resolvo_catalogue_core.specs.Listed.{AreDistinct}
 use Rattle.resolvo_pool_core.specs.declared.id.StringId.{StringId}
 use Rattle.resolvo_catalogue.specs.Ids.{Ids, IsWord, Grows}
-use Rattle.resolvo_catalogue.specs.Marked.{IsExclusion, IsMarked, AreMarked}
+use Rattle.resolvo_catalogue.specs.Marked.{IsExclusion, IsMarked, AreMarked, HaveNoMarks}
 use Rattle.resolvo_catalogue.specs.declared.candidate_flags.CandidateFlags.{CandidateFlags}
 use Rattle.resolvo_terms.proofs.Places.{set_at, set_others, set_length, no_element, first_element, later_element, element_cases, at_from_contains}
 use Rattle.std.proofs.lemmas.List.Concat.{flat_map-cons}
@@ -215,3 +215,28 @@ unmarked_each ids versions marks long none = record {
     excluded = λ word has. no_element _ has;
   });
 }
+
+-- where no line marks a version, the marks of some lines are those of all
+contained : (n : ℕ) (lines : List Line) (l : Line) → Contains (take n lines) l → Contains lines l
+contained zero lines l h = absurd (no_element l h)
+contained (suc n) [] l h = h
+contained (suc n) (m ∷ lines) l h = elim (element_cases m (take n lines) l h) [
+  | inl same ↦ subst (λ (x : Line). Contains (m ∷ lines) x) same (first_element m lines)
+  | inr more ↦ later_element m lines l (contained n lines l more)
+]
+
+pub marked_by_none : (ids : Ids) (n : ℕ) (lines favours : List Line) (versions : List Version) (marks : List CandidateFlags) → HaveNoMarks lines versions → AreMarked ids (take n lines) favours versions marks → AreMarked ids lines favours versions marks
+marked_by_none ids n lines favours versions marks none h = record {
+  as_many = h.as_many;
+  each = λ k m v e f.
+      let own = h.each k m v e f in
+      let unmarked = none k v f in record {
+        locked = (λ is. absurd (unmarked.0 (contained n lines (Lock v) (own.locked.0 is))), λ has. absurd (unmarked.0 has));
+        favored = own.favored;
+        excluded = go v m.excluded unmarked.1 own.excluded;
+      };
+}
+  where
+    go : (v : Version) (o : Option StringId) → ((word : List ℕ) → Contains lines (Exclude v word) → ⊥) → IsExclusion ids (take n lines) v o → IsExclusion ids lines v o
+    go v None unmarked h = λ word has. unmarked word has
+    go v (Some w) unmarked h = absurd (unmarked h.0 (contained n lines (Exclude v h.0) h.1))

@@ -1,61 +1,74 @@
--- Lists that are kept one after the other: one more at the end changes none.
-use Rattle.std.proofs.Common.{◌≡◌, inl, inr, ◌+◌, ◌-◌, ◌≤◌, ℕ, suc, List, [], ◌∷◌, ◌++◌, length, take, drop, refl, ap, subst, ◌∙◌, arith}
-use Rattle.std.proofs.lemmas.List.{drop-append-le, take-append-le, length-append, length-drop, map-append, take_all}
-use Rattle.resolvo_pool_core.specs.declared.id.VersionSetId.{VersionSetId}
-use Rattle.resolvo_pool_core.specs.declared.requirement.ConditionalRequirement.{ConditionalRequirement}
-use Rattle.resolvo_terms.proofs.Places.{get_push}
-use Rattle.resolvo_catalogue.specs.declared.dependency_table.Place.{Place}
-use Rattle.resolvo_catalogue.specs.declared.dependency_table.Entry.{Entry}
-use Rattle.resolvo_catalogue.specs.Dependencies.{VersionDependencies}
-use Rattle.resolvo_catalogue.specs.Tabled.{AreEntries, deps_at_entry, deps_by, part}
+-- The dependencies of versions, by the rules of their lines, are those of the lines.
+use Rattle.std.proofs.Common.{◌≡◌, ◌∙◌, ℕ, zero, suc, List, [], ◌∷◌, ◌++◌, map, Option, Some, None, option_map, refl, sym, ap, subst, append_assoc}
+use Rattle.std.specs.Prelude.{slice_get, slice_index_or, option_to_list}
+use Rattle.std.proofs.lemmas.List.{append-nil, length-map}
+use Rattle.std.proofs.lemmas.List.Concat.{flat_map-cons}
+use Rattle.std.proofs.lemmas.Option.{get_or_from_slice_get, same_Some, slice_get-map}
+use Rattle.resolvo_text.specs.Line.{Version, Line, Lock, Exclude}
+use Rattle.resolvo_terms.specs.Known.{word_text}
+use Rattle.resolvo_terms.specs.Terms.{Terms}
+use Rattle.resolvo_catalogue_core.specs.Grammar.{line_at, owner_of}
+use Rattle.resolvo_catalogue_core.specs.Kept.{KeptLines, AreKept, IsKeptLine, rule_at, nth}
+use Rattle.resolvo_catalogue_core.specs.LinesByVersion.{kept_of}
+use Rattle.resolvo_catalogue_core.specs.Listed.{listed}
+use Rattle.resolvo_catalogue_core.specs.declared.kept_rule.KeptRule.{KeptRule}
+use Rattle.resolvo_catalogue_core.specs.declared.kept_rule.KeptRule.TheVariants as kept
+use Rattle.resolvo_catalogue.specs.Ids.{Ids, terms_of}
+use Rattle.resolvo_catalogue.specs.Dependencies.{VersionDependencies, AreDependenciesOf, lines_at, no_lines}
+use Rattle.resolvo_catalogue.specs.Over.{AreDependencies, AreDependenciesAt}
+use Rattle.resolvo_catalogue.specs.Tabled.{deps_by, deps_from, deps_in, with_rule}
+use Rattle.resolvo_catalogue.proofs.DependencyLemmas.{deps_need, deps_limit, deps_unknown, deps_other, deps_none}
 
-part_stays : {X : Type 0} (xs ys : List X) (p : Place) → p.begin ≤ p.end → p.end ≤ length xs → part (xs ++ ys) p ≡ part xs p
-part_stays {X} xs ys p first last =
-    ap (λ (zs : List X). take (p.end - p.begin) zs) (drop-append-le p.begin xs ys (omega (arith, first, last)))
-    ∙ take-append-le (p.end - p.begin) (drop p.begin xs) ys (omega (arith, first, last, length-drop p.begin xs))
+-- a line more, with its rule
+with_kept : (ids : Ids) (versions : List Version) (r : KeptRule) (owner : Option Version) (line : Line) (lines : List Line) (deps : VersionDependencies) → IsKeptLine (terms_of ids) versions r owner line → AreDependenciesOf ids lines deps
+    → AreDependenciesOf ids (lines ++ line ∷ []) (with_rule deps (Some r))
+with_kept ids versions (kept.Needs of need) owner line lines deps k h = deps_need ids lines deps h line _ _ need _ (sym k.is) k.given refl
+with_kept ids versions (kept.Limits of v) owner line lines deps k h = deps_limit ids lines deps h line _ v _ (sym k.is) k.given refl
+with_kept ids versions (kept.Unknown of w) owner line lines deps k h = deps_unknown ids lines deps h line _ w (sym k.is) k.given
+with_kept ids versions (kept.Lock locked) owner line lines deps k h = subst (λ (l : Line). AreDependenciesOf ids (lines ++ l ∷ []) deps) k.is (deps_other ids lines deps h (Lock (nth versions locked)) refl refl refl)
+with_kept ids versions (kept.Exclude excluded w) owner line lines deps k h = subst (λ (l : Line). AreDependenciesOf ids (lines ++ l ∷ []) deps) k.is (deps_other ids lines deps h (Exclude (nth versions excluded) (word_text (terms_of ids) w)) refl refl refl)
 
-drop_own : {X : Type 0} (xs ys : List X) → drop (length xs) (xs ++ ys) ≡ ys
-drop_own [] ys = refl
-drop_own (x ∷ xs) ys = drop_own xs ys
+-- the dependencies at a place
+pub deps_at_place : (k : KeptLines) (n : ℕ) → slice_index_or (deps_in k) n no_lines ≡ deps_by k.rules (kept_of k.owned n)
+deps_at_place k n = go k.owned n
+  where
+    go : (lists : List (List ℕ)) (n : ℕ) → slice_index_or (map (deps_by k.rules) lists) n no_lines ≡ deps_by k.rules (slice_index_or lists n [])
+    go [] n = refl
+    go (ns ∷ lists) zero = refl
+    go (ns ∷ lists) (suc n) = go lists n
 
-part_new : {X : Type 0} (xs ys : List X) (p : Place) → p.begin ≡ length xs → p.end ≡ length (xs ++ ys) → part (xs ++ ys) p ≡ ys
-part_new {X} xs ys p first last =
-    ap (λ n. take (p.end - p.begin) (drop n (xs ++ ys))) first
-    ∙ ap (λ (zs : List X). take (p.end - p.begin) zs) (drop_own xs ys)
-    ∙ take_all (p.end - p.begin) ys (omega (arith, first, last, length-append xs ys))
+module _ (ids : Ids) (k : KeptLines) (are : AreKept k) (same : terms_of ids ≡ k.terms) where
+  one_more : (n : ℕ) (lines : List Line) (deps : VersionDependencies) → AreDependenciesOf ids lines deps → AreDependenciesOf ids (lines ++ option_to_list (line_at k.lines n)) (with_rule deps (rule_at k.rules n))
+  one_more n lines deps h = by (rule_at k.rules n) refl
+    where
+      by : (o : Option KeptRule) → rule_at k.rules n ≡ o → AreDependenciesOf ids (lines ++ option_to_list (line_at k.lines n)) (with_rule deps o)
+      by None is = deps_none ids deps k.lines lines n h (are.none n is)
+      by (Some r) is =
+          let l = are.rules n r is in
+          let rule = subst (λ (u : Terms). IsKeptLine u (listed k.lines) r (owner_of k.lines n) l.0) (sym same) l.2 in
+          subst (λ (o : Option Line). AreDependenciesOf ids (lines ++ option_to_list o) (with_rule deps (Some r))) (sym l.1) (with_kept ids (listed k.lines) r (owner_of k.lines n) l.0 lines deps rule h)
 
-module _ (rs rs' : List ConditionalRequirement) (cs cs' : List VersionSetId) where
-  stay : (entries : List Entry) → AreEntries (length rs) (length cs) entries → deps_by (rs ++ rs') (cs ++ cs') entries ≡ deps_by rs cs entries
-  stay [] h = refl
-  stay (e ∷ entries) h =
-      let needs = h.needs 0 e refl in
-      let limits = h.limits 0 e refl in
-      rw (part_stays rs rs' e.requirements needs.0 needs.1, part_stays cs cs' e.constrains limits.0 limits.1)
-      (ap (λ (ds : List VersionDependencies). deps_at_entry rs cs e ∷ ds) (stay entries (record { needs = λ k d at. h.needs (suc k) d at; limits = λ k d at. h.limits (suc k) d at })))
+  along : (numbers : List ℕ) (lines : List Line) (deps : VersionDependencies) → AreDependenciesOf ids lines deps → AreDependenciesOf ids (lines ++ lines_at k.lines numbers) (deps_from k.rules deps numbers)
+  along [] lines deps h = rw (append-nil lines) h
+  along (n ∷ numbers) lines deps h =
+      let more = option_to_list (line_at k.lines n) in
+      let next = with_rule deps (rule_at k.rules n) in
+      let parts : (lines ++ more) ++ lines_at k.lines numbers ≡ lines ++ lines_at k.lines (n ∷ numbers)
+      = append_assoc lines more (lines_at k.lines numbers) ∙ ap (λ (ls : List Line). lines ++ ls) (sym (flat_map-cons (λ (m : ℕ). option_to_list (line_at k.lines m)) n numbers)) in
+      subst (λ (ls : List Line). AreDependenciesOf ids ls (deps_from k.rules next numbers)) parts (along numbers (lines ++ more) next (one_more n lines deps h))
 
-  -- one entry more
-  pub table_push : (entries : List Entry) (e : Entry) → AreEntries (length rs) (length cs) entries → e.requirements.begin ≡ length rs → e.requirements.end ≡ length (rs ++ rs')
-      → e.constrains.begin ≡ length cs → e.constrains.end ≡ length (cs ++ cs') → deps_by (rs ++ rs') (cs ++ cs') (entries ++ e ∷ []) ≡ deps_by rs cs entries ++ record { requirements = rs'; constrains = cs'; unknown = e.unknown } ∷ []
-  table_push entries e h a b c d =
-      map-append (deps_at_entry (rs ++ rs') (cs ++ cs')) entries (e ∷ [])
-      ∙ rw (stay entries h, part_new rs rs' e.requirements a b, part_new cs cs' e.constrains c d) refl
+  none : AreDependenciesOf ids [] no_lines
+  none = record { requirements = tt; constrains = tt; unknown = refl }
 
--- the lists may be longer
-pub entries_stay : (n m n' m' : ℕ) (entries : List Entry) → AreEntries n m entries → n ≤ n' → m ≤ m' → AreEntries n' m' entries
-entries_stay n m n' m' entries h more also = record {
-  needs = λ k e at. let w = h.needs k e at in (w.0, omega (arith, w.1, more));
-  limits = λ k e at. let w = h.limits k e at in (w.0, omega (arith, w.1, also));
-}
-
-pub entries_push : (n m : ℕ) (entries : List Entry) (e : Entry) → AreEntries n m entries → e.requirements.begin ≤ e.requirements.end → e.requirements.end ≤ n → e.constrains.begin ≤ e.constrains.end → e.constrains.end ≤ m
-    → AreEntries n m (entries ++ e ∷ [])
-entries_push n m entries e h a b c d = record {
-  needs = λ k x at. elim (get_push entries e x k at) [
-    | inl old ↦ h.needs k x old
-    | inr new ↦ subst (λ (y : Entry). (y.requirements.begin ≤ y.requirements.end) × (y.requirements.end ≤ n)) new.1 (a, b)
-  ];
-  limits = λ k x at. elim (get_push entries e x k at) [
-    | inl old ↦ h.limits k x old
-    | inr new ↦ subst (λ (y : Entry). (y.constrains.begin ≤ y.constrains.end) × (y.constrains.end ≤ m)) new.1 (c, d)
-  ];
-}
+  pub deps_are : AreDependencies ids k.lines (deps_in k)
+  deps_are = record {
+    as_many = length-map k.owned (deps_by k.rules) ∙ are.as_many;
+    each = λ n t at. by n t (slice_get k.owned n) refl (sym (slice_get-map (deps_by k.rules) k.owned n) ∙ at);
+  }
+    where
+      by : (n : ℕ) (t : VersionDependencies) (o : Option (List ℕ)) → slice_get k.owned n ≡ o → option_map (deps_by k.rules) o ≡ Some t → AreDependenciesAt ids k.lines n t
+      by n t None is e = absurd cc
+      by n t (Some numbers) is e =
+          let here : kept_of k.owned n ≡ numbers = get_or_from_slice_get k.owned n numbers [] is in
+          let all = subst (λ (d : VersionDependencies). AreDependenciesOf ids (lines_at k.lines numbers) d) (same_Some (deps_by k.rules numbers) t e) (along numbers [] no_lines none) in
+          (kept_of k.owned n, are.owned n, subst (λ (ns : List ℕ). AreDependenciesOf ids (lines_at k.lines ns) t) (sym here) all)

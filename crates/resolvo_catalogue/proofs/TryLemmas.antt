@@ -18,7 +18,8 @@ use Rattle.resolvo_pool_core.specs.declared.id.VersionSetId.{VersionSetId}
 use Rattle.resolvo_intern.specs.declared.pool.Solvable.{Solvable}
 use Rattle.resolvo_pool_core.specs.Provider.{favoured_first, tried_first, IsTriedFor}
 use Rattle.resolvo_terms.specs.Terms.{NameId}
-use Rattle.resolvo_catalogue.specs.Ids.{SolvableId, solvable_id, solvables_of, places_from, IsSolvable, IsSpec}
+use Rattle.resolvo_catalogue_core.specs.Kept.{places_from}
+use Rattle.resolvo_catalogue.specs.Ids.{SolvableId, solvable_id, solvables_of, IsSolvable, IsSpec}
 use Rattle.resolvo_catalogue.specs.Known.{solvable_at, set_at}
 use Rattle.resolvo_catalogue.specs.Provider.{Provider, candidates_of, matches, age_of, IsSorted}
 use Rattle.resolvo_catalogue.specs.KeptSets.{DistinguishesIds}

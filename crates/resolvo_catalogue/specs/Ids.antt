@@ -1,6 +1,5 @@
 -- The ids of packages, versions, SPECs, lists of alternatives, conditions and words, and the text of each id.
-use Rattle.std.specs.Prelude.{◌≡◌, ◌≤◌, ℕ, suc, ◌==◌, if◌then◌else◌, length, slice_index_or, Bool, List, [], ◌∷◌, map, Option}
-use Rattle.std.specs.Global.{Vec}
+use Rattle.std.specs.Prelude.{◌≡◌, ◌≤◌, ℕ, ◌==◌, length, List, map, Option}
 use Rattle.resolvo_text.specs.Line.{Version, Spec, Cond}
 use Rattle.resolvo_pool_core.specs.declared.id.DenseId.{DenseId}
 use Rattle.resolvo_pool_core.specs.declared.id.SolvableTag.{SolvableTag}
@@ -14,6 +13,7 @@ use Rattle.resolvo_pool_core.specs.declared.requirement.ConditionalRequirement.{
 use Rattle.resolvo_terms.specs.declared.terms.Numbers.{Numbers}
 use Rattle.resolvo_terms.specs.Terms.{Terms, NameId, AreEach, Extends}
 use Rattle.resolvo_terms.specs.Terms as terms
+use Rattle.resolvo_catalogue_core.specs.Kept.{places_from}
 use Rattle.resolvo_catalogue_core.specs.declared.versions.KeptVersion.{KeptVersion}
 
 abbrev pub SolvableId : Type 0
@@ -105,21 +105,8 @@ IsSolvable ids s v = (s.version ≡ v.number) × IsPackage ids s.name v.name
 abbrev pub AreVersions : Ids → List Version → Type 0
 AreVersions ids versions = AreEach (IsSolvable ids) ids.solvables versions
 
--- the list of a number, if there is one
-abbrev pub list_at : {X : Type 0} → List (Vec X) → ℕ → List X
-list_at lists n = slice_index_or (map (λ v. v.items) lists) n []
-
 -- ---- the solvables of a package
-
--- the places of the elements that pass the test, the first of them being the given one
-abbrev pub places_from : {X : Type 0} → (X → Bool) → ℕ → List X → List ℕ
-places_from test at [] = []
-places_from test at (x ∷ xs) = if test x then at ∷ places_from test (suc at) xs else places_from test (suc at) xs
 
 -- the solvables of a package, in the order of their ids
 abbrev pub solvables_of : Ids → ℕ → List SolvableId
 solvables_of ids name = map solvable_id (places_from (λ x. x.name.raw == name) 0 ids.solvables)
-
--- The lists are the solvables of each package.
-abbrev pub AreByPackage : Ids → List (Vec SolvableId) → Type 0
-AreByPackage ids lists = (name : ℕ) → list_at lists name ≡ solvables_of ids name

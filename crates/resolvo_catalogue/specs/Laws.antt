@@ -13,7 +13,8 @@ use Rattle.resolvo_intern.specs.declared.pool.Solvable.{Solvable}
 use Rattle.resolvo_pool_core.specs.declared.condition.Condition.{Condition}
 use Rattle.resolvo_pool_core.specs.declared.condition.Condition.TheVariants.{Binary, Requirement}
 use Rattle.resolvo_pool_core.specs.Provider.{OperandsBelow, IsOf, AreOf}
-use Rattle.resolvo_catalogue.specs.Ids.{Ids, SolvableId, solvable_id, solvables_of, places_from}
+use Rattle.resolvo_catalogue.specs.Ids.{Ids, SolvableId, solvable_id, solvables_of}
+use Rattle.resolvo_catalogue_core.specs.Kept.{places_from}
 use Rattle.resolvo_terms.specs.Terms.{NameId}
 use Rattle.resolvo_catalogue.specs.Known.{name_of, solvable_at, condition_at}
 use Rattle.resolvo_terms.specs.Known.{name_id, sound}

@@ -26,3 +26,7 @@ AreMany lines flags = flags ≡ map (λ v. is_many lines v.name) (listed lines)
 pub record AreMarked (ids : Ids) (lines favours : List Line) (versions : List Version) (marks : List CandidateFlags) : Type 0 where
   pub as_many : length marks ≡ length versions
   pub each : (k : ℕ) (m : CandidateFlags) (v : Version) → slice_get marks k ≡ Some m → slice_get versions k ≡ Some v → IsMarked ids lines favours v m
+
+-- No line locks or excludes one of these versions.
+abbrev pub HaveNoMarks : List Line → List Version → Type 0
+HaveNoMarks lines versions = (k : ℕ) (v : Version) → slice_get versions k ≡ Some v → (Contains lines (Lock v) → ⊥) × ((word : List ℕ) → Contains lines (Exclude v word) → ⊥)

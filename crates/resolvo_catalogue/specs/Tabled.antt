@@ -1,23 +1,27 @@
--- The dependencies of versions, all requirements in one list and all constraints in another.
-use Rattle.std.specs.Prelude.{◌≡◌, ◌≤◌, ℕ, List, Some, map, slice_get}
-use Rattle.std.specs.List.{slice_range}
-use Rattle.resolvo_pool_core.specs.declared.id.VersionSetId.{VersionSetId}
-use Rattle.resolvo_pool_core.specs.declared.requirement.ConditionalRequirement.{ConditionalRequirement}
-use Rattle.resolvo_catalogue.specs.Dependencies.{VersionDependencies}
-use Rattle.resolvo_catalogue.specs.declared.dependency_table.Place.{Place}
-use Rattle.resolvo_catalogue.specs.declared.dependency_table.Entry.{Entry}
+-- The dependencies of versions by the rules of their lines, by numbers.
+use Rattle.std.specs.Prelude.{ℕ, List, [], ◌∷◌, ◌++◌, Option, Some, None, map}
+use Rattle.resolvo_catalogue_core.specs.Kept.{KeptLines, rule_at}
+use Rattle.resolvo_catalogue_core.specs.declared.kept_rule.KeptRule.{KeptRule}
+use Rattle.resolvo_catalogue_core.specs.declared.kept_rule.KeptRule.TheVariants as kept
+use Rattle.resolvo_catalogue.specs.Dependencies.{VersionDependencies, no_lines}
 
--- the list at a place in a longer one
-abbrev pub part : {X : Type 0} → List X → Place → List X
-part xs p = slice_range xs p.begin p.end
+-- the dependencies with those of a line with this rule more
+abbrev pub with_rule : VersionDependencies → Option KeptRule → VersionDependencies
+with_rule deps None = deps
+with_rule deps (Some (kept.Needs of need)) = record deps { requirements = deps.requirements ++ need ∷ [] }
+with_rule deps (Some (kept.Limits of v)) = record deps { constrains = deps.constrains ++ v ∷ [] }
+with_rule deps (Some (kept.Unknown of w)) = record deps { unknown = Some w }
+with_rule deps (Some (kept.Lock locked)) = deps
+with_rule deps (Some (kept.Exclude excluded w)) = deps
 
-abbrev pub deps_at_entry : List ConditionalRequirement → List VersionSetId → Entry → VersionDependencies
-deps_at_entry rs cs e = record { requirements = part rs e.requirements; constrains = part cs e.constrains; unknown = e.unknown }
+-- the dependencies with those of these lines more
+abbrev pub deps_from : List (Option KeptRule) → VersionDependencies → List ℕ → VersionDependencies
+deps_from rules deps [] = deps
+deps_from rules deps (n ∷ numbers) = deps_from rules (with_rule deps (rule_at rules n)) numbers
 
-abbrev pub deps_by : List ConditionalRequirement → List VersionSetId → List Entry → List VersionDependencies
-deps_by rs cs entries = map (deps_at_entry rs cs) entries
+abbrev pub deps_by : List (Option KeptRule) → List ℕ → VersionDependencies
+deps_by rules numbers = deps_from rules no_lines numbers
 
--- Each entry's places lie within lists of these lengths.
-pub record AreEntries (requirements constrains : ℕ) (entries : List Entry) : Type 0 where
-  pub needs : (k : ℕ) (e : Entry) → slice_get entries k ≡ Some e → (e.requirements.begin ≤ e.requirements.end) × (e.requirements.end ≤ requirements)
-  pub limits : (k : ℕ) (e : Entry) → slice_get entries k ≡ Some e → (e.constrains.begin ≤ e.constrains.end) × (e.constrains.end ≤ constrains)
+-- those of each version
+abbrev pub deps_in : KeptLines → List VersionDependencies
+deps_in k = map (deps_by k.rules) k.owned

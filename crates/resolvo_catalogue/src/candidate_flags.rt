@@ -1,6 +1,6 @@
 //! The marks of each version in the lines of a catalogue: locked, favoured, excluded.
 
-ghost use Rattle.std.specs.Prelude.{◌≡◌, ◌≤◌, ◌<◌, ◌+◌, ◌++◌, ◌∷◌, [], IfOk, IsOkUnless, List, Option, Some, length, slice_get};
+ghost use Rattle.std.specs.Prelude.{◌≡◌, ◌⊎◌, ◌≤◌, ◌<◌, ◌+◌, ◌++◌, ◌∷◌, [], IfOk, IsOkUnless, List, Option, Some, length, slice_get};
 ghost use Rattle.resolvo_pool_core.specs.declared.want.Want.TheVariants.{Memory};
 ghost use Rattle.resolvo_text.specs.Line.{Version, Line, Favour};
 ghost use Rattle.resolvo_catalogue_core.specs.Kept.{IsKeptLine};
@@ -8,7 +8,7 @@ ghost use Rattle.resolvo_catalogue_core.specs.Sets.{is_many};
 ghost use Rattle.resolvo_catalogue_core.specs.Listed.{listed, AreDistinct};
 ghost use Rattle.resolvo_catalogue.specs.Ids.{Ids, terms_of};
 ghost use Rattle.resolvo_terms.specs.Known.{name_text};
-ghost use Rattle.resolvo_catalogue.specs.Marked.{AreMarked, AreMany};
+ghost use Rattle.resolvo_catalogue.specs.Marked.{AreMarked, AreMany, HaveNoMarks};
 
 use resolvo_catalogue_core::{Catalogue, KeptLines, KeptRule, VersionNo};
 use resolvo_pool_core::id::{NameId, StringId};
@@ -46,7 +46,7 @@ pub fn marks_of(
     ensures refusal { IsOkUnless result Memory }
 {
     let mut marks = unmarked(alloc, catalogue.versions().len())?;
-    for line in 0..kept.line_count() {
+    for line in 0..lines_to_mark(kept) {
         if let Some(rule) = kept.rule(line + 1) {
             mark(&mut marks, rule);
         }
@@ -55,6 +55,18 @@ pub fn marks_of(
         favour(&mut marks, *version);
     }
     Ok(marks)
+}
+
+/// How many lines are looked at for marks: none where no line has one.
+fn lines_to_mark(kept: &KeptLines<'_>) -> u32
+    ensures { (result ≡ length kept.now.lines)
+        ⊎ (result ≡ 0) × HaveNoMarks kept.now.lines (listed kept.now.lines) }
+{
+    if kept.has_marks() {
+        kept.line_count()
+    } else {
+        0
+    }
 }
 
 /// Of each version, by its number, whether its package is marked `many`.
@@ -88,7 +100,7 @@ fn unmarked(alloc: Global, count: usize) -> R<Vec<CandidateFlags>>
         → AreMarked ids [] [] versions marks.items) }
     ensures refusal { IsOkUnless result Memory }
 {
-    let mut marks = Vec::new(alloc);
+    let mut marks = Vec::with_capacity(alloc, count)?;
     for _ in 0..count {
         marks.push(NO_FLAGS)?;
     }

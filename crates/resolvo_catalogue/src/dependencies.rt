@@ -1,6 +1,6 @@
 //! The requirements and constraints of lines, as ids: of the lines of a version, and of a request.
 
-ghost use Rattle.std.specs.Prelude.{◌≡◌, ◌≤◌, ◌+◌, ◌++◌, ◌∷◌, [], sum_by, IfOk, IsErrOf, OnOk, List, Option};
+ghost use Rattle.std.specs.Prelude.{◌≡◌, ◌≤◌, ◌+◌, ◌++◌, ◌∷◌, [], sum_by, IfOk, IsErrOf, OnOk, List, None, Option, Some};
 ghost use Rattle.resolvo_pool_core.specs.declared.want.Want.TheVariants.{Ids};
 
 use crate::id_table::IdTable;
@@ -22,32 +22,27 @@ pub struct VersionDependencies {
 impl VersionDependencies {
     ghost use Rattle.resolvo_text.specs.Line.{Version, Line};
     ghost use Rattle.resolvo_catalogue_core.specs.Questions.{IsRuleLine};
-    ghost use Rattle.resolvo_catalogue_core.specs.Kept.{IsKeptLine};
-    ghost use Rattle.resolvo_catalogue.specs.Ids.{Ids as Interned, terms_of, Interns, LacksNumber};
+    ghost use Rattle.resolvo_catalogue.specs.Ids.{Interns, LacksNumber};
     ghost use Rattle.resolvo_catalogue.specs.IdCounts.{id_count, dependency_ids};
     ghost use Rattle.resolvo_terms.specs.TermCounts.{ids_for_dependency};
-    ghost use Rattle.resolvo_catalogue.specs.Dependencies.{AreDependenciesOf, deps_of, lines_at, no_lines};
+    ghost use Rattle.resolvo_catalogue.specs.Dependencies.{AreDependenciesOf, deps_of, no_lines};
+    ghost use Rattle.resolvo_catalogue.specs.Tabled.{deps_by, with_rule};
 
-    /// Those of no lines.
-    pub fn new(alloc: Global) -> VersionDependencies
-        ensures { deps_of result ≡ no_lines }
+    /// Those of no lines, with room for so many requirements.
+    pub fn with_room(alloc: Global, count: usize) -> Result<VersionDependencies, AllocError>
+        ensures { IfOk result (λ deps. deps_of deps ≡ no_lines) }
     {
-        VersionDependencies {
-            requirements: Vec::new(alloc),
+        Ok(VersionDependencies {
+            requirements: Vec::with_capacity(alloc, count)?,
             constrains: Vec::new(alloc),
             unknown: None,
-        }
+        })
     }
 
     /// Adds the requirement or constraint of a rule of a catalogue. A lock and an exclusion add
     /// nothing.
     fn add_kept(&mut self, rule: KeptRule) -> Result<(), AllocError>
-        ensures { OnOk result
-            ((ids : Interned) (versions : List Version) (owner : Option Version) (line : Line)
-            (lines : List Line)
-            → IsKeptLine (terms_of ids) versions rule owner line
-            → AreDependenciesOf ids lines (deps_of self.old)
-            → AreDependenciesOf ids (lines ++ line ∷ []) (deps_of self.new)) }
+        ensures { OnOk result (deps_of self.new ≡ with_rule (deps_of self.old) (Some rule)) }
     {
         match rule {
             KeptRule::Needs { need, .. } => self.requirements.push(need)?,
@@ -58,24 +53,25 @@ impl VersionDependencies {
         Ok(())
     }
 
-    /// Adds the requirements and constraints of these lines of a catalogue, where there are none.
-    pub fn add_lines(&mut self, kept: &KeptLines<'_>, lines: &[u32]) -> Result<(), AllocError>
-        requires { deps_of self.old ≡ no_lines }
-        ensures { OnOk result
-            ((ids : Interned)
-            → terms_of ids ≡ kept.now.terms
-            → AreDependenciesOf ids (lines_at kept.now.lines lines.now) (deps_of self.new)) }
+    /// The requirements and constraints of these lines of a catalogue.
+    pub fn of_lines(
+        alloc: Global,
+        kept: &KeptLines<'_>,
+        lines: &[u32],
+    ) -> Result<VersionDependencies, AllocError>
+        ensures { IfOk result (λ deps. deps_of deps ≡ deps_by kept.now.rules lines.now) }
     {
+        let mut deps = VersionDependencies::with_room(alloc, lines.len())?;
         for line in lines {
             if let Some(rule) = kept.rule(*line) {
-                self.add_kept(rule)?;
+                deps.add_kept(rule)?;
             }
         }
-        Ok(())
+        Ok(deps)
     }
 
     /// Adds the requirement or constraint of a rule of a request, of which no other kind is one.
-    fn add(&mut self, ids: &mut IdTable, rule: &Rule) -> R<()>
+    fn add(&mut self, ids: &mut IdTable<'_>, rule: &Rule) -> R<()>
         ensures as_ids { OnOk result
             ((versions : List Version) (line : Line) (lines : List Line)
             → IsRuleLine versions rule.now None line
@@ -104,14 +100,18 @@ impl VersionDependencies {
     }
 
     /// The requirements and constraints of a request.
-    pub fn of_request(alloc: Global, ids: &mut IdTable, request: &Request) -> R<VersionDependencies>
+    pub fn of_request(
+        alloc: Global,
+        ids: &mut IdTable<'_>,
+        request: &Request,
+    ) -> R<VersionDependencies>
         ensures as_ids { IfOk result (λ deps. AreDependenciesOf ids.new request.now.lines (deps_of deps)) }
         ensures interns { Interns ids.old ids.new }
         ensures few { id_count ids.new
             ≤ id_count ids.old + sum_by ids_for_dependency request.now.lines }
         ensures ids { IsErrOf result Ids → LacksNumber ids.new }
     {
-        let mut deps = VersionDependencies::new(alloc);
+        let mut deps = VersionDependencies::with_room(alloc, 0)?;
         for line in 0..request.line_count() {
             if let Some(rule) = request.rule(line + 1) {
                 deps.add(ids, rule)?;

@@ -5,9 +5,11 @@ ghost use Rattle.resolvo_pool_core.specs.declared.want.Want.TheVariants.{Memory}
 ghost use Rattle.std.specs.List.{find, flat_map};
 ghost use Rattle.resolvo_catalogue.specs.Laws.{operands_below, candidates_named};
 ghost use Rattle.resolvo_catalogue.specs.Ids.{solvables_of};
-ghost use Rattle.resolvo_catalogue.specs.Provider.{matches, marks_at, many_at, are_many, exclusion_of};
+ghost use Rattle.resolvo_catalogue.specs.Dependencies.{deps_of};
+ghost use Rattle.resolvo_catalogue.specs.Provider.{matches, marks_at, many_at, are_many, deps_at, exclusion_of};
 ghost use Rattle.resolvo_catalogue.specs.Known.{solvable_at, name_of, set_at, members_of, condition_at, name_text, solvable_text, merged_text, span_text, word_text};
 
+use crate::dependencies::VersionDependencies;
 use crate::provider::{CatalogueProvider, Hint};
 use resolvo_catalogue_core::{Span, is_in_span};
 use resolvo_pool_core::condition::Condition;
@@ -19,14 +21,14 @@ use resolvo_pool_core::provider::{
     KnownDependencies,
 };
 use resolvo_pool_core::want::R;
-use std::alloc::Global;
+use std::alloc::{AllocError, Global};
 use std::fmt;
 
 /// The value with which a provider over a catalogue cancels when its budget is used up.
 #[derive(Clone, Copy, Debug, PartialEq, Eq)]
 pub struct GivenUp;
 
-impl Interner for CatalogueProvider {
+impl<'a> Interner for CatalogueProvider<'a> {
     type NameId = NameId;
 
     type SolvableId = SolvableId;
@@ -128,7 +130,7 @@ impl Interner for CatalogueProvider {
     }
 }
 
-impl DependencyProvider for CatalogueProvider {
+impl<'a> DependencyProvider for CatalogueProvider<'a> {
     ghost use Rattle.std.specs.Prelude.{⊤, true};
     ghost use Rattle.resolvo_catalogue.specs.Provider.{candidates_of, dependencies_of, IsSorted};
 
@@ -167,20 +169,24 @@ impl DependencyProvider for CatalogueProvider {
     }
 
     fn get_candidates(&self, alloc: Global, name: NameId) -> R<Option<Candidates<SolvableId>>> {
-        let versions = self.versions_of(name);
-        if versions.is_empty() {
+        let candidates = self.versions_of(alloc, name)?;
+        if candidates.is_empty() {
             return Ok(None);
         }
+        let favored = self.favored_of(&candidates);
+        let locked = self.locked_of(&candidates);
+        let excluded = self.excluded_of(alloc, &candidates)?;
+        let many = self.are_many(&candidates);
         Ok(Some(Candidates {
-            candidates: Vec::from_slice(alloc, versions)?,
-            favored: self.favored_of(versions),
-            locked: self.locked_of(versions),
+            candidates,
+            favored,
+            locked,
             hint_dependencies_available: match self.hint {
                 Hint::None => HintDependenciesAvailable::None,
                 Hint::All => HintDependenciesAvailable::All,
             },
-            excluded: self.excluded_of(alloc, versions)?,
-            many: self.are_many(versions),
+            excluded,
+            many,
         }))
     }
 
@@ -190,12 +196,16 @@ impl DependencyProvider for CatalogueProvider {
     }
 
     fn get_dependencies(&self, alloc: Global, solvable: SolvableId) -> R<Dependencies> {
-        let place = solvable.to_index();
-        match self.deps.unknown(place) {
+        let VersionDependencies {
+            requirements,
+            constrains,
+            unknown,
+        } = self.dependencies_of(alloc, solvable)?;
+        match unknown {
             Some(why) => Ok(Dependencies::Unknown(why)),
             None => Ok(Dependencies::Known(KnownDependencies {
-                requirements: Vec::from_slice(alloc, self.deps.requirements(place))?,
-                constrains: Vec::from_slice(alloc, self.deps.constrains(place))?,
+                requirements,
+                constrains,
             })),
         }
     }
@@ -215,7 +225,7 @@ impl DependencyProvider for CatalogueProvider {
     }
 }
 
-impl CatalogueProvider {
+impl<'a> CatalogueProvider<'a> {
     /// Whether the solvable is of the version set's package, and its number lies in the span.
     fn matches(&self, version_set: VersionSetId, solvable: SolvableId) -> bool
         ensures { result ≡ matches self.now version_set solvable }
@@ -225,13 +235,28 @@ impl CatalogueProvider {
     }
 
     /// The versions of a package, in the order of their lines.
-    fn versions_of(&self, name: NameId) -> &[SolvableId]
-        ensures { result.now ≡ solvables_of self.now.ids name.raw }
+    fn versions_of(&self, alloc: Global, name: NameId) -> R<Vec<SolvableId>>
+        ensures versions { IfOk result (λ v. v.items ≡ solvables_of self.now.ids name.raw) }
+        ensures refusal { IsOkUnless result Memory }
     {
-        match self.packages.get(name.to_index()) {
-            Some(versions) => versions.as_slice(),
-            None => &[],
+        let versions = self.kept.versions_of(name);
+        let mut solvables = Vec::with_capacity(alloc, versions.len())?;
+        for version in versions {
+            solvables.push(SolvableId::from_raw(version.0))?;
         }
+        Ok(solvables)
+    }
+
+    /// The requirements and constraints of a version; none of a solvable that no version is.
+    fn dependencies_of(
+        &self,
+        alloc: Global,
+        solvable: SolvableId,
+    ) -> Result<VersionDependencies, AllocError>
+        ensures { IfOk result (λ deps. deps_of deps ≡ deps_at self.now solvable) }
+    {
+        let lines = self.kept.lines_of(self.version_of(solvable));
+        VersionDependencies::of_lines(alloc, &self.kept, lines)
     }
 
     fn favored_of(&self, versions: &[SolvableId]) -> Option<SolvableId>

@@ -1,23 +1,21 @@
 //! The ids of packages, versions, SPECs, lists of alternatives, conditions and words: the terms of the
-//! lines (`resolvo_terms`), and the versions. The model is one list of each, in the order of first
-//! interning; `specs/Ids.antt` has the text of each id.
-//! Filled by `versions` and `dependencies`, read by `provider`.
+//! lines (`resolvo_terms`), and the versions, which are the catalogue's own list. The model is one list
+//! of each, in the order of first interning; `specs/Ids.antt` has the text of each id.
+//! Filled by `dependencies`, read by `provider`.
 
-ghost use Rattle.std.specs.Prelude.{◌≡◌, ◌<◌, ◌≤◌, ◌+◌, ◌++◌, ◌∷◌, [], IfOk, IsErrOf, OnOk, OnErr, length};
+ghost use Rattle.std.specs.Prelude.{◌≡◌, ◌≤◌, ◌+◌, IfOk, IsErrOf, map};
 ghost use Rattle.std.specs.Option.{option_copied, option_map};
 ghost use Rattle.resolvo_text.specs.View.{spec_of, specs_of, condition_of};
 ghost use Rattle.resolvo_pool_core.specs.declared.want.Want.TheVariants.{Ids};
 ghost use Rattle.resolvo_terms.specs.Known.{place_of};
 ghost use Rattle.resolvo_terms.specs.TermCounts.{ids_for_need};
-ghost use Rattle.resolvo_catalogue.specs.Ids.{terms_of, Interns, AreSound, LacksNumber, IsSpec, IsNeed};
+ghost use Rattle.resolvo_catalogue.specs.Ids.{terms_of, Interns, AreSound, LacksNumber, IsSpec, IsNeed, solvable_by};
 ghost use Rattle.resolvo_catalogue.specs.IdCounts.{id_count};
 
-use resolvo_catalogue_core::{Cond, Span, Spec};
-use resolvo_intern::pool::Solvable;
+use resolvo_catalogue_core::{Cond, KeptLines, KeptVersion, Span, Spec};
 use resolvo_pool_core::condition::Condition;
 use resolvo_pool_core::id::{
     ConditionId, DenseIndex, NameId, SolvableId, StringId, VersionSetId, VersionSetUnionId,
-    next_index,
 };
 use resolvo_pool_core::requirement::ConditionalRequirement;
 use resolvo_pool_core::want::R;
@@ -26,23 +24,25 @@ use std::alloc::{AllocError, Global};
 use std::marker::Model;
 
 /// The interned values.
-pub struct IdTable {
+pub struct IdTable<'a> {
     terms: Terms,
-    solvables: Vec<Solvable<u32>>,
+    /// The versions of the catalogue in line order. A solvable's id is the place of its version.
+    versions: &'a [KeptVersion],
 }
 
 // split for the prover: one drop
-impl Drop for IdTable {
+impl<'a> Drop for IdTable<'a> {
     fn drop(self) {
         let IdTable {
             terms: _,
-            solvables: _,
+            versions: _,
         } = self;
     }
 }
 
-impl Model for IdTable {
-    ghost use Rattle.resolvo_catalogue.specs.Ids.{Ids};
+impl<'a> Model for IdTable<'a> {
+    ghost use Rattle.std.specs.Prelude.{map};
+    ghost use Rattle.resolvo_catalogue.specs.Ids.{Ids, solvable_by};
 
     ghost Value = { Ids };
 
@@ -50,44 +50,24 @@ impl Model for IdTable {
         record {
           names = t.terms.names;
           words = t.terms.words;
-          solvables = t.solvables.items;
+          solvables = map solvable_by t.versions.now;
           version_sets = t.terms.version_sets;
           unions = t.terms.unions;
           conditions = t.terms.conditions;
         } };
 }
 
-impl IdTable {
-    /// The terms of a catalogue, and no versions.
-    pub fn over(alloc: Global, terms: &Terms) -> Result<IdTable, AllocError>
-        ensures terms { IfOk result (λ t. terms_of t ≡ terms.now) }
-        ensures none { IfOk result (λ t. t.solvables ≡ []) }
+impl<'a> IdTable<'a> {
+    /// The terms and the versions of a catalogue.
+    pub fn over(alloc: Global, kept: &KeptLines<'a>) -> Result<IdTable<'a>, AllocError>
+        ensures terms { IfOk result (λ t. terms_of t ≡ kept.now.terms) }
+        ensures solvables { IfOk result (λ t. t.solvables ≡ map solvable_by kept.now.versions) }
     {
+        let terms = kept.terms();
         Ok(IdTable {
             terms: terms.copy(alloc)?,
-            solvables: Vec::new(alloc),
+            versions: kept.versions(),
         })
-    }
-
-    /// The id of one version more, of this package.
-    pub fn version(&mut self, name: NameId, number: u32) -> R<SolvableId>
-        // After an answer.
-        ensures id { IfOk result (λ s. s.raw ≡ length self.old.solvables) }
-        ensures few { IfOk result (λ s. s.raw < 4294967295) }
-        ensures added { OnOk result
-            (self.new
-            ≡ record self.old
-            { solvables = self.old.solvables ++ record { version = number; name = name } ∷ [] }) }
-        // After a refusal.
-        ensures same { OnErr result (self.new ≡ self.old) }
-        ensures ids { IsErrOf result Ids → LacksNumber self.new }
-    {
-        let index = next_index(self.solvables.len())?;
-        self.solvables.push(Solvable {
-            version: number,
-            name,
-        })?;
-        Ok(SolvableId::from_index(index))
     }
 
     /// The id of a SPEC.
@@ -122,29 +102,15 @@ impl IdTable {
     }
 }
 
-impl IdTable {
+impl<'a> IdTable<'a> {
     ghost use Rattle.resolvo_catalogue.specs.Known.{solvable_at, set_at, members_of, condition_at, name_text, word_text};
-
-    /// The id of a package, if it has one.
-    pub fn find_package(&self, name: &str) -> Option<NameId>
-        ensures { option_map (λ n. n.raw) result ≡ place_of self.now.names name.now }
-    {
-        self.terms.find_package(name)
-    }
-
-    /// How many names there are, of packages with a version or without one.
-    pub fn name_count(&self) -> usize
-        ensures { result ≡ length self.now.names }
-    {
-        self.terms.name_count()
-    }
 
     /// The package of a solvable. Calls of this kind answer for every id.
     pub fn package_of(&self, solvable: SolvableId) -> NameId
         ensures { result ≡ (solvable_at self.now solvable).name }
     {
-        match self.solvables.get(solvable.to_index()) {
-            Some(solvable) => solvable.name,
+        match self.versions.get(solvable.to_index()) {
+            Some(version) => version.package,
             None => NameId::from_raw(0),
         }
     }
@@ -153,8 +119,8 @@ impl IdTable {
     pub fn number_of(&self, solvable: SolvableId) -> u32
         ensures { result ≡ (solvable_at self.now solvable).version }
     {
-        match self.solvables.get(solvable.to_index()) {
-            Some(solvable) => solvable.version,
+        match self.versions.get(solvable.to_index()) {
+            Some(version) => version.number,
             None => 0,
         }
     }

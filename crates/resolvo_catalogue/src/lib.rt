@@ -4,10 +4,8 @@
 mod candidate_flags;
 mod dependencies;
 pub mod dependency_provider;
-mod dependency_table;
 mod id_table;
 pub mod provider;
-mod versions;
 
 pub use dependency_provider::GivenUp;
 pub use provider::{CatalogueProvider, Hint, RequestIds};

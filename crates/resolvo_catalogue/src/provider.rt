@@ -1,25 +1,20 @@
-//! The provider over a catalogue: made once from the lines, then asked by the solver.
-//! Its model is the interned values, and the dependencies and marks of each version
-//! (`specs/Provider.antt`).
+//! The provider over a catalogue, which it borrows: it answers the solver from the lines. Its model is
+//! the interned values, and the dependencies and marks of each version (`specs/Provider.antt`).
 
-ghost use Rattle.std.specs.Prelude.{◌≡◌, ◌≤◌, ◌<◌, ◌+◌, [], Bool, false, length, map, sum_by, true, IfOk, IsErrOf, IsOkUnless};
+ghost use Rattle.std.specs.Prelude.{◌≡◌, ◌≤◌, ◌+◌, false, map, sum_by, true, IfOk, IsErrOf, IsOkUnless};
 ghost use Rattle.resolvo_pool_core.specs.declared.want.Want.TheVariants.{Ids as NoIds, Memory};
-ghost use Rattle.resolvo_catalogue.specs.declared.provider.Hint.{Hint};
-ghost use Rattle.resolvo_catalogue_core.specs.Listed.{listed};
-ghost use Rattle.resolvo_catalogue.specs.Ids.{Ids, AreByPackage, LacksNumber, terms_of};
+ghost use Rattle.resolvo_catalogue.specs.Ids.{LacksNumber};
 ghost use Rattle.resolvo_catalogue.specs.IdCounts.{LacksNumberFor, id_count, ids_for_line};
 ghost use Rattle.resolvo_terms.specs.TermCounts.{ids_for_dependency};
-ghost use Rattle.resolvo_catalogue.specs.Over.{AreDependencies, IsOver};
+ghost use Rattle.resolvo_catalogue.specs.Over.{IsOver};
 
 use crate::candidate_flags::{CandidateFlags, many_of, marks_of};
 use crate::dependencies::VersionDependencies;
-use crate::dependency_table::DependencyTable;
 use crate::id_table::IdTable;
-use crate::versions::list_versions;
 use resolvo_catalogue_core::{Catalogue, KeptLines, Request, Spec, VersionNo};
 use resolvo_pool_core::id::{NameId, SolvableId, StringId, VersionSetId};
 use resolvo_pool_core::requirement::{ConditionalRequirement, Requirement};
-use resolvo_pool_core::want::{R, Want};
+use resolvo_pool_core::want::R;
 use std::alloc::Global;
 use std::cell::Cell;
 use std::marker::Model;
@@ -32,11 +27,10 @@ pub enum Hint {
 }
 
 /// A catalogue as a provider.
-pub struct CatalogueProvider {
-    pub(crate) ids: IdTable,
-    /// The versions of each package, by its id, in the order of their lines.
-    pub(crate) packages: Vec<Vec<SolvableId>>,
-    pub(crate) deps: DependencyTable,
+pub struct CatalogueProvider<'a> {
+    pub(crate) ids: IdTable<'a>,
+    /// The lines, by which the versions of a package and the dependencies of a version are found.
+    pub(crate) kept: KeptLines<'a>,
     pub(crate) marks: Vec<CandidateFlags>,
     /// Of each version, whether its package is marked `many`.
     pub(crate) many: Vec<bool>,
@@ -47,12 +41,11 @@ pub struct CatalogueProvider {
 }
 
 // split for the prover: one drop
-impl Drop for CatalogueProvider {
+impl<'a> Drop for CatalogueProvider<'a> {
     fn drop(self) {
         let CatalogueProvider {
             ids: _,
-            packages: _,
-            deps: _,
+            kept: _,
             marks: _,
             many: _,
             hint: _,
@@ -62,9 +55,10 @@ impl Drop for CatalogueProvider {
     }
 }
 
-impl Model for CatalogueProvider {
-    ghost use Rattle.std.specs.Prelude.{is_some};
-    ghost use Rattle.resolvo_catalogue.specs.Ids.{AreByPackage};
+impl<'a> Model for CatalogueProvider<'a> {
+    ghost use Rattle.std.specs.Prelude.{◌≡◌, is_some, map};
+    ghost use Rattle.resolvo_catalogue.specs.Ids.{solvable_by};
+    ghost use Rattle.resolvo_catalogue.specs.Tabled.{deps_in};
     ghost use Rattle.resolvo_catalogue.specs.Provider.{Provider};
 
     ghost Value = { Provider };
@@ -72,23 +66,14 @@ impl Model for CatalogueProvider {
     ghost view = { λ p.
         record {
           ids = p.ids;
-          deps = p.deps;
+          deps = deps_in p.kept;
           marks = p.marks.items;
           many = p.many.items;
           hint = p.hint;
           has_budget = is_some p.budget;
         } };
 
-    ghost invariant = { λ p. AreByPackage p.ids p.packages.items };
-}
-
-/// The lists of a catalogue's versions, as ids.
-#[derive(Drop)]
-struct Tables {
-    packages: Vec<Vec<SolvableId>>,
-    deps: DependencyTable,
-    marks: Vec<CandidateFlags>,
-    many: Vec<bool>,
+    ghost invariant = { λ p. p.ids.solvables ≡ map solvable_by p.kept.versions };
 }
 
 /// A request, as ids of a provider.
@@ -100,7 +85,7 @@ pub struct RequestIds {
     pub wishes: Vec<SolvableId>,
 }
 
-impl CatalogueProvider {
+impl<'a> CatalogueProvider<'a> {
     ghost use Rattle.std.specs.Prelude.{List};
     ghost use Rattle.resolvo_text.specs.Line as parsed;
     ghost use Rattle.resolvo_text.specs.View.{spec_of, specs_of};
@@ -111,7 +96,7 @@ impl CatalogueProvider {
     ghost use Rattle.resolvo_catalogue_core.specs.Grammar.{AreRequestLines};
 
     /// The provider of a catalogue.
-    pub fn new(alloc: Global, catalogue: &Catalogue, hint: Hint) -> R<CatalogueProvider>
+    pub fn new(alloc: Global, catalogue: &'a Catalogue, hint: Hint) -> R<CatalogueProvider<'a>>
         ensures over { IfOk result (λ p. IsOver catalogue.now p) }
         ensures hint { IfOk result (λ p. p.hint ≡ hint) }
         ensures budget { IfOk result (λ p. p.has_budget ≡ false) }
@@ -119,17 +104,15 @@ impl CatalogueProvider {
         ensures ids { IsErrOf result NoIds → LacksNumberFor catalogue.now }
     {
         let kept = catalogue.kept();
-        let mut ids = IdTable::over(alloc, kept.terms())?;
-        let Tables {
-            packages,
-            deps,
-            marks,
-            many,
-        } = tables_of(alloc, &mut ids, &kept, catalogue)?;
+        kept.lines_are_kept();
+        catalogue.lines_are_in_place();
+        let ids = IdTable::over(alloc, &kept)?;
+        ids.ids_are_once();
+        let marks = marks_of(alloc, &kept, catalogue)?;
+        let many = many_of(alloc, &kept, catalogue)?;
         Ok(CatalogueProvider {
             ids,
-            packages,
-            deps,
+            kept,
             marks,
             many,
             hint,
@@ -139,13 +122,12 @@ impl CatalogueProvider {
     }
 
     /// The same provider, which cancels after so many calls of `should_cancel_with_value`.
-    pub fn within(self, budget: u64) -> CatalogueProvider
-        ensures { result ≡ record self { has_budget = true } }
+    pub fn within(self, budget: u64) -> CatalogueProvider<'a>
+        ensures { result ≡ record self.entry { has_budget = true } }
     {
         let CatalogueProvider {
             ids,
-            packages,
-            deps,
+            kept,
             marks,
             many,
             hint,
@@ -154,8 +136,7 @@ impl CatalogueProvider {
         } = self;
         CatalogueProvider {
             ids,
-            packages,
-            deps,
+            kept,
             marks,
             many,
             hint,
@@ -278,67 +259,4 @@ impl CatalogueProvider {
         }
         Ok(specs)
     }
-}
-
-/// The lists of a catalogue, whose terms are interned, and no version yet.
-fn tables_of(
-    alloc: Global,
-    ids: &mut IdTable,
-    kept: &KeptLines<'_>,
-    catalogue: &Catalogue,
-) -> R<Tables>
-    requires kept { kept.now.lines ≡ catalogue.now }
-    requires terms { terms_of ids.old ≡ kept.now.terms }
-    requires none { ids.old.solvables ≡ [] }
-    // After an answer.
-    ensures over { IfOk result
-        (λ t.
-        (hint : Hint) (has_budget : Bool)
-        → IsOver catalogue.now
-        (record {
-          ids = ids.new;
-          deps = t.deps;
-          marks = t.marks.items;
-          many = t.many.items;
-          hint = hint;
-          has_budget = has_budget;
-        })) }
-    ensures packages { IfOk result (λ t. AreByPackage ids.new t.packages.items) }
-    // Whatever the answer.
-    ensures few { id_count ids.new ≤ id_count ids.old + length (listed catalogue.now) }
-    // After a refusal.
-    ensures ids { IsErrOf result NoIds → LacksNumber ids.new }
-{
-    catalogue.lines_are_in_place();
-    let packages = list_versions(alloc, ids, kept.versions())?;
-    let deps = deps_of_lines(alloc, kept, catalogue)?;
-    let marks = marks_of(alloc, kept, catalogue)?;
-    let many = many_of(alloc, kept, catalogue)?;
-    ids.ids_are_once();
-    Ok(Tables {
-        packages,
-        deps,
-        marks,
-        many,
-    })
-}
-
-/// The dependencies of each version, by its number.
-fn deps_of_lines(alloc: Global, kept: &KeptLines<'_>, catalogue: &Catalogue) -> R<DependencyTable>
-    requires { kept.now.lines ≡ catalogue.now }
-    ensures deps { IfOk result
-        (λ table. (ids : Ids) → terms_of ids ≡ kept.now.terms → AreDependencies ids catalogue.now table) }
-    ensures ids { IsErrOf result NoIds → 4294967295 < length (listed catalogue.now) }
-{
-    let Ok(count) = u32::try_from(catalogue.versions().len()) else {
-        return Err(Want::Ids);
-    };
-    let mut table = DependencyTable::with_room(alloc, count as usize)?;
-    let mut deps = VersionDependencies::new(alloc);
-    for number in 0..count {
-        let lines = catalogue.lines_of(VersionNo(number));
-        deps.add_lines(kept, lines)?;
-        table.push(&mut deps)?;
-    }
-    Ok(table)
 }

@@ -16,3 +16,5 @@ pub mod CatalogueFacts
 pub mod ForbidLemmas
 pub mod AskSteps
 pub mod GrammarLaws
+pub mod KeptLemmas
+pub mod UnmarkedLemmas

@@ -8,7 +8,14 @@ use Rattle.resolvo_catalogue_core.specs.Questions.{ReadRequest}
 use Rattle.resolvo_catalogue_core.specs.Kept.{KeptLines}
 use Rattle.resolvo_terms.specs.Terms.{Terms, NameId}
 use Rattle.resolvo_terms.specs.declared.terms.Numbers.{Numbers}
+use Rattle.resolvo_catalogue_core.specs.declared.kept_rule.KeptRule.{KeptRule}
+use Rattle.resolvo_catalogue_core.specs.declared.kept_rule.KeptRule.TheVariants as kept
+use Rattle.resolvo_catalogue_core.specs.declared.versions.KeptVersion.{KeptVersion}
+use Rattle.resolvo_pool_core.specs.declared.id.ConditionId.{ConditionId}
 use Rattle.resolvo_pool_core.specs.declared.id.VersionSetId.{VersionSetId}
+use Rattle.resolvo_pool_core.specs.declared.requirement.Requirement.{Requirement as AsRequirement}
+use Rattle.resolvo_pool_core.specs.declared.requirement.Requirement.TheVariants.{Single, Union}
+use Rattle.resolvo_pool_core.specs.declared.requirement.ConditionalRequirement.{ConditionalRequirement}
 use Rattle.resolvo_pool_core.specs.declared.condition.Condition.{Condition}
 use Rattle.resolvo_pool_core.specs.declared.condition.Condition.TheVariants.{Binary, Requirement}
 use Rattle.resolvo_pool_core.specs.declared.condition.LogicalOperator.TheVariants as joins
@@ -187,5 +194,64 @@ abbrev pub terms_code : Coded Terms
 terms_code = code_by TermParts (coded× texts_code (coded× texts_code (coded× (coded_list (coded× name_code numbers_code)) (coded× (coded_list (coded_list set_code)) (coded_list condition_code)))))
     (λ t. (t.names, (t.words, (t.version_sets, (t.unions, t.conditions))))) (λ p. record { names = p.0; words = p.1.0; version_sets = p.1.1.0; unions = p.1.1.1.0; conditions = p.1.1.1.1 }) (λ _. refl)
 
+abbrev requirement_parts : AsRequirement → ℕ × ℕ
+requirement_parts (Single v) = (0, v.0)
+requirement_parts (Union u) = (1, u.0)
+
+abbrev requirement_by : ℕ → ℕ → AsRequirement
+requirement_by zero n = Single (record { 0 = n })
+requirement_by (suc k) n = Union (record { 0 = n })
+
+pub requirement_back : (r : AsRequirement) → requirement_by (requirement_parts r).0 (requirement_parts r).1 ≡ r
+requirement_back (Single v) = refl
+requirement_back (Union u) = refl
+
+abbrev requirement_code : Coded AsRequirement
+requirement_code = code_by (ℕ × ℕ) (coded× coded_ℕ coded_ℕ) requirement_parts (λ p. requirement_by p.0 p.1) requirement_back
+
+abbrev condition_id_code : Coded ConditionId
+condition_id_code = code_by ℕ coded_ℕ (λ c. c.0) (λ k. record { 0 = k }) (λ _. refl)
+
+abbrev need_code : Coded ConditionalRequirement
+need_code = code_by (Option ConditionId × AsRequirement) (coded× (coded_option condition_id_code) requirement_code) (λ n. (n.condition, n.requirement)) (λ p. record { condition = p.0; requirement = p.1 }) (λ _. refl)
+
+-- a need with its owner; or a rule by the number of its kind, and two numbers
+abbrev RuleParts : Type 0
+RuleParts = (ℕ × ConditionalRequirement) ⊎ (ℕ × (ℕ × ℕ))
+
+abbrev rule_parts : KeptRule → RuleParts
+rule_parts (kept.Needs of need) = inl (of.0, need)
+rule_parts (kept.Limits of v) = inr (0, (of.0, v.0))
+rule_parts (kept.Lock locked) = inr (1, (locked.0, 0))
+rule_parts (kept.Exclude excluded w) = inr (2, (excluded.0, w.0))
+rule_parts (kept.Unknown of w) = inr (3, (of.0, w.0))
+
+abbrev rule_by : ℕ → ℕ × ℕ → KeptRule
+rule_by zero p = kept.Limits (record { 0 = p.0 }) (record { 0 = p.1 })
+rule_by (suc zero) p = kept.Lock (record { 0 = p.0 })
+rule_by (suc (suc zero)) p = kept.Exclude (record { 0 = p.0 }) (record { 0 = p.1 })
+rule_by (suc (suc (suc k))) p = kept.Unknown (record { 0 = p.0 }) (record { 0 = p.1 })
+
+abbrev rule_from : RuleParts → KeptRule
+rule_from (inl p) = kept.Needs (record { 0 = p.0 }) p.1
+rule_from (inr p) = rule_by p.0 p.1
+
+pub rule_back : (r : KeptRule) → rule_from (rule_parts r) ≡ r
+rule_back (kept.Needs of need) = refl
+rule_back (kept.Limits of v) = refl
+rule_back (kept.Lock locked) = refl
+rule_back (kept.Exclude excluded w) = refl
+rule_back (kept.Unknown of w) = refl
+
+abbrev rule_code : Coded KeptRule
+rule_code = code_by RuleParts (coded⊎ (coded× coded_ℕ need_code) (coded× coded_ℕ (coded× coded_ℕ coded_ℕ))) rule_parts rule_from rule_back
+
+abbrev kept_version_code : Coded KeptVersion
+kept_version_code = code_by (NameId × ℕ) (coded× name_code coded_ℕ) (λ v. (v.«package», v.number)) (λ p. record { «package» = p.0; number = p.1 }) (λ _. refl)
+
+abbrev KeptParts : Type 0
+KeptParts = Terms × (List Line × (List KeptVersion × (List (Option KeptRule) × List (List ℕ))))
+
 abbrev pub kept_code : Coded KeptLines
-kept_code = code_by (Terms × List Line) (coded× terms_code lines_code) (λ k. (k.terms, k.lines)) (λ p. record { terms = p.0; lines = p.1 }) (λ _. refl)
+kept_code = code_by KeptParts (coded× terms_code (coded× lines_code (coded× (coded_list kept_version_code) (coded× (coded_list (coded_option rule_code)) texts_code))))
+    (λ k. (k.terms, (k.lines, (k.versions, (k.rules, k.owned))))) (λ p. record { terms = p.0; lines = p.1.0; versions = p.1.1.0; rules = p.1.1.1.0; owned = p.1.1.1.1 }) (λ _. refl)

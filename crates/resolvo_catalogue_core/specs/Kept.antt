@@ -1,11 +1,16 @@
 -- The rules of a catalogue as the code keeps them: by numbers of versions and of terms.
-use Rattle.std.specs.Prelude.{◌≡◌, ℕ, ◌<◌, ◌==◌, Bool, false, not, ⊤, List, [], Option, Some, None, length, slice_index_or}
+use Rattle.std.specs.Prelude.{◌≡◌, ℕ, zero, suc, ◌<◌, ◌≤◌, ◌==◌, if◌then◌else◌, sum_by, Bool, true, false, not, ⊤, List, [], ◌∷◌, Option, Some, None, length, slice_index_or}
 use Rattle.resolvo_text.specs.Line as parsed
 use Rattle.resolvo_text.specs.Line.{Version, Spec, Line}
 use Rattle.resolvo_catalogue_core.specs.declared.obey.LentSpec.{LentSpec}
 use Rattle.resolvo_terms.specs.Terms.{Terms, IsSpec, IsWord, IsNeed}
+use Rattle.resolvo_terms.specs.TermCounts.{term_count, terms_for_line}
 use Rattle.resolvo_terms.specs.Known.{need_at, spec_at, word_text}
-use Rattle.resolvo_catalogue_core.specs.Questions.{IsOwner}
+use Rattle.resolvo_catalogue_core.specs.Grammar.{line_at, owner_of}
+use Rattle.resolvo_catalogue_core.specs.Listed.{listed, kept_versions, are_kept, AreDistinct}
+use Rattle.resolvo_catalogue_core.specs.LinesByVersion.{kept_of}
+use Rattle.resolvo_catalogue_core.specs.Questions.{IsOwner, AreAll, IsVersionLine, BelongsTo, is_rule}
+use Rattle.resolvo_catalogue_core.specs.declared.versions.KeptVersion.{KeptVersion}
 use Rattle.resolvo_catalogue_core.specs.declared.rule.VersionNo.{VersionNo}
 use Rattle.resolvo_catalogue_core.specs.declared.kept_rule.KeptRule.{KeptRule}
 use Rattle.resolvo_catalogue_core.specs.declared.kept_rule.KeptRule.TheVariants as kept
@@ -67,7 +72,36 @@ is_lock_of_another (kept.Limits of v) n = false
 is_lock_of_another (kept.Unknown of w) n = false
 is_lock_of_another (kept.Exclude excluded w) n = false
 
--- The lines of a catalogue, with the terms by which their rules are kept.
+-- ---- the lines by numbers
+
+-- The lines of a catalogue, and what is kept of them by numbers.
 pub record KeptLines : Type 0 where
   pub terms : Terms
   pub lines : List Line
+  -- the listed versions in line order
+  pub versions : List KeptVersion
+  -- of each line its rule
+  pub rules : List (Option KeptRule)
+  -- of each version the numbers of its lines
+  pub owned : List (List ℕ)
+
+-- the rule of line n, from 1
+abbrev pub rule_at : List (Option KeptRule) → ℕ → Option KeptRule
+rule_at rules zero = None
+rule_at rules (suc n) = slice_index_or rules n None
+
+-- the places of the elements that pass the test, the first of them being the given one
+abbrev pub places_from : {X : Type 0} → (X → Bool) → ℕ → List X → List ℕ
+places_from test at [] = []
+places_from test at (x ∷ xs) = if test x then at ∷ places_from test (suc at) xs else places_from test (suc at) xs
+
+-- What is kept is that of the lines.
+pub record AreKept (k : KeptLines) : Type 0 where
+  pub versions : kept_versions k.terms.names k.versions ≡ listed k.lines
+  pub named : are_kept (length k.terms.names) k.versions ≡ true
+  pub distinct : AreDistinct (listed k.lines)
+  pub rules : (n : ℕ) (r : KeptRule) → rule_at k.rules n ≡ Some r → (l : Line) × (line_at k.lines n ≡ Some l) × IsKeptLine k.terms (listed k.lines) r (owner_of k.lines n) l
+  pub none : (n : ℕ) → rule_at k.rules n ≡ None → (l : Line) → line_at k.lines n ≡ Some l → is_rule l ≡ false
+  pub few : term_count k.terms ≤ sum_by terms_for_line k.lines
+  pub as_many : length k.owned ≡ length (listed k.lines)
+  pub owned : (n : ℕ) → AreAll (kept_of k.owned n) (IsVersionLine (listed k.lines) k.lines n BelongsTo)

@@ -1,17 +1,21 @@
 //! The lines of a catalogue with the numbers by which they are kept: for those who need no texts. The
-//! model is the lines, and the terms that the numbers are of. Read by the provider and the reports.
+//! model is the lines, the terms that the numbers are of, the versions, and the rules and their owners
+//! by numbers. Read by the provider and the reports.
 
-ghost use Rattle.std.specs.Prelude.{◌≡◌, ◌≤◌, sum_by, IfSome, IfNone, false, true, length, Some};
+ghost use Rattle.std.specs.Prelude.{◌≡◌, ◌≤◌, ◌==◌, ℕ, List, sum_by, Contains, IfSome, IfNone, false, true, length, map, slice_get, Some};
 ghost use Rattle.resolvo_text.specs.Line as parsed;
 ghost use Rattle.resolvo_catalogue_core.specs.Grammar.{line_at, owner_of};
-ghost use Rattle.resolvo_catalogue_core.specs.Kept.{IsKeptLine};
+ghost use Rattle.resolvo_catalogue_core.specs.Kept.{IsKeptLine, AreKept, places_from, rule_at};
+ghost use Rattle.resolvo_catalogue_core.specs.LinesByVersion.{kept_of};
 ghost use Rattle.resolvo_catalogue_core.specs.Listed.{listed, kept_versions, are_kept, AreDistinct};
-ghost use Rattle.resolvo_catalogue_core.specs.Questions.{is_rule};
+ghost use Rattle.resolvo_catalogue_core.specs.Questions.{is_rule, number_of};
 ghost use Rattle.resolvo_terms.specs.TermCounts.{term_count, terms_for_line};
 
 use crate::kept_rule::KeptRule;
+use crate::rule::VersionNo;
 use crate::table::Table;
 use crate::versions::KeptVersion;
+use resolvo_pool_core::id::NameId;
 use resolvo_terms::Terms;
 use std::marker::Model;
 
@@ -21,9 +25,10 @@ pub struct KeptLines<'a> {
 }
 
 impl<'a> Model for KeptLines<'a> {
-    ghost use Rattle.std.specs.Prelude.{◌≤◌, length};
+    ghost use Rattle.std.specs.Prelude.{◌≤◌, length, map};
+    ghost use Rattle.resolvo_catalogue_core.specs.Held.{rule_of};
     ghost use Rattle.resolvo_catalogue_core.specs.Kept.{KeptLines};
-    ghost use Rattle.resolvo_catalogue_core.specs.Table.{IsTable, HasFew, lines_in};
+    ghost use Rattle.resolvo_catalogue_core.specs.Table.{IsTable, HasFew, lines_in, kinds_in};
 
     ghost Value = { KeptLines };
 
@@ -31,7 +36,14 @@ impl<'a> Model for KeptLines<'a> {
 
     ghost coded = { kept_code };
 
-    ghost view = { λ k. record { terms = k.table.now.terms; lines = lines_in k.table.now } };
+    ghost view = { λ k.
+        record {
+          terms = k.table.now.terms;
+          lines = lines_in k.table.now;
+          versions = k.table.now.versions.items;
+          rules = map rule_of (kinds_in k.table.now);
+          owned = k.table.now.owned;
+        } };
 
     ghost invariant = { λ k.
         IsTable k.table.now
@@ -50,6 +62,7 @@ impl<'a> KeptLines<'a> {
 
     /// The listed versions in line order, by the numbers of their packages' names among these terms.
     pub fn versions(&self) -> &'a [KeptVersion]
+        ensures value { result.now ≡ self.now.versions }
         ensures versions { kept_versions self.now.terms.names result.now ≡ listed self.now.lines }
         ensures named { are_kept (length self.now.terms.names) result.now ≡ true }
         ensures distinct { AreDistinct (listed self.now.lines) }
@@ -63,8 +76,22 @@ impl<'a> KeptLines<'a> {
         self.table.line_kinds.len() as u32
     }
 
+    /// Whether a line locks or excludes a version.
+    pub fn has_marks(&self) -> bool
+        ensures locked { result ≡ false
+            → (v : parsed.Version) → Contains self.now.lines (parsed.Lock v) → ⊥ }
+        ensures excluded { result ≡ false
+            → (k : ℕ) (v : parsed.Version) (word : List ℕ)
+            → slice_get (listed self.now.lines) k ≡ Some v
+            → Contains self.now.lines (parsed.Exclude v word)
+            → ⊥ }
+    {
+        !(self.table.locks.is_empty() && self.table.excluded.is_empty())
+    }
+
     /// The rule of the line, if it has one, by numbers of these terms.
     pub fn rule(&self, line: u32) -> Option<KeptRule>
+        ensures value { result ≡ rule_at self.now.rules line }
         ensures of_line { IfSome result
             (λ r.
             (l : parsed.Line)
@@ -74,5 +101,30 @@ impl<'a> KeptLines<'a> {
             ((l : parsed.Line) → line_at self.now.lines line ≡ Some l → is_rule l ≡ false) }
     {
         self.table.rule(line)
+    }
+
+    /// The `needs`, `limits` and `unknown` lines of a version; none of a number that no version has.
+    pub fn lines_of(&self, version: VersionNo) -> &'a [u32]
+        ensures { result.now ≡ kept_of self.now.owned version.0 }
+    {
+        self.table.owned.lines_of(version)
+    }
+
+    /// The versions of the package whose name has this number, in line order.
+    pub fn versions_of(&self, name: NameId) -> &'a [VersionNo]
+        ensures { map number_of result.now
+            ≡ places_from (λ v. v.«package».raw == name.raw) 0 self.now.versions }
+    {
+        match self.table.packages.get(name) {
+            Some(package) => package.versions(),
+            None => &[],
+        }
+    }
+
+    /// A law of all such lines: the numbers are those of the lines. It does nothing.
+    pub fn lines_are_kept(&self)
+        ensures { AreKept self.now }
+    {
+        let _table = self.table;
     }
 }

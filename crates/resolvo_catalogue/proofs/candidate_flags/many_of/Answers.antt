@@ -1,4 +1,4 @@
-use Rattle.std.proofs.Common.{◌≡◌, ◌∷◌, [], ◌++◌, ◌∙◌, Bool, List, take, map, sym, ap}
+use Rattle.std.proofs.Common.{◌≡◌, ◌∙◌, ◌++◌, ◌∷◌, [], Bool, List, sym, ap, map, take}
 use Rattle.std.specs.Prelude.{slice_index_or}
 use Rattle.std.proofs.lemmas.List.{map_more, take_all}
 use Rattle.resolvo_text.specs.Line.{Version}
@@ -17,18 +17,19 @@ loop-version-preserved c =
     let vs = c.versions-versions.result.now in
     let i = c.loop-version.version-index in
     let none : KeptVersion = record { «package» = name_id 0; number = 0 } in
-    let one : KeptVersion = slice_index_or vs i none in
-    let flag : c.is_many.result ≡ is_many lines (name_at names one.«package».raw) = c.is_many.ensures ∙ ap (λ (t : Terms). is_many lines (name_text t one.«package»)) c.terms-terms.ensures.terms in
+    let test : KeptVersion → Bool = λ v. is_many lines (name_at names v.«package».raw) in
+    let one : c.is_many.result ≡ test (slice_index_or vs i none) = c.is_many.ensures ∙ ap (λ (t : Terms). is_many lines (name_text t (slice_index_or vs i none).«package»)) c.terms-terms.ensures.terms in
     c.in_ok-push.ensures.items
-    ∙ (ap (λ (flags : List Bool). flags ++ c.is_many.result ∷ []) c.loop-version.invariant
-    ∙ (ap (λ (b : Bool). map (λ (v : KeptVersion). is_many lines (name_at names v.«package».raw)) (take i vs) ++ b ∷ []) flag
-    ∙ sym (map_more (λ (v : KeptVersion). is_many lines (name_at names v.«package».raw)) vs i none c.loop-version-test.true)))
+    ∙ ap (λ (xs : List Bool). xs ++ c.is_many.result ∷ []) c.loop-version.invariant
+    ∙ ap (λ (b : Bool). map test (take i vs) ++ b ∷ []) one
+    ∙ sym (map_more test vs i none c.loop-version-test.true)
 
 pub returns-clause-many : goal.returns-clause-many
 returns-clause-many c =
     let lines = c.args.catalogue.now in
     let kept = c.args.kept.now in
     let vs = c.versions-versions.result.now in
-    let all = rw (take_all c.loop-version.version-index vs c.loop-version-test.false) at c.loop-version.invariant in
-    all ∙ (flags_are (is_many lines) kept.terms.names vs
-    ∙ (ap (map (λ (v : Version). is_many lines v.name)) (c.versions-versions.ensures.versions ∙ ap listed c.requires)))
+    let test : KeptVersion → Bool = λ v. is_many lines (name_at kept.terms.names v.«package».raw) in
+    let all : take c.loop-version.version-index vs ≡ vs = take_all c.loop-version.version-index vs c.loop-version-test.false in
+    c.loop-version.invariant ∙ (ap (map test) all ∙ (flags_are (is_many lines) kept.terms.names vs
+    ∙ (ap (map (λ (v : Version). is_many lines v.name)) (c.versions-versions.ensures.versions ∙ ap listed c.requires))))

@@ -1,9 +1,9 @@
-use Rattle.std.proofs.Common.{[], sym, ap, ◌∙◌, length, arith}
+use Rattle.std.proofs.Common.{inl, inr, [], sym, ap, ◌∙◌, length, arith}
 use Rattle.std.proofs.lemmas.List.{take_all}
 use Rattle.std.proofs.lemmas.Option.{slice_get-get_or}
 use Rattle.resolvo_catalogue_core.specs.Listed.{listed}
 use Rattle.resolvo_catalogue.proofs.DependencyLemmas.{text_next, text_step}
-use Rattle.resolvo_catalogue.proofs.MarkLemmas.{marked_none, favours_next, all_favours}
+use Rattle.resolvo_catalogue.proofs.MarkLemmas.{marked_none, marked_by_none, favours_next, all_favours}
 use Rattle.resolvo_catalogue.proofs.candidate_flags.marks_of.Goals as goal
 use Rattle.resolvo_catalogue.proofs.candidate_flags.marks_of.Goals.{in-Some, in_default}
 
@@ -22,7 +22,11 @@ loop-line-preserved c = elim c.match-rule.branch [
 
 pub loop-version-init : goal.loop-version-init
 loop-version-init c = λ ids same.
-    rw (take_all c.loop-line.line c.args.catalogue.now (omega (arith, c.loop-line-test.false, c.line_count-line-end.ensures, ap length c.requires))) at c.loop-line.invariant ids same
+    let lines = c.args.catalogue.now in
+    elim c.lines_to_mark-line-end.ensures [
+      | inl all ↦ rw (take_all c.loop-line.line lines (omega (arith, c.loop-line-test.false, all, ap length c.requires))) at c.loop-line.invariant ids same
+      | inr none ↦ marked_by_none ids c.loop-line.line lines [] (listed lines) c.loop-line.marks.items (rw c.requires at none.1) (c.loop-line.invariant ids same)
+    ]
 
 pub loop-version-preserved : goal.loop-version-preserved
 loop-version-preserved c = λ ids same.

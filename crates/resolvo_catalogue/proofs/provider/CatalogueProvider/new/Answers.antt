@@ -1,21 +1,32 @@
-use Rattle.std.proofs.Common.{false}
-use Rattle.resolvo_pool_core.specs.declared.want.Want.TheVariants.{Ids as NoIds}
-use Rattle.resolvo_catalogue.proofs.CountLemmas.{count_over, same_fault}
+use Rattle.std.proofs.Common.{List, subst}
+use Rattle.resolvo_text.specs.Line.{Line}
+use Rattle.resolvo_catalogue_core.specs.Listed.{listed, AreDistinct}
+use Rattle.resolvo_catalogue.specs.Ids.{AreVersions}
+use Rattle.resolvo_catalogue.specs.Over.{AreDependencies}
+use Rattle.resolvo_catalogue.specs.Tabled.{deps_in}
+use Rattle.resolvo_catalogue.proofs.CountLemmas.{count_over}
+use Rattle.resolvo_catalogue.proofs.ListLemmas.{versions_are}
+use Rattle.resolvo_catalogue.proofs.TableLemmas.{deps_are}
 use Rattle.resolvo_catalogue.proofs.provider.CatalogueProvider.new.Goals as goal
 
 pub returns-clause-over : goal.returns-clause-over
-returns-clause-over c = c.in_ok-packages.ensures.over c.args.hint false
+returns-clause-over c =
+    let ids = c.in_ok-ids.ids in
+    let k = c.kept-kept.result in
+    let terms = c.in_ok-ids.ensures.terms in
+    let same = c.kept-kept.ensures in
+    record {
+      versions = subst (λ (ls : List Line). AreVersions ids (listed ls)) same (versions_are ids k c.lines_are_kept.ensures terms c.in_ok-ids.ensures.solvables);
+      deps = subst (λ (ls : List Line). AreDependencies ids ls (deps_in k)) same (deps_are ids k c.lines_are_kept.ensures terms);
+      marks = c.in_ok-marks.ensures.marked ids terms;
+      many = c.in_ok-many.ensures.many;
+      once = c.ids_are_once.ensures;
+      distinct = subst (λ (ls : List Line). AreDistinct (listed ls)) same c.lines_are_kept.ensures.distinct;
+      grammatical = c.lines_are_in_place.ensures;
+    }
 
 pub returns-clause-few : goal.returns-clause-few
 returns-clause-few c =
-    count_over c.in_ok-ids.ids c.tables_of.new.ids c.terms.result.now c.kept-kept.result.lines c.args.catalogue.now c.in_ok-ids.ensures.terms c.in_ok-ids.ensures.none c.kept-kept.ensures
-    c.terms.ensures.few c.in_ok-packages.ensures.few
-
-pub returns-in_err-packages-clause-ids : goal.returns-in_err-packages-clause-ids
-returns-in_err-packages-clause-ids c = λ is. record {
-  ids = c.tables_of.new.ids;
-  lacks = c.in_err-packages.ensures.ids (same_fault c.from_residual-in_err-packages.result c.in_err-packages.field-0.0 NoIds c.from_residual-in_err-packages.ensures.1 is);
-  few =
-      count_over c.in_ok-ids.ids c.tables_of.new.ids c.terms.result.now c.kept-kept.result.lines c.args.catalogue.now c.in_ok-ids.ensures.terms c.in_ok-ids.ensures.none c.kept-kept.ensures
-      c.terms.ensures.few c.in_err-packages.ensures.few;
-}
+    let ids = c.in_ok-ids.ids in
+    let k = c.kept-kept.result in
+    count_over ids k c.args.catalogue.now c.lines_are_kept.ensures c.in_ok-ids.ensures.terms (versions_are ids k c.lines_are_kept.ensures c.in_ok-ids.ensures.terms c.in_ok-ids.ensures.solvables) c.kept-kept.ensures
