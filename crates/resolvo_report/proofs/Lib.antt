@@ -9,3 +9,4 @@ pub mod DraftLemmas
 pub mod WriteLemmas
 pub mod ReportLaws
 pub mod ShownLemmas
+pub mod PushLemmas

@@ -4,6 +4,7 @@
 //! Its model is the value of specs/Value.antt, by the view of specs/View.antt.
 #![tactic(auto)]
 
+mod answer_text;
 mod laws;
 mod parse;
 mod part;

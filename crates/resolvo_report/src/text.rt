@@ -6,11 +6,10 @@ ghost use Rattle.std.specs.Prelude.{Some};
 ghost use Rattle.std.specs.List.{join_with_byte};
 ghost use Rattle.resolvo_text.specs.Spelling.{spec_words, alternatives_words};
 ghost use Rattle.resolvo_text.specs.View.{version_of, spec_of, specs_of};
-ghost use Rattle.resolvo_report.specs.View.{place_of, atom_of, literal_of, literals_of, step_of, answer_line_of};
-ghost use Rattle.resolvo_report.specs.Text.{version_text, place_text, atom_text, literal_text, clause_text, step_text, answer_words};
+ghost use Rattle.resolvo_report.specs.View.{place_of, atom_of, literal_of, literals_of, step_of};
+ghost use Rattle.resolvo_report.specs.Text.{version_text, place_text, atom_text, literal_text, clause_text, step_text};
 ghost use Rattle.resolvo_report.specs.Pieces.{spaced, causes_text};
 
-use crate::report::AnswerLine;
 use crate::step::{Atom, Literal, Place, Step};
 use resolvo_text::{Span, Spec, Version};
 use std::fmt;
@@ -140,28 +139,6 @@ impl fmt::Display for Causes<'_> {
             write!(f, " {number}")?;
         }
         Ok(())
-    }
-}
-
-impl fmt::Display for AnswerLine {
-    ghost output = { λ a. Some (join_with_byte 32 (answer_words (answer_line_of a))) };
-
-    fn fmt<W: fmt::Write>(&self, f: &mut fmt::Formatter<W>) -> fmt::Result {
-        match self {
-            AnswerLine::Entry {
-                version,
-                place,
-                line,
-            } => write!(f, "{} for {place} line {line}", OneWord(version)),
-            AnswerLine::Wished { version, line } => {
-                write!(f, "{} wished line {line}", OneWord(version))
-            }
-            AnswerLine::LeftOut {
-                version,
-                line,
-                step,
-            } => write!(f, "left out {} line {line} by {step}", OneWord(version)),
-        }
     }
 }
 

@@ -9,6 +9,7 @@ ghost use Rattle.resolvo_report.specs.View.{report_of, answer_lines_of, steps_of
 ghost use Rattle.resolvo_report.specs.Text.{lines_text, numbered, report_text};
 ghost use Rattle.resolvo_report.specs.Write.{WritesText, StopsText};
 
+use crate::answer_text::push_answer;
 use crate::report::{AnswerLine, Report};
 use crate::step::Step;
 use resolvo_text::{Sink, WriteFault, write_all};
@@ -113,12 +114,19 @@ fn write_refused<S: Sink>(
     write_message(sink, message)
 }
 
+fn write_bytes<S: Sink>(sink: &mut S, bytes: &[u8]) -> Result<(), ReportWriteFault>
+    ensures whole { OnOk result (WritesText S.Sink sink.old sink.new bytes.now) }
+    ensures fault { IfErr result (λ e. StopsText S.Sink e sink.old sink.new bytes.now) }
+{
+    write_all(sink, bytes)?;
+    Ok(())
+}
+
 fn write_line<S: Sink>(sink: &mut S, line: &str) -> Result<(), ReportWriteFault>
     ensures whole { OnOk result (WritesText S.Sink sink.old sink.new line.now) }
     ensures fault { IfErr result (λ e. StopsText S.Sink e sink.old sink.new line.now) }
 {
-    write_all(sink, line.as_bytes())?;
-    Ok(())
+    write_bytes(sink, line.as_bytes())
 }
 
 fn write_answers<S: Sink>(
@@ -131,9 +139,12 @@ fn write_answers<S: Sink>(
     ensures fault { IfErr result (λ e. StopsText S.Sink e sink.old sink.new
         (lines_text (map model.Answer (answer_lines_of lines.now)))) }
 {
+    let mut text = Vec::new(alloc);
     for line in lines {
-        let text = format!(in alloc; "{line}\n")?;
-        write_line(sink, text.as_str())?;
+        text.clear();
+        push_answer(&mut text, line)?;
+        text.push(b'\n')?;
+        write_bytes(sink, text.as_slice())?;
     }
     Ok(())
 }
