@@ -1,26 +1,18 @@
--- The rule of a need, and the keys of its SPECs.
-use Rattle.std.proofs.Common.{◌≡◌, inl, inr, ℕ, ◌<◌, ◌+◌, ◌++◌, ◌∷◌, [], List, Bor, Option, Some, None, Result, Ok, Err, OnOk, length, take, get_or, sym, ap, subst, refl, ◌∙◌}
-use Rattle.std.specs.Prelude.{Contains, option_copied, option_map}
+-- Needs of lines, and the keys of their SPECs.
+use Rattle.std.proofs.Common.{◌≡◌, inl, inr, ℕ, ◌<◌, ◌+◌, [], List, Option, Some, None, Result, Ok, Err, OnOk, length, take, get_or, sym, subst, ◌∙◌}
+use Rattle.std.specs.Prelude.{Contains, slice_get, IfOk, false}
 use Rattle.std.proofs.lemmas.Bool.{false≢true}
-use Rattle.std.proofs.lemmas.List.{take_more, map-append}
+use Rattle.std.proofs.lemmas.List.{take_more}
+use Rattle.std.proofs.lemmas.Option.{slice_get-get_or}
 use Rattle.std.proofs.lemmas.List.Elements.{Contains-push_cases}
 use Rattle.resolvo_text.specs.Line.{Version, Spec, Cond, Line, Needs}
-use Rattle.resolvo_text.specs.View.{spec_of, specs_of}
-use Rattle.resolvo_text.specs.declared.spec.Spec as code
-use Rattle.resolvo_catalogue_core.specs.Questions.{IsRuleLine, rule_found}
-use Rattle.resolvo_catalogue_core.specs.declared.rule.Rule.{Rule}
-use Rattle.resolvo_catalogue_core.specs.declared.rule.FoundRule.{FoundRule}
-use Rattle.resolve_order.specs.Kept.{IsRuleAt, IsNeedRule, IsKeptFor, IsKeptForAll, KeepsAll}
+use Rattle.resolvo_text.specs.declared.spec.Span.TheVariants.{Any}
+use Rattle.resolve_order.specs.Kept.{IsKeptFor, IsKeptForAll, KeepsAll}
+use Rattle.resolvo_catalogue_core.specs.Questions.{is_rule}
+use Rattle.resolve_order.specs.Need.{alternatives_in, condition_in, IsNeedAt, IsSpanOf, IsSpanAt}
+use Rattle.resolve_order.specs.declared.need.PackageSpan.{PackageSpan}
+use Rattle.resolve_order.specs.declared.need.Need.{Need}
 use Rattle.resolve_order.specs.declared.package_lines.PackageLines.{PackageLines}
-
-pub need_rule : (r : Rule) (ss : List Spec) (c : Option Cond) → IsRuleAt (Some (Needs ss c)) (Some r) → IsNeedRule r ss c
-need_rule r ss c h =
-    let is : ◌≡◌ {A = Option Line} (Some (Needs ss c)) (Some h.0) = h.1 in
-    let same : h.0 ≡ Needs ss c = cc in
-    (h.2.0, h.2.1, subst (IsRuleLine h.2.0 r h.2.1) same h.2.2)
-
-pub no_rule_of : (ss : List Spec) (c : Option Cond) → IsRuleAt (Some (Needs ss c)) None → ⊥
-no_rule_of ss c h = false≢true (sym (h (Needs ss c) refl))
 
 pub on_ok : {T E P Q : Type 0} (r : Result T E) → (P → Q) → OnOk r P → OnOk r Q
 on_ok (Ok x) f p = f p
@@ -33,16 +25,34 @@ pub not_some : {X : Type 0} (o : Option X) (a : X) → o ≡ None → o ≡ Some
 not_some o a none some = cc
 
 -- one more SPEC by whose key the line is kept
-pub kept_more : (versions : List Version) (before after : PackageLines) (line : ℕ) (specs : List code.Spec) (i : ℕ) (s : code.Spec) → i < length specs → s ≡ get_or specs i s → KeepsAll before after → IsKeptForAll versions before line (specs_of (take i specs))
-    → IsKeptFor versions after line (spec_of s) → IsKeptForAll versions after line (specs_of (take (i + 1) specs))
-kept_more versions before after line specs i s lt is keeps all one = λ t c. elim (Contains-push_cases (specs_of (take i specs)) (spec_of s) t (subst (λ (ss : List Spec). Contains ss t) more c)) [
+pub kept_more : (versions : List Version) (before after : PackageLines) (line : ℕ) (specs : List Spec) (i : ℕ) → i < length specs → KeepsAll before after → IsKeptForAll versions before line (take i specs)
+    → ((s : Spec) → slice_get specs i ≡ Some s → IsKeptFor versions after line s) → IsKeptForAll versions after line (take (i + 1) specs)
+kept_more versions before after line specs i lt keeps all one = λ t c. elim (Contains-push_cases (take i specs) (get_or specs i blank) t (subst (λ (ss : List Spec). Contains ss t) (take_more specs i blank lt) c)) [
   | inl old ↦ λ k key. keeps k line (all t old k key)
-  | inr new ↦ subst (IsKeptFor versions after line) new one
+  | inr new ↦ subst (IsKeptFor versions after line) new (one (get_or specs i blank) (slice_get-get_or specs i blank lt))
 ]
   where
-    more : specs_of (take (i + 1) specs) ≡ specs_of (take i specs) ++ spec_of s ∷ []
-    more = ap specs_of (take_more specs i s lt ∙ ap (λ (x : code.Spec). take i specs ++ x ∷ []) (sym is)) ∙ map-append spec_of (take i specs) (s ∷ [])
+    blank : Spec
+    blank = record { name = []; span = Any }
 
--- the rule that was found is that of the line where it is lent too
-pub found_at : (line named : Option Line) (found : Option FoundRule) (lent : Option (Bor Rule)) → option_copied lent ≡ option_map rule_found found → line ≡ named → IsRuleAt line (option_map rule_found found) → IsRuleAt named (option_copied lent)
-found_at line named found lent same is h = subst (λ (l : Option Line). IsRuleAt l (option_copied lent)) is (subst (IsRuleAt line) (sym same) h)
+-- the need of a line is the one that it was found to be
+pub found_need : (line : Option Line) (n : Need) (ss : List Spec) (c : Option Cond) → IsNeedAt line (Some n) → line ≡ Some (Needs ss c) → (alternatives_in n ≡ ss) × (condition_in n ≡ c)
+found_need line n ss c is named =
+    let same : ◌≡◌ {A = Option Line} (Some (Needs (alternatives_in n) (condition_in n))) (Some (Needs ss c)) = sym is ∙ named in
+    (cc, cc)
+
+-- a line without a rule
+pub no_need_of : (line : Option Line) → ((l : Line) → line ≡ Some l → is_rule l ≡ false) → IsNeedAt line None
+no_need_of line none = λ ss c e. false≢true (sym (none (Needs ss c) e))
+
+pub if_ok : {T E : Type 0} {P Q : T → Type 0} (r : Result T E) → ((x : T) → P x → Q x) → IfOk r P → IfOk r Q
+if_ok (Ok x) f p = f x p
+if_ok (Err e) f p = tt
+
+-- ---- the SPEC at a place
+
+pub span_found : (versions : List Version) (o : Option Spec) (p : Option PackageSpan) (s : Spec) (q : PackageSpan) → IsSpanAt versions o p → o ≡ Some s → p ≡ Some q → IsSpanOf versions s q
+span_found versions o p s q h is found = subst (IsSpanAt versions (Some s)) found (subst (λ (x : Option Spec). IsSpanAt versions x p) is h)
+
+pub span_missing : (versions : List Version) (o : Option Spec) (p : Option PackageSpan) (s : Spec) → IsSpanAt versions o p → o ≡ Some s → p ≡ None → ⊥
+span_missing versions o p s h is none = subst (IsSpanAt versions (Some s)) none (subst (λ (x : Option Spec). IsSpanAt versions x p) is h)

@@ -1,7 +1,10 @@
 -- The number of a package's first version, and maps by these numbers.
 use Rattle.std.proofs.Common.{◌≡◌, inl, inr, ℕ, zero, suc, ◌<◌, ◌≤◌, Bool, true, false, if◌then◌else◌, ◌&&◌, List, [], ◌∷◌, length, map, Option, Some, None, refl, sym, ap, subst, ◌∙◌, get_or, arith}
 use Rattle.std.specs.Prelude.{slice_get, Contains, ◌==◌}
-use Rattle.std.specs.Option.{option_map}
+use Rattle.std.specs.Option.{option_map, option_and_then}
+use Rattle.std.specs.BTreeMap.{BTreeMap, get, is_at}
+use Rattle.std.specs.Map.{lookup}
+use Rattle.std.specs.Ordering.{nat_cmp}
 use Rattle.std.specs.Str.{bytes_eq}
 use Rattle.std.proofs.lemmas.Bool.{false≢true, cases_Bool, eqb-true, eq-eqb}
 use Rattle.std.proofs.lemmas.List.Kept.{AllPairs-from_increasing}
@@ -11,7 +14,7 @@ use Rattle.resolvo_text.specs.Matches.{same_version}
 use Rattle.resolvo_catalogue_core.specs.Questions.{AreAll, IsOfPackage, number_of}
 use Rattle.resolvo_catalogue_core.specs.declared.rule.VersionNo.{VersionNo}
 use Rattle.resolve_order.specs.Numbers.{version_in}
-use Rattle.resolve_order.specs.Kept.{first_of, by_name, numbers_in}
+use Rattle.resolve_order.specs.Kept.{first_of, by_name, numbers_in, favoured_in}
 use Rattle.resolve_order.specs.declared.version_table.VersionTable.{VersionTable}
 use Rattle.resolve_order.proofs.Elements.{first_element}
 use Rattle.resolve_order.proofs.NumberLemmas.{PutsNumber}
@@ -97,32 +100,50 @@ first_named versions name (n ∷ numbers) o are is = ap (λ (x : Option VersionN
 
 -- ---- tables by packages
 
--- a table was changed at the place of a version
-pub puts_at : (versions : List Version) (v : Version) (p number : ℕ) (n : Option VersionNo) (before after : VersionTable) → first_of versions v.name ≡ Some p → v.number ≡ number
-    → ((k q : ℕ) → version_in after k q ≡ (if p == k && number == q then n else version_in before k q)) → (name : List ℕ) → PutsNumber v n name (by_name versions before name) (by_name versions after name)
-puts_at versions v p number n before after first is puts name = λ q. of (first_of versions name) refl q
-  where
-    apart : (o : Option ℕ) → first_of versions name ≡ o → (o ≡ Some p → ⊥) → bytes_eq v.name name ≡ false
-    apart o e differs = elim (cases_Bool (bytes_eq v.name name)) [
-      | inl t ↦ absurd (differs (sym e ∙ ap (λ (x : List ℕ). first_of versions x) (sym ((bytes_eq-Decides v.name name).0 t)) ∙ first))
-      | inr f ↦ f
-    ]
+-- a package of another name
+first_apart : (versions : List Version) (v : Version) (p : ℕ) (name : List ℕ) (o : Option ℕ) → first_of versions v.name ≡ Some p → first_of versions name ≡ o → (o ≡ Some p → ⊥) → bytes_eq v.name name ≡ false
+first_apart versions v p name o first e differs = elim (cases_Bool (bytes_eq v.name name)) [
+  | inl t ↦ absurd (differs (sym e ∙ ap (λ (x : List ℕ). first_of versions x) (sym ((bytes_eq-Decides v.name name).0 t)) ∙ first))
+  | inr f ↦ f
+]
 
-    same_name : (k : ℕ) → first_of versions name ≡ Some k → p ≡ k → v.name ≡ name
-    same_name k e same =
+-- names are the same where the first versions are
+first_test : (versions : List Version) (v : Version) (p : ℕ) (name : List ℕ) (k : ℕ) → first_of versions v.name ≡ Some p → first_of versions name ≡ Some k → p == k ≡ bytes_eq v.name name
+first_test versions v p name k first e = elim (cases_Bool (p == k)) [
+  | inl t ↦ t ∙ sym ((bytes_eq-Decides v.name name).1 (same_name (eqb-true p k t)))
+  | inr f ↦ f ∙ sym (first_apart versions v p name (Some k) first e (λ same. let is : k ≡ p = cc in false≢true (sym f ∙ eq-eqb p k (sym is))))
+]
+  where
+    same_name : p ≡ k → v.name ≡ name
+    same_name same =
         let w = first_is versions name k e in
         let u = first_is versions v.name p first in
         let one : u.0 ≡ w.0 = (let a = subst (λ (i : ℕ). slice_get versions i ≡ Some u.0) same u.1 in let b = w.1 in cc) in
         sym u.2 ∙ ap (λ (x : Version). x.name) one ∙ w.2
 
-    test : (k : ℕ) → first_of versions name ≡ Some k → p == k ≡ bytes_eq v.name name
-    test k e = elim (cases_Bool (p == k)) [
-      | inl t ↦ t ∙ sym ((bytes_eq-Decides v.name name).1 (same_name k e (eqb-true p k t)))
-      | inr f ↦ f ∙ sym (apart (Some k) e (λ same. let is : k ≡ p = cc in false≢true (sym f ∙ eq-eqb p k (sym is))))
-    ]
-
+-- a table was changed at the place of a version
+pub puts_at : (versions : List Version) (v : Version) (p number : ℕ) (n : Option VersionNo) (before after : VersionTable) → first_of versions v.name ≡ Some p → v.number ≡ number
+    → ((k q : ℕ) → version_in after k q ≡ (if p == k && number == q then n else version_in before k q)) → (name : List ℕ) → PutsNumber v n name (by_name versions before name) (by_name versions after name)
+puts_at versions v p number n before after first is puts name = λ q. of (first_of versions name) refl q
+  where
     of : (o : Option ℕ) → first_of versions name ≡ o → (q : ℕ) → numbers_in after o q ≡ (if same_version v (record { name = name; number = q }) then n else numbers_in before o q)
-    of None e q = sym (ap (λ (b : Bool). let x : Option VersionNo = if b && v.number == q then n else None in x) (apart None e (λ same. absurd cc)))
+    of None e q = sym (ap (λ (b : Bool). let x : Option VersionNo = if b && v.number == q then n else None in x) (first_apart versions v p name None first e (λ same. absurd cc)))
     of (Some k) e q =
-        puts k q ∙ ap (λ (b : Bool). if b && number == q then n else version_in before k q) (test k e)
+        puts k q ∙ ap (λ (b : Bool). if b && number == q then n else version_in before k q) (first_test versions v p name k first e)
         ∙ ap (λ (i : ℕ). if bytes_eq v.name name && i == q then n else version_in before k q) (sym is)
+
+-- a map was changed at the package of a version
+pub favoured_put : (versions : List Version) (v : Version) (p : ℕ) (n : VersionNo) (before after : BTreeMap ℕ VersionNo) (name : List ℕ) → first_of versions v.name ≡ Some p → ((k : ℕ) → get nat_cmp after k ≡ (if p == k then Some n else get nat_cmp before k))
+    → favoured_in versions after name ≡ (if bytes_eq v.name name then Some n else favoured_in versions before name)
+favoured_put versions v p n before after name first puts = of (first_of versions name) refl
+  where
+    of : (o : Option ℕ) → first_of versions name ≡ o → option_and_then (λ k. get nat_cmp after k) o ≡ (if bytes_eq v.name name then Some n else option_and_then (λ k. get nat_cmp before k) o)
+    of None e = sym (ap (λ (b : Bool). let x : Option VersionNo = if b then Some n else None in x) (first_apart versions v p name None first e (λ same. absurd cc)))
+    of (Some k) e = puts k ∙ ap (λ (b : Bool). if b then Some n else get nat_cmp before k) (first_test versions v p name k first e)
+
+pub favoured_nothing : (versions : List Version) (map : BTreeMap ℕ VersionNo) (name : List ℕ) → map.entries ≡ [] → favoured_in versions map name ≡ None
+favoured_nothing versions map name empty = of (first_of versions name)
+  where
+    of : (o : Option ℕ) → option_and_then (λ k. get nat_cmp map k) o ≡ None
+    of None = refl
+    of (Some k) = ap (λ (es : List (ℕ × VersionNo)). lookup (is_at (nat_cmp k)) es) empty

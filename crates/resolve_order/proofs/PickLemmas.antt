@@ -4,26 +4,23 @@ use Rattle.std.specs.Prelude.{slice_get, Contains, option_to_list, ◌==◌, IsT
 use Rattle.std.specs.Option.{option_map_or, is_some}
 use Rattle.std.specs.List.{list_any}
 use Rattle.std.specs.Str.{bytes_eq}
-use Rattle.std.specs.BTreeMap.{get_by_text}
 use Rattle.std.proofs.lemmas.Bool.{false≢true, cases_Bool, and_parts, and_from}
 use Rattle.std.proofs.lemmas.List.Elements.{Contains-append_left, Contains-append_right, Contains-push, Contains-push_cases}
 use Rattle.std.proofs.lemmas.List.Sums.{sum_by-set}
-use Rattle.std.proofs.lemmas.List.{append-nil, take_all, take_more, take-append-drop, drop_more, map-append}
+use Rattle.std.proofs.lemmas.List.{append-nil, take_all, take_more, take-append-drop, drop_more}
 use Rattle.std.proofs.lemmas.Grind.{flat_map-append}
 use Rattle.std.proofs.lemmas.Option.{slice_get_within, slice_get-get_or, get_or_from_slice_get}
 use Rattle.std.proofs.lemmas.Bool.Decides.{Decides-eqb}
 use Rattle.std.proofs.lemmas.Slice.Eq.{bytes_eq-Decides}
 use Rattle.resolvo_text.specs.Line.{Version, Spec, Cond, Line, Needs, Favour}
-use Rattle.resolvo_text.specs.View.{spec_of, specs_of}
-use Rattle.resolvo_text.specs.declared.spec.Spec as code
+use Rattle.resolvo_text.specs.declared.spec.Span.TheVariants.{Any}
 use Rattle.resolvo_text.specs.Matches.{Set, matches, is_member, is_met, is_in_span, condition_holds}
-use Rattle.resolvo_catalogue_core.specs.Listed.{listed, is_match, members}
-use Rattle.resolvo_catalogue_core.specs.Questions.{is_rule}
+use Rattle.resolvo_catalogue_core.specs.Listed.{listed, members}
 use Rattle.resolvo_catalogue_core.specs.declared.rule.VersionNo.{VersionNo}
 use Rattle.resolvo_catalogue_core.proofs.TableSteps.{same_version_is}
 use Rattle.resolve_order.specs.Order.{IsSorted}
 use Rattle.resolve_order.specs.Numbers.{version_in, IsNewestIn}
-use Rattle.resolve_order.specs.Kept.{first_of, numbers_in, by_name, AreNumbersOf, IsLeftOver, IsFavouredOf, is_unlisted, weight, unlisted, IsIn, HasPackage, Holds, IsFavouredMatch, IsUnlistedMatch, IsFirstMatch, IsLineState, IsWaiting, IsSpent}
+use Rattle.resolve_order.specs.Kept.{first_of, numbers_in, by_name, AreNumbersOf, IsLeftOver, IsFavouredOf, favoured_in, is_unlisted, weight, unlisted, IsIn, HasPackage, Holds, IsFavouredMatch, IsUnlistedMatch, IsFirstMatch, IsLineState, IsWaiting, IsSpent}
 use Rattle.resolve_order.specs.declared.chosen.LineState.TheVariants as state
 use Rattle.resolve_order.specs.declared.version_table.VersionTable.{VersionTable}
 use Rattle.resolve_order.specs.declared.chosen.Chosen.{Chosen}
@@ -63,7 +60,7 @@ adds catalogue before after chosen entries n v at unset puts entered favoured fl
       (λ w l. (Contains-append_left chosen (v ∷ []) w l.0, l.1)) (Contains-push chosen v, none_from_member entries v (not_true (is_member v entries) (sym (flag_means catalogue before chosen entries n.0 v h at) ∙ unset)))
       (λ w l apart. (elim (Contains-push_cases chosen v w l.0) [ inl old ↦ old | inr new ↦ absurd (apart new) ], l.1)) (puts name) (h.unlisted name);
   entered = λ name. subst (λ (m : _). AreNumbersOf (listed catalogue) (Contains entries) name (by_name (listed catalogue) m name)) (sym entered) (h.entered name);
-  favoured = λ name. subst (λ (m : _). IsFavouredOf catalogue name (get_by_text m name)) (sym favoured) (h.favoured name);
+  favoured = λ name. subst (λ (m : _). IsFavouredOf catalogue name (favoured_in (listed catalogue) m name)) (sym favoured) (h.favoured name);
   flags = λ k w at_k. ap (λ (l : _). slice_get l.items k) flags ∙ h.flags k w at_k;
   distinct = h.distinct;
   among = λ w c. Contains-append_left chosen (v ∷ []) w (h.among w c);
@@ -180,7 +177,7 @@ marks catalogue before after chosen entries n v at in_chosen unset moves flags h
       (λ w l apart. (l.0, λ c. elim (Contains-push_cases entries v w c) [ inl old ↦ l.1 old | inr new ↦ apart new ])) (moves.taken name) (h.unlisted name);
   entered = λ name. numbers_more (listed catalogue) (Contains entries) (Contains (entries ++ v ∷ [])) v n name (by_name (listed catalogue) before.entries name) (by_name (listed catalogue) after.entries name) h.distinct at
       (λ w c. Contains-append_left entries (v ∷ []) w c) (Contains-push entries v) (λ w c apart. elim (Contains-push_cases entries v w c) [ inl old ↦ old | inr new ↦ absurd (apart new) ]) (moves.entered name) (h.entered name);
-  favoured = λ name. subst (λ (m : _). IsFavouredOf catalogue name (get_by_text m name)) (sym moves.same_favoured) (h.favoured name);
+  favoured = λ name. subst (λ (m : _). IsFavouredOf catalogue name (favoured_in (listed catalogue) m name)) (sym moves.same_favoured) (h.favoured name);
   flags = λ k w at_k. ap (λ (fs : List Bool). slice_get fs k) flags ∙ of k w at_k (is_nat k n.0);
   distinct = h.distinct;
   among = λ w c. elim (Contains-push_cases entries v w c) [ inl old ↦ h.among w old | inr new ↦ subst (Contains chosen) new in_chosen ];
@@ -222,7 +219,7 @@ pub drops : (catalogue : List Line) (before after : Chosen) (chosen entries : Se
 drops catalogue before after chosen entries n left is_set over entered favoured flags packages h = record {
   unlisted = λ name. subst (λ (m : _). AreNumbersOf (listed catalogue) (IsLeftOver chosen entries) name (by_name (listed catalogue) m name)) (sym over) (h.unlisted name);
   entered = λ name. subst (λ (m : _). AreNumbersOf (listed catalogue) (Contains entries) name (by_name (listed catalogue) m name)) (sym entered) (h.entered name);
-  favoured = λ name. subst (λ (m : _). IsFavouredOf catalogue name (get_by_text m name)) (sym favoured) (h.favoured name);
+  favoured = λ name. subst (λ (m : _). IsFavouredOf catalogue name (favoured_in (listed catalogue) m name)) (sym favoured) (h.favoured name);
   flags = λ k w at. ap (λ (l : _). slice_get l.items k) flags ∙ h.flags k w at;
   distinct = h.distinct;
   among = h.among;
@@ -252,9 +249,6 @@ in_span s w m = (and_parts (bytes_eq w.name s.name) (is_in_span s.span w.number)
 
 match_from : (s : Spec) (w : Version) → w.name ≡ s.name → is_in_span s.span w.number ≡ true → matches s w ≡ true
 match_from s w name span = and_from (bytes_eq w.name s.name) (is_in_span s.span w.number) ((bytes_eq-Decides w.name s.name).1 name) span
-
-match_is : (versions : List Version) (s : Spec) (n : ℕ) (v : Version) (b : Bool) → slice_get versions n ≡ Some v → is_match versions s n ≡ b → matches s v ≡ b
-match_is versions s n v b at is = sym (ap (λ (o : Option Version). option_map_or (λ x. matches s x) o false) at) ∙ is
 
 pub version_is : (u v : Version) → u.name ≡ v.name → u.number ≡ v.number → u ≡ v
 version_is u v name number = (same_version_is u v).0 (and_from (bytes_eq u.name v.name) (u.number == v.number) ((bytes_eq-Decides u.name v.name).1 name) ((Decides-eqb u.number v.number).1 number))
@@ -286,7 +280,7 @@ module _ (catalogue : List Line) (chosen entries : Set) (s : Spec) (numbers : �
   it_is : p ≡ favoured.0
   it_is = (let a = favoured.1 in cc)
 
-  pub favoured_found : is_some (numbers p.number) ≡ true → is_match (listed catalogue) s k.0 ≡ true → IsFavouredMatch catalogue chosen entries s (Some k)
+  pub favoured_found : is_some (numbers p.number) ≡ true → is_in_span s.span p.number ≡ true → IsFavouredMatch catalogue chosen entries s (Some k)
   favoured_found has is = of (numbers p.number) refl has
     where
       of : (o : Option VersionNo) → numbers p.number ≡ o → is_some o ≡ true → IsFavouredMatch catalogue chosen entries s (Some k)
@@ -294,12 +288,12 @@ module _ (catalogue : List Line) (chosen entries : Set) (s : Spec) (numbers : �
       of (Some j) e h =
           let u = (are p.number j).0 e in
           let same : u.0 ≡ favoured.0 = version_is u.0 favoured.0 (u.2 ∙ sym favoured.2) (u.3 ∙ ap (λ (x : Version). x.number) it_is) in
-          (favoured.0, favoured.1, favoured.3, match_is (listed catalogue) s k.0 favoured.0 true favoured.1 is, subst (IsLeftOver chosen entries) same u.4)
+          (favoured.0, favoured.1, favoured.3, match_from s favoured.0 favoured.2 (subst (λ (x : Version). is_in_span s.span x.number ≡ true) it_is is), subst (IsLeftOver chosen entries) same u.4)
 
-  pub favoured_other : (is_some (numbers p.number) ≡ false) ⊎ (is_match (listed catalogue) s k.0 ≡ false) → IsFavouredMatch catalogue chosen entries s None
+  pub favoured_other : (is_some (numbers p.number) ≡ false) ⊎ (is_in_span s.span p.number ≡ false) → IsFavouredMatch catalogue chosen entries s None
   favoured_other fails = λ w f m l. elim fails [
     | inl none ↦ false≢true (sym none ∙ ap is_some (found w f m l))
-    | inr fails ↦ false≢true (sym (match_is (listed catalogue) s k.0 w false (at_w w f m) fails) ∙ m)
+    | inr fails ↦ false≢true (sym fails ∙ ap (λ (x : Version). is_in_span s.span x.number) (it_is ∙ sym (same w f m)) ∙ in_span s w m)
   ]
     where
       same : (w : Version) → Contains catalogue (Favour w) → matches s w ≡ true → w ≡ favoured.0
@@ -383,26 +377,27 @@ met_none catalogue kept chosen entries s h none = sym (any_none (matches s) entr
 
 -- ---- the first of several SPECs
 
-pub none_of_first : (catalogue : List Line) (chosen entries : Set) (alternatives : List code.Spec) (i : ℕ) (s : code.Spec) → i < length alternatives → s ≡ get_or alternatives i s
-    → IsFirstMatch catalogue chosen entries (specs_of (take i alternatives)) None → IsUnlistedMatch catalogue chosen entries (spec_of s) None → IsFirstMatch catalogue chosen entries (specs_of (take (i + 1) alternatives)) None
-none_of_first catalogue chosen entries alternatives i s lt is before here = λ t w c m chosen_w.
-    elim (Contains-push_cases (specs_of (take i alternatives)) (spec_of s) t (subst (λ (ss : _). Contains ss t) more c)) [
-      | inl old ↦ before t w old m chosen_w
-      | inr new ↦ here w chosen_w (subst (λ (x : Spec). matches x w ≡ true) (sym new) m)
-    ]
-  where
-    more : specs_of (take (i + 1) alternatives) ≡ specs_of (take i alternatives) ++ spec_of s ∷ []
-    more = ap specs_of (take_more alternatives i s lt ∙ ap (λ (x : code.Spec). take i alternatives ++ x ∷ []) (sym is)) ∙ map-append spec_of (take i alternatives) (s ∷ [])
+-- The alternative at a place that is within; the default is never used.
+blank : Spec
+blank = record { name = []; span = Any }
 
-pub found_first : (catalogue : List Line) (chosen entries : Set) (alternatives : List code.Spec) (i : ℕ) (s : code.Spec) (n : VersionNo) → i < length alternatives → s ≡ get_or alternatives i s
-    → IsFirstMatch catalogue chosen entries (specs_of (take i alternatives)) None → IsUnlistedMatch catalogue chosen entries (spec_of s) (Some n) → IsFirstMatch catalogue chosen entries (specs_of alternatives) (Some n)
-found_first catalogue chosen entries alternatives i s n lt is before here =
-    (here.0, here.1, here.3, (specs_of (take i alternatives), spec_of s, specs_of (drop (i + 1) alternatives), parts, here.2, here.4, before))
+pub none_of_first : (catalogue : List Line) (chosen entries : Set) (alternatives : List Spec) (i : ℕ) → i < length alternatives
+    → IsFirstMatch catalogue chosen entries (take i alternatives) None → ((s : Spec) → slice_get alternatives i ≡ Some s → IsUnlistedMatch catalogue chosen entries s None) → IsFirstMatch catalogue chosen entries (take (i + 1) alternatives) None
+none_of_first catalogue chosen entries alternatives i lt before here = λ t w c m chosen_w.
+    elim (Contains-push_cases (take i alternatives) (get_or alternatives i blank) t (subst (λ (ss : List Spec). Contains ss t) (take_more alternatives i blank lt) c)) [
+      | inl old ↦ before t w old m chosen_w
+      | inr new ↦ here (get_or alternatives i blank) (slice_get-get_or alternatives i blank lt) w chosen_w (subst (λ (x : Spec). matches x w ≡ true) (sym new) m)
+    ]
+
+pub found_first : (catalogue : List Line) (chosen entries : Set) (alternatives : List Spec) (i : ℕ) (n : VersionNo) → i < length alternatives
+    → IsFirstMatch catalogue chosen entries (take i alternatives) None → ((s : Spec) → slice_get alternatives i ≡ Some s → IsUnlistedMatch catalogue chosen entries s (Some n)) → IsFirstMatch catalogue chosen entries alternatives (Some n)
+found_first catalogue chosen entries alternatives i n lt before there =
+    let s = get_or alternatives i blank in
+    let here = there s (slice_get-get_or alternatives i blank lt) in
+    (here.0, here.1, here.3, (take i alternatives, s, drop (i + 1) alternatives, parts, here.2, here.4, before))
   where
-    parts : specs_of alternatives ≡ specs_of (take i alternatives) ++ spec_of s ∷ specs_of (drop (i + 1) alternatives)
-    parts =
-        ap specs_of (sym (take-append-drop i alternatives) ∙ ap (λ (ss : _). take i alternatives ++ ss) (drop_more alternatives i s lt ∙ ap (λ (x : code.Spec). x ∷ drop (i + 1) alternatives) (sym is)))
-        ∙ map-append spec_of (take i alternatives) (s ∷ drop (i + 1) alternatives)
+    parts : alternatives ≡ take i alternatives ++ get_or alternatives i blank ∷ drop (i + 1) alternatives
+    parts = sym (take-append-drop i alternatives) ∙ ap (λ (ss : List Spec). take i alternatives ++ ss) (drop_more alternatives i blank lt)
 
 -- ---- the version of a need
 
@@ -428,10 +423,6 @@ spent_need catalogue chosen entries alternatives condition none = λ ss c w e an
     let f = any_element (λ s. matches s w) ss any in
     none f.0 w (subst (λ (xs : _). Contains xs f.0) (sym (same_need alternatives ss condition c e).0) f.1) f.2 in_chosen
 
--- a rule that is no need
-pub no_need : (chosen entries : Set) (line : Line) → ((ss : List Spec) (c : Option Cond) → line ≡ Needs ss c → ⊥) → IsSpent chosen entries (Some line)
-no_need chosen entries line none = λ ss c w e any in_chosen. absurd (none ss c (let is : line ≡ Needs ss c = cc in is))
-
--- a line without a rule
-pub no_rule : (chosen entries : Set) (line : Option Line) → ((l : Line) → line ≡ Some l → is_rule l ≡ false) → IsSpent chosen entries line
-no_rule chosen entries line none = λ ss c w e any in_chosen. absurd (false≢true (sym (none (Needs ss c) e)))
+-- a line that is no need
+pub no_need : (chosen entries : Set) (line : Option Line) → ((ss : List Spec) (c : Option Cond) → line ≡ Some (Needs ss c) → ⊥) → IsSpent chosen entries line
+no_need chosen entries line none = λ ss c w e any in_chosen. absurd (none ss c e)

@@ -1,9 +1,9 @@
 -- The state of the lister: the chosen versions by their packages, the lines in their order, and
 -- the open ones.
 use Rattle.std.specs.Prelude.{◌≡◌, ℕ, zero, suc, ◌<◌, ◌↔◌, ◌≤◌, ◌+◌, ◌-◌, IsTrue, Bool, true, false, if◌then◌else◌, not, ⊤, ◌⊎◌, List, [], ◌∷◌, ◌++◌, length, map, Option, Some, None, Contains, slice_get}
-use Rattle.std.specs.Option.{option_map, option_map_or}
+use Rattle.std.specs.Option.{option_map, option_map_or, option_and_then}
 use Rattle.std.specs.Str.{bytes_eq}
-use Rattle.std.specs.BTreeMap.{get, get_by_text}
+use Rattle.std.specs.BTreeMap.{BTreeMap, get}
 use Rattle.std.specs.BTreeSet.{BTreeSet, btree_set_len, contains}
 use Rattle.std.specs.Ordering.{nat_cmp}
 use Rattle.std.specs.List.{list_any, sum_by}
@@ -14,10 +14,8 @@ use Rattle.resolvo_text.specs.Matches.{Set, is_member, matches, condition_holds}
 use Rattle.resolvo_catalogue_core.specs.Answers as answers
 use Rattle.resolvo_catalogue_core.specs.Answers.{entries_of, IsNeededBy}
 use Rattle.resolvo_catalogue_core.specs.Listed.{listed, AreDistinct}
-use Rattle.resolvo_catalogue_core.specs.Questions.{IsRuleLine, is_rule}
 use Rattle.resolvo_catalogue_core.specs.Kept.{nth}
 use Rattle.resolvo_catalogue_core.specs.declared.rule.VersionNo.{VersionNo}
-use Rattle.resolvo_catalogue_core.specs.declared.rule.Rule.{Rule}
 use Rattle.resolve_order.specs.Order.{line_named, IsAsked, Precedes, IsSorted, IsOfFirst, IsNext, IsComplete, AreInOrder, Turn, IsOneTurn}
 use Rattle.resolve_order.specs.View.{reason_of, answers_of, AreNumbered}
 use Rattle.resolve_order.specs.Numbers.{version_in}
@@ -69,6 +67,10 @@ IsFavouredOf catalogue name None = (v : Version) → Contains catalogue (Favour 
 IsFavouredOf catalogue name (Some k) = (v : Version) × (slice_get (listed catalogue) k.0 ≡ Some v) × (v.name ≡ name) × Contains catalogue (Favour v)
     × ((w : Version) → Contains catalogue (Favour w) → w.name ≡ name → w ≡ v)
 
+-- what a map by first versions has for the package
+abbrev pub favoured_in : List Version → BTreeMap ℕ VersionNo → List ℕ → Option VersionNo
+favoured_in versions map name = option_and_then (λ k. get nat_cmp map k) (first_of versions name)
+
 -- version n is in the catalogue, and is no entry
 abbrev pub is_unlisted : List Bool → ℕ → Bool
 is_unlisted flags n = option_map_or not (slice_get flags n) false
@@ -94,7 +96,7 @@ HasPackage versions packages n v = (p : ℕ) × (slice_get packages n ≡ Some p
 pub record Holds (catalogue : List Line) (kept : Chosen) (chosen entries : Set) : Type 0 where
   pub unlisted : (name : List ℕ) → AreNumbersOf (listed catalogue) (IsLeftOver chosen entries) name (by_name (listed catalogue) kept.unlisted name)
   pub entered : (name : List ℕ) → AreNumbersOf (listed catalogue) (Contains entries) name (by_name (listed catalogue) kept.entries name)
-  pub favoured : (name : List ℕ) → IsFavouredOf catalogue name (get_by_text kept.favoured name)
+  pub favoured : (name : List ℕ) → IsFavouredOf catalogue name (favoured_in (listed catalogue) kept.favoured name)
   pub flags : (n : ℕ) (v : Version) → slice_get (listed catalogue) n ≡ Some v → slice_get kept.listed.items n ≡ Some (is_member v entries)
   pub distinct : AreDistinct (listed catalogue)
   pub among : (v : Version) → Contains entries v → Contains chosen v
@@ -122,15 +124,6 @@ IsFirstMatch catalogue chosen entries alternatives (Some n) = (v : Version) × (
     × ((t : Spec) (w : Version) → Contains above t → IsTrue (matches t w) → Contains chosen w → Contains entries w))
 
 -- ---- one line
-
--- The rule is that of the line, or the line has none.
-abbrev pub IsRuleAt : Option Line → Option Rule → Type 0
-IsRuleAt line None = (l : Line) → line ≡ Some l → is_rule l ≡ false
-IsRuleAt line (Some r) = (l : Line) × (line ≡ Some l) × ((versions : List Version) × (owner : Option Version) × IsRuleLine versions r owner l)
-
--- It is a need with these alternatives and this condition.
-abbrev pub IsNeedRule : Rule → List Spec → Option Cond → Type 0
-IsNeedRule r alternatives condition = (versions : List Version) × (owner : Option Version) × IsRuleLine versions r owner (Needs alternatives condition)
 
 -- Each match of the line among the chosen versions is an entry.
 abbrev pub IsSpent : Set → Set → Option Line → Type 0

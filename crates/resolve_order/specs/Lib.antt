@@ -2,3 +2,4 @@ pub mod Order
 pub mod View
 pub mod Numbers
 pub mod Kept
+pub mod Need

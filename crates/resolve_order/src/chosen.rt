@@ -3,18 +3,23 @@
 //! it.
 
 ghost use Rattle.std.specs.Prelude.{◌≡◌, ◌++◌, ◌∷◌, [], ℕ, ◌+◌, true, Contains, slice_get, Some, None, List, Option, IfOk, OnOk, IfSome};
-ghost use Rattle.std.specs.BTreeMap.{get_by_text};
-ghost use Rattle.std.specs.Option.{option_copied, option_map};
+ghost use Rattle.std.specs.BTreeMap.{get};
+ghost use Rattle.std.specs.Option.{option_map};
+ghost use Rattle.std.specs.Ordering.{nat_cmp};
+ghost use Rattle.resolvo_terms.specs.Known.{cond_at};
 ghost use Rattle.resolvo_text.specs.Line as content;
 ghost use Rattle.resolvo_text.specs.Matches.{Set, is_met, holds, condition_holds};
-ghost use Rattle.resolvo_text.specs.View.{spec_of, specs_of, cond_of, condition_of};
+ghost use Rattle.resolvo_text.specs.View.{spec_of, cond_of, condition_of};
 ghost use Rattle.resolvo_catalogue_core.specs.Listed.{listed, members, version_at, version_by};
-ghost use Rattle.resolvo_catalogue_core.specs.Questions.{IsRuleLine};
 ghost use Rattle.resolve_order.specs.Numbers.{version_in};
-ghost use Rattle.resolve_order.specs.Kept.{first_of, IsPlaceOf, Holds, IsLeftOver, IsFavouredOf, IsFavouredMatch, IsUnlistedMatch, IsFirstMatch, AreNumbersOf, IsRuleAt, IsLineState, IfGives, is_unlisted, unlisted};
+ghost use Rattle.resolve_order.specs.Kept.{first_of, IsPlaceOf, Holds, IsLeftOver, IsFavouredOf, IsFavouredMatch, IsUnlistedMatch, IsFirstMatch, AreNumbersOf, IsLineState, IfGives, favoured_in, is_unlisted, unlisted};
+ghost use Rattle.resolve_order.specs.Need.{IsSpanOf, alternatives_in, condition_in};
 
+use crate::need::{Need, PackageSpan};
 use crate::version_table::VersionTable;
-use resolvo_catalogue_core::{Catalogue, Cond, Rule, Spec, VersionNo};
+use resolvo_catalogue_core::{Catalogue, Cond, Span, Spec, VersionNo, is_in_span};
+use resolvo_pool_core::id::ConditionId;
+use resolvo_terms::Terms;
 use std::alloc::{AllocError, Global};
 use std::collections::BTreeMap;
 
@@ -29,7 +34,7 @@ pub enum LineState {
 }
 
 /// The listed version of this number.
-fn version_at(catalogue: &Catalogue, version: VersionNo) -> Option<(&str, u32)>
+pub fn version_at(catalogue: &Catalogue, version: VersionNo) -> Option<(&str, u32)>
     ensures { option_map (λ v. version_by v.0.now v.1) result ≡ version_at catalogue.now version.0 }
 {
     catalogue.versions().get(version)
@@ -54,19 +59,18 @@ fn place_of(catalogue: &Catalogue, version: VersionNo) -> Option<(u32, u32)>
     Some((package, listed.1))
 }
 
-/// The favoured versions of a catalogue, by their packages.
-fn favoured_by(
-    alloc: Global,
-    catalogue: &Catalogue,
-) -> Result<BTreeMap<String, VersionNo>, AllocError>
+/// The favoured versions of a catalogue, by the numbers of their packages' first versions.
+fn favoured_by(alloc: Global, catalogue: &Catalogue) -> Result<BTreeMap<u32, VersionNo>, AllocError>
     ensures { IfOk result
-        (λ map. (name : List ℕ) → IsFavouredOf catalogue.now name (get_by_text map name)) }
+        (λ map.
+        (name : List ℕ)
+        → IsFavouredOf catalogue.now name (favoured_in (listed catalogue.now) map name)) }
 {
     catalogue.lines_are_in_place();
     let mut map = BTreeMap::new(alloc);
     for (_, version) in catalogue.favours() {
-        if let Some(listed) = version_at(catalogue, *version) {
-            map.insert(String::from_str(alloc, listed.0)?, *version)?;
+        if let Some(place) = place_of(catalogue, *version) {
+            map.insert(place.0, *version)?;
         }
     }
     Ok(map)
@@ -78,7 +82,7 @@ pub struct Chosen {
     unlisted: VersionTable,
     entries: VersionTable,
     /// The favoured version of each package.
-    favoured: BTreeMap<String, VersionNo>,
+    favoured: BTreeMap<u32, VersionNo>,
     /// Of each version of the catalogue, whether it is an entry.
     listed: Vec<bool>,
     /// The chosen versions that may be no entries yet.
@@ -227,18 +231,27 @@ impl Chosen {
         true
     }
 
-    /// The favoured version of the SPEC's package, if it is a chosen match and no entry.
-    fn favoured_match(&self, catalogue: &Catalogue, package: u32, spec: &Spec) -> Option<VersionNo>
-        ensures { (chosen entries : Set)
-            → Holds catalogue.now self.now chosen entries
-            → AreNumbersOf (listed catalogue.now) (IsLeftOver chosen entries)
-            (spec_of spec.now).name (version_in self.now.unlisted «package»)
-            → IsFavouredMatch catalogue.now chosen entries (spec_of spec.now) result }
+    /// The favoured version of the package, if there is one.
+    fn favoured_of(&self, package: u32) -> Option<VersionNo>
+        ensures { result ≡ get nat_cmp self.now.favoured «package» }
     {
-        let version = self.favoured.get(spec.name.as_str()).copied()?;
+        self.favoured.get(&package).copied()
+    }
+
+    /// The same, if it is a chosen one in the span and no entry.
+    fn favoured_match(&self, catalogue: &Catalogue, package: u32, span: Span) -> Option<VersionNo>
+        ensures { (chosen entries : Set) (s : content.Spec)
+            → first_of (listed catalogue.now) s.name ≡ Some «package»
+            → s.span ≡ span
+            → Holds catalogue.now self.now chosen entries
+            → AreNumbersOf (listed catalogue.now) (IsLeftOver chosen entries) s.name
+            (version_in self.now.unlisted «package»)
+            → IsFavouredMatch catalogue.now chosen entries s result }
+    {
+        let version = self.favoured_of(package)?;
         let listed = version_at(catalogue, version)?;
         let chosen = self.unlisted.get((package, listed.1));
-        if chosen.is_some() && catalogue.match_of(spec, version) {
+        if chosen.is_some() && is_in_span(span, listed.1) {
             Some(version)
         } else {
             None
@@ -247,24 +260,26 @@ impl Chosen {
 
     /// The first of the chosen versions that the SPEC matches and that are no entries: the favoured
     /// one, or the newest.
-    fn sorted_match(&self, catalogue: &Catalogue, spec: &Spec) -> Option<VersionNo>
-        ensures { (chosen entries : Set)
+    fn sorted_match(&self, catalogue: &Catalogue, spec: PackageSpan) -> Option<VersionNo>
+        ensures { (chosen entries : Set) (s : content.Spec)
+            → IsSpanOf (listed catalogue.now) s spec
             → Holds catalogue.now self.now chosen entries
-            → IsUnlistedMatch catalogue.now chosen entries (spec_of spec.now) result }
+            → IsUnlistedMatch catalogue.now chosen entries s result }
     {
-        let package = package_of(catalogue, spec.name.as_str())?;
-        match self.favoured_match(catalogue, package, spec) {
+        let package = spec.package?;
+        match self.favoured_match(catalogue, package, spec.span) {
             Some(version) => Some(version),
             None => self.unlisted.newest_in(package, spec.span),
         }
     }
 
     /// The same, by its flag no entry.
-    fn unlisted_match(&self, catalogue: &Catalogue, spec: &Spec) -> Option<VersionNo>
+    fn unlisted_match(&self, catalogue: &Catalogue, spec: PackageSpan) -> Option<VersionNo>
         ensures unlisted { IfSome result (λ n. is_unlisted self.now.listed.items n.0 ≡ true) }
-        ensures matched { (chosen entries : Set)
+        ensures matched { (chosen entries : Set) (s : content.Spec)
+            → IsSpanOf (listed catalogue.now) s spec
             → Holds catalogue.now self.now chosen entries
-            → IsUnlistedMatch catalogue.now chosen entries (spec_of spec.now) result }
+            → IsUnlistedMatch catalogue.now chosen entries s result }
     {
         match self.sorted_match(catalogue, spec) {
             Some(version) => {
@@ -278,16 +293,29 @@ impl Chosen {
         }
     }
 
+    /// Such a version of the alternative at a place.
+    fn match_at(&self, catalogue: &Catalogue, need: &Need<'_>, place: usize) -> Option<VersionNo>
+        ensures unlisted { IfSome result (λ n. is_unlisted self.now.listed.items n.0 ≡ true) }
+        ensures matched { (chosen entries : Set) (s : content.Spec)
+            → slice_get (alternatives_in need.now) place ≡ Some s
+            → Holds catalogue.now self.now chosen entries
+            → IsUnlistedMatch catalogue.now chosen entries s result }
+    {
+        match need.at(catalogue, place) {
+            Some(spec) => self.unlisted_match(catalogue, spec),
+            None => None,
+        }
+    }
+
     /// Such a version of the first alternative that has one.
-    fn first_match(&self, catalogue: &Catalogue, alternatives: &[Spec]) -> Option<VersionNo>
+    fn first_match(&self, catalogue: &Catalogue, need: &Need<'_>) -> Option<VersionNo>
         ensures unlisted { IfSome result (λ n. is_unlisted self.now.listed.items n.0 ≡ true) }
         ensures matched { (chosen entries : Set)
             → Holds catalogue.now self.now chosen entries
-            → IsFirstMatch catalogue.now chosen entries (specs_of alternatives.now)
-            result }
+            → IsFirstMatch catalogue.now chosen entries (alternatives_in need.now) result }
     {
-        for spec in alternatives {
-            if let Some(version) = self.unlisted_match(catalogue, spec) {
+        for place in 0..need.len() {
+            if let Some(version) = self.match_at(catalogue, need, place) {
                 return Some(version);
             }
         }
@@ -331,62 +359,71 @@ impl Chosen {
         }
     }
 
-    /// What a need gives.
-    fn need_state(
+    /// The same of a condition by numbers.
+    fn kept_holds(
         &self,
         catalogue: &Catalogue,
-        alternatives: &[Spec],
-        condition: &Option<Box<Cond>>,
-    ) -> LineState
-        ensures unlisted { IfGives result (λ n. is_unlisted self.now.listed.items n.0 ≡ true) }
-        ensures state { (chosen entries : Set)
+        terms: &Terms,
+        condition: Option<ConditionId>,
+    ) -> Result<bool, AllocError>
+        ensures { IfOk result
+            (λ answer.
+            (chosen entries : Set)
             → Holds catalogue.now self.now chosen entries
-            → IsLineState catalogue.now chosen entries
-            (Some (content.Needs (specs_of alternatives.now) (condition_of condition.now))) result }
+            → answer ≡ condition_holds (option_map (cond_at terms.now) condition) entries) }
     {
-        match self.first_match(catalogue, alternatives) {
-            Some(version) => {
-                if self.condition_holds(catalogue, condition) {
-                    LineState::Gives(version)
-                } else {
-                    LineState::Waiting
-                }
-            }
-            None => LineState::Spent,
-        }
+        let condition = terms.condition_of(condition)?;
+        Ok(self.condition_holds(catalogue, &condition))
     }
 
-    /// What the line of this rule gives: nothing where it is no need.
-    fn rule_state(&self, catalogue: &Catalogue, rule: &Rule) -> LineState
-        ensures unlisted { IfGives result (λ n. is_unlisted self.now.listed.items n.0 ≡ true) }
-        ensures state { (chosen entries : Set) (versions : List content.Version)
-            (owner : Option content.Version) (line : content.Line)
+    /// Whether the condition of the need holds among the entries.
+    fn may_give(&self, catalogue: &Catalogue, need: &Need<'_>) -> Result<bool, AllocError>
+        ensures { IfOk result
+            (λ answer.
+            (chosen entries : Set)
             → Holds catalogue.now self.now chosen entries
-            → IsRuleLine versions rule.now owner line
-            → IsLineState catalogue.now chosen entries (Some line) result }
+            → answer ≡ condition_holds (condition_in need.now) entries) }
     {
-        match rule {
-            Rule::Needs {
-                alternatives,
+        match need {
+            Need::Text { condition, .. } => Ok(self.condition_holds(catalogue, condition)),
+            Need::One {
+                terms,
                 condition,
                 ..
-            } => self.need_state(catalogue, alternatives.as_slice(), condition),
-            Rule::Limits { .. } | Rule::Lock { .. } | Rule::Exclude { .. } | Rule::Unknown { .. } =>
-                LineState::Spent,
+            } => self.kept_holds(catalogue, terms, *condition),
+            Need::Several {
+                terms,
+                condition,
+                ..
+            } => self.kept_holds(catalogue, terms, *condition),
         }
     }
 
-    /// What the line of this rule gives: nothing where it has none.
-    pub fn line_state(&self, catalogue: &Catalogue, rule: Option<&Rule>) -> LineState
-        ensures unlisted { IfGives result (λ n. is_unlisted self.now.listed.items n.0 ≡ true) }
-        ensures state { (chosen entries : Set) (line : Option content.Line)
+    /// What a need gives.
+    pub fn need_state(
+        &self,
+        catalogue: &Catalogue,
+        need: &Need<'_>,
+    ) -> Result<LineState, AllocError>
+        ensures unlisted { IfOk result
+            (λ state. IfGives state (λ n. is_unlisted self.now.listed.items n.0 ≡ true)) }
+        ensures state { IfOk result
+            (λ state.
+            (chosen entries : Set)
             → Holds catalogue.now self.now chosen entries
-            → IsRuleAt line (option_copied rule.entry)
-            → IsLineState catalogue.now chosen entries line result }
+            → IsLineState catalogue.now chosen entries
+            (Some (content.Needs (alternatives_in need.now) (condition_in need.now))) state) }
     {
-        match rule {
-            Some(rule) => self.rule_state(catalogue, rule),
-            None => LineState::Spent,
+        match self.first_match(catalogue, need) {
+            Some(version) => {
+                let holds = self.may_give(catalogue, need)?;
+                if holds {
+                    Ok(LineState::Gives(version))
+                } else {
+                    Ok(LineState::Waiting)
+                }
+            }
+            None => Ok(LineState::Spent),
         }
     }
 }

@@ -4,6 +4,7 @@
 mod chosen;
 mod entry;
 mod install_order;
+mod need;
 mod open_lines;
 mod package_lines;
 mod version_table;

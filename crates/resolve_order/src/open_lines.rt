@@ -6,8 +6,7 @@
 //! version. That is many times where many versions of a package that is marked `many` come one
 //! after the other, and a range of many lines names it, or where a line has many alternatives.
 
-ghost use Rattle.std.specs.Prelude.{◌≡◌, ℕ, ◌<◌, ◌^◌, ◌++◌, [], length, Contains, true, None, Some, List, Option, slice_get, option_map, IfOk, IfSome, OnOk};
-ghost use Rattle.resolvo_catalogue_core.specs.Questions.{rule_found};
+ghost use Rattle.std.specs.Prelude.{◌≡◌, ℕ, ◌<◌, ◌^◌, ◌++◌, [], length, Contains, true, None, Some, List, Option, slice_get, IfOk, IfSome, OnOk};
 ghost use Rattle.std.specs.BTreeSet.{contains};
 ghost use Rattle.std.specs.Ordering.{nat_cmp};
 ghost use Rattle.resolvo_text.specs.Line as content;
@@ -15,12 +14,14 @@ ghost use Rattle.resolvo_text.specs.Matches.{Set};
 ghost use Rattle.resolvo_catalogue_core.specs.Listed.{listed, members};
 ghost use Rattle.resolve_order.specs.Order.{line_named};
 ghost use Rattle.resolve_order.specs.View.{reason_of};
-ghost use Rattle.resolve_order.specs.Kept.{Holds, AreLines, IsRuleAt, IsLineState, IfGives, IsKeptByNeeds, IsKeptForAll, KeepsAll, IsOpen, IsFirstOpen, AreWithin, Closes, IsVersionKey, Reopens, OthersAreIdle, IsFound, specs_under, is_unlisted};
+ghost use Rattle.resolve_order.specs.Kept.{Holds, AreLines, IsLineState, IfGives, IsKeptByNeeds, IsKeptForAll, KeepsAll, IsOpen, IsFirstOpen, AreWithin, Closes, IsVersionKey, Reopens, OthersAreIdle, IsFound, specs_under, is_unlisted};
+ghost use Rattle.resolve_order.specs.Need.{IsNeedAt};
 
 use crate::chosen::{Chosen, LineState};
 use crate::entry::{Entry, Reason};
+use crate::need::{Need, need_at, need_of};
 use crate::package_lines::PackageLines;
-use resolvo_catalogue_core::{Catalogue, FoundRule, Request, VersionNo, found};
+use resolvo_catalogue_core::{Catalogue, Request, VersionNo};
 use std::alloc::{AllocError, Global};
 use std::collections::BTreeSet;
 
@@ -38,28 +39,26 @@ pub struct OpenLines {
     waiting: PackageLines,
 }
 
-/// The rule of the line, if it has one.
-fn rule_at<'a>(
-    catalogue: &Catalogue,
+/// The need of the line, if it is one.
+fn need_named<'a>(
+    catalogue: &'a Catalogue,
     request: &'a Request,
     reason: Reason,
-) -> Result<Option<FoundRule<'a>>, AllocError>
-    ensures { IfOk result
-        (λ rule.
-        IsRuleAt
+) -> Option<Need<'a>>
+    ensures { IsNeedAt
         (line_named catalogue.now request.now.lines (reason_of (listed catalogue.now) reason))
-        (option_map rule_found rule)) }
+        result }
 {
     match reason {
         Reason::ForRequest { line } => match request.rule(line) {
-            Some(rule) => Ok(Some(FoundRule::Lent(rule))),
-            None => Ok(None),
+            Some(rule) => need_of(rule),
+            None => None,
         },
-        Reason::ForVersion { line, .. } => match catalogue.rule(line)? {
-            Some(rule) => Ok(Some(FoundRule::Made(rule))),
-            None => Ok(None),
-        },
-        Reason::Wished { .. } => Ok(None),
+        Reason::ForVersion { line, .. } => {
+            let kept = catalogue.kept();
+            need_at(&kept, line)
+        }
+        Reason::Wished { .. } => None,
     }
 }
 
@@ -80,8 +79,10 @@ fn state_at(
         (line_named catalogue.now request.now.lines (reason_of (listed catalogue.now) reason))
         state) }
 {
-    let rule = rule_at(catalogue, request, reason)?;
-    Ok(chosen.line_state(catalogue, found(&rule)))
+    match need_named(catalogue, request, reason) {
+        Some(need) => chosen.need_state(catalogue, &need),
+        None => Ok(LineState::Spent),
+    }
 }
 
 /// Keeps the line by the keys of its alternatives, if it is a need.
@@ -97,9 +98,10 @@ fn keep_alternatives(
         (line_named catalogue.now request.now.lines (reason_of (listed catalogue.now) reason))) }
     ensures kept { OnOk result (KeepsAll spent.old spent.new) }
 {
-    let rule = rule_at(catalogue, request, reason)?;
-    spent.add_alternatives_of(catalogue, found(&rule), line)?;
-    Ok(())
+    match need_named(catalogue, request, reason) {
+        Some(need) => spent.add_alternatives(catalogue, &need, line),
+        None => Ok(()),
+    }
 }
 
 /// Keeps the line by the keys of its condition, if it is a need.
@@ -117,9 +119,10 @@ fn keep_condition(
         → IsKeptForAll (listed catalogue.now) waiting.new line (specs_under condition)) }
     ensures kept { OnOk result (KeepsAll waiting.old waiting.new) }
 {
-    let rule = rule_at(catalogue, request, reason)?;
-    waiting.add_condition_of(catalogue, found(&rule), line)?;
-    Ok(())
+    match need_named(catalogue, request, reason) {
+        Some(need) => waiting.add_condition_of(catalogue, &need, line),
+        None => Ok(()),
+    }
 }
 
 /// The line at a place.

@@ -2,17 +2,23 @@
 //! known by its place in the list of all lines. The key of a SPEC is the number of the one version
 //! that it may match, or else that of its package's first version. Used by `open_lines`.
 
-ghost use Rattle.std.specs.Prelude.{◌≡◌, ◌∷◌, [], ℕ, true, Some, OnOk, List, Option};
-ghost use Rattle.std.specs.Option.{option_copied};
+ghost use Rattle.std.specs.Prelude.{◌≡◌, ◌∷◌, [], ℕ, true, Some, OnOk, List, slice_get};
+ghost use Rattle.std.specs.Option.{option_map};
 ghost use Rattle.std.specs.BTreeSet.{contains};
 ghost use Rattle.std.specs.Ordering.{nat_cmp};
 ghost use Rattle.resolvo_text.specs.Line as content;
-ghost use Rattle.resolvo_text.specs.View.{spec_of, specs_of, cond_of, condition_of};
+ghost use Rattle.resolvo_text.specs.View.{spec_of, cond_of, condition_of};
+ghost use Rattle.resolvo_terms.specs.Known.{cond_at};
+ghost use Rattle.resolvo_catalogue_core.specs.Questions.{number_of};
 ghost use Rattle.resolvo_catalogue_core.specs.Listed.{listed};
-ghost use Rattle.resolve_order.specs.Kept.{is_kept, IsKeyOf, IsKeptFor, IsKeptForAll, KeepsAll, IsRuleAt, IsNeedRule, specs_in, specs_under};
+ghost use Rattle.resolve_order.specs.Kept.{first_of, is_kept, IsKeyOf, IsKeptFor, IsKeptForAll, KeepsAll, specs_in, specs_under};
+ghost use Rattle.resolve_order.specs.Need.{IsSpanOf, alternatives_in, condition_in};
 
-use crate::chosen::package_of;
-use resolvo_catalogue_core::{Catalogue, Cond, Rule, Span, Spec};
+use crate::chosen::version_at;
+use crate::need::{Need, PackageSpan, span_of};
+use resolvo_catalogue_core::{Catalogue, Cond, Span, Spec, VersionNo};
+use resolvo_pool_core::id::ConditionId;
+use resolvo_terms::Terms;
 use std::alloc::{AllocError, Global};
 use std::collections::{BTreeMap, BTreeSet};
 
@@ -23,18 +29,32 @@ pub struct PackageLines {
     lines: BTreeMap<u32, BTreeSet<usize>>,
 }
 
+/// The version of this number in the package, if it is listed.
+fn find_in(catalogue: &Catalogue, package: Option<u32>, number: u32) -> Option<VersionNo>
+    ensures { (name : List ℕ) (k : ℕ)
+        → «package» ≡ first_of (listed catalogue.now) name
+        → slice_get (listed catalogue.now) k ≡ Some (record { name = name; number = number })
+        → option_map number_of result ≡ Some k }
+{
+    let package = package?;
+    let first = version_at(catalogue, VersionNo(package))?;
+    catalogue.find(first.0, number)
+}
+
 /// The key of a SPEC, if the catalogue lists such a version.
-fn key_of(catalogue: &Catalogue, spec: &Spec) -> Option<u32>
-    ensures { (k : ℕ)
-        → IsKeyOf (listed catalogue.now) (spec_of spec.now).name (spec_of spec.now).span k
+fn key_of(catalogue: &Catalogue, spec: PackageSpan) -> Option<u32>
+    ensures { (s : content.Spec) (k : ℕ)
+        → IsSpanOf (listed catalogue.now) s spec
+        → IsKeyOf (listed catalogue.now) s.name s.span k
         → result ≡ Some k }
 {
     match spec.span {
-        Span::One(number) => match catalogue.find(spec.name.as_str(), number) {
+        Span::One(number) => match find_in(catalogue, spec.package, number) {
             Some(version) => Some(version.0),
             None => None,
         },
-        Span::Any | Span::Range(..) => package_of(catalogue, spec.name.as_str()),
+        Span::Any => spec.package,
+        Span::Range(..) => spec.package,
     }
 }
 
@@ -65,11 +85,13 @@ impl PackageLines {
     fn add_spec(
         &mut self,
         catalogue: &Catalogue,
-        spec: &Spec,
+        spec: PackageSpan,
         line: usize,
     ) -> Result<(), AllocError>
         ensures added { OnOk result
-            (IsKeptFor (listed catalogue.now) self.new line (spec_of spec.now)) }
+            ((s : content.Spec)
+            → IsSpanOf (listed catalogue.now) s spec
+            → IsKeptFor (listed catalogue.now) self.new line s) }
         ensures kept { OnOk result (KeepsAll self.old self.new) }
     {
         match key_of(catalogue, spec) {
@@ -78,21 +100,55 @@ impl PackageLines {
         }
     }
 
-    /// The same by the keys of the SPECs.
-    fn add_specs(
+    /// The same by the key of the alternative at a place.
+    fn add_at(
         &mut self,
         catalogue: &Catalogue,
-        specs: &[Spec],
+        need: &Need<'_>,
+        place: usize,
         line: usize,
     ) -> Result<(), AllocError>
         ensures added { OnOk result
-            (IsKeptForAll (listed catalogue.now) self.new line (specs_of specs.now)) }
+            ((s : content.Spec)
+            → slice_get (alternatives_in need.now) place ≡ Some s
+            → IsKeptFor (listed catalogue.now) self.new line s) }
         ensures kept { OnOk result (KeepsAll self.old self.new) }
     {
-        for spec in specs {
-            self.add_spec(catalogue, spec, line)?;
+        match need.at(catalogue, place) {
+            Some(spec) => self.add_spec(catalogue, spec, line),
+            None => Ok(()),
+        }
+    }
+
+    /// Keeps the line of a need by the keys of its alternatives.
+    pub fn add_alternatives(
+        &mut self,
+        catalogue: &Catalogue,
+        need: &Need<'_>,
+        line: usize,
+    ) -> Result<(), AllocError>
+        ensures added { OnOk result
+            (IsKeptForAll (listed catalogue.now) self.new line (alternatives_in need.now)) }
+        ensures kept { OnOk result (KeepsAll self.old self.new) }
+    {
+        for place in 0..need.len() {
+            self.add_at(catalogue, need, place, line)?;
         }
         Ok(())
+    }
+
+    /// The same by the key of a SPEC of a text.
+    fn add_text(
+        &mut self,
+        catalogue: &Catalogue,
+        spec: &Spec,
+        line: usize,
+    ) -> Result<(), AllocError>
+        ensures added { OnOk result
+            (IsKeptFor (listed catalogue.now) self.new line (spec_of spec.now)) }
+        ensures kept { OnOk result (KeepsAll self.old self.new) }
+    {
+        self.add_spec(catalogue, span_of(catalogue, spec), line)
     }
 
     /// The same by the keys of the condition.
@@ -107,7 +163,7 @@ impl PackageLines {
         ensures kept { OnOk result (KeepsAll self.old self.new) }
     {
         match condition {
-            Cond::Spec(spec) => self.add_spec(catalogue, spec, line)?,
+            Cond::Spec(spec) => self.add_text(catalogue, spec, line)?,
             Cond::And(left, right) | Cond::Or(left, right) => {
                 self.add_parts(catalogue, left, line)?;
                 self.add_parts(catalogue, right, line)?;
@@ -133,83 +189,47 @@ impl PackageLines {
         }
     }
 
-    /// Keeps the line of a rule by the keys of its alternatives, if it is a need.
-    fn add_needed(
+    /// The same of a condition by numbers.
+    fn add_numbered(
         &mut self,
         catalogue: &Catalogue,
-        rule: &Rule,
+        terms: &Terms,
+        condition: Option<ConditionId>,
         line: usize,
     ) -> Result<(), AllocError>
         ensures added { OnOk result
-            ((ss : List content.Spec) (condition : Option content.Cond)
-            → IsNeedRule rule.now ss condition
-            → IsKeptForAll (listed catalogue.now) self.new line ss) }
+            (IsKeptForAll (listed catalogue.now) self.new line
+            (specs_under (option_map (cond_at terms.now) condition))) }
         ensures kept { OnOk result (KeepsAll self.old self.new) }
     {
-        match rule {
-            Rule::Needs { alternatives, .. } => {
-                self.add_specs(catalogue, alternatives.as_slice(), line)
-            }
-            Rule::Limits { .. } | Rule::Lock { .. } | Rule::Exclude { .. } | Rule::Unknown { .. } =>
-                Ok(()),
-        }
+        let condition = terms.condition_of(condition)?;
+        self.add_condition(catalogue, &condition, line)
     }
 
-    /// The same for a line that may have no rule.
-    pub fn add_alternatives_of(
-        &mut self,
-        catalogue: &Catalogue,
-        rule: Option<&Rule>,
-        line: usize,
-    ) -> Result<(), AllocError>
-        ensures added { OnOk result
-            ((ss : List content.Spec) (condition : Option content.Cond)
-            → IsRuleAt (Some (content.Needs ss condition)) (option_copied rule.entry)
-            → IsKeptForAll (listed catalogue.now) self.new line ss) }
-        ensures kept { OnOk result (KeepsAll self.old self.new) }
-    {
-        match rule {
-            Some(rule) => self.add_needed(catalogue, rule, line),
-            None => Ok(()),
-        }
-    }
-
-    /// Keeps the line of a rule by the keys of its condition, if it is a need.
-    fn add_required(
-        &mut self,
-        catalogue: &Catalogue,
-        rule: &Rule,
-        line: usize,
-    ) -> Result<(), AllocError>
-        ensures added { OnOk result
-            ((ss : List content.Spec) (condition : Option content.Cond)
-            → IsNeedRule rule.now ss condition
-            → IsKeptForAll (listed catalogue.now) self.new line (specs_under condition)) }
-        ensures kept { OnOk result (KeepsAll self.old self.new) }
-    {
-        match rule {
-            Rule::Needs { condition, .. } => self.add_condition(catalogue, condition, line),
-            Rule::Limits { .. } | Rule::Lock { .. } | Rule::Exclude { .. } | Rule::Unknown { .. } =>
-                Ok(()),
-        }
-    }
-
-    /// The same for a line that may have no rule.
+    /// Keeps the line of a need by the keys of its condition.
     pub fn add_condition_of(
         &mut self,
         catalogue: &Catalogue,
-        rule: Option<&Rule>,
+        need: &Need<'_>,
         line: usize,
     ) -> Result<(), AllocError>
         ensures added { OnOk result
-            ((ss : List content.Spec) (condition : Option content.Cond)
-            → IsRuleAt (Some (content.Needs ss condition)) (option_copied rule.entry)
-            → IsKeptForAll (listed catalogue.now) self.new line (specs_under condition)) }
+            (IsKeptForAll (listed catalogue.now) self.new line
+            (specs_under (condition_in need.now))) }
         ensures kept { OnOk result (KeepsAll self.old self.new) }
     {
-        match rule {
-            Some(rule) => self.add_required(catalogue, rule, line),
-            None => Ok(()),
+        match need {
+            Need::Text { condition, .. } => self.add_condition(catalogue, condition, line),
+            Need::One {
+                terms,
+                condition,
+                ..
+            } => self.add_numbered(catalogue, terms, *condition, line),
+            Need::Several {
+                terms,
+                condition,
+                ..
+            } => self.add_numbered(catalogue, terms, *condition, line),
         }
     }
 

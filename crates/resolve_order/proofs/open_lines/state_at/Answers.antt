@@ -1,11 +1,22 @@
-use Rattle.std.proofs.Common.{refl}
+use Rattle.std.proofs.Common.{sym, subst}
 use Rattle.resolvo_catalogue_core.specs.Listed.{listed}
 use Rattle.resolve_order.specs.Order.{line_named}
 use Rattle.resolve_order.specs.View.{reason_of}
-use Rattle.resolve_order.proofs.NeedLemmas.{found_at}
+use Rattle.resolve_order.specs.Kept.{IsLineState}
+use Rattle.resolve_order.specs.Need.{IsNeedAt}
+use Rattle.resolve_order.proofs.NeedLemmas.{if_ok}
+use Rattle.resolve_order.proofs.PickLemmas.{no_need}
 use Rattle.resolve_order.proofs.open_lines.state_at.Goals as goal
 
-pub returns-clause-state : goal.returns-clause-state
-returns-clause-state c = λ all entries holds.
-    let line = line_named c.args.catalogue.now c.args.request.now.lines (reason_of (listed c.args.catalogue.now) c.args.reason) in
-    c.line_state.ensures.state all entries line holds (found_at line line c.in_ok-rule.rule c.found.result c.found.ensures refl c.in_ok-rule.ensures)
+pub returns-in-Some-clause-state : goal.returns-in-Some-clause-state
+returns-in-Some-clause-state c =
+    let lines = c.args.catalogue.now in
+    let line = line_named lines c.args.request.now.lines (reason_of (listed lines) c.args.reason) in
+    let named = subst (IsNeedAt line) c.in-Some.is c.need_named.ensures in
+    if_ok c.need_state.result (λ state h all entries holds. subst (λ l. IsLineState lines all entries l state) (sym named) (h all entries holds)) c.need_state.ensures.state
+
+pub returns-in-None-clause-state : goal.returns-in-None-clause-state
+returns-in-None-clause-state c = λ all entries holds.
+    let lines = c.args.catalogue.now in
+    let line = line_named lines c.args.request.now.lines (reason_of (listed lines) c.args.reason) in
+    no_need all entries line (subst (IsNeedAt line) c.in-None.is c.need_named.ensures)
