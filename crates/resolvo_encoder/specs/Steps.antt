@@ -1,5 +1,5 @@
 -- The steps of encoding.
-use Rattle.std.specs.Prelude.{◌≡◌, ℕ, ◌<◌, ◌≤◌, ◌⊎◌, Bool, true, false, List, [], ◌∷◌, ◌++◌, length, Option, Some, None, Contains, Vec, slice_get}
+use Rattle.std.specs.Prelude.{◌≡◌, ℕ, ◌<◌, ◌≤◌, ◌⊎◌, Bool, true, false, List, [], ◌∷◌, ◌++◌, length, Option, Some, None, IsSome, leb, Contains, Vec, slice_get}
 use Rattle.std.specs.declared.alloc.Global.{Global}
 use Rattle.resolvo_pool_core.specs.declared.id.ClauseId.{ClauseId}
 use Rattle.resolvo_pool_core.specs.declared.id.VariableId.{VariableId}
@@ -33,7 +33,8 @@ use Rattle.resolvo_state.specs.declared.clause_kind.ClauseKind.TheVariants as Ki
 use Rattle.resolvo_pool_core.specs.Text.{solvable_of}
 use Rattle.resolvo_pool_core.specs.declared.solver_id.SolvableIdOrRoot.{SolvableIdOrRoot}
 use Rattle.resolvo_store_core.specs.AtMostOne.{IsPrefixOf}
-use Rattle.resolvo_encoder.specs.Encoded.{IsParentVariable, IsCondition, IsParentEncoded, IsMarkKnown, IsEncoding, AreCandidates}
+use Rattle.resolvo_sat.specs.SearchEnd.{IsNeedEncoded}
+use Rattle.resolvo_encoder.specs.Encoded.{rules_of, IsParentVariable, IsCondition, IsParentEncoded, IsMarkKnown, IsGuarded, IsEncoding, AreCandidates}
 use Rattle.resolvo_state.specs.declared.clause_kind.ClauseKind.{ClauseKind}
 use Rattle.resolvo_state.specs.declared.solver_state.SolverState.{SolverState}
 use Rattle.resolvo_state.specs.declared.registry.Registry.{Registry}
@@ -194,6 +195,27 @@ pub record SameButCoding {N S : Type 0} (old new : Encoder N S) : Type 0 where
 pub record Needs {N S : Type 0} (same : S → S → Bool) (p : Packages N S) (root : Rules) (parent : Option S) (need : ConditionalRequirement) : Type 0 where
   pub listed : Contains (rules_for same p root parent).requirements need
   pub free : need.condition ≡ None
+
+-- The clauses of the parent's requirement, which has its candidates, are added to those of an
+-- encoding.
+abbrev pub RequiresAgain : {N S : Type 0} → (S → S → Bool) → Option S → ConditionalRequirement → Encoder N S → Encoder N S → Type 0
+RequiresAgain {N} {S} same parent need old new = (p : Packages N S) (root : Rules)
+    → IsLawful p
+    → IsEncoding same p root old
+    → has_candidates old.lists need.requirement ≡ true
+    → IsGuarded same p (rules_of old) need.requirement
+    → Needs same p root parent need
+    → IsEncoding same p root new × IsNeedEncoded same p (rules_of new) parent need []
+
+-- the requirement has so many candidates that a solvable uses a gate for it
+abbrev pub is_gated : {N : Type 0} → FixedLists N → Requirement → Bool
+is_gated ls r = leb 4 (length (candidates_in ls r))
+
+-- A solvable's requirement with many candidates has a gate. For any other no gate was added.
+pub record UsesGate {N S : Type 0} (parent : Option S) (r : Requirement) (old new : Encoder N S) : Type 0 where
+  pub gate : IsSome parent → is_gated old.lists r ≡ true → IsSome (slot_of new.gates r)
+  pub root : parent ≡ None → new.gates ≡ old.gates
+  pub few : is_gated old.lists r ≡ false → new.gates ≡ old.gates
 
 -- the clause of the parent's requirement was added
 pub record NeedsDirectly {N S : Type 0} (parent : Option S) (need : ConditionalRequirement) (v : VariableId) (old new : Encoder N S) : Type 0 where

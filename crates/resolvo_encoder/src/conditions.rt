@@ -191,7 +191,7 @@ impl<N: Copy + Exact + Hash + Debug + Drop, S: Copy + Exact + Hash + Debug> Enco
         let condition = self.lists.fix_disjunction(Disjunction { literals })?;
         let case = names_of(alloc, sets)?;
         let kind = ClauseKind::Needs { parent, need, case };
-        self.encode_need(alloc, kind, variable, Some(condition), need.requirement)?;
+        self.encode_need(kind, variable, Some(condition), need.requirement)?;
         Ok(())
     }
 

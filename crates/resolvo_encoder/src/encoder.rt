@@ -19,7 +19,7 @@ ghost use Rattle.resolvo_state.specs.Atoms.{Represents};
 ghost use Rattle.resolvo_encoder.specs.Encoded.{rules_of, IsGuarded, IsPrepared, IsEncoding};
 ghost use Rattle.resolvo_state.specs.ClauseKinds.{rule_of};
 ghost use Rattle.resolvo_state.specs.SolverState.{IsBegun, IsCoding, LacksNumber};
-ghost use Rattle.resolvo_encoder.specs.Steps.{Fixes, EncodesNeed, IsBuilt, Needs, Extends, NeedsDirectly, Opens, AddsCandidates, IsBegunEncoding, AddsParent, IsNextEncoded, LacksNumberFor};
+ghost use Rattle.resolvo_encoder.specs.Steps.{Fixes, EncodesNeed, IsBuilt, Needs, Extends, NeedsDirectly, RequiresAgain, UsesGate, is_gated, Opens, AddsCandidates, IsBegunEncoding, AddsParent, IsNextEncoded, LacksNumberFor};
 
 use indexmap::IndexSet;
 use resolvo_decide::decide_queue::DecideQueue;
@@ -106,6 +106,8 @@ pub struct Encoder<N: Copy + Eq + Hash, S: Copy + Eq + Hash> {
     pub deferred: Vec<Deferred<S>>,
     /// The places of the encoded cases.
     pub fired: IndexSet<usize>,
+    /// The literals of the requires clause that was added last.
+    pub literals: Vec<Literal>,
 }
 
 // split for the prover: one drop
@@ -122,6 +124,7 @@ impl<N: Copy + Eq + Hash, S: Copy + Eq + Hash> Drop for Encoder<N, S> {
             encoded: _,
             deferred: _,
             fired: _,
+            literals: _,
         } = self;
     }
 }
@@ -159,6 +162,7 @@ fn begun<N: Copy + Exact + Hash + Debug, S: Copy + Exact + Hash + Debug>(
         encoded: 0,
         deferred: Vec::new(alloc),
         fired: IndexSet::new(alloc),
+        literals: Vec::new(alloc),
     }
 }
 
@@ -206,7 +210,7 @@ impl<N: Copy + Exact + Hash + Debug + Drop, S: Copy + Exact + Hash + Debug> Enco
         ensures ids { IsErrOf result Ids → LacksNumberFor need.requirement self.new }
     {
         self.fix_candidates(alloc, need.requirement, offered)?;
-        self.require_again(alloc, parent, need, offered.len())?;
+        self.require_again(alloc, parent, need)?;
         Ok(())
     }
 
@@ -217,34 +221,18 @@ impl<N: Copy + Exact + Hash + Debug + Drop, S: Copy + Exact + Hash + Debug> Enco
         self.lists.candidates(requirement).is_some()
     }
 
-    /// How many candidates a requirement has.
-    pub fn candidate_count(&self, requirement: Requirement) -> usize {
-        match self.lists.candidates(requirement) {
-            Some(candidates) => candidates.len(),
-            None => 0,
-        }
-    }
-
-    /// Encodes a parent's unconditional requirement, which has its candidates, and so many of them.
-    /// Where they are many, and the parent isn't the root, it uses a gate.
+    /// Encodes a parent's unconditional requirement, which has its candidates. Where they are many,
+    /// and the parent isn't the root, it uses a gate.
     pub fn require_again(
         &mut self,
         alloc: Global,
         parent: Option<S>,
         need: ConditionalRequirement,
-        count: usize,
     ) -> R<()>
         requires { IsBuilt self.old }
         // After an answer.
-        ensures encoded { OnOk result
-            ((p : Packages N S) (root : Rules)
-            → IsLawful p
-            → IsEncoding S.eq p root self.old
-            → has_candidates self.old.lists need.requirement ≡ true
-            → IsGuarded S.eq p (rules_of self.old) need.requirement
-            → Needs S.eq p root parent need
-            → IsEncoding S.eq p root self.new
-            × IsNeedEncoded S.eq p (rules_of self.new) parent need []) }
+        ensures encoded { OnOk result (RequiresAgain S.eq parent need self.old self.new) }
+        ensures gate { OnOk result (UsesGate parent need.requirement self.old self.new) }
         ensures lists { OnOk result (self.new.lists ≡ self.old.lists) }
         ensures kept { OnOk result (Extends self.old self.new) }
         ensures built { OnOk result (IsBuilt self.new) }
@@ -257,31 +245,29 @@ impl<N: Copy + Exact + Hash + Debug + Drop, S: Copy + Exact + Hash + Debug> Enco
                 Ok(())
             }
             Some(solvable) => {
-                self.require_of(alloc, solvable, need, count)?;
+                self.require_of(alloc, solvable, need)?;
                 Ok(())
             }
         }
     }
 
-    /// Encodes a solvable's requirement, which has so many candidates.
-    fn require_of(
-        &mut self,
-        alloc: Global,
-        solvable: S,
-        need: ConditionalRequirement,
-        count: usize,
-    ) -> R<()>
+    /// Whether a requirement has so many candidates that it gets a gate.
+    fn is_gated(&self, requirement: Requirement) -> bool
+        ensures { result ≡ is_gated self.now.lists requirement }
+    {
+        match self.lists.candidates(requirement) {
+            Some(candidates) => GATED <= candidates.len(),
+            None => false,
+        }
+    }
+
+    /// Encodes a solvable's requirement, which has its candidates. Where they are many, it uses a
+    /// gate.
+    fn require_of(&mut self, alloc: Global, solvable: S, need: ConditionalRequirement) -> R<()>
         requires { IsBuilt self.old }
         // After an answer.
-        ensures encoded { OnOk result
-            ((p : Packages N S) (root : Rules)
-            → IsLawful p
-            → IsEncoding S.eq p root self.old
-            → has_candidates self.old.lists need.requirement ≡ true
-            → IsGuarded S.eq p (rules_of self.old) need.requirement
-            → Needs S.eq p root (Some solvable) need
-            → IsEncoding S.eq p root self.new
-            × IsNeedEncoded S.eq p (rules_of self.new) (Some solvable) need []) }
+        ensures encoded { OnOk result (RequiresAgain S.eq (Some solvable) need self.old self.new) }
+        ensures gate { OnOk result (UsesGate (Some solvable) need.requirement self.old self.new) }
         ensures lists { OnOk result (self.new.lists ≡ self.old.lists) }
         ensures kept { OnOk result (Extends self.old self.new) }
         ensures built { OnOk result (IsBuilt self.new) }
@@ -289,11 +275,11 @@ impl<N: Copy + Exact + Hash + Debug + Drop, S: Copy + Exact + Hash + Debug> Enco
         ensures ids { IsErrOf result Ids → LacksNumberFor need.requirement self.new }
     {
         let variable = self.coding.variable(ProofAtom::Solvable(solvable))?;
-        if count < GATED {
+        if !self.is_gated(need.requirement) {
             self.need_directly(alloc, variable, Some(solvable), need)?;
             return Ok(());
         }
-        let gate = self.gate(alloc, need.requirement)?;
+        let gate = self.gate(need.requirement)?;
         self.open_gate(solvable, variable, gate, need.requirement)?;
         Ok(())
     }
@@ -335,7 +321,7 @@ impl<N: Copy + Exact + Hash + Debug + Drop, S: Copy + Exact + Hash + Debug> Enco
             need,
             case: Vec::new(alloc),
         };
-        self.encode_need(alloc, kind, variable, None, need.requirement)?;
+        self.encode_need(kind, variable, None, need.requirement)?;
         Ok(())
     }
 
@@ -343,7 +329,6 @@ impl<N: Copy + Exact + Hash + Debug + Drop, S: Copy + Exact + Hash + Debug> Enco
     /// literal of the condition is true, or a candidate is chosen.
     pub(crate) fn encode_need(
         &mut self,
-        alloc: Global,
         kind: ClauseKind<N, S>,
         variable: VariableId,
         condition: Option<DisjunctionId>,
@@ -358,8 +343,14 @@ impl<N: Copy + Exact + Hash + Debug + Drop, S: Copy + Exact + Hash + Debug> Enco
         ensures kind { OnOk result (EncodesNeed kind variable condition requirement self.old self.new) }
         ensures ids { IsErrOf result Ids → LacksNumber self.new.coding }
     {
-        let literals = self.literals_of(alloc, variable, condition, requirement)?;
-        let clause = self.coding.add_clause(kind, literals.as_slice())?;
+        put_literals(
+            &self.lists,
+            variable,
+            condition,
+            requirement,
+            &mut self.literals,
+        )?;
+        let clause = self.coding.add_clause(kind, self.literals.as_slice())?;
         self.queue.register_clause(NeedClause {
             parent: variable,
             requirement,
@@ -370,7 +361,7 @@ impl<N: Copy + Exact + Hash + Debug + Drop, S: Copy + Exact + Hash + Debug> Enco
     }
 
     /// The variable of a requirement's gate, added with its clause where there is none.
-    fn gate(&mut self, alloc: Global, requirement: Requirement) -> R<VariableId>
+    fn gate(&mut self, requirement: Requirement) -> R<VariableId>
         requires { IsBuilt self.old }
         // After an answer.
         ensures encoded { OnOk result
@@ -382,6 +373,7 @@ impl<N: Copy + Exact + Hash + Debug + Drop, S: Copy + Exact + Hash + Debug> Enco
             → IsRule S.eq p root (Rule.shared requirement)
             → IsEncoding S.eq p root self.new × rules_of self.new (Rule.shared requirement)) }
         ensures present { IfOk result (λ gate. Represents self.new.coding.atoms.keys gate (Gate requirement)) }
+        ensures recorded { IfOk result (λ gate. slot_of self.new.gates requirement ≡ Some gate) }
         ensures lists { OnOk result (self.new.lists ≡ self.old.lists) }
         ensures kept { OnOk result (Extends self.old self.new) }
         ensures built { OnOk result (IsBuilt self.new) }
@@ -392,13 +384,7 @@ impl<N: Copy + Exact + Hash + Debug + Drop, S: Copy + Exact + Hash + Debug> Enco
             return Ok(*gate);
         }
         let gate = self.coding.variable(ProofAtom::Gate(requirement))?;
-        self.encode_need(
-            alloc,
-            ClauseKind::Shared { requirement },
-            gate,
-            None,
-            requirement,
-        )?;
+        self.encode_need(ClauseKind::Shared { requirement }, gate, None, requirement)?;
         self.gates.insert(requirement, gate)?;
         Ok(gate)
     }
@@ -424,36 +410,6 @@ impl<N: Copy + Exact + Hash + Debug + Drop, S: Copy + Exact + Hash + Debug> Enco
         };
         self.coding.add_clause(kind, &literals)?;
         Ok(())
-    }
-
-    /// The literals of a requires clause: the denial of the parent or gate, the condition's, and
-    /// the candidates'.
-    fn literals_of(
-        &self,
-        alloc: Global,
-        variable: VariableId,
-        condition: Option<DisjunctionId>,
-        requirement: Requirement,
-    ) -> R<Vec<Literal>>
-        requires { variable.0 < 2147483648 }
-        ensures literals { IfOk result
-            (λ v.
-            v.items ≡ no variable
-            ∷ (condition_in self.now.lists condition ++ candidate_literals
-            (candidates_in self.now.lists requirement))) }
-        ensures refusal { IsOkUnless result Memory }
-    {
-        // The parent's literal, and a short condition.
-        let count = self.candidate_count(requirement).saturating_add(4);
-        let mut literals = Vec::with_capacity(alloc, count)?;
-        literals.push(Literal::new(variable, true))?;
-        if let Some(condition) = self.lists.condition(condition) {
-            literals.extend_from_slice(condition)?;
-        }
-        if let Some(candidates) = self.lists.candidates(requirement) {
-            push_candidates(candidates, &mut literals)?;
-        }
-        Ok(literals)
     }
 
     /// The parent whose requirements are to be encoded next, if one is left.
@@ -494,6 +450,33 @@ impl<N: Copy + Exact + Hash + Debug + Drop, S: Copy + Exact + Hash + Debug> Enco
             self.encoded += 1;
         }
     }
+}
+
+/// Puts the literals of a requires clause in place of the others: the denial of the parent or gate,
+/// the condition's, and the candidates'.
+fn put_literals<N: Copy + Drop>(
+    lists: &FixedLists<N>,
+    variable: VariableId,
+    condition: Option<DisjunctionId>,
+    requirement: Requirement,
+    literals: &mut Vec<Literal>,
+) -> R<()>
+    requires { variable.0 < 2147483648 }
+    ensures literals { OnOk result
+        (literals.new.items ≡ no variable
+        ∷ (condition_in lists.now condition ++ candidate_literals
+        (candidates_in lists.now requirement))) }
+    ensures refusal { IsOkUnless result Memory }
+{
+    literals.clear();
+    literals.push(Literal::new(variable, true))?;
+    if let Some(condition) = lists.condition(condition) {
+        literals.extend_from_slice(condition)?;
+    }
+    if let Some(candidates) = lists.candidates(requirement) {
+        push_candidates(candidates, literals)?;
+    }
+    Ok(())
 }
 
 /// Appends the literals of candidates.

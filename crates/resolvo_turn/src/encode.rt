@@ -163,8 +163,7 @@ fn require<A: PackageSource>(
         → StopsNeed A.SolvableId.eq A.PackageSource answers.old parent need encoding.new }
 {
     if encoding.is_fixed(need.requirement) {
-        let count = encoding.candidate_count(need.requirement);
-        encoding.require_again(alloc, parent, need, count)?;
+        encoding.require_again(alloc, parent, need)?;
         return Ok(());
     }
     let offered = answers.candidates(need.requirement)?;

@@ -5,8 +5,8 @@ use Rattle.resolvo_sat.specs.State.{count_of}
 use Rattle.resolvo_sat.proofs.Literals.{has_here}
 use Rattle.resolvo_encoder.proofs.encoder.Encoder.encode_need.Goals as goal
 
-pub literals_of-requires : goal.literals_of-requires
-literals_of-requires g c =
+pub put_literals-requires : goal.put_literals-requires
+put_literals-requires g c =
     let rest = condition_in c.args.self.now.lists c.args.condition ++ candidate_literals (candidates_in c.args.self.now.lists c.args.requirement) in
     let below : c.args.variable.0 < count_of c.args.self.now.coding.search = c.requires.in_range (no c.args.variable) (has_here (no c.args.variable) rest (no c.args.variable) refl) in
     let small : count_of c.args.self.now.coding.search < 2147483648 = c.requires.coding.ready.state.small in

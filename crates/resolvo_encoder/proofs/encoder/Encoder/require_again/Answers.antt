@@ -5,7 +5,9 @@ use Rattle.resolvo_state.specs.declared.clause_kind.ClauseKind.TheVariants as Ki
 use Rattle.resolvo_encoder.specs.Encoded.{rules_of}
 use Rattle.resolvo_store_core.specs.Clauses.{root as root_variable}
 use Rattle.resolvo_sat.specs.SearchEnd.{IsNeedEncoded}
-use Rattle.resolvo_encoder.specs.Steps.{Needs, LacksNumberFor}
+use Rattle.resolvo_encoder.specs.Steps.{Needs, LacksNumberFor, UsesGate}
+use Rattle.std.specs.Option.{is_some}
+use Rattle.std.proofs.lemmas.Bool.{both_ways}
 use Rattle.resolvo_encoder.proofs.NeedLemmas.{needed_keeps, need_extends}
 use Rattle.resolvo_encoder.proofs.BuildLemmas.{built_encodes}
 use Rattle.resolvo_encoder.proofs.encoder.Encoder.require_again.Goals as goal
@@ -36,3 +38,14 @@ returns-in_ok-require_of-in-Some-clause-encoded g c = λ p root lawful e has gua
 
 pub returns-in_err-need_directly-in-None-clause-ids : goal.returns-in_err-need_directly-in-None-clause-ids
 returns-in_err-need_directly-in-None-clause-ids g c = search (rules, LacksNumberFor.coding)
+
+pub returns-in_ok-need_directly-in-None-clause-gate : goal.returns-in_ok-need_directly-in-None-clause-gate
+returns-in_ok-need_directly-in-None-clause-gate g c = record {
+  gate = λ some many. absurd (both_ways _ (ap is_some c.in-None.is) some);
+  root = λ is. c.in_ok-need_directly-in-None.ensures.needed.states.gates;
+  few = λ few. c.in_ok-need_directly-in-None.ensures.needed.states.gates;
+}
+
+pub returns-in_ok-require_of-in-Some-clause-gate : goal.returns-in_ok-require_of-in-Some-clause-gate
+returns-in_ok-require_of-in-Some-clause-gate g c =
+    subst (λ (x : Option _). UsesGate x c.args.need.requirement c.args.self.now c.require_of.new.self) (sym c.in-Some.is) c.in_ok-require_of-in-Some.ensures.gate

@@ -1,4 +1,7 @@
-use Rattle.std.proofs.Common.{inl, inr, Some, None, refl, ap, rules}
+use Rattle.std.proofs.Common.{inl, inr, Some, None, refl, sym, ◌∙◌, ap, rules}
+use Rattle.std.specs.Option.{is_some}
+use Rattle.std.proofs.lemmas.Bool.{both_ways}
+use Rattle.resolvo_pool_core.specs.ByRequirement.{slot_of}
 use Rattle.resolvo_encoder.specs.declared.encoder.EncodedOnce.{EncodedOnce}
 use Rattle.resolvo_sat.specs.RuleClauses.{IsExact, Rule}
 use Rattle.resolvo_state.specs.declared.atom.ProofAtom.TheVariants.{Solvable, Gate}
@@ -19,8 +22,8 @@ need_directly-requires-clause-built g c =
 pub need_directly-requires-clause-in_range : goal.need_directly-requires-clause-in_range
 need_directly-requires-clause-in_range g c = represents_in_range c.variable.new.self c.in_ok-variable.variable (Solvable c.args.solvable) c.in_ok-variable.ensures.given.coding c.in_ok-variable.ensures.given.present
 
-pub returns-then-count-lt-GATED-clause-encoded : goal.returns-then-count-lt-GATED-clause-encoded
-returns-then-count-lt-GATED-clause-encoded g c = λ p root lawful e has guarded needs.
+pub returns-then-not-is_gated-clause-encoded : goal.returns-then-not-is_gated-clause-encoded
+returns-then-not-is_gated-clause-encoded g c = λ p root lawful e has guarded needs.
     let exact : IsExact g.S.PartialEq.eq = record { one = g.met.S.Exact.exact; own = g.met.S.Eq.laws.refl } in
     let middle : Encoder _ _ = record c.args.self.now { coding = c.variable.new.self } in
     let gives = c.in_ok-variable.ensures.given in
@@ -29,8 +32,8 @@ returns-then-count-lt-GATED-clause-encoded g c = λ p root lawful e has guarded 
     let (kinds, rule) = needed_keeps g.S.PartialEq.eq exact p root lawful (Some c.args.solvable) c.args.need c.in_ok-variable.variable middle c.need_directly.new.self kept has (guard_grows g.S.PartialEq.eq exact p root c.args.self.now middle c.args.need.requirement gives.grows guarded) gives.present needs c.in_ok-need_directly.ensures.needed in
     (kinds, inl rule)
 
-pub returns-then-count-lt-GATED-clause-kept : goal.returns-then-count-lt-GATED-clause-kept
-returns-then-count-lt-GATED-clause-kept g c =
+pub returns-then-not-is_gated-clause-kept : goal.returns-then-not-is_gated-clause-kept
+returns-then-not-is_gated-clause-kept g c =
     let middle : Encoder _ _ = record c.args.self.now { coding = c.variable.new.self } in
     let first : Extends c.args.self.now middle = record { grows = c.in_ok-variable.ensures.given.grows; trail = c.in_ok-variable.ensures.given.trail; softs = refl; parents = refl; encoded = refl; deferred = refl; fired = refl } in
     let needed = c.in_ok-need_directly.ensures.needed in
@@ -77,8 +80,8 @@ returns-clause-built g c =
     built_rest c.gate.new.self c.open_gate.new.self c.in_ok-gate.ensures.built opened.states.coding opened.states.grows
     (digits_more (Kind.Gated c.args.solvable c.args.need.requirement) c.gate.new.self.coding c.open_gate.new.self.coding opened.states.kinds (λ name s place bit h. absurd cc)) opened.rest opened.same_queue (trail_on c.gate.new.self.coding c.open_gate.new.self.coding opened.states.trail)
 
-pub returns-then-count-lt-GATED-clause-built : goal.returns-then-count-lt-GATED-clause-built
-returns-then-count-lt-GATED-clause-built g c =
+pub returns-then-not-is_gated-clause-built : goal.returns-then-not-is_gated-clause-built
+returns-then-not-is_gated-clause-built g c =
     let middle : Encoder _ _ = record c.args.self.now { coding = c.variable.new.self } in
     let needed = c.in_ok-need_directly.ensures.needed in
     built_encodes (Kind.Needs (Some c.args.solvable) c.args.need needed.case) c.in_ok-variable.variable None c.args.need.requirement middle c.need_directly.new.self
@@ -92,3 +95,17 @@ returns-in_err-need_directly-clause-ids g c = search (rules, LacksNumberFor.codi
 
 pub returns-in_err-open_gate-clause-ids : goal.returns-in_err-open_gate-clause-ids
 returns-in_err-open_gate-clause-ids g c = search (rules, LacksNumberFor.coding)
+
+pub returns-then-not-is_gated-clause-gate : goal.returns-then-not-is_gated-clause-gate
+returns-then-not-is_gated-clause-gate g c = record {
+  gate = λ some many. absurd (both_ways _ (sym c.is_gated.ensures ∙ c.if-not-is_gated.true) many);
+  root = λ is. absurd cc;
+  few = λ few. c.in_ok-need_directly.ensures.needed.states.gates;
+}
+
+pub returns-clause-gate : goal.returns-clause-gate
+returns-clause-gate g c = record {
+  gate = λ some many. ap is_some (ap (λ m. slot_of m c.args.need.requirement) c.in_ok-open_gate.ensures.opened.rest.gates ∙ c.in_ok-gate.ensures.recorded);
+  root = λ is. absurd cc;
+  few = λ few. absurd (both_ways _ few (sym c.is_gated.ensures ∙ c.if-not-is_gated.false));
+}
