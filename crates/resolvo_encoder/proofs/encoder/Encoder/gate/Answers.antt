@@ -7,7 +7,7 @@ use Rattle.resolvo_state.specs.declared.clause_kind.ClauseKind.TheVariants as Ki
 use Rattle.resolvo_encoder.specs.declared.encoder.Encoder.{Encoder}
 use Rattle.resolvo_encoder.specs.Steps.{SameButCoding, LacksNumberFor}
 use Rattle.resolvo_state.proofs.Growth.{represents_grow, represents_in_range}
-use Rattle.resolvo_encoder.proofs.RequireLemmas.{guard_grows, put_at}
+use Rattle.resolvo_encoder.proofs.RequireLemmas.{guard_grows}
 use Rattle.resolvo_encoder.proofs.NeedLemmas.{need_keeps, shared_ready, gives_keeps, gate_recorded}
 use Rattle.resolvo_encoder.proofs.BuildLemmas.{built_gives, built_encodes, built_gate, built_in_range, none_in_range}
 use Rattle.resolvo_encoder.proofs.encoder.Encoder.gate.Goals as goal
@@ -34,12 +34,6 @@ returns-clause-encoded g c = λ p root lawful e has guarded asked.
 
 pub returns-in-Some-clause-present : goal.returns-in-Some-clause-present
 returns-in-Some-clause-present g c = c.requires.gates c.args.requirement c.in-Some.gate.now (sym c.get.ensures ∙ ap option_copied c.in-Some.is)
-
-pub returns-in-Some-clause-recorded : goal.returns-in-Some-clause-recorded
-returns-in-Some-clause-recorded g c = sym c.get.ensures ∙ ap option_copied c.in-Some.is
-
-pub returns-clause-recorded : goal.returns-clause-recorded
-returns-clause-recorded g c = put_at c.encode_need.new.self.gates c.insert.new.self c.args.requirement c.in_ok-gate.gate c.in_ok-insert.ensures.put
 
 pub returns-clause-built : goal.returns-clause-built
 returns-clause-built g c =
