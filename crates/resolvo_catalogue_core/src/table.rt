@@ -10,7 +10,7 @@ ghost use Rattle.std.specs.String.{string_bytes};
 ghost use Rattle.resolvo_text.specs.Line as parsed;
 ghost use Rattle.resolvo_text.specs.View.{version_of, spec_of, specs_of, list_of, condition_of, view};
 ghost use Rattle.resolvo_text.specs.declared.line.LineFault.TheVariants.{Fault};
-ghost use Rattle.resolvo_text.specs.Parse.{words_in, needs_in, spec_in};
+ghost use Rattle.resolvo_text.specs.Parse.{words_in, needs_in, spec_in, version_in};
 ghost use Rattle.resolvo_terms.specs.Known.{name_text};
 ghost use Rattle.resolvo_terms.specs.Terms.{IsNeed, IsSpec};
 ghost use Rattle.resolvo_catalogue_core.specs.Grammar.{MayFollow, IsCatalogueLine, owner_below};
@@ -31,7 +31,7 @@ use resolvo_pool_core::requirement::ConditionalRequirement;
 use resolvo_terms::Terms;
 use resolvo_text::{
     Alternatives, Cond, Line, LineFault, Spec, Version, is_skipped, limits_words, line_in,
-    listed_in, needs_words,
+    listed_words, needs_words,
 };
 use std::alloc::{AllocError, Global};
 use std::collections::{BTreeMap, BTreeSet};
@@ -650,8 +650,28 @@ impl Table {
         self.add_limit(line, spec)
     }
 
-    /// Parses the text of a line, and adds the line. A line `version` takes no memory for its name,
-    /// unless its package is new; a need or a limit takes none for a name that is known.
+    /// Reads the words after `version`, and adds the line.
+    fn read_version(&mut self, alloc: Global, words: &[u8]) -> Result<(), LineFault>
+        requires table { IsTable self.old }
+        requires short { length (lines_in self.old) < 16777216 }
+        ensures ok { OnOk result
+            ((v : parsed.Version)
+            × (version_in (words_in words.now) ≡ Some v)
+            × MayFollow (lines_in self.old) (parsed.Listed v)
+            × Adds self.old (parsed.Listed v) self.new) }
+        ensures fault { result ≡ Err Fault
+            → (v : parsed.Version)
+            → version_in (words_in words.now) ≡ Some v
+            → MayFollow (lines_in self.old) (parsed.Listed v)
+            → ⊥ }
+    {
+        let (id, number) = self.terms.version_in(words)?;
+        self.terms.ids_are_once();
+        self.list_at(alloc, id, number)
+    }
+
+    /// Parses the text of a line, and adds the line. A version, a need or a limit takes no memory for
+    /// a name that is known.
     pub fn read_line(&mut self, alloc: Global, number: u32, text: &[u8]) -> Result<(), LineFault>
         requires table { IsTable self.old }
         requires number { number ≡ length (lines_in self.old) + 1 }
@@ -671,8 +691,8 @@ impl Table {
         if is_skipped(text) {
             return self.skip();
         }
-        if let Some((name, version)) = listed_in(text) {
-            return self.list(alloc, name, version);
+        if let Some(words) = listed_words(text) {
+            return self.read_version(alloc, words);
         }
         if let Some(words) = limits_words(text) {
             return self.read_limit(number, words);

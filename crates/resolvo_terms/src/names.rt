@@ -23,8 +23,8 @@ pub struct Names {
     texts: TextIds,
     /// So many of the first texts are known to spell names.
     checked: usize,
-    /// The number of the name that was interned last, or any number. A guess: who uses it looks at
-    /// the name.
+    /// The number of the name that was listed last, or any number. A guess: who uses it looks at the
+    /// name.
     last: u32,
 }
 
@@ -72,19 +72,14 @@ impl Names {
         })
     }
 
-    /// The number of a name, a new one where it has none. That of the last one is found without a
-    /// search: a catalogue has the versions of a package side by side.
+    /// The number of a name, a new one where it has none.
     pub fn intern(&mut self, alloc: Global, name: &str) -> R<u32>
         ensures text { IfOk result (λ i. slice_get self.new i ≡ Some name.now) }
         ensures extends { Extends self.old self.new }
         ensures few { length self.new ≤ length self.old + 1 }
         ensures ids { IsErrOf result Ids → 4294967295 ≤ length self.new }
     {
-        if self.texts.has(self.last, name.as_bytes()) {
-            return Ok(self.last);
-        }
         let number = self.texts.intern(alloc, name)?;
-        self.last = number;
         self.checked = checked_with(self.checked, number, name);
         Ok(number)
     }
@@ -113,6 +108,21 @@ impl Names {
             return self.read_old(number, word);
         }
         self.read_new(alloc, word, hash)
+    }
+
+    /// The same for the name of a version. That of the last one is found without a search: a catalogue
+    /// has the versions of a package side by side.
+    pub fn read_listed(&mut self, alloc: Global, word: &[u8]) -> Result<u32, LineFault>
+        ensures name { Reads (λ i name. slice_get self.new i ≡ Some name) result (name_in word.now) }
+        ensures extends { Extends self.old self.new }
+        ensures few { length self.new ≤ length self.old + 1 }
+    {
+        if self.texts.has(self.last, word) {
+            return self.read_old(self.last, word);
+        }
+        let number = self.read(alloc, word)?;
+        self.last = number;
+        Ok(number)
     }
 
     /// The number of a word that has one, if it spells a name.

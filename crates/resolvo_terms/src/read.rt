@@ -5,16 +5,18 @@ ghost use Rattle.std.specs.Prelude.{◌≡◌, ◌∷◌, ◌<◌, ◌≤◌, �
 ghost use Rattle.resolvo_text.specs.declared.line.LineFault.TheVariants.{Memory};
 ghost use Rattle.resolvo_text.specs.Line as parsed;
 ghost use Rattle.resolvo_text.specs.View.{condition_of};
-ghost use Rattle.resolvo_text.specs.Parse.{words_in, spec_at, spec_in, alternatives_at, with_first, needs_in};
-ghost use Rattle.resolvo_terms.specs.Terms.{Grows, IsSpec, AreEach, AreAlternatives, IsConditionOf};
+ghost use Rattle.resolvo_text.specs.Parse.{words_in, spec_at, spec_in, alternatives_at, with_first, needs_in, version_in};
+ghost use Rattle.resolvo_terms.specs.Terms.{Grows, IsPackage, IsSpec, AreEach, AreAlternatives, IsConditionOf};
 ghost use Rattle.resolvo_terms.specs.TermCounts.{term_count, ids_for_any_condition};
 ghost use Rattle.resolvo_terms.specs.Reads.{Reads, IsNeedRead};
 
 use crate::terms::Terms;
-use resolvo_pool_core::id::{ConditionId, VersionSetId};
+use resolvo_pool_core::id::{ConditionId, NameId, VersionSetId};
 use resolvo_pool_core::requirement::{ConditionalRequirement, Requirement};
 use resolvo_pool_core::want::R;
-use resolvo_text::{Cond, LineFault, Span, condition_in, no_more, skip, span_at, word_at};
+use resolvo_text::{
+    Cond, LineFault, Span, condition_in, no_more, number_of, skip, span_at, word_at,
+};
 
 /// The room that is made at first for alternatives that a bar parts.
 const FEW: usize = 2;
@@ -158,6 +160,24 @@ impl Terms {
             condition,
             requirement,
         })
+    }
+
+    /// The package and the number of the version of the words after `version`. The name of a known
+    /// package isn't looked at byte by byte.
+    #[tactic(auto, unfolding(resolvo_text::specs::Parse::version_in, resolvo_text::specs::Parse::version_at))]
+    pub fn version_in(&mut self, words: &[u8]) -> Result<(NameId, u32), LineFault>
+        ensures version { Reads
+            (λ x v. IsPackage self.new x.0 v.name × (x.1 ≡ v.number))
+            result (version_in (words_in words.now)) }
+        ensures grows { Grows self.old self.new }
+        ensures few { term_count self.new ≤ term_count self.old + 1 }
+    {
+        let (word, words) = word_at(words)?;
+        let package = self.listed_package(word)?;
+        let (word, words) = word_at(words)?;
+        let number = number_of(word)?;
+        no_more(words)?;
+        Ok((package, number))
     }
 
     /// The SPEC of the words after `limits`.

@@ -166,6 +166,15 @@ impl Terms {
         Ok(NameId::from_raw(self.names.read(self.alloc, word)?))
     }
 
+    /// The same for the package of a version.
+    pub(crate) fn listed_package(&mut self, word: &[u8]) -> Result<NameId, LineFault>
+        ensures package { Reads (IsPackage self.new) result (name_in word.now) }
+        ensures grows { Grows self.old self.new }
+        ensures few { term_count self.new ≤ term_count self.old + 1 }
+    {
+        Ok(NameId::from_raw(self.names.read_listed(self.alloc, word)?))
+    }
+
     /// The id of the package that a word names, if it is known to be a name.
     pub(crate) fn known_package(&self, word: &[u8]) -> Option<NameId>
         ensures package { IfSome result (λ n. IsPackage self.now n word.now) }
@@ -425,13 +434,6 @@ impl Terms {
             Some(name) => name,
             None => b"",
         }
-    }
-
-    /// How many names there are.
-    pub fn name_count(&self) -> usize
-        ensures { result ≡ length self.now.names }
-    {
-        self.names.len()
     }
 
     /// The word of an id.

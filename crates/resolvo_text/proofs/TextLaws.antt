@@ -183,26 +183,17 @@ some_is_none line e = cc
 pub spells_none : (text : List ℕ) → line_in text ≡ None → (line : Line) → SpellsLine text line → ⊥
 spells_none text none line p = some_is_none line (sym (line_again text line p.form p.spelled) ∙ none)
 
--- ---- lines `version`
+-- ---- lines `version`, `needs` and `limits`
 
--- the line of the words behind `version` and a space
-version_line : (rest : List ℕ) → line_in (codes "version " ++ rest) ≡ (version_in (slice_split is_space rest) >>= λ v. Some (Listed v))
+listed_map : (o : Option Version) → (o >>= λ v. Some (Listed v)) ≡ option_map (λ v. Listed v) o
+listed_map None = refl
+listed_map (Some v) = refl
+
+version_line : (rest : List ℕ) → line_in (codes "version " ++ rest) ≡ option_map (λ v. Listed v) (version_in (slice_split is_space rest))
 unfolding line_in line_by
 version_line rest =
     let split : slice_split is_space (codes "version" ++ 32 ∷ rest) ≡ codes "version" ∷ slice_split is_space rest = slice_split_at is_space (codes "version") 32 rest (by_test (codes "version") refl) refl in
-    ap (λ (ws : Words). word_at ws >>= λ x. line_by x.0 x.1) split
-
-pub version_takes_line : (text rest : List ℕ) (v : Version) → text ≡ codes "version " ++ rest → version_in (slice_split is_space rest) ≡ Some v → SpellsLine text (Listed v)
-version_takes_line text rest v begins is =
-    let read : line_in text ≡ Some (Listed v) = ap line_in begins ∙ version_line rest ∙ ap (λ (o : Option Version). o >>= λ w. Some (Listed w)) is in
-    line_takes text (Listed v) read
-
--- where the words are no version, the text spells no line `version`
-pub no_version_line : (text rest : List ℕ) → text ≡ codes "version " ++ rest → version_in (slice_split is_space rest) ≡ None → (v : Version) → SpellsLine text (Listed v) → ⊥
-no_version_line text rest begins none v =
-    spells_none text (ap line_in begins ∙ version_line rest ∙ ap (λ (o : Option Version). o >>= λ w. Some (Listed w)) none) (Listed v)
-
--- ---- lines `needs` and `limits`
+    ap (λ (ws : Words). word_at ws >>= λ x. line_by x.0 x.1) split ∙ listed_map (version_in (slice_split is_space rest))
 
 needs_line : (rest : List ℕ) → line_in (codes "needs " ++ rest) ≡ needs_in (slice_split is_space rest)
 unfolding line_in line_by
@@ -228,6 +219,11 @@ pub needs_from : (text : List ℕ) → text ≡ codes "needs " ++ drop 6 text �
 needs_from text begins =
     let words : take (length text - 5) (drop 5 text) ≡ 32 ∷ drop 6 text = from_place 5 text ∙ ap (λ (t : List ℕ). drop 5 t) begins in
     ap line_in begins ∙ needs_line (drop 6 text) ∙ sym (ap (λ (t : List ℕ). needs_in (words_in t)) words)
+
+pub version_from : (text : List ℕ) → text ≡ codes "version " ++ drop 8 text → line_in text ≡ option_map (λ v. Listed v) (version_in (words_in (take (length text - 7) (drop 7 text))))
+version_from text begins =
+    let words : take (length text - 7) (drop 7 text) ≡ 32 ∷ drop 8 text = from_place 7 text ∙ ap (λ (t : List ℕ). drop 7 t) begins in
+    ap line_in begins ∙ version_line (drop 8 text) ∙ sym (ap (λ (t : List ℕ). option_map (λ v. Listed v) (version_in (words_in t))) words)
 
 pub limits_from : (text : List ℕ) → text ≡ codes "limits " ++ drop 7 text → line_in text ≡ option_map (λ s. Limits s) (spec_in (words_in (take (length text - 6) (drop 6 text))))
 limits_from text begins =

@@ -1,6 +1,5 @@
 -- The models of a version, a SPEC, a condition and a line.
-use Rattle.std.specs.Prelude.{ℕ, List, [], ◌∷◌, map, Option}
-use Rattle.std.specs.Borrow.{Bor}
+use Rattle.std.specs.Prelude.{List, [], ◌∷◌, map, Option}
 use Rattle.std.specs.Option.{option_map}
 use Rattle.std.specs.String.{string_bytes}
 use Rattle.std.specs.Global.{Vec, Box}
@@ -16,10 +15,6 @@ use Rattle.resolvo_text.specs.declared.line.Line.TheVariants as line
 
 abbrev pub version_of : Version → parsed.Version
 version_of v = record { name = string_bytes v.name; number = v.number }
-
--- a version of which only the number is owned
-abbrev pub lent_version : Bor (List ℕ) × ℕ → parsed.Version
-lent_version v = record { name = v.0.now; number = v.1 }
 
 abbrev pub spec_of : code.Spec → parsed.Spec
 spec_of s = record { name = string_bytes s.name; span = s.span }

@@ -4,14 +4,14 @@
 //! space. A parser of a part returns the part and what is left. Readers of whole texts call
 //! `line_in`; the parser of reports calls the parsers of parts.
 
-ghost use Rattle.std.specs.Prelude.{◌≡◌, ◌≢◌, ◌<◌, ◌≤◌, ◌∷◌, ◌++◌, List, ℕ, codes, length, Err, Some, IfOk, IfSome, IfNone, IsTrue, MatchOption};
+ghost use Rattle.std.specs.Prelude.{◌≡◌, ◌<◌, ◌≤◌, ◌∷◌, List, ℕ, length, Err, Some, IfOk, IfSome, IsTrue};
 ghost use Rattle.std.specs.List.{position, slice_split};
 ghost use Rattle.std.specs.Option.{option_map};
 ghost use Rattle.std.specs.String.{string_bytes};
 ghost use Rattle.resolvo_text.specs.Line as parsed;
 ghost use Rattle.resolvo_text.specs.Spelling.{SpellsLine};
 ghost use Rattle.resolvo_text.specs.declared.line.LineFault.TheVariants.{Fault};
-ghost use Rattle.resolvo_text.specs.View.{version_of, lent_version, spec_of, specs_of, list_of, view};
+ghost use Rattle.resolvo_text.specs.View.{version_of, spec_of, specs_of, list_of, view};
 ghost use Rattle.resolvo_text.specs.Parse.{Gives, word_at, version_at, reason_at, span_at, spec_at, skip, with_first, alternatives_at, name_in, number_in, end_at, version_in, reason_in, spec_in, needs_in, line_by, is_space, words_in, is_skipped, line_in};
 
 use crate::alternatives::Alternatives;
@@ -281,38 +281,17 @@ fn line_read(alloc: Global, text: &[u8]) -> Result<Line, LineFault>
     line_by(alloc, keyword, words)
 }
 
-/// What follows the word `version` and its space, if a text begins so.
-fn after_version(text: &[u8]) -> Option<&[u8]>
-    ensures { MatchOption result ((rest : List ℕ) → text.now ≢ codes "version " ++ rest)
-        (λ rest. text.now ≡ codes "version " ++ rest.now) }
+/// The words after the keyword of a line `version`, if a text begins so.
+pub fn listed_words(text: &[u8]) -> Option<&[u8]>
+    ensures { IfSome result
+        (λ words.
+        line_in text.now ≡ option_map (λ v. parsed.Listed v) (version_in (words_in words.now))) }
 {
-    text.strip_prefix(b"version ")
-}
-
-/// The name and the number that are the words of a text.
-#[tactic(auto, unfolding(crate::specs::Parse::version_in, crate::specs::Parse::version_at))]
-fn name_and_number(text: &[u8]) -> Option<(&str, u32)>
-    ensures { option_map lent_version result ≡ version_in (slice_split is_space text.now) }
-{
-    let (word, words) = first_word(text);
-    let name = name_in(word)?;
-    let (word, words) = next_word(words)?;
-    let number = number_in(word)?;
-    if !words.is_empty() {
-        return None;
+    if text.starts_with(b"version ") {
+        Some(&text[7..])
+    } else {
+        None
     }
-    Some((name, number))
-}
-
-/// The package and the number of the version that a line `version` lists, lent by the text of the
-/// line. None of another text.
-pub fn listed_in(text: &[u8]) -> Option<(&str, u32)>
-    ensures listed { IfSome result (λ x. SpellsLine text.now (parsed.Listed (lent_version x))) }
-    ensures other { IfNone result ((v : parsed.Version)
-        → SpellsLine text.now (parsed.Listed v)
-        → ⊥) }
-{
-    name_and_number(after_version(text)?)
 }
 
 /// The words after the keyword of a line `needs`, if a text begins so.

@@ -1,23 +1,29 @@
 use Rattle.std.proofs.Common.{◌≡◌, ◌∙◌, Option, Some, None, refl, ap, sym, subst, option_map}
 use Rattle.std.proofs.lemmas.Result.{on_ok_weaker}
-use Rattle.resolvo_text.specs.Line.{Spec, Line, Skipped, Listed, Limits}
-use Rattle.resolvo_text.specs.Parse.{words_in, spec_in}
-use Rattle.resolvo_text.proofs.TextLaws.{line_again, line_takes, one_line}
+use Rattle.resolvo_text.specs.Line.{Version, Spec, Line, Skipped, Listed, Limits}
+use Rattle.resolvo_text.specs.Parse.{words_in, spec_in, version_in}
+use Rattle.resolvo_text.proofs.TextLaws.{line_again, line_takes}
 use Rattle.resolvo_catalogue_core.specs.Grammar.{MayFollow}
-use Rattle.resolvo_catalogue_core.specs.Listed.{version_by}
 use Rattle.resolvo_catalogue_core.specs.Table.{lines_in}
 use Rattle.resolvo_catalogue_core.proofs.table.Table.read_line.Goals as goal
-
-pub returns-in-Some-listed_in-clause-fault : goal.returns-in-Some-listed_in-clause-fault
-returns-in-Some-listed_in-clause-fault c = λ e line p.
-    let same = one_line c.args.text.now line (Listed (version_by c.in-Some-listed_in.name.now c.in-Some-listed_in.version)) p.parsed c.in-Some-listed_in.ensures.listed in
-    c.list.ensures.fault e (subst (λ (l : Line). MayFollow (lines_in c.args.self.now) l) same p.place)
 
 pub returns-in-Some-clause-ok : goal.returns-in-Some-clause-ok
 returns-in-Some-clause-ok c = on_ok_weaker c.read_need.result (λ h. (h.0, record { parsed = line_takes c.args.text.now h.0 (c.in-Some.ensures ∙ h.1); place = h.2 }, h.3)) c.read_need.ensures.ok
 
 pub returns-in-Some-clause-fault : goal.returns-in-Some-clause-fault
 returns-in-Some-clause-fault c = λ e line p. c.read_need.ensures.fault e line (sym c.in-Some.ensures ∙ line_again c.args.text.now line p.parsed.form p.parsed.spelled) p.place
+
+version_of : (o : Option Version) (line : Line) → option_map (λ (v : Version). Listed v) o ≡ Some line → (v : Version) × (o ≡ Some v) × (line ≡ Listed v)
+version_of None line e = absurd cc
+version_of (Some v) line e = (v, refl, cc)
+
+pub returns-in-Some-listed_words-clause-ok : goal.returns-in-Some-listed_words-clause-ok
+returns-in-Some-listed_words-clause-ok c = on_ok_weaker c.read_version.result (λ h. (Listed h.0, record { parsed = line_takes c.args.text.now (Listed h.0) (c.in-Some-listed_words.ensures ∙ ap (λ (o : Option Version). option_map (λ (v : Version). Listed v) o) h.1); place = h.2 }, h.3)) c.read_version.ensures.ok
+
+pub returns-in-Some-listed_words-clause-fault : goal.returns-in-Some-listed_words-clause-fault
+returns-in-Some-listed_words-clause-fault c = λ e line p.
+    let v = version_of (version_in (words_in c.in-Some-listed_words.words.now)) line (sym c.in-Some-listed_words.ensures ∙ line_again c.args.text.now line p.parsed.form p.parsed.spelled) in
+    c.read_version.ensures.fault e v.0 v.1 (subst (λ (l : Line). MayFollow (lines_in c.args.self.now) l) v.2 p.place)
 
 limit_of : (o : Option Spec) (line : Line) → option_map (λ (s : Spec). Limits s) o ≡ Some line → (s : Spec) × (o ≡ Some s) × (line ≡ Limits s)
 limit_of None line e = absurd cc
