@@ -96,8 +96,9 @@ impl LineTable {
         }
     }
 
+    /// Adds a line by its stored form.
     #[inline(always)]
-    fn hold(&mut self, held: StoredLine) -> Result<(), AllocError>
+    pub fn hold(&mut self, held: StoredLine) -> Result<(), AllocError>
         requires { is_held (length self.old.rules.items) (length self.old.marked.items) held ≡ true }
         ensures { OnOk result
             (kind_list self.new.rules.items self.new.marked.items self.new.held.items

@@ -2,7 +2,7 @@
 //! The model is the list of lines, `lines_in`; `IsTable` is the invariant that the maps agree with
 //! it. Used by `catalogue`.
 
-ghost use Rattle.std.specs.Prelude.{◌≡◌, ℕ, ◌+◌, ◌<◌, ◌==◌, [], if◌then◌else◌, not, option_map, option_and_then, option_copied, map, is_some, length, slice_get, Contains, IsTrue, OnOk, OnErr, IfOk, Err, Some, None, Option, List, true, false};
+ghost use Rattle.std.specs.Prelude.{◌≡◌, ℕ, ◌+◌, ◌<◌, ◌==◌, [], ◌∷◌, if◌then◌else◌, not, option_map, option_and_then, option_copied, map, is_some, length, slice_get, Contains, IsTrue, OnOk, OnErr, IfOk, Err, Some, None, Option, List, true, false};
 ghost use Rattle.std.specs.BTreeMap.{get, get_by_text};
 ghost use Rattle.std.specs.Ordering.{nat_cmp};
 ghost use Rattle.std.specs.Option.{option_map_or};
@@ -20,7 +20,7 @@ ghost use Rattle.resolvo_catalogue_core.specs.Picked.{IsPicked};
 ghost use Rattle.resolvo_catalogue_core.specs.Table.{number_in, package_named};
 
 use crate::kept_rule::KeptRule;
-use crate::line_table::{LineKind, LineTable};
+use crate::line_table::{LineKind, LineTable, StoredLine};
 use crate::lines_by_version::LinesByVersion;
 use crate::package::Package;
 use crate::package_table::PackageTable;
@@ -345,7 +345,7 @@ impl Table {
             package: id,
             number,
         })?;
-        self.line_kinds.push(LineKind::Listed(version))?;
+        self.line_kinds.hold(StoredLine::Listed(version))?;
         Ok(())
     }
 
@@ -386,6 +386,26 @@ impl Table {
         self.owned.add_line(owner, line)?;
         self.line_kinds
             .push(LineKind::Rule(KeptRule::Needs { owner, need }))?;
+        Ok(())
+    }
+
+    /// Adds a line that needs one SPEC without a condition.
+    fn add_plain_need(&mut self, line: u32, spec: VersionSetId) -> Result<(), LineFault>
+        requires table { IsTable self.old }
+        requires line { line ≡ length (lines_in self.old) + 1 }
+        requires short { line < 16777217 }
+        // After an answer.
+        ensures ok { OnOk result
+            ((s : parsed.Spec)
+            → IsSpec self.old.terms spec s
+            → Adds self.old (parsed.Needs (s ∷ []) None) self.new) }
+        ensures placed { OnOk result
+            ((v : parsed.Version) × (owner_below (lines_in self.old) ≡ Some v)) }
+        ensures fault { result ≡ Err Fault → owner_below (lines_in self.old) ≡ None }
+    {
+        let owner = self.owner()?;
+        self.owned.add_line(owner, line)?;
+        self.line_kinds.hold(StoredLine::Need { owner, spec })?;
         Ok(())
     }
 
@@ -624,6 +644,9 @@ impl Table {
             → MayFollow (lines_in self.old) l
             → ⊥ }
     {
+        if let Some(spec) = self.terms.plain_need_in(words) {
+            return self.add_plain_need(line, spec);
+        }
         let need = self.terms.need_in(words)?;
         self.terms.ids_are_once();
         self.add_need(line, need)

@@ -119,8 +119,9 @@ impl Terms {
         }
     }
 
-    /// The version set of a need, if its words are one name and it was asked for last of the package.
-    fn lone_set(&self, words: &[u8]) -> Option<VersionSetId>
+    /// The version set of a need, if its words are one name that is known, and any version of the
+    /// package was asked for last. Most needs are such: their words are not told apart.
+    pub fn plain_need_in(&self, words: &[u8]) -> Option<VersionSetId>
         ensures { IfSome result
             (λ v.
             (s : parsed.Spec)
@@ -132,24 +133,10 @@ impl Terms {
         self.recent_set(package, Span::Any)
     }
 
-    /// The need of the words after `needs`. Most needs are one name that is known: its words are not
-    /// told apart.
-    pub fn need_in(&mut self, words: &[u8]) -> Result<ConditionalRequirement, LineFault>
-        ensures need { Reads (IsNeedRead self.old self.new) result (needs_in (words_in words.now)) }
-        ensures grows { Grows self.old self.new }
-    {
-        if let Some(set) = self.lone_set(words) {
-            return Ok(ConditionalRequirement {
-                condition: None,
-                requirement: Requirement::Single(set),
-            });
-        }
-        self.parts_in(words)
-    }
-
-    /// The same, part by part. A condition is read as a value of its own: few needs have one.
+    /// The need of the words after `needs`, part by part. A condition is read as a value of its own:
+    /// few needs have one.
     #[inline(never)]
-    fn parts_in(&mut self, words: &[u8]) -> Result<ConditionalRequirement, LineFault>
+    pub fn need_in(&mut self, words: &[u8]) -> Result<ConditionalRequirement, LineFault>
         ensures need { Reads (IsNeedRead self.old self.new) result (needs_in (words_in words.now)) }
         ensures grows { Grows self.old self.new }
     {

@@ -53,7 +53,7 @@ returns-clause-ok c =
     let version : VersionNo = record { 0 = c.len.result } in
     let v = version_by name c.args.number in
     let kept_one : KeptVersion = record { «package» = c.args.id; number = c.args.number } in
-    let u = record t { versions = c.push.new.self; line_kinds = c.push-2.new.self; packages = c.add.new.self; owned = c.add_version.new.self } in
+    let u = record t { versions = c.push.new.self; line_kinds = c.hold.new.self; packages = c.add.new.self; owned = c.add_version.new.self } in
     let same = named_at names t.packages name id c.requires.table.sound.names named in
     let added = c.if-not-branch.false in
     let new = subst (λ (o : Option Package). is_some (number_in o c.args.number) ≡ false) same (was_new c.in_ok-add.field-0 _ c.in_ok-add.ensures.new added) in
@@ -65,4 +65,4 @@ returns-clause-ok c =
     let owned = empty_more t.owned c.add_version.new.self c.in_ok-add_version.ensures in
     let number : c.len.result ≡ length (versions_in t) = omega (arith, as_many names t.versions.items, c.len.ensures) in
     let owned_count : length c.add_version.new.self ≡ length t.owned + 1 = omega (arith, ap (λ xs. length xs) c.in_ok-add_version.ensures, length-append t.owned ([] ∷ [])) in
-    list t u version v c.requires.table number unlisted more places versions kept c.in_ok-push-2.ensures owned owned_count
+    list t u version v c.requires.table number unlisted more places versions kept c.in_ok-hold.ensures owned owned_count

@@ -1,4 +1,4 @@
-use Rattle.std.proofs.Common.{◌≡◌, ◌+◌, ◌≤◌, List, length, ap, sym, subst, ◌∙◌, arith}
+use Rattle.std.proofs.Common.{◌≡◌, ◌+◌, ◌≤◌, ◌∷◌, [], List, None, length, ap, sym, subst, ◌∙◌, arith}
 use Rattle.resolvo_text.specs.Line.{Line, Needs}
 use Rattle.resolvo_text.specs.Parse.{words_in, needs_in}
 use Rattle.resolvo_terms.specs.Reads.{IsNeedRead}
@@ -38,3 +38,17 @@ returns-clause-fault c = λ e l is may.
     let owned = subst (λ (x : Line). MayFollow (lines_in t) x) same may in
     let none = c.add_need.ensures.fault e in
     absurd (cc (owned.1, none, more.0))
+
+pub returns-in-Some-clause-ok : goal.returns-in-Some-clause-ok
+returns-in-Some-clause-ok c =
+    let read = c.in-Some.ensures in
+    on_ok_both c.add_plain_need.result (λ add placed. (Needs (read.0 ∷ []) None, read.1, placed, add read.0 read.2)) c.add_plain_need.ensures.ok c.add_plain_need.ensures.placed
+
+pub returns-in-Some-clause-fault : goal.returns-in-Some-clause-fault
+returns-in-Some-clause-fault c = λ e l is may.
+    let t = c.args.self.now in
+    let read = c.in-Some.ensures in
+    let same : l ≡ Needs (read.0 ∷ []) None = cc (is, read.1) in
+    let owned = subst (λ (x : Line). MayFollow (lines_in t) x) same may in
+    let none = c.add_plain_need.ensures.fault e in
+    absurd (cc (owned.1, none))

@@ -1,7 +1,7 @@
 use Rattle.std.proofs.lemmas.Option.{IfSome_then}
 use Rattle.resolvo_text.specs.declared.spec.Span.TheVariants.{Any}
 use Rattle.resolvo_terms.proofs.ReadLemmas.{lone_text}
-use Rattle.resolvo_terms.proofs.terms.Terms.lone_set.Goals as goal
+use Rattle.resolvo_terms.proofs.terms.Terms.plain_need_in.Goals as goal
 
 pub returns : goal.returns
 returns c = IfSome_then c.recent_set.result c.recent_set.ensures (λ v at. (
