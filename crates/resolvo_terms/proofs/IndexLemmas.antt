@@ -68,16 +68,6 @@ module _ {V : Type 0} (eq : V → V → Bool) (values : List V) (slots : List �
   pub number_first : (first hash : ℕ) → first ≡ place_from hash → number_from eq values slots other (tries - 0) (first + 0) v ≡ number_from eq values slots other tries (place_from hash) v
   number_first first hash is = let zero_more : first + 0 ≡ first = omega arith in ap (λ (n : ℕ). number_from eq values slots other tries n v) (zero_more ∙ is)
 
-  -- at the first place: nothing, or the number of the value
-  first_decides : (first hash : ℕ) → first ≡ place_from hash → number_of_slot eq values (slot_at slots first) (number_from eq values slots other 7 (suc first) v) v ≡ number_from eq values slots other tries (place_from hash) v
-  first_decides first hash is = ap (λ (n : ℕ). number_from eq values slots other tries n v) is
-
-  pub none_at_first : (first hash : ℕ) → first ≡ place_from hash → slot_at slots first ≡ Some 0 → None ≡ number_from eq values slots other tries (place_from hash) v
-  none_at_first first hash is free = sym (ap (λ (s : Option ℕ). number_of_slot eq values s (number_from eq values slots other 7 (suc first) v) v) free) ∙ first_decides first hash is
-
-  pub one_at_first : (first hash : ℕ) → first ≡ place_from hash → (n : ℕ) → ((later : Option ℕ) → number_of_slot eq values (slot_at slots first) later v ≡ or_later (Some n) later) → Some n ≡ number_from eq values slots other tries (place_from hash) v
-  one_at_first first hash is n found = sym (found (number_from eq values slots other 7 (suc first) v)) ∙ first_decides first hash is
-
   -- at a place: the number there is the value's, or the later places decide
   pub number_here : (tried first : ℕ) (all : Option ℕ) → tried < tries → number_from eq values slots other (tries - tried) (first + tried) v ≡ all → (found : Option ℕ) → ((later : Option ℕ) → number_of_slot eq values (slot_at slots (first + tried)) later v ≡ or_later found later)
       → or_later found (number_from eq values slots other (tries - (tried + 1)) (first + (tried + 1)) v) ≡ all

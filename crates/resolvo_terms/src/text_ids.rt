@@ -252,25 +252,6 @@ impl TextIndex {
             (place_from (text_hash text.now)) text.now }
     {
         let first = first_place(hash);
-        if self.slots.is_free(first) {
-            return None;
-        }
-        if let Some(number) = self.number_at(texts, text, first) {
-            return Some(number);
-        }
-        self.number_among(texts, text, hash)
-    }
-
-    /// The same, where the first place is not that of the text.
-    #[inline(never)]
-    fn number_among(&self, texts: &TextList, text: &[u8], hash: usize) -> Option<u32>
-        requires { hash ≡ text_hash text.now }
-        ensures { result
-            ≡ number_from bytes_eq texts.now self.now.slots.numbers.items
-            (list_number_in self.now.others.entries text.now) tries
-            (place_from (text_hash text.now)) text.now }
-    {
-        let first = first_place(hash);
         for tried in 0..TRIES {
             if self.slots.is_free(first + tried) {
                 return None;

@@ -1,7 +1,7 @@
 use Rattle.std.proofs.Common.{◌≡◌, ◌-◌, ◌+◌}
 use Rattle.std.specs.Str.{bytes_eq}
 use Rattle.resolvo_terms.specs.Found.{tries, number_from, place_from, list_number_in, text_hash}
-use Rattle.resolvo_terms.proofs.text_ids.TextIndex.number_among.Given as goal
+use Rattle.resolvo_terms.proofs.text_ids.TextIndex.number.Given as goal
 
 abbrev pub invariant-loop-tried : goal.invariant-loop-tried
 invariant-loop-tried l =
