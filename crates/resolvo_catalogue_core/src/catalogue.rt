@@ -52,7 +52,7 @@ impl Model for Catalogue {
 }
 
 impl Catalogue {
-    ghost use Rattle.std.specs.Prelude.{◌≡◌, ℕ, false, List, map, option_map, slice_get, Some, None, length, IfOk, IfSome, IfNone, OnErr, Contains, IfErr};
+    ghost use Rattle.std.specs.Prelude.{◌≡◌, ℕ, false, true, List, map, option_map, slice_get, Some, None, length, IfOk, IfSome, IfNone, OnErr, Contains, IfErr};
     ghost use Rattle.resolvo_text.specs.Line as parsed;
     ghost use Rattle.resolvo_text.specs.View.{version_of, spec_of, cases_of};
     ghost use Rattle.resolvo_catalogue_core.specs.Grammar.{line_at, owner_of, IsCatalogueLine, AreCatalogueLines};
@@ -113,7 +113,8 @@ impl Catalogue {
 
     /// Whether a line marks a package `many`.
     pub fn marks_many(&self) -> bool
-        ensures { result ≡ false → (name : List ℕ) → is_many self.now name ≡ false }
+        ensures none { result ≡ false → (name : List ℕ) → is_many self.now name ≡ false }
+        ensures some { result ≡ true → (name : List ℕ) × (is_many self.now name ≡ true) }
     {
         self.table.marks_many()
     }

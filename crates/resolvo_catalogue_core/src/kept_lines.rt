@@ -2,13 +2,13 @@
 //! model is the lines, the terms that the numbers are of, the versions, and the rules and their owners
 //! by numbers. Read by the provider and the reports.
 
-ghost use Rattle.std.specs.Prelude.{◌≡◌, ◌≤◌, ◌==◌, ℕ, List, sum_by, Contains, IfSome, IfNone, false, true, length, map, slice_get, Some};
+ghost use Rattle.std.specs.Prelude.{◌≡◌, ◌≤◌, ◌==◌, ◌⊎◌, ℕ, List, sum_by, Contains, IfSome, IfNone, false, true, length, map, slice_get, Some};
 ghost use Rattle.resolvo_text.specs.Line as parsed;
 ghost use Rattle.resolvo_catalogue_core.specs.Grammar.{line_at, owner_of};
 ghost use Rattle.resolvo_catalogue_core.specs.Kept.{IsKeptLine, AreKept, places_from, rule_at};
 ghost use Rattle.resolvo_catalogue_core.specs.LinesByVersion.{kept_of};
 ghost use Rattle.resolvo_catalogue_core.specs.Listed.{listed, kept_versions, are_kept, AreDistinct};
-ghost use Rattle.resolvo_catalogue_core.specs.Questions.{is_rule, number_of};
+ghost use Rattle.resolvo_catalogue_core.specs.Questions.{LineIs, Locks, Excludes, is_rule, number_of};
 ghost use Rattle.resolvo_terms.specs.TermCounts.{term_count, terms_for_line};
 
 use crate::kept_rule::KeptRule;
@@ -85,6 +85,9 @@ impl<'a> KeptLines<'a> {
             → slice_get (listed self.now.lines) k ≡ Some v
             → Contains self.now.lines (parsed.Exclude v word)
             → ⊥ }
+        ensures some { result ≡ true
+            → ((name : List ℕ) × (n : ℕ) × LineIs self.now.lines n (Locks name))
+            ⊎ ((v : parsed.Version) × (n : ℕ) × LineIs self.now.lines n (Excludes v)) }
     {
         !(self.table.locks.is_empty() && self.table.excluded.is_empty())
     }

@@ -277,7 +277,9 @@ impl Table {
 
     /// Whether versions of some package may be side by side.
     pub fn marks_many(&self) -> bool
-        ensures { result ≡ false → (name : List ℕ) → get_by_text self.now.many name ≡ None }
+        ensures none { result ≡ false → (name : List ℕ) → get_by_text self.now.many name ≡ None }
+        ensures some { result ≡ true
+            → (name : List ℕ) × (line : ℕ) × (get_by_text self.now.many name ≡ Some line) }
     {
         !self.many.is_empty()
     }
