@@ -6,7 +6,7 @@ use Rattle.resolvo_text.specs.Line as parsed
 use Rattle.resolvo_text.specs.Line.{Version, Line}
 use Rattle.resolvo_terms.specs.Terms.{Terms, AreSound}
 use Rattle.resolvo_terms.specs.TermCounts.{term_count, terms_for_line}
-use Rattle.resolvo_catalogue_core.specs.Grammar.{owner_below}
+use Rattle.resolvo_catalogue_core.specs.Grammar.{owner_below, MayFollow, IsCatalogueLine}
 use Rattle.resolvo_catalogue_core.specs.Listed.{listed, kept_versions, are_kept}
 use Rattle.resolvo_catalogue_core.specs.Questions.{IsOnly, AreAll, LineIs, BelongsTo, MarksUnknownOf, Locks, Favours, MarksMany, Excludes, IsFavour, IsOfPackage, IsVersionLine, FavoursAt, number_of}
 use Rattle.resolvo_catalogue_core.specs.LinesByVersion.{kept_of}
@@ -115,3 +115,19 @@ HasFew t = term_count t.terms ≤ sum_by terms_for_line (lines_in t)
 -- The second table keeps the line below those of the first, and numbers no more terms for it than it needs.
 abbrev pub Adds : Table → Line → Table → Type 0
 Adds before line after = IsTable after × (lines_in after ≡ lines_in before ++ line ∷ []) × (term_count after.terms ≤ term_count before.terms + terms_for_line line)
+
+-- What was read is this line, which may follow, and the second table keeps it below those of the first.
+abbrev pub AddsRead : {X : Type 0} → Option X → (X → Line) → Table → Table → Type 0
+AddsRead {X} read line before after = (x : X) × (read ≡ Some x) × MayFollow (lines_in before) (line x) × Adds before (line x) after
+
+-- What was read is no line that may follow those of the table.
+abbrev pub NoneFollows : {X : Type 0} → Option X → (X → Line) → Table → Type 0
+NoneFollows {X} read line t = (x : X) → read ≡ Some x → MayFollow (lines_in t) (line x) → ⊥
+
+-- The text is that of a line, which may follow, and the second table keeps it below those of the first.
+abbrev pub AddsText : List ℕ → Table → Table → Type 0
+AddsText text before after = (line : Line) × IsCatalogueLine (lines_in before) text line × Adds before line after
+
+-- The text is that of no line that may follow those of the table.
+abbrev pub NoTextFollows : List ℕ → Table → Type 0
+NoTextFollows text t = (line : Line) → IsCatalogueLine (lines_in t) text line → ⊥

@@ -13,7 +13,7 @@ ghost use Rattle.resolvo_text.specs.declared.line.LineFault.TheVariants.{Fault};
 ghost use Rattle.resolvo_text.specs.Parse.{words_in, needs_in, spec_in, version_in};
 ghost use Rattle.resolvo_terms.specs.Known.{name_text};
 ghost use Rattle.resolvo_terms.specs.Terms.{IsNeed, IsSpec};
-ghost use Rattle.resolvo_catalogue_core.specs.Grammar.{MayFollow, IsCatalogueLine, owner_below};
+ghost use Rattle.resolvo_catalogue_core.specs.Grammar.{MayFollow, owner_below};
 ghost use Rattle.resolvo_catalogue_core.specs.Questions.{number_of, AreAll, IsOwner, IsOnly, LineIs, LocksAnother, Forbids};
 ghost use Rattle.resolvo_catalogue_core.specs.Listed.{version_by};
 ghost use Rattle.resolvo_catalogue_core.specs.Picked.{IsPicked};
@@ -79,7 +79,7 @@ impl Drop for Table {
 
 impl Table {
     ghost use Rattle.resolvo_catalogue_core.specs.LinesByVersion.{kept_of};
-    ghost use Rattle.resolvo_catalogue_core.specs.Table.{IsTable, Adds, HasFew, lines_in, versions_in, kinds_in, numbers_in};
+    ghost use Rattle.resolvo_catalogue_core.specs.Table.{IsTable, Adds, AddsRead, NoneFollows, AddsText, NoTextFollows, HasFew, lines_in, versions_in, kinds_in, numbers_in};
     ghost use Rattle.resolvo_catalogue_core.specs.Kept.{is_lock_of_another};
     ghost use Rattle.resolvo_catalogue_core.specs.Held.{kind_at, rule_of};
 
@@ -636,15 +636,9 @@ impl Table {
         requires line { line ≡ length (lines_in self.old) + 1 }
         requires short { line < 16777217 }
         ensures ok { OnOk result
-            ((l : parsed.Line)
-            × (needs_in (words_in words.now) ≡ Some l)
-            × MayFollow (lines_in self.old) l
-            × Adds self.old l self.new) }
+            (AddsRead (needs_in (words_in words.now)) (λ l. l) self.old self.new) }
         ensures fault { result ≡ Err Fault
-            → (l : parsed.Line)
-            → needs_in (words_in words.now) ≡ Some l
-            → MayFollow (lines_in self.old) l
-            → ⊥ }
+            → NoneFollows (needs_in (words_in words.now)) (λ l. l) self.old }
     {
         if let Some(spec) = self.terms.plain_need_in(words) {
             return self.add_plain_need(line, spec);
@@ -660,15 +654,9 @@ impl Table {
         requires line { line ≡ length (lines_in self.old) + 1 }
         requires short { line < 16777217 }
         ensures ok { OnOk result
-            ((s : parsed.Spec)
-            × (spec_in (words_in words.now) ≡ Some s)
-            × MayFollow (lines_in self.old) (parsed.Limits s)
-            × Adds self.old (parsed.Limits s) self.new) }
+            (AddsRead (spec_in (words_in words.now)) (λ s. parsed.Limits s) self.old self.new) }
         ensures fault { result ≡ Err Fault
-            → (s : parsed.Spec)
-            → spec_in (words_in words.now) ≡ Some s
-            → MayFollow (lines_in self.old) (parsed.Limits s)
-            → ⊥ }
+            → NoneFollows (spec_in (words_in words.now)) (λ s. parsed.Limits s) self.old }
     {
         let spec = self.terms.spec_in(words)?;
         self.terms.ids_are_once();
@@ -680,15 +668,9 @@ impl Table {
         requires table { IsTable self.old }
         requires short { length (lines_in self.old) < 16777216 }
         ensures ok { OnOk result
-            ((v : parsed.Version)
-            × (version_in (words_in words.now) ≡ Some v)
-            × MayFollow (lines_in self.old) (parsed.Listed v)
-            × Adds self.old (parsed.Listed v) self.new) }
+            (AddsRead (version_in (words_in words.now)) (λ v. parsed.Listed v) self.old self.new) }
         ensures fault { result ≡ Err Fault
-            → (v : parsed.Version)
-            → version_in (words_in words.now) ≡ Some v
-            → MayFollow (lines_in self.old) (parsed.Listed v)
-            → ⊥ }
+            → NoneFollows (version_in (words_in words.now)) (λ v. parsed.Listed v) self.old }
     {
         let (id, number) = self.terms.version_in(words)?;
         self.terms.ids_are_once();
@@ -701,14 +683,8 @@ impl Table {
         requires table { IsTable self.old }
         requires number { number ≡ length (lines_in self.old) + 1 }
         requires short { number < 16777217 }
-        ensures ok { OnOk result
-            ((line : parsed.Line)
-            × IsCatalogueLine (lines_in self.old) text.now line
-            × Adds self.old line self.new) }
-        ensures fault { result ≡ Err Fault
-            → (line : parsed.Line)
-            → IsCatalogueLine (lines_in self.old) text.now line
-            → ⊥ }
+        ensures ok { OnOk result (AddsText text.now self.old self.new) }
+        ensures fault { result ≡ Err Fault → NoTextFollows text.now self.old }
     {
         if let Some(words) = needs_words(text) {
             return self.read_need(number, words);
@@ -731,14 +707,8 @@ impl Table {
         requires table { IsTable self.old }
         requires number { number ≡ length (lines_in self.old) + 1 }
         requires short { number < 16777217 }
-        ensures ok { OnOk result
-            ((line : parsed.Line)
-            × IsCatalogueLine (lines_in self.old) text.now line
-            × Adds self.old line self.new) }
-        ensures fault { result ≡ Err Fault
-            → (line : parsed.Line)
-            → IsCatalogueLine (lines_in self.old) text.now line
-            → ⊥ }
+        ensures ok { OnOk result (AddsText text.now self.old self.new) }
+        ensures fault { result ≡ Err Fault → NoTextFollows text.now self.old }
     {
         let line = line_in(alloc, text)?;
         self.add(alloc, number, line)
