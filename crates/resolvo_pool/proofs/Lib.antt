@@ -1,3 +1,4 @@
 pub mod Favoured
 pub mod HintedLemmas
 pub mod KeptLemmas
+pub mod TableLemmas

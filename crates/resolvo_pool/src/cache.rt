@@ -15,8 +15,9 @@ ghost use Rattle.resolvo_pool.specs.declared.cache.CacheFault.TheVariants.{Ids};
 ghost use Rattle.resolvo_pool.specs.Cached.{among, same_set, same_union, sorted_of, has_sorted, is_sorted, Extends, AddsNames, AddsMatching, AddsSorted, IsCancelledBy};
 
 use crate::hinted::put_hinted;
+use crate::id_table::IdTable;
 use resolvo_pool_core::id::{Exact, VersionSetId, VersionSetUnionId};
-use resolvo_pool_core::id_map::IdSet;
+use resolvo_pool_core::id_map::{IdSet, OptionalNumber};
 use resolvo_pool_core::provider::{Candidates, Dependencies, DependencyProvider};
 use resolvo_pool_core::requirement::Requirement;
 use resolvo_pool_core::solver_id::SolverId;
@@ -81,18 +82,19 @@ impl<C, T: Drop> From<AllocFailed<T>> for CacheFault<C> {
 pub struct SolverCache<D: DependencyProvider> {
     provider: D,
     alloc: Global,
-    lists: HashMap<D::NameId, Candidates<D::SolvableId>>,
+    lists: IdTable<D::NameId, Candidates<D::SolvableId>, <D::NameId as SolverId>::OptionalIds>,
     matching: HashMap<VersionSetId, Vec<D::SolvableId>>,
     non_matching: HashMap<VersionSetId, Vec<D::SolvableId>>,
-    sorted: HashMap<VersionSetId, Vec<D::SolvableId>>,
+    sorted: IdTable<VersionSetId, Vec<D::SolvableId>, Vec<OptionalNumber>>,
     unions: HashMap<VersionSetUnionId, Vec<D::SolvableId>>,
-    dependencies: HashMap<D::SolvableId, Dependencies>,
+    dependencies: IdTable<D::SolvableId, Dependencies, <D::SolvableId as SolverId>::OptionalIds>,
     hinted: <D::SolvableId as SolverId>::Set,
 }
 
 impl<D: DependencyProvider> Model for SolverCache<D> {
     ghost use Rattle.std.specs.Prelude.{true, false};
     ghost use Rattle.std.specs.HashMap.{keys};
+    ghost use Rattle.std.specs.Map.{keys_of};
     ghost use Rattle.resolvo_pool_core.specs.Provider.{matching_in, tried_first};
     ghost use Rattle.resolvo_pool.specs.Cached.{Cached, IsKept, IsListing, IsList, IsSortedList, IsUnionList, IsNeeds, same_set, same_union, lists_of, among};
     ghost use Rattle.resolvo_pool.specs.Hinted.{is_hinted, HoldsHinted};
@@ -102,16 +104,16 @@ impl<D: DependencyProvider> Model for SolverCache<D> {
     ghost view = { λ c.
         record {
           provider = c.provider;
-          names = keys c.lists;
+          names = keys_of c.lists;
           matching = keys c.matching;
           non_matching = keys c.non_matching;
-          sorted = lists_of c.sorted.entries;
+          sorted = lists_of c.sorted;
           unions = keys c.unions;
-          solvables = keys c.dependencies;
+          solvables = keys_of c.dependencies;
         } };
 
     ghost invariant = { λ c.
-        IsKept D.NameId.eq (IsListing (D.candidates_of c.provider)) c.lists.entries
+        IsKept D.NameId.eq (IsListing (D.candidates_of c.provider)) c.lists
         × IsKept same_set (IsList (matching_in (D.name_of_version_set c.provider)
         (D.candidates_of c.provider) (D.matches c.provider) false)) c.matching.entries
         × IsKept same_set (IsList (matching_in (D.name_of_version_set c.provider)
@@ -119,10 +121,10 @@ impl<D: DependencyProvider> Model for SolverCache<D> {
         × IsKept same_set (IsSortedList (D.sorts c.provider) D.SolvableId.eq (tried_first
         (D.name_of_version_set c.provider) (D.candidates_of c.provider)) (matching_in
         (D.name_of_version_set c.provider) (D.candidates_of c.provider)
-        (D.matches c.provider) false)) c.sorted.entries
-        × IsKept same_union (IsUnionList (D.members_of c.provider) (lists_of c.sorted.entries)) c.unions.entries
-        × IsKept D.SolvableId.eq (IsNeeds (D.dependencies_of c.provider)) c.dependencies.entries
-        × HoldsHinted (λ s. among D.NameId.eq (keys c.lists) (D.name_of_solvable c.provider s))
+        (D.matches c.provider) false)) c.sorted
+        × IsKept same_union (IsUnionList (D.members_of c.provider) (lists_of c.sorted)) c.unions.entries
+        × IsKept D.SolvableId.eq (IsNeeds (D.dependencies_of c.provider)) c.dependencies
+        × HoldsHinted (λ s. among D.NameId.eq (keys_of c.lists) (D.name_of_solvable c.provider s))
         (is_hinted D.SolvableId.eq (D.name_of_solvable c.provider) (D.candidates_of c.provider))
         (D.SolvableId.Set.has c.hinted) };
 }
@@ -145,12 +147,12 @@ impl<D: DependencyProvider> SolverCache<D> {
         SolverCache {
             provider,
             alloc,
-            lists: HashMap::new(alloc),
+            lists: IdTable::new(alloc),
             matching: HashMap::new(alloc),
             non_matching: HashMap::new(alloc),
-            sorted: HashMap::new(alloc),
+            sorted: IdTable::new(alloc),
             unions: HashMap::new(alloc),
-            dependencies: HashMap::new(alloc),
+            dependencies: IdTable::new(alloc),
             hinted: <D::SolvableId as SolverId>::Set::new(alloc),
         }
     }
@@ -166,7 +168,7 @@ impl<D: DependencyProvider> SolverCache<D> {
     pub fn has_candidates(&self, name: D::NameId) -> bool
         ensures { result ≡ among D.NameId.eq self.now.names name }
     {
-        self.lists.contains_key(&name)
+        self.lists.contains(name)
     }
 
     /// The cached candidates of a package.
@@ -174,7 +176,7 @@ impl<D: DependencyProvider> SolverCache<D> {
         requires { among D.NameId.eq self.now.names name ≡ true }
         ensures { listing result.now ≡ listing_or_empty (D.candidates_of self.now.provider name) }
     {
-        match self.lists.get(&name) {
+        match self.lists.get(name) {
             Some(list) => list,
             None => unreachable!(),
         }
@@ -202,6 +204,7 @@ impl<D: DependencyProvider> SolverCache<D> {
 
     /// Asks for the candidates of a package, and caches them.
     fn ask_candidates(&mut self, name: D::NameId) -> Result<(), CacheFault<D::Cancel>>
+        requires fresh { among D.NameId.eq self.old.names name ≡ false }
         // The answer is cached.
         ensures there { OnOk result (among D.NameId.eq self.new.names name ≡ true) }
         // What else changes.
@@ -217,7 +220,7 @@ impl<D: DependencyProvider> SolverCache<D> {
         }
         let list = candidates_from(&self.provider, self.alloc, name)?;
         put_hinted(&mut self.hinted, &self.provider, name, &list)?;
-        self.lists.insert(name, list)?;
+        self.lists.put(name, list)?;
         Ok(())
     }
 
@@ -429,7 +432,7 @@ impl<D: DependencyProvider> SolverCache<D> {
         ensures { result ≡ has_sorted self.now requirement }
     {
         match requirement {
-            Requirement::Single(version_set) => self.sorted.contains_key(&version_set),
+            Requirement::Single(version_set) => self.sorted.contains(version_set),
             Requirement::Union(union) => self.unions.contains_key(&union),
         }
     }
@@ -465,7 +468,7 @@ impl<D: DependencyProvider> SolverCache<D> {
             version_set)
             result.now }
     {
-        match self.sorted.get(&version_set) {
+        match self.sorted.get(version_set) {
             Some(list) => list.as_slice(),
             None => unreachable!(),
         }
@@ -532,7 +535,7 @@ impl<D: DependencyProvider> SolverCache<D> {
         ensures ids { IsErrOf result WantIds → D.may_lack_ids self.old.provider }
     {
         let list = self.sorted_list(version_set)?;
-        self.sorted.insert(version_set, list)?;
+        self.sorted.put(version_set, list)?;
         Ok(())
     }
 
@@ -607,9 +610,6 @@ impl<D: DependencyProvider> SolverCache<D> {
         ensures cancelled { IfErr result (IsCancelledBy (D.may_cancel self.old.provider)) }
         ensures ids { IsErrOf result Ids → D.may_lack_ids self.old.provider }
     {
-        if self.has_sorted_candidates(requirement) {
-            return Ok(());
-        }
         match requirement {
             Requirement::Single(version_set) => {
                 self.cache_sorted_candidates_for_version_set(version_set)
@@ -621,11 +621,16 @@ impl<D: DependencyProvider> SolverCache<D> {
     /// Makes sure that the sorted candidates of a union are cached.
     fn cache_sorted_union(&mut self, union: VersionSetUnionId) -> Result<(), CacheFault<D::Cancel>>
         ensures there { OnOk result (among same_union self.new.unions union ≡ true) }
+        ensures cached { among same_union self.old.unions union ≡ true → IsOk result
+            × (self.new ≡ self.old) }
         ensures extends { Extends D.NameId.eq D.SolvableId.eq self.old self.new }
         ensures err { OnErr result (AddsSorted self.old self.new) }
         ensures cancelled { IfErr result (IsCancelledBy (D.may_cancel self.old.provider)) }
         ensures ids { IsErrOf result Ids → D.may_lack_ids self.old.provider }
     {
+        if self.has_sorted_candidates(Requirement::Union(union)) {
+            return Ok(());
+        }
         let members = Vec::from_slice(self.alloc, self.provider.version_sets_in_union(union))?;
         self.cache_sorted_members(members.as_slice())?;
         self.keep_union(union)?;
@@ -709,7 +714,7 @@ impl<D: DependencyProvider> SolverCache<D> {
     pub fn has_dependencies(&self, solvable: D::SolvableId) -> bool
         ensures { result ≡ among D.SolvableId.eq self.now.solvables solvable }
     {
-        self.dependencies.contains_key(&solvable)
+        self.dependencies.contains(solvable)
     }
 
     /// The cached dependencies of a solvable.
@@ -717,7 +722,7 @@ impl<D: DependencyProvider> SolverCache<D> {
         requires { among D.SolvableId.eq self.now.solvables solvable ≡ true }
         ensures { needs_of result.now ≡ D.dependencies_of self.now.provider solvable }
     {
-        match self.dependencies.get(&solvable) {
+        match self.dependencies.get(solvable) {
             Some(found) => found,
             None => unreachable!(),
         }
@@ -747,17 +752,45 @@ impl<D: DependencyProvider> SolverCache<D> {
 
     /// Asks for the dependencies of a solvable, and caches them.
     fn ask_dependencies(&mut self, solvable: D::SolvableId) -> Result<(), CacheFault<D::Cancel>>
+        requires fresh { among D.SolvableId.eq self.old.solvables solvable ≡ false }
         ensures there { OnOk result (among D.SolvableId.eq self.new.solvables solvable ≡ true) }
         ensures extends { Extends D.NameId.eq D.SolvableId.eq self.old self.new }
         ensures err { OnErr result (self.new ≡ self.old) }
         ensures cancelled { IfErr result (IsCancelledBy (D.may_cancel self.old.provider)) }
         ensures ids { IsErrOf result Ids → D.may_lack_ids self.old.provider }
     {
+        let found = self.new_dependencies(solvable)?;
+        self.put_dependencies(solvable, found)?;
+        Ok(())
+    }
+
+    /// The dependencies of a solvable, which are asked for, and aren't cached.
+    fn new_dependencies(
+        &self,
+        solvable: D::SolvableId,
+    ) -> Result<Dependencies, CacheFault<D::Cancel>>
+        ensures answer { IfOk result
+            (λ d. needs_of d ≡ D.dependencies_of self.now.provider solvable) }
+        ensures cancelled { IfErr result (IsCancelledBy (D.may_cancel self.now.provider)) }
+        ensures ids { IsErrOf result Ids → D.may_lack_ids self.now.provider }
+    {
         if let Some(value) = self.provider.should_cancel_with_value() {
             return Err(CacheFault::Cancelled(value));
         }
         let found = self.provider.get_dependencies(self.alloc, solvable)?;
-        self.dependencies.insert(solvable, found)?;
+        Ok(found)
+    }
+
+    /// Caches the dependencies of a solvable, of which none are cached.
+    fn put_dependencies(&mut self, solvable: D::SolvableId, found: Dependencies) -> R<()>
+        requires fresh { among D.SolvableId.eq self.old.solvables solvable ≡ false }
+        requires asked { needs_of found ≡ D.dependencies_of self.old.provider solvable }
+        ensures there { OnOk result (among D.SolvableId.eq self.new.solvables solvable ≡ true) }
+        ensures extends { Extends D.NameId.eq D.SolvableId.eq self.old self.new }
+        ensures err { OnErr result (self.new ≡ self.old) }
+        ensures refusal { IsOkUnless result WantMemory }
+    {
+        self.dependencies.put(solvable, found)?;
         Ok(())
     }
 

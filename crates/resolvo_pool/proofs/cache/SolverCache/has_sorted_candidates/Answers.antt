@@ -5,8 +5,8 @@ use Rattle.resolvo_pool.proofs.cache.SolverCache.has_sorted_candidates.Goals as 
 
 pub returns-in-Single : goal.returns-in-Single
 returns-in-Single g c =
-    rw (← c.self.view_is, c.in-Single.is) (c.contains_key.ensures ∙ sym (is_sorted-lookup c.self.inside.sorted.entries c.in-Single.version_set))
+    rw (← c.self.view_is, c.in-Single.is) (c.contains.ensures ∙ sym (is_sorted-lookup c.self.inside.sorted c.in-Single.version_set))
 
 pub returns-in-Union : goal.returns-in-Union
 returns-in-Union g c =
-    rw (← c.self.view_is, c.in-Union.is) (c.contains_key-in-Union.ensures ∙ sym (among-lookup same_union c.self.inside.unions.entries c.in-Union.union))
+    rw (← c.self.view_is, c.in-Union.is) (c.contains_key.ensures ∙ sym (among-lookup same_union c.self.inside.unions.entries c.in-Union.union))
