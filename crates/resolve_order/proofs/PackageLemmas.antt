@@ -1,16 +1,23 @@
 -- The number of a package's first version, and maps by these numbers.
-use Rattle.std.proofs.Common.{◌≡◌, inl, inr, ℕ, zero, suc, ◌<◌, ◌≤◌, Bool, true, false, if◌then◌else◌, ◌&&◌, List, [], ◌∷◌, length, map, Option, Some, None, refl, sym, ap, subst, ◌∙◌, get_or, arith}
-use Rattle.std.specs.Prelude.{slice_get, Contains, ◌==◌}
+use Rattle.std.proofs.Common.{◌≡◌, inl, inr, ℕ, zero, suc, ◌<◌, ◌≤◌, Bool, true, false, if◌then◌else◌, ◌&&◌, List, [], ◌∷◌, length, map, ◌+◌, Option, Some, None, refl, sym, ap, subst, ◌∙◌, get_or, arith}
+use Rattle.std.specs.Prelude.{slice_get, Contains, ◌==◌, nat_lt}
 use Rattle.std.specs.Option.{option_map, option_and_then}
 use Rattle.std.specs.BTreeMap.{BTreeMap, get, is_at}
 use Rattle.std.specs.Map.{lookup}
 use Rattle.std.specs.Ordering.{nat_cmp}
 use Rattle.std.specs.Str.{bytes_eq}
-use Rattle.std.proofs.lemmas.Bool.{false≢true, cases_Bool, eqb-true, eq-eqb}
+use Rattle.std.proofs.lemmas.Bool.{false≢true, cases_Bool, eqb-true, eq-eqb, and_parts}
+use Rattle.std.proofs.lemmas.Bool.Decides.{nat_tests}
+use Rattle.std.proofs.lemmas.Option.{slice_get-get_or, slice_get-map}
 use Rattle.std.proofs.lemmas.List.Kept.{AllPairs-from_increasing}
 use Rattle.std.proofs.lemmas.Slice.Eq.{bytes_eq-Decides}
-use Rattle.resolvo_text.specs.Line.{Version}
+use Rattle.resolvo_text.specs.Line.{Version, Line}
 use Rattle.resolvo_text.specs.Matches.{same_version}
+use Rattle.resolvo_terms.specs.Terms.{NameId, AreOnce, AreSound}
+use Rattle.resolvo_terms.specs.Known.{name_text}
+use Rattle.resolvo_catalogue_core.specs.Kept.{KeptLines, AreKept, places_from}
+use Rattle.resolvo_catalogue_core.specs.Listed.{listed, name_at, kept_version, kept_versions, is_kept, are_kept}
+use Rattle.resolvo_catalogue_core.specs.declared.versions.KeptVersion.{KeptVersion}
 use Rattle.resolvo_catalogue_core.specs.Questions.{AreAll, IsOfPackage, number_of}
 use Rattle.resolvo_catalogue_core.specs.declared.rule.VersionNo.{VersionNo}
 use Rattle.resolve_order.specs.Numbers.{version_in}
@@ -97,6 +104,75 @@ first_of_some versions name n numbers are =
 pub first_named : (versions : List Version) (name : List ℕ) (numbers : List VersionNo) (o : Option VersionNo) → AreAll (map number_of numbers) (IsOfPackage versions name) → o ≡ slice_get numbers 0 → option_map number_of o ≡ first_of versions name
 first_named versions name [] o are is = ap (λ (x : Option VersionNo). option_map number_of x) is ∙ sym (first_of_none versions name [] are refl)
 first_named versions name (n ∷ numbers) o are is = ap (λ (x : Option VersionNo). option_map number_of x) is ∙ sym (first_of_some versions name n.0 (map number_of numbers) are)
+
+-- ---- the same by the numbers of names
+
+-- of two numbers in range, whether their names are the same
+same_number : (names : List (List ℕ)) (a b : ℕ) → AreOnce names → a < length names → b < length names → bytes_eq (name_at names a) (name_at names b) ≡ (a == b)
+same_number names a b once la lb = elim (cases_Bool (a == b)) [
+  | inl t ↦ (bytes_eq-Decides (name_at names a) (name_at names b)).1 (ap (λ (k : ℕ). name_at names k) (eqb-true a b t)) ∙ sym t
+  | inr f ↦ elim (cases_Bool (bytes_eq (name_at names a) (name_at names b))) [
+    | inl s ↦ absurd (false≢true (sym f ∙ eq-eqb a b (once a b (name_at names a) (slice_get-get_or names a [] la)
+        (slice_get-get_or names b [] lb ∙ ap (λ (x : List ℕ). Some x) (sym ((bytes_eq-Decides (name_at names a) (name_at names b)).0 s))))))
+    | inr s ↦ s ∙ sym f
+  ]
+]
+
+below : (a b : ℕ) → nat_lt a b ≡ true → a < b
+below a b e = grind (arith, nat_tests)
+
+-- one version more before the others
+first_step : (b t : Bool) (o : Option ℕ) (at : ℕ) (xs : List ℕ) → t ≡ b → slice_get xs 0 ≡ option_map (λ (k : ℕ). suc at + k) o
+    → slice_get (if b then at ∷ xs else xs) 0 ≡ option_map (λ (k : ℕ). at + k) (if t then Some 0 else option_map suc o)
+first_step true t o at xs is h =
+    let same : at ≡ at + 0 = omega arith in
+    ap (λ (k : ℕ). Some k) same ∙ ap (λ (x : Bool). option_map (λ (k : ℕ). at + k) (if x then Some 0 else option_map suc o)) (sym is)
+first_step false t None at xs is h = h ∙ ap (λ (x : Bool). option_map (λ (k : ℕ). at + k) (if x then Some 0 else None)) (sym is)
+first_step false t (Some j) at xs is h =
+    let same : suc at + j ≡ at + suc j = omega arith in
+    h ∙ ap (λ (k : ℕ). Some k) same ∙ ap (λ (x : Bool). option_map (λ (k : ℕ). at + k) (if x then Some 0 else Some (suc j))) (sym is)
+
+first_from : (names : List (List ℕ)) (vs : List KeptVersion) (n at : ℕ) → AreOnce names → are_kept (length names) vs ≡ true → n < length names
+    → slice_get (places_from (λ (v : KeptVersion). v.«package».raw == n) at vs) 0 ≡ option_map (λ (k : ℕ). at + k) (first_of (kept_versions names vs) (name_at names n))
+first_from names [] n at once e lt = refl
+first_from names (v ∷ vs) n at once e lt =
+    let parts = and_parts (is_kept (length names) v) (are_kept (length names) vs) e in
+    first_step (v.«package».raw == n) (bytes_eq (name_at names v.«package».raw) (name_at names n)) (first_of (kept_versions names vs) (name_at names n)) at
+    (places_from (λ (v : KeptVersion). v.«package».raw == n) (suc at) vs) (same_number names v.«package».raw n once (below v.«package».raw (length names) parts.0) lt)
+    (first_from names vs n (suc at) once parts.1 lt)
+
+-- a number is that of a name, where a version is listed by it
+pub within_names : (count n at k : ℕ) (vs : List KeptVersion) → are_kept count vs ≡ true → slice_get (places_from (λ (v : KeptVersion). v.«package».raw == n) at vs) 0 ≡ Some k → n < count
+within_names count n at k [] e some = absurd cc
+within_names count n at k (v ∷ vs) e some =
+    let parts = and_parts (is_kept count v) (are_kept count vs) e in
+    let others : List ℕ = places_from (λ (w : KeptVersion). w.«package».raw == n) (suc at) vs in
+    elim (cases_Bool (v.«package».raw == n)) [
+      | inl t ↦ subst (λ (m : ℕ). m < count) (eqb-true v.«package».raw n t) (below v.«package».raw count parts.0)
+      | inr f ↦ within_names count n (suc at) k vs parts.1 (subst (λ (b : Bool). slice_get (if b then at ∷ others else others) 0 ≡ Some k) f some)
+    ]
+
+-- the first version whose package has a name of this number
+pub first_numbered : (k : KeptLines) (name : NameId) (numbers : List VersionNo) (o : Option VersionNo) → AreKept k → AreSound k.terms → name.raw < length k.terms.names
+    → map number_of numbers ≡ places_from (λ (v : KeptVersion). v.«package».raw == name.raw) 0 k.versions → o ≡ slice_get numbers 0
+    → option_map number_of o ≡ first_of (listed k.lines) (name_text k.terms name)
+first_numbered k name numbers o kept sound lt places is =
+    ap (option_map number_of) is ∙ sym (slice_get-map number_of numbers 0) ∙ ap (λ (xs : List ℕ). slice_get xs 0) places
+    ∙ first_from k.terms.names k.versions name.raw 0 sound.names kept.named lt ∙ zero_more (first_of (kept_versions k.terms.names k.versions) (name_text k.terms name))
+    ∙ ap (λ (vs : List Version). first_of vs (name_text k.terms name)) kept.versions
+  where
+    zero_more : (o : Option ℕ) → option_map (λ (j : ℕ). 0 + j) o ≡ o
+    zero_more None = refl
+    zero_more (Some j) =
+        let same : 0 + j ≡ j = omega arith in
+        ap (λ (n : ℕ). Some n) same
+
+-- the version at a place, by the number of its package's name
+pub version_kept : (k : KeptLines) (lines : List Line) (n : ℕ) (o : Option KeptVersion) → AreKept k → k.lines ≡ lines → o ≡ slice_get k.versions n
+    → slice_get (listed lines) n ≡ option_map (kept_version k.terms.names) o
+version_kept k lines n o kept same at =
+    ap (λ (ls : List Line). slice_get (listed ls) n) (sym same) ∙ ap (λ (vs : List Version). slice_get vs n) (sym kept.versions)
+    ∙ slice_get-map (kept_version k.terms.names) k.versions n ∙ ap (option_map (kept_version k.terms.names)) (sym at)
 
 -- ---- tables by packages
 

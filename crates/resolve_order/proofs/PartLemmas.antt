@@ -1,53 +1,17 @@
--- The answers of the first turns, and the entries above a wish that is left out.
-use Rattle.std.proofs.Common.{◌≡◌, ◌↔◌, ℕ, Bool, true, false, if◌then◌else◌, List, [], ◌∷◌, ◌++◌, Option, Some, None, refl, sym, ap, subst, ◌∙◌, append_assoc}
-use Rattle.std.specs.Prelude.{Contains, ⊤}
-use Rattle.std.proofs.lemmas.List.{append-nil}
+-- The wishes of the first turns, and the entries above a wish that is left out.
+use Rattle.std.proofs.Common.{◌≡◌, ℕ, Bool, true, false, if◌then◌else◌, List, [], ◌∷◌, ◌++◌, Option, Some, None, refl, sym, ap, subst, ◌∙◌}
+use Rattle.std.specs.Prelude.{⊤}
 use Rattle.resolvo_text.specs.Line.{Version, Line}
 use Rattle.resolvo_text.specs.Matches.{Set, is_member}
 use Rattle.resolvo_catalogue_core.specs.Answers.{Wished, Answer, Entry, LeftOut, entries_of}
-use Rattle.resolve_order.specs.Order.{Turn, Chose, LeavesOut, AreInOrder, chosen_by, chosen_in, wish_entry, IsTurn, AreTurns, wishes_in, AreReached}
-use Rattle.resolve_order.proofs.TurnLemmas.{AllAccepted, after_both, exact_entries}
+use Rattle.resolve_order.specs.Order.{Turn, Chose, LeavesOut, AreInOrder, chosen_by, wish_entry, IsTurn, AreTurns}
+use Rattle.resolve_order.proofs.TurnLemmas.{AllAccepted}
 
 -- ---- the first turns
-
--- The answers of the first turns, and then those of the others.
-pub record AreParts (catalogue request : List Line) (chosen entries : Set) (prefix back : List Turn) (answers : List Answer) : Type 0 where
-  pub first : List Answer
-  pub rest : List Answer
-  pub all : answers ≡ first ++ rest
-  pub before : AreTurns catalogue request chosen entries prefix first
-  pub after : AreTurns catalogue request (chosen ++ chosen_in prefix) (entries ++ entries_of first) back rest
-
-pub turns_parted : (catalogue request : List Line) (chosen entries : Set) (prefix back : List Turn) (answers : List Answer) → AreTurns catalogue request chosen entries (prefix ++ back) answers → AreParts catalogue request chosen entries prefix back answers
-turns_parted catalogue request chosen entries [] back answers h = record {
-  first = [];
-  rest = answers;
-  all = refl;
-  before = refl;
-  after = subst (λ (set : Set). AreTurns catalogue request set (entries ++ []) back answers) (sym (append-nil chosen)) (subst (λ (set : Set). AreTurns catalogue request chosen set back answers) (sym (append-nil entries)) h);
-}
-turns_parted catalogue request chosen entries (t ∷ prefix) back answers h =
-    let r = turns_parted catalogue request (chosen ++ chosen_by t) (entries ++ entries_of h.0) prefix back h.1 h.4 in
-    let those : (entries ++ entries_of h.0) ++ entries_of r.first ≡ entries ++ entries_of (h.0 ++ r.first) = sym (after_both entries h.0 r.first) in
-    record {
-      first = h.0 ++ r.first;
-      rest = r.rest;
-      all = h.2 ∙ ap (λ (xs : List Answer). h.0 ++ xs) r.all ∙ sym (append_assoc h.0 r.first r.rest);
-      before = (h.0, r.first, refl, h.3, r.before);
-      after = subst (λ (set : Set). AreTurns catalogue request set (entries ++ entries_of (h.0 ++ r.first)) back r.rest) (append_assoc chosen (chosen_by t) (chosen_in prefix))
-          (subst (λ (set : Set). AreTurns catalogue request ((chosen ++ chosen_by t) ++ chosen_in prefix) set back r.rest) those r.after);
-    }
 
 pub accepted_parted : (request : List Line) (chosen : Set) (prefix back : List Turn) → AllAccepted request chosen (prefix ++ back) → AllAccepted request chosen prefix
 accepted_parted request chosen [] back h = tt
 accepted_parted request chosen (t ∷ prefix) back h = (h.0, accepted_parted request (chosen ++ chosen_by t) prefix back h.1)
-
--- Where the choices of the first turns are reached by their wishes, their entries are exactly these
--- choices.
-pub exact_before : (catalogue request : List Line) (prefix back : List Turn) (answers : List Answer) (h : AreTurns catalogue request [] [] (prefix ++ back) answers) → AllAccepted request [] (prefix ++ back) → AreReached catalogue request (chosen_in prefix) (wishes_in prefix)
-    → (v : Version) → Contains (chosen_in prefix) v ↔ Contains (entries_of (turns_parted catalogue request [] [] prefix back answers h).first) v
-exact_before catalogue request prefix back answers h accepted reached =
-    exact_entries catalogue request prefix (turns_parted catalogue request [] [] prefix back answers h).first (turns_parted catalogue request [] [] prefix back answers h).before (accepted_parted request [] prefix back accepted) reached
 
 -- ---- a wish that is left out
 

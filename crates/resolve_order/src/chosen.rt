@@ -9,17 +9,19 @@ ghost use Rattle.std.specs.Ordering.{nat_cmp};
 ghost use Rattle.resolvo_terms.specs.Known.{cond_at};
 ghost use Rattle.resolvo_text.specs.Line as content;
 ghost use Rattle.resolvo_text.specs.Matches.{Set, is_met, holds, condition_holds};
-ghost use Rattle.resolvo_text.specs.View.{spec_of, cond_of, condition_of};
+ghost use Rattle.resolvo_text.specs.View.{cond_of, condition_of};
 ghost use Rattle.resolvo_catalogue_core.specs.Listed.{listed, members, version_at, version_by};
 ghost use Rattle.resolve_order.specs.Numbers.{version_in};
 ghost use Rattle.resolve_order.specs.Kept.{first_of, IsPlaceOf, Holds, IsLeftOver, IsFavouredOf, IsFavouredMatch, IsUnlistedMatch, IsFirstMatch, AreNumbersOf, IsLineState, IfGives, favoured_in, is_unlisted, unlisted};
-ghost use Rattle.resolve_order.specs.Need.{IsSpanOf, alternatives_in, condition_in};
+ghost use Rattle.resolve_order.specs.Need.{IsOf, IsSpanOf, alternatives_in, condition_in};
 
-use crate::need::{Need, PackageSpan};
+use crate::need::{Need, PackageSpan, kept_package, kept_span, span_of};
 use crate::version_table::VersionTable;
-use resolvo_catalogue_core::{Catalogue, Cond, Span, Spec, VersionNo, is_in_span};
+use resolvo_catalogue_core::{
+    Catalogue, Cond, KeptLines, KeptVersion, Span, VersionNo, is_in_span,
+};
+use resolvo_pool_core::condition::{Condition, LogicalOperator};
 use resolvo_pool_core::id::ConditionId;
-use resolvo_terms::Terms;
 use std::alloc::{AllocError, Global};
 use std::collections::BTreeMap;
 
@@ -50,13 +52,34 @@ pub fn package_of(catalogue: &Catalogue, name: &str) -> Option<u32>
     }
 }
 
+/// The version at its number among the kept ones.
+fn kept_at(versions: &[KeptVersion], version: VersionNo) -> Option<KeptVersion>
+    ensures { result ≡ slice_get versions.now version.0 }
+{
+    versions.get(version.0 as usize).copied()
+}
+
+/// The own number of a listed version.
+fn number_of(catalogue: &Catalogue, version: VersionNo) -> Option<u32>
+    ensures { result ≡ option_map (λ v. v.number) (version_at catalogue.now version.0) }
+{
+    let kept = catalogue.kept();
+    kept.lines_are_kept();
+    match kept_at(kept.versions(), version) {
+        Some(listed) => Some(listed.number),
+        None => None,
+    }
+}
+
 /// The package of a listed version, and its own number.
 fn place_of(catalogue: &Catalogue, version: VersionNo) -> Option<(u32, u32)>
     ensures { IsPlaceOf (listed catalogue.now) version.0 result }
 {
-    let listed = version_at(catalogue, version)?;
-    let package = package_of(catalogue, listed.0)?;
-    Some((package, listed.1))
+    let kept = catalogue.kept();
+    kept.lines_are_kept();
+    let listed = kept_at(kept.versions(), version)?;
+    let package = kept_package(catalogue, &kept, listed.package)?;
+    Some((package, listed.number))
 }
 
 /// The favoured versions of a catalogue, by the numbers of their packages' first versions.
@@ -186,9 +209,9 @@ impl Chosen {
             → Holds catalogue.now self.now chosen entries
             → IsPlaceOf (listed catalogue.now) version.0 result }
     {
-        let listed = version_at(catalogue, version)?;
+        let number = number_of(catalogue, version)?;
         let package = self.kept_package(version)?;
-        Some((package, listed.1))
+        Some((package, number))
     }
 
     /// Makes a chosen version an entry.
@@ -295,6 +318,7 @@ impl Chosen {
 
     /// Such a version of the alternative at a place.
     fn match_at(&self, catalogue: &Catalogue, need: &Need<'_>, place: usize) -> Option<VersionNo>
+        requires { IsOf catalogue.now need.now }
         ensures unlisted { IfSome result (λ n. is_unlisted self.now.listed.items n.0 ≡ true) }
         ensures matched { (chosen entries : Set) (s : content.Spec)
             → slice_get (alternatives_in need.now) place ≡ Some s
@@ -309,6 +333,7 @@ impl Chosen {
 
     /// Such a version of the first alternative that has one.
     fn first_match(&self, catalogue: &Catalogue, need: &Need<'_>) -> Option<VersionNo>
+        requires { IsOf catalogue.now need.now }
         ensures unlisted { IfSome result (λ n. is_unlisted self.now.listed.items n.0 ≡ true) }
         ensures matched { (chosen entries : Set)
             → Holds catalogue.now self.now chosen entries
@@ -322,13 +347,14 @@ impl Chosen {
         None
     }
 
-    /// Whether an entry matches.
-    fn is_met(&self, catalogue: &Catalogue, spec: &Spec) -> bool
-        ensures { (chosen entries : Set)
-            → Holds catalogue.now self.now chosen entries
-            → result ≡ is_met (spec_of spec.now) entries }
+    /// Whether an entry matches the SPEC.
+    fn is_met(&self, spec: PackageSpan) -> bool
+        ensures { (catalogue : List content.Line) (chosen entries : Set) (s : content.Spec)
+            → IsSpanOf (listed catalogue) s spec
+            → Holds catalogue self.now chosen entries
+            → result ≡ is_met s entries }
     {
-        match package_of(catalogue, spec.name.as_str()) {
+        match spec.package {
             Some(package) => self.entries.newest_in(package, spec.span).is_some(),
             None => false,
         }
@@ -342,7 +368,7 @@ impl Chosen {
             → result ≡ holds (cond_of condition.now) entries }
     {
         match condition {
-            Cond::Spec(spec) => self.is_met(catalogue, spec),
+            Cond::Spec(spec) => self.is_met(span_of(catalogue, spec)),
             Cond::And(left, right) => self.holds(catalogue, left) && self.holds(catalogue, right),
             Cond::Or(left, right) => self.holds(catalogue, left) || self.holds(catalogue, right),
         }
@@ -359,71 +385,79 @@ impl Chosen {
         }
     }
 
-    /// The same of a condition by numbers.
+    /// The same of a condition of a number.
     fn kept_holds(
         &self,
         catalogue: &Catalogue,
-        terms: &Terms,
-        condition: Option<ConditionId>,
-    ) -> Result<bool, AllocError>
-        ensures { IfOk result
-            (λ answer.
-            (chosen entries : Set)
+        kept: &KeptLines<'_>,
+        condition: ConditionId,
+    ) -> bool
+        requires { kept.now.lines ≡ catalogue.now }
+        ensures { (chosen entries : Set)
             → Holds catalogue.now self.now chosen entries
-            → answer ≡ condition_holds (option_map (cond_at terms.now) condition) entries) }
+            → result ≡ holds (cond_at kept.now.terms condition) entries }
     {
-        let condition = terms.condition_of(condition)?;
-        Ok(self.condition_holds(catalogue, &condition))
+        match kept.terms().meaning(condition) {
+            Condition::Requirement(spec) => self.is_met(kept_span(catalogue, kept, spec)),
+            Condition::Binary(LogicalOperator::And, left, right) => {
+                self.kept_holds(catalogue, kept, left) && self.kept_holds(catalogue, kept, right)
+            }
+            Condition::Binary(LogicalOperator::Or, left, right) => {
+                self.kept_holds(catalogue, kept, left) || self.kept_holds(catalogue, kept, right)
+            }
+        }
+    }
+
+    fn kept_condition_holds(
+        &self,
+        catalogue: &Catalogue,
+        kept: &KeptLines<'_>,
+        condition: Option<ConditionId>,
+    ) -> bool
+        requires { kept.now.lines ≡ catalogue.now }
+        ensures { (chosen entries : Set)
+            → Holds catalogue.now self.now chosen entries
+            → result ≡ condition_holds (option_map (cond_at kept.now.terms) condition) entries }
+    {
+        match condition {
+            Some(condition) => self.kept_holds(catalogue, kept, condition),
+            None => true,
+        }
     }
 
     /// Whether the condition of the need holds among the entries.
-    fn may_give(&self, catalogue: &Catalogue, need: &Need<'_>) -> Result<bool, AllocError>
-        ensures { IfOk result
-            (λ answer.
-            (chosen entries : Set)
+    fn may_give(&self, catalogue: &Catalogue, need: &Need<'_>) -> bool
+        requires { IsOf catalogue.now need.now }
+        ensures { (chosen entries : Set)
             → Holds catalogue.now self.now chosen entries
-            → answer ≡ condition_holds (condition_in need.now) entries) }
+            → result ≡ condition_holds (condition_in need.now) entries }
     {
         match need {
-            Need::Text { condition, .. } => Ok(self.condition_holds(catalogue, condition)),
-            Need::One {
-                terms,
-                condition,
-                ..
-            } => self.kept_holds(catalogue, terms, *condition),
-            Need::Several {
-                terms,
-                condition,
-                ..
-            } => self.kept_holds(catalogue, terms, *condition),
+            Need::Text { condition, .. } => self.condition_holds(catalogue, condition),
+            Need::Numbered { kept, need } => {
+                self.kept_condition_holds(catalogue, kept, need.condition)
+            }
         }
     }
 
     /// What a need gives.
-    pub fn need_state(
-        &self,
-        catalogue: &Catalogue,
-        need: &Need<'_>,
-    ) -> Result<LineState, AllocError>
-        ensures unlisted { IfOk result
-            (λ state. IfGives state (λ n. is_unlisted self.now.listed.items n.0 ≡ true)) }
-        ensures state { IfOk result
-            (λ state.
-            (chosen entries : Set)
+    pub fn need_state(&self, catalogue: &Catalogue, need: &Need<'_>) -> LineState
+        requires { IsOf catalogue.now need.now }
+        ensures unlisted { IfGives result (λ n. is_unlisted self.now.listed.items n.0 ≡ true) }
+        ensures state { (chosen entries : Set)
             → Holds catalogue.now self.now chosen entries
             → IsLineState catalogue.now chosen entries
-            (Some (content.Needs (alternatives_in need.now) (condition_in need.now))) state) }
+            (Some (content.Needs (alternatives_in need.now) (condition_in need.now))) result }
     {
         match self.first_match(catalogue, need) {
             Some(version) => {
-                let holds = self.may_give(catalogue, need)?;
-                if holds {
-                    Ok(LineState::Gives(version))
+                if self.may_give(catalogue, need) {
+                    LineState::Gives(version)
                 } else {
-                    Ok(LineState::Waiting)
+                    LineState::Waiting
                 }
             }
-            None => Ok(LineState::Spent),
+            None => LineState::Spent,
         }
     }
 }

@@ -1,19 +1,22 @@
 //! The need of a line, as it is lent: by the text of a request, or by the numbers of a catalogue. No
-//! text is made of it. Used by `chosen`, `open_lines` and `package_lines`.
+//! text is made of it, and a catalogue's need finds a package without its name. Used by `chosen`,
+//! `open_lines` and `package_lines`.
 
 ghost use Rattle.std.specs.Prelude.{◌≡◌, Option, List, Some, length, slice_get};
 ghost use Rattle.resolvo_text.specs.Line as content;
 ghost use Rattle.resolvo_text.specs.View.{spec_of};
-ghost use Rattle.resolvo_terms.specs.Known.{spec_at, need_at};
+ghost use Rattle.resolvo_pool_core.specs.Text.{alternatives_of};
+ghost use Rattle.resolvo_terms.specs.Known.{name_text, spec_at, members_of};
 ghost use Rattle.resolvo_catalogue_core.specs.Listed.{listed};
 ghost use Rattle.resolvo_catalogue_core.specs.Grammar.{line_at};
 ghost use Rattle.resolvo_catalogue_core.specs.Kept.{kept_line};
 ghost use Rattle.resolvo_catalogue_core.specs.Questions.{IsRuleLine};
-ghost use Rattle.resolve_order.specs.Need.{alternatives_in, condition_in, IsSpanOf, IsSpanAt, IsNeedAt};
+ghost use Rattle.resolve_order.specs.Kept.{first_of};
+ghost use Rattle.resolve_order.specs.Need.{alternatives_in, condition_in, IsOf, IsOfAll, IsSpanOf, IsSpanAt, IsNeedAt};
 
 use crate::chosen::package_of;
 use resolvo_catalogue_core::{Catalogue, Cond, KeptLines, KeptRule, Rule, Span, Spec};
-use resolvo_pool_core::id::{ConditionId, VersionSetId};
+use resolvo_pool_core::id::{NameId, VersionSetId};
 use resolvo_pool_core::requirement::{ConditionalRequirement, Requirement};
 use resolvo_terms::Terms;
 
@@ -26,21 +29,15 @@ pub struct PackageSpan {
 }
 
 /// The alternatives and the condition of a need.
-#[derive(Clone, Copy)]
+#[derive(Drop)]
 pub enum Need<'a> {
     Text {
         alternatives: &'a [Spec],
         condition: &'a Option<Box<Cond>>,
     },
-    One {
-        terms: &'a Terms,
-        spec: VersionSetId,
-        condition: Option<ConditionId>,
-    },
-    Several {
-        terms: &'a Terms,
-        specs: &'a [VersionSetId],
-        condition: Option<ConditionId>,
+    Numbered {
+        kept: KeptLines<'a>,
+        need: ConditionalRequirement,
     },
 }
 
@@ -54,13 +51,50 @@ pub fn span_of(catalogue: &Catalogue, spec: &Spec) -> PackageSpan
     }
 }
 
-/// That of a SPEC of a number.
-fn kept_span(catalogue: &Catalogue, terms: &Terms, spec: VersionSetId) -> PackageSpan
-    ensures { IsSpanOf (listed catalogue.now) (spec_at terms.now spec) result }
+/// The number of the first version of the package whose name has this number, if it has one. Where
+/// none is listed by the number, the name is looked for: that needs no bound of the number.
+pub fn kept_package(catalogue: &Catalogue, kept: &KeptLines<'_>, name: NameId) -> Option<u32>
+    requires { kept.now.lines ≡ catalogue.now }
+    ensures { result ≡ first_of (listed catalogue.now) (name_text kept.now.terms name) }
 {
+    let terms = kept.terms();
+    kept.lines_are_kept();
+    terms.ids_are_once();
+    match kept.versions_of(name).first() {
+        Some(first) => Some(first.0),
+        None => package_of(catalogue, terms.name(name)),
+    }
+}
+
+/// That of a SPEC of a number.
+pub fn kept_span(catalogue: &Catalogue, kept: &KeptLines<'_>, spec: VersionSetId) -> PackageSpan
+    requires { kept.now.lines ≡ catalogue.now }
+    ensures { IsSpanOf (listed catalogue.now) (spec_at kept.now.terms spec) result }
+{
+    let terms = kept.terms();
     PackageSpan {
-        package: package_of(catalogue, terms.name(terms.set_package(spec))),
+        package: kept_package(catalogue, kept, terms.set_package(spec)),
         span: terms.span(spec),
+    }
+}
+
+/// How many alternatives a requirement has.
+fn set_count(terms: &Terms, requirement: Requirement) -> usize
+    ensures { result ≡ length (alternatives_of (members_of terms.now) requirement) }
+{
+    match requirement {
+        Requirement::Single(_) => 1,
+        Requirement::Union(union) => terms.members(union).len(),
+    }
+}
+
+/// The alternative of a requirement at a place.
+fn set_at(terms: &Terms, requirement: Requirement, place: usize) -> Option<VersionSetId>
+    ensures { result ≡ slice_get (alternatives_of (members_of terms.now) requirement) place }
+{
+    match requirement {
+        Requirement::Single(spec) => { if place == 0 { Some(spec) } else { None } }
+        Requirement::Union(union) => terms.members(union).get(place).copied(),
     }
 }
 
@@ -71,13 +105,13 @@ impl Need<'_> {
     {
         match self {
             Need::Text { alternatives, .. } => alternatives.len(),
-            Need::One { .. } => 1,
-            Need::Several { specs, .. } => specs.len(),
+            Need::Numbered { kept, need } => set_count(kept.terms(), need.requirement),
         }
     }
 
     /// The alternative at a place.
     pub fn at(&self, catalogue: &Catalogue, place: usize) -> Option<PackageSpan>
+        requires { IsOf catalogue.now self.now }
         ensures { IsSpanAt (listed catalogue.now) (slice_get (alternatives_in self.now) place)
             result }
     {
@@ -86,15 +120,8 @@ impl Need<'_> {
                 Some(spec) => Some(span_of(catalogue, spec)),
                 None => None,
             },
-            Need::One { terms, spec, .. } => {
-                if place == 0 {
-                    Some(kept_span(catalogue, terms, *spec))
-                } else {
-                    None
-                }
-            }
-            Need::Several { terms, specs, .. } => match specs.get(place) {
-                Some(spec) => Some(kept_span(catalogue, terms, *spec)),
+            Need::Numbered { kept, need } => match set_at(kept.terms(), need.requirement, place) {
+                Some(spec) => Some(kept_span(catalogue, kept, spec)),
                 None => None,
             },
         }
@@ -103,10 +130,11 @@ impl Need<'_> {
 
 /// The need of a rule of a text, if it is one.
 pub fn need_of(rule: &Rule) -> Option<Need<'_>>
-    ensures { (versions : List content.Version) (owner : Option content.Version)
+    ensures need { (versions : List content.Version) (owner : Option content.Version)
         (line : content.Line)
         → IsRuleLine versions rule.now owner line
         → IsNeedAt (Some line) result }
+    ensures of { (catalogue : List content.Line) → IsOfAll catalogue result }
 {
     match rule {
         Rule::Needs {
@@ -122,33 +150,14 @@ pub fn need_of(rule: &Rule) -> Option<Need<'_>>
     }
 }
 
-/// A need by numbers.
-fn numbered_need(terms: &Terms, need: ConditionalRequirement) -> Need<'_>
-    ensures alternatives { alternatives_in result ≡ (need_at terms.now need).0 }
-    ensures condition { condition_in result ≡ (need_at terms.now need).1 }
-{
-    let condition = need.condition;
-    match need.requirement {
-        Requirement::Single(spec) => Need::One {
-            terms,
-            spec,
-            condition,
-        },
-        Requirement::Union(union) => Need::Several {
-            terms,
-            specs: terms.members(union),
-            condition,
-        },
-    }
-}
-
 /// The need of a rule by numbers, if it is one.
-fn kept_need(terms: &Terms, rule: KeptRule) -> Option<Need<'_>>
-    ensures { (versions : List content.Version)
-        → IsNeedAt (Some (kept_line terms.now versions rule)) result }
+fn kept_need<'a>(kept: KeptLines<'a>, rule: KeptRule) -> Option<Need<'a>>
+    ensures need { (versions : List content.Version)
+        → IsNeedAt (Some (kept_line kept.entry.terms versions rule)) result }
+    ensures of { IsOfAll kept.entry.lines result }
 {
     match rule {
-        KeptRule::Needs { need, .. } => Some(numbered_need(terms, need)),
+        KeptRule::Needs { need, .. } => Some(Need::Numbered { kept, need }),
         KeptRule::Limits { .. }
         | KeptRule::Lock { .. }
         | KeptRule::Exclude { .. }
@@ -157,11 +166,12 @@ fn kept_need(terms: &Terms, rule: KeptRule) -> Option<Need<'_>>
 }
 
 /// The need of a line of a catalogue, if it is one.
-pub fn need_at<'a>(kept: &KeptLines<'a>, line: u32) -> Option<Need<'a>>
-    ensures { IsNeedAt (line_at kept.now.lines line) result }
+pub fn need_at<'a>(kept: KeptLines<'a>, line: u32) -> Option<Need<'a>>
+    ensures need { IsNeedAt (line_at kept.entry.lines line) result }
+    ensures of { IsOfAll kept.entry.lines result }
 {
     match kept.rule(line) {
-        Some(rule) => kept_need(kept.terms(), rule),
+        Some(rule) => kept_need(kept, rule),
         None => None,
     }
 }

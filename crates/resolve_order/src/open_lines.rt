@@ -15,7 +15,7 @@ ghost use Rattle.resolvo_catalogue_core.specs.Listed.{listed, members};
 ghost use Rattle.resolve_order.specs.Order.{line_named};
 ghost use Rattle.resolve_order.specs.View.{reason_of};
 ghost use Rattle.resolve_order.specs.Kept.{Holds, AreLines, IsLineState, IfGives, IsKeptByNeeds, IsKeptForAll, KeepsAll, IsOpen, IsFirstOpen, AreWithin, Closes, IsVersionKey, Reopens, OthersAreIdle, IsFound, specs_under, is_unlisted};
-ghost use Rattle.resolve_order.specs.Need.{IsNeedAt};
+ghost use Rattle.resolve_order.specs.Need.{IsNeedAt, IsOfAll};
 
 use crate::chosen::{Chosen, LineState};
 use crate::entry::{Entry, Reason};
@@ -45,43 +45,33 @@ fn need_named<'a>(
     request: &'a Request,
     reason: Reason,
 ) -> Option<Need<'a>>
-    ensures { IsNeedAt
+    ensures need { IsNeedAt
         (line_named catalogue.now request.now.lines (reason_of (listed catalogue.now) reason))
         result }
+    ensures of { IsOfAll catalogue.now result }
 {
     match reason {
         Reason::ForRequest { line } => match request.rule(line) {
             Some(rule) => need_of(rule),
             None => None,
         },
-        Reason::ForVersion { line, .. } => {
-            let kept = catalogue.kept();
-            need_at(&kept, line)
-        }
+        Reason::ForVersion { line, .. } => need_at(catalogue.kept(), line),
         Reason::Wished { .. } => None,
     }
 }
 
 /// What the line gives.
-fn state_at(
-    catalogue: &Catalogue,
-    request: &Request,
-    chosen: &Chosen,
-    reason: Reason,
-) -> Result<LineState, AllocError>
-    ensures unlisted { IfOk result
-        (λ state. IfGives state (λ n. is_unlisted chosen.now.listed.items n.0 ≡ true)) }
-    ensures state { IfOk result
-        (λ state.
-        (all entries : Set)
+fn state_at(catalogue: &Catalogue, request: &Request, chosen: &Chosen, reason: Reason) -> LineState
+    ensures unlisted { IfGives result (λ n. is_unlisted chosen.now.listed.items n.0 ≡ true) }
+    ensures state { (all entries : Set)
         → Holds catalogue.now chosen.now all entries
         → IsLineState catalogue.now all entries
         (line_named catalogue.now request.now.lines (reason_of (listed catalogue.now) reason))
-        state) }
+        result }
 {
     match need_named(catalogue, request, reason) {
         Some(need) => chosen.need_state(catalogue, &need),
-        None => Ok(LineState::Spent),
+        None => LineState::Spent,
     }
 }
 
@@ -370,7 +360,7 @@ impl OpenLines {
             → OthersAreIdle catalogue.now request.now.lines all entries lines.now self.new) }
     {
         while let Some((line, reason)) = self.first(lines) {
-            match state_at(catalogue, request, chosen, reason)? {
+            match state_at(catalogue, request, chosen, reason) {
                 LineState::Spent => self.close_spent(line)?,
                 LineState::Waiting => self.close_waiting(catalogue, request, reason, line)?,
                 LineState::Gives(version) => return Ok(Some(Entry { version, reason })),

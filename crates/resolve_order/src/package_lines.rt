@@ -12,13 +12,13 @@ ghost use Rattle.resolvo_terms.specs.Known.{cond_at};
 ghost use Rattle.resolvo_catalogue_core.specs.Questions.{number_of};
 ghost use Rattle.resolvo_catalogue_core.specs.Listed.{listed};
 ghost use Rattle.resolve_order.specs.Kept.{first_of, is_kept, IsKeyOf, IsKeptFor, IsKeptForAll, KeepsAll, specs_in, specs_under};
-ghost use Rattle.resolve_order.specs.Need.{IsSpanOf, alternatives_in, condition_in};
+ghost use Rattle.resolve_order.specs.Need.{IsOf, IsSpanOf, alternatives_in, condition_in};
 
 use crate::chosen::version_at;
-use crate::need::{Need, PackageSpan, span_of};
-use resolvo_catalogue_core::{Catalogue, Cond, Span, Spec, VersionNo};
+use crate::need::{Need, PackageSpan, kept_span, span_of};
+use resolvo_catalogue_core::{Catalogue, Cond, KeptLines, Span, Spec, VersionNo};
+use resolvo_pool_core::condition::Condition;
 use resolvo_pool_core::id::ConditionId;
-use resolvo_terms::Terms;
 use std::alloc::{AllocError, Global};
 use std::collections::{BTreeMap, BTreeSet};
 
@@ -108,6 +108,7 @@ impl PackageLines {
         place: usize,
         line: usize,
     ) -> Result<(), AllocError>
+        requires { IsOf catalogue.now need.now }
         ensures added { OnOk result
             ((s : content.Spec)
             → slice_get (alternatives_in need.now) place ≡ Some s
@@ -127,6 +128,7 @@ impl PackageLines {
         need: &Need<'_>,
         line: usize,
     ) -> Result<(), AllocError>
+        requires { IsOf catalogue.now need.now }
         ensures added { OnOk result
             (IsKeptForAll (listed catalogue.now) self.new line (alternatives_in need.now)) }
         ensures kept { OnOk result (KeepsAll self.old self.new) }
@@ -189,21 +191,48 @@ impl PackageLines {
         }
     }
 
-    /// The same of a condition by numbers.
-    fn add_numbered(
+    /// The same of a condition of a number.
+    fn add_kept_parts(
         &mut self,
         catalogue: &Catalogue,
-        terms: &Terms,
+        kept: &KeptLines<'_>,
+        condition: ConditionId,
+        line: usize,
+    ) -> Result<(), AllocError>
+        requires { kept.now.lines ≡ catalogue.now }
+        ensures added { OnOk result
+            (IsKeptForAll (listed catalogue.now) self.new line
+            (specs_in (cond_at kept.now.terms condition))) }
+        ensures kept { OnOk result (KeepsAll self.old self.new) }
+    {
+        match kept.terms().meaning(condition) {
+            Condition::Requirement(spec) => {
+                self.add_spec(catalogue, kept_span(catalogue, kept, spec), line)
+            }
+            Condition::Binary(_, left, right) => {
+                self.add_kept_parts(catalogue, kept, left, line)?;
+                self.add_kept_parts(catalogue, kept, right, line)
+            }
+        }
+    }
+
+    fn add_kept_condition(
+        &mut self,
+        catalogue: &Catalogue,
+        kept: &KeptLines<'_>,
         condition: Option<ConditionId>,
         line: usize,
     ) -> Result<(), AllocError>
+        requires { kept.now.lines ≡ catalogue.now }
         ensures added { OnOk result
             (IsKeptForAll (listed catalogue.now) self.new line
-            (specs_under (option_map (cond_at terms.now) condition))) }
+            (specs_under (option_map (cond_at kept.now.terms) condition))) }
         ensures kept { OnOk result (KeepsAll self.old self.new) }
     {
-        let condition = terms.condition_of(condition)?;
-        self.add_condition(catalogue, &condition, line)
+        match condition {
+            Some(condition) => self.add_kept_parts(catalogue, kept, condition, line),
+            None => Ok(()),
+        }
     }
 
     /// Keeps the line of a need by the keys of its condition.
@@ -213,6 +242,7 @@ impl PackageLines {
         need: &Need<'_>,
         line: usize,
     ) -> Result<(), AllocError>
+        requires { IsOf catalogue.now need.now }
         ensures added { OnOk result
             (IsKeptForAll (listed catalogue.now) self.new line
             (specs_under (condition_in need.now))) }
@@ -220,16 +250,9 @@ impl PackageLines {
     {
         match need {
             Need::Text { condition, .. } => self.add_condition(catalogue, condition, line),
-            Need::One {
-                terms,
-                condition,
-                ..
-            } => self.add_numbered(catalogue, terms, *condition, line),
-            Need::Several {
-                terms,
-                condition,
-                ..
-            } => self.add_numbered(catalogue, terms, *condition, line),
+            Need::Numbered { kept, need } => {
+                self.add_kept_condition(catalogue, kept, need.condition, line)
+            }
         }
     }
 

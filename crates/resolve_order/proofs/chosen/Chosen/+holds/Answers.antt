@@ -1,6 +1,6 @@
 use Rattle.std.proofs.Common.{◌≡◌, ◌∙◌, Bool, true, false, ◌&&◌, ◌||◌, sym, ap}
 use Rattle.resolvo_text.specs.Matches.{holds}
-use Rattle.resolvo_text.specs.View.{cond_of}
+use Rattle.resolvo_text.specs.View.{spec_of, cond_of}
 use Rattle.resolve_order.proofs.chosen.Chosen.+holds.Goals as goal
 
 both : (a b x y : Bool) → x ≡ a → y ≡ b → x ≡ true → y ≡ a && b
@@ -16,7 +16,7 @@ other : (a b x y : Bool) → x ≡ a → y ≡ b → x ≡ false → y ≡ a || 
 other a b x y e f t = f ∙ ap (λ (z : Bool). z || b) (sym t ∙ e)
 
 pub returns-in-Spec : goal.returns-in-Spec
-returns-in-Spec t c = λ chosen entries h. c.is_met.ensures chosen entries h ∙ ap (λ x. holds (cond_of x) entries) (sym c.in-Spec.is)
+returns-in-Spec t c = λ chosen entries h. c.is_met.ensures c.args.catalogue.now chosen entries (spec_of c.in-Spec.spec) c.span_of.ensures h ∙ ap (λ x. holds (cond_of x) entries) (sym c.in-Spec.is)
 
 pub returns-then-holds : goal.returns-then-holds
 returns-then-holds t c = λ chosen entries h.

@@ -1,9 +1,13 @@
-use Rattle.std.proofs.Common.{◌≡◌, ◌∙◌, Some, refl, sym, ap}
+use Rattle.std.proofs.Common.{◌≡◌, ◌∙◌, ℕ, Option, Some, sym, ap}
 use Rattle.std.specs.Option.{option_map}
+use Rattle.std.proofs.lemmas.Option.{same_Some}
 use Rattle.resolvo_text.specs.Line.{Version}
-use Rattle.resolvo_catalogue_core.specs.Listed.{listed, version_by}
-use Rattle.resolve_order.specs.Kept.{first_of}
 use Rattle.resolve_order.proofs.chosen.Chosen.kept_place.Goals as goal
+
+pub returns-in_err-number : goal.returns-in_err-number
+returns-in_err-number c = λ chosen entries v at among h.
+    let none = sym c.number_of.ensures ∙ c.in_err-number.was in
+    absurd (let there = ap (option_map (λ (w : Version). w.number)) at in cc (none, there))
 
 pub returns-in_err-package : goal.returns-in_err-package
 returns-in_err-package c = λ chosen entries v at among h.
@@ -13,11 +17,8 @@ returns-in_err-package c = λ chosen entries v at among h.
 
 pub returns : goal.returns
 returns c = λ chosen entries v at among h.
-    let versions = listed c.args.catalogue.now in
-    let at_here = sym c.version_at.ensures ∙ ap (option_map (λ p. version_by p.0.now p.1)) c.in_ok-listed.was in
-    let here = version_by c.in_ok-listed.listed.0.now c.in_ok-listed.listed.1 in
-    let same : v ≡ here = (let a = at in let b = at_here in cc (a, b)) in
     let p = h.packages c.args.version.0 v at among in
     let kept = sym c.kept_package.ensures ∙ c.in_ok-package.was in
     let is : p.0 ≡ c.in_ok-package.«package» = (let known = p.1 in cc (known, kept)) in
-    (here, at_here, ap (λ (w : Version). first_of versions w.name) (sym same) ∙ p.2 ∙ ap Some is, refl)
+    let number : ◌≡◌ {A = Option ℕ} (Some v.number) (Some c.in_ok-number.number) = sym (ap (option_map (λ (w : Version). w.number)) at) ∙ sym c.number_of.ensures ∙ c.in_ok-number.was in
+    (v, at, p.2 ∙ ap (λ (n : ℕ). Some n) is, same_Some v.number c.in_ok-number.number number)
