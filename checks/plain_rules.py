@@ -31,11 +31,11 @@ class Options:
     false_wishes: bool = False  # a wish that is false before its turn is registered and encoded
     wish_unseen: bool = False  # a wish becomes true behind its encoding: no case holds by it there
     package_by_need: bool = False  # a package's locks and exclusions come just before the need or limit that names it
+    cases_later: bool = False  # cases become clauses once no chosen version is left to encode
+    flat_cases: bool = False  # deferred cases are taken in the order of their parents, not by condition
     # What the program does against the rules.
     parent_by_parent: bool = False  # a parent is encoded to its end, with the cases that hold, before the next is begun
-    cases_later: bool = False  # cases become clauses once no chosen version is left to encode
     root_stays: bool = False  # the root's turn is begun again without undoing what level 1 has
-    flat_cases: bool = False  # deferred cases are taken in the order of their parents, not by condition
     placed_wishes: bool = False  # a wish that is false before its turn is registered, so it takes a place of its package
     exclusions_by_version: bool = False  # a package's exclusions come in the order of its versions
     # Where the rules are silent.
@@ -54,7 +54,7 @@ class Options:
 
 
 PROGRAM = Options(
-    parent_by_parent=True, cases_later=True, root_stays=True, flat_cases=True,
+    parent_by_parent=True, root_stays=True,
     placed_wishes=True, exclusions_by_version=True, set_at_once=False,
     root_in_learnt=False, as_met=False,
 )

@@ -61,7 +61,10 @@ class Encoder:
         for parent in parents:
             self.queue_parent(parent)
         for deferred in fired:
-            self.queue_case(deferred)
+            if self.options.parent_by_parent:
+                self.tasks.append((self.queue_case, (deferred,)))
+            else:
+                self.queue_case(deferred)
         while self.tasks:
             task, given = self.tasks.popleft()
             task(*given)

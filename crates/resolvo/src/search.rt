@@ -9,7 +9,6 @@ ghost use Rattle.resolvo.specs.Results.{RunsTurns, FindsNothing, Searches};
 
 use crate::soft_requirements::run_soft_requirements;
 use crate::turns::{Turn, Turns};
-use resolvo_decide::scores::Scores;
 use resolvo_encoder::encoder::Encoder;
 use resolvo_packages::package_source::PackageSource;
 use resolvo_pool::cache::CacheFault;
@@ -21,6 +20,7 @@ use resolvo_sat::analyze::FinalConflict;
 use resolvo_turn::cdcl::Activity;
 use resolvo_turn::turn::run_turn;
 use resolvo_turn::turn_input::TurnInput;
+use resolvo_turn::turn_state::TurnState;
 use std::alloc::Global;
 use std::fmt::Debug;
 use std::hash::Hash;
@@ -63,7 +63,7 @@ fn run_others<A: PackageSource, C: ScoreMap<A::NameId>>(
     alloc: Global,
     answers: &mut A,
     encoding: &mut Encoder<A::NameId, A::SolvableId>,
-    scores: &mut Scores<A::NameId, C>,
+    state: &mut TurnState<A::NameId, C>,
     input: &TurnInput<'_>,
     softs: &[A::SolvableId],
 ) -> Result<SearchResult<A::SolvableId>, CacheFault<A::Cancel>>
@@ -87,7 +87,7 @@ fn run_others<A: PackageSource, C: ScoreMap<A::NameId>>(
     let mut turns = Turns::new(alloc);
     turns.list(alloc, encoding)?;
     let conflict = run_soft_requirements(
-        alloc, answers, encoding, scores, input, softs, &mut turns,
+        alloc, answers, encoding, state, input, softs, &mut turns,
     )?;
     // `?` converts the error
     let found = found_in(alloc, turns, conflict)?;
@@ -99,7 +99,7 @@ fn run_turns<A: PackageSource, C: ScoreMap<A::NameId>>(
     alloc: Global,
     answers: &mut A,
     encoding: &mut Encoder<A::NameId, A::SolvableId>,
-    scores: &mut Scores<A::NameId, C>,
+    state: &mut TurnState<A::NameId, C>,
     input: &TurnInput<'_>,
     softs: &[A::SolvableId],
 ) -> Result<SearchResult<A::SolvableId>, CacheFault<A::Cancel>>
@@ -116,12 +116,12 @@ fn run_turns<A: PackageSource, C: ScoreMap<A::NameId>>(
     // After a refusal.
     ensures cancelled { IfErr result (IsCancelledBy (A.may_cancel answers.old)) }
 {
-    let turn = run_turn(alloc, answers, encoding, scores, input, None)?;
+    let turn = run_turn(alloc, answers, encoding, state, input, None)?;
     if let Some(refusal) = turn {
         return Ok(SearchResult::Unsat(refusal));
     }
     // split for the prover: error and answer
-    let found = run_others(alloc, answers, encoding, scores, input, softs)?;
+    let found = run_others(alloc, answers, encoding, state, input, softs)?;
     Ok(found)
 }
 
@@ -199,8 +199,8 @@ pub fn search<A: PackageSource, C: ScoreMap<A::NameId> + Drop>(
         requirements,
         constraints,
     };
-    let mut scores = Scores::<A::NameId, C>::new(alloc);
+    let mut state = TurnState::<A::NameId, C>::new(alloc);
     // split for the prover: error and answer
-    let found = run_turns(alloc, answers, encoding, &mut scores, &input, softs)?;
+    let found = run_turns(alloc, answers, encoding, &mut state, &input, softs)?;
     Ok(found)
 }

@@ -22,7 +22,6 @@ ghost use Rattle.resolvo.specs.declared.soft_requirements.SoftOutcome.TheVariant
 ghost use Rattle.resolvo.specs.Results.{RunsSoft, RunsSofts};
 
 use crate::turns::Turns;
-use resolvo_decide::scores::Scores;
 use resolvo_encoder::encoder::Encoder;
 use resolvo_packages::package_source::{Offered, PackageSource};
 use resolvo_pool::cache::CacheFault;
@@ -33,6 +32,7 @@ use resolvo_sat::analyze::FinalConflict;
 use resolvo_store_core::literal::Literal;
 use resolvo_turn::turn::run_turn;
 use resolvo_turn::turn_input::TurnInput;
+use resolvo_turn::turn_state::TurnState;
 use std::alloc::Global;
 use std::fmt::Debug;
 use std::hash::Hash;
@@ -83,7 +83,7 @@ fn run_open<A: PackageSource, C: ScoreMap<A::NameId>>(
     alloc: Global,
     answers: &mut A,
     encoding: &mut Encoder<A::NameId, A::SolvableId>,
-    scores: &mut Scores<A::NameId, C>,
+    state: &mut TurnState<A::NameId, C>,
     input: &TurnInput<'_>,
     soft: A::SolvableId,
     variable: VariableId,
@@ -113,7 +113,7 @@ fn run_open<A: PackageSource, C: ScoreMap<A::NameId>>(
     }
     encoding.add_parent(soft)?;
     // split for the prover: error and answer
-    let refusal = run_turn(alloc, answers, encoding, scores, input, Some(variable))?;
+    let refusal = run_turn(alloc, answers, encoding, state, input, Some(variable))?;
     Ok(refusal)
 }
 
@@ -169,7 +169,7 @@ pub fn run_soft_requirement<A: PackageSource, C: ScoreMap<A::NameId>>(
     alloc: Global,
     answers: &mut A,
     encoding: &mut Encoder<A::NameId, A::SolvableId>,
-    scores: &mut Scores<A::NameId, C>,
+    state: &mut TurnState<A::NameId, C>,
     input: &TurnInput<'_>,
     soft: A::SolvableId,
 ) -> Result<SoftOutcome, CacheFault<A::Cancel>>
@@ -203,7 +203,7 @@ pub fn run_soft_requirement<A: PackageSource, C: ScoreMap<A::NameId>>(
     {
         return Ok(SoftOutcome::AlreadyChosen);
     }
-    let turn = run_open(alloc, answers, encoding, scores, input, soft, variable)?;
+    let turn = run_open(alloc, answers, encoding, state, input, soft, variable)?;
     // `?` converts the error
     let status = close_turn(encoding, turn)?;
     Ok(status)
@@ -246,7 +246,7 @@ pub fn run_soft_requirements<A: PackageSource, C: ScoreMap<A::NameId>>(
     alloc: Global,
     answers: &mut A,
     encoding: &mut Encoder<A::NameId, A::SolvableId>,
-    scores: &mut Scores<A::NameId, C>,
+    state: &mut TurnState<A::NameId, C>,
     input: &TurnInput<'_>,
     softs: &[A::SolvableId],
     turns: &mut Turns<A::SolvableId>,
@@ -267,7 +267,7 @@ pub fn run_soft_requirements<A: PackageSource, C: ScoreMap<A::NameId>>(
     ensures cancelled { IfErr result (IsCancelledBy (A.may_cancel answers.old)) }
 {
     for soft in softs {
-        let status = run_soft_requirement(alloc, answers, encoding, scores, input, *soft)?;
+        let status = run_soft_requirement(alloc, answers, encoding, state, input, *soft)?;
         let conflict = record_outcome(alloc, encoding, turns, *soft, status)?;
         if let Some(refusal) = conflict {
             return Ok(Some(refusal));

@@ -10,7 +10,7 @@ ghost use Rattle.resolvo_encoder.specs.Progress.{GoesOn, IsDecision};
 ghost use Rattle.resolvo_turn.specs.Encoder.{StaysInOrder};
 ghost use Rattle.resolvo_turn.specs.LacksIds.{StopsInOrder};
 
-use crate::scan::Scan;
+use crate::turn_state::TurnState;
 use resolvo_decide::scores::Scores;
 use resolvo_encoder::encoder::Encoder;
 use resolvo_encoder::step::Step;
@@ -78,9 +78,8 @@ pub fn run_cdcl<A: PackageSource, C: ScoreMap<A::NameId>>(
     alloc: Global,
     answers: &A,
     encoding: &mut Encoder<A::NameId, A::SolvableId>,
-    scores: &mut Scores<A::NameId, C>,
+    state: &mut TurnState<A::NameId, C>,
     activity: Activity,
-    scan: &mut Scan<A::NameId>,
 ) -> Result<Option<FinalConflict>, CacheFault<A::Cancel>>
     requires built { IsBuilt encoding.old }
     // After an answer.
@@ -97,12 +96,13 @@ pub fn run_cdcl<A: PackageSource, C: ScoreMap<A::NameId>>(
 {
     loop {
         answers.check()?;
-        match encoding.step(alloc, scores)? {
+        match encoding.step(alloc, &state.scores)? {
             Step::Done => return Ok(None),
             Step::Refused(refusal) => return Ok(Some(refusal)),
             Step::Chosen => {}
             Step::Learnt(clause) => {
-                scan.go_back(encoding);
+                state.scan.go_back(encoding);
+                let scores = &mut state.scores;
                 bump_activity(answers, &encoding.coding, clause, scores, activity)?;
             }
         }

@@ -563,6 +563,37 @@ fn encode_parent<A: PackageSource>(
     }
 }
 
+/// Encodes the rules of each parent that isn't encoded yet.
+pub fn encode_waiting<A: PackageSource>(
+    alloc: Global,
+    answers: &mut A,
+    encoding: &mut Encoder<A::NameId, A::SolvableId>,
+    requirements: &[ConditionalRequirement],
+    constraints: &[VersionSetId],
+) -> Result<(), CacheFault<A::Cancel>>
+    requires { IsBuilt encoding.old }
+    // Whatever the answer.
+    ensures same { answers.new ≡ answers.old }
+    // After an answer.
+    ensures encoded { OnOk result
+        (StaysInOrderOf A.SolvableId.eq A.PackageSource answers.old
+        requirements.now constraints.now encoding.old encoding.new) }
+    ensures all { OnOk result (AddsAll encoding.old encoding.new) }
+    ensures turn { OnOk result (KeepsTurns encoding.old encoding.new) }
+    ensures built { OnOk result (IsBuilt encoding.new) }
+    // After a refusal.
+    ensures cancelled { IfErr result (IsCancelledBy (A.may_cancel answers.old)) }
+    ensures ids { IsErrOf result Ids
+        → StopsInOrderOf A.SolvableId.eq A.PackageSource answers.old
+        requirements.now constraints.now encoding.old encoding.new }
+{
+    while let Some(parent) = encoding.next_parent() {
+        encode_parent(alloc, answers, encoding, requirements, constraints, parent)?;
+        encoding.end_parent();
+    }
+    Ok(())
+}
+
 /// Encodes the rules of each parent that isn't encoded yet. Then adds the clauses that wait for the
 /// encoding's end.
 pub fn encode_parents<A: PackageSource>(
@@ -589,10 +620,7 @@ pub fn encode_parents<A: PackageSource>(
         → StopsInOrderOf A.SolvableId.eq A.PackageSource answers.old
         requirements.now constraints.now encoding.old encoding.new }
 {
-    while let Some(parent) = encoding.next_parent() {
-        encode_parent(alloc, answers, encoding, requirements, constraints, parent)?;
-        encoding.end_parent();
-    }
+    encode_waiting(alloc, answers, encoding, requirements, constraints)?;
     encoding.add_queued(alloc)?;
     Ok(())
 }

@@ -11,3 +11,4 @@ pub mod fire_conditions;
 pub mod scan;
 pub mod turn;
 pub mod turn_input;
+pub mod turn_state;

@@ -1,6 +1,6 @@
 //! A turn, the root's or that of a soft requirement: encode, assume the soft requirement, decide.
-//! Then encode the chosen solvables in the order of the trail, then the cases that hold, until
-//! nothing is new.
+//! Then encode the chosen solvables in the order of the trail and the cases that hold, in one go,
+//! until nothing is new.
 ghost use Rattle.std.specs.Prelude.{◌≡◌, true, false, IfOk, IfErr, OnOk, IsErrOf, IsOkUnless};
 ghost use Rattle.resolvo_pool.specs.Cached.{IsCancelledBy};
 ghost use Rattle.resolvo_pool.specs.declared.cache.CacheFault.TheVariants.{Ids};
@@ -16,11 +16,11 @@ ghost use Rattle.resolvo_turn.specs.LacksIds.{StopsInOrder, StopsInOrderOf};
 
 use crate::cdcl::{Activity, run_cdcl};
 use crate::chosen::chosen_in_turn;
-use crate::encode::encode_parents;
+use crate::encode::{encode_parents, encode_waiting};
 use crate::fire_conditions::{fire_cases, fire_each};
 use crate::scan::{Scan, find_touched, mark_all};
 use crate::turn_input::TurnInput;
-use resolvo_decide::scores::Scores;
+use crate::turn_state::TurnState;
 use resolvo_encoder::encoder::Encoder;
 use resolvo_packages::package_source::PackageSource;
 use resolvo_pool::cache::CacheFault;
@@ -67,10 +67,9 @@ fn is_any_broken(search: &SatState, from: usize) -> bool {
     false
 }
 
-/// Undoes the turn's decisions if one of the clauses from this number on is falsified.
+/// Undoes the turn's decisions if a clause of the last encoding is falsified.
 fn undo_broken<N: Copy + Exact + Hash + Debug, S: Copy + Exact + Hash + Debug>(
     encoding: &mut Encoder<N, S>,
-    from: usize,
     scan: &mut Scan<N>,
 )
     requires { IsBuilt encoding.old }
@@ -79,13 +78,42 @@ fn undo_broken<N: Copy + Exact + Hash + Debug, S: Copy + Exact + Hash + Debug>(
     ensures turn { KeepsTurns encoding.old encoding.new }
     ensures built { IsBuilt encoding.new }
 {
-    if is_any_broken(&encoding.coding.search, from) {
+    if is_any_broken(&encoding.coding.search, scan.first_clause()) {
         encoding.undo_turn();
         scan.go_back(encoding);
     }
 }
 
-/// Encodes all parents. Undoes the turn's decisions if a new clause is falsified.
+/// Encodes the cases that hold of those that were found. Answers whether there was one; if not,
+/// nothing changed.
+fn fire_touched<A: PackageSource>(
+    alloc: Global,
+    answers: &mut A,
+    encoding: &mut Encoder<A::NameId, A::SolvableId>,
+    scan: &mut Scan<A::NameId>,
+) -> Result<bool, CacheFault<A::Cancel>>
+    requires { IsBuilt encoding.old }
+    // Whatever the answer.
+    ensures same { answers.new ≡ answers.old }
+    // After an answer.
+    ensures stays { OnOk result
+        (StaysInOrder A.SolvableId.eq A.PackageSource answers.old encoding.old encoding.new) }
+    ensures adds { OnOk result (AddsNeeds encoding.old encoding.new) }
+    ensures fires { IfOk result (λ b. b ≡ true → FiresMore encoding.old encoding.new) }
+    ensures unchanged { IfOk result (λ b. b ≡ false → encoding.new ≡ encoding.old) }
+    ensures built { OnOk result (IsBuilt encoding.new) }
+    // After a refusal.
+    ensures cancelled { IfErr result (IsCancelledBy (A.may_cancel answers.old)) }
+    ensures ids { IsErrOf result Ids
+        → StopsInOrder A.SolvableId.eq A.PackageSource answers.old encoding.old encoding.new }
+{
+    let has_fired = fire_each(alloc, answers, encoding, scan.touched())?;
+    scan.end_touched(encoding);
+    Ok(has_fired)
+}
+
+/// Encodes all parents, then the cases that hold, then the parents that these added. Undoes the
+/// turn's decisions if a clause of the encoding is falsified.
 fn encode<A: PackageSource>(
     alloc: Global,
     answers: &mut A,
@@ -111,14 +139,15 @@ fn encode<A: PackageSource>(
         → StopsInOrderOf A.SolvableId.eq A.PackageSource answers.old
         requirements.now constraints.now encoding.old encoding.new }
 {
-    let before = encoding.coding.search.clauses.len();
+    encode_waiting(alloc, answers, encoding, requirements, constraints)?;
+    fire_touched(alloc, answers, encoding, scan)?;
     encode_parents(alloc, answers, encoding, requirements, constraints)?;
-    undo_broken(encoding, before, scan);
+    undo_broken(encoding, scan);
     Ok(())
 }
 
 /// Encodes the cases that hold, when nothing is left to decide. Answers whether there was one; if
-/// not, nothing changed. Undoes the turn's decisions if a new clause is falsified.
+/// not, nothing changed. The next round ends the encoding.
 fn fire<A: PackageSource>(
     alloc: Global,
     answers: &mut A,
@@ -141,12 +170,10 @@ fn fire<A: PackageSource>(
     ensures ids { IsErrOf result Ids
         → StopsInOrder A.SolvableId.eq A.PackageSource answers.old encoding.old encoding.new }
 {
-    let before = encoding.coding.search.clauses.len();
     if !fire_cases(alloc, answers, encoding)? {
         return Ok(false);
     }
     mark_all(alloc, answers, encoding, scan)?;
-    undo_broken(encoding, before, scan);
     Ok(true)
 }
 
@@ -232,10 +259,9 @@ fn choose_and_decide<A: PackageSource, C: ScoreMap<A::NameId>>(
     alloc: Global,
     answers: &A,
     encoding: &mut Encoder<A::NameId, A::SolvableId>,
-    scores: &mut Scores<A::NameId, C>,
+    state: &mut TurnState<A::NameId, C>,
     activity: Activity,
     soft: Option<VariableId>,
-    scan: &mut Scan<A::NameId>,
 ) -> Result<Option<FinalConflict>, CacheFault<A::Cancel>>
     requires built { IsBuilt encoding.old }
     requires turn { HasTurn soft encoding.old }
@@ -254,9 +280,9 @@ fn choose_and_decide<A: PackageSource, C: ScoreMap<A::NameId>>(
     if let Some(refusal) = begin_search(alloc, encoding, soft)? {
         return Ok(Some(refusal));
     }
-    scan.go_back(encoding);
+    state.scan.go_back(encoding);
     // split for the prover: error and answer
-    let refusal = run_cdcl(alloc, answers, encoding, scores, activity, scan)?;
+    let refusal = run_cdcl(alloc, answers, encoding, state, activity)?;
     Ok(refusal)
 }
 
@@ -265,10 +291,9 @@ fn encode_and_decide<A: PackageSource, C: ScoreMap<A::NameId>>(
     alloc: Global,
     answers: &mut A,
     encoding: &mut Encoder<A::NameId, A::SolvableId>,
-    scores: &mut Scores<A::NameId, C>,
+    state: &mut TurnState<A::NameId, C>,
     input: &TurnInput<'_>,
     soft: Option<VariableId>,
-    scan: &mut Scan<A::NameId>,
 ) -> Result<Option<FinalConflict>, CacheFault<A::Cancel>>
     requires built { IsBuilt encoding.old }
     requires turn { HasTurn soft encoding.old }
@@ -295,11 +320,11 @@ fn encode_and_decide<A: PackageSource, C: ScoreMap<A::NameId>>(
         encoding,
         input.requirements,
         input.constraints,
-        scan,
+        &mut state.scan,
     )?;
     let activity = input.activity;
     // split for the prover: error and answer
-    let refusal = choose_and_decide(alloc, answers, encoding, scores, activity, soft, scan)?;
+    let refusal = choose_and_decide(alloc, answers, encoding, state, activity, soft)?;
     Ok(refusal)
 }
 
@@ -322,46 +347,8 @@ fn add_new_chosen<A: PackageSource>(
     Ok(())
 }
 
-/// Encodes the cases that hold by the choices since their last scan, once each was scanned.
-/// Answers whether there was one; if not, nothing changed. Undoes the turn's decisions if a new
-/// clause is falsified.
-fn fire_touched<A: PackageSource>(
-    alloc: Global,
-    answers: &mut A,
-    encoding: &mut Encoder<A::NameId, A::SolvableId>,
-    scan: &mut Scan<A::NameId>,
-) -> Result<bool, CacheFault<A::Cancel>>
-    requires { IsBuilt encoding.old }
-    // Whatever the answer.
-    ensures same { answers.new ≡ answers.old }
-    // After an answer.
-    ensures stays { OnOk result
-        (StaysInOrder A.SolvableId.eq A.PackageSource answers.old encoding.old encoding.new) }
-    ensures adds { OnOk result (AddsNeeds encoding.old encoding.new) }
-    ensures fires { IfOk result (λ b. b ≡ true → FiresMore encoding.old encoding.new) }
-    ensures unchanged { IfOk result (λ b. b ≡ false → encoding.new ≡ encoding.old) }
-    ensures built { OnOk result (IsBuilt encoding.new) }
-    // After a refusal.
-    ensures cancelled { IfErr result (IsCancelledBy (A.may_cancel answers.old)) }
-    ensures ids { IsErrOf result Ids
-        → StopsInOrder A.SolvableId.eq A.PackageSource answers.old encoding.old encoding.new }
-{
-    if !scan.is_begun() {
-        return Ok(false);
-    }
-    find_touched(alloc, answers, encoding, scan)?;
-    let before = encoding.coding.search.clauses.len();
-    let has_fired = fire_each(alloc, answers, encoding, scan.touched())?;
-    scan.end_touched();
-    if !has_fired {
-        return Ok(false);
-    }
-    undo_broken(encoding, before, scan);
-    Ok(true)
-}
-
 /// Scans the choices since the last scan. Whether there is a parent to encode then, or a case
-/// became a clause.
+/// became a clause. Where there is a parent, the cases are encoded behind it.
 fn scan_new<A: PackageSource>(
     alloc: Global,
     answers: &mut A,
@@ -383,7 +370,9 @@ fn scan_new<A: PackageSource>(
     ensures ids { IsErrOf result Ids
         → StopsInOrder A.SolvableId.eq A.PackageSource answers.old encoding.old encoding.new }
 {
+    scan.begin_encoding(encoding);
     add_new_chosen(alloc, answers, encoding, scan)?;
+    find_touched(alloc, answers, encoding, scan)?;
     if encoding.next_parent().is_some() {
         return Ok(true);
     }
@@ -438,15 +427,14 @@ enum Round {
 }
 
 /// Encodes, assumes the turn's soft requirement, decides, and adds what was chosen as parents of
-/// the next round. If there is none, the cases that hold become clauses.
+/// the next round. If there is none, the cases that hold become clauses now, else with these.
 fn run_round<A: PackageSource, C: ScoreMap<A::NameId>>(
     alloc: Global,
     answers: &mut A,
     encoding: &mut Encoder<A::NameId, A::SolvableId>,
-    scores: &mut Scores<A::NameId, C>,
+    state: &mut TurnState<A::NameId, C>,
     input: &TurnInput<'_>,
     soft: Option<VariableId>,
-    scan: &mut Scan<A::NameId>,
 ) -> Result<Round, CacheFault<A::Cancel>>
     requires built { IsBuilt encoding.old }
     requires rooted { IsRooted encoding.old }
@@ -468,15 +456,15 @@ fn run_round<A: PackageSource, C: ScoreMap<A::NameId>>(
         → StopsInOrderOf A.SolvableId.eq A.PackageSource answers.old
         input.now.requirements.now input.now.constraints.now encoding.old encoding.new }
 {
-    let decided = encode_and_decide(alloc, answers, encoding, scores, input, soft, scan)?;
+    let decided = encode_and_decide(alloc, answers, encoding, state, input, soft)?;
     if let Some(refusal) = decided {
         return Ok(Round::Refused(refusal));
     }
-    let has_new = scan_new(alloc, answers, encoding, scan)?;
+    let has_new = scan_new(alloc, answers, encoding, &mut state.scan)?;
     if has_new {
         return Ok(Round::Continues);
     }
-    let has_more = scan_all(alloc, answers, encoding, scan)?;
+    let has_more = scan_all(alloc, answers, encoding, &mut state.scan)?;
     if has_more {
         Ok(Round::Continues)
     } else {
@@ -489,7 +477,7 @@ pub fn run_turn<A: PackageSource, C: ScoreMap<A::NameId>>(
     alloc: Global,
     answers: &mut A,
     encoding: &mut Encoder<A::NameId, A::SolvableId>,
-    scores: &mut Scores<A::NameId, C>,
+    state: &mut TurnState<A::NameId, C>,
     input: &TurnInput<'_>,
     soft: Option<VariableId>,
 ) -> Result<Option<FinalConflict>, CacheFault<A::Cancel>>
@@ -513,9 +501,9 @@ pub fn run_turn<A: PackageSource, C: ScoreMap<A::NameId>>(
         → StopsInOrderOf A.SolvableId.eq A.PackageSource answers.old
         input.now.requirements.now input.now.constraints.now encoding.old encoding.new }
 {
-    let mut scan = Scan::begin(alloc, encoding.coding.search.tracker.stack().len());
+    state.scan.begin_turn(encoding);
     loop {
-        match run_round(alloc, answers, encoding, scores, input, soft, &mut scan)? {
+        match run_round(alloc, answers, encoding, state, input, soft)? {
             Round::Continues => {}
             Round::Complete => return Ok(None),
             Round::Refused(refusal) => return Ok(Some(refusal)),

@@ -7,8 +7,8 @@ use Rattle.resolvo_turn.specs.Turn.{AreTakenParents, IsRooted, rounds_left}
 use Rattle.resolvo_turn.proofs.turn.run_turn.Given as goal
 
 -- the encoding is one of the packages, and the root is the first parent
-abbrev pub invariant-loop-scan : goal.invariant-loop-scan
-invariant-loop-scan g l = record {
+abbrev pub invariant-loop-refusal : goal.invariant-loop-refusal
+invariant-loop-refusal g l = record {
   same : l.answers ≡ l.initial.answers;
   stays : (root : Rules) → IsRoot l.input.requirements.now l.input.constraints.now root → IsInOrder g.A.SolvableId.PartialEq.eq (g.A.PackageSource.packages l.initial.answers) (g.A.PackageSource.orders l.initial.answers) root l.initial.encoding
       → IsInOrder g.A.SolvableId.PartialEq.eq (g.A.PackageSource.packages l.initial.answers) (g.A.PackageSource.orders l.initial.answers) root l.encoding;
@@ -19,5 +19,5 @@ invariant-loop-scan g l = record {
   taken : AreTakenParents l.encoding;
 }
 
-abbrev pub decreases-loop-scan : goal.decreases-loop-scan
-decreases-loop-scan g l = rounds_left l.encoding
+abbrev pub decreases-loop-refusal : goal.decreases-loop-refusal
+decreases-loop-refusal g l = rounds_left l.encoding

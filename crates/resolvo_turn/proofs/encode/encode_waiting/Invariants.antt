@@ -3,7 +3,7 @@ use Rattle.resolvo_pool_core.specs.RuleKeeping.{Rules}
 use Rattle.resolvo_encoder.specs.Base.{KeepsTurns}
 use Rattle.resolvo_encoder.specs.Steps.{IsBuilt}
 use Rattle.resolvo_turn.specs.Encoder.{IsInOrder, IsRoot, AddsParents}
-use Rattle.resolvo_turn.proofs.encode.encode_parents.Given as goal
+use Rattle.resolvo_turn.proofs.encode.encode_waiting.Given as goal
 
 -- the encoding is one of the packages, with more parents
 abbrev pub invariant-loop-parent : goal.invariant-loop-parent
