@@ -28,7 +28,7 @@ use Rattle.resolvo_decide.specs.declared.candidate_counts.Occurrence.{Occurrence
 use Rattle.resolvo_decide.specs.declared.undecided_clauses.UndecidedClauses.{UndecidedClauses}
 use Rattle.resolvo_decide.specs.States.{state_at, reopened, is_open_state}
 use Rattle.resolvo_decide.specs.CandidateCounts.{IsRightCount, AreListed, AreBelow, Begins, HasNoCount, number_at}
-use Rattle.resolvo_decide.specs.Needs.{literals_in, is_met, places_at, IsMetNow, IsSoundState, Fits, AreRightCounts, KeepsFits, KeepsCounts, KeepsCounted, OffersAtLeast, AddsNeed}
+use Rattle.resolvo_decide.specs.Needs.{literals_in, is_met, IsClauseOf, IsMetNow, IsSoundState, Fits, AreRightCounts, KeepsFits, KeepsCounts, KeepsCounted, OffersAtLeast, AddsNeed}
 use Rattle.resolvo_decide.proofs.Positions.{state_end, state_map, state_out, state_put, state_set_other}
 use Rattle.resolvo_decide.proofs.TrailEnds.{open_before}
 use Rattle.resolvo_decide.proofs.Seen.{met_take, met_whole, take_less, idle_take, idle_more}
@@ -63,23 +63,23 @@ pub sound_put : (literals : Requirement → List Signed) (es : List Entry) (q : 
 sound_put literals es q found new so (inl is) = subst (IsSoundState literals es q) (sym is) so
 sound_put literals es q found new so (inr is) = sound_open literals q es new is
 
-pub fits_back : (common : ℕ) (old new : UndecidedClauses) → new.seen.items ≡ take common old.seen.items → new.states ≡ map (reopened common) old.states → new.places ≡ old.places → KeepsCounts old.seen.items new.seen.items old.counts new.counts → KeepsFits old new
-fits_back common old new seen states places counts = λ literals queue f. record {
+pub fits_back : (common : ℕ) (old new : UndecidedClauses) → new.seen.items ≡ take common old.seen.items → new.states ≡ map (reopened common) old.states → new.by_parent ≡ old.by_parent → KeepsCounts old.seen.items new.seen.items old.counts new.counts → KeepsFits old new
+fits_back common old new seen states by_parent counts = λ literals queue f. record {
   count = ap length states ∙ length-map old.states (reopened common) ∙ f.count;
   each = λ i q at. subst (λ (es : List Entry). IsSoundState literals es q (state_at new.states i)) (sym seen)
       (subst (IsSoundState literals (take common old.seen.items) q) (sym (ap (λ ss. state_at ss i) states ∙ state_map common old.states i)) (sound_back literals q common old.seen.items (state_at old.states i) (f.each i q at)));
-  placed = λ i q at. subst (λ ps. Contains (places_at ps.items q.parent.0) i) (sym places) (f.placed i q at);
+  placed = λ i q at. subst (λ ps. IsClauseOf ps q.parent.0 i) (sym by_parent) (f.placed i q at);
   kept_count = counts literals queue f.kept_count;
 }
 
 -- the states are unchanged or open, and the clauses of a parent that the entry makes true are open
-pub fits_on : (e : Entry) (old new : UndecidedClauses) → new.seen.items ≡ old.seen.items ++ e ∷ [] → new.places ≡ old.places → length new.states ≡ length old.states
+pub fits_on : (e : Entry) (old new : UndecidedClauses) → new.seen.items ≡ old.seen.items ++ e ∷ [] → new.by_parent ≡ old.by_parent → length new.states ≡ length old.states
     → ((i : ℕ) → (state_at new.states i ≡ state_at old.states i) ⊎ (state_at new.states i ≡ Open))
-    → (e.decision.value ≡ true → (i : ℕ) → Contains (places_at old.places.items e.decision.variable.0) i → state_at new.states i ≡ Open) → KeepsCounts old.seen.items (old.seen.items ++ e ∷ []) old.counts new.counts → KeepsFits old new
-fits_on e old new seen places long others opened counts = λ literals queue f. record {
+    → (e.decision.value ≡ true → (i : ℕ) → IsClauseOf old.by_parent e.decision.variable.0 i → state_at new.states i ≡ Open) → KeepsCounts old.seen.items (old.seen.items ++ e ∷ []) old.counts new.counts → KeepsFits old new
+fits_on e old new seen by_parent long others opened counts = λ literals queue f. record {
   count = long ∙ f.count;
   each = λ i q at. subst (λ (es : List Entry). IsSoundState literals es q (state_at new.states i)) (sym seen) (each literals queue f i q at);
-  placed = λ i q at. subst (λ ps. Contains (places_at ps.items q.parent.0) i) (sym places) (f.placed i q at);
+  placed = λ i q at. subst (λ ps. IsClauseOf ps q.parent.0 i) (sym by_parent) (f.placed i q at);
   kept_count = subst (λ (es : List Entry). AreRightCounts literals queue es new.counts) (sym seen) (counts literals queue f.kept_count);
 }
   where
@@ -90,7 +90,7 @@ fits_on e old new seen places long others opened counts = λ literals queue f. r
     each literals queue f i q at = elim (others i) [
       | inr open_ ↦ sound_open literals q (old.seen.items ++ e ∷ []) (state_at new.states i) open_
       | inl same ↦ sound_on literals q old.seen.items e (state_at new.states i) (subst (IsSoundState literals old.seen.items q) (sym same) (f.each i q at))
-          (λ is parent. open_not (state_at new.states i) (opened is i (subst (λ v. Contains (places_at old.places.items v) i) (sym parent) (f.placed i q at))))
+          (λ is parent. open_not (state_at new.states i) (opened is i (subst (λ v. IsClauseOf old.by_parent v i) (sym parent) (f.placed i q at))))
     ]
 
 -- a count that a clause has was its before another clause was added
@@ -100,13 +100,13 @@ begun_numbers n old new b i k number = elim (cases_lt i n) [
   | inr high ↦ (let no : None ≡ Some k = sym (b.fresh i high) ∙ number in absurd cc)
 ]
 
--- where parents have further places, and no clause has another count
-pub fits_widened : (old new : UndecidedClauses) → new.states ≡ old.states → new.seen.items ≡ old.seen.items → ((v i : ℕ) → Contains (places_at old.places.items v) i → Contains (places_at new.places.items v) i)
+-- where parents have further clauses, and no clause has another count
+pub fits_widened : (old new : UndecidedClauses) → new.states ≡ old.states → new.seen.items ≡ old.seen.items → ((v i : ℕ) → IsClauseOf old.by_parent v i → IsClauseOf new.by_parent v i)
     → ((i k : ℕ) → number_at new.counts.count_states.items i ≡ Some k → number_at old.counts.count_states.items i ≡ Some k) → new.counts.counts ≡ old.counts.counts → new.counts.occurrences ≡ old.counts.occurrences → KeepsFits old new
-fits_widened old new states seen places numbered counts occurrences = λ literals queue f. record {
+fits_widened old new states seen more numbered counts occurrences = λ literals queue f. record {
   count = ap length states ∙ f.count;
   each = λ i q at. subst (λ (es : List Entry). IsSoundState literals es q (state_at new.states i)) (sym seen) (subst (λ (ss : List ClauseState). IsSoundState literals old.seen.items q (state_at ss i)) (sym states) (f.each i q at));
-  placed = λ i q at. places q.parent.0 i (f.placed i q at);
+  placed = λ i q at. more q.parent.0 i (f.placed i q at);
   kept_count = record {
     each = λ i q k at number. (let one = subst (λ (es : List Entry). IsRightCount (literals q.requirement) es old.counts k) (sym seen) (f.kept_count.each i q k at (numbered i k number)) in record {
       some = one.some;
@@ -149,9 +149,9 @@ fits_add literals q old new queue f a = record {
     each i r (inl before) = subst (IsSoundState literals old.seen.items r) (sym (same i)) (f.each i r before)
     each i r (inr (last, is, none)) = sound_open literals r old.seen.items (state_at new.states i) (same i ∙ state_out old.states i (let a : length old.states ≡ length queue = f.count in omega arith))
 
-    placed : (i : ℕ) (r : NeedClause) → (slice_get queue i ≡ Some r) ⊎ ((i ≡ length queue) × (r ≡ q) × (slice_get queue i ≡ None)) → Contains (places_at new.places.items r.parent.0) i
+    placed : (i : ℕ) (r : NeedClause) → (slice_get queue i ≡ Some r) ⊎ ((i ≡ length queue) × (r ≡ q) × (slice_get queue i ≡ None)) → IsClauseOf new.by_parent r.parent.0 i
     placed i r (inl before) = a.kept r.parent.0 i (f.placed i r before)
-    placed i r (inr (last, is, none)) = subst (λ (s : NeedClause). Contains (places_at new.places.items s.parent.0) i) (sym is) (subst (λ j. Contains (places_at new.places.items q.parent.0) j) (f.count ∙ sym last) a.placed)
+    placed i r (inr (last, is, none)) = subst (λ (s : NeedClause). IsClauseOf new.by_parent s.parent.0 i) (sym is) (subst (λ j. IsClauseOf new.by_parent q.parent.0 j) (f.count ∙ sym last) a.placed)
 
     known : (i : ℕ) (r : NeedClause) → slice_get queue i ≡ Some r → i < length queue
     known i r at = inside queue i at

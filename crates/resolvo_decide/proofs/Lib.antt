@@ -1,5 +1,6 @@
 pub mod Positions
 mod MarkLemmas
+pub mod LinkLemmas
 pub mod Seen
 pub mod FitLemmas
 pub mod OfferLemmas

@@ -1,14 +1,12 @@
--- Lists of states, and of positions by parent.
+-- Lists of states, and lists that are kept by an index.
 use Rattle.std.proofs.Common.{◌≡◌, ℕ, zero, suc, ◌+◌, ◌<◌, ◌≤◌, ◌⊎◌, inl, inr, List, [], ◌∷◌, ◌++◌, map, length, get_or, Vec, Global, refl, sym, ◌∙◌, ap, subst, arith}
-use Rattle.std.specs.Prelude.{slice_get, slice_set, Contains}
+use Rattle.std.specs.Prelude.{slice_get, slice_set}
 use Rattle.std.proofs.lemmas.Bool.{cases_lt}
 use Rattle.std.proofs.lemmas.List.{ext_get_or, length-map}
-use Rattle.std.proofs.lemmas.List.Elements.{Contains-append_cases}
 use Rattle.resolvo_store_core.specs.Lists.{items_or_none}
 use Rattle.resolvo_decide.specs.declared.clause_states.ClauseState.{ClauseState}
 use Rattle.resolvo_decide.specs.declared.clause_states.ClauseState.TheVariants.{Open}
 use Rattle.resolvo_decide.specs.States.{state_at, is_open_state, reopened, AreShut}
-use Rattle.resolvo_decide.specs.Needs.{places_at}
 
 pub state_out : (ss : List ClauseState) (i : ℕ) → length ss ≤ i → state_at ss i ≡ Open
 state_out [] i h = refl
@@ -49,7 +47,7 @@ state_map common [] i = refl
 state_map common (x ∷ ss) zero = refl
 state_map common (x ∷ ss) (suc i) = state_map common ss i
 
--- the positions of parents
+-- lists by index
 
 pub list_end : {X : Type 0} (ls : List (Vec X Global)) (p : Vec X Global) (v : ℕ) → p.items ≡ [] → items_or_none (slice_get (ls ++ p ∷ []) v) ≡ items_or_none (slice_get ls v)
 list_end [] p zero h = h
@@ -62,11 +60,6 @@ places_read [] i p h e = absurd (omega arith)
 places_read (x ∷ ps) zero p h e = ap (λ w. w.items) (sym e)
 places_read (x ∷ ps) (suc i) p h e = places_read ps i p (omega arith) e
 
-pub places_out : (ps : List (Vec ℕ Global)) (i : ℕ) → length ps ≤ i → places_at ps i ≡ []
-places_out [] i h = refl
-places_out (x ∷ ps) zero h = absurd (omega arith)
-places_out (x ∷ ps) (suc i) h = places_out ps i (omega arith)
-
 pub places_set : {X : Type 0} (ps : List (Vec X Global)) (i : ℕ) (p : Vec X Global) → i < length ps → items_or_none (slice_get (slice_set ps i p) i) ≡ p.items
 places_set [] i p h = absurd (omega arith)
 places_set (x ∷ ps) zero p h = refl
@@ -78,13 +71,6 @@ places_set_other (x ∷ ps) zero p zero = inr refl
 places_set_other (x ∷ ps) zero p (suc j) = inl refl
 places_set_other (x ∷ ps) (suc i) p zero = inl refl
 places_set_other (x ∷ ps) (suc i) p (suc j) = elim (places_set_other ps i p j) [ inl same ↦ inl same | inr is ↦ inr (ap suc is) ]
-
--- what was listed is so still where one list has it
-pub places_more : (ps : List (Vec ℕ Global)) (i : ℕ) (p : Vec ℕ Global) → i < length ps → ((k : ℕ) → Contains (places_at ps i) k → Contains p.items k) → (j k : ℕ) → Contains (places_at ps j) k → Contains (places_at (slice_set ps i p) j) k
-places_more ps i p low more j k h = elim (places_set_other ps i p j) [
-  | inl same ↦ subst (λ (xs : List ℕ). Contains xs k) (sym same) h
-  | inr is ↦ subst (λ (xs : List ℕ). Contains xs k) (sym (ap (places_at (slice_set ps i p)) is ∙ places_set ps i p low)) (more k (subst (λ (n : ℕ). Contains (places_at ps n) k) is h))
-]
 
 -- states that are changed one by one are the changed list
 pub all_reopened : (common : ℕ) (old new : List ClauseState) → length new ≡ length old → ((i : ℕ) → i < length old → state_at new i ≡ reopened common (state_at old i)) → new ≡ map (reopened common) old
@@ -111,20 +97,13 @@ module _ (common start p : ℕ) (first old new : List ClauseState) (s : ClauseSt
 
 -- states that are opened one after the other
 
-pub opened_more : (ps more : List ℕ) (place : ℕ) (old new : List ClauseState) → more ≡ ps ++ place ∷ [] → ((i : ℕ) → Contains ps i → state_at old i ≡ Open)
-    → new ≡ slice_set old place Open → (i : ℕ) → Contains more i → state_at new i ≡ Open
-opened_more ps more place old new is before put i h = ap (λ ss. state_at ss i) put ∙ elim (Contains-append_cases ps (place ∷ []) i (subst (λ (xs : List ℕ). Contains xs i) is h)) [
-  | inl a ↦ elim (state_set_other old place Open i) [ inl same ↦ same ∙ before i a | inr at ↦ ap (state_at (slice_set old place Open)) at ∙ state_open old place ]
-  | inr a ↦ ap (state_at (slice_set old place Open)) (only i a) ∙ state_open old place
-]
-  where
-    only : (i : ℕ) → Contains (place ∷ []) i → i ≡ place
-    only i (zero, low, at) = sym at
-    only i (suc k, low, at) = absurd (omega (arith, low))
-
 pub others_more : (first old new : List ClauseState) (place : ℕ) → ((i : ℕ) → (state_at old i ≡ state_at first i) ⊎ (state_at old i ≡ Open))
     → new ≡ slice_set old place Open → (i : ℕ) → (state_at new i ≡ state_at first i) ⊎ (state_at new i ≡ Open)
 others_more first old new place before put i = subst (λ (ss : List ClauseState). (state_at ss i ≡ state_at first i) ⊎ (state_at ss i ≡ Open)) (sym put) (elim (state_set_other old place Open i) [
   | inl same ↦ elim (before i) [ inl a ↦ inl (same ∙ a) | inr a ↦ inr (same ∙ a) ]
   | inr at ↦ inr (ap (state_at (slice_set old place Open)) at ∙ state_open old place)
 ])
+
+pub opened_put : (old new : List ClauseState) (place i : ℕ) → new ≡ slice_set old place Open → (state_at old i ≡ Open) ⊎ (i ≡ place) → state_at new i ≡ Open
+opened_put old new place i put (inl open_) = ap (λ ss. state_at ss i) put ∙ elim (state_set_other old place Open i) [ inl same ↦ same ∙ open_ | inr at ↦ ap (state_at (slice_set old place Open)) at ∙ state_open old place ]
+opened_put old new place i put (inr here) = ap (λ ss. state_at ss i) put ∙ ap (state_at (slice_set old place Open)) here ∙ state_open old place

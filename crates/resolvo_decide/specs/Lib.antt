@@ -1,4 +1,5 @@
 pub mod States
 pub mod CandidateCounts
+pub mod Links
 pub mod Needs
 pub mod Queue

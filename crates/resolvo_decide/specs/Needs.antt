@@ -1,13 +1,12 @@
 -- The states of the need clauses under a trail.
-use Rattle.std.specs.Prelude.{◌≡◌, ℕ, ⊤, Bool, true, false, List, [], ◌∷◌, ◌++◌, ◌<◌, ◌≤◌, take, length, slice_get, Option, Some, Vec, Contains}
-use Rattle.std.specs.declared.alloc.Global.{Global}
+use Rattle.std.specs.Prelude.{◌≡◌, ℕ, ⊤, Bool, true, false, List, [], ◌∷◌, ◌++◌, ◌<◌, ◌≤◌, take, length, slice_get, slice_index_or, Option, Some, Contains}
 use Rattle.std.specs.List.{list_any}
 use Rattle.resolvo_pool_core.specs.declared.id.VariableId.{VariableId}
 use Rattle.resolvo_pool_core.specs.declared.requirement.Requirement.{Requirement}
 use Rattle.resolvo_pool_core.specs.Slots.{at}
 use Rattle.resolvo_store_core.specs.Signed.{Signed, value_under, is_true}
 use Rattle.resolvo_store_core.specs.Clauses.{candidate_literals}
-use Rattle.resolvo_store_core.specs.Lists.{candidates_in, items_or_none}
+use Rattle.resolvo_store_core.specs.Lists.{candidates_in}
 use Rattle.resolvo_store_core.specs.Pick.{pick, offer}
 use Rattle.resolvo_store_core.specs.Trail.{assigned, value_in}
 use Rattle.resolvo_store_core.specs.Values.{value_at}
@@ -16,11 +15,13 @@ use Rattle.resolvo_store_core.specs.declared.pick.NeedClause.{NeedClause}
 use Rattle.resolvo_store_core.specs.declared.pick.NextDecision.{NextDecision}
 use Rattle.resolvo_store_core.specs.declared.decision_map.Assignment.{Assignment}
 use Rattle.resolvo_store_core.specs.declared.lists.FixedLists.{FixedLists}
+use Rattle.resolvo_decide.specs.declared.clauses_by_parent.ClausesByParent.{ClausesByParent}
 use Rattle.resolvo_decide.specs.declared.clause_states.ClauseState.{ClauseState}
 use Rattle.resolvo_decide.specs.declared.clause_states.ClauseState.TheVariants.{Open, Satisfied, Inactive}
 use Rattle.resolvo_decide.specs.declared.undecided_clauses.UndecidedClauses.{UndecidedClauses}
 use Rattle.resolvo_decide.specs.declared.candidate_counts.CandidateCounts.{CandidateCounts}
 use Rattle.resolvo_decide.specs.States.{state_at}
+use Rattle.resolvo_decide.specs.Links.{IsLinked}
 use Rattle.resolvo_decide.specs.CandidateCounts.{IsRightCount, AreBelow, Begins, number_at}
 
 -- the literals of a requirement's candidates
@@ -31,9 +32,9 @@ literals_in lists r = candidate_literals (candidates_in lists r)
 abbrev pub is_met : List Entry → List Signed → Bool
 is_met es literals = list_any (λ l. is_true (value_under (value_in es) l)) literals
 
--- the positions of the clauses of a parent
-abbrev pub places_at : List (Vec ℕ Global) → ℕ → List ℕ
-places_at ps v = items_or_none (slice_get ps v)
+-- the clause at the position is one of the parent's
+abbrev pub IsClauseOf : ClausesByParent → ℕ → ℕ → Type 0
+IsClauseOf all v i = IsLinked all.links.items (slice_index_or all.last.items v 0) i
 
 -- the state is satisfied within so many entries, or open
 abbrev pub IsMetNow : ℕ → ClauseState → Type 0
@@ -58,7 +59,7 @@ pub record AreRightCounts (literals : Requirement → List Signed) (queue : List
 pub record Fits (literals : Requirement → List Signed) (needs : UndecidedClauses) (queue : List NeedClause) : Type 0 where
   pub count : length needs.states ≡ length queue
   pub each : (i : ℕ) (q : NeedClause) → slice_get queue i ≡ Some q → IsSoundState literals needs.seen.items q (state_at needs.states i)
-  pub placed : (i : ℕ) (q : NeedClause) → slice_get queue i ≡ Some q → Contains (places_at needs.places.items q.parent.0) i
+  pub placed : (i : ℕ) (q : NeedClause) → slice_get queue i ≡ Some q → IsClauseOf needs.by_parent q.parent.0 i
   pub kept_count : AreRightCounts literals queue needs.seen.items needs.counts
 
 -- the new states fit each queue that the old ones fit
@@ -73,8 +74,8 @@ KeepsFitsAt literals position q old new = (queue : List NeedClause) → slice_ge
 pub record AddsNeed (parent : VariableId) (old new : UndecidedClauses) : Type 0 where
   pub states : new.states ≡ old.states ++ Open ∷ []
   pub seen : new.seen ≡ old.seen
-  pub placed : Contains (places_at new.places.items parent.0) (length old.states)
-  pub kept : (v i : ℕ) → Contains (places_at old.places.items v) i → Contains (places_at new.places.items v) i
+  pub placed : IsClauseOf new.by_parent parent.0 (length old.states)
+  pub kept : (v i : ℕ) → IsClauseOf old.by_parent v i → IsClauseOf new.by_parent v i
   pub counts : Begins (length old.states) old.counts new.counts
 
 -- the counts stay right as the trail changes from the one to the other

@@ -3,7 +3,7 @@
 //! and the positions before the first that may be open. Bounds
 //! show how long a prefix of the trail satisfies the clauses of a block. A backjump skips a block
 //! whose bound it keeps.
-ghost use Rattle.std.specs.Prelude.{◌≡◌, ℕ, ◌<◌, ◌≤◌, ◌/◌, ◌++◌, ◌∷◌, ◌⊎◌, [], List, Bool, map, max, length, false, true, slice_set, Contains, OnOk, OnErr, IsOkUnless};
+ghost use Rattle.std.specs.Prelude.{◌≡◌, ℕ, ◌<◌, ◌≤◌, ◌/◌, ◌++◌, ◌∷◌, ◌⊎◌, [], List, Bool, map, max, length, false, true, slice_set, OnOk, OnErr, IsOkUnless};
 ghost use Rattle.resolvo_pool_core.specs.declared.want.Want.TheVariants.{Memory};
 ghost use Rattle.resolvo_decide.specs.declared.clause_states.ClauseState.TheVariants.{Open};
 ghost use Rattle.std.specs.Int.{bit_at};
@@ -229,18 +229,6 @@ impl ClauseStates {
         make_bound(&mut self.bounds, position / BLOCK)?;
         self.states.push(ClauseState::Open)?;
         Ok(())
-    }
-
-    /// Opens the clauses at these positions.
-    pub fn open_each(&mut self, places: &[usize])
-        ensures opened { (i : ℕ) → Contains places.now i → state_at self.new i ≡ Open }
-        ensures others { (i : ℕ)
-            → (state_at self.new i ≡ state_at self.old i) ⊎ (state_at self.new i ≡ Open) }
-        ensures len { length self.new ≡ length self.old }
-    {
-        for place in places {
-            self.put(*place, ClauseState::Open);
-        }
     }
 
     /// Opens the clauses that the trail's prefix of this length doesn't satisfy any more.

@@ -15,12 +15,12 @@ ghost use Rattle.resolvo_store_core.specs.declared.pick.NeedClause.{NeedClause};
 ghost use Rattle.resolvo_decide.specs.declared.clause_states.ClauseState.TheVariants.{Open};
 ghost use Rattle.resolvo_decide.specs.States.{state_at};
 ghost use Rattle.resolvo_decide.specs.CandidateCounts.{has_true_in, HasNoCount};
-ghost use Rattle.resolvo_decide.specs.Needs.{literals_in, places_at, IsMetNow, IsSoundState, Fits, KeepsFits, KeepsFitsAt, KeepsCounts, IsRightCountAt, OffersAtLeast, AddsNeed};
+ghost use Rattle.resolvo_decide.specs.Needs.{literals_in, IsClauseOf, IsMetNow, IsSoundState, Fits, KeepsFits, KeepsFitsAt, KeepsCounts, IsRightCountAt, OffersAtLeast, AddsNeed};
 
 use crate::candidate_count::CandidateCount;
 use crate::candidate_counts::CandidateCounts;
 use crate::clause_states::{ClauseState, ClauseStates};
-use crate::lists_by_index::make_room;
+use crate::clauses_by_parent::ClausesByParent;
 use crate::offer::{behind_passed, counted_offer, offered};
 use resolvo_pool_core::id::VariableId;
 use resolvo_pool_core::id_map::ScoreMap;
@@ -38,8 +38,8 @@ pub struct UndecidedClauses {
     states: ClauseStates,
     /// The trail for which the states hold.
     seen: Vec<Entry>,
-    /// The positions of the clauses of each parent, by the parent's variable.
-    places: Vec<Vec<usize>>,
+    /// The clauses of each parent.
+    by_parent: ClausesByParent,
     /// How many candidates are true or false, of the clauses for which that is kept.
     counts: CandidateCounts,
     /// The clause whose candidates were last counted by a walk over them.
@@ -51,13 +51,12 @@ impl UndecidedClauses {
     pub(crate) fn new(alloc: Global) -> UndecidedClauses
         ensures states { result.states ≡ [] }
         ensures seen { result.seen.items ≡ [] }
-        ensures places { result.places.items ≡ [] }
         ensures counts { HasNoCount result.counts }
     {
         UndecidedClauses {
             states: ClauseStates::new(alloc),
             seen: Vec::new(alloc),
-            places: Vec::new(alloc),
+            by_parent: ClausesByParent::new(alloc),
             counts: CandidateCounts::new(alloc),
             counted: None,
         }
@@ -79,18 +78,14 @@ impl UndecidedClauses {
     /// Lists the next clause among those of this parent.
     fn list_next(&mut self, parent: VariableId) -> R<()>
         ensures placed { OnOk result
-            (Contains (places_at self.new.places.items parent.0) (length self.old.states)) }
+            (IsClauseOf self.new.by_parent parent.0 (length self.old.states)) }
         ensures kept { (v i : ℕ)
-            → Contains (places_at self.old.places.items v) i
-            → Contains (places_at self.new.places.items v) i }
-        ensures rest { self.new ≡ record self.old { places = self.new.places } }
+            → IsClauseOf self.old.by_parent v i
+            → IsClauseOf self.new.by_parent v i }
+        ensures rest { self.new ≡ record self.old { by_parent = self.new.by_parent } }
         ensures refusal { IsOkUnless result Memory }
     {
-        let alloc = *self.places.allocator();
-        let index = parent.0 as usize;
-        make_room(&mut self.places, alloc, index + 1)?;
-        self.places[index].push(self.states.len())?;
-        Ok(())
+        self.by_parent.add(parent, self.states.len())
     }
 
     /// Drops the seen entries behind this many. The cost is that of the clauses that they
@@ -190,7 +185,7 @@ impl UndecidedClauses {
     /// Opens the clauses of a parent.
     fn open_clauses_of(&mut self, parent: VariableId)
         ensures opened { (i : ℕ)
-            → Contains (places_at self.old.places.items parent.0) i
+            → IsClauseOf self.old.by_parent parent.0 i
             → state_at self.new.states i ≡ Open }
         ensures others { (i : ℕ)
             → (state_at self.new.states i ≡ state_at self.old.states i) ⊎
@@ -198,9 +193,10 @@ impl UndecidedClauses {
         ensures len { length self.new.states ≡ length self.old.states }
         ensures rest { self.new ≡ record self.old { states = self.new.states } }
     {
-        let index = parent.0 as usize;
-        if index < self.places.len() {
-            self.states.open_each(&self.places[index]);
+        let mut next = self.by_parent.last(parent);
+        while let Some(link) = self.by_parent.link(next) {
+            self.states.put(link.position as usize, ClauseState::Open);
+            next = link.previous;
         }
     }
 

@@ -9,7 +9,7 @@ pub returns-then-entry-clause-fits : goal.returns-then-entry-clause-fits
 returns-then-entry-clause-fits c =
     let es = c.args.self.now.seen.items in
     let rest = c.open_clauses_of.ensures.rest in
-    fits_on c.args.entry c.args.self.now c.open_clauses_of.new.self (ap (λ (n : UndecidedClauses). n.seen.items) rest ∙ c.in_ok-push.ensures.items) (ap (λ (n : UndecidedClauses). n.places) rest)
+    fits_on c.args.entry c.args.self.now c.open_clauses_of.new.self (ap (λ (n : UndecidedClauses). n.seen.items) rest ∙ c.in_ok-push.ensures.items) (ap (λ (n : UndecidedClauses). n.by_parent) rest)
     c.open_clauses_of.ensures.len c.open_clauses_of.ensures.others (λ is. c.open_clauses_of.ensures.opened)
     (subst (λ ts. KeepsCounts es (es ++ c.args.entry ∷ []) c.args.self.now.counts ts) (sym (ap (λ (n : UndecidedClauses). n.counts) rest)) (c.add_entry.ensures.kept es c.requires))
 

@@ -7,4 +7,4 @@ use Rattle.resolvo_decide.proofs.undecided_clauses.UndecidedClauses.truncate.Goa
 pub returns-then-kept-len-clause-fits : goal.returns-then-kept-len-clause-fits
 returns-then-kept-len-clause-fits c =
     let rest = c.undo_entries.ensures.rest in
-    fits_back c.args.kept c.args.self.now _ c.undo_entries.ensures.seen (c.reopen.ensures ∙ ap (λ (n : UndecidedClauses). map (reopened c.args.kept) n.states) rest) (ap (λ (n : UndecidedClauses). n.places) rest) c.undo_entries.ensures.counts
+    fits_back c.args.kept c.args.self.now _ c.undo_entries.ensures.seen (c.reopen.ensures ∙ ap (λ (n : UndecidedClauses). map (reopened c.args.kept) n.states) rest) (ap (λ (n : UndecidedClauses). n.by_parent) rest) c.undo_entries.ensures.counts
