@@ -1,9 +1,9 @@
 -- What waits gets its clauses: digits, and at-least-one clauses.
-use Rattle.std.proofs.Common.{◌≡◌, ℕ, ◌<◌, ◌≤◌, ◌⊎◌, inl, inr, Bool, true, List, [], ◌∷◌, ◌++◌, length, Some, None, refl, sym, ◌∙◌, ap, subst, arith, false}
+use Rattle.std.proofs.Common.{◌≡◌, ℕ, ◌<◌, ◌≤◌, ◌⊎◌, inl, inr, Bool, true, List, [], ◌∷◌, ◌++◌, length, slice_index_or, Some, None, refl, sym, ◌∙◌, ap, subst, arith, false}
 use Rattle.std.specs.Prelude.{Contains, slice_get}
 use Rattle.std.proofs.lemmas.Bool.{false_from_ne_true}
 use Rattle.std.specs.List.Sorted.{IsPermutation}
-use Rattle.std.proofs.lemmas.List.Sorted.{Contains-permutation, IsPermutation-sym}
+use Rattle.std.proofs.lemmas.List.Sorted.{Contains-permutation, IsPermutation-refl, IsPermutation-sym}
 use Rattle.std.proofs.lemmas.Option.{slice_get_within}
 use Rattle.resolvo_pool_core.specs.declared.id.VariableId.{VariableId}
 use Rattle.resolvo_pool_core.specs.Provider.{listed}
@@ -397,3 +397,17 @@ waiting_are {N} {S} e members list sorted tied queued registered h turned = reco
       let (m, present, named, at) = h.all o (Contains-permutation sorted list o (IsPermutation-sym list sorted turned) a) in
       (m.variable, represents_solvable e.coding.atoms.keys m.variable o.solvable at, subst (λ (n : N). IsTracked e.registry n m.variable) named (registered m.name m.variable present));
 }
+
+-- a list of one value is that of its first
+only_first : {A : Type 0} (xs : List A) (d : A) → length xs ≡ 1 → xs ≡ slice_index_or xs 0 d ∷ []
+only_first [] d one = absurd (omega arith)
+only_first (x ∷ []) d one = refl
+only_first (x ∷ y ∷ xs) d one = absurd (omega arith)
+
+pub lone_waits : {N S : Type 0} (e : Encoder N S) (members : List (Member N)) (d : Member N) (s : S) → AreTied e.registry e.coding → ((n : N) (v : VariableId) → IsQueued e.registry n v → Contains members (member n v)) → ((n : N) (v : VariableId) → Contains members (member n v) → IsTracked e.registry n v)
+    → length members ≡ 1 → d ≡ slice_index_or members 0 d → solvable_of e.coding.atoms.keys d.variable.0 ≡ Some s → AreWaiting e (record { solvable = s; name = d.name } ∷ [])
+lone_waits {N} {S} e members d s tied queued registered one first is =
+    let list : List (Offered N S) = record { solvable = s; name = d.name } ∷ [] in
+    let atoms = e.coding.atoms.keys in
+    let these : members ≡ d ∷ [] = only_first members d one ∙ ap (λ (m : Member N). m ∷ []) (sym first) in
+    waiting_are e members list list tied queued registered (subst (λ (us : List (Member N)). AreMembers atoms us list) (sym these) (members_more atoms [] [] d s is (members_none atoms))) (IsPermutation-refl list)

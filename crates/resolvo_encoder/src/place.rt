@@ -1,7 +1,7 @@
 //! The end of an encoding: what waits gets its clauses. Package by package each new solvable gets
 //! its digits, unless the package is marked `many`, then its at-least-one clause, if its package is
 //! recorded. Then come those of the packages of new cases.
-ghost use Rattle.std.specs.Prelude.{◌≡◌, ◌∷◌, [], OnOk, IfOk, Contains, IsPermutation, IsErrOf, IsOkUnless};
+ghost use Rattle.std.specs.Prelude.{◌≡◌, ◌∷◌, [], OnOk, IfOk, IfSome, Contains, IsPermutation, IsErrOf, IsOkUnless};
 ghost use Rattle.resolvo_pool_core.specs.declared.want.Want.TheVariants.{Memory, Ids};
 ghost use Rattle.resolvo_packages.specs.declared.package_source.Offered.{Offered as One};
 ghost use Rattle.resolvo_state.specs.Registered.{IsRegistered};
@@ -44,10 +44,30 @@ impl<N: Copy + Exact + Hash + Debug + Drop, S: Copy + Exact + Hash + Debug> Enco
         ensures placed { OnOk result (PlacesQueued S.eq self.old self.new) }
         ensures ids { IsErrOf result Ids → LacksNumber self.new.coding }
     {
+        if let Some(one) = self.lone_queued() {
+            self.place_one(one)?;
+            self.registry.end_queue();
+            return Ok(());
+        }
         let waiting = self.queued_solvables(alloc)?;
         self.place_each(waiting.as_slice())?;
         self.registry.end_queue();
         Ok(())
+    }
+
+    /// The solvable that waits, where it is the only one. Most encodings have one at most.
+    fn lone_queued(&self) -> Option<Offered<N, S>>
+        requires { IsBuilt self.now }
+        ensures { IfSome result (λ o. AreWaiting self.now (o ∷ [])) }
+    {
+        let members = self.registry.queued();
+        if members.len() != 1 {
+            return None;
+        }
+        let member = members[0];
+        let solvable = self.coding.solvable(member.variable)?;
+        let name = member.name;
+        Some(Offered { solvable, name })
     }
 
     /// The solvables that wait, package by package.

@@ -1,10 +1,10 @@
 //! Which solvables the turn's entries of the trail choose. Those before its first entry were chosen
 //! in earlier turns.
-ghost use Rattle.std.specs.Prelude.{◌≡◌, ◌≤◌, length, IfOk, IsOkUnless};
+ghost use Rattle.std.specs.Prelude.{◌≡◌, ◌≤◌, length, slice_get, option_and_then, IfOk, IsOkUnless};
 ghost use Rattle.resolvo_pool_core.specs.declared.want.Want.TheVariants.{Memory};
 ghost use Rattle.resolvo_sat.specs.Entries.{before};
 ghost use Rattle.resolvo_sat.specs.State.{IsState, history};
-ghost use Rattle.resolvo_state.specs.Chosen.{choices};
+ghost use Rattle.resolvo_state.specs.Chosen.{choice_of, choices};
 ghost use Rattle.resolvo_encoder.specs.Base.{below};
 ghost use Rattle.resolvo_encoder.specs.Steps.{IsBuilt};
 ghost use Rattle.resolvo_turn.specs.Turn.{in_turn};
@@ -37,8 +37,24 @@ fn first_place(search: &SatState) -> usize
     0
 }
 
+/// The solvable that the trail's entry at this place chooses, if it chooses one.
+pub(crate) fn chosen_at<N: Copy + Exact + Hash + Debug, S: Copy + Exact + Hash + Debug>(
+    coding: &SolverState<N, S>,
+    place: usize,
+) -> Option<S>
+    ensures { result
+        ≡ option_and_then (choice_of coding.now.atoms.keys)
+        (slice_get coding.now.search.tracker.trail place) }
+{
+    let entry = coding.search.tracker.stack().get(place)?;
+    if !entry.decision.value {
+        return None;
+    }
+    coding.solvable(entry.decision.variable)
+}
+
 /// The solvables that these entries choose, in their order.
-pub(crate) fn choices_of<N: Copy + Exact + Hash + Debug, S: Copy + Exact + Hash + Debug>(
+fn choices_of<N: Copy + Exact + Hash + Debug, S: Copy + Exact + Hash + Debug>(
     alloc: Global,
     coding: &SolverState<N, S>,
     entries: &[Entry],

@@ -3,7 +3,6 @@
 ghost use Rattle.std.specs.Prelude.{IsOkUnless};
 ghost use Rattle.resolvo_pool_core.specs.declared.want.Want.TheVariants.{Memory};
 
-use crate::chosen::choices_of;
 use indexmap::{IndexMap, IndexSet};
 use resolvo_encoder::encoder::Encoder;
 use resolvo_packages::package_source::PackageSource;
@@ -12,6 +11,7 @@ use resolvo_pool_core::want::R;
 use std::alloc::Global;
 use std::fmt::Debug;
 use std::hash::Hash;
+use std::ops::Range;
 
 /// How far the trail is scanned, and which deferred cases may hold by the choices since.
 pub struct Scan<N: Copy + Eq + Hash> {
@@ -101,18 +101,15 @@ impl<N: Copy + Exact + Hash + Debug> Scan<N> {
         self.entries = self.entries.min(end.saturating_sub(1));
     }
 
-    /// The solvables that were chosen since the last scan of the trail, in its order. Scans it.
-    pub(crate) fn new_chosen<S: Copy + Exact + Hash + Debug>(
+    /// The places of the trail's entries since its last scan. Scans them.
+    pub(crate) fn new_entries<S: Copy + Exact + Hash + Debug>(
         &mut self,
-        alloc: Global,
         encoding: &Encoder<N, S>,
-    ) -> R<Vec<S>>
-        ensures { IsOkUnless result Memory }
-    {
-        let trail = encoding.coding.search.tracker.stack();
-        let from = self.entries.min(trail.len());
-        self.entries = trail.len();
-        choices_of(alloc, &encoding.coding, &trail[from..])
+    ) -> Range<usize> {
+        let end = encoding.coding.search.tracker.stack().len();
+        let from = self.entries.min(end);
+        self.entries = end;
+        from..end
     }
 
     /// Marks the cases that name this package: they may hold.

@@ -15,7 +15,7 @@ ghost use Rattle.resolvo_turn.specs.Turn.{AddsChosen, AreTakenParents, FiresMore
 ghost use Rattle.resolvo_turn.specs.LacksIds.{StopsInOrder, StopsInOrderOf};
 
 use crate::cdcl::{Activity, run_cdcl};
-use crate::chosen::chosen_in_turn;
+use crate::chosen::{chosen_at, chosen_in_turn};
 use crate::encode::{encode_parents, encode_waiting};
 use crate::fire_conditions::{fire_cases, fire_each};
 use crate::scan::{Scan, find_touched, mark_all};
@@ -328,10 +328,26 @@ fn encode_and_decide<A: PackageSource, C: ScoreMap<A::NameId>>(
     Ok(refusal)
 }
 
-/// Adds each solvable that was chosen since the last scan as a parent. Marks the cases that name
-/// its package.
+/// Adds the solvable that the trail's entry at this place chooses, if any, as a parent. Marks the
+/// cases that name its package.
+fn add_if_chosen<A: PackageSource>(
+    answers: &A,
+    encoding: &mut Encoder<A::NameId, A::SolvableId>,
+    scan: &mut Scan<A::NameId>,
+    place: usize,
+) -> R<()>
+    ensures added { OnOk result (AddsParent encoding.old encoding.new) }
+    ensures refusal { IsOkUnless result Memory }
+{
+    if let Some(solvable) = chosen_at(&encoding.coding, place) {
+        encoding.add_parent(solvable)?;
+        scan.touch(answers.package(solvable))?;
+    }
+    Ok(())
+}
+
+/// Adds each solvable that was chosen since the last scan as a parent, in the order of the trail.
 fn add_new_chosen<A: PackageSource>(
-    alloc: Global,
     answers: &A,
     encoding: &mut Encoder<A::NameId, A::SolvableId>,
     scan: &mut Scan<A::NameId>,
@@ -339,10 +355,8 @@ fn add_new_chosen<A: PackageSource>(
     ensures added { OnOk result (AddsParent encoding.old encoding.new) }
     ensures refusal { IsOkUnless result Memory }
 {
-    let chosen = scan.new_chosen(alloc, encoding)?;
-    for solvable in &chosen {
-        encoding.add_parent(*solvable)?;
-        scan.touch(answers.package(*solvable))?;
+    for place in scan.new_entries(encoding) {
+        add_if_chosen(answers, encoding, scan, place)?;
     }
     Ok(())
 }
@@ -371,7 +385,7 @@ fn scan_new<A: PackageSource>(
         → StopsInOrder A.SolvableId.eq A.PackageSource answers.old encoding.old encoding.new }
 {
     scan.begin_encoding(encoding);
-    add_new_chosen(alloc, answers, encoding, scan)?;
+    add_new_chosen(answers, encoding, scan)?;
     find_touched(alloc, answers, encoding, scan)?;
     if encoding.next_parent().is_some() {
         return Ok(true);
