@@ -88,6 +88,17 @@ impl Catalogue {
         self.table.find(name, number)
     }
 
+    /// The number of a version of the same package as the given one, if it is listed. No name is
+    /// looked for.
+    pub fn find_beside(&self, version: VersionNo, number: u32) -> Option<VersionNo>
+        ensures { (v : parsed.Version)
+            → version_at self.now version.0 ≡ Some v
+            → IsOnly (option_map number_of result)
+            (λ n. version_at self.now n ≡ Some (record { name = v.name; number = number })) }
+    {
+        self.table.find_beside(version, number)
+    }
+
     /// The number of a version that must be listed.
     pub(crate) fn listed(&self, version: &Version) -> Result<VersionNo, LineFault>
         ensures found { IfOk result (λ n. version_at self.now n.0 ≡ Some (version_of version.now)) }

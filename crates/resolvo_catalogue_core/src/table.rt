@@ -133,6 +133,24 @@ impl Table {
         package.find(number)
     }
 
+    fn kept_at(&self, version: VersionNo) -> Option<KeptVersion>
+        ensures { result ≡ slice_get self.now.versions.items version.0 }
+    {
+        self.versions.get(version.0 as usize).copied()
+    }
+
+    /// The version of this number in the package of the given one.
+    pub fn find_beside(&self, version: VersionNo, number: u32) -> Option<VersionNo>
+        requires { IsTable self.now }
+        ensures { (v : parsed.Version)
+            → slice_get (versions_in self.now) version.0 ≡ Some v
+            → option_map number_of result ≡ number_in (package_named self.now v.name) number }
+    {
+        let kept = self.kept_at(version)?;
+        let package = self.packages.get(kept.package)?;
+        package.find(number)
+    }
+
     pub fn versions_of(&self, name: &str) -> &[VersionNo]
         ensures { map number_of result.now ≡ numbers_in (package_named self.now name.now) }
     {
