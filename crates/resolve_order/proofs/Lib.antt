@@ -1,4 +1,5 @@
 pub mod Elements
+pub mod LineLists
 pub mod PackageLemmas
 pub mod NumberLemmas
 pub mod FavourLemmas

@@ -1,10 +1,11 @@
 -- The state of the lister: the chosen versions by their packages, the lines in their order, and
 -- the open ones.
-use Rattle.std.specs.Prelude.{◌≡◌, ℕ, zero, suc, ◌<◌, ◌↔◌, ◌≤◌, ◌+◌, ◌-◌, IsTrue, Bool, true, false, if◌then◌else◌, not, ⊤, ◌⊎◌, List, [], ◌∷◌, ◌++◌, length, map, Option, Some, None, Contains, slice_get}
+use Rattle.std.specs.Prelude.{◌≡◌, ◌==◌, ℕ, zero, suc, ◌<◌, ◌↔◌, ◌≤◌, ◌+◌, ◌-◌, IsTrue, Bool, true, false, if◌then◌else◌, not, ⊤, ◌⊎◌, List, [], ◌∷◌, ◌++◌, length, map, Option, Some, None, Contains, slice_get}
 use Rattle.std.specs.Option.{option_map, option_map_or, option_and_then}
 use Rattle.std.specs.Str.{bytes_eq}
 use Rattle.std.specs.BTreeMap.{BTreeMap, get}
 use Rattle.std.specs.BTreeSet.{BTreeSet, btree_set_len, contains}
+use Rattle.std.specs.Global.{Vec}
 use Rattle.std.specs.Ordering.{nat_cmp}
 use Rattle.std.specs.List.{list_any, sum_by}
 use Rattle.resolvo_text.specs.Line.{Version, Spec, Cond, Is, And, Or, Line, Needs, Favour}
@@ -168,13 +169,13 @@ entries_in catalogue x = entries_of (answers_in catalogue x)
 -- ---- lines by versions
 
 -- whether line i is among the lines of a key
-abbrev pub has_line : Option (BTreeSet ℕ) → ℕ → Bool
+abbrev pub has_line : Option (Vec ℕ) → ℕ → Bool
 has_line None i = false
-has_line (Some lines) i = contains nat_cmp lines i
+has_line (Some lines) i = list_any (λ j. j == i) lines.items
 
 -- whether line i is kept by key p
 abbrev pub is_kept : PackageLines → ℕ → ℕ → Bool
-is_kept t p i = has_line (get nat_cmp t.lines p) i
+is_kept t p i = has_line (slice_get t.lines.items p) i
 
 -- The key of a SPEC is the number of the one version that it may match, or else that of its package's first version.
 abbrev pub IsKeyOf : List Version → List ℕ → Span → ℕ → Type 0

@@ -1,6 +1,6 @@
 //! The need of a line, as it is lent: by the text of a request, or by the numbers of a catalogue. No
-//! text is made of it, and a catalogue's need finds a package without its name. Used by `chosen`,
-//! `open_lines` and `package_lines`.
+//! text is made of it, and a catalogue's need finds a listed package without its name. Used by
+//! `chosen`, `open_lines` and `package_lines`.
 
 ghost use Rattle.std.specs.Prelude.{◌≡◌, Option, List, Some, length, slice_get};
 ghost use Rattle.resolvo_text.specs.Line as content;

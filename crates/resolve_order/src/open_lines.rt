@@ -132,7 +132,7 @@ fn reopen_by(
     ensures { OnOk result (Reopens again.old again.new below kept.old kept.new (λ k. key ≡ k)) }
 {
     let mut lines = kept.take(key);
-    while let Some(line) = lines.pop_first() {
+    while let Some(line) = lines.pop() {
         if line < below {
             again.insert(line)?;
         }

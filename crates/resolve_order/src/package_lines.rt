@@ -2,31 +2,77 @@
 //! known by its place in the list of all lines. The key of a SPEC is the number of the one version
 //! that it may match, or else that of its package's first version. Used by `open_lines`.
 
-ghost use Rattle.std.specs.Prelude.{◌≡◌, ◌∷◌, [], ℕ, true, Some, OnOk, List, slice_get};
+ghost use Rattle.std.specs.Prelude.{◌≡◌, ◌≤◌, ◌∷◌, [], ℕ, true, Some, OnOk, List, length, slice_get};
 ghost use Rattle.std.specs.Option.{option_map};
-ghost use Rattle.std.specs.BTreeSet.{contains};
-ghost use Rattle.std.specs.Ordering.{nat_cmp};
 ghost use Rattle.resolvo_text.specs.Line as content;
 ghost use Rattle.resolvo_text.specs.View.{spec_of, cond_of, condition_of};
 ghost use Rattle.resolvo_terms.specs.Known.{cond_at};
 ghost use Rattle.resolvo_catalogue_core.specs.Questions.{number_of};
 ghost use Rattle.resolvo_catalogue_core.specs.Listed.{listed};
-ghost use Rattle.resolve_order.specs.Kept.{first_of, is_kept, IsKeyOf, IsKeptFor, IsKeptForAll, KeepsAll, specs_in, specs_under};
+ghost use Rattle.resolve_order.specs.Kept.{first_of, has_line, is_kept, IsKeyOf, IsKeptFor, IsKeptForAll, KeepsAll, specs_in, specs_under};
 ghost use Rattle.resolve_order.specs.Need.{IsOf, IsSpanOf, alternatives_in, condition_in};
 
-use crate::chosen::version_at;
 use crate::need::{Need, PackageSpan, kept_span, span_of};
 use resolvo_catalogue_core::{Catalogue, Cond, KeptLines, Span, Spec, VersionNo};
 use resolvo_pool_core::condition::Condition;
 use resolvo_pool_core::id::ConditionId;
 use std::alloc::{AllocError, Global};
-use std::collections::{BTreeMap, BTreeSet};
+use std::mem;
 
 #[derive(Drop)]
 pub struct PackageLines {
     alloc: Global,
-    /// The lines of each key.
-    lines: BTreeMap<u32, BTreeSet<usize>>,
+    /// The lines of each key. The last keys may have no place.
+    lines: Vec<Vec<usize>>,
+}
+
+/// Makes a list of places this long, where it is shorter. The new places have no lines.
+fn lengthen(alloc: Global, lines: &mut Vec<Vec<usize>>, count: usize) -> Result<(), AllocError>
+    ensures same { (key i : ℕ)
+        → has_line (slice_get lines.new.items key) i
+        ≡ has_line (slice_get lines.old.items key) i }
+    ensures long { OnOk result (count ≤ length lines.new.items) }
+{
+    for _ in lines.len()..count {
+        lines.push(Vec::new(alloc))?;
+    }
+    Ok(())
+}
+
+/// A list that is no longer than this may have a line twice.
+const FEW: usize = 16;
+
+/// Drops what a list has twice, and makes room for as many lines again.
+fn drop_repeated(lines: &mut Vec<usize>) -> Result<(), AllocError>
+    ensures kept { (i : ℕ)
+        → has_line (Some lines.old) i ≡ true
+        → has_line (Some lines.new) i ≡ true }
+{
+    lines.sort_unstable();
+    lines.dedup();
+    lines.reserve(lines.len() + 1)?;
+    Ok(())
+}
+
+/// Adds a line to those of a key, if it isn't the last of them. A long list that is full drops what
+/// it has twice before it grows: a line may be closed many times.
+fn add_line(lines: &mut Vec<usize>, line: usize) -> Result<(), AllocError>
+    ensures added { OnOk result (has_line (Some lines.new) line ≡ true) }
+    ensures kept { OnOk result
+        ((i : ℕ)
+        → has_line (Some lines.old) i ≡ true
+        → has_line (Some lines.new) i ≡ true) }
+{
+    if let Some(last) = lines.last() {
+        if *last == line {
+            return Ok(());
+        }
+    }
+    if lines.len() > FEW && lines.len() == lines.capacity() {
+        drop_repeated(lines)?;
+    }
+    lines.push(line)?;
+    Ok(())
 }
 
 /// The version of this number in the package, if it is listed.
@@ -37,8 +83,7 @@ fn find_in(catalogue: &Catalogue, package: Option<u32>, number: u32) -> Option<V
         → option_map number_of result ≡ Some k }
 {
     let package = package?;
-    let first = version_at(catalogue, VersionNo(package))?;
-    catalogue.find(first.0, number)
+    catalogue.find_beside(VersionNo(package), number)
 }
 
 /// The key of a SPEC, if the catalogue lists such a version.
@@ -62,7 +107,7 @@ impl PackageLines {
     pub fn new(alloc: Global) -> PackageLines {
         PackageLines {
             alloc,
-            lines: BTreeMap::new(alloc),
+            lines: Vec::new(alloc),
         }
     }
 
@@ -71,14 +116,9 @@ impl PackageLines {
         ensures added { OnOk result (is_kept self.new key line ≡ true) }
         ensures kept { OnOk result (KeepsAll self.old self.new) }
     {
-        if let Some(lines) = self.lines.get_mut(&key) {
-            lines.insert(line)?;
-            return Ok(());
-        }
-        let mut lines = BTreeSet::new(self.alloc);
-        lines.insert(line)?;
-        self.lines.insert(key, lines)?;
-        Ok(())
+        let at = key as usize;
+        lengthen(self.alloc, &mut self.lines, at + 1)?;
+        add_line(&mut self.lines[at], line)
     }
 
     /// The same by the key of the SPEC, if it has one.
@@ -257,16 +297,21 @@ impl PackageLines {
     }
 
     /// Takes the lines of the key out.
-    pub fn take(&mut self, key: u32) -> BTreeSet<usize>
-        ensures taken { (i : ℕ) → is_kept self.old key i ≡ true → contains nat_cmp result i ≡ true }
+    pub fn take(&mut self, key: u32) -> Vec<usize>
+        ensures taken { (i : ℕ)
+            → is_kept self.old key i ≡ true
+            → has_line (Some result) i ≡ true }
         ensures others { (k i : ℕ)
             → (k ≡ key → ⊥)
             → is_kept self.old k i ≡ true
             → is_kept self.new k i ≡ true }
     {
-        match self.lines.remove(&key) {
-            Some(lines) => lines,
-            None => BTreeSet::new(self.alloc),
+        let at = key as usize;
+        let none = Vec::new(self.alloc);
+        if at < self.lines.len() {
+            mem::replace(&mut self.lines[at], none)
+        } else {
+            none
         }
     }
 }
