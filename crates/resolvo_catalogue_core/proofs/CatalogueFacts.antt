@@ -20,8 +20,8 @@ use Rattle.resolvo_terms.specs.TermCounts.{term_count, terms_for_line}
 use Rattle.resolvo_catalogue_core.specs.declared.kept_rule.KeptRule.{KeptRule}
 use Rattle.resolvo_catalogue_core.specs.declared.rule.Rule.{Rule}
 use Rattle.resolvo_catalogue_core.specs.Held.{kind_at, rule_of}
-use Rattle.resolvo_catalogue_core.specs.declared.line_table.LineKind.{LineKind}
-use Rattle.resolvo_catalogue_core.specs.declared.line_table.LineKind.TheVariants as line_kinds
+use Rattle.resolvo_catalogue_core.specs.LineKind.{LineKind}
+use Rattle.resolvo_catalogue_core.specs.LineKind as line_kinds
 use Rattle.resolvo_catalogue_core.specs.declared.table.Table.{Table}
 use Rattle.resolvo_catalogue_core.proofs.TableSteps.{one_number}
 

@@ -13,8 +13,8 @@ use Rattle.resolvo_catalogue_core.specs.declared.kept_rule.KeptRule.TheVariants 
 use Rattle.resolvo_catalogue_core.specs.Kept.{nowhere, is_lock_of_another}
 use Rattle.resolvo_terms.specs.Terms.{Terms}
 use Rattle.resolvo_catalogue_core.specs.Held.{kind_at, rule_of}
-use Rattle.resolvo_catalogue_core.specs.declared.line_table.LineKind.{LineKind}
-use Rattle.resolvo_catalogue_core.specs.declared.line_table.LineKind.TheVariants as line_kinds
+use Rattle.resolvo_catalogue_core.specs.LineKind.{LineKind}
+use Rattle.resolvo_catalogue_core.specs.LineKind as line_kinds
 use Rattle.resolvo_catalogue_core.specs.declared.table.Table.{Table}
 use Rattle.resolvo_catalogue_core.proofs.TableSteps.{one_number}
 use Rattle.resolvo_catalogue_core.proofs.TableLemmas as lemmas

@@ -12,7 +12,7 @@ use Rattle.resolvo_catalogue_core.specs.Listed.{is_kept, are_kept, kept_version,
 use Rattle.resolvo_catalogue_core.specs.Packages.{package_at}
 use Rattle.resolvo_catalogue_core.specs.Questions.{AreAll, IsOfPackage}
 use Rattle.resolvo_catalogue_core.specs.Table.{IsTable, HasFew, lines_in, versions_in, kinds_in, numbers_in, package_named}
-use Rattle.resolvo_catalogue_core.specs.declared.line_table.LineKind.{LineKind}
+use Rattle.resolvo_catalogue_core.specs.LineKind.{LineKind}
 use Rattle.resolvo_catalogue_core.specs.declared.package.Package.{Package}
 use Rattle.resolvo_catalogue_core.specs.declared.table.Table.{Table}
 use Rattle.resolvo_catalogue_core.specs.declared.versions.KeptVersion.{KeptVersion}

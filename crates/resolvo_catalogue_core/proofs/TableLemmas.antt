@@ -20,8 +20,8 @@ use Rattle.resolvo_terms.proofs.GrowLemmas.{need_stays, spec_stays}
 use Rattle.resolvo_terms.proofs.KnownLemmas.{need_known, spec_known, word_known}
 use Rattle.resolvo_catalogue_core.specs.declared.rule.VersionNo.{VersionNo}
 use Rattle.resolvo_catalogue_core.specs.declared.kept_rule.KeptRule.TheVariants as kept
-use Rattle.resolvo_catalogue_core.specs.declared.line_table.LineKind.{LineKind}
-use Rattle.resolvo_catalogue_core.specs.declared.line_table.LineKind.TheVariants as line_kinds
+use Rattle.resolvo_catalogue_core.specs.LineKind.{LineKind}
+use Rattle.resolvo_catalogue_core.specs.LineKind as line_kinds
 use Rattle.resolvo_terms.proofs.Places.{get_kept, get_push}
 use Rattle.resolvo_catalogue_core.proofs.Pushed.{at_kept}
 

@@ -34,8 +34,8 @@ use Rattle.resolvo_catalogue_core.specs.LinesByVersion.{kept_of}
 use Rattle.resolvo_catalogue_core.specs.Numbered.{beside, IsNumbered, numbers_of, versions_of}
 use Rattle.resolvo_catalogue_core.specs.declared.rule.VersionNo.{VersionNo}
 use Rattle.resolvo_catalogue_core.specs.declared.kept_rule.KeptRule.TheVariants as kept
-use Rattle.resolvo_catalogue_core.specs.declared.line_table.LineKind.{LineKind}
-use Rattle.resolvo_catalogue_core.specs.declared.line_table.LineKind.TheVariants as line_kinds
+use Rattle.resolvo_catalogue_core.specs.LineKind.{LineKind}
+use Rattle.resolvo_catalogue_core.specs.LineKind as line_kinds
 use Rattle.resolvo_catalogue_core.specs.declared.table.Table.{Table}
 use Rattle.resolvo_terms.proofs.NameLemmas.{few_more}
 use Rattle.resolvo_terms.proofs.Places.{get_new, get_kept, get_push}

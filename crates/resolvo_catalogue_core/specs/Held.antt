@@ -8,8 +8,8 @@ use Rattle.resolvo_pool_core.specs.declared.requirement.Requirement.TheVariants.
 use Rattle.resolvo_pool_core.specs.declared.requirement.ConditionalRequirement.{ConditionalRequirement}
 use Rattle.resolvo_catalogue_core.specs.declared.kept_rule.KeptRule.{KeptRule}
 use Rattle.resolvo_catalogue_core.specs.declared.kept_rule.KeptRule.TheVariants as kept
-use Rattle.resolvo_catalogue_core.specs.declared.line_table.LineKind.{LineKind}
-use Rattle.resolvo_catalogue_core.specs.declared.line_table.LineKind.TheVariants as line_kinds
+use Rattle.resolvo_catalogue_core.specs.LineKind.{LineKind}
+use Rattle.resolvo_catalogue_core.specs.LineKind as line_kinds
 use Rattle.resolvo_catalogue_core.specs.declared.line_table.StoredLine.{StoredLine}
 
 -- a rule's place is one of so many, and so is that of a marked package's name

@@ -1,4 +1,5 @@
 pub mod Grammar
+pub mod LineKind
 pub mod Held
 pub mod Rules
 pub mod Sets

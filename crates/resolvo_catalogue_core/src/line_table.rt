@@ -3,24 +3,14 @@
 
 ghost use Rattle.std.specs.Prelude.{◌≡◌, ◌++◌, ◌∷◌, [], length, true, IfOk, OnOk, option_and_then, option_copied, slice_get};
 ghost use Rattle.resolvo_catalogue_core.specs.Held.{is_held, are_held, held_at, kind_in, kind_list, kind_at, rule_of};
-ghost use Rattle.resolvo_catalogue_core.specs.declared.line_table.LineKind.TheVariants as kind;
+ghost use Rattle.resolvo_catalogue_core.specs.LineKind as kind;
+ghost use Rattle.resolvo_catalogue_core.specs.declared.kept_rule.KeptRule.TheVariants as kept;
 
 use crate::kept_rule::KeptRule;
 use crate::rule::VersionNo;
 use resolvo_pool_core::id::VersionSetId;
 use resolvo_pool_core::requirement::{ConditionalRequirement, Requirement};
 use std::alloc::{AllocError, Global};
-
-/// A parsed line.
-#[derive(Debug, Drop)]
-pub enum LineKind {
-    Nothing,
-    Listed(VersionNo),
-    Favour(VersionNo),
-    /// The package of this name may have several versions side by side.
-    Many(String),
-    Rule(KeptRule),
-}
 
 /// The stored form of a line. A need of one SPEC without condition and a limit are stored whole; of
 /// another rule its place among the rules, of a marked package that of its name.
@@ -79,24 +69,7 @@ impl LineTable {
         self.held.len()
     }
 
-    /// Adds a line.
-    #[inline(always)]
-    pub fn push(&mut self, kind: LineKind) -> Result<(), AllocError>
-        ensures { OnOk result
-            (kind_list self.new.rules.items self.new.marked.items self.new.held.items
-            ≡ kind_list self.old.rules.items self.old.marked.items self.old.held.items ++ kind
-            ∷ []) }
-    {
-        match kind {
-            LineKind::Nothing => self.hold(StoredLine::Nothing),
-            LineKind::Listed(version) => self.hold(StoredLine::Listed(version)),
-            LineKind::Favour(version) => self.hold(StoredLine::Favour(version)),
-            LineKind::Many(name) => self.push_marked(name),
-            LineKind::Rule(rule) => self.push_rule(rule),
-        }
-    }
-
-    /// Adds a line by its stored form.
+    /// Adds a line that is stored whole, or whose place is known.
     #[inline(always)]
     pub fn hold(&mut self, held: StoredLine) -> Result<(), AllocError>
         requires { is_held (length self.old.rules.items) (length self.old.marked.items) held ≡ true }
@@ -110,28 +83,28 @@ impl LineTable {
         Ok(())
     }
 
-    #[inline(always)]
-    fn push_rule(&mut self, rule: KeptRule) -> Result<(), AllocError>
+    /// Adds a need.
+    pub fn push_need(
+        &mut self,
+        owner: VersionNo,
+        need: ConditionalRequirement,
+    ) -> Result<(), AllocError>
         ensures { OnOk result
             (kind_list self.new.rules.items self.new.marked.items self.new.held.items
-            ≡ kind_list self.old.rules.items self.old.marked.items self.old.held.items ++ kind.Rule rule
+            ≡ kind_list self.old.rules.items self.old.marked.items self.old.held.items ++ kind.Rule (kept.Needs owner need)
             ∷ []) }
     {
-        match rule {
-            KeptRule::Needs {
-                owner,
-                need: ConditionalRequirement {
-                    condition: None,
-                    requirement: Requirement::Single(spec),
-                },
+        match need {
+            ConditionalRequirement {
+                condition: None,
+                requirement: Requirement::Single(spec),
             } => self.hold(StoredLine::Need { owner, spec }),
-            KeptRule::Limits { owner, spec } => self.hold(StoredLine::Limit { owner, spec }),
-            _ => self.push_long(rule),
+            _ => self.push_long(KeptRule::Needs { owner, need }),
         }
     }
 
     /// Adds a rule that has a place among the rules.
-    fn push_long(&mut self, rule: KeptRule) -> Result<(), AllocError>
+    pub fn push_long(&mut self, rule: KeptRule) -> Result<(), AllocError>
         ensures { OnOk result
             (kind_list self.new.rules.items self.new.marked.items self.new.held.items
             ≡ kind_list self.old.rules.items self.old.marked.items self.old.held.items ++ kind.Rule rule
@@ -143,7 +116,8 @@ impl LineTable {
         Ok(())
     }
 
-    fn push_marked(&mut self, name: String) -> Result<(), AllocError>
+    /// Adds the mark of the package of this name.
+    pub fn push_marked(&mut self, name: String) -> Result<(), AllocError>
         ensures { OnOk result
             (kind_list self.new.rules.items self.new.marked.items self.new.held.items
             ≡ kind_list self.old.rules.items self.old.marked.items self.old.held.items ++ kind.Many name

@@ -20,7 +20,7 @@ ghost use Rattle.resolvo_catalogue_core.specs.Picked.{IsPicked};
 ghost use Rattle.resolvo_catalogue_core.specs.Table.{number_in, package_named};
 
 use crate::kept_rule::KeptRule;
-use crate::line_table::{LineKind, LineTable, StoredLine};
+use crate::line_table::{LineTable, StoredLine};
 use crate::lines_by_version::LinesByVersion;
 use crate::package::Package;
 use crate::package_table::PackageTable;
@@ -335,7 +335,7 @@ impl Table {
         ensures ok { OnOk result (Adds self.old parsed.Skipped self.new) }
         ensures memory { result ≡ Err Fault → ⊥ }
     {
-        self.line_kinds.push(LineKind::Nothing)?;
+        self.line_kinds.hold(StoredLine::Nothing)?;
         Ok(())
     }
 
@@ -404,8 +404,7 @@ impl Table {
     {
         let owner = self.owner()?;
         self.owned.add_line(owner, line)?;
-        self.line_kinds
-            .push(LineKind::Rule(KeptRule::Needs { owner, need }))?;
+        self.line_kinds.push_need(owner, need)?;
         Ok(())
     }
 
@@ -446,8 +445,7 @@ impl Table {
     {
         let owner = self.owner()?;
         self.owned.add_line(owner, line)?;
-        self.line_kinds
-            .push(LineKind::Rule(KeptRule::Limits { owner, spec }))?;
+        self.line_kinds.hold(StoredLine::Limit { owner, spec })?;
         Ok(())
     }
 
@@ -521,7 +519,7 @@ impl Table {
         self.unknown.insert(version.0, line)?;
         self.owned.add_line(version, line)?;
         self.line_kinds
-            .push(LineKind::Rule(KeptRule::Unknown { version, word }))?;
+            .push_long(KeptRule::Unknown { version, word })?;
         Ok(())
     }
 
@@ -548,7 +546,7 @@ impl Table {
         self.terms.ids_are_once();
         self.excluded.insert(version.0, line)?;
         self.line_kinds
-            .push(LineKind::Rule(KeptRule::Exclude { version, word }))?;
+            .push_long(KeptRule::Exclude { version, word })?;
         Ok(())
     }
 
@@ -568,7 +566,7 @@ impl Table {
         }
         self.favoured.insert(version.name, line)?;
         self.favours.push((line, favoured))?;
-        self.line_kinds.push(LineKind::Favour(favoured))?;
+        self.line_kinds.hold(StoredLine::Favour(favoured))?;
         Ok(())
     }
 
@@ -588,7 +586,7 @@ impl Table {
         }
         self.locks.insert(version.name, line)?;
         self.line_kinds
-            .push(LineKind::Rule(KeptRule::Lock { version: locked }))?;
+            .push_long(KeptRule::Lock { version: locked })?;
         Ok(())
     }
 
@@ -617,7 +615,7 @@ impl Table {
             return Err(LineFault::Fault);
         }
         self.many.insert(name.clone()?, line)?;
-        self.line_kinds.push(LineKind::Many(name))?;
+        self.line_kinds.push_marked(name)?;
         Ok(())
     }
 

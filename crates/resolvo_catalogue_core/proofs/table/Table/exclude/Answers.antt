@@ -27,7 +27,7 @@ returns-clause-ok c =
     let is : IsWord u w word = subst (λ (x : List ℕ). IsWord u w x) c.deref.ensures c.in-Ok.ensures.word in
     let stay = same_versions t.terms.names u.names t.versions.items c.word.ensures.grows.names c.requires.table.named in
     let at = subst (λ (vs : List Version). slice_get vs c.in_ok-version.version.0 ≡ Some (version_of c.args.version)) (sym stay) c.in_ok-version.ensures.found in
-    let now : Table = record t { terms = u; line_kinds = c.push.new.self; excluded = c.insert.new.self } in
+    let now : Table = record t { terms = u; line_kinds = c.push_long.new.self; excluded = c.insert.new.self } in
     adds_over t u (Exclude (version_of c.args.version) word) now c.requires.table c.word.ensures.grows c.ids_are_once.ensures c.word.ensures.few refl
     (λ keeps same. exclude (record t { terms = u }) now c.args.line c.in_ok-version.version (version_of c.args.version) w word keeps (word_known u w word is) is (c.requires.line ∙ ap (λ (ls : List Line). length ls + 1) (sym same))
-    at (sym c.is_excluded.ensures ∙ c.if-is_excluded.false) c.in_ok-push.ensures (updates_number c.in_ok-version.version.0 t.excluded c.insert.new.self _ c.in_ok-insert.ensures.updates.0))
+    at (sym c.is_excluded.ensures ∙ c.if-is_excluded.false) c.in_ok-push_long.ensures (updates_number c.in_ok-version.version.0 t.excluded c.insert.new.self _ c.in_ok-insert.ensures.updates.0))

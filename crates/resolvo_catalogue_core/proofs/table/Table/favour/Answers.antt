@@ -14,5 +14,5 @@ returns-clause-placed c = favour_placed c.args.self.now c.requires.table (versio
 
 pub returns-clause-ok : goal.returns-clause-ok
 returns-clause-ok c =
-    favour c.args.self.now (record c.args.self.now { line_kinds = c.push-2.new.self; favoured = c.insert.new.self; favours = c.push.new.self }) c.args.line c.in_ok-favoured.favoured (version_of c.args.version) c.deref.result.now c.requires.table c.requires.line
-    c.in_ok-favoured.ensures.found c.deref.ensures (sym c.is_favoured.ensures ∙ c.if-is_favoured.false) c.in_ok-push-2.ensures (btree_map_updates_text (string_bytes c.args.version.name) c.args.self.now.favoured c.insert.new.self _ c.in_ok-insert.ensures.updates) c.in_ok-push.ensures.items
+    favour c.args.self.now (record c.args.self.now { line_kinds = c.hold.new.self; favoured = c.insert.new.self; favours = c.push.new.self }) c.args.line c.in_ok-favoured.favoured (version_of c.args.version) c.deref.result.now c.requires.table c.requires.line
+    c.in_ok-favoured.ensures.found c.deref.ensures (sym c.is_favoured.ensures ∙ c.if-is_favoured.false) c.in_ok-hold.ensures (btree_map_updates_text (string_bytes c.args.version.name) c.args.self.now.favoured c.insert.new.self _ c.in_ok-insert.ensures.updates) c.in_ok-push.ensures.items

@@ -14,5 +14,5 @@ returns-clause-placed c = lock_placed c.args.self.now c.requires.table (version_
 
 pub returns-clause-ok : goal.returns-clause-ok
 returns-clause-ok c =
-    lock c.args.self.now (record c.args.self.now { line_kinds = c.push.new.self; locks = c.insert.new.self }) c.args.line c.in_ok-locked.locked (version_of c.args.version) c.deref.result.now c.requires.table c.requires.line
-    c.in_ok-locked.ensures.found c.deref.ensures (sym c.is_locked.ensures ∙ c.if-is_locked.false) c.in_ok-push.ensures (btree_map_updates_text (string_bytes c.args.version.name) c.args.self.now.locks c.insert.new.self _ c.in_ok-insert.ensures.updates)
+    lock c.args.self.now (record c.args.self.now { line_kinds = c.push_long.new.self; locks = c.insert.new.self }) c.args.line c.in_ok-locked.locked (version_of c.args.version) c.deref.result.now c.requires.table c.requires.line
+    c.in_ok-locked.ensures.found c.deref.ensures (sym c.is_locked.ensures ∙ c.if-is_locked.false) c.in_ok-push_long.ensures (btree_map_updates_text (string_bytes c.args.version.name) c.args.self.now.locks c.insert.new.self _ c.in_ok-insert.ensures.updates)

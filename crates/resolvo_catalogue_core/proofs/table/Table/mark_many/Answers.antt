@@ -34,6 +34,6 @@ pub returns-clause-ok : goal.returns-clause-ok
 returns-clause-ok c =
     let t = c.args.self.now in
     let marked = btree_map_updates_text (string_bytes c.in_ok-clone.field-0) t.many c.insert.new.self (Some c.args.line) c.in_ok-insert.ensures.updates in
-    mark_many t (record t { line_kinds = c.push.new.self; many = c.insert.new.self }) c.args.line c.args.name c.requires.table c.requires.line
-    (subst (λ (x : List ℕ). is_some (get_by_text t.many x) ≡ false) c.deref.ensures (sym c.is_many.ensures ∙ c.if-is_many.false)) c.in_ok-push.ensures
+    mark_many t (record t { line_kinds = c.push_marked.new.self; many = c.insert.new.self }) c.args.line c.args.name c.requires.table c.requires.line
+    (subst (λ (x : List ℕ). is_some (get_by_text t.many x) ≡ false) c.deref.ensures (sym c.is_many.ensures ∙ c.if-is_many.false)) c.in_ok-push_marked.ensures
     (subst (λ (bs : List ℕ). (other : List ℕ) → get_by_text c.insert.new.self other ≡ update bytes_eq (get_by_text t.many) bs (Some c.args.line) other) c.in_ok-clone.ensures.cases marked)

@@ -32,7 +32,7 @@ returns-clause-ok c =
     let is : IsWord u w word = subst (λ (x : List ℕ). IsWord u w x) c.deref.ensures c.in-Ok.ensures.word in
     let stay = same_versions t.terms.names u.names t.versions.items c.word.ensures.grows.names c.requires.table.named in
     let at = subst (λ (vs : List Version). slice_get vs c.in_ok-version.version.0 ≡ Some owner.0) (sym stay) owner.1 in
-    let now : Table = record t { terms = u; line_kinds = c.push.new.self; owned = c.add_line.new.self; unknown = c.insert.new.self } in
+    let now : Table = record t { terms = u; line_kinds = c.push_long.new.self; owned = c.add_line.new.self; unknown = c.insert.new.self } in
     adds_over t u (Unknown word) now c.requires.table c.word.ensures.grows c.ids_are_once.ensures c.word.ensures.few refl
     (λ keeps same. mark_unknown (record t { terms = u }) now c.args.line c.in_ok-version.version owner.0 w word keeps (word_known u w word is) is (c.requires.line ∙ ap (λ (ls : List Line). length ls + 1) (sym same))
-    at (ap owner_below same ∙ owner.2) (sym c.is_unknown.ensures ∙ c.if-is_unknown.false) c.in_ok-push.ensures c.in_ok-add_line.ensures.added c.in_ok-add_line.ensures.same (updates_number c.in_ok-version.version.0 t.unknown c.insert.new.self _ c.in_ok-insert.ensures.updates.0))
+    at (ap owner_below same ∙ owner.2) (sym c.is_unknown.ensures ∙ c.if-is_unknown.false) c.in_ok-push_long.ensures c.in_ok-add_line.ensures.added c.in_ok-add_line.ensures.same (updates_number c.in_ok-version.version.0 t.unknown c.insert.new.self _ c.in_ok-insert.ensures.updates.0))
