@@ -8,5 +8,6 @@ pub mod ListLemmas
 pub mod GrowLemmas
 pub mod KnownLemmas
 pub mod ReadLemmas
+pub mod PartLemmas
 pub mod NameLemmas
 pub mod CompareLemmas

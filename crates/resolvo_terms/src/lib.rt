@@ -8,6 +8,7 @@ mod key_index;
 mod names;
 mod numbered;
 mod read;
+mod read_condition;
 mod set_lists;
 mod slots;
 mod terms;

@@ -4,25 +4,22 @@
 ghost use Rattle.std.specs.Prelude.{◌≡◌, ◌∷◌, ◌<◌, ◌≤◌, ◌+◌, ◌*◌, [], ℕ, List, Option, length, IfOk, IfSome, OnErr, Ok, Err, Some, None};
 ghost use Rattle.resolvo_text.specs.declared.line.LineFault.TheVariants.{Memory};
 ghost use Rattle.resolvo_text.specs.Line as parsed;
-ghost use Rattle.resolvo_text.specs.View.{condition_of};
 ghost use Rattle.resolvo_text.specs.Parse.{words_in, spec_at, spec_in, alternatives_at, with_first, needs_in, version_in};
-ghost use Rattle.resolvo_terms.specs.Terms.{Grows, IsPackage, IsSpec, AreEach, AreAlternatives, IsConditionOf};
-ghost use Rattle.resolvo_terms.specs.TermCounts.{term_count, ids_for_any_condition};
+ghost use Rattle.resolvo_terms.specs.Terms.{Grows, IsPackage, IsSpec, AreEach, AreAlternatives};
+ghost use Rattle.resolvo_terms.specs.TermCounts.{term_count};
 ghost use Rattle.resolvo_terms.specs.Reads.{Reads, IsNeedRead};
 
 use crate::terms::Terms;
-use resolvo_pool_core::id::{ConditionId, NameId, VersionSetId};
+use resolvo_pool_core::id::{NameId, VersionSetId};
 use resolvo_pool_core::requirement::{ConditionalRequirement, Requirement};
 use resolvo_pool_core::want::R;
-use resolvo_text::{
-    Cond, LineFault, Span, condition_in, no_more, number_of, skip, span_at, word_at,
-};
+use resolvo_text::{LineFault, Span, no_more, number_of, skip, span_at, word_at};
 
 /// The room that is made at first for alternatives that a bar parts.
 const FEW: usize = 2;
 
 /// A number, unless memory or numbers ran out.
-fn numbered<T: Copy>(number: R<T>) -> Result<T, LineFault>
+pub(crate) fn numbered<T: Copy>(number: R<T>) -> Result<T, LineFault>
     ensures given { IfOk result (λ x. number ≡ Ok x) }
     ensures memory { OnErr result (result ≡ Err Memory) }
 {
@@ -35,7 +32,10 @@ fn numbered<T: Copy>(number: R<T>) -> Result<T, LineFault>
 impl Terms {
     /// The SPEC of the next words.
     #[tactic(auto, unfolding(resolvo_text::specs::Parse::spec_at))]
-    fn spec_at<'a>(&mut self, words: &'a [u8]) -> Result<(VersionSetId, &'a [u8]), LineFault>
+    pub(crate) fn spec_at<'a>(
+        &mut self,
+        words: &'a [u8],
+    ) -> Result<(VersionSetId, &'a [u8]), LineFault>
         ensures shorter { IfOk result (λ x. length x.1.now < length words.now) }
         ensures words { Reads
             (λ x read. IsSpec self.new x.0 read.0 × (words_in x.1.now ≡ read.1))
@@ -101,24 +101,6 @@ impl Terms {
         Ok((Requirement::Union(union), rest))
     }
 
-    /// The id of a condition that was read, if there is one.
-    #[tactic(auto, using(crate::proofs::GrowLemmas::grows_own))]
-    fn any_condition(
-        &mut self,
-        condition: Option<Box<Cond>>,
-    ) -> Result<Option<ConditionId>, LineFault>
-        ensures condition { IfOk result (λ c. IsConditionOf self.new c (condition_of condition)) }
-        ensures grows { Grows self.old self.new }
-        ensures few { term_count self.new
-            ≤ term_count self.old + ids_for_any_condition (condition_of condition) }
-        ensures memory { OnErr result (result ≡ Err Memory) }
-    {
-        match condition {
-            Some(condition) => Ok(Some(numbered(self.condition(&condition))?)),
-            None => Ok(None),
-        }
-    }
-
     /// The version set of a need, if its words are one name that is known, and any version of the
     /// package was asked for last. Most needs are such: their words are not told apart.
     pub fn plain_need_in(&self, words: &[u8]) -> Option<VersionSetId>
@@ -133,16 +115,14 @@ impl Terms {
         self.recent_set(package, Span::Any)
     }
 
-    /// The need of the words after `needs`, part by part. A condition is read as a value of its own:
-    /// few needs have one.
+    /// The need of the words after `needs`, part by part.
     #[inline(never)]
     pub fn need_in(&mut self, words: &[u8]) -> Result<ConditionalRequirement, LineFault>
         ensures need { Reads (IsNeedRead self.old self.new) result (needs_in (words_in words.now)) }
         ensures grows { Grows self.old self.new }
     {
         let (requirement, words) = self.alternatives_at(words)?;
-        let condition = condition_in(self.alloc, words)?;
-        let condition = self.any_condition(condition)?;
+        let condition = self.condition_in(words)?;
         Ok(ConditionalRequirement {
             condition,
             requirement,

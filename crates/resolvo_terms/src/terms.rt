@@ -319,7 +319,7 @@ impl Terms {
     }
 
     #[tactic(auto, using(crate::proofs::FoundLemmas::conditions_exact, crate::proofs::FoundLemmas::conditions_same, crate::proofs::KeyedLemmas::more_length))]
-    fn intern_condition(&mut self, condition: Condition) -> R<ConditionId>
+    pub(crate) fn intern_condition(&mut self, condition: Condition) -> R<ConditionId>
         requires { OperandsBelow condition (record { 0 = length self.old.conditions }) }
         ensures condition { IfOk result (λ c. slice_get self.new.conditions c.0 ≡ Some condition) }
         ensures grows { Grows self.old self.new }
@@ -354,7 +354,7 @@ impl Terms {
     }
 
     /// The id of two conditions that are joined.
-    fn join(
+    pub(crate) fn join(
         &mut self,
         operator: LogicalOperator,
         left: ConditionId,

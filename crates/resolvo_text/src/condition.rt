@@ -45,13 +45,13 @@ impl Cond {
 
 /// The two operators. `and` binds tighter.
 #[derive(Clone, Copy, Debug, PartialEq, Eq)]
-enum Joint {
+pub enum Joint {
     And,
     Or,
 }
 
 impl Joint {
-    fn word(self) -> &'static [u8]
+    pub fn word(self) -> &'static [u8]
         ensures { result.now ≡ word_of self }
     {
         match self {
@@ -76,10 +76,10 @@ impl Joint {
 }
 
 /// The most SPECs of a condition.
-const MOST_SPECS: u32 = 16;
+pub const MOST_SPECS: u32 = 16;
 
 /// The deepest nesting of parentheses.
-const DEEPEST: u32 = 16;
+pub const DEEPEST: u32 = 16;
 
 /// The condition of a line `needs`: all that follows its alternatives.
 #[tactic(auto, unfolding(crate::specs::Parse::condition_in))]

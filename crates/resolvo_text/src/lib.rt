@@ -18,7 +18,7 @@ mod words;
 mod write;
 
 pub use alternatives::Alternatives;
-pub use condition::{Cond, cases_are_exact, cases_in, condition_in, holds};
+pub use condition::{Cond, DEEPEST, Joint, MOST_SPECS, cases_are_exact, cases_in, holds};
 pub use device::{Counted, IoFault, Sink, Source};
 pub use growing_sink::GrowingSink;
 pub use line::{Line, LineFault};
