@@ -12,7 +12,6 @@ ghost use Rattle.resolve_answer.specs.Reported.{HaveLongReport, IsReportOf};
 ghost use Rattle.resolve_answer.specs.Stops.{IsStopOf};
 
 use crate::message::message_of;
-use crate::release::Release;
 use crate::stop::Stop;
 use crate::turns::{Outcome, report_turns, wanted_steps};
 use crate::wishes::{Wish, free_wishes, wishes_of};
@@ -21,6 +20,7 @@ use resolve_refusal::{install_steps, refusal_of};
 use resolvo::conflict::Conflict;
 use resolvo::problem::Problem;
 use resolvo::prove::Steps;
+use resolvo::release::Release;
 use resolvo::solver::{Solver, UnsolvableOrCancelled};
 use resolvo::turns::Turn;
 use resolvo_catalogue::provider::{CatalogueProvider, Hint, RequestIds};
@@ -217,7 +217,7 @@ fn answered_by(
         → AreAsked provider.entry.ids request.now asked
         → HaveLongReport catalogue.now request.now.lines)) }
 {
-    let mut solver = Solver::new(alloc, provider);
+    let mut solver = Solver::new(alloc, provider).with_release(release);
     let report = answered(alloc, catalogue, request, &mut solver, asked);
     release.done_with(solver);
     report

@@ -6,7 +6,8 @@ pub mod answer;
 pub mod laws;
 mod lines;
 mod message;
-pub mod release;
 pub mod stop;
 pub mod turns;
 pub mod wishes;
+
+pub use resolvo::release::Release;

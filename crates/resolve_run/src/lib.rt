@@ -8,7 +8,7 @@ mod stop;
 
 pub use laws::{installs_exactly_if_some_set_keeps_the_rules, the_judge_accepts_each_report};
 pub use program::{run, run_with, run_within};
-pub use resolve_answer::release::Release;
+pub use resolve_answer::Release;
 pub use resolve_check::check::check;
 pub use resolve_check::exit_status::{check_ending, run_ending};
 pub use resolve_check::input::{INPUT_LIMIT, read_input, split_input};

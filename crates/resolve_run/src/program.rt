@@ -15,8 +15,8 @@ ghost use Rattle.resolve_run.specs.Within.{within, IsLackWithin, StopsBeforeWith
 
 use crate::report::report_text;
 use crate::stop::RunStop;
+use resolve_answer::Release;
 use resolve_answer::answer::report_for;
-use resolve_answer::release::Release;
 use resolve_answer::stop::MOST_BYTES;
 use resolve_check::length::report_length;
 use resolve_check::outcome::{Outcome, RunFault};

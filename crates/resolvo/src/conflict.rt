@@ -9,7 +9,7 @@ ghost use Rattle.resolvo.specs.Solver.{HoldsConflict, IsGraphOf, IsTrueOf, IsCon
 ghost use Rattle.resolvo.specs.Solve.{AreChosenOnce, AskNothing, EndsSo, CountsBy};
 ghost use Rattle.resolvo.specs.Results.{SolvesProblem, OffersAll, LeavesConflict};
 
-use crate::prove::{Solved, Steps, solve_with};
+use crate::prove::{SearchOptions, Solved, solve_with};
 use crate::search::SearchResult;
 use crate::solver::Solver;
 use resolvo_graph::display_unsat::DisplayUnsat;
@@ -25,7 +25,6 @@ use resolvo_proof::graph::conflict_graph;
 use resolvo_proof::offers::Offers;
 use resolvo_proof::rules::{conflict_rules, requirements_of};
 use resolvo_proof::step::ProofStep;
-use resolvo_turn::cdcl::Activity;
 use resolvo_turn::defer_conditions::solvables_of;
 use std::alloc::Global;
 use std::fmt::Debug;
@@ -208,11 +207,10 @@ fn conflict_left<A: PackageSource>(
 pub(crate) fn solve_to_conflict<A: PackageSource, C: ScoreMap<A::NameId> + Drop>(
     alloc: Global,
     answers: &mut A,
-    activity: Activity,
+    options: SearchOptions,
     requirements: &[ConditionalRequirement],
     constraints: &[VersionSetId],
     softs: &[A::SolvableId],
-    steps: Steps,
 ) -> Result<
     (
         Solved<A::NameId, A::SolvableId>,
@@ -232,22 +230,14 @@ pub(crate) fn solve_to_conflict<A: PackageSource, C: ScoreMap<A::NameId> + Drop>
         (λ s. AskNothing requirements.now constraints.now softs.now → s.0.clause_count ≡ 1) }
     ensures ends { IfOk result (λ s. EndsSo s.0.found s.0.proof.items) }
     ensures count { IfOk result
-        (λ s. CountsBy steps s.0.found s.0.clause_count (length s.0.proof.items)) }
+        (λ s. CountsBy options.steps s.0.found s.0.clause_count (length s.0.proof.items)) }
     ensures left { IfOk result
         (λ s. LeavesConflict A.SolvableId.eq A.PackageSource answers.old
         s.0.found s.0.proof.items s.1.items s.2) }
     // After a refusal.
     ensures cancelled { IfErr result (IsCancelledBy (A.may_cancel answers.old)) }
 {
-    let solved = solve_with::<A, C>(
-        alloc,
-        answers,
-        activity,
-        requirements,
-        constraints,
-        softs,
-        steps,
-    )?;
+    let solved = solve_with::<A, C>(alloc, answers, options, requirements, constraints, softs)?;
     let (clauses, conflict) = conflict_left(alloc, answers, &solved)?;
     Ok((solved, clauses, conflict))
 }

@@ -6,6 +6,7 @@
 pub mod conflict;
 pub mod problem;
 pub mod prove;
+pub mod release;
 pub mod search;
 mod soft_requirements;
 pub mod solver;
@@ -14,6 +15,7 @@ pub mod turns;
 pub use conflict::Conflict;
 pub use problem::{EmptySolvables, Problem};
 pub use prove::Steps;
+pub use release::Release;
 pub use resolvo_graph::{
     ConflictCause, ConflictEdge, ConflictGraph, ConflictNode, DisplayUnsat, EdgeIndex,
     MergedConflictNode, NodeIndex,

@@ -2,12 +2,13 @@
 //! may call it itself.
 ghost use Rattle.std.specs.Prelude.{◌≡◌, Bool, true, length, IfOk, IfErr};
 ghost use Rattle.resolvo_pool.specs.Cached.{IsCancelledBy};
-ghost use Rattle.resolvo_pool_core.specs.RuleKeeping.{Packages};
+ghost use Rattle.resolvo_pool_core.specs.RuleKeeping.{Packages, Rules, IsLawful};
 ghost use Rattle.resolvo_state.specs.declared.registry.Registry.{Registry};
 ghost use Rattle.resolvo_state.specs.SolverState.{IsCoding};
 ghost use Rattle.resolvo_state.specs.Registered.{AreTied};
 ghost use Rattle.resolvo_state.specs.Spelled.{Spelled};
 ghost use Rattle.resolvo_encoder.specs.Conditions.{waiting_count};
+ghost use Rattle.resolvo_encoder.specs.Encoded.{IsEncoding};
 ghost use Rattle.resolvo_encoder.specs.Steps.{IsBegunEncoding};
 ghost use Rattle.resolvo_proof.specs.Drawn.{AreDrawn, HaveOneSigns};
 ghost use Rattle.resolvo_proof.specs.Places.{HaveOnePlace, AreNamedBy};
@@ -15,6 +16,7 @@ ghost use Rattle.resolvo_proof.specs.Proof.{Proves};
 ghost use Rattle.resolvo.specs.Solve.{AreChosenOnce, AreStepsOf, AskNothing, IsDenial, IsProvable, EndsSo, Counts, CountsBy, HasSteps, NeedsNone};
 ghost use Rattle.resolvo.specs.Results.{SolvesProblem};
 
+use crate::release::Release;
 use crate::search::{SearchResult, search};
 use crate::turns::are_accepted;
 use resolvo_encoder::encoder::Encoder;
@@ -49,6 +51,16 @@ pub enum Steps {
     All,
     /// All, where the problem or a soft requirement was refused; otherwise none.
     Reasons,
+}
+
+/// How a search is made, whatever it answers.
+#[derive(Clone, Copy, Debug)]
+pub struct SearchOptions {
+    pub activity: Activity,
+    /// The steps of its proof that are wanted.
+    pub steps: Steps,
+    /// When its clauses are released.
+    pub release: Release,
 }
 
 /// The steps of the clauses, and of a conflict.
@@ -144,6 +156,49 @@ fn prove<N: Copy + Exact + Hash + Debug + Drop, S: Copy + Exact + Hash + Debug>(
     })
 }
 
+/// Searches over a new encoding, and writes the steps of the proof that are wanted.
+fn search_and_prove<A: PackageSource, C: ScoreMap<A::NameId> + Drop>(
+    alloc: Global,
+    answers: &mut A,
+    encoding: &mut Encoder<A::NameId, A::SolvableId>,
+    options: SearchOptions,
+    requirements: &[ConditionalRequirement],
+    constraints: &[VersionSetId],
+    softs: &[A::SolvableId],
+) -> Result<Solved<A::NameId, A::SolvableId>, CacheFault<A::Cancel>>
+    requires begun { IsBegunEncoding encoding.old }
+    requires encoding { (p : Packages A.NameId A.SolvableId) (root : Rules)
+        → IsLawful p
+        → IsEncoding A.SolvableId.eq p root encoding.old }
+    // Whatever the answer.
+    ensures same { answers.new ≡ answers.old }
+    // After an answer.
+    ensures solved { IfOk result
+        (SolvesProblem A.SolvableId.eq A.PackageSource answers.old
+        requirements.now constraints.now softs.now) }
+    ensures once { IfOk result (λ s. AreChosenOnce s.found) }
+    ensures alone { IfOk result
+        (λ s. AskNothing requirements.now constraints.now softs.now → s.clause_count ≡ 1) }
+    ensures ends { IfOk result (λ s. EndsSo s.found s.proof.items) }
+    ensures count { IfOk result
+        (λ s. CountsBy options.steps s.found s.clause_count (length s.proof.items)) }
+    // After a refusal.
+    ensures cancelled { IfErr result (IsCancelledBy (A.may_cancel answers.old)) }
+{
+    let found = search::<A, C>(
+        alloc,
+        answers,
+        encoding,
+        options.activity,
+        requirements,
+        constraints,
+        softs,
+    )?;
+    // `?` converts the error
+    let solved = prove(alloc, encoding, found, options.steps)?;
+    Ok(solved)
+}
+
 /// Searches for solvables that keep the rules of a root with these requirements and constraints,
 /// and of each other. Then searches for the soft requirements, in their order, and writes the
 /// steps of the proof that are wanted. It stops with `Memory`, `Ids`, or the value of a
@@ -151,11 +206,10 @@ fn prove<N: Copy + Exact + Hash + Debug + Drop, S: Copy + Exact + Hash + Debug>(
 pub fn solve_with<A: PackageSource, C: ScoreMap<A::NameId> + Drop>(
     alloc: Global,
     answers: &mut A,
-    activity: Activity,
+    options: SearchOptions,
     requirements: &[ConditionalRequirement],
     constraints: &[VersionSetId],
     softs: &[A::SolvableId],
-    steps: Steps,
 ) -> Result<Solved<A::NameId, A::SolvableId>, CacheFault<A::Cancel>>
     // Whatever the answer.
     ensures same { answers.new ≡ answers.old }
@@ -168,27 +222,22 @@ pub fn solve_with<A: PackageSource, C: ScoreMap<A::NameId> + Drop>(
         (λ s. AskNothing requirements.now constraints.now softs.now → s.clause_count ≡ 1) }
     ensures ends { IfOk result (λ s. EndsSo s.found s.proof.items) }
     ensures count { IfOk result
-        (λ s. CountsBy steps s.found s.clause_count (length s.proof.items)) }
+        (λ s. CountsBy options.steps s.found s.clause_count (length s.proof.items)) }
     // After a refusal.
     ensures cancelled { IfErr result (IsCancelledBy (A.may_cancel answers.old)) }
 {
     let mut encoding = Encoder::begin(alloc)?;
-    match search::<A, C>(
+    let solved = search_and_prove::<A, C>(
         alloc,
         answers,
         &mut encoding,
-        activity,
+        options,
         requirements,
         constraints,
         softs,
-    ) {
-        Ok(found) => {
-            // `?` converts the error
-            let solved = prove(alloc, &encoding, found, steps)?;
-            Ok(solved)
-        }
-        Err(fault) => Err(fault),
-    }
+    );
+    options.release.done_with(encoding);
+    solved
 }
 
 /// The same, with all steps of the proof.
@@ -217,10 +266,13 @@ pub fn solve<A: PackageSource, C: ScoreMap<A::NameId> + Drop>(
     solve_with::<A, C>(
         alloc,
         answers,
-        activity,
+        SearchOptions {
+            activity,
+            steps: Steps::All,
+            release: Release::Now,
+        },
         requirements,
         constraints,
         softs,
-        Steps::All,
     )
 }

@@ -12,7 +12,8 @@ ghost use Rattle.resolvo.specs.Solver.{HoldsConflict, Kept, AnswersCandidates, I
 
 use crate::conflict::{Conflict, KeptConflict, solve_to_conflict};
 use crate::problem::Problem;
-use crate::prove::{Solved, Steps};
+use crate::prove::{SearchOptions, Solved, Steps};
+use crate::release::Release;
 use crate::search::SearchResult;
 use crate::turns::Turn;
 use resolvo_packages::cached_packages::CachedPackages;
@@ -63,6 +64,7 @@ pub struct Solver<D: DependencyProvider> {
     alloc: Global,
     answers: CachedPackages<D>,
     activity: Activity,
+    release: Release,
     clause_count: usize,
     deferred_count: usize,
     turns: Vec<Turn<D::SolvableId>>,
@@ -144,6 +146,7 @@ impl<D: DependencyProvider> Solver<D> {
             alloc,
             answers: CachedPackages::new(alloc, provider),
             activity: Activity::standard(),
+            release: Release::Now,
             clause_count: 0,
             deferred_count: 0,
             turns: Vec::new(alloc),
@@ -232,6 +235,7 @@ impl<D: DependencyProvider> Solver<D> {
             alloc,
             answers,
             activity: _,
+            release,
             clause_count,
             deferred_count,
             turns,
@@ -242,12 +246,23 @@ impl<D: DependencyProvider> Solver<D> {
             alloc,
             answers,
             activity: Activity::new(add, decay),
+            release,
             clause_count,
             deferred_count,
             turns,
             proof,
             conflict,
         }
+    }
+
+    /// The solver that releases the clauses of a search when this says. It does so before a search
+    /// returns, if nothing is said.
+    pub fn with_release(self, release: Release) -> Solver<D>
+        ensures { result ≡ self }
+    {
+        let mut solver = self;
+        solver.release = release;
+        solver
     }
 
     /// Searches for solvables that keep the rules of the problem, then for its soft requirements,
@@ -320,14 +335,18 @@ impl<D: DependencyProvider> Solver<D> {
             Ok(softs) => softs,
             Err(_) => return Err(UnsolvableOrCancelled::Memory),
         };
+        let options = SearchOptions {
+            activity: self.activity,
+            steps,
+            release: self.release,
+        };
         match solve_to_conflict::<CachedPackages<D>, <D::NameId as SolverId>::Scores>(
             self.alloc,
             &mut self.answers,
-            self.activity,
+            options,
             requirements.as_slice(),
             constraints.as_slice(),
             softs.as_slice(),
-            steps,
         ) {
             Ok((solved, clauses, conflict)) => self.keep(solved, clauses, conflict),
             Err(fault) => Err(UnsolvableOrCancelled::from(fault)),

@@ -1,4 +1,4 @@
-//! When a call releases what it made. The program is about to end, and releases nothing.
+//! When a call releases what it made. A program that is about to end may release nothing.
 
 use std::mem::{drop, forget};
 
