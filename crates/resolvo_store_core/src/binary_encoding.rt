@@ -20,21 +20,17 @@ use std::marker::Model;
 pub struct AtMostOnceTracker<V: Eq + Hash> {
     variables: SmallSet<V>,
     helpers: Vec<V>,
-    /// How many places the helpers can distinguish.
-    room: u128,
 }
 
 impl<V: Eq + Hash> Model for AtMostOnceTracker<V> {
-    ghost use Rattle.std.specs.Prelude.{◌≡◌, ◌^◌, length};
+    ghost use Rattle.std.specs.Prelude.{length};
     ghost use Rattle.resolvo_store_core.specs.AtMostOne.{Tracking, IsLeastCount};
 
     ghost Value = { Tracking V };
 
     ghost view = { λ t. record { variables = t.variables; helpers = t.helpers.items } };
 
-    ghost invariant = { λ t.
-        (t.room ≡ 2 ^ length t.helpers.items)
-        × IsLeastCount (length t.helpers.items) (length t.variables) };
+    ghost invariant = { λ t. IsLeastCount (length t.helpers.items) (length t.variables) };
 }
 
 impl<V: Copy + Eq + Hash + Drop> AtMostOnceTracker<V> {
@@ -45,7 +41,6 @@ impl<V: Copy + Eq + Hash + Drop> AtMostOnceTracker<V> {
         AtMostOnceTracker {
             variables: SmallSet::new(alloc),
             helpers: Vec::new(alloc),
-            room: 1,
         }
     }
 
@@ -69,8 +64,16 @@ impl<V: Copy + Eq + Hash + Drop> AtMostOnceTracker<V> {
     pub fn needs_helper(&self, variable: V) -> bool
         ensures { result ≡ needs_helper V.eq self.now variable }
     {
-        let full = self.variables.len() as u128 == self.room;
-        !self.variables.contains(variable) && full
+        !self.variables.contains(variable) && self.is_full()
+    }
+
+    /// Whether all places that the helpers distinguish are used.
+    fn is_full(&self) -> bool
+        ensures { result ≡ (length self.now.variables == 2 ^ length self.now.helpers) }
+    {
+        // There are fewer than 2^64 variables, so 64 helpers at most.
+        let count = self.variables.len() as u128;
+        count >> self.helpers.len() == 1
     }
 
     /// Tracks a variable, with a new helper where it needs one. The clauses that tie it, and the
@@ -113,7 +116,6 @@ impl<V: Copy + Eq + Hash + Drop> AtMostOnceTracker<V> {
             None => Ok(true),
             Some(helper) => {
                 self.helpers.push(helper).unwrap();
-                self.room *= 2;
                 Ok(true)
             }
         }
@@ -129,7 +131,7 @@ impl<V: Copy + Eq + Hash + Drop> AtMostOnceTracker<V> {
         ensures exact { (value : V → Bool)
             → ((w : ℕ → Bool) × IsMet value w self.now) ↔ IsAtMostOne value self.now.variables }
     {
-        let _room = self.room;
+        let _count = self.helpers.len();
     }
 
     /// The law of `add`: the clauses of the tracker after it are those before it and the new ones,
@@ -140,7 +142,7 @@ impl<V: Copy + Eq + Hash + Drop> AtMostOnceTracker<V> {
             → count_by p (all_ties (tracked V.eq self.now variable helper))
             ≡ count_by p (all_ties self.now) + count_by p (new_ties V.eq self.now variable helper) }
     {
-        let _room = self.room;
+        let _count = self.helpers.len();
     }
 }
 

@@ -4,7 +4,7 @@ ghost use Rattle.std.specs.Prelude.{◌≡◌, ◌++◌, ◌∷◌, [], length, 
 ghost use Rattle.std.specs.HashSet.{contains};
 ghost use Rattle.std.specs.List.{list_any};
 ghost use Rattle.resolvo_pool_core.specs.declared.want.Want.TheVariants.{Memory};
-ghost use Rattle.resolvo_store_core.specs.SmallSets.{Finds, FindsMany};
+ghost use Rattle.resolvo_store_core.specs.SmallSets.{Finds, IsTable};
 
 use resolvo_pool_core::want::R;
 use std::alloc::Global;
@@ -19,20 +19,20 @@ const FEW: usize = 8;
 #[derive(Drop)]
 pub(crate) struct SmallSet<V: Eq + Hash> {
     values: Vec<V>,
-    /// The same values, once they are more than a few.
-    table: HashSet<V>,
+    /// The same values, once they are more than a few. Most sets stay small, so it isn't kept in
+    /// place.
+    table: Option<Box<HashSet<V>>>,
 }
 
 impl<V: Eq + Hash> Model for SmallSet<V> {
     ghost use Rattle.std.specs.Prelude.{List};
-    ghost use Rattle.std.specs.HashSet.{contains};
-    ghost use Rattle.resolvo_store_core.specs.SmallSets.{FindsMany};
+    ghost use Rattle.resolvo_store_core.specs.SmallSets.{IsTable};
 
     ghost Value = { List V };
 
     ghost view = { λ s. s.values.items };
 
-    ghost invariant = { λ s. FindsMany V.eq (contains V.eq s.table) s.values.items };
+    ghost invariant = { λ s. IsTable V.eq s.table s.values.items };
 }
 
 impl<V: Copy + Eq + Hash + Drop> SmallSet<V> {
@@ -42,7 +42,7 @@ impl<V: Copy + Eq + Hash + Drop> SmallSet<V> {
     {
         SmallSet {
             values: Vec::new(alloc),
-            table: HashSet::new(alloc),
+            table: None,
         }
     }
 
@@ -64,10 +64,10 @@ impl<V: Copy + Eq + Hash + Drop> SmallSet<V> {
     pub(crate) fn contains(&self, value: V) -> bool
         ensures { result ≡ list_any (V.eq value) self.now }
     {
-        if self.values.len() <= FEW {
-            return self.values.iter().any(|one| value == *one);
+        match &self.table {
+            None => self.values.iter().any(|one| value == *one),
+            Some(table) => table.contains(&value),
         }
-        self.table.contains(&value)
     }
 
     /// Appends a value that isn't in it.
@@ -84,28 +84,30 @@ impl<V: Copy + Eq + Hash + Drop> SmallSet<V> {
     }
 }
 
-/// Adds a value to the hashed set of these, if they are more than a few with it.
+/// Adds a value to the hashed set of these. Makes it, if they are more than a few with the value.
 fn add_to<V: Copy + Eq + Hash + Drop>(
     alloc: Global,
-    table: &mut HashSet<V>,
+    table: &mut Option<Box<HashSet<V>>>,
     values: &[V],
     value: V,
 ) -> R<()>
-    requires { FindsMany V.eq (contains V.eq table.old) values.now }
-    ensures found { OnOk result (FindsMany V.eq (contains V.eq table.new) (values.now ++ value ∷ [])) }
-    ensures err { OnErr result (FindsMany V.eq (contains V.eq table.new) values.now) }
+    requires { IsTable V.eq table.old values.now }
+    ensures found { OnOk result (IsTable V.eq table.new (values.now ++ value ∷ [])) }
+    ensures err { OnErr result (IsTable V.eq table.new values.now) }
     ensures refusal { IsOkUnless result Memory }
 {
-    if values.len() < FEW {
-        return Ok(());
+    match table {
+        Some(table) => {
+            table.insert(value)?;
+        }
+        None => {
+            if values.len() >= FEW {
+                let mut made = table_of(alloc, values)?;
+                made.insert(value)?;
+                *table = Some(Box::new(alloc, made)?);
+            }
+        }
     }
-    if values.len() == FEW {
-        let mut made = table_of(alloc, values)?;
-        made.insert(value)?;
-        *table = made;
-        return Ok(());
-    }
-    table.insert(value)?;
     Ok(())
 }
 

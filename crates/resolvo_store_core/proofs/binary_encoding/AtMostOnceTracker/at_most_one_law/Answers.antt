@@ -8,4 +8,4 @@ returns-clause-count g c = ties_from-length 0 c.args.self.now.variables c.args.s
 
 pub returns-clause-exact : goal.returns-clause-exact
 returns-clause-exact g c = λ value.
-    (met_is_at_most_one c.args.self.now value (subst (λ (t : Tracking g.row.V.Denot). length t.variables ≤ 2 ^ length t.helpers) c.self.view_is c.self.invariant.1.0), at_most_one_is_met c.args.self.now value)
+    (met_is_at_most_one c.args.self.now value (subst (λ (t : Tracking g.row.V.Denot). length t.variables ≤ 2 ^ length t.helpers) c.self.view_is c.self.invariant.0), at_most_one_is_met c.args.self.now value)
