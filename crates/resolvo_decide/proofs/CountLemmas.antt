@@ -1,5 +1,5 @@
 -- A clause begins without a count, and may be given one.
-use Rattle.std.proofs.Common.{◌≡◌, ℕ, zero, suc, ◌+◌, ◌<◌, ◌≤◌, ◌⊎◌, inl, inr, cond, Bool, true, false, List, [], ◌∷◌, ◌++◌, length, take, get_or, Option, Some, None, Vec, Global, refl, sym, ◌∙◌, ap, subst, arith, eq-eqb, eqb-true}
+use Rattle.std.proofs.Common.{◌≡◌, ℕ, zero, suc, ◌+◌, ◌<◌, ◌≤◌, ◌⊎◌, inl, inr, cond, Bool, true, false, List, [], ◌∷◌, ◌++◌, length, get_or, Option, Some, None, Vec, Global, refl, sym, ◌∙◌, ap, subst, arith, eq-eqb, eqb-true}
 use Rattle.std.specs.Prelude.{◌==◌, slice_get, slice_set, Contains}
 use Rattle.std.specs.Option.{option_map}
 use Rattle.std.proofs.Math.Bool.{beq}
@@ -15,7 +15,7 @@ use Rattle.resolvo_store_core.specs.declared.decision.Entry.{Entry}
 use Rattle.resolvo_store_core.specs.declared.pick.NeedClause.{NeedClause}
 use Rattle.resolvo_store_core.specs.declared.lists.Candidate.{Candidate}
 use Rattle.resolvo_decide.specs.declared.candidate_counts.CountState.{CountState}
-use Rattle.resolvo_decide.specs.declared.candidate_counts.CountState.TheVariants.{Never, Kept}
+use Rattle.resolvo_decide.specs.declared.candidate_counts.CountState.TheVariants.{Kept}
 use Rattle.resolvo_decide.specs.declared.candidate_counts.CandidateCounts.{CandidateCounts}
 use Rattle.resolvo_decide.specs.declared.candidate_counts.Occurrence.{Occurrence}
 use Rattle.resolvo_decide.specs.declared.candidate_count.CandidateCount.{CandidateCount}
@@ -25,24 +25,6 @@ use Rattle.resolvo_decide.proofs.Positions.{places_read, places_set, places_set_
 use Rattle.resolvo_decide.proofs.OfferLemmas.{counts_agree}
 
 -- ---- the numbers of counts
-
-pub number_end : (cs : List CountState) (i : ℕ) → number_at (cs ++ Never ∷ []) i ≡ number_at cs i
-number_end [] zero = refl
-number_end [] (suc i) = refl
-number_end (c ∷ cs) zero = refl
-number_end (c ∷ cs) (suc i) = number_end cs i
-
-pub number_take : (n : ℕ) (cs : List CountState) (i : ℕ) → i < n → number_at (take n cs) i ≡ number_at cs i
-number_take zero cs i h = absurd (omega (arith, h))
-number_take (suc n) [] i h = refl
-number_take (suc n) (c ∷ cs) zero h = refl
-number_take (suc n) (c ∷ cs) (suc i) h = number_take n cs i (omega (arith, h))
-
-pub number_past : (n : ℕ) (cs : List CountState) (i : ℕ) → n ≤ i → number_at (take n cs) i ≡ None
-number_past zero cs i h = refl
-number_past (suc n) [] i h = refl
-number_past (suc n) (c ∷ cs) zero h = absurd (omega (arith, h))
-number_past (suc n) (c ∷ cs) (suc i) h = number_past n cs i (omega (arith, h))
 
 number_set : (cs : List CountState) (i : ℕ) (c : CountState) → i < length cs → number_at (slice_set cs i c) i ≡ kept_count c
 number_set [] i c h = absurd (omega (arith, h))

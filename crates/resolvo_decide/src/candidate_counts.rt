@@ -47,7 +47,7 @@ pub struct Occurrence {
 /// The counts of clauses, under a trail.
 #[derive(Drop)]
 pub struct CandidateCounts {
-    /// How each clause is counted, by its position in the queue.
+    /// How each clause is counted, by its position in the queue. Clauses past the end never were.
     count_states: Vec<CountState>,
     counts: Vec<CandidateCount>,
     /// The candidates of the clauses with a count, by the indexes of their literals.
@@ -67,15 +67,10 @@ impl CandidateCounts {
     }
 
     /// Adds the clause at this position, without a count.
-    pub fn begin(&mut self, position: usize) -> R<()>
-        ensures begun { Begins position self.old self.new }
-        ensures refusal { IsOkUnless result Memory }
+    pub fn begin(&mut self, position: usize)
+        ensures { Begins position self.old self.new }
     {
         self.count_states.truncate(position);
-        while self.count_states.len() <= position {
-            self.count_states.push(CountState::Never)?;
-        }
-        Ok(())
     }
 
     /// The count of the clause at this position, if it has one.
@@ -155,8 +150,11 @@ impl CandidateCounts {
             self.old self.new }
         ensures refusal { IsOkUnless result Memory }
     {
-        if candidates.len() < MANY || position >= self.count_states.len() {
+        if candidates.len() < MANY {
             return Ok(());
+        }
+        if position >= self.count_states.len() {
+            return note_once(&mut self.count_states, position);
         }
         match self.count_states[position] {
             CountState::Never => {
@@ -204,6 +202,21 @@ impl CandidateCounts {
         self.count_states.clear();
         self.occurrences.clear();
     }
+}
+
+/// Notes that the clause at this position, past the end of the list, was counted once. Those
+/// between never were.
+fn note_once(count_states: &mut Vec<CountState>, position: usize) -> R<()>
+    requires { length count_states.old.items ≤ position }
+    ensures same { (i : ℕ)
+        → number_at count_states.new.items i ≡ number_at count_states.old.items i }
+    ensures refusal { IsOkUnless result Memory }
+{
+    while count_states.len() < position {
+        count_states.push(CountState::Never)?;
+    }
+    count_states.push(CountState::Once)?;
+    Ok(())
 }
 
 /// The index of the literal that an entry makes true.

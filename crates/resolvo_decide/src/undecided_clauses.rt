@@ -70,7 +70,7 @@ impl UndecidedClauses {
         ensures refusal { IsOkUnless result Memory }
     {
         self.list_next(parent)?;
-        self.counts.begin(self.states.len())?;
+        self.counts.begin(self.states.len());
         self.states.push()?;
         Ok(())
     }

@@ -6,6 +6,10 @@ use Rattle.resolvo_decide.specs.CandidateCounts.{kept_count}
 use Rattle.resolvo_decide.proofs.CountLemmas.{number_same, counted_same}
 use Rattle.resolvo_decide.proofs.candidate_counts.CandidateCounts.note_count.Goals as goal
 
+pub returns-then-position-len-clause-kept : goal.returns-then-position-len-clause-kept
+returns-then-position-len-clause-kept g c =
+    λ trail once. counted_same (value_at c.args.values.now) c.args.position (candidate_literals c.args.candidates.now) c.args.self.now _ refl refl c.note_once.ensures.same trail
+
 pub returns-in-Never-clause-kept : goal.returns-in-Never-clause-kept
 returns-in-Never-clause-kept g c =
     let old = c.args.self.now in

@@ -1,5 +1,4 @@
-use Rattle.std.proofs.Common.{◌≡◌, ℕ, ◌+◌, ◌<◌, ◌∷◌, ◌++◌, [], length, sym, ◌∙◌, ap, subst, arith}
-use Rattle.std.specs.Prelude.{slice_index_or}
+use Rattle.std.proofs.Common.{◌≡◌, ℕ, ◌+◌, length, sym, subst, arith}
 use Rattle.resolvo_decide.specs.Links.{IsLinked}
 use Rattle.resolvo_decide.proofs.LinkLemmas.{added_here, added_kept}
 use Rattle.resolvo_decide.proofs.clauses_by_parent.ClausesByParent.add.Goals as goal

@@ -16,7 +16,7 @@ returns-clause-added c =
       seen = ap (λ (n : UndecidedClauses). n.seen) rest;
       placed = c.in_ok-list_next.ensures.placed;
       kept = c.list_next.ensures.kept;
-      counts = subst (λ k. Begins k old.counts c.begin.new.self) many (subst (λ (cs : CandidateCounts). Begins c.len.result cs c.begin.new.self) (ap (λ (n : UndecidedClauses). n.counts) rest) c.begin.ensures.begun);
+      counts = subst (λ k. Begins k old.counts c.begin.new.self) many (subst (λ (cs : CandidateCounts). Begins c.len.result cs c.begin.new.self) (ap (λ (n : UndecidedClauses). n.counts) rest) c.begin.ensures);
     }
 
 -- a fact holds where there is an error, too
@@ -30,18 +30,10 @@ returns-in_err-list_next-clause-kept c =
     on_err _ (fits_widened c.args.self.now c.list_next.new.self (ap (λ (n : UndecidedClauses). n.states) rest) (ap (λ (n : UndecidedClauses). n.seen.items) rest) c.list_next.ensures.kept
     (λ i k number. ap (λ (n : UndecidedClauses). number_at n.counts.count_states.items i) (sym rest) ∙ number) (ap (λ (n : UndecidedClauses). n.counts.counts) rest) (ap (λ (n : UndecidedClauses). n.counts.occurrences) rest))
 
-pub returns-in_err-begin-clause-kept : goal.returns-in_err-begin-clause-kept
-returns-in_err-begin-clause-kept c =
-    let old = c.args.self.now in
-    let rest = c.list_next.ensures.rest in
-    let begun : Begins c.len.result old.counts c.begin.new.self = subst (λ (cs : CandidateCounts). Begins c.len.result cs c.begin.new.self) (ap (λ (n : UndecidedClauses). n.counts) rest) c.begin.ensures.begun in
-    on_err _ (fits_widened old _ (ap (λ (n : UndecidedClauses). n.states) rest) (ap (λ (n : UndecidedClauses). n.seen.items) rest) c.list_next.ensures.kept
-    (begun_numbers c.len.result old.counts c.begin.new.self begun) begun.counts begun.occurrences)
-
 pub returns-in_err-push-clause-kept : goal.returns-in_err-push-clause-kept
 returns-in_err-push-clause-kept c =
     let old = c.args.self.now in
     let rest = c.list_next.ensures.rest in
-    let begun : Begins c.len.result old.counts c.begin.new.self = subst (λ (cs : CandidateCounts). Begins c.len.result cs c.begin.new.self) (ap (λ (n : UndecidedClauses). n.counts) rest) c.begin.ensures.begun in
+    let begun : Begins c.len.result old.counts c.begin.new.self = subst (λ (cs : CandidateCounts). Begins c.len.result cs c.begin.new.self) (ap (λ (n : UndecidedClauses). n.counts) rest) c.begin.ensures in
     on_err _ (fits_widened old _ (c.in_err-push.ensures.err ∙ ap (λ (n : UndecidedClauses). n.states) rest) (ap (λ (n : UndecidedClauses). n.seen.items) rest) c.list_next.ensures.kept
     (begun_numbers c.len.result old.counts c.begin.new.self begun) begun.counts begun.occurrences)
