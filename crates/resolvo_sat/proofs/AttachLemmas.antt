@@ -1,5 +1,5 @@
 -- A clause that waited begins to watch.
-use Rattle.std.proofs.Common.{◌≡◌, ℕ, suc, ◌+◌, ◌-◌, ◌<◌, ◌≤◌, ◌⊎◌, inl, inr, true, false, List, [], ◌∷◌, ◌++◌, take, length, reverse, set, Option, Some, None, refl, sym, ◌∙◌, ap, subst, arith, eqb}
+use Rattle.std.proofs.Common.{◌≡◌, ℕ, zero, suc, get_or, ◌+◌, ◌-◌, ◌<◌, ◌≤◌, ◌⊎◌, inl, inr, true, false, List, [], ◌∷◌, ◌++◌, take, length, reverse, set, Option, Some, None, refl, sym, ◌∙◌, ap, subst, arith, eqb}
 use Rattle.std.specs.Prelude.{slice_get}
 use Rattle.std.proofs.lemmas.Bool.{or_cases, both_ways, cases_Bool}
 use Rattle.std.proofs.lemmas.Bool.Decides.{eqb_tells}
@@ -19,7 +19,8 @@ use Rattle.resolvo_sat.specs.Known.{clause_at}
 use Rattle.resolvo_sat.specs.Entries.{made_true, before}
 use Rattle.resolvo_sat.specs.State.{IsState, history, clauses_of}
 use Rattle.resolvo_sat.specs.Propagation.{IsReady, IsFit, IsOwnPair, GuardsTo, RecordsGuard, IsPending, SameWatching, Extends}
-use Rattle.resolvo_sat.specs.Attach.{AreOwn, AreFalseBut, IsBestBeside, IsBestSoFar, IsBestPair, IsFirstSet, IsLast, Starts, IsStart, Attaches, IsAttachment, IsPendingEnd}
+use Rattle.resolvo_sat.specs.Attach.{AreOwn, AreFalseBut, IsEither, IsBestBeside, IsBestSoFar, IsBestPair, IsFirstSet, IsLast, Starts, IsStart, Attaches, IsAttachment, IsPendingEnd}
+use Rattle.resolvo_sat.proofs.Literals.{has_here, has_later, has_more}
 use Rattle.resolvo_sat.proofs.Trails.{known_from_level}
 use Rattle.resolvo_sat.proofs.ExtendLemmas.{extends_nothing, extends_more, level_by_now}
 use Rattle.resolvo_sat.proofs.Guards.{guards_first, guards_recorded}
@@ -31,6 +32,35 @@ use Rattle.resolvo_sat.proofs.PendingLemmas.{count_push, pending_below}
 pub best_found : (known clause part : List Signed) (l : Signed) (o : Option Signed) → part ≡ clause → IsBestSoFar known clause part l o → IsBestBeside known clause l o
 best_found known clause part l None whole far = subst (λ (ms : List Signed). (m : Signed) → has ms m ≡ true → m ≡ l) whole far
 best_found known clause part l (Some k) whole far = (far.0, far.1, λ _. subst (AreFalseBut l known) whole far.2)
+
+has_read : (xs : List Signed) (i : ℕ) (d : Signed) → i < length xs → has xs (get_or xs i d) ≡ true
+has_read [] i d below = absurd (omega arith)
+has_read (x ∷ xs) zero d below = has_here x xs x refl
+has_read (x ∷ xs) (suc i) d below = has_later x xs (get_or xs i d) (has_read xs i d (omega arith))
+
+-- one literal more, which is the one beside
+pub best_past : (known xs : List Signed) (i : ℕ) (l d : Signed) (o : Option Signed) → i < length xs → get_or xs i d ≡ l → IsBestSoFar known xs (take i xs) l o → IsBestSoFar known xs (take (i + 1) xs) l o
+best_past known xs i l d None below is far = λ m h. elim (has_more xs i d m below h) [ inl a ↦ far m a | inr e ↦ sym e ∙ is ]
+best_past known xs i l d (Some k) below is far = (far.0, far.1, λ m h. elim (has_more xs i d m below h) [ inl a ↦ far.2 m a | inr e ↦ inl (sym e ∙ is) ])
+
+-- one literal more, which is false
+pub best_goes_on : (known xs : List Signed) (i : ℕ) (l d b : Signed) (o : Option Signed) → i < length xs → same_literal l (get_or xs i d) ≡ false → has known (negation (get_or xs i d)) ≡ true → IsEither o (get_or xs i d) b
+    → IsBestSoFar known xs (take i xs) l o → IsBestSoFar known xs (take (i + 1) xs) l (Some b)
+best_goes_on known xs i l d b None below other falls is far = (
+  subst (λ (m : Signed). has xs m ≡ true) (sym is) (has_read xs i d below),
+  subst (λ (m : Signed). same_literal l m ≡ false) (sym is) other,
+  λ m h. elim (has_more xs i d m below h) [ inl a ↦ inl (far m a) | inr e ↦ inr (subst (λ (k : Signed). has known (negation k) ≡ true) e falls) ],
+)
+best_goes_on known xs i l d b (Some k) below other falls (inl is) far = (
+  subst (λ (m : Signed). has xs m ≡ true) (sym is) (has_read xs i d below),
+  subst (λ (m : Signed). same_literal l m ≡ false) (sym is) other,
+  λ m h. elim (has_more xs i d m below h) [ inl a ↦ far.2 m a | inr e ↦ inr (subst (λ (k : Signed). has known (negation k) ≡ true) e falls) ],
+)
+best_goes_on known xs i l d b (Some k) below other falls (inr is) far = (
+  subst (λ (m : Signed). has xs m ≡ true) (sym is) far.0,
+  subst (λ (m : Signed). same_literal l m ≡ false) (sym is) far.1,
+  λ m h. elim (has_more xs i d m below h) [ inl a ↦ far.2 m a | inr e ↦ inr (subst (λ (k : Signed). has known (negation k) ≡ true) e falls) ],
+)
 
 -- neither of the two is false
 pub guards_free : (s : SatState) (clause : List Signed) (p : WatchedLiterals) → IsBestPair (made_true (history s)) clause p → has (made_true (history s)) (negation p.second) ≡ false → GuardsTo s.guard_level (history s) (history s) p

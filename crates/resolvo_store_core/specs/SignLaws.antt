@@ -2,6 +2,7 @@
 use Rattle.std.proofs.Common.{◌≡◌, ℕ, ◌+◌, ◌*◌, ◌/◌, ◌%◌, ◌==◌, Bool, true, false, cond, ◌⊎◌, inl, inr, refl, sym, ◌∙◌, ap, subst, arith, eqb-true, eq-eqb}
 use Rattle.std.proofs.lemmas.Bool.{both_ways, and_parts, and_from, cases_Bool}
 use Rattle.std.proofs.Math.Bool.{beq}
+use Rattle.std.specs.Cmp.{IsEquivalence, nat_eq_equiv}
 use Rattle.resolvo_store_core.specs.Signed.{Signed, same_literal, index_in, literal_at}
 
 same_sign_true : (a b : Bool) → beq a b ≡ true → a ≡ b
@@ -62,3 +63,10 @@ same_is_index l m = go (booleans_decide (same_literal l m)) (booleans_decide (in
     go (inr p) (inr q) = p ∙ sym q
     go (inl p) (inr q) = absurd (both_ways (index_in l == index_in m) q (eq-eqb (index_in l) (index_in m) (ap index_in (same_literal_true l m p))))
     go (inr p) (inl q) = absurd (both_ways (same_literal l m) p (subst (λ (x : Signed). same_literal l x ≡ true) (index_distinct l m (eqb-true (index_in l) (index_in m) q)) (same_literal-self l)))
+
+pub same_literal_laws : IsEquivalence same_literal
+same_literal_laws = record {
+  refl = same_literal-self;
+  symm = λ a b. same_is_index a b ∙ nat_eq_equiv.symm (index_in a) (index_in b) ∙ sym (same_is_index b a);
+  congr = λ a b c h. ap (λ (x : Signed). same_literal x c) (same_literal_true a b h);
+}

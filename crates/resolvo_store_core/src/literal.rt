@@ -1,5 +1,6 @@
 //! A literal: a variable or its negation.
-//! Its model is the variable with the sign. Clauses, watches and learnt lists are made of literals.
+//! Its model is the variable with the sign. It is kept as its index, since clauses, watches and learnt
+//! lists are made of literals.
 ghost use Rattle.std.specs.Prelude.{◌≡◌, ◌<◌, ℕ, Bool, not};
 ghost use Rattle.resolvo_pool_core.specs.declared.id.VariableId.{VariableId};
 ghost use Rattle.resolvo_store_core.specs.Signed.{Signed, negation, value_under, is_false, is_true, is_open, index_in, literal_at};
@@ -12,23 +13,43 @@ use resolvo_pool_core::id::{DenseIndex, VariableId};
 use std::marker::Model;
 
 /// A variable, or its negation.
-#[derive(Clone, Copy, Debug, PartialEq, Eq, PartialOrd, Ord, Hash)]
+#[derive(Clone, Copy, Debug)]
 pub struct Literal {
-    variable: VariableId,
-    positive: bool,
+    /// Twice the variable's number, and one more for a negation.
+    index: u32,
 }
 
 impl Model for Literal {
-    ghost use Rattle.std.specs.Prelude.{◌<◌};
-    ghost use Rattle.resolvo_store_core.specs.Signed.{Signed};
+    ghost use Rattle.resolvo_store_core.specs.Signed.{Signed, index_in, literal_at};
+    ghost use Rattle.resolvo_store_core.specs.SignLaws.{index_round_trip};
 
     ghost Value = { Signed };
 
-    ghost view = { λ l. record { variable = l.variable; positive = l.positive } };
+    ghost view = { λ l. literal_at l.index };
 
-    ghost invariant = { λ l. l.variable.0 < 2147483648 };
+    ghost inverse = { λ l. record { index = index_in l } };
 
-    ghost inverse = { λ l. record { variable = l.variable; positive = l.positive } };
+    ghost inverse_ok = { λ a _. λ i. record { index = index_round_trip a.index i } };
+}
+
+impl PartialEq for Literal {
+    ghost use Rattle.resolvo_store_core.specs.Signed.{same_literal};
+    ghost use Rattle.std.specs.Cmp.{partial_equiv_from_equiv};
+    ghost use Rattle.resolvo_store_core.specs.SignLaws.{same_literal_laws};
+
+    ghost eq = { same_literal };
+
+    ghost laws = { partial_equiv_from_equiv same_literal_laws };
+
+    fn eq(&self, other: &Literal) -> bool {
+        self.index == other.index
+    }
+}
+
+impl Eq for Literal {
+    ghost use Rattle.resolvo_store_core.specs.SignLaws.{same_literal_laws};
+
+    ghost laws = { same_literal_laws };
 }
 
 impl Literal {
@@ -37,9 +58,9 @@ impl Literal {
         requires { variable.0 < 2147483648 }
         ensures { result ≡ record { variable = variable; positive = not negate } }
     {
+        let double = variable.0 * 2;
         Literal {
-            variable,
-            positive: !negate,
+            index: if negate { double + 1 } else { double },
         }
     }
 
@@ -48,8 +69,11 @@ impl Literal {
         ensures { result ≡ negation self }
     {
         Literal {
-            variable: self.variable,
-            positive: !self.positive,
+            index: if self.index % 2 == 0 {
+                self.index + 1
+            } else {
+                self.index - 1
+            },
         }
     }
 
@@ -58,14 +82,14 @@ impl Literal {
         ensures variable { result ≡ self.variable }
         ensures in_range { result.0 < 2147483648 }
     {
-        self.variable
+        VariableId(self.index / 2)
     }
 
     /// The value of the variable that makes this literal true.
     pub fn satisfying_value(self) -> bool
         ensures { result ≡ self.positive }
     {
-        self.positive
+        self.index % 2 == 0
     }
 }
 
@@ -74,9 +98,8 @@ impl Literal {
     pub fn eval(self, values: &DecisionMap) -> Option<bool>
         ensures { result ≡ value_under (value_at values.now) self }
     {
-        values
-            .value(self.variable)
-            .map(|value| value == self.positive)
+        let positive = self.satisfying_value();
+        values.value(self.variable()).map(|value| value == positive)
     }
 }
 
@@ -124,14 +147,12 @@ impl DenseIndex for Literal {
 
     fn from_index(index: usize) -> Literal {
         Literal {
-            variable: VariableId((index / 2) as u32),
-            positive: index % 2 == 0,
+            index: index as u32,
         }
     }
 
     fn to_index(self) -> usize {
-        let double = self.variable.0 as usize * 2;
-        if self.positive { double } else { double + 1 }
+        self.index as usize
     }
 }
 
