@@ -28,7 +28,7 @@ use Rattle.resolvo_state.specs.SolverState.{Grows}
 use Rattle.resolvo_state.specs.Registered.{IsTracked, IsRegistered}
 use Rattle.resolvo_state.proofs.Growth.{grows_same, trail_same, represents_grow, rules_grow}
 use Rattle.resolvo_state.proofs.Positions.{prefix_same, prefix_equal}
-use Rattle.resolvo_encoder.specs.Encoded.{IsCandidate, AreCandidates, IsEncoding, IsMarkKnown, IsPrepared}
+use Rattle.resolvo_encoder.specs.Encoded.{IsCandidate, AreCandidates, IsEncoding, IsMarkKnown, IsPrepared, IsGuarded}
 use Rattle.resolvo_encoder.specs.Encoded as E
 use Rattle.resolvo_encoder.specs.Steps.{IsBuilt, Extends, IsOfferedAs, RegistersAll, KeepsLists, AddsCandidates, Enrols, Fixes, IsAddable}
 use Rattle.resolvo_sat.proofs.Lists.{any_contained}
@@ -37,7 +37,7 @@ use Rattle.resolvo_encoder.specs.declared.encoder.Encoder.{Encoder}
 use Rattle.resolvo_encoder.proofs.NeedClauses.{literals_widen, condition_widens}
 use Rattle.resolvo_encoder.proofs.BuildLemmas.{seen_same, clauses_grow}
 use Rattle.resolvo_encoder.proofs.PickLemmas.{candidates_grow}
-use Rattle.resolvo_encoder.proofs.RequireLemmas.{Carries, carried, candidate_grows, recorded_grows, cases_keep, fix_at, fix_other, offer_named, offer_meets, meets_offer, meets_listed, registered_split, queued_keeps, gates_keep, NoneAsks, fixed_keeps, asked_keeps, within_keeps, encoded_keeps, cased_keeps, guards_keep, extends_then, extends_same, set_stays, marks_stay}
+use Rattle.resolvo_encoder.proofs.RequireLemmas.{Carries, carried, candidate_grows, recorded_grows, cases_keep, fix_at, fix_other, offer_named, offer_meets, meets_offer, meets_listed, registered_split, queued_keeps, gates_keep, NoneAsks, fixed_keeps, asked_keeps, within_keeps, encoded_keeps, cased_keeps, guards_keep, extends_then, extends_same, set_stays, marks_stay, guard_grows}
 
 no_slot : {X : Type 0} (o : Option X) → is_some o ≡ false → o ≡ None
 no_slot None h = refl
@@ -106,7 +106,7 @@ module _ {N S : Type 0} (same : S → S → Bool) (exact : IsExact same) (p : Pa
         queued = λ q a. queued_keeps same exact p root lawful old (enrolled old t c) e all.grows (prefix_same old.lists.disjunctions) q a;
         asked = asked_keeps same exact p root lawful old (enrolled old t c) e all.coding all.grows refl none;
         gates = gates_keep same exact p root lawful old (enrolled old t c) e all.grows refl;
-        forbid = guards_keep same exact p root lawful old (enrolled old t c) e all.coding all.grows none;
+        forbid = guards_keep same exact p root lawful old (enrolled old t c) e all.grows refl;
         recorded = recorded_grows same exact p root old (enrolled old t c) all.grows refl e.recorded;
         softs = refl;
         cases = cases_keep same exact p root old (enrolled old t c) e.cases all.grows refl refl refl (cased_keeps same exact p root lawful old (enrolled old t c) e all.coding all.grows refl all.keeps none) at_least_one;
@@ -120,8 +120,9 @@ module _ {N S : Type 0} (same : S → S → Bool) (exact : IsExact same) (p : Pa
   relists : (old : Encoder N S) (ls : FixedLists N) → IsEncoding same p root old → IsPrefixOf old.lists.disjunctions ls.disjunctions → KeepsLists old (relisted old ls)
       → ((r : Requirement) (c : Candidate N) → Contains (candidates_in ls r) c → (s : S) × IsCandidate old (p.package_of s) s c × (meets same p r s ≡ true))
       → ((r : Requirement) (s : S) → has_candidates ls r ≡ true → meets same p r s ≡ true → (c : Candidate N) × Contains (candidates_in ls r) c × IsCandidate old (p.package_of s) s c)
+      → ((r : Requirement) → has_candidates ls r ≡ true → IsGuarded same p (E.rules_of old) r)
       → IsEncoding same p root (relisted old ls)
-  relists old ls e prefix keeps listed_new offered_new = carried same exact p root old (relisted old ls) e carries
+  relists old ls e prefix keeps listed_new offered_new guarded = carried same exact p root old (relisted old ls) e carries
     where
       candidate : (n : N) (s : S) (x : Candidate N) → IsCandidate old n s x → IsCandidate (relisted old ls) n s x
       candidate n s x h = record { positive = h.positive; present = h.present; tracked = h.tracked }
@@ -142,7 +143,7 @@ module _ {N S : Type 0} (same : S → S → Bool) (exact : IsExact same) (p : Pa
         queued = λ q a. queued_keeps same exact p root lawful old (relisted old ls) e (grows_same old.coding) prefix q a;
         asked = e.asked;
         gates = e.gates;
-        forbid = e.forbid;
+        forbid = guarded;
         recorded = recorded_grows same exact p root old (relisted old ls) (grows_same old.coding) refl e.recorded;
         softs = refl;
         cases = cases_keep same exact p root old (relisted old ls) e.cases (grows_same old.coding) refl refl refl (λ parent need case v present a. set_stays same exact p root old (relisted old ls) v (grows_same old.coding) (λ n b. b) (λ w b. b) (λ m u b. b) (e.cases.cased parent need case v present a)) e.cases.at_least_one;
@@ -156,18 +157,19 @@ module _ {N S : Type 0} (same : S → S → Bool) (exact : IsExact same) (p : Pa
   disjunction_keeps number given old ls e f = relists old ls e (given ∷ [], f.put) (λ r h. slots r)
       (λ r c a. e.listed r c (subst (λ x. Contains (items_or_none x) c) (slots r) a))
       (λ r s h m. (let (c, there, fits) = e.offered r s (sym (ap is_some (slots r)) ∙ h) m in (c, subst (λ x. Contains (items_or_none x) c) (sym (slots r)) there, fits)))
+      (λ r h. e.forbid r (sym (ap is_some (slots r)) ∙ h))
     where
       slots : (r : Requirement) → slot_of ls.candidates r ≡ slot_of old.lists.candidates r
       slots r = ap (λ cs. slot_of cs r) f.candidates
 
   -- the registered solvables became the requirement's candidates
-  pub candidates_keep : (r : Requirement) (offered : List (Offered N S)) (given : Vec (Candidate N) Global) (old : Encoder N S) (ls : FixedLists N) → IsEncoding same p root old → AreOffered same p r offered → has_candidates old.lists r ≡ false
+  pub candidates_keep : (r : Requirement) (offered : List (Offered N S)) (given : Vec (Candidate N) Global) (old : Encoder N S) (ls : FixedLists N) → IsEncoding same p root old → AreOffered same p r offered → IsGuarded same p (E.rules_of old) r → has_candidates old.lists r ≡ false
       → ((o : Offered N S) → Contains offered o → (c : Candidate N) × Contains given.items c × IsOfferedAs old.registry old.coding o c)
       → ((c : Candidate N) → Contains given.items c → (o : Offered N S) × Contains offered o × IsOfferedAs old.registry old.coding o c)
       → FixesCandidates r given old.lists ls → IsEncoding same p root (relisted old ls) × (has_candidates ls r ≡ true)
-  candidates_keep r offered given old ls e h fresh each all fixes = (
+  candidates_keep r offered given old ls e h guarded fresh each all fixes = (
     relists old ls e (prefix_equal old.lists.disjunctions ls.disjunctions fixes.disjunctions)
-        (λ q k. elim (slots q) [ inl is ↦ absurd (both_ways _ fresh (subst (λ y. has_candidates old.lists y ≡ true) is k)) | inr is ↦ is ]) listed_new offered_new,
+        (λ q k. elim (slots q) [ inl is ↦ absurd (both_ways _ fresh (subst (λ y. has_candidates old.lists y ≡ true) is k)) | inr is ↦ is ]) listed_new offered_new guarded_new,
     ap is_some here,
   )
     where
@@ -199,13 +201,19 @@ module _ {N S : Type 0} (same : S → S → Bool) (exact : IsExact same) (p : Pa
             (c, subst (λ x. Contains (items_or_none x) c) (sym is) there, fits)
       ]
 
+      guarded_new : (q : Requirement) → has_candidates ls q ≡ true → IsGuarded same p (E.rules_of old) q
+      guarded_new q k = elim (slots q) [
+        | inl is ↦ subst (λ x. IsGuarded same p (E.rules_of old) x) (sym is) guarded
+        | inr is ↦ e.forbid q (sym (ap is_some is) ∙ k)
+      ]
+
   -- the offered solvables became the requirement's candidates
   pub fixes_keep : (r : Requirement) (offered : List (Offered N S)) (old new : Encoder N S) → IsEncoding same p root old → AreOffered same p r offered → IsPrepared same p old r → Fixes same r offered old new → IsEncoding same p root new × (has_candidates new.lists r ≡ true)
   fixes_keep r offered old new e h ready f = elim f.fixed [
     | inl (has, is) ↦ (subst (λ (x : Encoder N S). IsEncoding same p root x) (sym is) e, subst (λ (x : Encoder N S). has_candidates x.lists r ≡ true) (sym is) has)
     | inr (fresh, middle, given, enrols, fixes, is) ↦
         let before = enrols.encoding p root lawful e fits in
-        let (keeps, has) = candidates_keep r offered given middle new.lists before h (ap (λ ls. has_candidates ls r) enrols.lists ∙ fresh) enrols.each enrols.all fixes in
+        let (keeps, has) = candidates_keep r offered given middle new.lists before h (guard_grows same exact p root old middle r enrols.extends.grows ready.0) (ap (λ ls. has_candidates ls r) enrols.lists ∙ fresh) enrols.each enrols.all fixes in
         (subst (λ (x : Encoder N S). IsEncoding same p root x) (sym is) keeps, has)
   ]
     where

@@ -41,7 +41,7 @@ use Rattle.resolvo_state.proofs.Origins.{count_is, means_solvable}
 use Rattle.resolvo_state.proofs.Positions.{prefix_same, prefix_long, get_last, get_old, get_push}
 use Rattle.resolvo_encoder.specs.Cases.{case_of, sets_case, IsMatching, IsSet, AreSets, IsCaseOf}
 use Rattle.resolvo_encoder.specs.Conditions.{IsOneChosen, IsSpent}
-use Rattle.resolvo_encoder.specs.Encoded.{IsParentVariable, IsCondition, IsGuarded, IsEncoding, IsPrepared}
+use Rattle.resolvo_encoder.specs.Encoded.{IsParentVariable, IsCondition, IsEncoding, IsPrepared}
 use Rattle.resolvo_encoder.specs.Encoded as E
 use Rattle.resolvo_encoder.specs.AtLeastOneClauses.{AreCaseLiterals, CaseLiterals}
 use Rattle.resolvo_encoder.specs.ClauseRules.{EncodesRules}
@@ -53,7 +53,7 @@ use Rattle.resolvo_encoder.proofs.BuildLemmas.{built_disjunction, built_in_range
 use Rattle.resolvo_encoder.proofs.EnrollLemmas.{disjunction_keeps, fixes_keep, fixes_add, fixes_extend}
 use Rattle.resolvo_encoder.proofs.EncodesLemmas.{parent_variable_grows}
 use Rattle.resolvo_encoder.proofs.NeedLemmas.{IsReady, need_keeps}
-use Rattle.resolvo_encoder.proofs.RequireLemmas.{each_of, parent_grows, guard_grows, extends_then, some_one}
+use Rattle.resolvo_encoder.proofs.RequireLemmas.{each_of, parent_grows, extends_then, some_one}
 
 -- the literals of an added disjunction are its own
 disjunction_there : {N : Type 0} (id : DenseId DisjunctionTag ℕ) (given : Disjunction) (old new : FixedLists N) → FixesDisjunction id.raw given old new → id.raw < length new.disjunctions
@@ -151,13 +151,13 @@ module _ {N S : Type 0} (same : S → S → Bool) (exact : IsExact same) (p : Pa
 
   -- the clause of a case was added, whose packages are recorded
   pub case_keeps : IsLawful p → (parent : Option S) (need : ConditionalRequirement) (case : Vec VersionSetId Global) (v : VariableId) (id : DenseId DisjunctionTag ℕ) (given : Disjunction) (old : Encoder N S) (ls : FixedLists N) (new : Encoder N S) → IsEncoding same p root old
-      → FixesDisjunction id.raw given old.lists ls → has_candidates old.lists need.requirement ≡ true → IsGuarded same p (E.rules_of old) need.requirement → IsParentVariable old.coding.atoms.keys parent v → Contains (rules_for same p root parent).requirements need
+      → FixesDisjunction id.raw given old.lists ls → has_candidates old.lists need.requirement ≡ true → IsParentVariable old.coding.atoms.keys parent v → Contains (rules_for same p root parent).requirements need
       → Contains (cases_for same p need) case.items → AreMatched same p case.items → AreInRange (count_of old.coding.search) given.literals.items → AreCaseLiterals same p old case.items given.literals.items → EncodesNeed (Kind.Needs parent need case) v (Some id) need.requirement (record old { lists = ls }) new
       → IsEncoding same p root new × E.rules_of new (Rule.needs parent need case.items)
-  case_keeps lawful parent need case v id given old ls new e fixes has_list guarded present listed cased matched below at_least_one new_clause =
+  case_keeps lawful parent need case v id given old ls new e fixes has_list present listed cased matched below at_least_one new_clause =
       let middle = disjunction_keeps same exact p root lawful id.raw given old ls e fixes in
       let has_still : has_candidates ls need.requirement ≡ true = ap (λ cs. is_some (slot_of cs need.requirement)) fixes.candidates ∙ has_list in
-      let (keeps, rules) = need_keeps same exact p root lawful (Kind.Needs parent need case) v (Some id) need.requirement (record old { lists = ls }) new middle has_still guarded (refl, present, conditioned, listed, cased, matched) ready new_clause in
+      let (keeps, rules) = need_keeps same exact p root lawful (Kind.Needs parent need case) v (Some id) need.requirement (record old { lists = ls }) new middle has_still (refl, present, conditioned, listed, cased, matched) ready new_clause in
       (keeps, rules (Rule.needs parent need case.items) refl)
     where
       literals : condition_in ls (Some id) ≡ given.literals.items
@@ -246,9 +246,8 @@ module _ {N S : Type 0} (same : S → S → Bool) (exact : IsExact same) (parent
       let (first, has) = fixes_keep same exact p root lawful need.requirement offered old h.fixed e all_offered prepared h.fixes in
       let (second, none) = h.encodes.encoding p root lawful first (λ r k. absurd (contains_none r k)) in
       let (third, at_least_one) = h.negates.encoding p root lawful second all_sets (λ v k. (parent, need, sets_case sets, listed, cased, k)) in
-      let grown : Extends old h.at_least_one = extends_then old h.fixed h.at_least_one (fixes_extend same need.requirement offered old h.fixed h.fixes) (extends_then h.fixed h.named h.at_least_one h.encodes.extends h.negates.extends) in
       let (last, rule) = case_keeps same exact p root lawful parent need h.case h.variable h.id h.given h.at_least_one h.lists new third h.disjoins (subst (λ ls. has_candidates ls need.requirement ≡ true) (sym (h.negates.lists ∙ h.encodes.lists)) has)
-      (guard_grows same exact p root old h.at_least_one need.requirement grown.grows prepared.0) (parent_variable_grows h.named h.at_least_one parent h.variable h.negates.extends h.present) listed (subst (λ vs. Contains (cases_for same p need) vs) (sym h.is_case) cased) (subst (λ vs. AreMatched same p vs) (sym h.is_case) matched)
+      (parent_variable_grows h.named h.at_least_one parent h.variable h.negates.extends h.present) listed (subst (λ vs. Contains (cases_for same p need) vs) (sym h.is_case) cased) (subst (λ vs. AreMatched same p vs) (sym h.is_case) matched)
       h.negates.in_range (subst (λ vs. AreCaseLiterals same p h.at_least_one vs h.given.literals.items) (sym h.is_case) at_least_one) h.states in
       (last, subst (λ vs. E.rules_of new (Rule.needs parent need vs)) h.is_case rule)
 

@@ -45,7 +45,7 @@ use Rattle.resolvo_state.specs.ClauseKinds.{rule_of, kind_at, rule_at}
 use Rattle.resolvo_state.specs.SolverState.{IsCoding, AddsRule, Gives}
 use Rattle.resolvo_state.specs.declared.registry.Member.{Member}
 use Rattle.resolvo_state.specs.Registered.{member, AreTied, IsTracked}
-use Rattle.resolvo_encoder.specs.Encoded.{IsParentVariable, IsCandidate, IsQueuedFor, IsRequiresRule, IsGuarded, Registered, IsEncoding}
+use Rattle.resolvo_encoder.specs.Encoded.{IsParentVariable, IsCandidate, IsQueuedFor, IsRequiresRule, Registered, IsEncoding}
 use Rattle.resolvo_encoder.specs.Encoded as E
 use Rattle.resolvo_encoder.specs.ClauseRules.{IsRestraint}
 use Rattle.resolvo_encoder.proofs.Denials.{makes_none, asks_none, not_digit, pair_spells}
@@ -59,7 +59,7 @@ use Rattle.resolvo_state.proofs.Rules.{rule_at_kind}
 use Rattle.resolvo_state.proofs.Growth.{grows_same, rule_split, rules_split}
 use Rattle.resolvo_state.proofs.RegisterLemmas.{digits_same, digits_more, ties_grow, nothing_tied}
 use Rattle.resolvo_encoder.proofs.ConditionLemmas.{queued_grows, spells_join}
-use Rattle.resolvo_encoder.proofs.RequireLemmas.{AddedClause, Carries, carried, candidate_grows, registered_stays, cases_keep, cased_stays, at_least_one_keeps, registered_before, prefix_lists, queued_keeps, within_keeps, encoded_keeps, gates_keep, put_at, put_other, NoneAsks, kept_carries, guard_grows, recorded_grows, some_one, set_stays, marks_stay}
+use Rattle.resolvo_encoder.proofs.RequireLemmas.{AddedClause, Carries, carried, candidate_grows, registered_stays, cases_keep, cased_stays, at_least_one_keeps, registered_before, prefix_lists, queued_keeps, within_keeps, encoded_keeps, gates_keep, put_at, put_other, NoneAsks, kept_carries, recorded_grows, some_one, set_stays, marks_stay, guards_keep}
 
 -- the requirement of a rule's requires clause
 abbrev requirement_in : {N S : Type 0} → Requirement → Rule N S → Requirement
@@ -267,9 +267,9 @@ module _ {N S : Type 0} (same : S → S → Bool) (exact : IsExact same) (p : Pa
   set_outside e w free (inr (marked, held)) s o = absurd (both_ways _ free marked)
 
   -- The clause of a requirement, or of a gate, was added.
-  pub need_keeps : (x : ClauseKind N S) (v : VariableId) (condition : Option (DenseId DisjunctionTag ℕ)) (r : Requirement) (old new : Encoder N S) → IsEncoding same p root old → has_candidates old.lists r ≡ true → IsGuarded same p (E.rules_of old) r
+  pub need_keeps : (x : ClauseKind N S) (v : VariableId) (condition : Option (DenseId DisjunctionTag ℕ)) (r : Requirement) (old new : Encoder N S) → IsEncoding same p root old → has_candidates old.lists r ≡ true
       → IsNeed same p root old.lists old.coding.atoms.keys x v condition r → IsReady old x → EncodesNeed x v condition r old new → IsEncoding same p root new × ((q : Rule N S) → rule_of x ≡ Some q → E.rules_of new q)
-  need_keeps x v condition r old new e has_list guarded need ready new_clause = (carried same exact p root old new e carries, λ q is. (length old.coding.search.clauses, rule_at_kind new.coding.kinds.items (length old.coding.search.clauses) x kind_here ∙ is))
+  need_keeps x v condition r old new e has_list need ready new_clause = (carried same exact p root old new e carries, λ q is. (length old.coding.search.clauses, rule_at_kind new.coding.kinds.items (length old.coding.search.clauses) x kind_here ∙ is))
     where
       literals : List Signed
       literals = need_literals old v condition r
@@ -338,19 +338,6 @@ module _ {N S : Type 0} (same : S → S → Bool) (exact : IsExact same) (p : Pa
         | inr (n, low, high, at) ↦ lists_same q (subst (λ y. has_candidates old.lists y ≡ true) (sym (asks_need old.lists old.coding.atoms.keys x v condition r need q (inr (same_rule n (Rule.shared q) low high at)))) has_list)
       ]
 
-      guard : (q : Requirement) → IsGuarded same p (E.rules_of old) q → IsGuarded same p (E.rules_of new) q
-      guard q = guard_grows same exact p root old new q new_clause.states.grows
-
-      forbid : (q : Requirement) → HasClause same p (E.rules_of new) q → IsGuarded same p (E.rules_of new) q
-      forbid q (inl (parent, wanted, vs, present, is)) = elim (rules_split old.coding new.coding e.coding new_clause.states.coding new_clause.states.grows (Rule.needs parent wanted vs) present) [
-        | inl a ↦ guard q (e.forbid q (inl (parent, wanted, vs, a, is)))
-        | inr (n, low, high, at) ↦ guard q (subst (λ y. IsGuarded same p (E.rules_of old) y) (sym (asks_need old.lists old.coding.atoms.keys x v condition r need q (inl (parent, wanted, vs, same_rule n (Rule.needs parent wanted vs) low high at, is)))) guarded)
-      ]
-      forbid q (inr present) = elim (rules_split old.coding new.coding e.coding new_clause.states.coding new_clause.states.grows (Rule.shared q) present) [
-        | inl a ↦ guard q (e.forbid q (inr a))
-        | inr (n, low, high, at) ↦ guard q (subst (λ y. IsGuarded same p (E.rules_of old) y) (sym (asks_need old.lists old.coding.atoms.keys x v condition r need q (inr (same_rule n (Rule.shared q) low high at)))) guarded)
-      ]
-
       next : NeedClause
       next = record { parent = v; requirement = r; condition = condition; clause = new_clause.number }
 
@@ -397,7 +384,7 @@ module _ {N S : Type 0} (same : S → S → Bool) (exact : IsExact same) (p : Pa
           | inr (low, high) ↦ (next, subst (λ qs. Contains qs next) (sym new_clause.queue) (contains_right next (needs_of old.queue) (next ∷ []) (contains_only next)), number ∙ sym (place n low high))
         ];
         gates = gates_keep same exact p root lawful old new e new_clause.states.grows new_clause.gates;
-        forbid = forbid;
+        forbid = guards_keep same exact p root lawful old new e new_clause.states.grows new_clause.lists;
         recorded = recorded_grows same exact p root old new new_clause.states.grows new_clause.recorded e.recorded;
         softs = ap (λ (x : EncodedOnce N S). x.softs.items) new_clause.recorded;
         cases = cases_keep same exact p root old new e.cases new_clause.states.grows new_clause.deferred new_clause.fired new_clause.recorded cased (at_least_one_keeps same exact p root lawful old new e.cases new_clause.states.grows new_clause.recorded new_clause.registry (registered_before same exact p root lawful old new e.tied new_clause.states.grows new_clause.registry));
@@ -423,10 +410,10 @@ module _ {N S : Type 0} (same : S → S → Bool) (exact : IsExact same) (p : Pa
   )
 
   -- the clause of a parent's requirement without condition was added
-  pub needed_keeps : (parent : Option S) (need : ConditionalRequirement) (v : VariableId) (old new : Encoder N S) → IsEncoding same p root old → has_candidates old.lists need.requirement ≡ true → IsGuarded same p (E.rules_of old) need.requirement
+  pub needed_keeps : (parent : Option S) (need : ConditionalRequirement) (v : VariableId) (old new : Encoder N S) → IsEncoding same p root old → has_candidates old.lists need.requirement ≡ true
       → IsParentVariable old.coding.atoms.keys parent v → Needs same p root parent need → NeedsDirectly parent need v old new → IsEncoding same p root new × E.rules_of new (Rule.needs parent need [])
-  needed_keeps parent need v old new e has_list guarded present needs new_clause =
-      let (keeps, rules) = need_keeps (Kind.Needs parent need new_clause.case) v None need.requirement old new e has_list guarded (plain_need old parent need new_clause.case v new_clause.none needs present) ready new_clause.states in
+  needed_keeps parent need v old new e has_list present needs new_clause =
+      let (keeps, rules) = need_keeps (Kind.Needs parent need new_clause.case) v None need.requirement old new e has_list (plain_need old parent need new_clause.case v new_clause.none needs present) ready new_clause.states in
       (keeps, subst (λ vs. E.rules_of new (Rule.needs parent need vs)) new_clause.none (rules (Rule.needs parent need new_clause.case.items) refl))
     where
       ready : IsReady old (Kind.Needs parent need new_clause.case)
@@ -558,7 +545,7 @@ module _ {N S : Type 0} (same : S → S → Bool) (exact : IsExact same) (p : Pa
     asked = λ n r h a. absurd (no_rule n r h);
     gates = λ r v at. absurd (none_some v (sym (b.gates r) ∙ at));
     within = (let none : e.encoded ≡ 0 = b.encoded in omega arith);
-    forbid = λ r h. absurd (elim h [ inl (parent, need, case, (n, at), is) ↦ no_rule n (Rule.needs parent need case) at | inr (n, at) ↦ no_rule n (Rule.shared r) at ]);
+    forbid = λ r h. absurd (both_ways false refl (sym (ap is_some (b.lists.candidates r)) ∙ h));
     recorded = record {
       packages = λ n s a barred. absurd (contains_none n (subst (λ (ks : List N). Contains ks n) b.packages a));
       version_sets = λ v s a outside. absurd (contains_none v (subst (λ (ks : List VersionSetId). Contains ks v) b.version_sets a));

@@ -95,7 +95,7 @@ module _ {N S : Type 0} (same : S → S → Bool) (exact : IsExact same) (p : Pa
         queued = λ q a. queued_keeps same exact p root lawful old (enrolled old t c) e all.grows (prefix_same old.lists.disjunctions) q a;
         asked = asked_keeps same exact p root lawful old (enrolled old t c) e all.coding all.grows refl none;
         gates = gates_keep same exact p root lawful old (enrolled old t c) e all.grows refl;
-        forbid = guards_keep same exact p root lawful old (enrolled old t c) e all.coding all.grows none;
+        forbid = guards_keep same exact p root lawful old (enrolled old t c) e all.grows refl;
         recorded = recorded_grows same exact p root old (enrolled old t c) all.grows refl e.recorded;
         softs = refl;
         cases = cases_keep same exact p root old (enrolled old t c) e.cases all.grows refl refl refl (cased_keeps same exact p root lawful old (enrolled old t c) e all.coding all.grows refl keeps none) at_least_one;

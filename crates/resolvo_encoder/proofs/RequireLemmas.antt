@@ -82,7 +82,7 @@ module _ {N S : Type 0} (same : S → S → Bool) (exact : IsExact same) (p : Pa
     pub asked : (n : ℕ) (r : Rule N S) → rule_at new.coding.kinds.items n ≡ Some r → IsRequiresRule r → (q : NeedClause) × Contains (needs_of new.queue) q × (q.clause.0 ≡ n)
     pub gates : (r : Requirement) (v : VariableId) → slot_of new.gates r ≡ Some v → Represents new.coding.atoms.keys v (Gate r) × E.rules_of new (Rule.shared r)
     pub within : new.encoded ≤ length new.parents.keys
-    pub forbid : (r : Requirement) → HasClause same p (E.rules_of new) r → IsGuarded same p (E.rules_of new) r
+    pub forbid : (r : Requirement) → has_candidates new.lists r ≡ true → IsGuarded same p (E.rules_of new) r
     pub recorded : IsRecorded same p (E.rules_of new) new.recorded
     pub softs : new.recorded.softs.items ≡ old.recorded.softs.items
     pub cases : AreCased same p root new
@@ -355,15 +355,9 @@ module _ {N S : Type 0} (same : S → S → Bool) (exact : IsExact same) (p : Pa
       let one : x ≡ s = some_one x s (sym (solvable_represents new.coding.atoms.keys u x (represents_grow old.coding new.coding u (Solvable x) grows before)) ∙ solvable_represents new.coding.atoms.keys u s present) in
       (u, subst (λ y. Represents old.coding.atoms.keys u (Solvable y)) one before, k)
 
-  pub guards_keep : (old new : Encoder N S) → IsEncoding same p root old → IsCoding new.coding → Grows old.coding new.coding → NoneAsks old new → (r : Requirement) → HasClause same p (E.rules_of new) r → IsGuarded same p (E.rules_of new) r
-  guards_keep old new e coding grows none r (inl (parent, need, case, present, is)) = elim (rules_split old.coding new.coding e.coding coding grows (Rule.needs parent need case) present) [
-    | inl a ↦ guard_grows same exact p root old new r grows (e.forbid r (inl (parent, need, case, a, is)))
-    | inr (n, low, high, at) ↦ absurd (none n (Rule.needs parent need case) low high at tt)
-  ]
-  guards_keep old new e coding grows none r (inr present) = elim (rules_split old.coding new.coding e.coding coding grows (Rule.shared r) present) [
-    | inl a ↦ guard_grows same exact p root old new r grows (e.forbid r (inr a))
-    | inr (n, low, high, at) ↦ absurd (none n (Rule.shared r) low high at tt)
-  ]
+  -- a requirement with candidates stays guarded, where the lists are unchanged
+  pub guards_keep : (old new : Encoder N S) → IsEncoding same p root old → Grows old.coding new.coding → new.lists ≡ old.lists → (r : Requirement) → has_candidates new.lists r ≡ true → IsGuarded same p (E.rules_of new) r
+  guards_keep old new e grows lists r has = guard_grows same exact p root old new r grows (e.forbid r (subst (λ ls. has_candidates ls r ≡ true) lists has))
 
   -- where registered solvables, lists, queue and parents are unchanged, and each added clause is
   -- right
@@ -384,7 +378,7 @@ module _ {N S : Type 0} (same : S → S → Bool) (exact : IsExact same) (p : Pa
     queued = λ q a. queued_keeps old new e grows (prefix_lists old new rest.lists) q (subst (λ qs. Contains qs q) rest.queue a);
     asked = asked_keeps old new e coding grows rest.queue none;
     gates = gates_keep old new e grows rest.gates;
-    forbid = guards_keep old new e coding grows none;
+    forbid = guards_keep old new e grows rest.lists;
     recorded = recorded_grows same exact p root old new grows rest.recorded e.recorded;
     softs = ap (λ (x : EncodedOnce N S). x.softs.items) rest.recorded;
     cases = cases_keep same exact p root old new e.cases grows rest.deferred rest.fired rest.recorded (cased_keeps old new e coding grows rest.recorded tracked none) (at_least_one_keeps old new e.cases grows rest.recorded rest.registry back);

@@ -91,7 +91,7 @@ module _ {N S : Type 0} (same : S → S → Bool) (exact : IsExact same) (p : Pa
       | inr (low, high) ↦ absurd (nothing_encoded old new goes n r low high at)
     ];
     gates = gates_keep same exact p root lawful old new e goes.grows goes.rest.gates;
-    forbid = λ r has. guard_grows same exact p root old new r goes.grows (e.forbid r (clause_back r has));
+    forbid = λ r has. guard_grows same exact p root old new r goes.grows (e.forbid r (subst (λ ls. has_candidates ls r ≡ true) goes.rest.lists has));
     recorded = recorded_grows same exact p root old new goes.grows goes.rest.recorded e.recorded;
     cases = cases_keep same exact p root old new e.cases goes.grows goes.rest.deferred goes.rest.fired goes.rest.recorded
         (λ parent need case v present h. cased_stays same exact p root old new e.cases goes.grows goes.rest.recorded tracked parent need case v (rule_back (Rule.needs parent need case) present) h)

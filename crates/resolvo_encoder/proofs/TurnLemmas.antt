@@ -98,7 +98,7 @@ module _ {N S : Type 0} (same : S → S → Bool) (exact : IsExact same) (p : Pa
     by_digits = λ s t a b named free. by_digits e.registry e.coding (p.package_of s) s t holds.tied placed.solvables (λ m. both_ways _ free (holds.marks.right (p.package_of s) m)) a (subst (λ (n : N). IsRegistered e.registry e.coding n t) (sym named) b);
     there = λ parent need case v s present h registered named unmarked. there (p.set_package v) s unmarked (of_unmarked v unmarked (holds.cases.cased parent need case v present h)).0 (subst (λ (n : N). IsRegistered e.registry e.coding n s) named registered);
     held = λ parent need case v s present h marked matching. holds.recorded.matches v s (of_marked v marked (holds.cases.cased parent need case v present h)) matching;
-    forbid = λ r v s has h barred. holds.forbid r has v s h barred;
+    forbid = λ r v s has h barred. holds.forbid r (holds.fixed r has) v s h barred;
   }
     where
       -- an encoded version set of a package that isn't marked, and of one that is

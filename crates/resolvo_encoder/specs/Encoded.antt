@@ -220,9 +220,9 @@ module _ {N S : Type 0} (same : S → S → Bool) (p : Packages N S) (root : Rul
     pub asked : (n : ℕ) (r : Rule N S) → rule_at e.coding.kinds.items n ≡ Some r → IsRequiresRule r → (q : NeedClause) × Contains (needs_of e.queue) q × (q.clause.0 ≡ n)
     -- each gate has its clause
     pub gates : (r : Requirement) (v : VariableId) → slot_of e.gates r ≡ Some v → Represents e.coding.atoms.keys v (Gate r) × rules_of e (Rule.shared r)
-    -- the locks and exclusions of candidates of requires clauses are encoded, and so is all that is
-    -- recorded
-    pub forbid : (r : Requirement) → HasClause same p (rules_of e) r → IsGuarded same p (rules_of e) r
+    -- the locks and exclusions of a requirement that has its candidates are encoded, and so is all
+    -- that is recorded
+    pub forbid : (r : Requirement) → has_candidates e.lists r ≡ true → IsGuarded same p (rules_of e) r
     pub recorded : IsRecorded same p (rules_of e) e.recorded
     pub cases : AreCased e
     -- the requirements and constraints of the first parents are encoded, except deferred cases

@@ -203,7 +203,6 @@ RequiresAgain {N} {S} same parent need old new = (p : Packages N S) (root : Rule
     → IsLawful p
     → IsEncoding same p root old
     → has_candidates old.lists need.requirement ≡ true
-    → IsGuarded same p (rules_of old) need.requirement
     → Needs same p root parent need
     → IsEncoding same p root new × IsNeedEncoded same p (rules_of new) parent need []
 

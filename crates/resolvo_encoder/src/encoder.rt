@@ -16,7 +16,7 @@ ghost use Rattle.resolvo_sat.specs.RuleClauses.{Rule, IsRule};
 ghost use Rattle.resolvo_sat.specs.SearchEnd.{IsNeedEncoded};
 ghost use Rattle.resolvo_state.specs.declared.atom.ProofAtom.TheVariants.{Gate};
 ghost use Rattle.resolvo_state.specs.Atoms.{Represents};
-ghost use Rattle.resolvo_encoder.specs.Encoded.{rules_of, IsGuarded, IsPrepared, IsEncoding};
+ghost use Rattle.resolvo_encoder.specs.Encoded.{rules_of, IsPrepared, IsEncoding};
 ghost use Rattle.resolvo_state.specs.ClauseKinds.{rule_of};
 ghost use Rattle.resolvo_state.specs.SolverState.{IsBegun, IsCoding, LacksNumber};
 ghost use Rattle.resolvo_encoder.specs.Steps.{Fixes, EncodesNeed, IsBuilt, Needs, Extends, NeedsDirectly, RequiresAgain, UsesGate, is_gated, Opens, AddsCandidates, IsBegunEncoding, AddsParent, IsNextEncoded, LacksNumberFor};
@@ -369,7 +369,6 @@ impl<N: Copy + Exact + Hash + Debug + Drop, S: Copy + Exact + Hash + Debug> Enco
             → IsLawful p
             → IsEncoding S.eq p root self.old
             → has_candidates self.old.lists requirement ≡ true
-            → IsGuarded S.eq p (rules_of self.old) requirement
             → IsRule S.eq p root (Rule.shared requirement)
             → IsEncoding S.eq p root self.new × rules_of self.new (Rule.shared requirement)) }
         ensures present { IfOk result (λ gate. Represents self.new.coding.atoms.keys gate (Gate requirement)) }

@@ -139,8 +139,7 @@ pub fn guard<A: PackageSource>(
     }
 }
 
-/// Encodes that a parent needs a candidate of a requirement, whose packages are guarded. Where it
-/// has its candidates, they were added as parents before.
+/// Encodes that a parent needs a candidate of a requirement, whose packages are guarded.
 fn require<A: PackageSource>(
     alloc: Global,
     answers: &mut A,
@@ -162,18 +161,14 @@ fn require<A: PackageSource>(
     ensures ids { IsErrOf result Ids
         → StopsNeed A.SolvableId.eq A.PackageSource answers.old parent need encoding.new }
 {
-    if encoding.is_fixed(need.requirement) {
-        encoding.require_again(alloc, parent, need)?;
-        return Ok(());
-    }
     let offered = answers.candidates(need.requirement)?;
     encoding.require(alloc, parent, need, offered.as_slice())?;
     add_available(answers, encoding, offered.as_slice())?;
     Ok(())
 }
 
-/// Encodes that a parent needs a candidate of a requirement without a condition, and the locks and
-/// exclusions of the candidates.
+/// Encodes that a parent needs a candidate of a requirement without a condition. Where it has its
+/// candidates, they are parents, and their locks and exclusions are encoded.
 fn encode_plain_need<A: PackageSource>(
     alloc: Global,
     answers: &mut A,
@@ -195,6 +190,10 @@ fn encode_plain_need<A: PackageSource>(
     ensures ids { IsErrOf result Ids
         → StopsNeed A.SolvableId.eq A.PackageSource answers.old parent need encoding.new }
 {
+    if encoding.is_fixed(need.requirement) {
+        encoding.require_again(alloc, parent, need)?;
+        return Ok(());
+    }
     guard(answers, encoding, need.requirement)?;
     require(alloc, answers, encoding, parent, need)?;
     Ok(())
@@ -352,6 +351,7 @@ fn encode_limits<A: PackageSource>(
 }
 
 /// Encodes the locks and exclusions of the packages of a requirement, unless it has a condition.
+/// Where it has its candidates, they are encoded.
 fn guard_plain<A: PackageSource>(
     answers: &mut A,
     encoding: &mut Encoder<A::NameId, A::SolvableId>,
@@ -370,13 +370,11 @@ fn guard_plain<A: PackageSource>(
     ensures ids { IsErrOf result Ids
         → StopsAnyhow A.SolvableId.eq A.PackageSource answers.old encoding.new }
 {
-    match need.condition {
-        Some(_) => Ok(()),
-        None => {
-            guard(answers, encoding, need.requirement)?;
-            Ok(())
-        }
+    if need.condition.is_some() || encoding.is_fixed(need.requirement) {
+        return Ok(());
     }
+    guard(answers, encoding, need.requirement)?;
+    Ok(())
 }
 
 /// Encodes the locks and exclusions of the packages of requirements without a condition.

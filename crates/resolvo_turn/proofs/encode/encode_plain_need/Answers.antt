@@ -1,12 +1,28 @@
-use Rattle.std.proofs.Common.{[], subst, rules}
+use Rattle.std.proofs.Common.{[], ◌∙◌, subst, sym, rules}
 use Rattle.resolvo_pool_core.specs.RuleKeeping.{Rules}
 use Rattle.resolvo_sat.specs.SearchEnd.{IsNeedEncoded}
 use Rattle.resolvo_encoder.specs.Encoded.{IsPrepared, rules_of}
 use Rattle.resolvo_encoder.specs.Steps.{Needs}
+use Rattle.resolvo_encoder.proofs.PickLemmas.{ordered_stays}
 use Rattle.resolvo_turn.specs.Encoder.{IsInOrder}
-use Rattle.resolvo_turn.proofs.AddLemmas.{needs_then}
+use Rattle.resolvo_turn.proofs.AddLemmas.{needs_then, extends_needs}
 use Rattle.resolvo_turn.specs.LacksIds.{StopsAnyhow, StopsNeed}
+use Rattle.resolvo_turn.proofs.StopLemmas.{lacks_for}
 use Rattle.resolvo_turn.proofs.encode.encode_plain_need.Goals as goal
+
+pub returns-then-is_fixed-clause-encoded : goal.returns-then-is_fixed-clause-encoded
+returns-then-is_fixed-clause-encoded g c = λ root e needs.
+    let p = g.A.PackageSource.packages c.args.answers.now in
+    let orders = g.A.PackageSource.orders c.args.answers.now in
+    let again = c.in_ok-require_again.ensures in
+    let (last, done) = again.encoded p root (g.met.A.PackageSource.lawful c.args.answers.now) e.encoding (sym c.is_fixed.ensures ∙ c.if-is_fixed.true) needs in
+    (record { encoding = last; ordered = ordered_stays orders c.args.encoding.now c.require_again.new.self again.kept.grows again.lists e.ordered }, done)
+
+pub returns-then-is_fixed-clause-kept : goal.returns-then-is_fixed-clause-kept
+returns-then-is_fixed-clause-kept g c = extends_needs c.args.encoding.now c.require_again.new.self c.in_ok-require_again.ensures.kept
+
+pub returns-in_err-require_again-clause-ids : goal.returns-in_err-require_again-clause-ids
+returns-in_err-require_again-clause-ids g c = λ is root listed. lacks_for g.A.SolvableId.PartialEq.eq g.A.PackageSource c.args.answers.now root c.args.parent c.args.need c.require_again.new.self listed (search (rules, is))
 
 pub returns-clause-encoded : goal.returns-clause-encoded
 returns-clause-encoded g c = λ root e needs.

@@ -1,27 +1,13 @@
-use Rattle.std.proofs.Common.{List, [], ◌∙◌, subst, sym, rules}
+use Rattle.std.proofs.Common.{List, [], subst, sym, rules}
 use Rattle.resolvo_packages.specs.declared.package_source.Offered.{Offered}
 use Rattle.resolvo_packages.specs.PackageSource.{AreOffered, offered_solvables}
 use Rattle.resolvo_sat.specs.RuleClauses.{IsExact}
 use Rattle.resolvo_encoder.proofs.BuildLemmas.{built_parents}
-use Rattle.resolvo_encoder.proofs.PickLemmas.{ordered_adds, ordered_stays}
+use Rattle.resolvo_encoder.proofs.PickLemmas.{ordered_adds}
 use Rattle.resolvo_turn.proofs.AddLemmas.{parents_in_order, needs_then, extends_needs, parents_needs, need_stays}
 use Rattle.resolvo_turn.specs.LacksIds.{LacksIds}
 use Rattle.resolvo_turn.proofs.StopLemmas.{lacks_for}
 use Rattle.resolvo_turn.proofs.encode.require.Goals as goal
-
-pub returns-then-is_fixed-clause-encoded : goal.returns-then-is_fixed-clause-encoded
-returns-then-is_fixed-clause-encoded g c = λ root e guarded needs.
-    let p = g.A.PackageSource.packages c.args.answers.now in
-    let orders = g.A.PackageSource.orders c.args.answers.now in
-    let again = c.in_ok-require_again.ensures in
-    let (last, done) = again.encoded p root (g.met.A.PackageSource.lawful c.args.answers.now) e.encoding (sym c.is_fixed.ensures ∙ c.if-is_fixed.true) guarded.0 needs in
-    (record { encoding = last; ordered = ordered_stays orders c.args.encoding.now c.require_again.new.self again.kept.grows again.lists e.ordered }, done)
-
-pub returns-then-is_fixed-clause-kept : goal.returns-then-is_fixed-clause-kept
-returns-then-is_fixed-clause-kept g c = extends_needs c.args.encoding.now c.require_again.new.self c.in_ok-require_again.ensures.kept
-
-pub returns-in_err-require_again-clause-ids : goal.returns-in_err-require_again-clause-ids
-returns-in_err-require_again-clause-ids g c = λ is root listed. lacks_for g.A.SolvableId.PartialEq.eq g.A.PackageSource c.args.answers.now root c.args.parent c.args.need c.require_again.new.self listed (search (rules, is))
 
 pub returns-clause-encoded : goal.returns-clause-encoded
 returns-clause-encoded g c = λ root e guarded needs.

@@ -7,7 +7,6 @@ use Rattle.resolvo_state.specs.declared.clause_kind.ClauseKind.TheVariants as Ki
 use Rattle.resolvo_encoder.specs.declared.encoder.Encoder.{Encoder}
 use Rattle.resolvo_encoder.specs.Steps.{SameButCoding, LacksNumberFor}
 use Rattle.resolvo_state.proofs.Growth.{represents_grow, represents_in_range}
-use Rattle.resolvo_encoder.proofs.RequireLemmas.{guard_grows}
 use Rattle.resolvo_encoder.proofs.NeedLemmas.{need_keeps, shared_ready, gives_keeps, gate_recorded}
 use Rattle.resolvo_encoder.proofs.BuildLemmas.{built_gives, built_encodes, built_gate, built_in_range, none_in_range}
 use Rattle.resolvo_encoder.proofs.encoder.Encoder.gate.Goals as goal
@@ -20,14 +19,14 @@ encode_need-requires-clause-in_range g c =
     (represents_in_range c.variable.new.self c.in_ok-gate.gate (Gate c.args.requirement) gives.coding gives.present) (none_in_range (count_of c.variable.new.self.search))
 
 pub returns-clause-encoded : goal.returns-clause-encoded
-returns-clause-encoded g c = λ p root lawful e has guarded asked.
+returns-clause-encoded g c = λ p root lawful e has asked.
     let exact : IsExact g.S.PartialEq.eq = record { one = g.met.S.Exact.exact; own = g.met.S.Eq.laws.refl } in
     let middle : Encoder _ _ = record c.args.self.now { coding = c.variable.new.self } in
     let gives = c.in_ok-gate.ensures.given in
     let rest : SameButCoding c.args.self.now middle = record { registry = refl; lists = refl; queue = refl; gates = refl; recorded = refl; parents = refl; encoded = refl; deferred = refl; fired = refl } in
     let kept = gives_keeps g.S.PartialEq.eq exact p root lawful (Gate c.args.requirement) c.in_ok-gate.gate c.args.self.now middle e gives rest in
     let new_clause = c.in_ok-encode_need.ensures.kind in
-    let (kind, rules) = need_keeps g.S.PartialEq.eq exact p root lawful (Kind.Shared c.args.requirement) c.in_ok-gate.gate None c.args.requirement middle c.encode_need.new.self kept has (guard_grows g.S.PartialEq.eq exact p root c.args.self.now middle c.args.requirement gives.grows guarded) (refl, refl, gives.present, asked) (shared_ready g.S.PartialEq.eq exact p root lawful middle c.args.requirement) new_clause in
+    let (kind, rules) = need_keeps g.S.PartialEq.eq exact p root lawful (Kind.Shared c.args.requirement) c.in_ok-gate.gate None c.args.requirement middle c.encode_need.new.self kept has (refl, refl, gives.present, asked) (shared_ready g.S.PartialEq.eq exact p root lawful middle c.args.requirement) new_clause in
     let rule = rules (Rule.shared c.args.requirement) refl in
     let present = represents_grow c.variable.new.self c.encode_need.new.self.coding c.in_ok-gate.gate (Gate c.args.requirement) new_clause.states.grows gives.present in
     (gate_recorded g.S.PartialEq.eq exact p root lawful c.encode_need.new.self (record c.encode_need.new.self { gates = c.insert.new.self }) c.args.requirement c.in_ok-gate.gate kind present rule c.in_ok-insert.ensures.put refl, rule)

@@ -2,7 +2,7 @@ use Rattle.std.proofs.Common.{ap}
 use Rattle.resolvo_sat.specs.RuleClauses.{IsExact}
 use Rattle.resolvo_store_core.specs.declared.lists.FixedLists.{FixedLists}
 use Rattle.resolvo_encoder.proofs.EnrollLemmas.{fixes_keep, fixes_add, fixes_extend, built_fixes}
-use Rattle.resolvo_encoder.proofs.RequireLemmas.{extends_then, guard_grows}
+use Rattle.resolvo_encoder.proofs.RequireLemmas.{extends_then}
 use Rattle.resolvo_encoder.proofs.encoder.Encoder.require.Goals as goal
 
 pub require_again-requires : goal.require_again-requires
@@ -13,8 +13,7 @@ returns-clause-encoded g c = λ p root lawful e offered prepared needs.
     let exact : IsExact g.S.PartialEq.eq = record { one = g.met.S.Exact.exact; own = g.met.S.Eq.laws.refl } in
     let fixes = c.in_ok-fix_candidates.ensures.fixed in
     let (fixed, has) = fixes_keep g.S.PartialEq.eq exact p root lawful c.args.need.requirement c.args.offered.now c.args.self.now c.fix_candidates.new.self e offered prepared fixes in
-    let grown = guard_grows g.S.PartialEq.eq exact p root c.args.self.now c.fix_candidates.new.self c.args.need.requirement (fixes_extend g.S.PartialEq.eq c.args.need.requirement c.args.offered.now c.args.self.now c.fix_candidates.new.self fixes).grows prepared.0 in
-    c.in_ok-require_again.ensures.encoded p root lawful fixed has grown needs
+    c.in_ok-require_again.ensures.encoded p root lawful fixed has needs
 
 pub returns-clause-candidates : goal.returns-clause-candidates
 returns-clause-candidates g c =

@@ -13,11 +13,11 @@ use Rattle.resolvo_encoder.proofs.BuildLemmas.{built_encodes}
 use Rattle.resolvo_encoder.proofs.encoder.Encoder.require_again.Goals as goal
 
 pub returns-in_ok-need_directly-in-None-clause-encoded : goal.returns-in_ok-need_directly-in-None-clause-encoded
-returns-in_ok-need_directly-in-None-clause-encoded g c = λ p root lawful e has guarded needs.
+returns-in_ok-need_directly-in-None-clause-encoded g c = λ p root lawful e has needs.
     let exact : IsExact g.S.PartialEq.eq = record { one = g.met.S.Exact.exact; own = g.met.S.Eq.laws.refl } in
     let rooted : c.root.result ≡ root_variable = ap (λ n. let v : VariableId = record { 0 = n } in v) c.root.ensures in
     let own : Needs g.S.PartialEq.eq p root None c.args.need = subst (λ (x : Option _). Needs g.S.PartialEq.eq p root x c.args.need) c.in-None.is needs in
-    let (kind, rule) = needed_keeps g.S.PartialEq.eq exact p root lawful None c.args.need c.root.result c.args.self.now c.need_directly.new.self e has guarded rooted own c.in_ok-need_directly-in-None.ensures.needed in
+    let (kind, rule) = needed_keeps g.S.PartialEq.eq exact p root lawful None c.args.need c.root.result c.args.self.now c.need_directly.new.self e has rooted own c.in_ok-need_directly-in-None.ensures.needed in
     (kind, subst (λ (x : Option _). IsNeedEncoded g.S.PartialEq.eq p (rules_of c.need_directly.new.self) x c.args.need []) (sym c.in-None.is) (inl rule))
 
 pub returns-in_ok-need_directly-in-None-clause-kept : goal.returns-in_ok-need_directly-in-None-clause-kept
@@ -31,9 +31,9 @@ returns-in_ok-need_directly-in-None-clause-built g c =
     built_encodes (Kind.Needs None c.args.need needed.case) c.root.result None c.args.need.requirement c.args.self.now c.need_directly.new.self c.requires (λ name s place bit h. absurd cc) needed.states
 
 pub returns-in_ok-require_of-in-Some-clause-encoded : goal.returns-in_ok-require_of-in-Some-clause-encoded
-returns-in_ok-require_of-in-Some-clause-encoded g c = λ p root lawful e has guarded needs.
+returns-in_ok-require_of-in-Some-clause-encoded g c = λ p root lawful e has needs.
     let own : Needs g.S.PartialEq.eq p root (Some c.in-Some.solvable) c.args.need = subst (λ (x : Option _). Needs g.S.PartialEq.eq p root x c.args.need) c.in-Some.is needs in
-    let (kind, encoded) = c.in_ok-require_of-in-Some.ensures.encoded p root lawful e has guarded own in
+    let (kind, encoded) = c.in_ok-require_of-in-Some.ensures.encoded p root lawful e has own in
     (kind, subst (λ (x : Option _). IsNeedEncoded g.S.PartialEq.eq p (rules_of c.require_of.new.self) x c.args.need []) (sym c.in-Some.is) encoded)
 
 pub returns-in_err-need_directly-in-None-clause-ids : goal.returns-in_err-need_directly-in-None-clause-ids

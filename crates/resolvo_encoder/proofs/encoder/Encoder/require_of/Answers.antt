@@ -10,7 +10,7 @@ use Rattle.resolvo_encoder.specs.declared.encoder.Encoder.{Encoder}
 use Rattle.resolvo_encoder.specs.Steps.{SameButCoding, Extends, LacksNumberFor}
 use Rattle.resolvo_state.proofs.Growth.{represents_grow, rules_grow, represents_in_range}
 use Rattle.resolvo_state.proofs.RegisterLemmas.{digits_more}
-use Rattle.resolvo_encoder.proofs.RequireLemmas.{extends_then, guard_grows}
+use Rattle.resolvo_encoder.proofs.RequireLemmas.{extends_then}
 use Rattle.resolvo_encoder.proofs.NeedLemmas.{needed_keeps, need_extends, gated_keeps, gives_keeps, needed_asks}
 use Rattle.resolvo_encoder.proofs.BuildLemmas.{built_gives, built_rest, built_encodes, trail_on}
 use Rattle.resolvo_encoder.proofs.encoder.Encoder.require_of.Goals as goal
@@ -23,13 +23,13 @@ pub need_directly-requires-clause-in_range : goal.need_directly-requires-clause-
 need_directly-requires-clause-in_range g c = represents_in_range c.variable.new.self c.in_ok-variable.variable (Solvable c.args.solvable) c.in_ok-variable.ensures.given.coding c.in_ok-variable.ensures.given.present
 
 pub returns-then-not-is_gated-clause-encoded : goal.returns-then-not-is_gated-clause-encoded
-returns-then-not-is_gated-clause-encoded g c = λ p root lawful e has guarded needs.
+returns-then-not-is_gated-clause-encoded g c = λ p root lawful e has needs.
     let exact : IsExact g.S.PartialEq.eq = record { one = g.met.S.Exact.exact; own = g.met.S.Eq.laws.refl } in
     let middle : Encoder _ _ = record c.args.self.now { coding = c.variable.new.self } in
     let gives = c.in_ok-variable.ensures.given in
     let rest : SameButCoding c.args.self.now middle = record { registry = refl; lists = refl; queue = refl; gates = refl; recorded = refl; parents = refl; encoded = refl; deferred = refl; fired = refl } in
     let kept = gives_keeps g.S.PartialEq.eq exact p root lawful (Solvable c.args.solvable) c.in_ok-variable.variable c.args.self.now middle e gives rest in
-    let (kinds, rule) = needed_keeps g.S.PartialEq.eq exact p root lawful (Some c.args.solvable) c.args.need c.in_ok-variable.variable middle c.need_directly.new.self kept has (guard_grows g.S.PartialEq.eq exact p root c.args.self.now middle c.args.need.requirement gives.grows guarded) gives.present needs c.in_ok-need_directly.ensures.needed in
+    let (kinds, rule) = needed_keeps g.S.PartialEq.eq exact p root lawful (Some c.args.solvable) c.args.need c.in_ok-variable.variable middle c.need_directly.new.self kept has gives.present needs c.in_ok-need_directly.ensures.needed in
     (kinds, inl rule)
 
 pub returns-then-not-is_gated-clause-kept : goal.returns-then-not-is_gated-clause-kept
@@ -53,13 +53,13 @@ pub open_gate-requires-clause-gate_in_range : goal.open_gate-requires-clause-gat
 open_gate-requires-clause-gate_in_range g c = represents_in_range c.gate.new.self.coding c.in_ok-gate.gate (Gate c.args.need.requirement) c.in_ok-gate.ensures.built.coding c.in_ok-gate.ensures.present
 
 pub returns-clause-encoded : goal.returns-clause-encoded
-returns-clause-encoded g c = λ p root lawful e has guarded needs.
+returns-clause-encoded g c = λ p root lawful e has needs.
     let exact : IsExact g.S.PartialEq.eq = record { one = g.met.S.Exact.exact; own = g.met.S.Eq.laws.refl } in
     let middle : Encoder _ _ = record c.args.self.now { coding = c.variable.new.self } in
     let gives = c.in_ok-variable.ensures.given in
     let rest : SameButCoding c.args.self.now middle = record { registry = refl; lists = refl; queue = refl; gates = refl; recorded = refl; parents = refl; encoded = refl; deferred = refl; fired = refl } in
     let kept = gives_keeps g.S.PartialEq.eq exact p root lawful (Solvable c.args.solvable) c.in_ok-variable.variable c.args.self.now middle e gives rest in
-    let (gated, shared) = c.in_ok-gate.ensures.encoded p root lawful kept has (guard_grows g.S.PartialEq.eq exact p root c.args.self.now middle c.args.need.requirement gives.grows guarded)
+    let (gated, shared) = c.in_ok-gate.ensures.encoded p root lawful kept has
     (c.args.solvable, needed_asks g.S.PartialEq.eq exact p root lawful c.args.solvable c.args.need needs.listed needs.free) in
     let opened = c.in_ok-open_gate.ensures.opened in
     let present = represents_grow c.variable.new.self c.gate.new.self.coding c.in_ok-variable.variable (Solvable c.args.solvable) c.in_ok-gate.ensures.kept.grows gives.present in
