@@ -56,8 +56,8 @@ module _ {N S : Type 0} (same : S → S → Bool) (p : Packages N S) (lists more
   pub queued_grows : (x : Option (ClauseKind N S)) (q : NeedClause) → IsQueuedFor same p lists old.atoms.keys x q → IsQueuedFor same p more new.atoms.keys x q
   queued_grows None q h = h
   queued_grows (Some Kind.Root) q h = h
-  queued_grows (Some (Kind.Needs None need case)) q (a, b, c) = (a, condition_grows q.condition case.items b, c)
-  queued_grows (Some (Kind.Needs (Some s) need case)) q (a, b, c) = (a, condition_grows q.condition case.items b, represents_grow old new q.parent (Solvable s) grows c)
+  queued_grows (Some (Kind.Needs None need case)) q (a, b, c) = (a, condition_grows q.condition case b, c)
+  queued_grows (Some (Kind.Needs (Some s) need case)) q (a, b, c) = (a, condition_grows q.condition case b, represents_grow old new q.parent (Solvable s) grows c)
   queued_grows (Some (Kind.Gated s r)) q h = h
   queued_grows (Some (Kind.Shared r)) q (a, b, c) = (a, b, represents_grow old new q.parent (Gate r) grows c)
   queued_grows (Some (Kind.Limits parent v s)) q h = h

@@ -299,10 +299,10 @@ module _ {N S : Type 0} (same : S → S → Bool) (p : Packages N S) (root : Rul
   queue_asks q (Some (Kind.Needs parent need case)) at (is, conditioned, present) t fell = inl (record {
     parent = parent;
     need = need;
-    case = case.items;
+    case = case;
     present = (q.clause.0, rule_at_kind e.coding.kinds.items q.clause.0 (Kind.Needs parent need case) at);
     chosen = parent_true parent q.parent present t;
-    holds = case_false q.condition case.items conditioned fell;
+    holds = case_false q.condition case conditioned fell;
     asks = is;
   })
   queue_asks q (Some (Kind.Shared r)) at (is, free, present) t fell = inr (record {

@@ -150,29 +150,29 @@ module _ {N S : Type 0} (same : S → S → Bool) (exact : IsExact same) (p : Pa
   })
 
   -- the clause of a case was added, whose packages are recorded
-  pub case_keeps : IsLawful p → (parent : Option S) (need : ConditionalRequirement) (case : Vec VersionSetId Global) (v : VariableId) (id : DenseId DisjunctionTag ℕ) (given : Disjunction) (old : Encoder N S) (ls : FixedLists N) (new : Encoder N S) → IsEncoding same p root old
+  pub case_keeps : IsLawful p → (parent : Option S) (need : ConditionalRequirement) (case : List VersionSetId) (v : VariableId) (id : DenseId DisjunctionTag ℕ) (given : Disjunction) (old : Encoder N S) (ls : FixedLists N) (new : Encoder N S) → IsEncoding same p root old
       → FixesDisjunction id.raw given old.lists ls → has_candidates old.lists need.requirement ≡ true → IsParentVariable old.coding.atoms.keys parent v → Contains (rules_for same p root parent).requirements need
-      → Contains (cases_for same p need) case.items → AreMatched same p case.items → AreInRange (count_of old.coding.search) given.literals.items → AreCaseLiterals same p old case.items given.literals.items → EncodesNeed (Kind.Needs parent need case) v (Some id) need.requirement (record old { lists = ls }) new
-      → IsEncoding same p root new × E.rules_of new (Rule.needs parent need case.items)
+      → Contains (cases_for same p need) case → AreMatched same p case → AreInRange (count_of old.coding.search) given.literals.items → AreCaseLiterals same p old case given.literals.items → EncodesNeed (Kind.Needs parent need case) v (Some id) need.requirement (record old { lists = ls }) new
+      → IsEncoding same p root new × E.rules_of new (Rule.needs parent need case)
   case_keeps lawful parent need case v id given old ls new e fixes has_list present listed cased matched below at_least_one new_clause =
       let middle = disjunction_keeps same exact p root lawful id.raw given old ls e fixes in
       let has_still : has_candidates ls need.requirement ≡ true = ap (λ cs. is_some (slot_of cs need.requirement)) fixes.candidates ∙ has_list in
       let (keeps, rules) = need_keeps same exact p root lawful (Kind.Needs parent need case) v (Some id) need.requirement (record old { lists = ls }) new middle has_still (refl, present, conditioned, listed, cased, matched) ready new_clause in
-      (keeps, rules (Rule.needs parent need case.items) refl)
+      (keeps, rules (Rule.needs parent need case) refl)
     where
       literals : condition_in ls (Some id) ≡ given.literals.items
       literals = disjunction_is id given old.lists ls fixes
 
-      conditioned : IsCondition same p ls old.coding.atoms.keys (Some id) case.items
+      conditioned : IsCondition same p ls old.coding.atoms.keys (Some id) case
       conditioned = record {
         there = disjunction_there id given old.lists ls fixes;
         in_range = subst (AreInRange (suc (length old.coding.atoms.keys))) (sym literals) (subst (λ n. AreInRange n given.literals.items) (count_is old.coding e.coding) below);
-        spells = subst (λ (xs : List Signed). Spells (origin old.coding.atoms.keys) xs (case_literals same p case.items)) (sym literals) at_least_one.spells;
+        spells = subst (λ (xs : List Signed). Spells (origin old.coding.atoms.keys) xs (case_literals same p case)) (sym literals) at_least_one.spells;
       }
 
       ready : IsReady same exact p root lawful (record old { lists = ls }) (Kind.Needs parent need case)
       ready who wanted vs w states h =
-          let which : case.items ≡ vs = cc in
+          let which : case ≡ vs = cc in
           let there = subst (λ (xs : List VersionSetId). Contains xs w) (sym which) h in
           at_least_one.sets w there
 
@@ -218,8 +218,8 @@ pub record EncodesCase {N S : Type 0} (same : S → S → Bool) (parent : Option
   pub variable : VariableId
   pub id : DenseId DisjunctionTag ℕ
   pub given : Disjunction
-  pub case : Vec VersionSetId Global
-  pub is_case : case.items ≡ sets_case sets
+  pub case : List VersionSetId
+  pub is_case : case ≡ sets_case sets
   pub fixes : Fixes same need.requirement offered old fixed
   pub encodes : EncodesRules same [] fixed named
   pub present : IsParentVariable named.coding.atoms.keys parent variable

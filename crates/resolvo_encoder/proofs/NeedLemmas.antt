@@ -146,13 +146,13 @@ module _ {N S : Type 0} (same : S → S → Bool) (exact : IsExact same) (p : Pa
   need_rule : (e : Encoder N S) → IsEncoding same p root e → (x : ClauseKind N S) (v : VariableId) (condition : Option (DenseId DisjunctionTag ℕ)) (r : Requirement) → has_candidates e.lists r ≡ true → IsNeed same p root e.lists e.coding.atoms.keys x v condition r → (q : Rule N S) → rule_of x ≡ Some q
       → IsRule same p root q × Spells (origin e.coding.atoms.keys) (need_literals e v condition r) (literals_of same p q)
   need_rule e holds (Kind.Needs parent need case) v condition r has_list (is, present, conditioned, listed, cased, matched) q one =
-      let rule : Rule.needs parent need case.items ≡ q = some_one (Rule.needs parent need case.items) q one in
+      let rule : Rule.needs parent need case ≡ q = some_one (Rule.needs parent need case) q one in
       subst (λ (y : Rule N S). IsRule same p root y × Spells (origin e.coding.atoms.keys) (need_literals e v condition r) (literals_of same p y)) rule (
         (listed, cased, matched),
-        subst (λ y. Spells (origin e.coding.atoms.keys) (need_literals e v condition r) (parent_literals parent ++ (case_literals same p case.items ++ candidate_literals same p (alternatives_of p.members_of y)))) (sym is)
-            (spells_join (origin e.coding.atoms.keys) (no v ∷ []) (condition_in e.lists condition ++ literals_in (candidates_in e.lists r)) (parent_literals parent) (case_literals same p case.items ++ candidate_literals same p (alternatives_of p.members_of r))
+        subst (λ y. Spells (origin e.coding.atoms.keys) (need_literals e v condition r) (parent_literals parent ++ (case_literals same p case ++ candidate_literals same p (alternatives_of p.members_of y)))) (sym is)
+            (spells_join (origin e.coding.atoms.keys) (no v ∷ []) (condition_in e.lists condition ++ literals_in (candidates_in e.lists r)) (parent_literals parent) (case_literals same p case ++ candidate_literals same p (alternatives_of p.members_of r))
             (parent_spells e.coding.atoms.keys parent v present)
-            (spells_join (origin e.coding.atoms.keys) (condition_in e.lists condition) (literals_in (candidates_in e.lists r)) (case_literals same p case.items) (candidate_literals same p (alternatives_of p.members_of r)) conditioned.spells (candidates_spell e holds r has_list))),
+            (spells_join (origin e.coding.atoms.keys) (condition_in e.lists condition) (literals_in (candidates_in e.lists r)) (case_literals same p case) (candidate_literals same p (alternatives_of p.members_of r)) conditioned.spells (candidates_spell e holds r has_list))),
       )
   need_rule e holds (Kind.Shared w) v condition r has_list (is, free, present, asked) q one =
       let rule : Rule.shared w ≡ q = some_one (Rule.shared w) q one in
@@ -204,9 +204,9 @@ module _ {N S : Type 0} (same : S → S → Bool) (exact : IsExact same) (p : Pa
   need_condition ls atoms (Kind.Needs parent need case) v condition r (is, present, conditioned, listed, cased, matched) l s h m = elim (conditioned.spells.only l h) [
     | inl z ↦ absurd (both_ways false refl (ap (λ (y : Signed). y.positive) (sym z) ∙ (means_solvable atoms l s m).0))
     | inr (other, c) ↦
-        let (w, there, which) = in_case same exact p case.items (meaning (origin atoms) l) c in
+        let (w, there, which) = in_case same exact p case (meaning (origin atoms) l) c in
         let (free, out) = outside_set atoms w l s which m in
-        (parent, need, case.items, w, refl, there, free, out)
+        (parent, need, case, w, refl, there, free, out)
   ]
   need_condition ls atoms (Kind.Shared w) v condition r (is, free, present, asked) l s h m = absurd (both_ways false refl (subst (λ c. has (condition_in ls c) l ≡ true) free h))
   need_condition ls atoms Kind.Root v condition r need l s h m = absurd need
@@ -223,7 +223,7 @@ module _ {N S : Type 0} (same : S → S → Bool) (exact : IsExact same) (p : Pa
 
   -- the requirement of a need's rule
   asks_need : (ls : FixedLists N) (atoms : List (ProofAtom N S)) (x : ClauseKind N S) (v : VariableId) (condition : Option (DenseId DisjunctionTag ℕ)) (r : Requirement) → IsNeed same p root ls atoms x v condition r → (q : Requirement) → HasClause same p (λ rule. rule_of x ≡ Some rule) q → q ≡ r
-  asks_need ls atoms (Kind.Needs parent need case) v condition r (is, present, conditioned, listed, cased, matched) q (inl (other, wanted, vs, e, f)) = f ∙ sym (ap (requirement_in r) (some_one (Rule.needs parent need case.items) (Rule.needs other wanted vs) e)) ∙ is
+  asks_need ls atoms (Kind.Needs parent need case) v condition r (is, present, conditioned, listed, cased, matched) q (inl (other, wanted, vs, e, f)) = f ∙ sym (ap (requirement_in r) (some_one (Rule.needs parent need case) (Rule.needs other wanted vs) e)) ∙ is
   asks_need ls atoms (Kind.Needs parent need case) v condition r h q (inr e) = absurd cc
   asks_need ls atoms (Kind.Shared w) v condition r h q (inl (other, wanted, vs, e, f)) = absurd cc
   asks_need ls atoms (Kind.Shared w) v condition r (is, free, present, asked) q (inr e) = sym (ap (requirement_in r) (some_one (Rule.shared w) (Rule.shared q) e)) ∙ is
@@ -394,30 +394,30 @@ module _ {N S : Type 0} (same : S → S → Bool) (exact : IsExact same) (p : Pa
       }
 
   -- a requirement without condition is encoded for the empty case
-  plain_need : (e : Encoder N S) (parent : Option S) (need : ConditionalRequirement) (case : Vec VersionSetId Global) (v : VariableId) → case.items ≡ [] → Needs same p root parent need → IsParentVariable e.coding.atoms.keys parent v
-      → IsNeed same p root e.lists e.coding.atoms.keys (Kind.Needs parent need case) v None need.requirement
-  plain_need e parent need case v none needs present = (
+  plain_need : (e : Encoder N S) (parent : Option S) (need : ConditionalRequirement) (v : VariableId) → Needs same p root parent need → IsParentVariable e.coding.atoms.keys parent v
+      → IsNeed same p root e.lists e.coding.atoms.keys (Kind.Needs parent need []) v None need.requirement
+  plain_need e parent need v needs present = (
     refl,
     present,
     record {
       there = tt;
       in_range = λ l h. absurd (both_ways false refl h);
-      spells = subst (λ vs. Spells (origin e.coding.atoms.keys) [] (case_literals same p vs)) (sym none) (record { only = λ l h. absurd (both_ways false refl h); each = λ m h. absurd (contains_none m h) });
+      spells = record { only = λ l h. absurd (both_ways false refl h); each = λ m h. absurd (contains_none m h) };
     },
     needs.listed,
-    subst (λ vs. Contains (cases_for same p need) vs) (sym none) (subst (λ c. Contains (cases_under p.condition_of c) []) (sym needs.free) (contains_only [])),
-    λ w h. absurd (contains_none w (subst (λ vs. Contains vs w) none h)),
+    subst (λ c. Contains (cases_under p.condition_of c) []) (sym needs.free) (contains_only []),
+    λ w h. absurd (contains_none w h),
   )
 
   -- the clause of a parent's requirement without condition was added
   pub needed_keeps : (parent : Option S) (need : ConditionalRequirement) (v : VariableId) (old new : Encoder N S) → IsEncoding same p root old → has_candidates old.lists need.requirement ≡ true
       → IsParentVariable old.coding.atoms.keys parent v → Needs same p root parent need → NeedsDirectly parent need v old new → IsEncoding same p root new × E.rules_of new (Rule.needs parent need [])
   needed_keeps parent need v old new e has_list present needs new_clause =
-      let (keeps, rules) = need_keeps (Kind.Needs parent need new_clause.case) v None need.requirement old new e has_list (plain_need old parent need new_clause.case v new_clause.none needs present) ready new_clause.states in
-      (keeps, subst (λ vs. E.rules_of new (Rule.needs parent need vs)) new_clause.none (rules (Rule.needs parent need new_clause.case.items) refl))
+      let (keeps, rules) = need_keeps (Kind.Needs parent need []) v None need.requirement old new e has_list (plain_need old parent need v needs present) ready new_clause in
+      (keeps, rules (Rule.needs parent need []) refl)
     where
-      ready : IsReady old (Kind.Needs parent need new_clause.case)
-      ready who wanted vs w states h = let which : new_clause.case.items ≡ vs = cc in absurd (contains_none w (subst (λ xs. Contains xs w) (sym which ∙ new_clause.none) h))
+      ready : IsReady old (Kind.Needs parent need [])
+      ready who wanted vs w states h = let which : [] ≡ vs = cc in absurd (contains_none w (subst (λ xs. Contains xs w) (sym which) h))
 
   -- the clause of a gate has no case
   pub shared_ready : (e : Encoder N S) (r : Requirement) → IsReady e (Kind.Shared r)

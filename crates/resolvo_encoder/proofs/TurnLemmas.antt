@@ -216,10 +216,10 @@ module _ {N S : Type 0} (same : S → S → Bool) (exact : IsExact same) (p : Pa
   queue_fits holds r (inl k) q (Kind.Needs parent need case) (is, conditioned, present) kind_is =
       let wanted : need ≡ k.need = cc in
       let who : parent ≡ k.parent = cc in
-      let which : case.items ≡ k.case = cc in
+      let which : case ≡ k.case = cc in
       record {
         requirement = is ∙ ap (λ (n : ConditionalRequirement). n.requirement) wanted ∙ sym k.asks;
-        condition = condition_fell holds q.condition case.items conditioned (subst (λ vs. Ending.AreFalse (known_of (origin e.coding.atoms.keys) (history e.coding.search)) (case_literals same p vs)) (sym which) k.holds);
+        condition = condition_fell holds q.condition case conditioned (subst (λ vs. Ending.AreFalse (known_of (origin e.coding.atoms.keys) (history e.coding.search)) (case_literals same p vs)) (sym which) k.holds);
         parent = parent_found holds k.parent q.parent (subst (λ (o : Option S). IsParentVariable e.coding.atoms.keys o q.parent) who present) k.chosen;
       }
   queue_fits holds r (inr k) q (Kind.Shared w) (is, free, present) kind_is =

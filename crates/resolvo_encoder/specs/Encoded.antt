@@ -102,7 +102,7 @@ module _ {N S : Type 0} (same : S → S → Bool) (p : Packages N S) (lists : Fi
   abbrev pub IsQueuedFor : List (ProofAtom N S) → Option (ClauseKind N S) → NeedClause → Type 0
   IsQueuedFor atoms None q = ⊥
   IsQueuedFor atoms (Some Kind.Root) q = ⊥
-  IsQueuedFor atoms (Some (Kind.Needs parent need case)) q = (q.requirement ≡ need.requirement) × IsCondition atoms q.condition case.items × IsParentVariable atoms parent q.parent
+  IsQueuedFor atoms (Some (Kind.Needs parent need case)) q = (q.requirement ≡ need.requirement) × IsCondition atoms q.condition case × IsParentVariable atoms parent q.parent
   IsQueuedFor atoms (Some (Kind.Gated s r)) q = ⊥
   IsQueuedFor atoms (Some (Kind.Shared r)) q = (q.requirement ≡ r) × (q.condition ≡ None) × Represents atoms q.parent (Gate r)
   IsQueuedFor atoms (Some (Kind.Limits parent v s)) q = ⊥

@@ -166,7 +166,7 @@ pub record EncodesNeed {N S : Type 0} (kinds : ClauseKind N S) (v : VariableId) 
 -- has. The variable is the parent's or the gate's, the condition's literals are the case's.
 abbrev pub IsNeed : {N S : Type 0} → (S → S → Bool) → Packages N S → Rules → FixedLists N → List (ProofAtom N S) → ClauseKind N S → VariableId → Option (DenseId DisjunctionTag ℕ) → Requirement → Type 0
 IsNeed same p root lists atoms Kind.Root v condition r = ⊥
-IsNeed same p root lists atoms (Kind.Needs parent need case) v condition r = (need.requirement ≡ r) × IsParentVariable atoms parent v × IsCondition same p lists atoms condition case.items × Contains (rules_for same p root parent).requirements need × Contains (cases_for same p need) case.items × AreMatched same p case.items
+IsNeed same p root lists atoms (Kind.Needs parent need case) v condition r = (need.requirement ≡ r) × IsParentVariable atoms parent v × IsCondition same p lists atoms condition case × Contains (rules_for same p root parent).requirements need × Contains (cases_for same p need) case × AreMatched same p case
 IsNeed same p root lists atoms (Kind.Gated s w) v condition r = ⊥
 IsNeed same p root lists atoms (Kind.Shared w) v condition r = (w ≡ r) × (condition ≡ None) × Represents atoms v (Gate w) × IsRule same p root (Rule.shared w)
 IsNeed same p root lists atoms (Kind.Limits parent w s) v condition r = ⊥
@@ -217,10 +217,8 @@ pub record UsesGate {N S : Type 0} (parent : Option S) (r : Requirement) (old ne
   pub few : is_gated old.lists r ≡ false → new.gates ≡ old.gates
 
 -- the clause of the parent's requirement was added
-pub record NeedsDirectly {N S : Type 0} (parent : Option S) (need : ConditionalRequirement) (v : VariableId) (old new : Encoder N S) : Type 0 where
-  pub case : Vec VersionSetId Global
-  pub none : case.items ≡ []
-  pub states : EncodesNeed (Kind.Needs parent need case) v None need.requirement old new
+abbrev pub NeedsDirectly : {N S : Type 0} → Option S → ConditionalRequirement → VariableId → Encoder N S → Encoder N S → Type 0
+NeedsDirectly parent need v old new = EncodesNeed (Kind.Needs parent need []) v None need.requirement old new
 
 -- the clause from the solvable to the gate was added
 pub record Opens {N S : Type 0} (s : S) (v gate : VariableId) (r : Requirement) (old new : Encoder N S) : Type 0 where

@@ -29,6 +29,7 @@ use resolvo_pool_core::requirement::{ConditionalRequirement, Requirement, Requir
 use resolvo_pool_core::solver_id::SolvableIdOrRoot;
 use resolvo_pool_core::want::R;
 use resolvo_state::atom::ProofAtom;
+use resolvo_state::case::Case;
 use resolvo_state::clause_kind::ClauseKind;
 use resolvo_state::registry::Registry;
 use resolvo_state::solver_state::SolverState;
@@ -319,7 +320,7 @@ impl<N: Copy + Exact + Hash + Debug + Drop, S: Copy + Exact + Hash + Debug> Enco
         let kind = ClauseKind::Needs {
             parent,
             need,
-            case: Vec::new(alloc),
+            case: Case::empty(alloc),
         };
         self.encode_need(kind, variable, None, need.requirement)?;
         Ok(())

@@ -6,7 +6,6 @@ use Rattle.std.proofs.lemmas.Option.{slice_get_within}
 use Rattle.std.proofs.lemmas.List.{map-append}
 use Rattle.resolvo_pool_core.specs.declared.id.ClauseId.{ClauseId}
 use Rattle.resolvo_pool_core.specs.OnePass.{Literal}
-use Rattle.std.specs.List.{AllZip}
 use Rattle.resolvo_store_core.specs.Signed.{Signed, has}
 use Rattle.resolvo_sat.specs.Clauses.{SatClause, causes_at}
 use Rattle.resolvo_sat.specs.State.{count_of}
@@ -20,7 +19,6 @@ use Rattle.resolvo_state.specs.declared.solver_state.SolverState.{SolverState}
 use Rattle.resolvo_state.specs.declared.clause_kind.ClauseKind.{ClauseKind}
 use Rattle.resolvo_state.specs.declared.clause_kind.ClauseKind.TheVariants as Kind
 use Rattle.resolvo_state.specs.ClauseKinds.{kind_at}
-use Rattle.resolvo_state.specs.StoredKinds.{IsCopyOf}
 use Rattle.resolvo_state.specs.Atoms.{atom_of, origin}
 use Rattle.resolvo_state.specs.SolverState.{IsCoding}
 use Rattle.resolvo_state.proofs.Origins.{atom_at_place}
@@ -80,13 +78,6 @@ has_read [] i d below = absurd (omega arith)
 has_read (x ∷ xs) zero d below = has_here x xs x refl
 has_read (x ∷ xs) (suc i) d below = has_later x xs (get_or xs i d) (has_read xs i d (omega arith))
 
--- copies in place of each item
-pub zip_same : {X : Type 0} (xs ys : List X) → AllZip (λ x y. y ≡ x) xs ys → ys ≡ xs
-zip_same [] [] h = refl
-zip_same [] (y ∷ ys) h = absurd h
-zip_same (x ∷ xs) [] h = absurd h
-zip_same (x ∷ xs) (y ∷ ys) h = ap (λ z. z ∷ ys) h.0 ∙ ap (λ zs. x ∷ zs) (zip_same xs ys h.1)
-
 -- a cause other than the root's clause is appended
 pub place_more : (cs : List ClauseId) (c : ClauseId) (k : ℕ) (ys : List ℕ) → c.0 ≡ suc k → ys ≡ places cs → ys ++ k ∷ [] ≡ places (cs ++ c ∷ [])
 place_more cs c k ys is e = ap (λ zs. zs ++ k ∷ []) e ∙ (ap (λ n. places cs ++ with_place n []) (sym is) ∙ sym (places-append cs (c ∷ [])))
@@ -111,13 +102,6 @@ pub causes_are : (cs : List SatClause) (n : ℕ) (clause : SatClause) → slice_
 causes_are [] n clause at = absurd cc
 causes_are (d ∷ cs) zero clause at = let same : d ≡ clause = cc in ap (λ (x : SatClause). x.causes) same
 causes_are (d ∷ cs) (suc n) clause at = causes_are cs n clause at
-
--- a copy of a kind encodes the same rule
-pub rule_copied : {N S : Type 0} (x copy : ClauseKind N S) (encoded : Option (ProofRule N S)) → IsCopyOf x copy → IsRuleOf copy encoded → IsRuleOf x encoded
-rule_copied {N} {S} x copy encoded (IsCopyOf.same e) rule = subst (λ (k : ClauseKind N S). IsRuleOf k encoded) e rule
-rule_copied {N} {S} x copy encoded (IsCopyOf.cased parent need case again x_is copy_is items) rule =
-    let (written, is, read) = subst (λ (k : ClauseKind N S). IsRuleOf k encoded) copy_is rule in
-    subst (λ (k : ClauseKind N S). IsRuleOf k encoded) (sym x_is) (written, is, read ∙ items)
 
 -- the step of a clause that encodes a rule
 pub rule_step : {N S : Type 0} (c : SolverState N S) (n : ℕ) (x : ClauseKind N S) (r : ProofRule N S) → n < length c.search.clauses → kind_at c.kinds.items n ≡ Some x → IsRuleOf x (Some r) → IsStepAt c n (Rule r)

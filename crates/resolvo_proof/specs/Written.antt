@@ -69,7 +69,7 @@ definition_rule Kind.Learnt = None
 -- the rule that is written for a kind; the root's clause and a learnt one have none
 abbrev pub IsRuleOf : {N S : Type 0} → ClauseKind N S → Option (ProofRule N S) → Type 0
 IsRuleOf Kind.Root encoded = encoded ≡ None
-IsRuleOf (Kind.Needs parent need case) encoded = (copy : Vec VersionSetId Global) × (encoded ≡ Some (Needs parent need.requirement copy)) × (copy.items ≡ case.items)
+IsRuleOf (Kind.Needs parent need case) encoded = (copy : Vec VersionSetId Global) × (encoded ≡ Some (Needs parent need.requirement copy)) × (copy.items ≡ case)
 IsRuleOf (Kind.Gated s r) encoded = encoded ≡ Some (GateOf s r)
 IsRuleOf (Kind.Shared r) encoded = encoded ≡ Some (Shared r)
 IsRuleOf (Kind.Limits parent v s) encoded = encoded ≡ Some (Limit parent v (Some s))

@@ -125,7 +125,7 @@ fn write_rule<N: Copy + Exact + Hash + Debug, S: Copy + Exact + Hash + Debug>(
         ClauseKind::Needs { parent, need, case } => Ok(Some(ProofRule::Needs {
             parent: *parent,
             requirement: need.requirement,
-            case: case.clone()?,
+            case: case.version_sets()?,
         })),
         ClauseKind::Gated {
             solvable,

@@ -8,7 +8,7 @@ use Rattle.resolvo_state.specs.declared.clause_kind.ClauseKind.TheVariants.{Root
 -- the rule of a kind of clause; the root's clause and a learnt one encode none
 abbrev pub rule_of : {N S : Type 0} → ClauseKind N S → Option (Rule N S)
 rule_of Root = None
-rule_of (Needs parent need case) = Some (Rule.needs parent need case.items)
+rule_of (Needs parent need case) = Some (Rule.needs parent need case)
 rule_of (Gated s r) = Some (Rule.gated s r)
 rule_of (Shared r) = Some (Rule.shared r)
 rule_of (Limits parent v s) = Some (Rule.limits parent v s)

@@ -1,28 +1,16 @@
--- How kinds of clauses are stored: each need in a list of its own, by its index.
-use Rattle.std.specs.Prelude.{◌≡◌, ℕ, ◌<◌, List, [], ◌∷◌, map, slice_get, Option, Some, None}
-use Rattle.std.specs.Global.{Vec}
+-- How kinds of clauses are stored. A need under a condition lies in a list of its own, by its index.
+use Rattle.std.specs.Prelude.{ℕ, ◌<◌, ◌==◌, ◌&&◌, Bool, not, List, [], ◌∷◌, length, map, slice_get, Option, Some, None, is_some, if◌then◌else◌}
 use Rattle.resolvo_pool_core.specs.declared.id.VersionSetId.{VersionSetId}
 use Rattle.resolvo_pool_core.specs.declared.requirement.ConditionalRequirement.{ConditionalRequirement}
 use Rattle.resolvo_state.specs.declared.clause_kind.ClauseKind.{ClauseKind}
 use Rattle.resolvo_state.specs.declared.clause_kind.ClauseKind.TheVariants as Kind
 use Rattle.resolvo_state.specs.declared.clause_kinds.Need.{Need}
 use Rattle.resolvo_state.specs.declared.clause_kinds.StoredKind.{StoredKind}
-use Rattle.resolvo_state.specs.declared.clause_kinds.StoredKind.TheVariants.{Root, Needs, Gated, Shared, Limits, LimitsOutside, IsOut, Locked, Excluded, Digit, IsThere, Matches, Learnt}
+use Rattle.resolvo_state.specs.declared.clause_kinds.StoredKind.TheVariants.{Root, Plain, Needs, Gated, Shared, Limits, LimitsOutside, IsOut, Locked, Excluded, Digit, IsThere, Matches, Learnt}
 
 -- the kinds of clauses, in the order of their numbers
 pub record KindList (N S : Type 0) : Type 0 where
   pub items : List (ClauseKind N S)
-
--- the same kind, whose case is the same list
-pub data IsCopyOf {N S : Type 0} (x copy : ClauseKind N S) : Type 0 where
-  same : copy ≡ x → IsCopyOf x copy
-  cased : (parent : Option S) (need : ConditionalRequirement) (case again : Vec VersionSetId) → x ≡ Kind.Needs parent need case → copy ≡ Kind.Needs parent need again → again.items ≡ case.items → IsCopyOf x copy
-
--- a copy of the kind of the clause of this number
-pub record IsCopyAt {N S : Type 0} (kinds : List (ClauseKind N S)) (n : ℕ) (copy : ClauseKind N S) : Type 0 where
-  pub kind : ClauseKind N S
-  pub present : slice_get kinds n ≡ Some kind
-  pub copied : IsCopyOf kind copy
 
 -- the kind of a need's clause
 abbrev pub need_kind : {N S : Type 0} → Option (Need S) → ClauseKind N S
@@ -32,6 +20,7 @@ need_kind None = Kind.Learnt
 -- the kind that is stored so, over these needs
 abbrev pub kind_in : {N S : Type 0} → List (Need S) → StoredKind N S → ClauseKind N S
 kind_in needs Root = Kind.Root
+kind_in needs (Plain parent r) = Kind.Needs parent (record { condition = None; requirement = r }) []
 kind_in needs (Needs index) = need_kind (slice_get needs index)
 kind_in needs (Gated s r) = Kind.Gated s r
 kind_in needs (Shared r) = Kind.Shared r
@@ -48,10 +37,18 @@ kind_in needs Learnt = Kind.Learnt
 abbrev pub kinds_in : {N S : Type 0} → List (Need S) → List (StoredKind N S) → List (ClauseKind N S)
 kinds_in needs stored = map (kind_in needs) stored
 
+-- the need has no condition
+abbrev pub is_plain : ConditionalRequirement → List VersionSetId → Bool
+is_plain need case = not (is_some need.condition) && (length case == 0)
+
+-- how a need is stored, where it gets this index under a condition
+abbrev pub stored_need : {N S : Type 0} → ℕ → Option S → ConditionalRequirement → List VersionSetId → StoredKind N S
+stored_need index parent need case = if is_plain need case then Plain parent need.requirement else Needs index
+
 -- how a kind is stored, where its need gets this index
 abbrev pub stored_kind : {N S : Type 0} → ℕ → ClauseKind N S → StoredKind N S
 stored_kind index Kind.Root = Root
-stored_kind index (Kind.Needs parent need case) = Needs index
+stored_kind index (Kind.Needs parent need case) = stored_need index parent need case
 stored_kind index (Kind.Gated s r) = Gated s r
 stored_kind index (Kind.Shared r) = Shared r
 stored_kind index (Kind.Limits parent v s) = Limits parent v s
@@ -64,9 +61,9 @@ stored_kind index (Kind.IsThere n s) = IsThere n s
 stored_kind index (Kind.Matches v s) = Matches v s
 stored_kind index Kind.Learnt = Learnt
 
--- the need of a kind, if it has one
+-- the need of a kind, if it has one under a condition
 abbrev pub needs_of : {N S : Type 0} → ClauseKind N S → List (Need S)
-needs_of {N} {S} (Kind.Needs parent need case) = (let kept : Need S = record { parent = parent; need = need; case = case } in kept) ∷ []
+needs_of {N} {S} (Kind.Needs parent need case) = if is_plain need case then [] else (let kept : Need S = record { parent = parent; need = need; case = case } in kept) ∷ []
 needs_of {N} {S} other = []
 
 -- a need that the kind names is one of so many

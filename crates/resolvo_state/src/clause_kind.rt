@@ -1,5 +1,6 @@
 //! The rules that clauses encode. A parent is a solvable, or none for the root.
 
+use crate::case::Case;
 use resolvo_pool_core::id::{StringId, VersionSetId};
 use resolvo_pool_core::requirement::{ConditionalRequirement, Requirement};
 
@@ -12,7 +13,7 @@ pub enum ClauseKind<N, S> {
     Needs {
         parent: Option<S>,
         need: ConditionalRequirement,
-        case: Vec<VersionSetId>,
+        case: Case,
     },
     /// The solvable opens the gate of its requirement, which has no condition.
     Gated {

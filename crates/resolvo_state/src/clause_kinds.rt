@@ -1,9 +1,10 @@
 //! The kind of each clause, by the clause's number. A kind is stored small, since there may be many
-//! digits: each need lies in a list of its own. The model is the list of kinds.
-ghost use Rattle.std.specs.Prelude.{◌≡◌, ◌<◌, [], ◌∷◌, ◌++◌, length, is_ok, if◌then◌else◌, IfOk, OnOk};
+//! digits: each need under a condition lies in a list of its own. The model is the list of kinds.
+ghost use Rattle.std.specs.Prelude.{◌≡◌, ◌<◌, [], ◌∷◌, ◌++◌, Some, None, length, slice_get, is_ok, if◌then◌else◌, IfOk, OnOk};
 ghost use Rattle.resolvo_state.specs.declared.clause_kind.ClauseKind.TheVariants.{Needs, Digit};
-ghost use Rattle.resolvo_state.specs.StoredKinds.{IsCopyOf, IsCopyAt, kind_in, stored_kind, needs_of, IsWithin};
+ghost use Rattle.resolvo_state.specs.StoredKinds.{is_plain, kind_in, stored_kind, stored_need, needs_of, IsWithin};
 
+use crate::case::Case;
 use crate::clause_kind::ClauseKind;
 use resolvo_pool_core::id::{StringId, VersionSetId};
 use resolvo_pool_core::requirement::{ConditionalRequirement, Requirement};
@@ -15,14 +16,15 @@ use std::marker::Model;
 pub struct Need<S> {
     pub parent: Option<S>,
     pub need: ConditionalRequirement,
-    pub case: Vec<VersionSetId>,
+    pub case: Case,
 }
 
-/// A kind of clause as it is stored: a need is named by its index.
+/// A kind of clause as it is stored: a need under a condition is named by its index.
 #[derive(Clone, Copy, Debug)]
 pub enum StoredKind<N, S> {
     Root,
-    Needs(usize),
+    Plain(Option<S>, Requirement),
+    Needs(u32),
     Gated(S, Requirement),
     Shared(Requirement),
     Limits(Option<S>, VersionSetId, S),
@@ -76,22 +78,34 @@ impl<N: Copy, S: Copy> ClauseKinds<N, S> {
     pub fn push(&mut self, kind: ClauseKind<N, S>) -> Result<(), AllocError>
         ensures items { OnOk result (self.new.items ≡ self.old.items ++ kind ∷ []) }
     {
-        let stored = stored_kind(&kind, self.needs.len());
+        let index = index_after(self.needs.len())?;
+        let stored = stored_kind(&kind, index);
         push_need(&mut self.needs, kind)?;
         self.stored.push(stored)?;
         Ok(())
     }
 
-    /// A copy of the kind of a clause.
+    /// The kind of a clause.
     pub fn get(&self, number: usize) -> Result<ClauseKind<N, S>, AllocError>
         requires { number < length self.now.items }
-        ensures copy { IfOk result (IsCopyAt self.now.items number) }
+        ensures kind { IfOk result (λ k. slice_get self.now.items number ≡ Some k) }
     {
-        copy_of(self.needs.as_slice(), self.stored[number])
+        let alloc = *self.needs.allocator();
+        copy_of(alloc, self.needs.as_slice(), self.stored[number])
     }
 }
 
-/// Appends the need that a kind has, if it has one.
+/// The index after so many needs.
+fn index_after(count: usize) -> Result<u32, AllocError>
+    ensures { IfOk result (λ index. index ≡ count) }
+{
+    match u32::try_from(count) {
+        Ok(index) => Ok(index),
+        Err(_) => Err(AllocError),
+    }
+}
+
+/// Appends the need that a kind has, if it has one under a condition.
 fn push_need<N: Copy, S: Copy>(
     needs: &mut Vec<Need<S>>,
     kind: ClauseKind<N, S>,
@@ -100,64 +114,91 @@ fn push_need<N: Copy, S: Copy>(
         ≡ (if is_ok result then needs.old.items ++ needs_of kind else needs.old.items) }
 {
     if let ClauseKind::Needs { parent, need, case } = kind {
-        needs.push(Need { parent, need, case })?;
+        if !is_plain(need, &case) {
+            needs.push(Need { parent, need, case })?;
+        }
     }
     Ok(())
 }
 
+/// Whether a need has no condition.
+fn is_plain(need: ConditionalRequirement, case: &Case) -> bool
+    ensures { result ≡ is_plain need case.now }
+{
+    need.condition.is_none() && case.is_empty()
+}
+
+/// A need as it is stored, where it gets this index under a condition.
+fn stored_need<N: Copy, S: Copy>(
+    parent: Option<S>,
+    need: ConditionalRequirement,
+    case: &Case,
+    index: u32,
+) -> StoredKind<N, S>
+    ensures { result ≡ stored_need index parent need case.now }
+{
+    if is_plain(need, case) {
+        StoredKind::Plain(parent, need.requirement)
+    } else {
+        StoredKind::Needs(index)
+    }
+}
+
 /// The kind as it is stored, where its need gets this index.
-fn stored_kind<N: Copy, S: Copy>(kind: &ClauseKind<N, S>, index: usize) -> StoredKind<N, S>
+fn stored_kind<N: Copy, S: Copy>(kind: &ClauseKind<N, S>, index: u32) -> StoredKind<N, S>
     ensures { result ≡ stored_kind index kind.now }
 {
-    match *kind {
+    match kind {
         ClauseKind::Root => StoredKind::Root,
-        ClauseKind::Needs { .. } => StoredKind::Needs(index),
+        ClauseKind::Needs { parent, need, case } => stored_need(*parent, *need, case, index),
         ClauseKind::Gated {
             solvable,
             requirement,
-        } => StoredKind::Gated(solvable, requirement),
-        ClauseKind::Shared { requirement } => StoredKind::Shared(requirement),
+        } => StoredKind::Gated(*solvable, *requirement),
+        ClauseKind::Shared { requirement } => StoredKind::Shared(*requirement),
         ClauseKind::Limits {
             parent,
             version_set,
             barred,
-        } => StoredKind::Limits(parent, version_set, barred),
+        } => StoredKind::Limits(*parent, *version_set, *barred),
         ClauseKind::LimitsOutside {
             parent,
             version_set,
-        } => StoredKind::LimitsOutside(parent, version_set),
+        } => StoredKind::LimitsOutside(*parent, *version_set),
         ClauseKind::IsOut {
             version_set,
             solvable,
-        } => StoredKind::IsOut(version_set, solvable),
-        ClauseKind::Locked { locked, barred } => StoredKind::Locked(locked, barred),
-        ClauseKind::Excluded { solvable, reason } => StoredKind::Excluded(solvable, reason),
+        } => StoredKind::IsOut(*version_set, *solvable),
+        ClauseKind::Locked { locked, barred } => StoredKind::Locked(*locked, *barred),
+        ClauseKind::Excluded { solvable, reason } => StoredKind::Excluded(*solvable, *reason),
         ClauseKind::Digit {
             name,
             solvable,
             place,
             bit,
-        } => StoredKind::Digit(name, solvable, place, bit),
-        ClauseKind::IsThere { name, solvable } => StoredKind::IsThere(name, solvable),
+        } => StoredKind::Digit(*name, *solvable, *place, *bit),
+        ClauseKind::IsThere { name, solvable } => StoredKind::IsThere(*name, *solvable),
         ClauseKind::Matches {
             version_set,
             solvable,
-        } => StoredKind::Matches(version_set, solvable),
+        } => StoredKind::Matches(*version_set, *solvable),
         ClauseKind::Learnt => StoredKind::Learnt,
     }
 }
 
-/// A copy of a stored kind, with the case of its need.
+/// A stored kind, with the case of its need.
 fn copy_of<N: Copy, S: Copy>(
+    alloc: Global,
     needs: &[Need<S>],
     stored: StoredKind<N, S>,
 ) -> Result<ClauseKind<N, S>, AllocError>
     requires { IsWithin (length needs.now) stored }
-    ensures { IfOk result (IsCopyOf (kind_in needs.now stored)) }
+    ensures { IfOk result (λ k. k ≡ kind_in needs.now stored) }
 {
     Ok(match stored {
         StoredKind::Root => ClauseKind::Root,
-        StoredKind::Needs(index) => copy_need(&needs[index])?,
+        StoredKind::Plain(parent, requirement) => plain_kind(alloc, parent, requirement),
+        StoredKind::Needs(index) => copy_need(&needs[index as usize])?,
         StoredKind::Gated(solvable, requirement) => ClauseKind::Gated {
             solvable,
             requirement,
@@ -190,13 +231,31 @@ fn copy_of<N: Copy, S: Copy>(
 
 /// A copy of a need, as a kind.
 fn copy_need<N, S: Copy>(need: &Need<S>) -> Result<ClauseKind<N, S>, AllocError>
-    ensures { IfOk result (IsCopyOf (Needs need.now.parent need.now.need need.now.case)) }
+    ensures { IfOk result (λ k. k ≡ Needs need.now.parent need.now.need need.now.case) }
 {
     Ok(ClauseKind::Needs {
         parent: need.parent,
         need: need.need,
-        case: need.case.clone()?,
+        case: Case::of(need.case.version_sets()?),
     })
+}
+
+/// The kind of the clause of a need without a condition.
+fn plain_kind<N, S: Copy>(
+    alloc: Global,
+    parent: Option<S>,
+    requirement: Requirement,
+) -> ClauseKind<N, S>
+    ensures { result ≡ Needs parent (record { condition = None; requirement = requirement }) [] }
+{
+    ClauseKind::Needs {
+        parent,
+        need: ConditionalRequirement {
+            condition: None,
+            requirement,
+        },
+        case: Case::empty(alloc),
+    }
 }
 
 /// The kind of a clause of a digit.

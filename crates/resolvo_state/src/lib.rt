@@ -5,6 +5,7 @@
 
 pub mod add_clause;
 pub mod atom;
+pub mod case;
 pub mod chosen;
 pub mod clause_kind;
 pub mod clause_kinds;

@@ -7,6 +7,7 @@ ghost use Rattle.resolvo_state.specs.Registered.{AreTied};
 use resolvo_pool::{
     ConditionalRequirement, NameId, R, SolvableId, StringId, VariableId, VersionSetId,
 };
+use resolvo_state::case::Case;
 use resolvo_state::clause_kind::ClauseKind;
 use resolvo_state::registry::Registry;
 use resolvo_state::solver_state::SolverState;
@@ -139,7 +140,7 @@ fn need_one(
     let kinds = ClauseKind::Needs {
         parent: None,
         need,
-        case: Vec::new(alloc),
+        case: Case::empty(alloc),
     };
     coding.add_clause(kinds, &literals)?;
     Ok(())

@@ -14,6 +14,7 @@ use resolvo_proof::step::{ProofLiteral, ProofRule, ProofStep};
 use resolvo_sat::propagate_and_learn::StepResult;
 use resolvo_sat::state::SatState;
 use resolvo_state::atom::ProofAtom;
+use resolvo_state::case::Case;
 use resolvo_state::clause_kind::ClauseKind;
 use resolvo_state::solver_state::SolverState;
 use resolvo_store::Literal;
@@ -75,7 +76,7 @@ fn refuse(alloc: Global, coding: &mut TestCoding) -> R<Vec<TestStep>>
     let needs = ClauseKind::Needs {
         parent: None,
         need: ConditionalRequirement::from(VersionSetId(3)),
-        case: Vec::new(alloc),
+        case: Case::empty(alloc),
     };
     state(alloc, coding, needs, &[(0, false), (1, true), (2, true)])?;
     exclude(alloc, coding, 0)?;

@@ -7,4 +7,4 @@ pub encode_need-requires-clause-in_range : goal.encode_need-requires-clause-in_r
 encode_need-requires-clause-in_range g c = built_in_range c.args.self.now c.args.variable None c.args.need.requirement c.requires.built c.requires.in_range (none_in_range (count_of c.args.self.now.coding.search))
 
 pub returns-clause-needed : goal.returns-clause-needed
-returns-clause-needed g c = record { case = c.new.result; none = c.new.ensures.items; states = c.in_ok-encode_need.ensures.kind }
+returns-clause-needed g c = rw (← c.empty.ensures) c.in_ok-encode_need.ensures.kind

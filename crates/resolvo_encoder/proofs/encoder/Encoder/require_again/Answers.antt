@@ -23,12 +23,12 @@ returns-in_ok-need_directly-in-None-clause-encoded g c = λ p root lawful e has 
 pub returns-in_ok-need_directly-in-None-clause-kept : goal.returns-in_ok-need_directly-in-None-clause-kept
 returns-in_ok-need_directly-in-None-clause-kept g c =
     let needed = c.in_ok-need_directly-in-None.ensures.needed in
-    need_extends (Kind.Needs None c.args.need needed.case) c.root.result None c.args.need.requirement c.args.self.now c.need_directly.new.self needed.states
+    need_extends (Kind.Needs None c.args.need []) c.root.result None c.args.need.requirement c.args.self.now c.need_directly.new.self needed
 
 pub returns-in_ok-need_directly-in-None-clause-built : goal.returns-in_ok-need_directly-in-None-clause-built
 returns-in_ok-need_directly-in-None-clause-built g c =
     let needed = c.in_ok-need_directly-in-None.ensures.needed in
-    built_encodes (Kind.Needs None c.args.need needed.case) c.root.result None c.args.need.requirement c.args.self.now c.need_directly.new.self c.requires (λ name s place bit h. absurd cc) needed.states
+    built_encodes (Kind.Needs None c.args.need []) c.root.result None c.args.need.requirement c.args.self.now c.need_directly.new.self c.requires (λ name s place bit h. absurd cc) needed
 
 pub returns-in_ok-require_of-in-Some-clause-encoded : goal.returns-in_ok-require_of-in-Some-clause-encoded
 returns-in_ok-require_of-in-Some-clause-encoded g c = λ p root lawful e has needs.
@@ -42,8 +42,8 @@ returns-in_err-need_directly-in-None-clause-ids g c = search (rules, LacksNumber
 pub returns-in_ok-need_directly-in-None-clause-gate : goal.returns-in_ok-need_directly-in-None-clause-gate
 returns-in_ok-need_directly-in-None-clause-gate g c = record {
   gate = λ some many. absurd (both_ways _ (ap is_some c.in-None.is) some);
-  root = λ is. c.in_ok-need_directly-in-None.ensures.needed.states.gates;
-  few = λ few. c.in_ok-need_directly-in-None.ensures.needed.states.gates;
+  root = λ is. c.in_ok-need_directly-in-None.ensures.needed.gates;
+  few = λ few. c.in_ok-need_directly-in-None.ensures.needed.gates;
 }
 
 pub returns-in_ok-require_of-in-Some-clause-gate : goal.returns-in_ok-require_of-in-Some-clause-gate

@@ -1,4 +1,4 @@
-use Rattle.std.proofs.Common.{inl, rules}
+use Rattle.std.proofs.Common.{inl, ◌∙◌, rules}
 use Rattle.resolvo_sat.specs.RuleClauses.{IsExact}
 use Rattle.resolvo_store_core.specs.declared.lists.Disjunction.{Disjunction}
 use Rattle.resolvo_encoder.specs.Steps.{LacksNumberFor}
@@ -29,8 +29,8 @@ returns g c =
       variable = c.in_ok-variable.variable;
       id = c.in_ok-condition.condition;
       given = given;
-      case = c.in_ok-case.case;
-      is_case = c.in_ok-case.ensures.case;
+      case = c.of.result;
+      is_case = c.of.ensures ∙ c.in_ok-case.ensures.case;
       fixes = c.in_ok-fix_candidates.ensures.fixed;
       encodes = c.in_ok-variable.ensures.encodes;
       present = c.in_ok-variable.ensures.present;

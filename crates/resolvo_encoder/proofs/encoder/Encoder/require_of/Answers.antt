@@ -1,4 +1,4 @@
-use Rattle.std.proofs.Common.{inl, inr, Some, None, refl, sym, ◌∙◌, ap, rules}
+use Rattle.std.proofs.Common.{inl, inr, [], Some, None, refl, sym, ◌∙◌, ap, rules}
 use Rattle.std.specs.Option.{is_some}
 use Rattle.std.proofs.lemmas.Bool.{both_ways}
 use Rattle.resolvo_pool_core.specs.ByRequirement.{slot_of}
@@ -37,7 +37,7 @@ returns-then-not-is_gated-clause-kept g c =
     let middle : Encoder _ _ = record c.args.self.now { coding = c.variable.new.self } in
     let first : Extends c.args.self.now middle = record { grows = c.in_ok-variable.ensures.given.grows; trail = c.in_ok-variable.ensures.given.trail; softs = refl; parents = refl; encoded = refl; deferred = refl; fired = refl } in
     let needed = c.in_ok-need_directly.ensures.needed in
-    extends_then c.args.self.now middle c.need_directly.new.self first (need_extends (Kind.Needs (Some c.args.solvable) c.args.need needed.case) c.in_ok-variable.variable None c.args.need.requirement middle c.need_directly.new.self needed.states)
+    extends_then c.args.self.now middle c.need_directly.new.self first (need_extends (Kind.Needs (Some c.args.solvable) c.args.need []) c.in_ok-variable.variable None c.args.need.requirement middle c.need_directly.new.self needed)
 
 pub gate-requires : goal.gate-requires
 gate-requires g c =
@@ -84,8 +84,8 @@ pub returns-then-not-is_gated-clause-built : goal.returns-then-not-is_gated-clau
 returns-then-not-is_gated-clause-built g c =
     let middle : Encoder _ _ = record c.args.self.now { coding = c.variable.new.self } in
     let needed = c.in_ok-need_directly.ensures.needed in
-    built_encodes (Kind.Needs (Some c.args.solvable) c.args.need needed.case) c.in_ok-variable.variable None c.args.need.requirement middle c.need_directly.new.self
-    (built_gives (Solvable c.args.solvable) c.in_ok-variable.variable c.args.self.now c.variable.new.self c.requires c.in_ok-variable.ensures.given) (λ name s place bit h. absurd cc) needed.states
+    built_encodes (Kind.Needs (Some c.args.solvable) c.args.need []) c.in_ok-variable.variable None c.args.need.requirement middle c.need_directly.new.self
+    (built_gives (Solvable c.args.solvable) c.in_ok-variable.variable c.args.self.now c.variable.new.self c.requires c.in_ok-variable.ensures.given) (λ name s place bit h. absurd cc) needed
 
 pub returns-in_err-variable-clause-ids : goal.returns-in_err-variable-clause-ids
 returns-in_err-variable-clause-ids g c = search (rules, LacksNumberFor.coding)
@@ -100,7 +100,7 @@ pub returns-then-not-is_gated-clause-gate : goal.returns-then-not-is_gated-claus
 returns-then-not-is_gated-clause-gate g c = record {
   gate = λ some many. absurd (both_ways _ (sym c.is_gated.ensures ∙ c.if-not-is_gated.true) many);
   root = λ is. absurd cc;
-  few = λ few. c.in_ok-need_directly.ensures.needed.states.gates;
+  few = λ few. c.in_ok-need_directly.ensures.needed.gates;
 }
 
 pub returns-clause-gate : goal.returns-clause-gate

@@ -1,10 +1,10 @@
-use Rattle.std.proofs.Common.{◌≡◌, ◌<◌, List, Some, length, ap, subst, arith}
+use Rattle.std.proofs.Common.{◌≡◌, ◌<◌, List, Some, length, ap, sym, ◌∙◌, subst, arith}
 use Rattle.std.specs.Prelude.{slice_get}
 use Rattle.std.proofs.lemmas.List.{length-map}
 use Rattle.std.proofs.lemmas.Result.{IfOk-weaker}
 use Rattle.resolvo_state.specs.declared.clause_kind.ClauseKind.{ClauseKind}
 use Rattle.resolvo_state.specs.declared.clause_kinds.Need.{Need}
-use Rattle.resolvo_state.specs.StoredKinds.{KindList, kinds_in, kind_in, IsCopyOf, IsCopyAt}
+use Rattle.resolvo_state.specs.StoredKinds.{KindList, kinds_in, kind_in}
 use Rattle.resolvo_state.proofs.StoredLemmas.{within_at, kind_stored}
 use Rattle.resolvo_state.proofs.clause_kinds.ClauseKinds.get.Goals as goal
 
@@ -28,10 +28,7 @@ returns g c =
     let present : slice_get items c.args.number ≡ Some (kind_in inside.needs.items here) =
     kind_stored inside.needs.items inside.stored.items c.args.number here below c.index.ensures in
     record {
-      copy = IfOk-weaker c.copy_of.result (IsCopyOf (kind_in c.as_slice.result.now here)) (IsCopyAt c.args.self.now.items c.args.number)
-          (λ copy copied. record {
-            kind = kind_in inside.needs.items here;
-            present = subst (λ (ks : List (ClauseKind g.row.N.Denot g.row.S.Denot)). slice_get ks c.args.number ≡ Some (kind_in inside.needs.items here)) view present;
-            copied = subst (λ (needs : List (Need g.row.S.Denot)). IsCopyOf (kind_in needs here) copy) c.as_slice.ensures.value copied;
-          }) c.copy_of.ensures;
+      kind = IfOk-weaker c.copy_of.result (λ k. k ≡ kind_in c.as_slice.result.now here) (λ k. slice_get c.args.self.now.items c.args.number ≡ Some k)
+          (λ k copied. subst (λ (ks : List (ClauseKind g.row.N.Denot g.row.S.Denot)). slice_get ks c.args.number ≡ Some k) view
+          (present ∙ ap Some (sym (subst (λ (needs : List (Need g.row.S.Denot)). k ≡ kind_in needs here) c.as_slice.ensures.value copied)))) c.copy_of.ensures;
     }
