@@ -14,7 +14,7 @@ use Rattle.resolvo_catalogue_core.specs.declared.package.Package.TheVariants.{On
 use Rattle.resolvo_catalogue_core.specs.declared.version_list.VersionList.{VersionList}
 use Rattle.resolvo_catalogue_core.specs.Numbered.{beside, AreRising, IsAbove, IsSought, AreNumbered}
 use Rattle.resolvo_catalogue_core.specs.Questions.{number_of}
-use Rattle.resolvo_catalogue_core.specs.Table.{AddsNumber}
+use Rattle.resolvo_catalogue_core.specs.Table.{AddsBeside, AddsNumber}
 
 -- a number that is nowhere
 pub absent : (ns : List ℕ) (vs : List VersionNo) (k : ℕ) → ((j : ℕ) → j < length ns → get_or ns j 0 ≢ k) → beside ns vs k ≡ None
@@ -101,7 +101,7 @@ numbered_push ns vs n v paired new k = ap (λ (o : Option VersionNo). option_map
     choose false = refl
 
 -- one more version of a number above the others
-pub pushed : (p q : VersionList) (n : ℕ) (v : VersionNo) → AreNumbered p → p.by_number ≡ None → IsAbove n p.numbers.items → q.numbers.items ≡ p.numbers.items ++ n ∷ [] → q.versions.items ≡ p.versions.items ++ v ∷ [] → q.by_number ≡ None → AddsNumber (Some (Several p)) n v (Several q)
+pub pushed : (p q : VersionList) (n : ℕ) (v : VersionNo) → AreNumbered p → p.by_number ≡ None → IsAbove n p.numbers.items → q.numbers.items ≡ p.numbers.items ++ n ∷ [] → q.versions.items ≡ p.versions.items ++ v ∷ [] → q.by_number ≡ None → AddsBeside p.numbers.items p.versions.items n v q
 pushed p q n v kept unmapped above numbers versions unmapped_still =
     let ns = p.numbers.items in
     let vs = p.versions.items in
@@ -137,7 +137,7 @@ mapped_next ns vs i d w m o paired rising within so_far updated k = updated k �
 
 -- one more version of a new number, which the map finds
 pub mapped : (p q : VersionList) (n : ℕ) (v : VersionNo) (m : BTreeMap ℕ VersionNo) → AreNumbered p → beside p.numbers.items p.versions.items n ≡ None → ((k : ℕ) → get nat_cmp m k ≡ update nat_eq (beside p.numbers.items p.versions.items) n (Some v) k)
-    → q.numbers.items ≡ p.numbers.items ++ n ∷ [] → q.versions.items ≡ p.versions.items ++ v ∷ [] → q.by_number ≡ Some m → AddsNumber (Some (Several p)) n v (Several q)
+    → q.numbers.items ≡ p.numbers.items ++ n ∷ [] → q.versions.items ≡ p.versions.items ++ v ∷ [] → q.by_number ≡ Some m → AddsBeside p.numbers.items p.versions.items n v q
 mapped p q n v m kept new updated numbers versions is =
     let ns = p.numbers.items in
     let vs = p.versions.items in

@@ -34,13 +34,13 @@ pub record AreNumbered (l : VersionList) : Type 0 where
 -- the numbers of a package's versions
 abbrev pub numbers_of : Package → List ℕ
 numbers_of (One n v) = n ∷ []
-numbers_of (Several l) = l.numbers.items
+numbers_of (Several l) = l.value.numbers.items
 
 -- its versions
 abbrev pub versions_of : Package → List VersionNo
 versions_of (One n v) = v ∷ []
-versions_of (Several l) = l.versions.items
+versions_of (Several l) = l.value.versions.items
 
 abbrev pub IsNumbered : Package → Type 0
 IsNumbered (One n v) = ⊤
-IsNumbered (Several l) = AreNumbered l
+IsNumbered (Several l) = AreNumbered l.value

@@ -16,7 +16,8 @@ use Rattle.resolvo_catalogue_core.specs.LineKind.{LineKind}
 use Rattle.resolvo_catalogue_core.specs.LineKind as line_kinds
 use Rattle.resolvo_catalogue_core.specs.Held.{kind_list}
 use Rattle.resolvo_catalogue_core.specs.declared.package.Package.{Package}
-use Rattle.resolvo_catalogue_core.specs.Numbered.{beside, numbers_of, versions_of, IsNumbered}
+use Rattle.resolvo_catalogue_core.specs.declared.version_list.VersionList.{VersionList}
+use Rattle.resolvo_catalogue_core.specs.Numbered.{beside, numbers_of, versions_of, AreNumbered, IsNumbered}
 use Rattle.resolvo_catalogue_core.specs.Packages.{package_at, package_in}
 use Rattle.resolvo_catalogue_core.specs.declared.table.Table.{Table}
 
@@ -70,6 +71,12 @@ pub record IsPackage (versions : List Version) (name : List ℕ) (found : Option
   pub kept : (p : Package) → found ≡ Some p → IsNumbered p
   pub numbers : (k : ℕ) → IsOnly (number_in found k) (λ n. slice_get versions n ≡ Some (record { name = name; number = k }))
   pub all : AreAll (numbers_in found) (IsOfPackage versions name)
+
+-- The list has this version besides those that it had, which were beside these numbers.
+pub record AddsBeside (ns : List ℕ) (vs : List VersionNo) (number : ℕ) (version : VersionNo) (after : VersionList) : Type 0 where
+  pub kept : AreNumbered after
+  pub numbers : (k : ℕ) → option_map number_of (beside after.numbers.items after.versions.items k) ≡ (if number == k then Some version.0 else option_map number_of (beside ns vs k))
+  pub all : map number_of after.versions.items ≡ map number_of vs ++ version.0 ∷ []
 
 -- The package has this version besides those that it had.
 pub record AddsNumber (before : Option Package) (number : ℕ) (version : VersionNo) (after : Package) : Type 0 where

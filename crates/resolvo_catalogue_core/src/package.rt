@@ -22,7 +22,7 @@ use std::ops::Bound;
 #[derive(Drop)]
 pub enum Package {
     One { number: u32, version: VersionNo },
-    Several(VersionList),
+    Several(Box<VersionList>),
 }
 
 impl Package {
@@ -179,7 +179,7 @@ impl Package {
             } => {
                 let mut list = VersionList::of(alloc, *of, *first)?;
                 let added = list.add(number, version)?;
-                *self = Package::Several(list);
+                *self = Package::Several(Box::new(alloc, list)?);
                 Ok(added)
             }
             Package::Several(list) => list.add(number, version),

@@ -10,8 +10,7 @@ ghost use Rattle.resolvo_catalogue_core.specs.Numbered.{beside, AreRising, IsAbo
 ghost use Rattle.std.specs.BTreeMap.Range.{range_contains, IsLeBy, IsLtBy};
 ghost use Rattle.std.specs.Range.Bound.{IsForward};
 ghost use Rattle.resolvo_catalogue_core.specs.Picked.{IsAmong, AddsEach};
-ghost use Rattle.resolvo_catalogue_core.specs.Table.{AddsNumber};
-ghost use Rattle.resolvo_catalogue_core.specs.declared.package.Package.TheVariants.{Several};
+ghost use Rattle.resolvo_catalogue_core.specs.Table.{AddsBeside};
 
 use crate::picked::{add_mapped, add_rising};
 use crate::rule::VersionNo;
@@ -27,7 +26,7 @@ pub struct VersionList {
 }
 
 /// The room that is made at first for the versions of a package.
-const FEW: usize = 4;
+const FEW: usize = 8;
 
 impl VersionList {
     /// A list of one version.
@@ -95,7 +94,7 @@ impl VersionList {
         ensures put { IfOk result
             (λ added.
             IsTrue added
-            → AddsNumber (Some (Several self.old)) number version (Several self.new)) }
+            → AddsBeside self.old.numbers.items self.old.versions.items number version self.new) }
     {
         if self.goes_on(number) {
             self.push(number, version)?;
@@ -128,7 +127,8 @@ impl VersionList {
         requires numbered { AreNumbered self.old }
         requires unmapped { self.old.by_number ≡ None }
         requires above { IsAbove number self.old.numbers.items }
-        ensures { OnOk result (AddsNumber (Some (Several self.old)) number version (Several self.new)) }
+        ensures { OnOk result
+            (AddsBeside self.old.numbers.items self.old.versions.items number version self.new) }
     {
         self.numbers.push(number)?;
         self.versions.push(version)?;
@@ -157,7 +157,8 @@ impl VersionList {
     fn map(&mut self, number: u32, version: VersionNo) -> Result<(), AllocError>
         requires numbered { AreNumbered self.old }
         requires new { beside self.old.numbers.items self.old.versions.items number ≡ None }
-        ensures { OnOk result (AddsNumber (Some (Several self.old)) number version (Several self.new)) }
+        ensures { OnOk result
+            (AddsBeside self.old.numbers.items self.old.versions.items number version self.new) }
     {
         let mut map = self.take_map()?;
         map.insert(number, version)?;
