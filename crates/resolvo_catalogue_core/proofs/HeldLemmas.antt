@@ -8,6 +8,7 @@ use Rattle.std.proofs.lemmas.Bool.Decides.{nat_tests}
 use Rattle.std.proofs.lemmas.List.{length-append, map_push}
 use Rattle.std.proofs.lemmas.Option.{slice_get-map}
 use Rattle.resolvo_pool_core.specs.declared.id.VersionSetId.{VersionSetId}
+use Rattle.resolvo_pool_core.specs.declared.id.VersionSetUnionId.{VersionSetUnionId}
 use Rattle.resolvo_catalogue_core.specs.declared.rule.VersionNo.{VersionNo}
 use Rattle.resolvo_catalogue_core.specs.declared.kept_rule.KeptRule.{KeptRule}
 use Rattle.resolvo_catalogue_core.specs.declared.line_table.StoredLine.{StoredLine}
@@ -32,6 +33,7 @@ same_kind rs ms r (StoredLine.Listed v) e = refl
 same_kind rs ms r (StoredLine.Favour v) e = refl
 same_kind rs ms r (StoredLine.Many place) e = refl
 same_kind rs ms r (StoredLine.Need owner spec) e = refl
+same_kind rs ms r (StoredLine.AnyOf owner union) e = refl
 same_kind rs ms r (StoredLine.Limit owner spec) e = refl
 same_kind rs ms r (StoredLine.Rule place) e = ap kind_of_rule (get_more rs r place (below place (length rs) e))
 
@@ -47,6 +49,7 @@ still_held count marked (StoredLine.Listed v) e = refl
 still_held count marked (StoredLine.Favour v) e = refl
 still_held count marked (StoredLine.Many place) e = e
 still_held count marked (StoredLine.Need owner spec) e = refl
+still_held count marked (StoredLine.AnyOf owner union) e = refl
 still_held count marked (StoredLine.Limit owner spec) e = refl
 still_held count marked (StoredLine.Rule place) e = grind (arith, nat_tests)
 
@@ -64,6 +67,7 @@ same_kind_marked rs ms m (StoredLine.Listed v) e = refl
 same_kind_marked rs ms m (StoredLine.Favour v) e = refl
 same_kind_marked rs ms m (StoredLine.Many place) e = ap kind_of_name (get_more ms m place (below place (length ms) e))
 same_kind_marked rs ms m (StoredLine.Need owner spec) e = refl
+same_kind_marked rs ms m (StoredLine.AnyOf owner union) e = refl
 same_kind_marked rs ms m (StoredLine.Limit owner spec) e = refl
 same_kind_marked rs ms m (StoredLine.Rule place) e = refl
 
@@ -79,6 +83,7 @@ still_held_marked count marked (StoredLine.Listed v) e = refl
 still_held_marked count marked (StoredLine.Favour v) e = refl
 still_held_marked count marked (StoredLine.Many place) e = grind (arith, nat_tests)
 still_held_marked count marked (StoredLine.Need owner spec) e = refl
+still_held_marked count marked (StoredLine.AnyOf owner union) e = refl
 still_held_marked count marked (StoredLine.Limit owner spec) e = refl
 still_held_marked count marked (StoredLine.Rule place) e = e
 
@@ -141,11 +146,12 @@ no_rule_of_name : (o : Option (String Global)) → rule_of (kind_of_name o) ≡ 
 no_rule_of_name None = refl
 no_rule_of_name (Some name) = refl
 
-pub no_rule_held : (rs : List KeptRule) (ms : List (String Global)) (h : StoredLine) → ((owner : VersionNo) (spec : VersionSetId) → h ≡ StoredLine.Need owner spec → ⊥) → ((owner : VersionNo) (spec : VersionSetId) → h ≡ StoredLine.Limit owner spec → ⊥) → ((place : ℕ) → h ≡ StoredLine.Rule place → ⊥) → rule_of (kind_in rs ms h) ≡ None
-no_rule_held rs ms StoredLine.Nothing need limit rule = refl
-no_rule_held rs ms (StoredLine.Listed v) need limit rule = refl
-no_rule_held rs ms (StoredLine.Favour v) need limit rule = refl
-no_rule_held rs ms (StoredLine.Many place) need limit rule = no_rule_of_name (slice_get ms place)
-no_rule_held rs ms (StoredLine.Need owner spec) need limit rule = absurd (need owner spec refl)
-no_rule_held rs ms (StoredLine.Limit owner spec) need limit rule = absurd (limit owner spec refl)
-no_rule_held rs ms (StoredLine.Rule place) need limit rule = absurd (rule place refl)
+pub no_rule_held : (rs : List KeptRule) (ms : List (String Global)) (h : StoredLine) → ((owner : VersionNo) (spec : VersionSetId) → h ≡ StoredLine.Need owner spec → ⊥) → ((owner : VersionNo) (union : VersionSetUnionId) → h ≡ StoredLine.AnyOf owner union → ⊥) → ((owner : VersionNo) (spec : VersionSetId) → h ≡ StoredLine.Limit owner spec → ⊥) → ((place : ℕ) → h ≡ StoredLine.Rule place → ⊥) → rule_of (kind_in rs ms h) ≡ None
+no_rule_held rs ms StoredLine.Nothing need any limit rule = refl
+no_rule_held rs ms (StoredLine.Listed v) need any limit rule = refl
+no_rule_held rs ms (StoredLine.Favour v) need any limit rule = refl
+no_rule_held rs ms (StoredLine.Many place) need any limit rule = no_rule_of_name (slice_get ms place)
+no_rule_held rs ms (StoredLine.Need owner spec) need any limit rule = absurd (need owner spec refl)
+no_rule_held rs ms (StoredLine.AnyOf owner union) need any limit rule = absurd (any owner union refl)
+no_rule_held rs ms (StoredLine.Limit owner spec) need any limit rule = absurd (limit owner spec refl)
+no_rule_held rs ms (StoredLine.Rule place) need any limit rule = absurd (rule place refl)

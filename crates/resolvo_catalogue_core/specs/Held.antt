@@ -4,7 +4,9 @@ use Rattle.std.specs.List.{list_all}
 use Rattle.std.specs.Global.{Global}
 use Rattle.std.specs.declared.string.String.{String}
 use Rattle.resolvo_pool_core.specs.declared.id.VersionSetId.{VersionSetId}
-use Rattle.resolvo_pool_core.specs.declared.requirement.Requirement.TheVariants.{Single}
+use Rattle.resolvo_pool_core.specs.declared.id.VersionSetUnionId.{VersionSetUnionId}
+use Rattle.resolvo_pool_core.specs.declared.requirement.Requirement.{Requirement}
+use Rattle.resolvo_pool_core.specs.declared.requirement.Requirement.TheVariants.{Single, Union}
 use Rattle.resolvo_pool_core.specs.declared.requirement.ConditionalRequirement.{ConditionalRequirement}
 use Rattle.resolvo_catalogue_core.specs.declared.kept_rule.KeptRule.{KeptRule}
 use Rattle.resolvo_catalogue_core.specs.declared.kept_rule.KeptRule.TheVariants as kept
@@ -19,6 +21,7 @@ is_held count marked (StoredLine.Listed v) = true
 is_held count marked (StoredLine.Favour v) = true
 is_held count marked (StoredLine.Many place) = nat_lt place marked
 is_held count marked (StoredLine.Need owner spec) = true
+is_held count marked (StoredLine.AnyOf owner union) = true
 is_held count marked (StoredLine.Limit owner spec) = true
 is_held count marked (StoredLine.Rule place) = nat_lt place count
 
@@ -33,9 +36,17 @@ abbrev pub kind_of_name : Option (String Global) → LineKind
 kind_of_name None = line_kinds.Nothing
 kind_of_name (Some name) = line_kinds.Many name
 
--- the need of one SPEC without condition
+-- a need without condition
+abbrev pub plain : Requirement → ConditionalRequirement
+plain requirement = record { condition = None; requirement = requirement }
+
+-- the need of one SPEC
 abbrev pub alone : VersionSetId → ConditionalRequirement
-alone spec = record { condition = None; requirement = Single spec }
+alone spec = plain (Single spec)
+
+-- the need of one of several SPECs
+abbrev pub any_of : VersionSetUnionId → ConditionalRequirement
+any_of union = plain (Union union)
 
 -- the line in whose place this is kept
 abbrev pub kind_in : List KeptRule → List (String Global) → StoredLine → LineKind
@@ -44,6 +55,7 @@ kind_in rules marked (StoredLine.Listed v) = line_kinds.Listed v
 kind_in rules marked (StoredLine.Favour v) = line_kinds.Favour v
 kind_in rules marked (StoredLine.Many place) = kind_of_name (slice_get marked place)
 kind_in rules marked (StoredLine.Need owner spec) = line_kinds.Rule (kept.Needs owner (alone spec))
+kind_in rules marked (StoredLine.AnyOf owner union) = line_kinds.Rule (kept.Needs owner (any_of union))
 kind_in rules marked (StoredLine.Limit owner spec) = line_kinds.Rule (kept.Limits owner spec)
 kind_in rules marked (StoredLine.Rule place) = kind_of_rule (slice_get rules place)
 

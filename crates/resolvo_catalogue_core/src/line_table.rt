@@ -1,19 +1,20 @@
 //! The parsed lines, with the longer rules in a list of their own: most lines take little memory. The
 //! model is `kind_list`, the list of the parsed lines. Used by `table`.
 
-ghost use Rattle.std.specs.Prelude.{◌≡◌, ◌++◌, ◌∷◌, [], length, true, IfOk, OnOk, option_and_then, option_copied, slice_get};
-ghost use Rattle.resolvo_catalogue_core.specs.Held.{is_held, are_held, held_at, kind_in, kind_list, kind_at, rule_of};
+ghost use Rattle.std.specs.Prelude.{◌≡◌, ◌++◌, ◌∷◌, [], length, true, OnOk, option_and_then, option_copied, slice_get};
+ghost use Rattle.resolvo_catalogue_core.specs.Held.{is_held, are_held, held_at, kind_in, kind_list, kind_at, plain, rule_of};
 ghost use Rattle.resolvo_catalogue_core.specs.LineKind as kind;
 ghost use Rattle.resolvo_catalogue_core.specs.declared.kept_rule.KeptRule.TheVariants as kept;
 
 use crate::kept_rule::KeptRule;
+use crate::lines_by_version::place_of;
 use crate::rule::VersionNo;
-use resolvo_pool_core::id::VersionSetId;
+use resolvo_pool_core::id::{VersionSetId, VersionSetUnionId};
 use resolvo_pool_core::requirement::{ConditionalRequirement, Requirement};
 use std::alloc::{AllocError, Global};
 
-/// The stored form of a line. A need of one SPEC without condition and a limit are stored whole; of
-/// another rule its place among the rules, of a marked package that of its name.
+/// The stored form of a line. A need without condition and a limit are stored whole; of another rule
+/// its place among the rules, of a marked package that of its name.
 #[derive(Clone, Copy, Debug)]
 pub enum StoredLine {
     Nothing,
@@ -24,6 +25,11 @@ pub enum StoredLine {
         owner: VersionNo,
         spec: VersionSetId,
     },
+    /// A need of one of several SPECs.
+    AnyOf {
+        owner: VersionNo,
+        union: VersionSetUnionId,
+    },
     Limit {
         owner: VersionNo,
         spec: VersionSetId,
@@ -31,15 +37,17 @@ pub enum StoredLine {
     Rule(u32),
 }
 
-/// A count as a place. A table has fewer than 2^32 rules, and refuses one more as it does for want of
-/// memory.
-fn place_of(count: usize) -> Result<u32, AllocError>
-    ensures { IfOk result (λ place. place ≡ count) }
+/// A need without condition.
+fn plain(owner: VersionNo, requirement: Requirement) -> KeptRule
+    ensures { result ≡ kept.Needs owner (plain requirement) }
 {
-    if count >= 4_294_967_296 {
-        return Err(AllocError);
+    KeptRule::Needs {
+        owner,
+        need: ConditionalRequirement {
+            condition: None,
+            requirement,
+        },
     }
-    Ok(count as u32)
 }
 
 #[derive(Drop)]
@@ -99,6 +107,10 @@ impl LineTable {
                 condition: None,
                 requirement: Requirement::Single(spec),
             } => self.hold(StoredLine::Need { owner, spec }),
+            ConditionalRequirement {
+                condition: None,
+                requirement: Requirement::Union(union),
+            } => self.hold(StoredLine::AnyOf { owner, union }),
             _ => self.push_long(KeptRule::Needs { owner, need }),
         }
     }
@@ -153,13 +165,8 @@ impl LineTable {
     {
         let held = self.held_at(line)?;
         match *held {
-            StoredLine::Need { owner, spec } => Some(KeptRule::Needs {
-                owner,
-                need: ConditionalRequirement {
-                    condition: None,
-                    requirement: Requirement::Single(spec),
-                },
-            }),
+            StoredLine::Need { owner, spec } => Some(plain(owner, Requirement::Single(spec))),
+            StoredLine::AnyOf { owner, union } => Some(plain(owner, Requirement::Union(union))),
             StoredLine::Limit { owner, spec } => Some(KeptRule::Limits { owner, spec }),
             StoredLine::Rule(place) => self.rule_at(place),
             _ => None,

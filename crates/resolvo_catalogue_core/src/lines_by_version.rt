@@ -2,35 +2,72 @@
 //! version that was listed before it. The model is a list of lines for each version. Used by
 //! `table`.
 
-ghost use Rattle.std.specs.Prelude.{◌≡◌, ℕ, ◌+◌, [], ◌∷◌, ◌++◌, ◌==◌, if◌then◌else◌, length, OnOk};
-ghost use Rattle.resolvo_catalogue_core.specs.LinesByVersion.{kept_of};
+ghost use Rattle.std.specs.Prelude.{◌≡◌, ℕ, ◌+◌, ◌≤◌, [], ◌∷◌, ◌++◌, ◌==◌, if◌then◌else◌, length, IfOk, OnOk};
+ghost use Rattle.std.specs.List.{slice_range};
+ghost use Rattle.resolvo_catalogue_core.specs.LinesByVersion.{begin_of, kept_of, lists_from, AreEnds};
 
 use crate::rule::VersionNo;
 use std::alloc::{AllocError, Global};
 use std::marker::Model;
 
-/// Where the lines of a version begin and end.
-#[derive(Clone, Copy, Debug)]
-pub struct Place {
-    pub begin: usize,
-    pub end: usize,
-}
-
 #[derive(Drop)]
 pub struct LinesByVersion {
     lines: Vec<u32>,
-    places: Vec<Place>,
+    /// Where the lines of each version end. They begin where those of the version before end.
+    ends: Vec<u32>,
+}
+
+/// A count as a place. A table has fewer than 2^32 lines, and refuses one more as it does for want of
+/// memory.
+pub(crate) fn place_of(count: usize) -> Result<u32, AllocError>
+    ensures { IfOk result (λ place. place ≡ count) }
+{
+    if count >= 4_294_967_296 {
+        return Err(AllocError);
+    }
+    Ok(count as u32)
+}
+
+/// Where the lines of a version begin.
+fn begin_of(ends: &[u32], version: usize) -> usize
+    requires { version ≤ length ends.now }
+    ensures { result ≡ begin_of 0 ends.now version }
+{
+    if version == 0 {
+        return 0;
+    }
+    ends[version - 1] as usize
+}
+
+/// The lines between two places.
+fn part(lines: &[u32], begin: usize, end: usize) -> &[u32]
+    requires rising { begin ≤ end }
+    requires within { end ≤ length lines.now }
+    ensures { result.now ≡ slice_range lines.now begin end }
+{
+    &lines[begin..end]
+}
+
+/// The lines of the version of this number; none where there is no such version.
+fn lines_at<'a>(lines: &'a [u32], ends: &[u32], version: usize) -> &'a [u32]
+    requires { AreEnds 0 ends.now (length lines.now) }
+    ensures { result.now ≡ kept_of (lists_from lines.now 0 ends.now) version }
+{
+    if version >= ends.len() {
+        return &[];
+    }
+    part(lines, begin_of(ends, version), ends[version] as usize)
 }
 
 impl Model for LinesByVersion {
     ghost use Rattle.std.specs.Prelude.{ℕ, List, length};
-    ghost use Rattle.resolvo_catalogue_core.specs.LinesByVersion.{lists_of, ArePlaces};
+    ghost use Rattle.resolvo_catalogue_core.specs.LinesByVersion.{lists_from, AreEnds};
 
     ghost Value = { List (List ℕ) };
 
-    ghost view = { λ b. lists_of b.lines.items b.places.items };
+    ghost view = { λ b. lists_from b.lines.items 0 b.ends.items };
 
-    ghost invariant = { λ b. ArePlaces (length b.lines.items) b.places.items };
+    ghost invariant = { λ b. AreEnds 0 b.ends.items (length b.lines.items) };
 }
 
 impl LinesByVersion {
@@ -39,7 +76,7 @@ impl LinesByVersion {
     {
         LinesByVersion {
             lines: Vec::new(alloc),
-            places: Vec::new(alloc),
+            ends: Vec::new(alloc),
         }
     }
 
@@ -47,18 +84,15 @@ impl LinesByVersion {
     pub fn lines_of(&self, version: VersionNo) -> &[u32]
         ensures { result.now ≡ kept_of self.now version.0 }
     {
-        match self.places.get(version.0 as usize) {
-            Some(place) => &self.lines[place.begin..place.end],
-            None => &[],
-        }
+        lines_at(&self.lines, &self.ends, version.0 as usize)
     }
 
     /// Adds a version, without lines.
     pub fn add_version(&mut self) -> Result<(), AllocError>
         ensures { OnOk result (self.new ≡ self.old ++ [] ∷ []) }
     {
-        let end = self.lines.len();
-        self.places.push(Place { begin: end, end })?;
+        let end = place_of(self.lines.len())?;
+        self.ends.push(end)?;
         Ok(())
     }
 
@@ -69,8 +103,9 @@ impl LinesByVersion {
         ensures added { OnOk result ((k : ℕ) → kept_of self.new k ≡
             (if version.0 == k then kept_of self.old k ++ line ∷ [] else kept_of self.old k)) }
     {
+        let end = place_of(self.lines.len() + 1)?;
         self.lines.push(line)?;
-        self.places[version.0 as usize].end = self.lines.len();
+        self.ends[version.0 as usize] = end;
         Ok(())
     }
 }

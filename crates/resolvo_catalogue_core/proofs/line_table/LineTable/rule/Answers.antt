@@ -1,5 +1,6 @@
-use Rattle.std.proofs.Common.{◌∙◌, sym, ap, Option}
+use Rattle.std.proofs.Common.{◌∙◌, sym, ap, Option, Some}
 use Rattle.std.specs.Prelude.{option_and_then}
+use Rattle.resolvo_catalogue_core.specs.declared.kept_rule.KeptRule.{KeptRule}
 use Rattle.resolvo_catalogue_core.specs.declared.line_table.StoredLine.{StoredLine}
 use Rattle.resolvo_catalogue_core.specs.Held.{rule_of, kind_in}
 use Rattle.resolvo_catalogue_core.proofs.HeldLemmas.{rule_held, rule_placed, no_rule_held}
@@ -10,7 +11,14 @@ returns-in-Need c =
     let rules = c.args.self.now.rules.items in
     let marked = c.args.self.now.marked.items in
     let rule_here = λ (h : StoredLine). rule_of (kind_in rules marked h) in
-    sym (rule_held rules marked c.args.self.now.held.items c.args.line ∙ ap (λ (o : Option StoredLine). option_and_then rule_here o) (sym c.in_ok-held.ensures) ∙ ap rule_here c.in-Need.is)
+    ap (λ (r : KeptRule). Some r) c.plain.ensures ∙ sym (rule_held rules marked c.args.self.now.held.items c.args.line ∙ ap (λ (o : Option StoredLine). option_and_then rule_here o) (sym c.in_ok-held.ensures) ∙ ap rule_here c.in-Need.is)
+
+pub returns-in-AnyOf : goal.returns-in-AnyOf
+returns-in-AnyOf c =
+    let rules = c.args.self.now.rules.items in
+    let marked = c.args.self.now.marked.items in
+    let rule_here = λ (h : StoredLine). rule_of (kind_in rules marked h) in
+    ap (λ (r : KeptRule). Some r) c.plain-in-AnyOf.ensures ∙ sym (rule_held rules marked c.args.self.now.held.items c.args.line ∙ ap (λ (o : Option StoredLine). option_and_then rule_here o) (sym c.in_ok-held.ensures) ∙ ap rule_here c.in-AnyOf.is)
 
 pub returns-in-Limit : goal.returns-in-Limit
 returns-in-Limit c =
@@ -31,4 +39,4 @@ returns-in_default c =
     let rules = c.args.self.now.rules.items in
     let marked = c.args.self.now.marked.items in
     let rule_here = λ (h : StoredLine). rule_of (kind_in rules marked h) in
-    sym (rule_held rules marked c.args.self.now.held.items c.args.line ∙ ap (λ (o : Option StoredLine). option_and_then rule_here o) (sym c.in_ok-held.ensures) ∙ no_rule_held rules marked c.in_ok-held.held.now c.in_default.not-Need c.in_default.not-Limit c.in_default.not-Rule)
+    sym (rule_held rules marked c.args.self.now.held.items c.args.line ∙ ap (λ (o : Option StoredLine). option_and_then rule_here o) (sym c.in_ok-held.ensures) ∙ no_rule_held rules marked c.in_ok-held.held.now c.in_default.not-Need c.in_default.not-AnyOf c.in_default.not-Limit c.in_default.not-Rule)

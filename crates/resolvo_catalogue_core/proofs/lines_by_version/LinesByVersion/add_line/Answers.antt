@@ -1,21 +1,42 @@
-use Rattle.std.proofs.Common.{◌≡◌, ◌+◌, ◌∷◌, [], Some, length, sym, ap, ◌∙◌, arith}
-use Rattle.std.specs.Prelude.{slice_get}
-use Rattle.std.proofs.lemmas.List.{length-append, length-map}
-use Rattle.std.proofs.lemmas.Option.{slice_get-get_or}
-use Rattle.resolvo_catalogue_core.specs.LinesByVersion.{lists_of}
-use Rattle.resolvo_catalogue_core.specs.declared.lines_by_version.Place.{Place}
-use Rattle.resolvo_catalogue_core.proofs.OwnedLemmas.{added}
+use Rattle.std.proofs.Common.{◌≡◌, ◌+◌, ◌∷◌, [], ◌∙◌, ℕ, length, sym, ap, subst, arith}
+use Rattle.std.specs.List.{slice_set}
+use Rattle.std.proofs.lemmas.List.{length-append}
+use Rattle.resolvo_terms.proofs.Places.{set_length}
+use Rattle.resolvo_catalogue_core.specs.LinesByVersion.{lists_from, AreEnds}
+use Rattle.resolvo_catalogue_core.proofs.OwnedLemmas.{count_lists, later, added}
 use Rattle.resolvo_catalogue_core.proofs.lines_by_version.LinesByVersion.add_line.Goals as goal
+
+pub index_mut-requires : goal.index_mut-requires
+index_mut-requires c =
+    let old : lists_from c.self.inside.lines.items 0 c.self.inside.ends.items ≡ c.args.self.now = c.self.view_is in
+    omega (arith, count_lists c.self.inside.lines.items 0 c.self.inside.ends.items, ap length old, c.requires, c.self.inside.ends.ok.0)
+
+pub invariant_of-self-2 : goal.invariant_of-self-2
+invariant_of-self-2 c =
+    let xs = c.self.inside.lines.items in
+    let ends = c.self.inside.ends.items in
+    let n = c.args.version.0 in
+    let old : lists_from xs 0 ends ≡ c.args.self.now = c.self.view_is in
+    let last : n + 1 ≡ length ends = omega (arith, count_lists xs 0 ends, ap length old, c.requires) in
+    let end : c.in_ok-end.end ≡ length xs + 1 = omega (arith, c.self.inside.lines.ok.0, c.len.ensures, c.in_ok-end.ensures) in
+    let long : length c.push.new.self.items ≡ length xs + 1 = ap length c.in_ok-push.ensures.items ∙ length-append xs (c.args.line ∷ []) in
+    subst (λ (count : ℕ). AreEnds 0 (slice_set ends n c.in_ok-end.end) count) (sym long)
+    (subst (λ (e : ℕ). AreEnds 0 (slice_set ends n e) (length xs + 1)) (sym end) (later 0 ends n (length xs) c.self.invariant last))
+
+pub returns-clause-same : goal.returns-clause-same
+returns-clause-same c =
+    let xs = c.self.inside.lines.items in
+    let ends = c.self.inside.ends.items in
+    let set = slice_set ends c.args.version.0 c.in_ok-end.end in
+    let old : lists_from xs 0 ends ≡ c.args.self.now = c.self.view_is in
+    count_lists c.push.new.self.items 0 set ∙ set_length ends c.args.version.0 c.in_ok-end.end ∙ sym (count_lists xs 0 ends) ∙ ap length old
 
 pub returns-clause-added : goal.returns-clause-added
 returns-clause-added c = λ k.
     let xs = c.self.inside.lines.items in
-    let places = c.self.inside.places.items in
+    let ends = c.self.inside.ends.items in
     let n = c.args.version.0 in
-    let p = c.index_mut.result.now in
-    let old : lists_of xs places ≡ c.args.self.now = c.self.view_is in
-    let count : length (lists_of xs places) ≡ length places = length-map places _ in
-    let last : n + 1 ≡ length places = omega (arith, count, ap length old, c.requires) in
-    let at : slice_get places n ≡ Some p = slice_get-get_or places n p (omega (arith, last)) ∙ ap (λ (x : Place). Some x) (sym c.index_mut.ensures.value) in
-    let end : c.len.result ≡ length xs + 1 = omega (arith, c.len.ensures, c.push.new.self.ok.0, ap length c.in_ok-push.ensures.items, length-append xs (c.args.line ∷ [])) in
-    rw (c.in_ok-push.ensures.items, end, ← old) (added xs places n c.args.line p c.self.invariant last at k)
+    let old : lists_from xs 0 ends ≡ c.args.self.now = c.self.view_is in
+    let last : n + 1 ≡ length ends = omega (arith, count_lists xs 0 ends, ap length old, c.requires) in
+    let end : c.in_ok-end.end ≡ length xs + 1 = omega (arith, c.self.inside.lines.ok.0, c.len.ensures, c.in_ok-end.ensures) in
+    rw (c.in_ok-push.ensures.items, end, ← old) (added xs c.args.line 0 ends n c.self.invariant last k)
