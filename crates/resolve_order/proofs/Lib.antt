@@ -12,3 +12,4 @@ pub mod GiveLemmas
 pub mod TurnLemmas
 pub mod PartLemmas
 pub mod FinishLemmas
+pub mod KeyLemmas

@@ -3,3 +3,4 @@ pub mod View
 pub mod Numbers
 pub mod Kept
 pub mod Need
+pub mod Keys

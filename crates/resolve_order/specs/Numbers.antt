@@ -6,6 +6,7 @@ use Rattle.std.specs.Ordering.{nat_cmp}
 use Rattle.resolvo_text.specs.declared.spec.Span.{Span}
 use Rattle.resolvo_text.specs.Matches.{is_in_span}
 use Rattle.resolvo_catalogue_core.specs.declared.rule.VersionNo.{VersionNo}
+use Rattle.resolve_order.specs.Keys.{number_of}
 use Rattle.resolve_order.specs.declared.version_table.Numbered.{Numbered}
 use Rattle.resolve_order.specs.declared.version_table.VersionTable.{VersionTable}
 
@@ -13,9 +14,18 @@ use Rattle.resolve_order.specs.declared.version_table.VersionTable.{VersionTable
 abbrev pub number_at : Option (BTreeMap ℕ VersionNo) → ℕ → Option VersionNo
 number_at numbers n = option_and_then (λ m. get nat_cmp m n) numbers
 
--- the version in the place of package k
+-- the version in place k
 abbrev pub single_at : List (Option Numbered) → ℕ → Option Numbered
 single_at single k = slice_index_or single k None
+
+-- the same by a number that a package may have
+abbrev pub slot : List (Option Numbered) → Option ℕ → Option Numbered
+slot single None = None
+slot single (Some n) = single_at single n
+
+-- the version in the place of package k of a table
+abbrev pub single_of : VersionTable → ℕ → Option Numbered
+single_of t k = slot t.single.items (number_of t.keys.places.items k)
 
 -- A place has no version, or that of this number.
 abbrev pub is_free : Option Numbered → ℕ → Bool
@@ -29,7 +39,7 @@ single_or (Some x) other n = if x.number == n then Some x.version else other
 
 -- the version of number n of package k
 abbrev pub version_in : VersionTable → ℕ → ℕ → Option VersionNo
-version_in t k n = single_or (single_at t.single.items k) (number_at (get nat_cmp t.beside k) n) n
+version_in t k n = single_or (single_of t k) (number_at (get nat_cmp t.beside k) n) n
 
 -- the version, if it is in the span
 abbrev pub single_within : Option Numbered → Span → Option Numbered

@@ -4,6 +4,7 @@
 mod chosen;
 mod entry;
 mod install_order;
+mod key_numbers;
 mod need;
 mod open_lines;
 mod package_lines;

@@ -12,6 +12,7 @@ ghost use Rattle.resolvo_catalogue_core.specs.Listed.{listed};
 ghost use Rattle.resolve_order.specs.Kept.{first_of, has_line, is_kept, IsKeyOf, IsKeptFor, IsKeptForAll, KeepsAll, specs_in, specs_under};
 ghost use Rattle.resolve_order.specs.Need.{IsOf, IsSpanOf, alternatives_in, condition_in};
 
+use crate::key_numbers::KeyNumbers;
 use crate::need::{Need, PackageSpan, kept_span, span_of};
 use resolvo_catalogue_core::{Catalogue, Cond, KeptLines, Span, Spec, VersionNo};
 use resolvo_pool_core::condition::Condition;
@@ -22,7 +23,9 @@ use std::mem;
 #[derive(Drop)]
 pub struct PackageLines {
     alloc: Global,
-    /// The lines of each key. The last keys may have no place.
+    /// The numbers of the keys that have had lines.
+    keys: KeyNumbers,
+    /// The lines of each key, by its number. The last numbers may have no place.
     lines: Vec<Vec<usize>>,
 }
 
@@ -75,6 +78,43 @@ fn add_line(lines: &mut Vec<usize>, line: usize) -> Result<(), AllocError>
     Ok(())
 }
 
+/// Adds a line to those of a number, which may have no place yet.
+fn add_numbered(
+    alloc: Global,
+    lines: &mut Vec<Vec<usize>>,
+    number: u32,
+    line: usize,
+) -> Result<(), AllocError>
+    ensures added { OnOk result (has_line (slice_get lines.new.items number) line ≡ true) }
+    ensures kept { OnOk result
+        ((n i : ℕ)
+        → has_line (slice_get lines.old.items n) i ≡ true
+        → has_line (slice_get lines.new.items n) i ≡ true) }
+{
+    let at = number as usize;
+    lengthen(alloc, lines, at + 1)?;
+    add_line(&mut lines[at], line)
+}
+
+/// Takes the lines of a number out.
+fn take_numbered(alloc: Global, lines: &mut Vec<Vec<usize>>, number: u32) -> Vec<usize>
+    ensures taken { (i : ℕ)
+        → has_line (slice_get lines.old.items number) i ≡ true
+        → has_line (Some result) i ≡ true }
+    ensures others { (n i : ℕ)
+        → (n ≡ number → ⊥)
+        → has_line (slice_get lines.old.items n) i ≡ true
+        → has_line (slice_get lines.new.items n) i ≡ true }
+{
+    let at = number as usize;
+    let none = Vec::new(alloc);
+    if at < lines.len() {
+        mem::replace(&mut lines[at], none)
+    } else {
+        none
+    }
+}
+
 /// The version of this number in the package, if it is listed.
 fn find_in(catalogue: &Catalogue, package: Option<u32>, number: u32) -> Option<VersionNo>
     ensures { (name : List ℕ) (k : ℕ)
@@ -107,6 +147,7 @@ impl PackageLines {
     pub fn new(alloc: Global) -> PackageLines {
         PackageLines {
             alloc,
+            keys: KeyNumbers::new(alloc),
             lines: Vec::new(alloc),
         }
     }
@@ -116,9 +157,8 @@ impl PackageLines {
         ensures added { OnOk result (is_kept self.new key line ≡ true) }
         ensures kept { OnOk result (KeepsAll self.old self.new) }
     {
-        let at = key as usize;
-        lengthen(self.alloc, &mut self.lines, at + 1)?;
-        add_line(&mut self.lines[at], line)
+        let number = self.keys.put(key)?;
+        add_numbered(self.alloc, &mut self.lines, number, line)
     }
 
     /// The same by the key of the SPEC, if it has one.
@@ -306,12 +346,9 @@ impl PackageLines {
             → is_kept self.old k i ≡ true
             → is_kept self.new k i ≡ true }
     {
-        let at = key as usize;
-        let none = Vec::new(self.alloc);
-        if at < self.lines.len() {
-            mem::replace(&mut self.lines[at], none)
-        } else {
-            none
+        match self.keys.find(key) {
+            Some(number) => take_numbered(self.alloc, &mut self.lines, number),
+            None => Vec::new(self.alloc),
         }
     }
 }

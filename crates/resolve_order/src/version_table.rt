@@ -1,11 +1,13 @@
-//! Versions by their packages and numbers. One of each package is in a table; those beside it, which
-//! only a package that is marked `many` has, are in sorted maps. Used by `chosen`.
+//! Versions by their packages and numbers. One of each package is in a table of the packages that
+//! have had any; those beside it, which only a package that is marked `many` has, are in sorted maps.
+//! Used by `chosen`.
 
 ghost use Rattle.std.specs.Prelude.{◌≡◌, ℕ, ◌==◌, ◌&&◌, if◌then◌else◌, Some, None, OnOk};
 ghost use Rattle.std.specs.BTreeMap.{get};
 ghost use Rattle.std.specs.Ordering.{nat_cmp};
-ghost use Rattle.resolve_order.specs.Numbers.{number_at, single_at, is_free, version_in, single_within, newer, IsNewest, IsNewestIn};
+ghost use Rattle.resolve_order.specs.Numbers.{number_at, single_at, single_of, is_free, version_in, single_within, newer, IsNewest, IsNewestIn};
 
+use crate::key_numbers::KeyNumbers;
 use resolvo_catalogue_core::{Span, VersionNo, is_in_span};
 use std::alloc::{AllocError, Global};
 use std::collections::BTreeMap;
@@ -25,24 +27,26 @@ type Numbers = BTreeMap<u32, VersionNo>;
 #[derive(Drop)]
 pub struct VersionTable {
     alloc: Global,
-    /// One version of each package, if it has any.
+    /// The numbers of the packages that have had versions.
+    keys: KeyNumbers,
+    /// One version of each package, if it has any, by its number.
     single: Vec<Option<Numbered>>,
     /// The others of each package.
     beside: BTreeMap<u32, Numbers>,
 }
 
-/// Puts a version into the place of its package.
+/// Puts a version into a place.
 fn put_single(
     single: &mut Vec<Option<Numbered>>,
-    package: u32,
+    number: u32,
     version: Numbered,
 ) -> Result<(), AllocError>
     ensures { OnOk result
         ((k : ℕ)
         → single_at single.new.items k
-        ≡ (if «package» == k then Some version else single_at single.old.items k)) }
+        ≡ (if number == k then Some version else single_at single.old.items k)) }
 {
-    let place = package as usize;
+    let place = number as usize;
     if place >= single.len() {
         single.resize(place + 1, None)?;
     }
@@ -50,15 +54,25 @@ fn put_single(
     Ok(())
 }
 
-/// Empties the place of a package.
-fn clear_single(single: &mut Vec<Option<Numbered>>, package: u32)
+/// Empties a place.
+fn clear_single(single: &mut Vec<Option<Numbered>>, number: u32)
     ensures { (k : ℕ)
         → single_at single.new.items k
-        ≡ (if «package» == k then None else single_at single.old.items k) }
+        ≡ (if number == k then None else single_at single.old.items k) }
 {
-    let place = package as usize;
+    let place = number as usize;
     if place < single.len() {
         single[place] = None;
+    }
+}
+
+/// The version in a place.
+fn single_at(single: &[Option<Numbered>], number: u32) -> Option<Numbered>
+    ensures { result ≡ single_at single.now number }
+{
+    match single.get(number as usize) {
+        Some(single) => *single,
+        None => None,
     }
 }
 
@@ -171,6 +185,7 @@ impl VersionTable {
     {
         VersionTable {
             alloc,
+            keys: KeyNumbers::new(alloc),
             single: Vec::new(alloc),
             beside: BTreeMap::new(alloc),
         }
@@ -178,17 +193,41 @@ impl VersionTable {
 
     /// The version in the place of the package.
     fn single_of(&self, package: u32) -> Option<Numbered>
-        ensures { result ≡ single_at self.now.single.items «package» }
+        ensures { result ≡ single_of self.now «package» }
     {
-        match self.single.get(package as usize) {
-            Some(single) => *single,
+        match self.keys.find(package) {
+            Some(number) => single_at(&self.single, number),
             None => None,
+        }
+    }
+
+    /// Puts a version into the place of its package.
+    fn put(&mut self, package: u32, version: Numbered) -> Result<(), AllocError>
+        ensures put { OnOk result
+            ((k : ℕ)
+            → single_of self.new k
+            ≡ (if «package» == k then Some version else single_of self.old k)) }
+        ensures beside { self.new.beside ≡ self.old.beside }
+    {
+        let number = self.keys.put(package)?;
+        put_single(&mut self.single, number, version)
+    }
+
+    /// Empties the place of a package.
+    fn clear(&mut self, package: u32)
+        ensures cleared { (k : ℕ)
+            → single_of self.new k
+            ≡ (if «package» == k then None else single_of self.old k) }
+        ensures beside { self.new.beside ≡ self.old.beside }
+    {
+        if let Some(number) = self.keys.find(package) {
+            clear_single(&mut self.single, number);
         }
     }
 
     /// Whether the place of the package has no version, or that of this number.
     fn is_free(&self, place: (u32, u32)) -> bool
-        ensures { result ≡ is_free (single_at self.now.single.items place.0) place.1 }
+        ensures { result ≡ is_free (single_of self.now place.0) place.1 }
     {
         match self.single_of(place.0) {
             Some(single) => single.number == place.1,
@@ -217,7 +256,7 @@ impl VersionTable {
     {
         if self.is_free(place) {
             let number = place.1;
-            put_single(&mut self.single, place.0, Numbered { number, version })?;
+            self.put(place.0, Numbered { number, version })?;
         } else {
             add_number(self.alloc, &mut self.beside, place, version)?;
         }
@@ -231,14 +270,14 @@ impl VersionTable {
             ≡ (if place.0 == k && place.1 == n then None else version_in self.old k n) }
     {
         if self.is_free(place) {
-            clear_single(&mut self.single, place.0);
+            self.clear(place.0);
         }
         remove_number(&mut self.beside, place);
     }
 
     /// The version in the place of the package, if it is in the span.
     fn single_within(&self, package: u32, span: Span) -> Option<Numbered>
-        ensures { result ≡ single_within (single_at self.now.single.items «package») span }
+        ensures { result ≡ single_within (single_of self.now «package») span }
     {
         match self.single_of(package) {
             Some(single) => {
