@@ -54,7 +54,7 @@ class Options:
 
 
 PROGRAM = Options(
-    parent_by_parent=True, root_stays=True,
+    root_stays=True,
     placed_wishes=True, exclusions_by_version=True, set_at_once=False,
     root_in_learnt=False, as_met=False,
 )

@@ -120,6 +120,17 @@ impl<D: DependencyProvider> PackageSource for CachedPackages<D> {
         Ok(found)
     }
 
+    fn unknown(
+        &mut self,
+        solvable: D::SolvableId,
+    ) -> Result<Option<StringId>, CacheFault<D::Cancel>> {
+        self.cache.cache_dependencies(solvable)?;
+        match self.cache.dependencies(solvable) {
+            Dependencies::Known(_) => Ok(None),
+            Dependencies::Unknown(reason) => Ok(Some(*reason)),
+        }
+    }
+
     fn candidates(
         &mut self,
         requirement: Requirement,

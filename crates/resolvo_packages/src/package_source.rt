@@ -1,6 +1,8 @@
 //! A solver's queries about packages, answered by value.
-ghost use Rattle.std.specs.Prelude.{◌≡◌, List, IfOk, IfErr, IsErrOf, IsOkUnless, map};
+ghost use Rattle.std.specs.Prelude.{◌≡◌, List, Some, IfOk, IfErr, IsErrOf, IsOkUnless, map};
 ghost use Rattle.resolvo_pool_core.specs.declared.want.Want.TheVariants.{Memory};
+ghost use Rattle.resolvo_pool_core.specs.declared.id.StringId.{StringId as Reason};
+ghost use Rattle.resolvo_pool_core.specs.declared.provider.Dependencies.TheVariants.{Unknown};
 ghost use Rattle.resolvo_pool_core.specs.Provider.{needs_of};
 ghost use Rattle.resolvo_pool.specs.Cached.{IsCancelledBy};
 ghost use Rattle.resolvo_pool.specs.declared.cache.CacheFault.TheVariants.{Ids};
@@ -81,6 +83,20 @@ pub trait PackageSource {
         ensures same { self.new ≡ self.old }
         ensures answer { IfOk result
             (λ d. needs_of d ≡ (packages self.old).dependencies_of solvable) }
+        ensures cancelled { IfErr result (IsCancelledBy (may_cancel self.old)) }
+        ensures ids { IsErrOf result Ids → may_lack_ids self.old };
+
+    /// Why a solvable's dependencies are unknown, if they are. Asks for them.
+    fn unknown(
+        &mut self,
+        solvable: Self::SolvableId,
+    ) -> Result<Option<StringId>, CacheFault<Self::Cancel>>
+        ensures same { self.new ≡ self.old }
+        ensures reason { IfOk result
+            (λ r.
+            (why : Reason)
+            → r ≡ Some why
+            → needs_of (Unknown why) ≡ (packages self.old).dependencies_of solvable) }
         ensures cancelled { IfErr result (IsCancelledBy (may_cancel self.old)) }
         ensures ids { IsErrOf result Ids → may_lack_ids self.old };
 

@@ -263,13 +263,12 @@ pub excluded_rule : {N S : Type 0} (same : S → S → Bool) (p : Packages N S) 
 excluded_rule same p root s why asked r h = subst (IsRule same p root) (sym (contains_one r (Rule.forbids (ForbidReason.word why) s) h)) (inr asked)
 
 -- and has no other rules
-pub unknown_encoded : {N S : Type 0} (same : S → S → Bool) (p : Packages N S) (root : Rules) (e : Encoder N S) (s : S) (why : StringId) → p.dependencies_of s ≡ needs_of (Unknown why) → ((r : Rule N S) → Contains (Rule.forbids (ForbidReason.word why) s ∷ []) r → rules_of e r)
-    → IsParentEncoded same p e root (Some s)
-unknown_encoded same p root e s why asked is_encoded = record {
+pub unknown_encoded : {N S : Type 0} (same : S → S → Bool) (p : Packages N S) (root : Rules) (e : Encoder N S) (s : S) (why : StringId) → p.dependencies_of s ≡ needs_of (Unknown why) → IsForbidden (rules_of e) s → IsParentEncoded same p e root (Some s)
+unknown_encoded same p root e s why asked excluded = record {
   needs = λ need case h one. absurd (contains_none need (subst (λ (n : Asked). Contains (rules_in n).requirements need) asked h));
   limits = λ v h. absurd (contains_none v (subst (λ (n : Asked). Contains (rules_in n).constraints v) asked h));
   guarded = λ v h. absurd (contains_none v (subst (λ (n : Asked). Contains (rules_in n).constraints v) asked h));
-  unknown = λ t is h. subst (λ x. IsForbidden (rules_of e) x) (some_one s t is) (ForbidReason.word why, is_encoded (Rule.forbids (ForbidReason.word why) s) (contains_only (Rule.forbids (ForbidReason.word why) s)));
+  unknown = λ t is h. subst (λ x. IsForbidden (rules_of e) x) (some_one s t is) excluded;
 }
 
 -- ---- encoded parents

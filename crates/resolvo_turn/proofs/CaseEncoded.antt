@@ -6,7 +6,6 @@ use Rattle.resolvo_pool_core.specs.declared.requirement.ConditionalRequirement.{
 use Rattle.resolvo_pool_core.specs.declared.requirement.Requirement.{Requirement}
 use Rattle.resolvo_pool_core.specs.RuleKeeping.{Packages, Rules, is_match, rules_for}
 use Rattle.resolvo_store_core.specs.AtMostOne.{IsPrefixOf}
-use Rattle.resolvo_store_core.specs.declared.conditions.DeferredConjunct.{DeferredConjunct}
 use Rattle.resolvo_store_core.specs.Deferred.{version_set_of, candidates_of}
 use Rattle.resolvo_sat.specs.RuleClauses.{IsExact, AreMatched, cases_for}
 use Rattle.resolvo_sat.specs.SearchEnd.{IsNeedEncoded}

@@ -4,3 +4,4 @@ pub mod CaseEncoded
 pub mod PassLemmas
 pub mod TakenLemmas
 pub mod StopLemmas
+pub mod TaskLemmas

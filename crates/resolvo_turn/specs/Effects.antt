@@ -14,6 +14,7 @@ use Rattle.resolvo_encoder.specs.declared.encoder.Encoder.{Encoder}
 use Rattle.resolvo_encoder.specs.Cases.{IsDeferred, AreSets, sets_case}
 use Rattle.resolvo_encoder.specs.Encoded.{IsGuarded, IsMarkKnown, IsPrepared, IsLimitEncoded, IsParentEncoded, rules_of}
 use Rattle.resolvo_encoder.specs.Steps.{Needs}
+use Rattle.resolvo_turn.specs.Tasks.{AreExcluded}
 use Rattle.resolvo_turn.specs.Encoder.{IsRoot, AreRulesOf, IsInOrderBy, AreDeferred, IsConditionalEncoded}
 
 module _ {A N S C : Type 0} (same : S → S → Bool) (g : source.Ghosts A N S C) (a : A) where
@@ -90,10 +91,11 @@ module _ {A N S C : Type 0} (same : S → S → Bool) (g : source.Ghosts A N S C
       → IsInOrderBy same g a root old
       → IsInOrderBy same g a root new × IsParentEncoded same (g.packages a) new root parent
 
-  -- the parent's rules are clauses, where the root has these requirements and constraints
-  abbrev pub EncodesParent : List ConditionalRequirement → List VersionSetId → Option S → Encoder N S → Encoder N S → Type 0
-  EncodesParent requirements constraints parent old new = (root : Rules) → IsRoot requirements constraints root
-      → IsInOrderBy same g a root old
+  -- the parent's rules are clauses, where the root has these requirements and constraints, and clauses
+  -- exclude these solvables
+  abbrev pub EncodesParent : List ConditionalRequirement → List VersionSetId → Option S → List S → Encoder N S → Encoder N S → Type 0
+  EncodesParent requirements constraints parent excluded old new = (root : Rules) → IsRoot requirements constraints root
+      → IsInOrderBy same g a root old → AreExcluded excluded old
       → IsInOrderBy same g a root new × IsParentEncoded same (g.packages a) new root parent
 
   -- ---- cases of a parent's requirement

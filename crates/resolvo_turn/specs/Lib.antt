@@ -1,4 +1,5 @@
 pub mod Encoder
 pub mod Effects
+pub mod Tasks
 pub mod Turn
 pub mod LacksIds

@@ -1,31 +1,39 @@
 //! Requirements and constraints of parents become clauses, in the order of the parents. The
 //! packages of a parent's requirements and constraints come before its clauses, and aren't asked
 //! for earlier.
-ghost use Rattle.std.specs.Prelude.{◌≡◌, IfErr, OnOk, IsErrOf, IsOkUnless};
+ghost use Rattle.std.specs.Prelude.{◌≡◌, ◌<◌, ◌+◌, false, IfOk, IfErr, OnOk, IsErrOf, IsOkUnless, Contains};
+ghost use Rattle.std.specs.Bool.{Decides};
 ghost use Rattle.resolvo_pool.specs.Cached.{IsCancelledBy};
 ghost use Rattle.resolvo_pool.specs.declared.cache.CacheFault.TheVariants.{Ids};
-ghost use Rattle.resolvo_pool_core.specs.declared.want.Want.TheVariants.{Memory};
+ghost use Rattle.resolvo_pool_core.specs.declared.want.Want.TheVariants.{Memory, Ids as WantIds};
 ghost use Rattle.resolvo_pool_core.specs.Text.{solvable_of};
 ghost use Rattle.resolvo_pool_core.specs.declared.requirement.ConditionalRequirement.{ConditionalRequirement};
 ghost use Rattle.resolvo_pool_core.specs.declared.requirement.Requirement.TheVariants.{Single};
+ghost use Rattle.resolvo_state.specs.SolverState.{LacksNumber};
 ghost use Rattle.resolvo_encoder.specs.Encoded.{IsWhole};
 ghost use Rattle.resolvo_encoder.specs.Base.{KeepsTurns};
 ghost use Rattle.resolvo_encoder.specs.Steps.{IsBuilt, AddsParent};
 ghost use Rattle.resolvo_turn.specs.Encoder.{KeepsMarks, AddsNeeds, AddsAll, StaysInOrder, StaysInOrderOf};
 ghost use Rattle.resolvo_turn.specs.Effects.{ForbidsPackage, ForbidsPackages, GuardsRequirement, RequiresGuarded, RequiresPlain, RequiresOne, RequiresAll, LimitsOne, LimitsGuarded, LimitsAll, EncodesKnown, EncodesParent};
-ghost use Rattle.resolvo_turn.specs.LacksIds.{StopsAnyhow, StopsNeed, StopsOne, StopsAll, StopsKnown, StopsInOrderOf};
+ghost use Rattle.resolvo_turn.specs.LacksIds.{StopsAnyhow, StopsNeed, StopsOne, StopsAll, StopsKnown, StopsInOrder, StopsInOrderOf};
+ghost use Rattle.resolvo_turn.specs.Tasks.{bound, cost, Excludes, IsKnownOr, KeepsExcluded};
 
 use crate::defer_conditions::defer_need;
-use crate::fire_conditions::fire_from;
-use resolvo_encoder::encoder::Encoder;
+use crate::fire_conditions::fire_if_due;
+use crate::tasks::{Task, Tasks};
+use crate::turn_input::TurnInput;
+use indexmap::IndexSet;
+use resolvo_encoder::encoder::{Encoder, add_key};
 use resolvo_packages::package_source::{Offered, PackageSource};
 use resolvo_pool::cache::CacheFault;
-use resolvo_pool_core::id::VersionSetId;
-use resolvo_pool_core::provider::Dependencies;
+use resolvo_pool_core::id::{Exact, StringId, VersionSetId};
+use resolvo_pool_core::provider::{Dependencies, KnownDependencies};
 use resolvo_pool_core::requirement::{ConditionalRequirement, Requirement};
 use resolvo_pool_core::solver_id::SolvableIdOrRoot;
 use resolvo_pool_core::want::R;
 use std::alloc::Global;
+use std::fmt::Debug;
+use std::hash::Hash;
 
 /// Adds as parents the candidates whose dependencies are available.
 pub fn add_available<A: PackageSource>(
@@ -199,12 +207,13 @@ fn encode_plain_need<A: PackageSource>(
     Ok(())
 }
 
-/// Encodes a requirement of a parent. If it has a condition, the cases that hold are encoded, and
-/// the others deferred.
+/// Encodes a requirement of a parent. If it has a condition, its cases are deferred. Those that
+/// hold are tasks, behind the others.
 fn encode_need<A: PackageSource>(
     alloc: Global,
     answers: &mut A,
     encoding: &mut Encoder<A::NameId, A::SolvableId>,
+    tasks: &mut Tasks<A::SolvableId>,
     parent: Option<A::SolvableId>,
     need: ConditionalRequirement,
 ) -> Result<(), CacheFault<A::Cancel>>
@@ -231,7 +240,7 @@ fn encode_need<A: PackageSource>(
         Some(condition) => {
             let first = encoding.deferred.len();
             defer_need(alloc, answers, encoding, parent, need, condition)?;
-            fire_from(alloc, answers, encoding, first)?;
+            tasks.push_from(encoding, first)?;
             Ok(())
         }
     }
@@ -242,6 +251,7 @@ fn encode_needs<A: PackageSource>(
     alloc: Global,
     answers: &mut A,
     encoding: &mut Encoder<A::NameId, A::SolvableId>,
+    tasks: &mut Tasks<A::SolvableId>,
     parent: Option<A::SolvableId>,
     needs: &[ConditionalRequirement],
 ) -> Result<(), CacheFault<A::Cancel>>
@@ -261,7 +271,7 @@ fn encode_needs<A: PackageSource>(
         parent needs.now encoding.old encoding.new }
 {
     for need in needs {
-        encode_need(alloc, answers, encoding, parent, *need)?;
+        encode_need(alloc, answers, encoding, tasks, parent, *need)?;
     }
     Ok(())
 }
@@ -458,6 +468,7 @@ fn add_rules<A: PackageSource>(
     alloc: Global,
     answers: &mut A,
     encoding: &mut Encoder<A::NameId, A::SolvableId>,
+    tasks: &mut Tasks<A::SolvableId>,
     parent: Option<A::SolvableId>,
     requirements: &[ConditionalRequirement],
     constraints: &[VersionSetId],
@@ -477,7 +488,7 @@ fn add_rules<A: PackageSource>(
         → StopsKnown A.SolvableId.eq A.PackageSource answers.old
         parent requirements.now constraints.now encoding.old encoding.new }
 {
-    encode_needs(alloc, answers, encoding, parent, requirements)?;
+    encode_needs(alloc, answers, encoding, tasks, parent, requirements)?;
     encode_limits(answers, encoding, parent, constraints)?;
     Ok(())
 }
@@ -488,6 +499,7 @@ fn encode_rules<A: PackageSource>(
     alloc: Global,
     answers: &mut A,
     encoding: &mut Encoder<A::NameId, A::SolvableId>,
+    tasks: &mut Tasks<A::SolvableId>,
     parent: Option<A::SolvableId>,
     requirements: &[ConditionalRequirement],
     constraints: &[VersionSetId],
@@ -508,7 +520,221 @@ fn encode_rules<A: PackageSource>(
         parent requirements.now constraints.now encoding.old encoding.new }
 {
     guard_rules(answers, encoding, requirements, constraints)?;
-    add_rules(alloc, answers, encoding, parent, requirements, constraints)?;
+    add_rules(
+        alloc,
+        answers,
+        encoding,
+        tasks,
+        parent,
+        requirements,
+        constraints,
+    )?;
+    Ok(())
+}
+
+/// Whether a solvable was excluded.
+fn is_excluded<S: Copy + Exact + Hash + Debug>(excluded: &IndexSet<S>, solvable: S) -> bool
+    ensures { Decides result (Contains excluded.now.keys solvable) }
+{
+    excluded.contains(&solvable)
+}
+
+/// Excludes a solvable with unknown dependencies, once.
+fn exclude<N: Copy + Exact + Hash + Debug + Drop, S: Copy + Exact + Hash + Debug>(
+    encoding: &mut Encoder<N, S>,
+    excluded: &mut IndexSet<S>,
+    solvable: S,
+    reason: StringId,
+) -> R<()>
+    requires { IsBuilt encoding.old }
+    // After an answer.
+    ensures excludes { OnOk result
+        (Excludes S.eq solvable reason excluded.old.keys excluded.new.keys encoding.old encoding.new) }
+    ensures kept { OnOk result (AddsNeeds encoding.old encoding.new) }
+    ensures built { OnOk result (IsBuilt encoding.new) }
+    // After a refusal.
+    ensures ids { IsErrOf result WantIds → LacksNumber encoding.new.coding }
+{
+    if is_excluded(excluded, solvable) {
+        return Ok(());
+    }
+    encoding.exclude(solvable, reason)?;
+    add_key(excluded, solvable)?;
+    Ok(())
+}
+
+/// The dependencies of a solvable, if they are known. Otherwise it is excluded, once, and has no
+/// other rule.
+fn known_of<A: PackageSource>(
+    answers: &mut A,
+    encoding: &mut Encoder<A::NameId, A::SolvableId>,
+    excluded: &mut IndexSet<A::SolvableId>,
+    solvable: A::SolvableId,
+) -> Result<Option<KnownDependencies>, CacheFault<A::Cancel>>
+    requires { IsBuilt encoding.old }
+    // Whatever the answer.
+    ensures same { answers.new ≡ answers.old }
+    // After an answer.
+    ensures stays { OnOk result
+        (StaysInOrder A.SolvableId.eq A.PackageSource answers.old encoding.old encoding.new) }
+    ensures kept { OnOk result (AddsNeeds encoding.old encoding.new) }
+    ensures known { IfOk result
+        (IsKnownOr A.SolvableId.eq A.PackageSource answers.old
+        excluded.old.keys encoding.old encoding.new solvable) }
+    ensures excluded { OnOk result
+        (KeepsExcluded A.SolvableId.eq A.PackageSource answers.old
+        excluded.old.keys excluded.new.keys encoding.old encoding.new) }
+    ensures built { OnOk result (IsBuilt encoding.new) }
+    // After a refusal.
+    ensures cancelled { IfErr result (IsCancelledBy (A.may_cancel answers.old)) }
+    ensures ids { IsErrOf result Ids
+        → StopsAnyhow A.SolvableId.eq A.PackageSource answers.old encoding.new }
+{
+    match answers.dependencies(solvable)? {
+        Dependencies::Known(known) => Ok(Some(known)),
+        Dependencies::Unknown(reason) => {
+            exclude(encoding, excluded, solvable, reason)?;
+            Ok(None)
+        }
+    }
+}
+
+/// Asks for the dependencies of a solvable. If they are unknown it is excluded.
+fn exclude_unknown<A: PackageSource>(
+    answers: &mut A,
+    encoding: &mut Encoder<A::NameId, A::SolvableId>,
+    excluded: &mut IndexSet<A::SolvableId>,
+    solvable: A::SolvableId,
+) -> Result<(), CacheFault<A::Cancel>>
+    requires { IsBuilt encoding.old }
+    // Whatever the answer.
+    ensures same { answers.new ≡ answers.old }
+    // After an answer.
+    ensures stays { OnOk result
+        (StaysInOrder A.SolvableId.eq A.PackageSource answers.old encoding.old encoding.new) }
+    ensures kept { OnOk result (AddsNeeds encoding.old encoding.new) }
+    ensures excluded { OnOk result
+        (KeepsExcluded A.SolvableId.eq A.PackageSource answers.old
+        excluded.old.keys excluded.new.keys encoding.old encoding.new) }
+    ensures built { OnOk result (IsBuilt encoding.new) }
+    // After a refusal.
+    ensures cancelled { IfErr result (IsCancelledBy (A.may_cancel answers.old)) }
+    ensures ids { IsErrOf result Ids
+        → StopsAnyhow A.SolvableId.eq A.PackageSource answers.old encoding.new }
+{
+    match answers.unknown(solvable)? {
+        None => Ok(()),
+        Some(reason) => {
+            exclude(encoding, excluded, solvable, reason)?;
+            Ok(())
+        }
+    }
+}
+
+/// Asks for the dependencies of a parent. The root's are given.
+fn ask<A: PackageSource>(
+    answers: &mut A,
+    encoding: &mut Encoder<A::NameId, A::SolvableId>,
+    excluded: &mut IndexSet<A::SolvableId>,
+    parent: SolvableIdOrRoot<A::SolvableId>,
+) -> Result<(), CacheFault<A::Cancel>>
+    requires { IsBuilt encoding.old }
+    // Whatever the answer.
+    ensures same { answers.new ≡ answers.old }
+    // After an answer.
+    ensures stays { OnOk result
+        (StaysInOrder A.SolvableId.eq A.PackageSource answers.old encoding.old encoding.new) }
+    ensures kept { OnOk result (AddsNeeds encoding.old encoding.new) }
+    ensures excluded { OnOk result
+        (KeepsExcluded A.SolvableId.eq A.PackageSource answers.old
+        excluded.old.keys excluded.new.keys encoding.old encoding.new) }
+    ensures built { OnOk result (IsBuilt encoding.new) }
+    // After a refusal.
+    ensures cancelled { IfErr result (IsCancelledBy (A.may_cancel answers.old)) }
+    ensures ids { IsErrOf result Ids
+        → StopsAnyhow A.SolvableId.eq A.PackageSource answers.old encoding.new }
+{
+    match parent {
+        SolvableIdOrRoot::Root => Ok(()),
+        SolvableIdOrRoot::Solvable(solvable) => {
+            exclude_unknown(answers, encoding, excluded, solvable)?;
+            Ok(())
+        }
+    }
+}
+
+/// Does a task that was taken, unless it is the rules of a parent. Answers whether it is. What
+/// comes of it is put behind the other tasks.
+fn ask_or_fire<A: PackageSource>(
+    alloc: Global,
+    answers: &mut A,
+    encoding: &mut Encoder<A::NameId, A::SolvableId>,
+    tasks: &mut Tasks<A::SolvableId>,
+    excluded: &mut IndexSet<A::SolvableId>,
+    task: Task<A::SolvableId>,
+) -> Result<bool, CacheFault<A::Cancel>>
+    requires { IsBuilt encoding.old }
+    // Whatever the answer.
+    ensures same { answers.new ≡ answers.old }
+    // After an answer.
+    ensures stays { OnOk result
+        (StaysInOrder A.SolvableId.eq A.PackageSource answers.old encoding.old encoding.new) }
+    ensures kept { OnOk result (AddsNeeds encoding.old encoding.new) }
+    ensures excluded { OnOk result
+        (KeepsExcluded A.SolvableId.eq A.PackageSource answers.old
+        excluded.old.keys excluded.new.keys encoding.old encoding.new) }
+    ensures bound { IfOk result
+        (λ ends. ends ≡ false → bound tasks.new < bound tasks.old + cost task) }
+    ensures built { OnOk result (IsBuilt encoding.new) }
+    // After a refusal.
+    ensures cancelled { IfErr result (IsCancelledBy (A.may_cancel answers.old)) }
+    ensures ids { IsErrOf result Ids
+        → StopsInOrder A.SolvableId.eq A.PackageSource answers.old encoding.old encoding.new }
+{
+    match task {
+        Task::Dependencies(parent) => {
+            ask(answers, encoding, excluded, parent)?;
+            tasks.push(Task::Rules)?;
+            Ok(false)
+        }
+        Task::Rules => Ok(true),
+        Task::Case(place) => {
+            fire_if_due(alloc, answers, encoding, place)?;
+            tasks.push_parents(encoding.parents.as_slice())?;
+            Ok(false)
+        }
+    }
+}
+
+/// Does the tasks until the rules of a parent are next, or none is left.
+fn ask_and_fire<A: PackageSource>(
+    alloc: Global,
+    answers: &mut A,
+    encoding: &mut Encoder<A::NameId, A::SolvableId>,
+    tasks: &mut Tasks<A::SolvableId>,
+    excluded: &mut IndexSet<A::SolvableId>,
+) -> Result<(), CacheFault<A::Cancel>>
+    requires { IsBuilt encoding.old }
+    // Whatever the answer.
+    ensures same { answers.new ≡ answers.old }
+    // After an answer.
+    ensures stays { OnOk result
+        (StaysInOrder A.SolvableId.eq A.PackageSource answers.old encoding.old encoding.new) }
+    ensures kept { OnOk result (AddsNeeds encoding.old encoding.new) }
+    ensures excluded { OnOk result
+        (KeepsExcluded A.SolvableId.eq A.PackageSource answers.old
+        excluded.old.keys excluded.new.keys encoding.old encoding.new) }
+    ensures built { OnOk result (IsBuilt encoding.new) }
+    // After a refusal.
+    ensures cancelled { IfErr result (IsCancelledBy (A.may_cancel answers.old)) }
+    ensures ids { IsErrOf result Ids
+        → StopsInOrder A.SolvableId.eq A.PackageSource answers.old encoding.old encoding.new }
+{
+    while let Some(task) = tasks.take() {
+        if ask_or_fire(alloc, answers, encoding, tasks, excluded, task)? {
+            return Ok(());
+        }
+    }
     Ok(())
 }
 
@@ -517,8 +743,9 @@ fn encode_parent<A: PackageSource>(
     alloc: Global,
     answers: &mut A,
     encoding: &mut Encoder<A::NameId, A::SolvableId>,
-    requirements: &[ConditionalRequirement],
-    constraints: &[VersionSetId],
+    tasks: &mut Tasks<A::SolvableId>,
+    excluded: &mut IndexSet<A::SolvableId>,
+    input: &TurnInput<'_>,
     parent: SolvableIdOrRoot<A::SolvableId>,
 ) -> Result<(), CacheFault<A::Cancel>>
     requires { IsBuilt encoding.old }
@@ -527,47 +754,54 @@ fn encode_parent<A: PackageSource>(
     // After an answer.
     ensures encoded { OnOk result
         (EncodesParent A.SolvableId.eq A.PackageSource answers.old
-        requirements.now constraints.now (solvable_of parent) encoding.old encoding.new) }
+        input.now.requirements.now input.now.constraints.now (solvable_of parent)
+        excluded.old.keys encoding.old encoding.new) }
     ensures kept { OnOk result (AddsNeeds encoding.old encoding.new) }
+    ensures excluded { OnOk result
+        (KeepsExcluded A.SolvableId.eq A.PackageSource answers.old
+        excluded.old.keys excluded.new.keys encoding.old encoding.new) }
     ensures built { OnOk result (IsBuilt encoding.new) }
     // After a refusal.
     ensures cancelled { IfErr result (IsCancelledBy (A.may_cancel answers.old)) }
     ensures ids { IsErrOf result Ids
         → StopsInOrderOf A.SolvableId.eq A.PackageSource answers.old
-        requirements.now constraints.now encoding.old encoding.new }
+        input.now.requirements.now input.now.constraints.now encoding.old encoding.new }
 {
     match parent {
         SolvableIdOrRoot::Root => {
-            encode_rules(alloc, answers, encoding, None, requirements, constraints)?;
+            let (needs, limits) = (input.requirements, input.constraints);
+            encode_rules(alloc, answers, encoding, tasks, None, needs, limits)?;
             Ok(())
         }
-        SolvableIdOrRoot::Solvable(solvable) => match answers.dependencies(solvable)? {
-            Dependencies::Known(known) => {
-                encode_rules(
-                    alloc,
-                    answers,
-                    encoding,
-                    Some(solvable),
-                    known.requirements.as_slice(),
-                    known.constrains.as_slice(),
-                )?;
-                Ok(())
+        SolvableIdOrRoot::Solvable(solvable) => {
+            match known_of(answers, encoding, excluded, solvable)? {
+                None => Ok(()),
+                Some(known) => {
+                    let needs = known.requirements.as_slice();
+                    let limits = known.constrains.as_slice();
+                    encode_rules(
+                        alloc,
+                        answers,
+                        encoding,
+                        tasks,
+                        Some(solvable),
+                        needs,
+                        limits,
+                    )?;
+                    Ok(())
+                }
             }
-            Dependencies::Unknown(reason) => {
-                encoding.exclude(solvable, reason)?;
-                Ok(())
-            }
-        },
+        }
     }
 }
 
-/// Encodes the rules of each parent that isn't encoded yet.
-pub fn encode_waiting<A: PackageSource>(
+/// Does all tasks: encodes the rules of each parent that isn't encoded yet, and cases that hold.
+pub(crate) fn encode_waiting<A: PackageSource>(
     alloc: Global,
     answers: &mut A,
     encoding: &mut Encoder<A::NameId, A::SolvableId>,
-    requirements: &[ConditionalRequirement],
-    constraints: &[VersionSetId],
+    tasks: &mut Tasks<A::SolvableId>,
+    input: &TurnInput<'_>,
 ) -> Result<(), CacheFault<A::Cancel>>
     requires { IsBuilt encoding.old }
     // Whatever the answer.
@@ -575,7 +809,7 @@ pub fn encode_waiting<A: PackageSource>(
     // After an answer.
     ensures encoded { OnOk result
         (StaysInOrderOf A.SolvableId.eq A.PackageSource answers.old
-        requirements.now constraints.now encoding.old encoding.new) }
+        input.now.requirements.now input.now.constraints.now encoding.old encoding.new) }
     ensures all { OnOk result (AddsAll encoding.old encoding.new) }
     ensures turn { OnOk result (KeepsTurns encoding.old encoding.new) }
     ensures built { OnOk result (IsBuilt encoding.new) }
@@ -583,23 +817,37 @@ pub fn encode_waiting<A: PackageSource>(
     ensures cancelled { IfErr result (IsCancelledBy (A.may_cancel answers.old)) }
     ensures ids { IsErrOf result Ids
         → StopsInOrderOf A.SolvableId.eq A.PackageSource answers.old
-        requirements.now constraints.now encoding.old encoding.new }
+        input.now.requirements.now input.now.constraints.now encoding.old encoding.new }
 {
-    while let Some(parent) = encoding.next_parent() {
-        encode_parent(alloc, answers, encoding, requirements, constraints, parent)?;
-        encoding.end_parent();
+    let mut excluded = IndexSet::new(alloc);
+    loop {
+        ask_and_fire(alloc, answers, encoding, tasks, &mut excluded)?;
+        match encoding.next_parent() {
+            None => return Ok(()),
+            Some(parent) => {
+                encode_parent(
+                    alloc,
+                    answers,
+                    encoding,
+                    tasks,
+                    &mut excluded,
+                    input,
+                    parent,
+                )?;
+                encoding.end_parent();
+                tasks.push_parents(encoding.parents.as_slice())?;
+            }
+        }
     }
-    Ok(())
 }
 
-/// Encodes the rules of each parent that isn't encoded yet. Then adds the clauses that wait for the
-/// encoding's end.
-pub fn encode_parents<A: PackageSource>(
+/// Does all tasks. Then adds the clauses that wait for the encoding's end.
+pub(crate) fn encode_parents<A: PackageSource>(
     alloc: Global,
     answers: &mut A,
     encoding: &mut Encoder<A::NameId, A::SolvableId>,
-    requirements: &[ConditionalRequirement],
-    constraints: &[VersionSetId],
+    tasks: &mut Tasks<A::SolvableId>,
+    input: &TurnInput<'_>,
 ) -> Result<(), CacheFault<A::Cancel>>
     requires { IsBuilt encoding.old }
     // Whatever the answer.
@@ -607,7 +855,7 @@ pub fn encode_parents<A: PackageSource>(
     // After an answer.
     ensures encoded { OnOk result
         (StaysInOrderOf A.SolvableId.eq A.PackageSource answers.old
-        requirements.now constraints.now encoding.old encoding.new) }
+        input.now.requirements.now input.now.constraints.now encoding.old encoding.new) }
     ensures all { OnOk result (AddsAll encoding.old encoding.new) }
     ensures turn { OnOk result (KeepsTurns encoding.old encoding.new) }
     ensures placed { OnOk result (IsWhole encoding.new) }
@@ -616,9 +864,9 @@ pub fn encode_parents<A: PackageSource>(
     ensures cancelled { IfErr result (IsCancelledBy (A.may_cancel answers.old)) }
     ensures ids { IsErrOf result Ids
         → StopsInOrderOf A.SolvableId.eq A.PackageSource answers.old
-        requirements.now constraints.now encoding.old encoding.new }
+        input.now.requirements.now input.now.constraints.now encoding.old encoding.new }
 {
-    encode_waiting(alloc, answers, encoding, requirements, constraints)?;
+    encode_waiting(alloc, answers, encoding, tasks, input)?;
     encoding.add_queued(alloc)?;
     Ok(())
 }

@@ -171,7 +171,7 @@ fn fire<A: PackageSource>(
 }
 
 /// Encodes the deferred case at this place, if it holds. Answers whether it did.
-fn fire_if_due<A: PackageSource>(
+pub(crate) fn fire_if_due<A: PackageSource>(
     alloc: Global,
     answers: &mut A,
     encoding: &mut Encoder<A::NameId, A::SolvableId>,
@@ -263,30 +263,4 @@ pub fn fire_each<A: PackageSource>(
         }
     }
     Ok(has_fired)
-}
-
-/// Encodes the deferred cases from this place on that hold, in their order.
-pub(crate) fn fire_from<A: PackageSource>(
-    alloc: Global,
-    answers: &mut A,
-    encoding: &mut Encoder<A::NameId, A::SolvableId>,
-    first: usize,
-) -> Result<(), CacheFault<A::Cancel>>
-    requires { IsBuilt encoding.old }
-    // Whatever the answer.
-    ensures same { answers.new ≡ answers.old }
-    // After an answer.
-    ensures stays { OnOk result
-        (StaysInOrder A.SolvableId.eq A.PackageSource answers.old encoding.old encoding.new) }
-    ensures kept { OnOk result (AddsNeeds encoding.old encoding.new) }
-    ensures built { OnOk result (IsBuilt encoding.new) }
-    // After a refusal.
-    ensures cancelled { IfErr result (IsCancelledBy (A.may_cancel answers.old)) }
-    ensures ids { IsErrOf result Ids
-        → StopsInOrder A.SolvableId.eq A.PackageSource answers.old encoding.old encoding.new }
-{
-    for index in first..encoding.deferred.len() {
-        fire_if_due(alloc, answers, encoding, index)?;
-    }
-    Ok(())
 }

@@ -9,6 +9,7 @@ pub mod defer_conditions;
 pub mod encode;
 pub mod fire_conditions;
 pub mod scan;
+pub mod tasks;
 pub mod turn;
 pub mod turn_input;
 pub mod turn_state;

@@ -16,17 +16,17 @@ ghost use Rattle.resolvo_turn.specs.LacksIds.{StopsInOrder, StopsInOrderOf};
 
 use crate::cdcl::{Activity, run_cdcl};
 use crate::chosen::{chosen_at, chosen_in_turn};
-use crate::encode::{encode_parents, encode_waiting};
+use crate::encode::encode_parents;
 use crate::fire_conditions::{fire_cases, fire_each};
 use crate::scan::{Scan, find_touched, mark_all};
+use crate::tasks::Tasks;
 use crate::turn_input::TurnInput;
 use crate::turn_state::TurnState;
 use resolvo_encoder::encoder::Encoder;
 use resolvo_packages::package_source::PackageSource;
 use resolvo_pool::cache::CacheFault;
-use resolvo_pool_core::id::{Exact, VariableId, VersionSetId};
+use resolvo_pool_core::id::{Exact, VariableId};
 use resolvo_pool_core::id_map::ScoreMap;
-use resolvo_pool_core::requirement::ConditionalRequirement;
 use resolvo_pool_core::want::R;
 use resolvo_sat::analyze::FinalConflict;
 use resolvo_sat::state::SatState;
@@ -112,15 +112,14 @@ fn fire_touched<A: PackageSource>(
     Ok(has_fired)
 }
 
-/// Encodes all parents, then the cases that hold, then the parents that these added. Undoes the
-/// turn's decisions if a clause of the encoding is falsified.
+/// Encodes all parents, and the cases that hold. The dependencies of the parents are asked for
+/// first. Undoes the turn's decisions if a clause of the encoding is falsified.
 fn encode<A: PackageSource>(
     alloc: Global,
     answers: &mut A,
     encoding: &mut Encoder<A::NameId, A::SolvableId>,
-    requirements: &[ConditionalRequirement],
-    constraints: &[VersionSetId],
     scan: &mut Scan<A::NameId>,
+    input: &TurnInput<'_>,
 ) -> Result<(), CacheFault<A::Cancel>>
     requires { IsBuilt encoding.old }
     // Whatever the answer.
@@ -128,7 +127,7 @@ fn encode<A: PackageSource>(
     // After an answer.
     ensures encoded { OnOk result
         (StaysInOrderOf A.SolvableId.eq A.PackageSource answers.old
-        requirements.now constraints.now encoding.old encoding.new) }
+        input.now.requirements.now input.now.constraints.now encoding.old encoding.new) }
     ensures all { OnOk result (AddsAll encoding.old encoding.new) }
     ensures turn { OnOk result (KeepsTurns encoding.old encoding.new) }
     ensures placed { OnOk result (IsWhole encoding.new) }
@@ -137,11 +136,13 @@ fn encode<A: PackageSource>(
     ensures cancelled { IfErr result (IsCancelledBy (A.may_cancel answers.old)) }
     ensures ids { IsErrOf result Ids
         → StopsInOrderOf A.SolvableId.eq A.PackageSource answers.old
-        requirements.now constraints.now encoding.old encoding.new }
+        input.now.requirements.now input.now.constraints.now encoding.old encoding.new }
 {
-    encode_waiting(alloc, answers, encoding, requirements, constraints)?;
-    fire_touched(alloc, answers, encoding, scan)?;
-    encode_parents(alloc, answers, encoding, requirements, constraints)?;
+    let mut tasks = Tasks::new(alloc, encoding.encoded);
+    tasks.push_parents(encoding.parents.as_slice())?;
+    tasks.push_each(encoding, scan.touched())?;
+    encode_parents(alloc, answers, encoding, &mut tasks, input)?;
+    scan.end_touched(encoding);
     undo_broken(encoding, scan);
     Ok(())
 }
@@ -227,11 +228,12 @@ fn undo_falsified<N: Copy + Exact + Hash + Debug, S: Copy + Exact + Hash + Debug
 }
 
 /// Begins the search after an encoding: assumes the turn's soft requirement, and propagates. Where
-/// a clause is falsified above the turn's first level, the turn begins again. The conflict, if the
-/// soft requirement is false.
+/// a clause is falsified above the turn's first level, the turn begins again. The scan follows. The
+/// conflict, if the soft requirement is false.
 fn begin_search<N: Copy + Exact + Hash + Debug, S: Copy + Exact + Hash + Debug>(
     alloc: Global,
     encoding: &mut Encoder<N, S>,
+    scan: &mut Scan<N>,
     soft: Option<VariableId>,
 ) -> R<Option<FinalConflict>>
     requires built { IsBuilt encoding.old }
@@ -248,9 +250,12 @@ fn begin_search<N: Copy + Exact + Hash + Debug, S: Copy + Exact + Hash + Debug>(
     if let Some(refusal) = choose_first(alloc, encoding, soft)? {
         return Ok(Some(refusal));
     }
+    // before propagation: the soft requirement's entry is the last one
+    scan.go_back(encoding);
     undo_falsified(encoding, soft)?;
     // split for the prover: error and answer
     let refusal = choose_first(alloc, encoding, soft)?;
+    scan.go_back(encoding);
     Ok(refusal)
 }
 
@@ -277,10 +282,9 @@ fn choose_and_decide<A: PackageSource, C: ScoreMap<A::NameId>>(
     ensures ids { IsErrOf result Ids
         → StopsInOrder A.SolvableId.eq A.PackageSource answers.now encoding.old encoding.new }
 {
-    if let Some(refusal) = begin_search(alloc, encoding, soft)? {
+    if let Some(refusal) = begin_search(alloc, encoding, &mut state.scan, soft)? {
         return Ok(Some(refusal));
     }
-    state.scan.go_back(encoding);
     // split for the prover: error and answer
     let refusal = run_cdcl(alloc, answers, encoding, state, activity)?;
     Ok(refusal)
@@ -314,14 +318,7 @@ fn encode_and_decide<A: PackageSource, C: ScoreMap<A::NameId>>(
         → StopsInOrderOf A.SolvableId.eq A.PackageSource answers.old
         input.now.requirements.now input.now.constraints.now encoding.old encoding.new }
 {
-    encode(
-        alloc,
-        answers,
-        encoding,
-        input.requirements,
-        input.constraints,
-        &mut state.scan,
-    )?;
+    encode(alloc, answers, encoding, &mut state.scan, input)?;
     let activity = input.activity;
     // split for the prover: error and answer
     let refusal = choose_and_decide(alloc, answers, encoding, state, activity, soft)?;

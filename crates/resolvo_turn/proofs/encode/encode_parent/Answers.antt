@@ -1,68 +1,71 @@
-use Rattle.std.proofs.Common.{◌≡◌, ◌∙◌, Some, sym, ap, subst, rules, None}
+use Rattle.std.proofs.Common.{◌≡◌, None, Some, Option, sym, subst, rules}
+use Rattle.resolvo_pool_core.specs.declared.provider.Dependencies.TheVariants.{Known}
+use Rattle.resolvo_pool_core.specs.declared.provider.KnownDependencies.{KnownDependencies}
 use Rattle.resolvo_pool_core.specs.declared.solver_id.SolvableIdOrRoot.{SolvableIdOrRoot}
-use Rattle.resolvo_pool_core.specs.declared.provider.Dependencies.TheVariants.{Known, Unknown}
 use Rattle.resolvo_pool_core.specs.Provider.{needs_of}
-use Rattle.resolvo_pool_core.specs.RuleKeeping.{Rules}
 use Rattle.resolvo_pool_core.specs.Text.{solvable_of}
 use Rattle.resolvo_encoder.specs.Encoded.{IsParentEncoded}
-use Rattle.resolvo_encoder.proofs.PickLemmas.{ordered_stays}
-use Rattle.resolvo_turn.specs.Encoder.{AreRulesOf, IsInOrder}
-use Rattle.resolvo_turn.proofs.AddLemmas.{extends_needs, root_rules, known_rules, unknown_encoded, excluded_rule}
-use Rattle.resolvo_turn.specs.LacksIds.{LacksIds, StopsKnown}
+use Rattle.resolvo_turn.specs.Effects.{EncodesKnown}
+use Rattle.resolvo_turn.specs.LacksIds.{StopsAnyhow, StopsKnown}
+use Rattle.resolvo_turn.specs.Tasks.{IsKnownOr}
+use Rattle.resolvo_turn.proofs.AddLemmas.{needs_then, root_rules, known_rules}
+use Rattle.resolvo_turn.proofs.TaskLemmas.{excluded_stays}
 use Rattle.resolvo_turn.proofs.encode.encode_parent.Goals as goal
 
 pub returns-in_ok-encode_rules-in-Root-clause-encoded : goal.returns-in_ok-encode_rules-in-Root-clause-encoded
-returns-in_ok-encode_rules-in-Root-clause-encoded g c = λ root is e.
+returns-in_ok-encode_rules-in-Root-clause-encoded g c = λ root is e before.
     let same = g.A.SolvableId.PartialEq.eq in
     let p = g.A.PackageSource.packages c.args.answers.now in
-    let (last, done) = c.in_ok-encode_rules-in-Root.ensures.encoded root (root_rules same p root c.args.requirements.now c.args.constraints.now is) e in
+    let (last, done) = c.in_ok-encode_rules-in-Root.ensures.encoded root (root_rules same p root c.args.input.now.requirements.now c.args.input.now.constraints.now is) e in
     (last, subst (λ (x : SolvableIdOrRoot _). IsParentEncoded same p c.encode_rules.new.encoding root (solvable_of x)) (sym c.in-Root.is) done)
 
-pub returns-in_ok-encode_rules-in-Known-clause-encoded : goal.returns-in_ok-encode_rules-in-Known-clause-encoded
-returns-in_ok-encode_rules-in-Known-clause-encoded g c = λ root is e.
+pub returns-in_ok-encode_rules-in-Root-clause-excluded : goal.returns-in_ok-encode_rules-in-Root-clause-excluded
+returns-in_ok-encode_rules-in-Root-clause-excluded g c = λ root e before. excluded_stays c.args.excluded.now.keys c.args.encoding.now c.encode_rules.new.encoding c.in_ok-encode_rules-in-Root.ensures.kept.grows before
+
+pub returns-in-None-clause-encoded : goal.returns-in-None-clause-encoded
+returns-in-None-clause-encoded g c = λ root is e before.
+    let same = g.A.SolvableId.PartialEq.eq in
+    let p = g.A.PackageSource.packages c.args.answers.now in
+    let new = c.known_of.new.encoding in
+    let done = (subst (λ (k : Option KnownDependencies). IsKnownOr same g.A.PackageSource c.args.answers.now c.args.excluded.now.keys c.args.encoding.now new c.in-Solvable.solvable k) c.in-None.is c.in_ok-known_of-in-Solvable.ensures.known) root e before in
+    (c.in_ok-known_of-in-Solvable.ensures.stays root e, subst (λ (x : SolvableIdOrRoot _). IsParentEncoded same p new root (solvable_of x)) (sym c.in-Solvable.is) done)
+
+pub returns-in_ok-encode_rules-in-Some-clause-encoded : goal.returns-in_ok-encode_rules-in-Some-clause-encoded
+returns-in_ok-encode_rules-in-Some-clause-encoded g c = λ root is e before.
     let same = g.A.SolvableId.PartialEq.eq in
     let p = g.A.PackageSource.packages c.args.answers.now in
     let solvable = c.in-Solvable.solvable in
-    let new = c.encode_rules-in-Known.new.encoding in
-    let asked : p.dependencies_of solvable ≡ needs_of (Known c.in-Known.known) = sym c.in_ok-known-in-Solvable.ensures.answer ∙ ap needs_of c.in-Known.is in
-    let are = known_rules same p root solvable c.in-Known.known c.as_slice.result.now c.as_slice-in-Known.result.now asked c.as_slice.ensures.value c.as_slice-in-Known.ensures.value in
-    let ensured = subst (λ (a : g.row.A.Denot). (root : Rules) → AreRulesOf same (g.A.PackageSource.packages a) root (Some solvable) c.as_slice.result.now c.as_slice-in-Known.result.now → IsInOrder same (g.A.PackageSource.packages a) (g.A.PackageSource.orders a) root c.args.encoding.now
-    → IsInOrder same (g.A.PackageSource.packages a) (g.A.PackageSource.orders a) root new × IsParentEncoded same (g.A.PackageSource.packages a) new root (Some solvable)) c.in_ok-known-in-Solvable.ensures.same c.in_ok-encode_rules-in-Known.ensures.encoded in
-    let (last, done) = ensured root are e in
+    let middle = c.known_of.new.encoding in
+    let new = c.encode_rules-in-Some.new.encoding in
+    let asked : p.dependencies_of solvable ≡ needs_of (Known c.in-Some.known) = subst (λ (k : Option KnownDependencies). IsKnownOr same g.A.PackageSource c.args.answers.now c.args.excluded.now.keys c.args.encoding.now middle solvable k) c.in-Some.is c.in_ok-known_of-in-Solvable.ensures.known in
+    let are = known_rules same p root solvable c.in-Some.known c.as_slice-needs.result.now c.as_slice-limits.result.now asked c.as_slice-needs.ensures.value c.as_slice-limits.ensures.value in
+    let ensured = subst (λ (a : g.row.A.Denot). EncodesKnown same g.A.PackageSource a (Some solvable) c.as_slice-needs.result.now c.as_slice-limits.result.now middle new) c.in_ok-known_of-in-Solvable.ensures.same c.in_ok-encode_rules-in-Some.ensures.encoded in
+    let (last, done) = ensured root are (c.in_ok-known_of-in-Solvable.ensures.stays root e) in
     (last, subst (λ (x : SolvableIdOrRoot _). IsParentEncoded same p new root (solvable_of x)) (sym c.in-Solvable.is) done)
 
-pub returns-in_ok-exclude-in-Unknown-clause-encoded : goal.returns-in_ok-exclude-in-Unknown-clause-encoded
-returns-in_ok-exclude-in-Unknown-clause-encoded g c = λ root is e.
-    let same = g.A.SolvableId.PartialEq.eq in
-    let p = g.A.PackageSource.packages c.args.answers.now in
-    let orders = g.A.PackageSource.orders c.args.answers.now in
-    let solvable = c.in-Solvable.solvable in
-    let new = c.exclude.new.self in
-    let excluded = c.in_ok-exclude-in-Unknown.ensures.encodes in
-    let asked : p.dependencies_of solvable ≡ needs_of (Unknown c.in-Unknown.reason) = sym c.in_ok-known-in-Solvable.ensures.answer ∙ ap needs_of c.in-Unknown.is in
-    let (last, is_encoded) = excluded.encoding p root (g.met.A.PackageSource.lawful c.args.answers.now) e.encoding (excluded_rule same p root solvable c.in-Unknown.reason asked) in (
-      record { encoding = last; ordered = ordered_stays orders c.args.encoding.now new excluded.extends.grows excluded.lists e.ordered },
-      subst (λ (x : SolvableIdOrRoot _). IsParentEncoded same p new root (solvable_of x)) (sym c.in-Solvable.is) (unknown_encoded same p root new solvable c.in-Unknown.reason asked is_encoded),
-    )
+pub returns-in_ok-encode_rules-in-Some-clause-kept : goal.returns-in_ok-encode_rules-in-Some-clause-kept
+returns-in_ok-encode_rules-in-Some-clause-kept g c = needs_then c.args.encoding.now c.known_of.new.encoding c.encode_rules-in-Some.new.encoding c.in_ok-known_of-in-Solvable.ensures.kept c.in_ok-encode_rules-in-Some.ensures.kept
 
-pub returns-in_ok-exclude-in-Unknown-clause-kept : goal.returns-in_ok-exclude-in-Unknown-clause-kept
-returns-in_ok-exclude-in-Unknown-clause-kept g c = extends_needs c.args.encoding.now c.exclude.new.self c.in_ok-exclude-in-Unknown.ensures.encodes.extends
+pub returns-in_ok-encode_rules-in-Some-clause-excluded : goal.returns-in_ok-encode_rules-in-Some-clause-excluded
+returns-in_ok-encode_rules-in-Some-clause-excluded g c = λ root e before.
+    excluded_stays c.known_of.new.excluded.keys c.known_of.new.encoding c.encode_rules-in-Some.new.encoding c.in_ok-encode_rules-in-Some.ensures.kept.grows (c.in_ok-known_of-in-Solvable.ensures.excluded root e before)
 
 pub returns-in_err-encode_rules-in-Root-clause-ids : goal.returns-in_err-encode_rules-in-Root-clause-ids
 returns-in_err-encode_rules-in-Root-clause-ids g c = λ is root are e.
-    let stops : StopsKnown g.A.SolvableId.PartialEq.eq g.A.PackageSource c.args.answers.now None c.args.requirements.now c.args.constraints.now c.args.encoding.now c.encode_rules.new.encoding = search (rules, is) in
-    stops root (root_rules g.A.SolvableId.PartialEq.eq (g.A.PackageSource.packages c.args.answers.now) root c.args.requirements.now c.args.constraints.now are) e
+    let stops : StopsKnown g.A.SolvableId.PartialEq.eq g.A.PackageSource c.args.answers.now None c.args.input.now.requirements.now c.args.input.now.constraints.now c.args.encoding.now c.encode_rules.new.encoding = search (rules, is) in
+    stops root (root_rules g.A.SolvableId.PartialEq.eq (g.A.PackageSource.packages c.args.answers.now) root c.args.input.now.requirements.now c.args.input.now.constraints.now are) e
 
-pub returns-in_err-known-in-Solvable-clause-ids : goal.returns-in_err-known-in-Solvable-clause-ids
-returns-in_err-known-in-Solvable-clause-ids g c = search (rules, LacksIds.packages)
+pub returns-in_err-known_of-in-Solvable-clause-ids : goal.returns-in_err-known_of-in-Solvable-clause-ids
+returns-in_err-known_of-in-Solvable-clause-ids g c = λ is root are e.
+    let stops : StopsAnyhow g.A.SolvableId.PartialEq.eq g.A.PackageSource c.args.answers.now c.known_of.new.encoding = search (rules, is) in
+    stops root
 
-pub returns-in_err-encode_rules-in-Known-clause-ids : goal.returns-in_err-encode_rules-in-Known-clause-ids
-returns-in_err-encode_rules-in-Known-clause-ids g c = λ is root are e.
+pub returns-in_err-encode_rules-in-Some-clause-ids : goal.returns-in_err-encode_rules-in-Some-clause-ids
+returns-in_err-encode_rules-in-Some-clause-ids g c = λ is root are e.
+    let same = g.A.SolvableId.PartialEq.eq in
     let p = g.A.PackageSource.packages c.args.answers.now in
     let solvable = c.in-Solvable.solvable in
-    let asked : p.dependencies_of solvable ≡ needs_of (Known c.in-Known.known) = sym c.in_ok-known-in-Solvable.ensures.answer ∙ ap needs_of c.in-Known.is in
-    let stops = subst (λ (a : g.row.A.Denot). StopsKnown g.A.SolvableId.PartialEq.eq g.A.PackageSource a (Some solvable) c.as_slice.result.now c.as_slice-in-Known.result.now c.args.encoding.now c.encode_rules-in-Known.new.encoding) c.in_ok-known-in-Solvable.ensures.same (search (rules, is)) in
-    stops root (known_rules g.A.SolvableId.PartialEq.eq p root solvable c.in-Known.known c.as_slice.result.now c.as_slice-in-Known.result.now asked c.as_slice.ensures.value c.as_slice-in-Known.ensures.value) e
-
-pub returns-in_err-exclude-in-Unknown-clause-ids : goal.returns-in_err-exclude-in-Unknown-clause-ids
-returns-in_err-exclude-in-Unknown-clause-ids g c = search (rules, LacksIds.coding)
+    let middle = c.known_of.new.encoding in
+    let asked : p.dependencies_of solvable ≡ needs_of (Known c.in-Some.known) = subst (λ (k : Option KnownDependencies). IsKnownOr same g.A.PackageSource c.args.answers.now c.args.excluded.now.keys c.args.encoding.now middle solvable k) c.in-Some.is c.in_ok-known_of-in-Solvable.ensures.known in
+    let stops = subst (λ (a : g.row.A.Denot). StopsKnown same g.A.PackageSource a (Some solvable) c.as_slice-needs.result.now c.as_slice-limits.result.now middle c.encode_rules-in-Some.new.encoding) c.in_ok-known_of-in-Solvable.ensures.same (search (rules, is)) in
+    stops root (known_rules same p root solvable c.in-Some.known c.as_slice-needs.result.now c.as_slice-limits.result.now asked c.as_slice-needs.ensures.value c.as_slice-limits.ensures.value) (c.in_ok-known_of-in-Solvable.ensures.stays root e)

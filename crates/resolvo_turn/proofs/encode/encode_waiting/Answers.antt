@@ -1,54 +1,81 @@
-use Rattle.std.proofs.Common.{◌≡◌, ◌≤◌, ◌+◌, None, Some, length, refl, sym, ◌∙◌, subst, arith, rules}
-use Rattle.std.specs.Prelude.{slice_get}
-use Rattle.resolvo_pool_core.specs.RuleKeeping.{Rules}
+use Rattle.std.proofs.Common.{◌≡◌, ◌≤◌, ◌+◌, None, Some, length, List, [], refl, sym, ◌∙◌, subst, arith, rules}
+use Rattle.std.specs.Prelude.{slice_get, Contains}
 use Rattle.resolvo_pool_core.specs.Text.{solvable_of}
+use Rattle.resolvo_sat.proofs.Lists.{contains_none}
 use Rattle.resolvo_encoder.specs.declared.encoder.Encoder.{Encoder}
-use Rattle.resolvo_encoder.specs.Encoded.{IsParentEncoded}
 use Rattle.resolvo_encoder.proofs.Bases.{turn_same, turns_then}
-use Rattle.resolvo_turn.specs.Encoder.{IsInOrder, IsRoot, AddsParents}
-use Rattle.resolvo_turn.proofs.AddLemmas.{next_in_order, all_none, all_then, one_more, next_all, next_turns}
+use Rattle.resolvo_turn.specs.Encoder.{AddsParents, StaysInOrder}
+use Rattle.resolvo_turn.specs.Effects.{EncodesParent}
+use Rattle.resolvo_turn.specs.LacksIds.{StopsInOrder, StopsInOrderOf}
+use Rattle.resolvo_turn.specs.Tasks.{AreExcluded, KeepsExcluded}
+use Rattle.resolvo_turn.proofs.AddLemmas.{next_in_order, all_none, all_then, needs_parents, one_more, next_all, next_turns}
 use Rattle.resolvo_turn.proofs.EndLemmas.{past_end}
-use Rattle.resolvo_turn.specs.LacksIds.{StopsInOrderOf}
 use Rattle.resolvo_turn.proofs.encode.encode_waiting.Goals as goal
 
-pub loop-parent-init : goal.loop-parent-init
-loop-parent-init g c = record { same = refl; encoded = λ root is e. e; adds = all_none c.args.encoding.now; turn = λ soft. turn_same soft c.args.encoding.now; built = c.requires }
+pub loop-excluded-init : goal.loop-excluded-init
+loop-excluded-init g c =
+    let none : c.new-excluded.result.keys ≡ [] = search rules in
+    record { same = refl; encoded = λ root is e. (e, λ s h. absurd (contains_none s (subst (λ (ks : List _). Contains ks s) none h))); adds = all_none c.args.encoding.now; turn = λ soft. turn_same soft c.args.encoding.now; built = c.requires }
 
-pub loop-parent-preserved : goal.loop-parent-preserved
-loop-parent-preserved g c =
+pub loop-excluded-preserved : goal.loop-excluded-preserved
+loop-excluded-preserved g c =
     let same = g.A.SolvableId.PartialEq.eq in
     let p = g.A.PackageSource.packages c.args.answers.now in
-    let before = c.loop-parent.invariant in
-    let middle = c.encode_parent.new.encoding in
-    let kept = c.in_ok-encode_parent.ensures.kept in
-    let ensured = subst (λ (a : g.row.A.Denot). (root : Rules) → IsRoot c.args.requirements.now c.args.constraints.now root → IsInOrder same (g.A.PackageSource.packages a) (g.A.PackageSource.orders a) root c.loop-parent.encoding
-    → IsInOrder same (g.A.PackageSource.packages a) (g.A.PackageSource.orders a) root middle × IsParentEncoded same (g.A.PackageSource.packages a) middle root (solvable_of c.in-Some.parent))
-    before.same c.in_ok-encode_parent.ensures.encoded in
-    let here : slice_get c.loop-parent.encoding.parents.keys c.loop-parent.encoding.encoded ≡ Some c.in-Some.parent = sym c.next_parent.ensures.parent ∙ c.in-Some.is in
+    let orders = g.A.PackageSource.orders c.args.answers.now in
+    let start = c.args.encoding.now in
+    let before = c.loop-excluded.invariant in
+    let old = c.loop-excluded.encoding in
+    let middle = c.ask_and_fire.new.encoding in
+    let new = c.encode_parent.new.encoding in
+    let next = c.end_parent.new.self in
+    let asked = c.in_ok-ask_and_fire.ensures in
+    let kept = c.in_ok-encode_parent-in-Some.ensures.kept in
+    let stays = subst (λ (a : g.row.A.Denot). StaysInOrder same g.A.PackageSource a old middle) before.same asked.stays in
+    let one = subst (λ (a : g.row.A.Denot). KeepsExcluded same g.A.PackageSource a c.loop-excluded.excluded.keys c.ask_and_fire.new.excluded.keys old middle) before.same asked.excluded in
+    let two = subst (λ (a : g.row.A.Denot). KeepsExcluded same g.A.PackageSource a c.ask_and_fire.new.excluded.keys c.encode_parent.new.excluded.keys middle new) (asked.same ∙ before.same) c.in_ok-encode_parent-in-Some.ensures.excluded in
+    let encodes = subst (λ (a : g.row.A.Denot). EncodesParent same g.A.PackageSource a c.args.input.now.requirements.now c.args.input.now.constraints.now (solvable_of c.in-Some.parent) c.ask_and_fire.new.excluded.keys middle new) (asked.same ∙ before.same) c.in_ok-encode_parent-in-Some.ensures.encoded in
+    let here : slice_get middle.parents.keys middle.encoded ≡ Some c.in-Some.parent = sym c.next_parent.ensures.parent ∙ c.in-Some.is in
     record {
-      same = c.in_ok-encode_parent.ensures.same ∙ before.same;
+      same = c.in_ok-encode_parent-in-Some.ensures.same ∙ (asked.same ∙ before.same);
       encoded = λ root is e. (
-          let (last, done) = ensured root is (before.encoded root is e) in
-          next_in_order same p (g.A.PackageSource.orders c.args.answers.now) root middle c.end_parent.new.self c.end_parent.ensures.next (λ e. c.end_parent.ensures.encoding p root e (next_all same p root c.loop-parent.encoding middle c.in-Some.parent kept here done)) last);
-      adds = subst (λ (x : Encoder _ _). AddsParents c.args.encoding.now x) (sym c.end_parent.ensures.next) (all_then c.args.encoding.now c.loop-parent.encoding (record middle { encoded = middle.encoded + 1 }) before.adds (one_more c.loop-parent.encoding middle kept));
-      turn = turns_then c.args.encoding.now middle c.end_parent.new.self (turns_then c.args.encoding.now c.loop-parent.encoding middle before.turn kept.turn) (next_turns middle c.end_parent.new.self c.end_parent.ensures.next);
-      built = c.end_parent.ensures.built c.in_ok-encode_parent.ensures.built;
+          let (first, excluded) = before.encoded root is e in
+          let (last, done) = encodes root is (stays root first) (one root first excluded) in (
+            next_in_order same p orders root new next c.end_parent.ensures.next (λ e. c.end_parent.ensures.encoding p root e (next_all same p root middle new c.in-Some.parent kept here done)) last,
+            subst (λ (x : Encoder _ _). AreExcluded c.encode_parent.new.excluded.keys x) (sym c.end_parent.ensures.next) (two root (stays root first) (one root first excluded)),
+          ));
+      adds = subst (λ (x : Encoder _ _). AddsParents start x) (sym c.end_parent.ensures.next) (all_then start middle (record new { encoded = new.encoded + 1 }) (all_then start old middle before.adds (needs_parents old middle asked.kept)) (one_more middle new kept));
+      turn = turns_then start new next (turns_then start middle new (turns_then start old middle before.turn asked.kept.turn) kept.turn) (next_turns new next c.end_parent.ensures.next);
+      built = c.end_parent.ensures.built c.in_ok-encode_parent-in-Some.ensures.built;
     }
 
-pub returns-clause-encoded : goal.returns-clause-encoded
-returns-clause-encoded g c = c.loop-parent.invariant.encoded
+pub returns-in-None-clause-same : goal.returns-in-None-clause-same
+returns-in-None-clause-same g c = c.in_ok-ask_and_fire.ensures.same ∙ c.loop-excluded.invariant.same
 
-pub returns-clause-all : goal.returns-clause-all
-returns-clause-all g c =
-    let none : slice_get c.loop-parent.encoding.parents.keys c.loop-parent.encoding.encoded ≡ None = sym c.next_parent.ensures.parent ∙ c.in_default.is in
-    let past : length c.loop-parent.encoding.parents.keys ≤ c.loop-parent.encoding.encoded = past_end c.loop-parent.encoding.parents.keys c.loop-parent.encoding.encoded none in
-    let within : c.loop-parent.encoding.encoded ≤ length c.loop-parent.encoding.parents.keys = c.loop-parent.invariant.built.within in
-    record { adds = c.loop-parent.invariant.adds; all = omega arith }
+pub returns-in-None-clause-encoded : goal.returns-in-None-clause-encoded
+returns-in-None-clause-encoded g c = λ root is e.
+    (subst (λ (a : g.row.A.Denot). StaysInOrder g.A.SolvableId.PartialEq.eq g.A.PackageSource a c.loop-excluded.encoding c.ask_and_fire.new.encoding) c.loop-excluded.invariant.same c.in_ok-ask_and_fire.ensures.stays)
+    root (c.loop-excluded.invariant.encoded root is e).0
 
-pub returns-clause-turn : goal.returns-clause-turn
-returns-clause-turn g c = c.loop-parent.invariant.turn
+pub returns-in-None-clause-all : goal.returns-in-None-clause-all
+returns-in-None-clause-all g c =
+    let middle = c.ask_and_fire.new.encoding in
+    let none : slice_get middle.parents.keys middle.encoded ≡ None = sym c.next_parent.ensures.parent ∙ c.in-None.is in
+    let past : length middle.parents.keys ≤ middle.encoded = past_end middle.parents.keys middle.encoded none in
+    let within : middle.encoded ≤ length middle.parents.keys = c.in_ok-ask_and_fire.ensures.built.within in
+    record { adds = all_then c.args.encoding.now c.loop-excluded.encoding middle c.loop-excluded.invariant.adds (needs_parents c.loop-excluded.encoding middle c.in_ok-ask_and_fire.ensures.kept); all = omega arith }
 
-pub returns-in_err-encode_parent-clause-ids : goal.returns-in_err-encode_parent-clause-ids
-returns-in_err-encode_parent-clause-ids g c = λ is root are e.
-    let stops = subst (λ (a : g.row.A.Denot). StopsInOrderOf g.A.SolvableId.PartialEq.eq g.A.PackageSource a c.args.requirements.now c.args.constraints.now c.loop-parent.encoding c.encode_parent.new.encoding) c.loop-parent.invariant.same (search (rules, is)) in
-    stops root are (c.loop-parent.invariant.encoded root are e)
+pub returns-in-None-clause-turn : goal.returns-in-None-clause-turn
+returns-in-None-clause-turn g c = turns_then c.args.encoding.now c.loop-excluded.encoding c.ask_and_fire.new.encoding c.loop-excluded.invariant.turn c.in_ok-ask_and_fire.ensures.kept.turn
+
+pub returns-in_err-ask_and_fire-clause-ids : goal.returns-in_err-ask_and_fire-clause-ids
+returns-in_err-ask_and_fire-clause-ids g c = λ is root are e.
+    let stops = subst (λ (a : g.row.A.Denot). StopsInOrder g.A.SolvableId.PartialEq.eq g.A.PackageSource a c.loop-excluded.encoding c.ask_and_fire.new.encoding) c.loop-excluded.invariant.same (search (rules, is)) in
+    stops root (c.loop-excluded.invariant.encoded root are e).0
+
+pub returns-in_err-encode_parent-in-Some-clause-ids : goal.returns-in_err-encode_parent-in-Some-clause-ids
+returns-in_err-encode_parent-in-Some-clause-ids g c = λ is root are e.
+    let same = g.A.SolvableId.PartialEq.eq in
+    let before = c.loop-excluded.invariant in
+    let stays = subst (λ (a : g.row.A.Denot). StaysInOrder same g.A.PackageSource a c.loop-excluded.encoding c.ask_and_fire.new.encoding) before.same c.in_ok-ask_and_fire.ensures.stays in
+    let stops = subst (λ (a : g.row.A.Denot). StopsInOrderOf same g.A.PackageSource a c.args.input.now.requirements.now c.args.input.now.constraints.now c.ask_and_fire.new.encoding c.encode_parent.new.encoding) (c.in_ok-ask_and_fire.ensures.same ∙ before.same) (search (rules, is)) in
+    stops root are (stays root (before.encoded root are e).0)

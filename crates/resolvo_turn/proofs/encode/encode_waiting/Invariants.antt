@@ -3,18 +3,19 @@ use Rattle.resolvo_pool_core.specs.RuleKeeping.{Rules}
 use Rattle.resolvo_encoder.specs.Base.{KeepsTurns}
 use Rattle.resolvo_encoder.specs.Steps.{IsBuilt}
 use Rattle.resolvo_turn.specs.Encoder.{IsInOrder, IsRoot, AddsParents}
+use Rattle.resolvo_turn.specs.Tasks.{AreExcluded}
 use Rattle.resolvo_turn.proofs.encode.encode_waiting.Given as goal
 
--- the encoding is one of the packages, with more parents
-abbrev pub invariant-loop-parent : goal.invariant-loop-parent
-invariant-loop-parent g l = record {
+-- the encoding is one of the packages, with more parents, and clauses exclude what was excluded
+abbrev pub invariant-loop-excluded : goal.invariant-loop-excluded
+invariant-loop-excluded g l = record {
   same : l.answers ≡ l.initial.answers;
-  encoded : (root : Rules) → IsRoot l.requirements l.constraints root → IsInOrder g.A.SolvableId.PartialEq.eq (g.A.PackageSource.packages l.initial.answers) (g.A.PackageSource.orders l.initial.answers) root l.initial.encoding
-      → IsInOrder g.A.SolvableId.PartialEq.eq (g.A.PackageSource.packages l.initial.answers) (g.A.PackageSource.orders l.initial.answers) root l.encoding;
+  encoded : (root : Rules) → IsRoot l.input.requirements.now l.input.constraints.now root → IsInOrder g.A.SolvableId.PartialEq.eq (g.A.PackageSource.packages l.initial.answers) (g.A.PackageSource.orders l.initial.answers) root l.initial.encoding
+      → IsInOrder g.A.SolvableId.PartialEq.eq (g.A.PackageSource.packages l.initial.answers) (g.A.PackageSource.orders l.initial.answers) root l.encoding × AreExcluded l.excluded.keys l.encoding;
   adds : AddsParents l.initial.encoding l.encoding;
   turn : KeepsTurns l.initial.encoding l.encoding;
   built : IsBuilt l.encoding;
 }
 
-abbrev pub decreases-loop-parent : goal.decreases-loop-parent
-decreases-loop-parent g l = 18446744073709551616 - l.encoding.encoded
+abbrev pub decreases-loop-excluded : goal.decreases-loop-excluded
+decreases-loop-excluded g l = 18446744073709551616 - l.encoding.encoded

@@ -1,0 +1,54 @@
+-- The tasks of an encoding, and what it excluded.
+use Rattle.std.specs.Prelude.{◌≡◌, ℕ, ◌+◌, ◌-◌, drop, Bool, List, [], ◌∷◌, Option, Some, None, Contains}
+use Rattle.resolvo_pool_core.specs.declared.id.StringId.{StringId}
+use Rattle.resolvo_pool_core.specs.declared.provider.Dependencies.TheVariants.{Known, Unknown}
+use Rattle.resolvo_pool_core.specs.declared.provider.KnownDependencies.{KnownDependencies}
+use Rattle.resolvo_pool_core.specs.Provider.{needs_of}
+use Rattle.resolvo_pool_core.specs.RuleKeeping.{Packages, IsLawful, Rules as RootRules}
+use Rattle.resolvo_packages.specs.declared.package_source.PackageSource as source
+use Rattle.resolvo_sat.specs.RuleClauses.{IsForbidden}
+use Rattle.resolvo_encoder.specs.declared.encoder.Encoder.{Encoder}
+use Rattle.resolvo_encoder.specs.Encoded.{IsEncoding, IsParentEncoded, rules_of}
+use Rattle.resolvo_turn.specs.Encoder.{IsInOrderBy}
+use Rattle.resolvo_turn.specs.declared.tasks.Task.{Task}
+use Rattle.resolvo_turn.specs.declared.tasks.Task.TheVariants.{Dependencies, Rules, Case}
+use Rattle.resolvo_turn.specs.declared.tasks.Tasks.{Tasks}
+
+-- the rules of a parent end a run of tasks, any other task costs one
+unfoldable pub cost : {S : Type 0} → Task S → ℕ
+cost (Dependencies parent) = 1
+cost Rules = 0
+cost (Case place) = 1
+
+unfoldable pub work : {S : Type 0} → List (Task S) → ℕ
+work [] = 0
+work (t ∷ ts) = cost t + work ts
+
+-- the cost of the tasks that are left
+abbrev pub work_left : {S : Type 0} → Tasks S → ℕ
+work_left t = work (drop t.taken t.queue.items)
+
+-- the cost of these, and of the questions for parents that may come
+abbrev pub bound : {S : Type 0} → Tasks S → ℕ
+bound t = work_left t + (18446744073709551616 - t.queued)
+
+-- clauses exclude each of these solvables
+abbrev pub AreExcluded : {N S : Type 0} → List S → Encoder N S → Type 0
+AreExcluded {N} {S} excluded e = (s : S) → Contains excluded s → IsForbidden (rules_of e) s
+
+-- These are the solvable's dependencies. Where they are unknown all its rules are clauses, if the
+-- encoding was in order, and had the clauses of those that were excluded.
+abbrev pub IsKnownOr : {A N S C : Type 0} → (S → S → Bool) → source.Ghosts A N S C → A → List S → Encoder N S → Encoder N S → S → Option KnownDependencies → Type 0
+IsKnownOr same g a excluded old new s (Some known) = (g.packages a).dependencies_of s ≡ needs_of (Known known)
+IsKnownOr same g a excluded old new s None = (root : RootRules) → IsInOrderBy same g a root old → AreExcluded excluded old → IsParentEncoded same (g.packages a) new root (Some s)
+
+-- A solvable whose dependencies are unknown for this reason is excluded by a clause, as those are that
+-- were excluded before.
+pub record Excludes {N S : Type 0} (same : S → S → Bool) (s : S) (why : StringId) (before after : List S) (old new : Encoder N S) : Type 0 where
+  pub lists : new.lists ≡ old.lists
+  pub stays : (p : Packages N S) (root : RootRules) → IsLawful p → p.dependencies_of s ≡ needs_of (Unknown why) → IsEncoding same p root old → IsEncoding same p root new
+  pub excluded : (p : Packages N S) (root : RootRules) → IsLawful p → p.dependencies_of s ≡ needs_of (Unknown why) → IsEncoding same p root old → AreExcluded before old → AreExcluded after new × IsForbidden (rules_of new) s
+
+-- where an encoding was in order, clauses still exclude what was excluded
+abbrev pub KeepsExcluded : {A N S C : Type 0} → (S → S → Bool) → source.Ghosts A N S C → A → List S → List S → Encoder N S → Encoder N S → Type 0
+KeepsExcluded same g a before after old new = (root : RootRules) → IsInOrderBy same g a root old → AreExcluded before old → AreExcluded after new

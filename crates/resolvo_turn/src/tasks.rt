@@ -1,0 +1,132 @@
+//! The tasks of an encoding are taken first in, first out, over all parents that wait. A parent's
+//! dependencies are asked for in one task. Its rules are encoded in a later one, and each case that
+//! holds in one of its own.
+ghost use Rattle.std.specs.Prelude.{◌≡◌, ◌≤◌, ◌+◌, OnOk, IfSome, IsOkUnless};
+ghost use Rattle.resolvo_pool_core.specs.declared.want.Want.TheVariants.{Memory};
+ghost use Rattle.resolvo_encoder.specs.Steps.{IsBuilt};
+ghost use Rattle.resolvo_turn.specs.Tasks.{bound, cost, work_left};
+
+use resolvo_encoder::encoder::Encoder;
+use resolvo_pool_core::id::Exact;
+use resolvo_pool_core::solver_id::SolvableIdOrRoot;
+use resolvo_pool_core::want::R;
+use std::alloc::Global;
+use std::fmt::Debug;
+use std::hash::Hash;
+
+/// A task of an encoding.
+#[derive(Clone, Copy, Debug)]
+pub enum Task<S> {
+    /// The dependencies of this parent are asked for.
+    Dependencies(SolvableIdOrRoot<S>),
+    /// The rules of the next parent are encoded. The parents have the same order.
+    Rules,
+    /// The deferred case at this place is encoded.
+    Case(usize),
+}
+
+/// The tasks of an encoding.
+#[derive(Drop)]
+pub struct Tasks<S> {
+    /// All since the queue was empty last.
+    queue: Vec<Task<S>>,
+    /// The number of those that are taken.
+    taken: usize,
+    /// The number of parents with a task that asks for their dependencies.
+    queued: usize,
+}
+
+impl<S: Copy + Exact + Hash + Debug> Tasks<S> {
+    /// No task yet, where so many parents are encoded.
+    pub(crate) fn new(alloc: Global, encoded: usize) -> Tasks<S> {
+        Tasks {
+            queue: Vec::new(alloc),
+            taken: 0,
+            queued: encoded,
+        }
+    }
+
+    /// Puts a task behind the others.
+    pub(crate) fn push(&mut self, task: Task<S>) -> R<()>
+        ensures work { OnOk result (work_left self.new ≤ work_left self.old + cost task) }
+        ensures queued { OnOk result (self.new.queued ≡ self.old.queued) }
+        ensures refusal { IsOkUnless result Memory }
+    {
+        self.queue.push(task)?;
+        Ok(())
+    }
+
+    /// Takes the first task.
+    pub(crate) fn take(&mut self) -> Option<Task<S>>
+        ensures work { IfSome result (λ task. work_left self.new + cost task ≤ work_left self.old) }
+        ensures queued { self.new.queued ≡ self.old.queued }
+    {
+        let task = *self.queue.get(self.taken)?;
+        self.taken += 1;
+        if self.taken == self.queue.len() {
+            self.queue.clear();
+            self.taken = 0;
+        }
+        Some(task)
+    }
+
+    /// The dependencies of each parent that came since the last call are asked for, behind the
+    /// other tasks.
+    pub(crate) fn push_parents(&mut self, parents: &[SolvableIdOrRoot<S>]) -> R<()>
+        ensures bound { OnOk result (bound self.new ≤ bound self.old) }
+        ensures refusal { IsOkUnless result Memory }
+    {
+        while let Some(parent) = parents.get(self.queued) {
+            self.push(Task::Dependencies(*parent))?;
+            self.queued += 1;
+        }
+        Ok(())
+    }
+
+    /// The deferred case at this place is encoded, if it holds.
+    fn push_if_due<N: Copy + Exact + Hash + Debug + Drop>(
+        &mut self,
+        encoding: &Encoder<N, S>,
+        place: usize,
+    ) -> R<()>
+        requires { IsBuilt encoding.now }
+        ensures { IsOkUnless result Memory }
+    {
+        if encoding.is_due(place) {
+            self.push(Task::Case(place))?;
+        }
+        Ok(())
+    }
+
+    /// The deferred cases at these places that hold are encoded, in this order.
+    pub(crate) fn push_each<N: Copy + Exact + Hash + Debug + Drop>(
+        &mut self,
+        encoding: &Encoder<N, S>,
+        places: &[usize],
+    ) -> R<()>
+        requires { IsBuilt encoding.now }
+        ensures { IsOkUnless result Memory }
+    {
+        for place in places {
+            self.push_if_due(encoding, *place)?;
+        }
+        Ok(())
+    }
+
+    /// The deferred cases from this place on that hold are encoded, in their order. Parents that
+    /// came before go first.
+    pub(crate) fn push_from<N: Copy + Exact + Hash + Debug + Drop>(
+        &mut self,
+        encoding: &Encoder<N, S>,
+        first: usize,
+    ) -> R<()>
+        requires { IsBuilt encoding.now }
+        ensures { IsOkUnless result Memory }
+    {
+        self.push_parents(encoding.parents.as_slice())?;
+        for place in first..encoding.deferred.len() {
+            self.push_if_due(encoding, place)?;
+        }
+        Ok(())
+    }
+}
