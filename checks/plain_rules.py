@@ -33,9 +33,9 @@ class Options:
     package_by_need: bool = False  # a package's locks and exclusions come just before the need or limit that names it
     cases_later: bool = False  # cases become clauses once no chosen version is left to encode
     flat_cases: bool = False  # deferred cases are taken in the order of their parents, not by condition
-    # What the program does against the rules.
     parent_by_parent: bool = False  # a parent is encoded to its end, with the cases that hold, before the next is begun
     root_stays: bool = False  # the root's turn is begun again without undoing what level 1 has
+    # What the program does against the rules.
     placed_wishes: bool = False  # a wish that is false before its turn is registered, so it takes a place of its package
     exclusions_by_version: bool = False  # a package's exclusions come in the order of its versions
     # Where the rules are silent.
@@ -54,7 +54,6 @@ class Options:
 
 
 PROGRAM = Options(
-    root_stays=True,
     placed_wishes=True, exclusions_by_version=True, set_at_once=False,
     root_in_learnt=False, as_met=False,
 )

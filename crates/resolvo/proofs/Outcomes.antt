@@ -1,6 +1,6 @@
 -- The outcome of a soft requirement's turn, from its parts.
 use Rattle.std.proofs.Common.{◌≡◌, ℕ, ◌-◌, ◌<◌, ◌≤◌, ◌⊎◌, inl, inr, Bool, true, false, List, [], ◌∷◌, reverse, length, Option, Some, None, refl, sym, ◌∙◌, ap, subst, arith}
-use Rattle.std.specs.Prelude.{max, slice_get, Contains, IfSome}
+use Rattle.std.specs.Prelude.{slice_get, Contains, IfSome}
 use Rattle.resolvo_pool_core.specs.declared.solver_id.SolvableIdOrRoot.TheVariants as Place
 use Rattle.std.proofs.lemmas.Bool.{both_ways}
 use Rattle.std.proofs.lemmas.Option.{slice_get_within}
@@ -21,6 +21,7 @@ use Rattle.resolvo_sat.specs.Known.{clause_at}
 use Rattle.resolvo_sat.specs.State.{history, lists, IsDerived}
 use Rattle.resolvo_sat.specs.Steps.{Undoes}
 use Rattle.resolvo_sat.specs.RuleClauses.{IsExact}
+use Rattle.resolvo_sat.proofs.StepLemmas.{undone_low}
 use Rattle.resolvo_sat.proofs.Lists.{contains_only, contains_right}
 use Rattle.resolvo_packages.specs.declared.package_source.Offered.{Offered}
 use Rattle.resolvo_state.specs.declared.atom.ProofAtom.TheVariants.{Solvable}
@@ -73,14 +74,14 @@ added_learnt {N} {S} a b literals causes clause coding adding =
       is = adding.literals;
     }
 
-module _ {N S : Type 0} (a b : Encoder N S) (undone : Undoes (max (a.coding.search.base_level - 1) 1) a.coding.search b.coding.search) (turn : KeepsTurns a b) where
+module _ {N S : Type 0} (a b : Encoder N S) (undone : Undoes (a.coding.search.base_level - 1) a.coding.search b.coding.search) (turn : KeepsTurns a b) where
   -- the trail is that before the turn
   pub undone_base : (v : VariableId) → IsOpen a v → history b.coding.search ≡ base_of a
   undone_base v o =
       let (p, base) = turn (Some v) o in
       let two : 2 ≤ a.coding.search.base_level = o.later in
       let base_level : b.coding.search.base_level ≡ a.coding.search.base_level = undone.same.base_level in
-      let low : top_level (history b.coding.search) ≤ max (a.coding.search.base_level - 1) 1 = undone.low in
+      let low : top_level (history b.coding.search) ≤ a.coding.search.base_level - 1 = undone_low a.coding.search b.coding.search (a.coding.search.base_level - 1) undone (omega arith) in
       sym (below_all b.coding.search.base_level (history b.coding.search) (omega arith)) ∙ base
 
   -- the conflict's clause may be added

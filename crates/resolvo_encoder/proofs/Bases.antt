@@ -1,6 +1,6 @@
 -- The trail before a turn.
 use Rattle.std.proofs.Common.{◌≡◌, ℕ, ◌+◌, ◌-◌, ◌<◌, ◌≤◌, ◌⊎◌, inl, inr, Bool, true, false, List, [], ◌∷◌, ◌++◌, reverse, Option, Some, None, refl, sym, ◌∙◌, ap, subst, arith, lt-ltb, le-ltb}
-use Rattle.std.specs.Prelude.{max, nat_lt, cond, Contains}
+use Rattle.std.specs.Prelude.{nat_lt, cond, Contains}
 use Rattle.std.proofs.lemmas.Bool.{both_ways}
 use Rattle.resolvo_pool_core.specs.declared.id.ClauseId.{ClauseId}
 use Rattle.resolvo_pool_core.specs.declared.id.VariableId.{VariableId}
@@ -14,7 +14,7 @@ use Rattle.resolvo_sat.specs.State.{count_of, history, clauses_of}
 use Rattle.resolvo_sat.specs.Steps.{Chooses, Undoes, choice_entry}
 use Rattle.resolvo_sat.proofs.ImproveLemmas.{extends_earlier, choice_earlier}
 use Rattle.resolvo_sat.proofs.Trails.{level_steps}
-use Rattle.resolvo_sat.proofs.StepLemmas.{reverse_push}
+use Rattle.resolvo_sat.proofs.StepLemmas.{reverse_push, undone_low}
 use Rattle.resolvo_state.specs.declared.solver_state.SolverState.{SolverState}
 use Rattle.resolvo_state.specs.SolverState.{Advances, Grows, SameTrail}
 use Rattle.resolvo_state.proofs.Growth.{below_or_not, represents_grow}
@@ -88,7 +88,7 @@ on_trail_below level (e ∷ rest) d older s low = elim (at_or_above e.level leve
   ])
 ]
 
-one_above : (base_level : ℕ) → 2 ≤ base_level → max (base_level - 1) 1 + 1 ≡ base_level
+one_above : (base_level : ℕ) → 2 ≤ base_level → (base_level - 1) + 1 ≡ base_level
 one_above base_level two = omega arith
 
 -- ---- a turn that continues
@@ -140,13 +140,14 @@ module _ {N S : Type 0} where
   turn_has (Some v) a b h k = (k h).0
 
   -- the turn's entries are undone
-  pub turn_undone : (old new : Encoder N S) → GoesOn old new → Undoes (max (old.coding.search.base_level - 1) 1) old.coding.search new.coding.search → KeepsTurns old new
+  pub turn_undone : (old new : Encoder N S) → GoesOn old new → Undoes (old.coding.search.base_level - 1) old.coding.search new.coding.search → KeepsTurns old new
   turn_undone old new goes undoes None = λ first. goes.grows.base_level ∙ first
   turn_undone old new goes undoes (Some v) = λ o.
       let two : 2 ≤ old.coding.search.base_level = o.later in
-      let level : max (old.coding.search.base_level - 1) 1 + 1 ≡ old.coding.search.base_level = one_above old.coding.search.base_level two in
-      let left : history new.coding.search ≡ base_of old = undone_below (max (old.coding.search.base_level - 1) 1) (history old.coding.search) (history new.coding.search) undoes.undone undoes.low ∙ ap (λ n. below n (history old.coding.search)) level in
-      let low : top_level (history new.coding.search) < new.coding.search.base_level = (let base_level : new.coding.search.base_level ≡ old.coding.search.base_level = goes.grows.base_level in let ends : top_level (history new.coding.search) ≤ max (old.coding.search.base_level - 1) 1 = undoes.low in omega arith) in
+      let level : (old.coding.search.base_level - 1) + 1 ≡ old.coding.search.base_level = one_above old.coding.search.base_level two in
+      let ends : top_level (history new.coding.search) ≤ old.coding.search.base_level - 1 = undone_low old.coding.search new.coding.search (old.coding.search.base_level - 1) undoes (omega arith) in
+      let left : history new.coding.search ≡ base_of old = undone_below (old.coding.search.base_level - 1) (history old.coding.search) (history new.coding.search) undoes.undone ends ∙ ap (λ n. below n (history old.coding.search)) level in
+      let low : top_level (history new.coding.search) < new.coding.search.base_level = (let base_level : new.coding.search.base_level ≡ old.coding.search.base_level = goes.grows.base_level in omega arith) in
       let base : base_of new ≡ base_of old = below_all new.coding.search.base_level (history new.coding.search) low ∙ left in (
         open_kept old new v o (soft_grows old new v goes.grows (ap (λ (n : EncodedOnce N S). n.softs.items) goes.rest.recorded) o.soft) goes.grows.base_level base
             (λ known. absurd (both_ways _ o.before (subst (λ (h : List Entry). has (made_true h) (yes v) ≡ true) left known))),

@@ -1,5 +1,5 @@
 //! The steps of the search over the encoding: propagate, learn, decide.
-ghost use Rattle.std.specs.Prelude.{◌<◌, ◌-◌, length, max, IfOk, IfSome, OnOk, IsErrOf, IsOkUnless};
+ghost use Rattle.std.specs.Prelude.{◌<◌, ◌-◌, length, IfOk, IfSome, OnOk, IsErrOf, IsOkUnless};
 ghost use Rattle.resolvo_pool_core.specs.declared.want.Want.TheVariants.{Memory, Ids};
 ghost use Rattle.resolvo_decide.specs.Queue.{IsSynced, IsHotBound};
 ghost use Rattle.resolvo_sat.specs.Steps.{Undoes};
@@ -97,19 +97,19 @@ impl<N: Copy + Exact + Hash + Debug + Drop, S: Copy + Exact + Hash + Debug> Enco
         }
     }
 
-    /// Undoes the turn's decisions, and the assignments after them.
+    /// Undoes the turn: all entries of its levels. Of the root's turn the root's entry is left.
     pub fn undo_turn(&mut self)
         requires { IsBuilt self.old }
         // What the call promises.
         ensures stays { StaysEncoding S.eq self.old self.new }
         ensures goes_on { GoesOn self.old self.new }
         ensures built { IsBuilt self.new }
-        ensures undone { Undoes (max (self.old.coding.search.base_level - 1) 1) self.old.coding.search
+        ensures undone { Undoes (self.old.coding.search.base_level - 1) self.old.coding.search
             self.new.coding.search }
         ensures turn { KeepsTurns self.old self.new }
     {
         let level = self.coding.search.base_level.saturating_sub(1);
-        self.coding.undo_until(level.max(1));
+        self.coding.undo_until(level);
     }
 
     /// Propagates, and learns nothing. Whether a clause is falsified above the turn's first level.

@@ -1,5 +1,5 @@
 -- After the jump the learnt clause forces its asserted literal.
-use Rattle.std.proofs.Common.{◌≡◌, ℕ, ◌+◌, ◌-◌, ◌^◌, ◌<◌, inl, inr, false, List, [], ◌∷◌, ◌++◌, reverse, length, sym, ◌∙◌, ap, subst}
+use Rattle.std.proofs.Common.{◌≡◌, ℕ, ◌+◌, ◌-◌, ◌^◌, ◌<◌, ◌≤◌, inl, inr, false, List, [], ◌∷◌, ◌++◌, reverse, length, sym, ◌∙◌, ap, subst, arith}
 use Rattle.resolvo_pool_core.specs.declared.id.ClauseId.{ClauseId}
 use Rattle.resolvo_store_core.specs.Signed.{Signed, negation, has}
 use Rattle.resolvo_store_core.specs.Trail.{Tracked, IsSeenOf}
@@ -18,14 +18,18 @@ use Rattle.resolvo_sat.proofs.Literals.{negation-negation}
 use Rattle.resolvo_sat.proofs.Trails.{kept, undone_undecided, known_from_level}
 use Rattle.resolvo_sat.proofs.Weights.{weight_jump}
 use Rattle.resolvo_sat.proofs.Clauses.{length-lists}
-use Rattle.resolvo_sat.proofs.StepLemmas.{lists-append, clause_at_end}
+use Rattle.resolvo_sat.proofs.StepLemmas.{lists-append, clause_at_end, undone_low}
 use Rattle.resolvo_sat.proofs.ExtendLemmas.{forced_keeps, set_pushed, set_extends}
 use Rattle.resolvo_sat.proofs.Readiness.{ready_extends, covered_same}
+
+-- a jump leaves the root's entry
+pub learnt_above : (s : SatState) (x : Learnt) → IsState s → IsLearnt s x → 1 ≤ x.level
+learnt_above s x state learnt = let a : 1 ≤ s.base_level = state.floor_low in let b : s.base_level ≤ x.level = learnt.low in omega arith
 
 learnt_forces : (s t : SatState) (x : Learnt) → IsState s → IsLearnt s x → Undoes x.level s t → Forces (made_true (history t)) x.literals.items x.asserting
 learnt_forces s t x state learnt u =
     let (high, above, at_level) = learnt.fell in
-    let free : IsUndecided (made_true (history t)) (negation x.asserting) = undone_undecided x.level (count_of s) (clauses_of s) (history s) (history t) (negation x.asserting) high state.trail u.undone u.low at_level above in
+    let free : IsUndecided (made_true (history t)) (negation x.asserting) = undone_undecided x.level (count_of s) (clauses_of s) (history s) (history t) (negation x.asserting) high state.trail u.undone (undone_low s t x.level u (learnt_above s x state learnt)) at_level above in
     record {
       forced = record {
         present = learnt.present;
@@ -54,8 +58,8 @@ added_forces s t a v w x c id state learnt u is addition =
     subst (λ (h : List Entry). Forces (made_true h) (clause_at (clauses_of a) id.0) x.asserting) (sym entries)
     (subst (λ (l : List Signed). Forces (made_true (history t)) l x.asserting) (sym clause) forces)
 
-pub learns : (s t a b : SatState) (v w : WatchLists) (x : Learnt) (c : SatClause) (id : ClauseId) → Undoes x.level s t → c ≡ record { literals = x.literals.items; causes = x.causes.items } → AddsPending c id t v a w → Sets id x.asserting a b → Learns x id s b w
-learns s t a b v w x c id u is addition set =
+pub learns : (s t a b : SatState) (v w : WatchLists) (x : Learnt) (c : SatClause) (id : ClauseId) → 1 ≤ x.level → Undoes x.level s t → c ≡ record { literals = x.literals.items; causes = x.causes.items } → AddsPending c id t v a w → Sets id x.asserting a b → Learns x id s b w
+learns s t a b v w x c id one u is addition set =
     let entries : history a ≡ history t = ap (λ (k : Tracked). reverse k.trail) addition.adds.tracker in
     record {
       ready = ready_extends a b w addition.ready (set_extends a b id x.asserting set) set.qhead;
@@ -66,7 +70,7 @@ learns s t a b v w x c id u is addition set =
       added = set.same.clauses ∙ addition.adds.added ∙ ap (λ (cs : List SatClause). cs ++ c ∷ []) u.same.clauses ∙ ap (λ (h : SatClause). s.clauses ++ h ∷ []) is;
       base = history t;
       undone = u.undone;
-      low = u.low;
+      low = undone_low s t x.level u one;
       pushed = set_pushed a b id x.asserting set ∙ ap (λ (h : List Entry). forced_entry id x.asserting h ∷ h) entries;
       seen = λ known h. set.same.seen known (subst (λ (k : Tracked). IsSeenOf k known) (sym addition.adds.tracker) (u.same.seen known h));
     }

@@ -14,6 +14,7 @@ use Rattle.resolvo_sat.specs.State.{count_of, history, clauses_of, lists, IsStat
 use Rattle.resolvo_sat.specs.Steps.{Undoes}
 use Rattle.resolvo_sat.specs.Propagation.{IsReady, IsFit, HasTwo, IsOwnPair, AreCovered, AreUnits, SameWatching, IsGuard, GuardsTo, RecordsGuard, IsWalkedTo, Extends}
 use Rattle.resolvo_sat.proofs.Trails.{kept, level_le_last, undone_older}
+use Rattle.resolvo_sat.proofs.StepLemmas.{undone_low}
 use Rattle.resolvo_sat.proofs.ExtendLemmas.{level_in_more, level_by_now}
 use Rattle.resolvo_sat.proofs.Guards.{guards_more}
 use Rattle.resolvo_sat.proofs.DoneLemmas.{done_same}
@@ -67,8 +68,8 @@ pub ready_same : (s t : SatState) (w : WatchLists) → IsReady s w → IsState t
 ready_same s t w ready state clauses tracker qhead guard = ready_more s t w [] ready state clauses (ap (λ (x : Tracked). x.trail) tracker ∙ sym (append-nil s.tracker.trail)) qhead (omega arith)
 
 -- entries above the level were taken away, and no guard was above it that has to stay
-walked_undone : (s t : SatState) (w : WatchLists) (level : ℕ) → Undoes level s t → IsState s → s.guard_level ≤ level → t.guard_level ≡ s.guard_level → t.qhead ≤ s.qhead → t.qhead ≤ length t.tracker.trail → IsWalkedTo s.qhead s w → IsWalkedTo t.qhead t w
-walked_undone s t w level undoes state low same qhead within walked n p is =
+walked_undone : (s t : SatState) (w : WatchLists) (level : ℕ) → Undoes level s t → 1 ≤ level → IsState s → s.guard_level ≤ level → t.guard_level ≡ s.guard_level → t.qhead ≤ s.qhead → t.qhead ≤ length t.tracker.trail → IsWalkedTo s.qhead s w → IsWalkedTo t.qhead t w
+walked_undone s t w level undoes one state low same qhead within walked n p is =
     let (gone, old) = undone_older level (history s) (history t) undoes.undone in
     record {
       first = λ k f. guard k p.second ((walked n p is).first k (earlier gone old (negation p.first) k f)) (not_above (negation p.first) k f);
@@ -78,7 +79,7 @@ walked_undone s t w level undoes state low same qhead within walked n p is =
     not_above : (l : Signed) (k : ℕ) → IsTrueAt (before t.tracker.trail t.qhead) l k → k ≤ level
     not_above l k f =
         let a : k ≤ top_level (history t) = level_le_last (count_of t) (clauses_of t) (history t) l k undoes.state.trail (level_by_now t.tracker.trail t.qhead l k f) in
-        let b : top_level (history t) ≤ level = undoes.low in
+        let b : top_level (history t) ≤ level = undone_low s t level undoes one in
         omega arith
 
     earlier : (gone : List Entry) → history s ≡ gone ++ history t → (l : Signed) (k : ℕ) → IsTrueAt (before t.tracker.trail t.qhead) l k → IsTrueAt (before s.tracker.trail s.qhead) l k
@@ -111,11 +112,11 @@ ready_undone s t w level undoes ready = elim undoes.qhead [
     walked = subst (λ (k : ℕ). IsWalkedTo k t w) (sym anew) (walked_none t w);
     done = done_same s t w w refl refl refl (omega arith) (λ k le. first_undone s t level k undoes (omega arith)) ready.done;
   }
-  | inr (low, same, qhead) ↦ record {
+  | inr (one, low, same, qhead) ↦ record {
     state = undoes.state;
     fits = fits_same s t w ready.fits undoes.same.clauses;
     qhead = omega arith;
-    walked = walked_undone s t w level undoes ready.state low same (omega arith) (omega arith) ready.walked;
+    walked = walked_undone s t w level undoes one ready.state low same (omega arith) (omega arith) ready.walked;
     done = done_same s t w w refl refl refl (omega arith) (λ k le. first_undone s t level k undoes (omega arith)) ready.done;
   }
 ]

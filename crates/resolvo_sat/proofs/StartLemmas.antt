@@ -16,7 +16,7 @@ use Rattle.resolvo_sat.specs.declared.watch_lists.WatchLists.{WatchLists}
 use Rattle.resolvo_sat.specs.Known.{IsFalseUnder}
 use Rattle.resolvo_sat.specs.Entries.{made_true, literal_of, before, IsTrueAt}
 use Rattle.resolvo_sat.specs.State.{history, IsState}
-use Rattle.resolvo_sat.specs.Propagation.{IsReady, IsFree, IsGuard, GuardsTo, IsFalsified, Extends, Conflicts, IsPending}
+use Rattle.resolvo_sat.specs.Propagation.{IsReady, IsFree, IsGuard, GuardsTo, IsFalsified, Extends, Conflicts, IsPending, SameWatching}
 use Rattle.resolvo_sat.specs.Attach.{AreFalseBut, IsAhead, MayWatch, GuardsBy, KeepsLists, Attaches}
 use Rattle.resolvo_sat.proofs.Trails.{known_from_level, same_or_negated, false_unless}
 use Rattle.resolvo_sat.proofs.ExtendLemmas.{extends_nothing, extends_more, true_by_now, level_by_now}
@@ -28,7 +28,7 @@ use Rattle.resolvo_sat.proofs.WalkLemmas.{Meets}
 use Rattle.resolvo_sat.proofs.PendingLemmas.{pending_below}
 
 -- watches that are the same but for what no proof rests on are ready too
-kept_ready : (s : SatState) (v w : WatchLists) → IsReady s v → KeepsLists v w → IsReady s w
+pub kept_ready : (s : SatState) (v w : WatchLists) → IsReady s v → KeepsLists v w → IsReady s w
 kept_ready s v w ready kept = record {
   state = ready.state;
   fits = record {
@@ -53,17 +53,20 @@ kept_ready s v w ready kept = record {
 pub kept_nothing : (w : WatchLists) → KeepsLists w w
 kept_nothing w = record { watched = refl; watches = refl; assertions = refl; learnt = refl; units_done = refl; pending = refl }
 
+pub kept_watching : (v w : WatchLists) → KeepsLists v w → SameWatching v w
+kept_watching v w kept = record {
+  assertions = kept.assertions;
+  learnt = kept.learnt;
+  units_done = kept.units_done;
+  pairs = λ n none. subst (λ (x : Vec (Option WatchedLiterals) Global). pair_at x.items n ≡ None) kept.watched none;
+  was_pending = λ n h. subst (λ (x : Vec ClauseId Global). 0 < count n x.items) kept.pending h;
+  stays_pending = λ n h none. subst (λ (x : Vec ClauseId Global). 0 < count n x.items) (sym kept.pending) h;
+}
+
 -- entries were added, and the watches are the same but for what no proof rests on
 pub attaches_kept : (s t : SatState) (v w : WatchLists) → IsReady s v → Extends s t → t.qhead ≡ s.qhead → KeepsLists v w → Attaches s t v w
 attaches_kept s t v w ready e qhead kept = record {
-  watching = record {
-    assertions = kept.assertions;
-    learnt = kept.learnt;
-    units_done = kept.units_done;
-    pairs = λ n none. subst (λ (x : Vec (Option WatchedLiterals) Global). pair_at x.items n ≡ None) kept.watched none;
-    was_pending = λ n h. subst (λ (x : Vec ClauseId Global). 0 < count n x.items) kept.pending h;
-    stays_pending = λ n h none. subst (λ (x : Vec ClauseId Global). 0 < count n x.items) (sym kept.pending) h;
-  };
+  watching = kept_watching v w kept;
   ready = kept_ready t v w (ready_extends s t v ready e qhead) kept;
   extends = e;
   qhead = qhead;

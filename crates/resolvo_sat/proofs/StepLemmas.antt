@@ -1,11 +1,13 @@
 -- Lemmas on the steps of the search.
-use Rattle.std.proofs.Common.{◌≡◌, ℕ, zero, suc, ◌-◌, ◌<◌, ◌≤◌, ◌^◌, ◌⊎◌, inl, inr, true, false, List, [], ◌∷◌, ◌++◌, reverse, length, get_or, None, refl, sym, ◌∙◌, ap, subst, arith}
+use Rattle.std.proofs.Common.{◌≡◌, ℕ, zero, suc, ◌+◌, ◌-◌, ◌<◌, ◌≤◌, ◌^◌, ◌⊎◌, inl, inr, true, false, List, [], ◌∷◌, ◌++◌, reverse, length, get_or, None, refl, sym, ◌∙◌, ap, subst, arith}
+use Rattle.std.specs.Prelude.{max}
 use Rattle.std.proofs.lemmas.Bool.{both_ways}
-use Rattle.std.proofs.lemmas.List.{reverse-append, reverse-reverse, length-reverse, get_or-reverse}
+use Rattle.std.proofs.lemmas.List.{append_assoc, length-append, reverse-append, reverse-reverse, length-reverse, get_or-reverse}
 use Rattle.resolvo_pool_core.specs.declared.id.ClauseId.{ClauseId}
 use Rattle.resolvo_pool_core.specs.declared.id.VariableId.{VariableId}
 use Rattle.resolvo_store_core.specs.Signed.{Signed, has}
-use Rattle.resolvo_store_core.specs.Clauses.{yes}
+use Rattle.resolvo_store_core.specs.Clauses.{yes, root}
+use Rattle.resolvo_store_core.specs.declared.decision.Decision.{Decision}
 use Rattle.resolvo_store_core.specs.declared.decision.Entry.{Entry}
 use Rattle.resolvo_store_core.specs.declared.decision_tracker.Set.{Set}
 use Rattle.resolvo_store_core.specs.AddPairs.{set_for, with_entry}
@@ -16,8 +18,8 @@ use Rattle.resolvo_sat.specs.declared.state.SatState.{SatState}
 use Rattle.resolvo_sat.specs.Known.{IsUndecided, Forces, clause_at}
 use Rattle.resolvo_sat.specs.Entries.{made_true, top_level, Follows, IsTrail, IsUndone, IsRooted}
 use Rattle.resolvo_sat.specs.State.{count_of, history, lists, clauses_of, IsDerived, AreDerived, IsState}
-use Rattle.resolvo_sat.specs.Steps.{AreInRange, forced_entry, choice_entry, SameBut, Sets, Chooses, IsQheadUndone, Undoes, Adds}
-use Rattle.resolvo_sat.proofs.Trails.{trail_more, undone_trail, undone_rooted, undone_all, length_le, level_le_length}
+use Rattle.resolvo_sat.specs.Steps.{AreInRange, forced_entry, choice_entry, SameBut, Sets, Chooses, Shortens, IsQheadUndone, Undoes, Adds}
+use Rattle.resolvo_sat.proofs.Trails.{trail_more, undone_trail, undone_rooted, undone_all, length_le, level_le_last, level_le_length, root_level, rooted_rest}
 use Rattle.resolvo_sat.proofs.Values.{undecided_none}
 
 pub reverse_push : {X : Type 0} (xs : List X) (y : X) → reverse (xs ++ y ∷ []) ≡ y ∷ reverse xs
@@ -124,7 +126,75 @@ state_undone s u level state one undoes same qhead =
           let low : Store.last_level u.tracker.trail ≤ level = undoes.1 in
           let is : Store.last_level u.tracker.trail ≡ top_level (history u) = last_is_top u.tracker.trail in
           omega arith);
+      root = λ zero. absurd (omega arith);
       qhead = qhead;
+    }
+
+-- above the root's level no entry is left
+pub undone_low : (s t : SatState) (level : ℕ) → Undoes level s t → 1 ≤ level → top_level (history t) ≤ level
+undone_low s t level undoes one = let low : top_level (history t) ≤ max level 1 = undoes.low in omega arith
+
+-- ---- all entries but the root's are undone
+
+-- one entry more was taken away
+pub shortens_more : (a b c : Store.Tracked) (d : Decision) → Shortens a b → Store.PopsLast b c d → 1 < length b.trail → Shortens a c
+shortens_more a b c d shortened pops long =
+    let e : Entry = record { decision = d; level = pops.level } in
+    let (rest, is) = shortened.left in
+    let one : length b.trail ≡ length c.trail + 1 = ap length pops.trail ∙ length-append c.trail (e ∷ []) in
+    record {
+      left = (e ∷ rest, is ∙ ap (λ (xs : List Entry). xs ++ rest) pops.trail ∙ append_assoc c.trail (e ∷ []) rest);
+      seen = λ seen h. StoreTrails.seen_popped b c d pops seen (shortened.seen seen h);
+      some = omega arith;
+    }
+
+rooted_older : (e : Entry) (h : List Entry) → 0 < length h → IsRooted (e ∷ h) → IsRooted h
+rooted_older e [] some r = absurd (omega arith)
+rooted_older e (d ∷ older) some r = r
+
+rooted_left : (p base : List Entry) → 0 < length base → IsRooted (p ++ base) → IsRooted base
+rooted_left p [] some r = absurd (omega arith)
+rooted_left p (e ∷ base) some r = rooted_rest p e base r
+
+-- each entry is above level 0
+undone_from_root : (count : ℕ) (cs : List (List Signed)) (p base : List Entry) → IsTrail count cs (p ++ base) → IsRooted (p ++ base) → 0 < length base → IsUndone 0 (p ++ base) base
+undone_from_root count cs [] base t r some = undone_all 0 base
+undone_from_root count cs (e ∷ p) base t r some =
+    let one : 1 ≤ e.level = level_le_last count cs (e ∷ p ++ base) (yes root) 1 t (root_level (e ∷ p ++ base) r) in
+    let long : length (p ++ base) ≡ length p + length base = length-append p base in
+    inr (omega arith, undone_from_root count cs p base t.1 (rooted_older e (p ++ base) (omega arith) r) some)
+
+root_low : (h : List Entry) → length h ≡ 1 → IsRooted h → top_level h ≤ 1
+root_low [] one r = absurd r
+root_low (e ∷ []) one r = let a : e.level ≡ 1 = r.1 in omega arith
+root_low (e ∷ d ∷ older) one r = absurd (omega arith)
+
+pub state_restarted : (s u : SatState) → IsState s → Shortens s.tracker u.tracker → length u.tracker.trail ≡ 1 → u ≡ record s { tracker = u.tracker; qhead = u.qhead; guard_level = u.guard_level; indexed = u.indexed } → u.qhead ≡ 0 → Undoes 0 s u
+state_restarted s u state shortened one same qhead =
+    let (rest, is) = shortened.left in
+    let whole : history s ≡ reverse rest ++ history u = ap reverse is ∙ reverse-append u.tracker.trail rest in
+    let long : length (history u) ≡ length u.tracker.trail = length-reverse u.tracker.trail in
+    let some : 0 < length (history u) = omega arith in
+    let rooted : IsRooted (reverse rest ++ history u) = subst IsRooted whole state.rooted in
+    let left : IsRooted (history u) = rooted_left (reverse rest) (history u) some rooted in
+    let undone : IsUndone 0 (history s) (history u) =
+    subst (λ (h : List Entry). IsUndone 0 h (history u)) (sym whole)
+    (undone_from_root (count_of s) (clauses_of s) (reverse rest) (history u) (subst (IsTrail (count_of s) (clauses_of s)) whole state.trail) rooted some) in
+    let here : IsState (record s { tracker = u.tracker; qhead = u.qhead; guard_level = u.guard_level; indexed = u.indexed }) = record {
+      trail = undone_trail 0 (count_of s) (clauses_of s) (history s) (history u) undone state.trail;
+      derived = state.derived;
+      in_range = state.in_range;
+      small = state.small;
+      floor_low = state.floor_low;
+      rooted = left;
+    } in
+    record {
+      state = subst IsState (sym same) here;
+      same = subst (SameBut s) (sym same) (record { variables = refl; base_level = refl; clauses = refl; seen = shortened.seen });
+      undone = undone;
+      low = (let low : top_level (history u) ≤ 1 = root_low (history u) (omega arith) left in omega arith);
+      root = λ zero. one;
+      qhead = inl qhead;
     }
 
 pub lists-append : (xs ys : List SatClause) → lists (xs ++ ys) ≡ lists xs ++ lists ys

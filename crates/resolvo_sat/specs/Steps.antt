@@ -1,9 +1,10 @@
 -- What the steps of the search do.
-use Rattle.std.specs.Prelude.{◌≡◌, ℕ, suc, ◌<◌, ◌≤◌, ◌⊎◌, true, List, [], ◌∷◌, ◌++◌, length, min}
+use Rattle.std.specs.Prelude.{◌≡◌, ℕ, suc, ◌<◌, ◌≤◌, ◌⊎◌, true, List, [], ◌∷◌, ◌++◌, length, max, min}
 use Rattle.resolvo_pool_core.specs.declared.id.ClauseId.{ClauseId}
 use Rattle.resolvo_pool_core.specs.declared.id.VariableId.{VariableId}
 use Rattle.resolvo_store_core.specs.Signed.{Signed, has}
-use Rattle.resolvo_store_core.specs.Trail.{KeepsSeen}
+use Rattle.resolvo_store_core.specs.AtMostOne.{IsPrefixOf}
+use Rattle.resolvo_store_core.specs.Trail.{Tracked, KeepsSeen}
 use Rattle.resolvo_store_core.specs.declared.decision.Entry.{Entry}
 use Rattle.resolvo_sat.specs.Clauses.{SatClause}
 use Rattle.resolvo_sat.specs.declared.state.SatState.{SatState}
@@ -49,17 +50,24 @@ pub record Chooses (v : VariableId) (c : ClauseId) (old new : SatState) : Type 0
   pub qhead : new.qhead ≡ old.qhead
   pub guard : new.guard_level ≡ old.guard_level
 
+-- entries were taken away from the end of the trail, but not all
+pub record Shortens (old new : Tracked) : Type 0 where
+  pub left : IsPrefixOf new.trail old.trail
+  pub seen : KeepsSeen old new
+  pub some : 0 < length new.trail
+
 -- propagation restarts at the trail's first entry; or it continues after the remaining ones, as no
 -- guard was above the level
 abbrev pub IsQheadUndone : ℕ → SatState → SatState → Type 0
-IsQheadUndone level old new = (new.qhead ≡ 0) ⊎ ((old.guard_level ≤ level) × (new.guard_level ≡ old.guard_level) × (new.qhead ≡ min old.qhead (length new.tracker.trail)))
+IsQheadUndone level old new = (new.qhead ≡ 0) ⊎ ((1 ≤ level) × (old.guard_level ≤ level) × (new.guard_level ≡ old.guard_level) × (new.qhead ≡ min old.qhead (length new.tracker.trail)))
 
--- the entries above the level are gone
+-- the entries above the level are gone, but for the root's, the first
 pub record Undoes (level : ℕ) (old new : SatState) : Type 0 where
   pub state : IsState new
   pub same : SameBut old new
   pub undone : IsUndone level (history old) (history new)
-  pub low : top_level (history new) ≤ level
+  pub low : top_level (history new) ≤ max level 1
+  pub root : level ≡ 0 → length new.tracker.trail ≡ 1
   pub qhead : IsQheadUndone level old new
 
 -- the clause was appended

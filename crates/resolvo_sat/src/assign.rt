@@ -7,12 +7,13 @@ ghost use Rattle.resolvo_sat.specs.Known.{Forces, IsUndecided, clause_at};
 ghost use Rattle.resolvo_sat.specs.Entries.{made_true};
 ghost use Rattle.resolvo_sat.specs.Clauses.{sat_clause};
 ghost use Rattle.resolvo_sat.specs.State.{IsState, IsDerived, history, clauses_of, count_of};
-ghost use Rattle.resolvo_sat.specs.Steps.{AreInRange, Sets, Chooses, Undoes, Adds};
+ghost use Rattle.resolvo_sat.specs.Steps.{AreInRange, Sets, Chooses, Shortens, Undoes, Adds};
 
 use crate::state::SatState;
 use resolvo_pool_core::id::{ClauseId, VariableId};
 use resolvo_pool_core::want::R;
 use resolvo_store_core::decision::Decision;
+use resolvo_store_core::decision_tracker::DecisionTracker;
 use resolvo_store_core::literal::Literal;
 
 impl SatState {
@@ -67,9 +68,21 @@ impl SatState {
         Ok(())
     }
 
+    /// Removes the entries above a level; the root's, which is the first, always stays.
+    pub fn undo_until(&mut self, level: u32)
+        requires { IsState self.old }
+        ensures { Undoes level self.old self.new }
+    {
+        if level == 0 {
+            self.undo_to_root();
+        } else {
+            self.undo_above(level);
+        }
+    }
+
     /// Removes the entries above a level. Propagation continues after those that are left; it
     /// restarts where a literal that guards a false one of a lower level may be unassigned.
-    pub fn undo_until(&mut self, level: u32)
+    fn undo_above(&mut self, level: u32)
         requires state { IsState self.old }
         requires one { 1 ≤ level }
         ensures { Undoes level self.old self.new }
@@ -83,6 +96,17 @@ impl SatState {
         } else {
             self.qhead = self.qhead.min(left);
         }
+    }
+
+    /// Removes all entries but the root's. Propagation restarts there.
+    fn undo_to_root(&mut self)
+        requires { IsState self.old }
+        ensures { Undoes 0 self.old self.new }
+    {
+        undo_to_first(&mut self.tracker);
+        self.indexed = self.indexed.min(1);
+        self.qhead = 0;
+        self.guard_level = 0;
     }
 
     /// Adds a clause: a rule, or one that follows from its antecedents.
@@ -101,5 +125,16 @@ impl SatState {
         // split for the prover: error and answer
         let id = self.clauses.push(literals, causes)?;
         Ok(id)
+    }
+}
+
+/// Removes all entries of a trail but the first.
+fn undo_to_first(tracker: &mut DecisionTracker)
+    requires { 0 < length tracker.old.trail }
+    ensures shortened { Shortens tracker.old tracker.new }
+    ensures one { length tracker.new.trail ≡ 1 }
+{
+    while tracker.stack().len() > 1 {
+        tracker.undo_last();
     }
 }

@@ -80,8 +80,8 @@ impl SatState {
         passed.max(literals.len())
     }
 
-    /// Notes how many of a clause's first literals are false for good: those that are false while
-    /// there is no second level.
+    /// Notes how many of a clause's first literals are false at the first level: those that are false
+    /// while there is no second one.
     fn note_passed(&self, watching: &mut WatchLists, clause: ClauseId) -> R<()>
         requires state { IsState self.now }
         requires in_range { clause.0 < length self.now.clauses }

@@ -74,7 +74,7 @@ impl WatchLists {
         }
     }
 
-    /// How many of a clause's first literals are known to be false for good.
+    /// How many of a clause's first literals are known to be false at the first level.
     pub(crate) fn passed_of(&self, clause: ClauseId) -> usize {
         let index = clause.to_index();
         if index < self.passed.len() {
@@ -84,7 +84,14 @@ impl WatchLists {
         }
     }
 
-    /// Notes how many of a clause's first literals are false for good.
+    /// Drops what is known of the clauses' first literals: entries of the first level are undone.
+    pub fn drop_passed(&mut self)
+        ensures { KeepsLists self.old self.new }
+    {
+        self.passed.clear();
+    }
+
+    /// Notes how many of a clause's first literals are false at the first level.
     pub(crate) fn set_passed(&mut self, clause: ClauseId, passed: usize) -> R<()>
         ensures kept { KeepsLists self.old self.new }
         ensures refusal { IsOkUnless result Memory }

@@ -9,11 +9,13 @@ use Rattle.resolvo_sat.specs.declared.state.SatState.{SatState}
 use Rattle.resolvo_sat.specs.declared.state.VariableKind.{VariableKind}
 use Rattle.resolvo_sat.specs.Known.{clause_at}
 use Rattle.resolvo_sat.specs.State.{lists}
+use Rattle.resolvo_sat.specs.Attach.{KeepsLists}
 use Rattle.resolvo_sat.specs.Steps.{Chooses, Undoes}
 use Rattle.resolvo_sat.specs.declared.watch_lists.WatchLists.{WatchLists}
 use Rattle.resolvo_sat.specs.declared.watch_lists.UnitClause.{UnitClause}
 use Rattle.resolvo_sat.specs.Propagation.{IsReady, AreCovered, AreUnits, HasUnit, SameWatching, Extends, IsPropagation}
 use Rattle.resolvo_sat.proofs.Readiness.{ready_undone, ready_floored, covered_same}
+use Rattle.resolvo_sat.proofs.StartLemmas.{kept_ready, kept_watching}
 use Rattle.resolvo_sat.proofs.ChooseLemmas.{choice_ready}
 use Rattle.resolvo_state.specs.declared.solver_state.SolverState.{SolverState}
 use Rattle.resolvo_state.specs.SolverState.{IsCoding, KeepsClauses}
@@ -49,9 +51,6 @@ code_kept c s coding ready variables clauses = code_watched c s c.watching codin
 pub choice_kept : {N S : Type 0} (c : SolverState N S) (s : SatState) (v : VariableId) (clause : ClauseId) → IsCoding c → Chooses v clause c.search s → KeepsClauses c (record c { search = s })
 choice_kept c s v clause coding chosen = code_kept c s coding (choice_ready c.search s c.watching v clause chosen coding.ready) chosen.same.variables chosen.same.clauses
 
-pub undo_kept : {N S : Type 0} (c : SolverState N S) (s : SatState) (level : ℕ) → IsCoding c → Undoes level c.search s → KeepsClauses c (record c { search = s })
-undo_kept c s level coding undoes = code_kept c s coding (ready_undone c.search s c.watching level undoes coding.ready) undoes.same.variables undoes.same.clauses
-
 -- or its least length
 pub floored_kept : {N S : Type 0} (c : SolverState N S) (floor : ℕ) → IsCoding c → KeepsClauses c (record c { search = record c.search { tracker = record c.search.tracker { floor = floor } } })
 floored_kept c floor coding = code_kept c _ coding (ready_floored c.search c.watching floor coding.ready) refl refl
@@ -71,6 +70,14 @@ covered_watching s v w covers same = record {
   ];
   first = covers.first;
 }
+
+-- entries were taken away, and the watches are the same but for what no proof rests on
+pub undo_kept : {N S : Type 0} (c : SolverState N S) (s : SatState) (w : WatchLists) (level : ℕ) → IsCoding c → Undoes level c.search s → KeepsLists c.watching w → KeepsClauses c (record c { search = s; watching = w })
+undo_kept c s w level coding undoes lists =
+    code_watched c s w coding
+    (kept_ready s c.watching w (ready_undone c.search s c.watching level undoes coding.ready) lists)
+    (covered_watching s c.watching w (covered_same c.search s c.watching coding.covered undoes.same.clauses) (kept_watching c.watching w lists))
+    undoes.same.variables undoes.same.clauses
 
 -- unit clauses that are noted as true are no matter
 covered_noted : (s : SatState) (v w : WatchLists) → AreCovered s v → AreCovered s (record v { units_done = w.units_done })

@@ -68,14 +68,16 @@ impl<N: Copy + Exact + Hash + Debug, S: Copy + Exact + Hash + Debug> SolverState
         self.search.choose(variable, clause)
     }
 
-    /// Removes the entries above a level.
+    /// Removes the entries above a level; the root's, which is the first, always stays.
     pub fn undo_until(&mut self, level: u32)
-        requires coding { IsCoding self.old }
-        requires one { 1 ≤ level }
+        requires { IsCoding self.old }
         ensures undone { Undoes level self.old.search self.new.search }
         ensures kept { KeepsClauses self.old self.new }
     {
         self.search.undo_until(level);
+        if level == 0 {
+            self.watching.drop_passed();
+        }
     }
 
     /// Begins a turn at a level: no jump goes below it.
