@@ -1,6 +1,6 @@
 -- What a call that encodes does, over a source of packages with these ghost members. In each an
 -- encoding in order stays one, and has more.
-use Rattle.std.specs.Prelude.{Bool, List, [], Option, Contains}
+use Rattle.std.specs.Prelude.{Bool, List, [], Option, Some, Contains}
 use Rattle.resolvo_pool_core.specs.declared.id.VersionSetId.{VersionSetId}
 use Rattle.resolvo_pool_core.specs.declared.requirement.ConditionalRequirement.{ConditionalRequirement}
 use Rattle.resolvo_pool_core.specs.declared.requirement.Requirement.{Requirement}
@@ -19,6 +19,11 @@ use Rattle.resolvo_turn.specs.Encoder.{IsRoot, AreRulesOf, IsInOrderBy, AreDefer
 
 module _ {A N S C : Type 0} (same : S → S → Bool) (g : source.Ghosts A N S C) (a : A) where
   -- ---- locks, exclusions and marks
+
+  -- those of the package, whose mark is known, are clauses
+  abbrev pub ForbidsCandidates : N → Encoder N S → Encoder N S → Type 0
+  ForbidsCandidates name old new = (root : Rules) → IsInOrderBy same g a root old → IsMarkKnown same (g.packages a) old name
+      → IsInOrderBy same g a root new × ((s : S) → IsForbiddenIn same (g.packages a) name s → IsForbidden (rules_of new) s)
 
   -- those of the package are clauses, and its mark is known
   abbrev pub ForbidsPackage : N → Encoder N S → Encoder N S → Type 0
@@ -90,6 +95,11 @@ module _ {A N S C : Type 0} (same : S → S → Bool) (g : source.Ghosts A N S C
   EncodesKnown parent requirements constraints old new = (root : Rules) → AreRulesOf same (g.packages a) root parent requirements constraints
       → IsInOrderBy same g a root old
       → IsInOrderBy same g a root new × IsParentEncoded same (g.packages a) new root parent
+
+  -- the solvable's rules are clauses, where clauses exclude these solvables
+  abbrev pub EncodesSolvable : S → List S → Encoder N S → Encoder N S → Type 0
+  EncodesSolvable s excluded old new = (root : Rules) → IsInOrderBy same g a root old → AreExcluded excluded old
+      → IsInOrderBy same g a root new × IsParentEncoded same (g.packages a) new root (Some s)
 
   -- the parent's rules are clauses, where the root has these requirements and constraints, and clauses
   -- exclude these solvables

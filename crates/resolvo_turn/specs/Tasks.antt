@@ -1,14 +1,13 @@
 -- The tasks of an encoding, and what it excluded.
-use Rattle.std.specs.Prelude.{◌≡◌, ℕ, ◌+◌, ◌-◌, drop, Bool, List, [], ◌∷◌, Option, Some, None, Contains}
+use Rattle.std.specs.Prelude.{◌≡◌, ℕ, ◌+◌, ◌-◌, drop, Bool, List, [], ◌∷◌, Contains}
 use Rattle.resolvo_pool_core.specs.declared.id.StringId.{StringId}
-use Rattle.resolvo_pool_core.specs.declared.provider.Dependencies.TheVariants.{Known, Unknown}
-use Rattle.resolvo_pool_core.specs.declared.provider.KnownDependencies.{KnownDependencies}
+use Rattle.resolvo_pool_core.specs.declared.provider.Dependencies.TheVariants.{Unknown}
 use Rattle.resolvo_pool_core.specs.Provider.{needs_of}
 use Rattle.resolvo_pool_core.specs.RuleKeeping.{Packages, IsLawful, Rules as RootRules}
 use Rattle.resolvo_packages.specs.declared.package_source.PackageSource as source
 use Rattle.resolvo_sat.specs.RuleClauses.{IsForbidden}
 use Rattle.resolvo_encoder.specs.declared.encoder.Encoder.{Encoder}
-use Rattle.resolvo_encoder.specs.Encoded.{IsEncoding, IsParentEncoded, rules_of}
+use Rattle.resolvo_encoder.specs.Encoded.{IsEncoding, rules_of}
 use Rattle.resolvo_turn.specs.Encoder.{IsInOrderBy}
 use Rattle.resolvo_turn.specs.declared.tasks.Task.{Task}
 use Rattle.resolvo_turn.specs.declared.tasks.Task.TheVariants.{Dependencies, Rules, Case}
@@ -35,12 +34,6 @@ bound t = work_left t + (18446744073709551616 - t.queued)
 -- clauses exclude each of these solvables
 abbrev pub AreExcluded : {N S : Type 0} → List S → Encoder N S → Type 0
 AreExcluded {N} {S} excluded e = (s : S) → Contains excluded s → IsForbidden (rules_of e) s
-
--- These are the solvable's dependencies. Where they are unknown all its rules are clauses, if the
--- encoding was in order, and had the clauses of those that were excluded.
-abbrev pub IsKnownOr : {A N S C : Type 0} → (S → S → Bool) → source.Ghosts A N S C → A → List S → Encoder N S → Encoder N S → S → Option KnownDependencies → Type 0
-IsKnownOr same g a excluded old new s (Some known) = (g.packages a).dependencies_of s ≡ needs_of (Known known)
-IsKnownOr same g a excluded old new s None = (root : RootRules) → IsInOrderBy same g a root old → AreExcluded excluded old → IsParentEncoded same (g.packages a) new root (Some s)
 
 -- A solvable whose dependencies are unknown for this reason is excluded by a clause, as those are that
 -- were excluded before.

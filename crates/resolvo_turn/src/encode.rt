@@ -1,22 +1,23 @@
 //! Requirements and constraints of parents become clauses, in the order of the parents. The
 //! packages of a parent's requirements and constraints come before its clauses, and aren't asked
 //! for earlier.
-ghost use Rattle.std.specs.Prelude.{◌≡◌, ◌<◌, ◌+◌, false, IfOk, IfErr, OnOk, IsErrOf, IsOkUnless, Contains};
+ghost use Rattle.std.specs.Prelude.{◌≡◌, ◌<◌, ◌+◌, false, [], IfOk, IfErr, OnOk, IsErrOf, IsOkUnless, Contains};
 ghost use Rattle.std.specs.Bool.{Decides};
 ghost use Rattle.resolvo_pool.specs.Cached.{IsCancelledBy};
 ghost use Rattle.resolvo_pool.specs.declared.cache.CacheFault.TheVariants.{Ids};
 ghost use Rattle.resolvo_pool_core.specs.declared.want.Want.TheVariants.{Memory, Ids as WantIds};
+ghost use Rattle.resolvo_pool_core.specs.Provider.{needs_of};
 ghost use Rattle.resolvo_pool_core.specs.Text.{solvable_of};
 ghost use Rattle.resolvo_pool_core.specs.declared.requirement.ConditionalRequirement.{ConditionalRequirement};
 ghost use Rattle.resolvo_pool_core.specs.declared.requirement.Requirement.TheVariants.{Single};
 ghost use Rattle.resolvo_state.specs.SolverState.{LacksNumber};
 ghost use Rattle.resolvo_encoder.specs.Encoded.{IsWhole};
 ghost use Rattle.resolvo_encoder.specs.Base.{KeepsTurns};
-ghost use Rattle.resolvo_encoder.specs.Steps.{IsBuilt, AddsParent};
+ghost use Rattle.resolvo_encoder.specs.Steps.{IsBuilt, AddsParent, Extends};
 ghost use Rattle.resolvo_turn.specs.Encoder.{KeepsMarks, AddsNeeds, AddsAll, StaysInOrder, StaysInOrderOf};
-ghost use Rattle.resolvo_turn.specs.Effects.{ForbidsPackage, ForbidsPackages, GuardsRequirement, RequiresGuarded, RequiresPlain, RequiresOne, RequiresAll, LimitsOne, LimitsGuarded, LimitsAll, EncodesKnown, EncodesParent};
+ghost use Rattle.resolvo_turn.specs.Effects.{ForbidsCandidates, ForbidsPackage, ForbidsPackages, GuardsRequirement, RequiresGuarded, RequiresPlain, RequiresOne, RequiresAll, LimitsOne, LimitsGuarded, LimitsAll, EncodesKnown, EncodesSolvable, EncodesParent};
 ghost use Rattle.resolvo_turn.specs.LacksIds.{StopsAnyhow, StopsNeed, StopsOne, StopsAll, StopsKnown, StopsInOrder, StopsInOrderOf};
-ghost use Rattle.resolvo_turn.specs.Tasks.{bound, cost, Excludes, IsKnownOr, KeepsExcluded};
+ghost use Rattle.resolvo_turn.specs.Tasks.{bound, cost, Excludes, KeepsExcluded};
 
 use crate::defer_conditions::defer_need;
 use crate::fire_conditions::fire_if_due;
@@ -27,7 +28,7 @@ use resolvo_encoder::encoder::{Encoder, add_key};
 use resolvo_packages::package_source::{Offered, PackageSource};
 use resolvo_pool::cache::CacheFault;
 use resolvo_pool_core::id::{Exact, StringId, VersionSetId};
-use resolvo_pool_core::provider::{Dependencies, KnownDependencies};
+use resolvo_pool_core::provider::Dependencies;
 use resolvo_pool_core::requirement::{ConditionalRequirement, Requirement};
 use resolvo_pool_core::solver_id::SolvableIdOrRoot;
 use resolvo_pool_core::want::R;
@@ -49,6 +50,32 @@ pub fn add_available<A: PackageSource>(
             encoding.add_parent(one.solvable)?;
         }
     }
+    Ok(())
+}
+
+/// Encodes the locks and exclusions of a package, whose mark is recorded.
+fn forbid_candidates<A: PackageSource>(
+    answers: &mut A,
+    encoding: &mut Encoder<A::NameId, A::SolvableId>,
+    name: A::NameId,
+) -> Result<(), CacheFault<A::Cancel>>
+    requires { IsBuilt encoding.old }
+    // Whatever the answer.
+    ensures same { answers.new ≡ answers.old }
+    // After an answer.
+    ensures encoded { OnOk result
+        (ForbidsCandidates A.SolvableId.eq A.PackageSource answers.old
+        name encoding.old encoding.new) }
+    ensures registry { OnOk result (encoding.new.registry ≡ encoding.old.registry) }
+    ensures kept { OnOk result (Extends encoding.old encoding.new) }
+    ensures built { OnOk result (IsBuilt encoding.new) }
+    // After a refusal.
+    ensures cancelled { IfErr result (IsCancelledBy (A.may_cancel answers.old)) }
+    ensures ids { IsErrOf result Ids
+        → StopsAnyhow A.SolvableId.eq A.PackageSource answers.old encoding.new }
+{
+    let forbidden = answers.forbidden(name)?;
+    encoding.forbid(name, forbidden.as_slice())?;
     Ok(())
 }
 
@@ -77,10 +104,9 @@ fn forbid_package<A: PackageSource>(
     if encoding.is_encoded(name) {
         return Ok(());
     }
-    let forbidden = answers.forbidden(name)?;
     let many = answers.is_many(name)?;
     encoding.mark(name, many)?;
-    encoding.forbid(name, forbidden.as_slice())?;
+    forbid_candidates(answers, encoding, name)?;
     Ok(())
 }
 
@@ -563,42 +589,6 @@ fn exclude<N: Copy + Exact + Hash + Debug + Drop, S: Copy + Exact + Hash + Debug
     Ok(())
 }
 
-/// The dependencies of a solvable, if they are known. Otherwise it is excluded, once, and has no
-/// other rule.
-fn known_of<A: PackageSource>(
-    answers: &mut A,
-    encoding: &mut Encoder<A::NameId, A::SolvableId>,
-    excluded: &mut IndexSet<A::SolvableId>,
-    solvable: A::SolvableId,
-) -> Result<Option<KnownDependencies>, CacheFault<A::Cancel>>
-    requires { IsBuilt encoding.old }
-    // Whatever the answer.
-    ensures same { answers.new ≡ answers.old }
-    // After an answer.
-    ensures stays { OnOk result
-        (StaysInOrder A.SolvableId.eq A.PackageSource answers.old encoding.old encoding.new) }
-    ensures kept { OnOk result (AddsNeeds encoding.old encoding.new) }
-    ensures known { IfOk result
-        (IsKnownOr A.SolvableId.eq A.PackageSource answers.old
-        excluded.old.keys encoding.old encoding.new solvable) }
-    ensures excluded { OnOk result
-        (KeepsExcluded A.SolvableId.eq A.PackageSource answers.old
-        excluded.old.keys excluded.new.keys encoding.old encoding.new) }
-    ensures built { OnOk result (IsBuilt encoding.new) }
-    // After a refusal.
-    ensures cancelled { IfErr result (IsCancelledBy (A.may_cancel answers.old)) }
-    ensures ids { IsErrOf result Ids
-        → StopsAnyhow A.SolvableId.eq A.PackageSource answers.old encoding.new }
-{
-    match answers.dependencies(solvable)? {
-        Dependencies::Known(known) => Ok(Some(known)),
-        Dependencies::Unknown(reason) => {
-            exclude(encoding, excluded, solvable, reason)?;
-            Ok(None)
-        }
-    }
-}
-
 /// Asks for the dependencies of a solvable. If they are unknown it is excluded.
 fn exclude_unknown<A: PackageSource>(
     answers: &mut A,
@@ -738,6 +728,90 @@ fn ask_and_fire<A: PackageSource>(
     Ok(())
 }
 
+/// Encodes the rules of a solvable with these dependencies. If they are unknown it is excluded,
+/// once, and has no other rule.
+fn encode_dependencies<A: PackageSource>(
+    alloc: Global,
+    answers: &mut A,
+    encoding: &mut Encoder<A::NameId, A::SolvableId>,
+    tasks: &mut Tasks<A::SolvableId>,
+    excluded: &mut IndexSet<A::SolvableId>,
+    solvable: A::SolvableId,
+    dependencies: &Dependencies,
+) -> Result<(), CacheFault<A::Cancel>>
+    requires built { IsBuilt encoding.old }
+    requires asked { needs_of dependencies.now ≡ (A.packages answers.old).dependencies_of solvable }
+    // Whatever the answer.
+    ensures same { answers.new ≡ answers.old }
+    // After an answer.
+    ensures encoded { OnOk result
+        (EncodesSolvable A.SolvableId.eq A.PackageSource answers.old
+        solvable excluded.old.keys encoding.old encoding.new) }
+    ensures kept { OnOk result (AddsNeeds encoding.old encoding.new) }
+    ensures excluded { OnOk result
+        (KeepsExcluded A.SolvableId.eq A.PackageSource answers.old
+        excluded.old.keys excluded.new.keys encoding.old encoding.new) }
+    ensures built { OnOk result (IsBuilt encoding.new) }
+    // After a refusal.
+    ensures cancelled { IfErr result (IsCancelledBy (A.may_cancel answers.old)) }
+    ensures ids { IsErrOf result Ids
+        → StopsInOrder A.SolvableId.eq A.PackageSource answers.old encoding.old encoding.new }
+{
+    match dependencies {
+        Dependencies::Known(known) => {
+            let needs = known.requirements.as_slice();
+            let limits = known.constrains.as_slice();
+            let parent = Some(solvable);
+            encode_rules(alloc, answers, encoding, tasks, parent, needs, limits)?;
+            Ok(())
+        }
+        Dependencies::Unknown(reason) => {
+            exclude(encoding, excluded, solvable, *reason)?;
+            Ok(())
+        }
+    }
+}
+
+/// Encodes the rules of a solvable.
+fn encode_solvable<A: PackageSource>(
+    alloc: Global,
+    answers: &mut A,
+    encoding: &mut Encoder<A::NameId, A::SolvableId>,
+    tasks: &mut Tasks<A::SolvableId>,
+    excluded: &mut IndexSet<A::SolvableId>,
+    solvable: A::SolvableId,
+) -> Result<(), CacheFault<A::Cancel>>
+    requires { IsBuilt encoding.old }
+    // Whatever the answer.
+    ensures same { answers.new ≡ answers.old }
+    // After an answer.
+    ensures encoded { OnOk result
+        (EncodesSolvable A.SolvableId.eq A.PackageSource answers.old
+        solvable excluded.old.keys encoding.old encoding.new) }
+    ensures kept { OnOk result (AddsNeeds encoding.old encoding.new) }
+    ensures excluded { OnOk result
+        (KeepsExcluded A.SolvableId.eq A.PackageSource answers.old
+        excluded.old.keys excluded.new.keys encoding.old encoding.new) }
+    ensures built { OnOk result (IsBuilt encoding.new) }
+    // After a refusal.
+    ensures cancelled { IfErr result (IsCancelledBy (A.may_cancel answers.old)) }
+    ensures ids { IsErrOf result Ids
+        → StopsInOrder A.SolvableId.eq A.PackageSource answers.old encoding.old encoding.new }
+{
+    let dependencies = answers.dependencies(solvable)?;
+    // split for the prover: one drop
+    let done = encode_dependencies(
+        alloc,
+        answers,
+        encoding,
+        tasks,
+        excluded,
+        solvable,
+        &dependencies,
+    );
+    done
+}
+
 /// Encodes the rules of a solvable, or of the root, which are given.
 fn encode_parent<A: PackageSource>(
     alloc: Global,
@@ -774,36 +848,23 @@ fn encode_parent<A: PackageSource>(
             Ok(())
         }
         SolvableIdOrRoot::Solvable(solvable) => {
-            match known_of(answers, encoding, excluded, solvable)? {
-                None => Ok(()),
-                Some(known) => {
-                    let needs = known.requirements.as_slice();
-                    let limits = known.constrains.as_slice();
-                    encode_rules(
-                        alloc,
-                        answers,
-                        encoding,
-                        tasks,
-                        Some(solvable),
-                        needs,
-                        limits,
-                    )?;
-                    Ok(())
-                }
-            }
+            encode_solvable(alloc, answers, encoding, tasks, excluded, solvable)?;
+            Ok(())
         }
     }
 }
 
 /// Does all tasks: encodes the rules of each parent that isn't encoded yet, and cases that hold.
-pub(crate) fn encode_waiting<A: PackageSource>(
+fn encode_waiting<A: PackageSource>(
     alloc: Global,
     answers: &mut A,
     encoding: &mut Encoder<A::NameId, A::SolvableId>,
     tasks: &mut Tasks<A::SolvableId>,
+    excluded: &mut IndexSet<A::SolvableId>,
     input: &TurnInput<'_>,
 ) -> Result<(), CacheFault<A::Cancel>>
-    requires { IsBuilt encoding.old }
+    requires built { IsBuilt encoding.old }
+    requires none { excluded.old.keys ≡ [] }
     // Whatever the answer.
     ensures same { answers.new ≡ answers.old }
     // After an answer.
@@ -819,21 +880,12 @@ pub(crate) fn encode_waiting<A: PackageSource>(
         → StopsInOrderOf A.SolvableId.eq A.PackageSource answers.old
         input.now.requirements.now input.now.constraints.now encoding.old encoding.new }
 {
-    let mut excluded = IndexSet::new(alloc);
     loop {
-        ask_and_fire(alloc, answers, encoding, tasks, &mut excluded)?;
+        ask_and_fire(alloc, answers, encoding, tasks, excluded)?;
         match encoding.next_parent() {
             None => return Ok(()),
             Some(parent) => {
-                encode_parent(
-                    alloc,
-                    answers,
-                    encoding,
-                    tasks,
-                    &mut excluded,
-                    input,
-                    parent,
-                )?;
+                encode_parent(alloc, answers, encoding, tasks, excluded, input, parent)?;
                 encoding.end_parent();
                 tasks.push_parents(encoding.parents.as_slice())?;
             }
@@ -841,12 +893,49 @@ pub(crate) fn encode_waiting<A: PackageSource>(
     }
 }
 
-/// Does all tasks. Then adds the clauses that wait for the encoding's end.
-pub(crate) fn encode_parents<A: PackageSource>(
+/// Does all tasks, first those of parents that wait and of these cases. Then adds the clauses that
+/// wait for the encoding's end.
+fn encode_tasks<A: PackageSource>(
     alloc: Global,
     answers: &mut A,
     encoding: &mut Encoder<A::NameId, A::SolvableId>,
     tasks: &mut Tasks<A::SolvableId>,
+    excluded: &mut IndexSet<A::SolvableId>,
+    places: &[usize],
+    input: &TurnInput<'_>,
+) -> Result<(), CacheFault<A::Cancel>>
+    requires built { IsBuilt encoding.old }
+    requires none { excluded.old.keys ≡ [] }
+    // Whatever the answer.
+    ensures same { answers.new ≡ answers.old }
+    // After an answer.
+    ensures encoded { OnOk result
+        (StaysInOrderOf A.SolvableId.eq A.PackageSource answers.old
+        input.now.requirements.now input.now.constraints.now encoding.old encoding.new) }
+    ensures all { OnOk result (AddsAll encoding.old encoding.new) }
+    ensures turn { OnOk result (KeepsTurns encoding.old encoding.new) }
+    ensures placed { OnOk result (IsWhole encoding.new) }
+    ensures built { OnOk result (IsBuilt encoding.new) }
+    // After a refusal.
+    ensures cancelled { IfErr result (IsCancelledBy (A.may_cancel answers.old)) }
+    ensures ids { IsErrOf result Ids
+        → StopsInOrderOf A.SolvableId.eq A.PackageSource answers.old
+        input.now.requirements.now input.now.constraints.now encoding.old encoding.new }
+{
+    tasks.push_parents(encoding.parents.as_slice())?;
+    tasks.push_each(encoding, places)?;
+    encode_waiting(alloc, answers, encoding, tasks, excluded, input)?;
+    encoding.add_queued(alloc)?;
+    Ok(())
+}
+
+/// Encodes all parents, and those of these cases that hold. Asks for the dependencies of the
+/// parents first.
+pub(crate) fn encode_parents<A: PackageSource>(
+    alloc: Global,
+    answers: &mut A,
+    encoding: &mut Encoder<A::NameId, A::SolvableId>,
+    places: &[usize],
     input: &TurnInput<'_>,
 ) -> Result<(), CacheFault<A::Cancel>>
     requires { IsBuilt encoding.old }
@@ -866,7 +955,17 @@ pub(crate) fn encode_parents<A: PackageSource>(
         → StopsInOrderOf A.SolvableId.eq A.PackageSource answers.old
         input.now.requirements.now input.now.constraints.now encoding.old encoding.new }
 {
-    encode_waiting(alloc, answers, encoding, tasks, input)?;
-    encoding.add_queued(alloc)?;
-    Ok(())
+    let mut tasks = Tasks::new(alloc, encoding.encoded);
+    let mut excluded = IndexSet::new(alloc);
+    // split for the prover: one drop
+    let done = encode_tasks(
+        alloc,
+        answers,
+        encoding,
+        &mut tasks,
+        &mut excluded,
+        places,
+        input,
+    );
+    done
 }

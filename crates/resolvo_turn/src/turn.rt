@@ -19,7 +19,6 @@ use crate::chosen::{chosen_at, chosen_in_turn};
 use crate::encode::encode_parents;
 use crate::fire_conditions::{fire_cases, fire_each};
 use crate::scan::{Scan, find_touched, mark_all};
-use crate::tasks::Tasks;
 use crate::turn_input::TurnInput;
 use crate::turn_state::TurnState;
 use resolvo_encoder::encoder::Encoder;
@@ -138,10 +137,7 @@ fn encode<A: PackageSource>(
         → StopsInOrderOf A.SolvableId.eq A.PackageSource answers.old
         input.now.requirements.now input.now.constraints.now encoding.old encoding.new }
 {
-    let mut tasks = Tasks::new(alloc, encoding.encoded);
-    tasks.push_parents(encoding.parents.as_slice())?;
-    tasks.push_each(encoding, scan.touched())?;
-    encode_parents(alloc, answers, encoding, &mut tasks, input)?;
+    encode_parents(alloc, answers, encoding, scan.touched(), input)?;
     scan.end_touched(encoding);
     undo_broken(encoding, scan);
     Ok(())

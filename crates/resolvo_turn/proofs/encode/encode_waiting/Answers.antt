@@ -12,26 +12,24 @@ use Rattle.resolvo_turn.proofs.AddLemmas.{next_in_order, all_none, all_then, nee
 use Rattle.resolvo_turn.proofs.EndLemmas.{past_end}
 use Rattle.resolvo_turn.proofs.encode.encode_waiting.Goals as goal
 
-pub loop-excluded-init : goal.loop-excluded-init
-loop-excluded-init g c =
-    let none : c.new-excluded.result.keys ≡ [] = search rules in
-    record { same = refl; encoded = λ root is e. (e, λ s h. absurd (contains_none s (subst (λ (ks : List _). Contains ks s) none h))); adds = all_none c.args.encoding.now; turn = λ soft. turn_same soft c.args.encoding.now; built = c.requires }
+pub loop-encoding-init : goal.loop-encoding-init
+loop-encoding-init g c = record { same = refl; encoded = λ root is e. (e, λ s h. absurd (contains_none s (subst (λ (ks : List _). Contains ks s) c.requires.none h))); adds = all_none c.args.encoding.now; turn = λ soft. turn_same soft c.args.encoding.now; built = c.requires.built }
 
-pub loop-excluded-preserved : goal.loop-excluded-preserved
-loop-excluded-preserved g c =
+pub loop-encoding-preserved : goal.loop-encoding-preserved
+loop-encoding-preserved g c =
     let same = g.A.SolvableId.PartialEq.eq in
     let p = g.A.PackageSource.packages c.args.answers.now in
     let orders = g.A.PackageSource.orders c.args.answers.now in
     let start = c.args.encoding.now in
-    let before = c.loop-excluded.invariant in
-    let old = c.loop-excluded.encoding in
+    let before = c.loop-encoding.invariant in
+    let old = c.loop-encoding.encoding in
     let middle = c.ask_and_fire.new.encoding in
     let new = c.encode_parent.new.encoding in
     let next = c.end_parent.new.self in
     let asked = c.in_ok-ask_and_fire.ensures in
     let kept = c.in_ok-encode_parent-in-Some.ensures.kept in
     let stays = subst (λ (a : g.row.A.Denot). StaysInOrder same g.A.PackageSource a old middle) before.same asked.stays in
-    let one = subst (λ (a : g.row.A.Denot). KeepsExcluded same g.A.PackageSource a c.loop-excluded.excluded.keys c.ask_and_fire.new.excluded.keys old middle) before.same asked.excluded in
+    let one = subst (λ (a : g.row.A.Denot). KeepsExcluded same g.A.PackageSource a c.loop-encoding.excluded.keys c.ask_and_fire.new.excluded.keys old middle) before.same asked.excluded in
     let two = subst (λ (a : g.row.A.Denot). KeepsExcluded same g.A.PackageSource a c.ask_and_fire.new.excluded.keys c.encode_parent.new.excluded.keys middle new) (asked.same ∙ before.same) c.in_ok-encode_parent-in-Some.ensures.excluded in
     let encodes = subst (λ (a : g.row.A.Denot). EncodesParent same g.A.PackageSource a c.args.input.now.requirements.now c.args.input.now.constraints.now (solvable_of c.in-Some.parent) c.ask_and_fire.new.excluded.keys middle new) (asked.same ∙ before.same) c.in_ok-encode_parent-in-Some.ensures.encoded in
     let here : slice_get middle.parents.keys middle.encoded ≡ Some c.in-Some.parent = sym c.next_parent.ensures.parent ∙ c.in-Some.is in
@@ -49,12 +47,12 @@ loop-excluded-preserved g c =
     }
 
 pub returns-in-None-clause-same : goal.returns-in-None-clause-same
-returns-in-None-clause-same g c = c.in_ok-ask_and_fire.ensures.same ∙ c.loop-excluded.invariant.same
+returns-in-None-clause-same g c = c.in_ok-ask_and_fire.ensures.same ∙ c.loop-encoding.invariant.same
 
 pub returns-in-None-clause-encoded : goal.returns-in-None-clause-encoded
 returns-in-None-clause-encoded g c = λ root is e.
-    (subst (λ (a : g.row.A.Denot). StaysInOrder g.A.SolvableId.PartialEq.eq g.A.PackageSource a c.loop-excluded.encoding c.ask_and_fire.new.encoding) c.loop-excluded.invariant.same c.in_ok-ask_and_fire.ensures.stays)
-    root (c.loop-excluded.invariant.encoded root is e).0
+    (subst (λ (a : g.row.A.Denot). StaysInOrder g.A.SolvableId.PartialEq.eq g.A.PackageSource a c.loop-encoding.encoding c.ask_and_fire.new.encoding) c.loop-encoding.invariant.same c.in_ok-ask_and_fire.ensures.stays)
+    root (c.loop-encoding.invariant.encoded root is e).0
 
 pub returns-in-None-clause-all : goal.returns-in-None-clause-all
 returns-in-None-clause-all g c =
@@ -62,20 +60,20 @@ returns-in-None-clause-all g c =
     let none : slice_get middle.parents.keys middle.encoded ≡ None = sym c.next_parent.ensures.parent ∙ c.in-None.is in
     let past : length middle.parents.keys ≤ middle.encoded = past_end middle.parents.keys middle.encoded none in
     let within : middle.encoded ≤ length middle.parents.keys = c.in_ok-ask_and_fire.ensures.built.within in
-    record { adds = all_then c.args.encoding.now c.loop-excluded.encoding middle c.loop-excluded.invariant.adds (needs_parents c.loop-excluded.encoding middle c.in_ok-ask_and_fire.ensures.kept); all = omega arith }
+    record { adds = all_then c.args.encoding.now c.loop-encoding.encoding middle c.loop-encoding.invariant.adds (needs_parents c.loop-encoding.encoding middle c.in_ok-ask_and_fire.ensures.kept); all = omega arith }
 
 pub returns-in-None-clause-turn : goal.returns-in-None-clause-turn
-returns-in-None-clause-turn g c = turns_then c.args.encoding.now c.loop-excluded.encoding c.ask_and_fire.new.encoding c.loop-excluded.invariant.turn c.in_ok-ask_and_fire.ensures.kept.turn
+returns-in-None-clause-turn g c = turns_then c.args.encoding.now c.loop-encoding.encoding c.ask_and_fire.new.encoding c.loop-encoding.invariant.turn c.in_ok-ask_and_fire.ensures.kept.turn
 
 pub returns-in_err-ask_and_fire-clause-ids : goal.returns-in_err-ask_and_fire-clause-ids
 returns-in_err-ask_and_fire-clause-ids g c = λ is root are e.
-    let stops = subst (λ (a : g.row.A.Denot). StopsInOrder g.A.SolvableId.PartialEq.eq g.A.PackageSource a c.loop-excluded.encoding c.ask_and_fire.new.encoding) c.loop-excluded.invariant.same (search (rules, is)) in
-    stops root (c.loop-excluded.invariant.encoded root are e).0
+    let stops = subst (λ (a : g.row.A.Denot). StopsInOrder g.A.SolvableId.PartialEq.eq g.A.PackageSource a c.loop-encoding.encoding c.ask_and_fire.new.encoding) c.loop-encoding.invariant.same (search (rules, is)) in
+    stops root (c.loop-encoding.invariant.encoded root are e).0
 
 pub returns-in_err-encode_parent-in-Some-clause-ids : goal.returns-in_err-encode_parent-in-Some-clause-ids
 returns-in_err-encode_parent-in-Some-clause-ids g c = λ is root are e.
     let same = g.A.SolvableId.PartialEq.eq in
-    let before = c.loop-excluded.invariant in
-    let stays = subst (λ (a : g.row.A.Denot). StaysInOrder same g.A.PackageSource a c.loop-excluded.encoding c.ask_and_fire.new.encoding) before.same c.in_ok-ask_and_fire.ensures.stays in
+    let before = c.loop-encoding.invariant in
+    let stays = subst (λ (a : g.row.A.Denot). StaysInOrder same g.A.PackageSource a c.loop-encoding.encoding c.ask_and_fire.new.encoding) before.same c.in_ok-ask_and_fire.ensures.stays in
     let stops = subst (λ (a : g.row.A.Denot). StopsInOrderOf same g.A.PackageSource a c.args.input.now.requirements.now c.args.input.now.constraints.now c.ask_and_fire.new.encoding c.encode_parent.new.encoding) (c.in_ok-ask_and_fire.ensures.same ∙ before.same) (search (rules, is)) in
     stops root are (stays root (before.encoded root are e).0)

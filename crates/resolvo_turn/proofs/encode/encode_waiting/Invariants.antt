@@ -7,8 +7,8 @@ use Rattle.resolvo_turn.specs.Tasks.{AreExcluded}
 use Rattle.resolvo_turn.proofs.encode.encode_waiting.Given as goal
 
 -- the encoding is one of the packages, with more parents, and clauses exclude what was excluded
-abbrev pub invariant-loop-excluded : goal.invariant-loop-excluded
-invariant-loop-excluded g l = record {
+abbrev pub invariant-loop-encoding : goal.invariant-loop-encoding
+invariant-loop-encoding g l = record {
   same : l.answers ≡ l.initial.answers;
   encoded : (root : Rules) → IsRoot l.input.requirements.now l.input.constraints.now root → IsInOrder g.A.SolvableId.PartialEq.eq (g.A.PackageSource.packages l.initial.answers) (g.A.PackageSource.orders l.initial.answers) root l.initial.encoding
       → IsInOrder g.A.SolvableId.PartialEq.eq (g.A.PackageSource.packages l.initial.answers) (g.A.PackageSource.orders l.initial.answers) root l.encoding × AreExcluded l.excluded.keys l.encoding;
@@ -17,5 +17,5 @@ invariant-loop-excluded g l = record {
   built : IsBuilt l.encoding;
 }
 
-abbrev pub decreases-loop-excluded : goal.decreases-loop-excluded
-decreases-loop-excluded g l = 18446744073709551616 - l.encoding.encoded
+abbrev pub decreases-loop-encoding : goal.decreases-loop-encoding
+decreases-loop-encoding g l = 18446744073709551616 - l.encoding.encoded

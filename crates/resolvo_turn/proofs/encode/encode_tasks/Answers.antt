@@ -2,7 +2,7 @@ use Rattle.std.proofs.Common.{rules}
 use Rattle.resolvo_encoder.proofs.Bases.{same_turns, turns_then}
 use Rattle.resolvo_turn.proofs.AddLemmas.{extends_all, extends_in_order}
 use Rattle.resolvo_turn.specs.LacksIds.{LacksIds}
-use Rattle.resolvo_turn.proofs.encode.encode_parents.Goals as goal
+use Rattle.resolvo_turn.proofs.encode.encode_tasks.Goals as goal
 
 pub returns-clause-encoded : goal.returns-clause-encoded
 returns-clause-encoded g c = λ root is e.
