@@ -287,15 +287,22 @@ all_then a b c f g = record {
 }
 
 -- the rules of one more parent
-pub one_more : {N S : Type 0} (a b : Encoder N S) → AddsNeeds a b → AddsParents a (record b { encoded = b.encoded + 1 })
+one_more : {N S : Type 0} (a b : Encoder N S) → AddsNeeds a b → AddsParents a (record b { encoded = b.encoded + 1 })
 one_more a b f = record { grows = f.grows; softs = f.softs; parents = f.parents; encoded = (let x : b.encoded ≡ a.encoded = f.encoded in omega arith); deferred = f.deferred; fired = f.fired }
 
 pub needs_parents : {N S : Type 0} (a b : Encoder N S) → AddsNeeds a b → AddsParents a b
 needs_parents a b f = record { grows = f.grows; softs = f.softs; parents = f.parents; encoded = (let x : b.encoded ≡ a.encoded = f.encoded in omega arith); deferred = f.deferred; fired = f.fired }
 
 -- the end of a parent keeps the turn
-pub next_turns : {N S : Type 0} (a b : Encoder N S) → b ≡ record a { encoded = a.encoded + 1 } → KeepsTurns a b
+next_turns : {N S : Type 0} (a b : Encoder N S) → b ≡ record a { encoded = a.encoded + 1 } → KeepsTurns a b
 next_turns {N} {S} a b is = coding_turns a b (ap (λ (x : Encoder N S). x.coding) is) (ap (λ (x : Encoder N S). x.recorded.softs.items) is)
+
+-- after a parent's rules and its end there is one more
+pub all_next : {N S : Type 0} (start old middle new next : Encoder N S) → AddsParents start old → AddsNeeds old middle → AddsNeeds middle new → next ≡ record new { encoded = new.encoded + 1 } → AddsParents start next
+all_next {N} {S} start old middle new next before asked kept is = subst (λ (x : Encoder N S). AddsParents start x) (sym is) (all_then start middle (record new { encoded = new.encoded + 1 }) (all_then start old middle before (needs_parents old middle asked)) (one_more middle new kept))
+
+pub turns_next : {N S : Type 0} (start old middle new next : Encoder N S) → KeepsTurns start old → AddsNeeds old middle → AddsNeeds middle new → next ≡ record new { encoded = new.encoded + 1 } → KeepsTurns start next
+turns_next start old middle new next before asked kept is = turns_then start new next (turns_then start middle new (turns_then start old middle before asked.turn) kept.turn) (next_turns new next is)
 
 -- the search adds no parent
 pub goes_parents : {N S : Type 0} (a b : Encoder N S) → GoesOn a b → AddsParents a b

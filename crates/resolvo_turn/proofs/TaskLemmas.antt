@@ -1,5 +1,5 @@
 -- Tasks that are pushed and taken, and solvables that are excluded.
-use Rattle.std.proofs.Common.{◌≡◌, ℕ, zero, suc, ◌+◌, ◌≤◌, ◌<◌, List, [], ◌∷◌, ◌++◌, length, drop, ap, arith}
+use Rattle.std.proofs.Common.{◌≡◌, ℕ, zero, suc, ◌+◌, ◌≤◌, ◌<◌, List, [], ◌∷◌, ◌++◌, length, drop, sym, ap, subst, arith}
 use Rattle.std.proofs.lemmas.List.{drop_more, drop_all}
 use Rattle.std.specs.Prelude.{slice_index_or}
 use Rattle.resolvo_state.proofs.Growth.{forbid_grows}
@@ -37,3 +37,7 @@ work_taken {S} old new task low is fewer =
 -- what was excluded stays so
 pub excluded_stays : {N S : Type 0} (excluded : List S) (a b : Encoder N S) → Grows a.coding b.coding → AreExcluded excluded a → AreExcluded excluded b
 excluded_stays excluded a b grows h s c = forbid_grows a.coding b.coding grows s (h s c)
+
+-- the end of a parent excludes no less
+pub excluded_next : {N S : Type 0} (excluded : List S) (a b : Encoder N S) → b ≡ record a { encoded = a.encoded + 1 } → AreExcluded excluded a → AreExcluded excluded b
+excluded_next {N} {S} excluded a b is h = subst (λ (x : Encoder N S). AreExcluded excluded x) (sym is) h

@@ -1,14 +1,14 @@
-use Rattle.std.proofs.Common.{◌≡◌, ◌≤◌, ◌+◌, None, Some, length, List, [], refl, sym, ◌∙◌, subst, arith, rules}
+use Rattle.std.proofs.Common.{◌≡◌, ◌≤◌, None, Some, length, List, [], refl, sym, ◌∙◌, subst, arith, rules}
 use Rattle.std.specs.Prelude.{slice_get, Contains}
 use Rattle.resolvo_pool_core.specs.Text.{solvable_of}
 use Rattle.resolvo_sat.proofs.Lists.{contains_none}
-use Rattle.resolvo_encoder.specs.declared.encoder.Encoder.{Encoder}
 use Rattle.resolvo_encoder.proofs.Bases.{turn_same, turns_then}
-use Rattle.resolvo_turn.specs.Encoder.{AddsParents, StaysInOrder}
+use Rattle.resolvo_turn.specs.Encoder.{StaysInOrder}
 use Rattle.resolvo_turn.specs.Effects.{EncodesParent}
 use Rattle.resolvo_turn.specs.LacksIds.{StopsInOrder, StopsInOrderOf}
-use Rattle.resolvo_turn.specs.Tasks.{AreExcluded, KeepsExcluded}
-use Rattle.resolvo_turn.proofs.AddLemmas.{next_in_order, all_none, all_then, needs_parents, one_more, next_all, next_turns}
+use Rattle.resolvo_turn.specs.Tasks.{KeepsExcluded}
+use Rattle.resolvo_turn.proofs.AddLemmas.{next_in_order, all_none, all_then, all_next, needs_parents, next_all, turns_next}
+use Rattle.resolvo_turn.proofs.TaskLemmas.{excluded_next}
 use Rattle.resolvo_turn.proofs.EndLemmas.{past_end}
 use Rattle.resolvo_turn.proofs.encode.encode_waiting.Goals as goal
 
@@ -39,10 +39,10 @@ loop-encoding-preserved g c =
           let (first, excluded) = before.encoded root is e in
           let (last, done) = encodes root is (stays root first) (one root first excluded) in (
             next_in_order same p orders root new next c.end_parent.ensures.next (λ e. c.end_parent.ensures.encoding p root e (next_all same p root middle new c.in-Some.parent kept here done)) last,
-            subst (λ (x : Encoder _ _). AreExcluded c.encode_parent.new.excluded.keys x) (sym c.end_parent.ensures.next) (two root (stays root first) (one root first excluded)),
+            excluded_next c.encode_parent.new.excluded.keys new next c.end_parent.ensures.next (two root (stays root first) (one root first excluded)),
           ));
-      adds = subst (λ (x : Encoder _ _). AddsParents start x) (sym c.end_parent.ensures.next) (all_then start middle (record new { encoded = new.encoded + 1 }) (all_then start old middle before.adds (needs_parents old middle asked.kept)) (one_more middle new kept));
-      turn = turns_then start new next (turns_then start middle new (turns_then start old middle before.turn asked.kept.turn) kept.turn) (next_turns new next c.end_parent.ensures.next);
+      adds = all_next start old middle new next before.adds asked.kept kept c.end_parent.ensures.next;
+      turn = turns_next start old middle new next before.turn asked.kept kept c.end_parent.ensures.next;
       built = c.end_parent.ensures.built c.in_ok-encode_parent-in-Some.ensures.built;
     }
 

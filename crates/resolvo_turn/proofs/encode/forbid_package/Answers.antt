@@ -1,4 +1,4 @@
-use Rattle.std.proofs.Common.{subst, sym, rules}
+use Rattle.std.proofs.Common.{◌∙◌, ap, subst, sym, rules}
 use Rattle.resolvo_state.specs.declared.registry.Registry.{Registry}
 use Rattle.resolvo_state.specs.Registered.{IsMany}
 use Rattle.resolvo_encoder.specs.declared.encoder.Encoder.{Encoder}
@@ -27,6 +27,12 @@ returns-clause-encoded g c = λ root e.
 
 pub returns-clause-marks : goal.returns-clause-marks
 returns-clause-marks g c = λ n h. subst (λ (r : Registry _). IsMany r n) (sym c.in_ok-forbid_candidates.ensures.registry) (c.in_ok-mark.ensures.marks.keeps n h)
+
+pub returns-clause-same : goal.returns-clause-same
+returns-clause-same g c = c.in_ok-forbid_candidates.ensures.same ∙ c.in_ok-many.ensures.same
+
+pub returns-clause-fired : goal.returns-clause-fired
+returns-clause-fired g c = c.in_ok-forbid_candidates.ensures.kept.fired ∙ ap (λ (x : Encoder _ _). x.fired) c.in_ok-mark.ensures.marks.rest
 
 pub forbid_candidates-requires : goal.forbid_candidates-requires
 forbid_candidates-requires g c = c.in_ok-mark.ensures.marks.built
