@@ -11,7 +11,8 @@ ghost use Rattle.resolvo_turn.specs.Turn.{FiresMore};
 ghost use Rattle.resolvo_turn.specs.Effects.{RequiresGuardedCase, RequiresCase};
 ghost use Rattle.resolvo_turn.specs.LacksIds.{StopsInOrder, StopsNeed};
 
-use crate::encode::{add_available, guard};
+use crate::guards::guard;
+use crate::rules::add_available;
 use resolvo_encoder::conditions::{ConditionSet, DeferredRequirement, keeps_out};
 use resolvo_encoder::encoder::Encoder;
 use resolvo_packages::package_source::PackageSource;

@@ -8,6 +8,8 @@ pub mod chosen;
 pub mod defer_conditions;
 pub mod encode;
 pub mod fire_conditions;
+pub mod guards;
+pub mod rules;
 pub mod scan;
 pub mod tasks;
 pub mod turn;
