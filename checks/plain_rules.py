@@ -29,6 +29,7 @@ class Options:
     defer_all: bool = False  # a case that holds as its need is encoded is deferred all the same
     void_cases: bool = False  # a case that holds by itself has its packages and candidates encoded
     false_wishes: bool = False  # a wish that is false before its turn is registered and encoded
+    placed_wishes: bool = False  # a wish that is false before its turn is registered, so it takes a place of its package
     wish_unseen: bool = False  # a wish becomes true behind its encoding: no case holds by it there
     package_by_need: bool = False  # a package's locks and exclusions come just before the need or limit that names it
     cases_later: bool = False  # cases become clauses once no chosen version is left to encode
@@ -36,7 +37,6 @@ class Options:
     parent_by_parent: bool = False  # a parent is encoded to its end, with the cases that hold, before the next is begun
     root_stays: bool = False  # the root's turn is begun again without undoing what level 1 has
     # What the program does against the rules.
-    placed_wishes: bool = False  # a wish that is false before its turn is registered, so it takes a place of its package
     exclusions_by_version: bool = False  # a package's exclusions come in the order of its versions
     # Where the rules are silent.
     set_at_once: bool = True  # a new gate, helper, digit or any clause sets at once what it says
@@ -54,7 +54,7 @@ class Options:
 
 
 PROGRAM = Options(
-    placed_wishes=True, exclusions_by_version=True, set_at_once=False,
+    exclusions_by_version=True, set_at_once=False,
     root_in_learnt=False, as_met=False,
 )
 

@@ -35,7 +35,8 @@ use Rattle.resolvo_turn.specs.Encoder.{IsInOrder}
 use Rattle.resolvo_turn.specs.Turn.{IsTurn, in_turn}
 use Rattle.resolvo.specs.Turns.{AreAt, AreRight, HasReason, HaveReasons, IsDeniable, IsNextRight, RecordsOutcome, Records, AreAtOrRefused, accepted_of, on_trail, step_of, was_accepted}
 use Rattle.resolvo.specs.declared.soft_requirements.SoftOutcome.{SoftOutcome}
-use Rattle.resolvo.specs.SoftTurns.{AreTrueParents, IsDenied, IsOutcome, IsReasonOf, IsJustified, IsTrue, KeepsTrail}
+use Rattle.resolvo_encoder.specs.SoftRequirement.{IsTrue}
+use Rattle.resolvo.specs.SoftTurns.{AreTrueParents, IsDenied, IsOutcome, IsReasonOf, IsJustified, KeepsTrail}
 use Rattle.resolvo.specs.declared.soft_requirements.SoftOutcome.TheVariants as Soft
 use Rattle.resolvo.specs.declared.turns.Turn.{Turn}
 use Rattle.resolvo.specs.declared.turns.Turns.{Turns}

@@ -1,24 +1,25 @@
 -- The outcome of a soft requirement's turn, from its parts.
-use Rattle.std.proofs.Common.{◌≡◌, ℕ, ◌-◌, ◌<◌, ◌≤◌, ◌⊎◌, inl, inr, Bool, true, false, List, [], ◌∷◌, reverse, length, Option, Some, None, refl, sym, ◌∙◌, ap, subst, arith}
+use Rattle.std.proofs.Common.{◌≡◌, ℕ, ◌+◌, ◌-◌, ◌<◌, ◌≤◌, ◌⊎◌, inl, inr, Bool, true, false, List, [], ◌∷◌, reverse, length, Option, Some, None, refl, sym, ◌∙◌, ap, subst, arith}
 use Rattle.std.specs.Prelude.{slice_get, Contains, IfSome}
 use Rattle.resolvo_pool_core.specs.declared.solver_id.SolvableIdOrRoot.TheVariants as Place
-use Rattle.std.proofs.lemmas.Bool.{both_ways}
+use Rattle.std.proofs.lemmas.Bool.{both_ways, cases_Bool}
 use Rattle.std.proofs.lemmas.Option.{slice_get_within}
 use Rattle.resolvo_pool_core.specs.declared.id.ClauseId.{ClauseId}
 use Rattle.resolvo_pool_core.specs.declared.id.VariableId.{VariableId}
 use Rattle.resolvo_pool_core.specs.declared.requirement.Requirement.{Requirement}
 use Rattle.resolvo_pool_core.specs.RuleKeeping.{Packages, Rules, IsLawful, is_many}
 use Rattle.resolvo_store_core.specs.AtMostOne.{IsPrefixOf}
-use Rattle.resolvo_store_core.specs.Clauses.{yes}
+use Rattle.resolvo_store_core.specs.Clauses.{yes, no}
 use Rattle.resolvo_store_core.specs.Signed.{Signed, has}
 use Rattle.resolvo_store_core.specs.declared.decision.Entry.{Entry}
 use Rattle.resolvo_sat.specs.declared.analyze.FinalConflict.{FinalConflict}
 use Rattle.resolvo_sat.specs.Clauses.{SatClause}
 use Rattle.resolvo_sat.specs.declared.state.SatState.{SatState}
 use Rattle.resolvo_sat.specs.Analysis.{IsDenial, IsRefusal}
-use Rattle.resolvo_sat.specs.Entries.{made_true, top_level, EndsWith}
-use Rattle.resolvo_sat.specs.Known.{clause_at}
-use Rattle.resolvo_sat.specs.State.{history, lists, IsDerived}
+use Rattle.resolvo_sat.specs.Entries.{made_true, top_level, EndsWith, IsTrail}
+use Rattle.resolvo_sat.specs.Known.{clause_at, IsUndecided}
+use Rattle.resolvo_sat.specs.State.{count_of, history, lists, clauses_of, IsDerived}
+use Rattle.resolvo_sat.proofs.Trails.{consistent}
 use Rattle.resolvo_sat.specs.Steps.{Undoes}
 use Rattle.resolvo_sat.specs.RuleClauses.{IsExact}
 use Rattle.resolvo_sat.proofs.StepLemmas.{undone_low}
@@ -26,29 +27,31 @@ use Rattle.resolvo_sat.proofs.Lists.{contains_only, contains_right}
 use Rattle.resolvo_packages.specs.declared.package_source.Offered.{Offered}
 use Rattle.resolvo_state.specs.declared.atom.ProofAtom.TheVariants.{Solvable}
 use Rattle.resolvo_state.specs.declared.solver_state.SolverState.{SolverState}
-use Rattle.resolvo_state.specs.Atoms.{Represents}
+use Rattle.resolvo_state.specs.Atoms.{IsFound, Represents}
 use Rattle.resolvo_state.specs.SolverState.{AddsDenial, Grows, IsCoding}
 use Rattle.resolvo_state.specs.ClauseKinds.{kind_at}
 use Rattle.resolvo_state.specs.declared.clause_kind.ClauseKind.{ClauseKind}
 use Rattle.resolvo_state.specs.declared.clause_kind.ClauseKind.TheVariants.{Learnt, Root}
-use Rattle.resolvo_state.proofs.Growth.{grows_then, represents_grow, represents_once}
+use Rattle.resolvo_state.proofs.Growth.{grows_same, grows_then, represents_grow, represents_once}
 use Rattle.resolvo_state.proofs.Origins.{represents_more}
-use Rattle.resolvo_state.proofs.Positions.{prefix_equal, prefix_then, get_last}
+use Rattle.resolvo_state.proofs.Positions.{prefix_equal, prefix_same, prefix_then, get_last}
 use Rattle.resolvo_encoder.specs.declared.encoder.Encoder.{Encoder}
 use Rattle.resolvo_encoder.specs.declared.encoder.EncodedOnce.{EncodedOnce}
-use Rattle.resolvo_encoder.specs.Base.{base_of, IsOpen, KeepsTurns}
-use Rattle.resolvo_encoder.specs.Encoded.{IsEncoding}
+use Rattle.resolvo_encoder.specs.Base.{base_of, IsBlamed, IsOpen, IsTaken, IsTried, KeepsTurns}
+use Rattle.resolvo_encoder.specs.Encoded.{AreOrdered, IsEncoding, StaysEncoding}
 use Rattle.resolvo_encoder.specs.Progress.{GoesOn}
 use Rattle.resolvo_encoder.specs.Steps.{IsBuilt, IsListed}
-use Rattle.resolvo_encoder.specs.SoftRequirement.{turn_of, IsUntaken, IsSoft, RecordsSoft, TakesBack}
+use Rattle.resolvo_encoder.specs.SoftRequirement.{turn_of, IsTrue, IsUntaken, IsSoft, RecordsChosen, RecordsSoft, TakesBack}
 use Rattle.resolvo_encoder.proofs.Bases.{below_all, below_ends}
+use Rattle.resolvo_encoder.proofs.BlameLemmas.{blame_refuses, empty_refuses, reason_blames}
 use Rattle.resolvo_encoder.proofs.PickLemmas.{ordered_stays}
+use Rattle.resolvo_encoder.proofs.SoftLemmas.{floored}
 use Rattle.resolvo_turn.specs.Encoder.{IsInOrder, AddsParents}
 use Rattle.resolvo_turn.specs.Turn.{IsRooted, IsTurn}
-use Rattle.resolvo.specs.SoftTurns.{AreTrueParents, IsClosed, IsLearntAs, IsOutcome, IsReasonOf, IsRefusable, IsJustified, IsTrue, IsRejected, KeepsRest, KeepsTrail}
+use Rattle.resolvo.specs.SoftTurns.{AreTrueParents, IsClosed, IsLearntAs, IsOpenSoft, IsOutcome, IsReasonOf, IsRefusable, IsJustified, IsRejected, KeepsRest, KeepsTrail, Settles}
 use Rattle.resolvo.specs.declared.soft_requirements.SoftOutcome.{SoftOutcome}
 use Rattle.resolvo_turn.proofs.EndLemmas.{contains_longer, still_rooted}
-use Rattle.resolvo.proofs.Soft.{refused_all, refused_addable, refused_blamed, refused_denied, refused_empty, taken_true, true_before}
+use Rattle.resolvo.proofs.Soft.{refused_all, refused_addable, refused_blamed, refused_denied, refused_empty, present_before, taken_true, true_before}
 
 -- ---- a turn is undone
 
@@ -150,17 +153,8 @@ module _ {N S : Type 0} (same : S → S → Bool) (a b : Encoder N S) (one : Off
       let before : IsTrue a s = true_before a b coding registered.grows.atoms s u represents (subst (λ (h : List Entry). has (made_true h) (yes u) ≡ true) registered_same truth) in
       contains_longer a.parents.keys b.parents.keys (Place.Solvable s) registered_parents (parents s before)
 
-  pub registered_keeps : KeepsTrail a b
-  registered_keeps =
-      let encoded : b.encoded ≡ a.encoded = registered.encoded in
-      record { atoms = registered.grows.atoms; clauses = registered.grows.clauses; kinds = registered.grows.kinds; ends = ([], registered_same); parents = registered_parents; encoded = omega arith; rooted = registered_rooted }
-
   pub registered_in_order : (p : Packages N S) (orders : Requirement → List S → Type 0) (root : Rules) → IsLawful p → IsListed same p one → many ≡ is_many p one.name → IsInOrder same p orders root a → IsInOrder same p orders root b
   registered_in_order p orders root lawful listed is e = record { encoding = registered.encoding p root lawful e.encoding listed is; ordered = ordered_stays orders a b registered.grows registered.lists e.ordered }
-
-  -- the soft requirement is true already
-  pub registered_true : has (made_true (history b.coding.search)) (yes v) ≡ true → IsOutcome same one.solvable a b SoftOutcome.AlreadyChosen
-  registered_true known = (registered.softs, registered_same, (v, registered.present, known))
 
   -- ---- its turn
 
@@ -296,3 +290,154 @@ module _ {N S : Type 0} (same : S → S → Bool) (a b : Encoder N S) (one : Off
           → IsJustified same p root a d one.solvable w
       closed_right None ended coding exact same_name names p root holds w (is, unchanged) = subst (λ (x : SoftOutcome). IsJustified same p root a d one.solvable x) (sym is) tt
       closed_right (Some r) ended coding exact same_name names p root holds w rejected = rejected_right d rest r ended coding exact same_name names p root holds w rejected
+
+-- ---- the soft requirement was true or false before its turn
+
+-- clauses were added, and nothing else changed
+keeps_by : {N S : Type 0} (a c : Encoder N S) → IsPrefixOf a.coding.atoms.keys c.coding.atoms.keys → IsPrefixOf a.coding.search.clauses c.coding.search.clauses → IsPrefixOf a.coding.kinds.items c.coding.kinds.items
+    → history c.coding.search ≡ history a.coding.search → c.parents ≡ a.parents → c.encoded ≡ a.encoded → KeepsTrail a c
+keeps_by a c atoms clauses kinds trail parents encoded = record {
+  atoms = atoms;
+  clauses = clauses;
+  kinds = kinds;
+  ends = ([], trail);
+  parents = prefix_equal a.parents.keys c.parents.keys (ap (λ ks. ks.keys) parents);
+  encoded = omega (arith, encoded);
+  rooted = λ rooted. subst (λ ks. slice_get ks.keys 0 ≡ Some Place.Root) (sym parents) rooted;
+}
+
+-- one that was true is recorded
+pub chosen_settles : {N S : Type 0} (same : S → S → Bool) (a b : Encoder N S) (s : S) → IsTrue a s → RecordsChosen same s a b → Settles same s a b SoftOutcome.AlreadyChosen
+chosen_settles {N} {S} same a b s truth recorded = record {
+  keeps = keeps_by a b grows.atoms grows.clauses grows.kinds trail (ap (λ (x : Encoder N S). x.parents) recorded.rest) (ap (λ (x : Encoder N S). x.encoded) recorded.rest);
+  places = ap (λ (x : Encoder N S). x.registry) recorded.rest;
+  lists = ap (λ (x : Encoder N S). x.lists) recorded.rest;
+  outcome = (recorded.softs, trail, subst (λ (x : Encoder N S). IsTrue x s) (sym recorded.rest) truth);
+  right = λ p root lawful e. (recorded.encoding p root lawful e, tt);
+}
+  where
+    trail : history b.coding.search ≡ history a.coding.search
+    trail = ap (λ (x : Encoder N S). history x.coding.search) recorded.rest
+
+    grows : Grows a.coding b.coding
+    grows = subst (λ (x : Encoder N S). Grows a.coding x.coding) (sym recorded.rest) (grows_same a.coding)
+
+module _ {N S : Type 0} (same : S → S → Bool) (exact : IsExact same) (same_name : N → N → Bool) (names : IsExact same_name) (a : Encoder N S) (s : S) (v : VariableId) (present : Represents a.coding.atoms.keys v (Solvable s)) (r : FinalConflict) (tried : IsTried (turn_of a) v (Some r)) where
+  -- nothing of the turn is on the trail
+  begun_base : base_of (turn_of a) ≡ history a.coding.search
+  begun_base = below_all (top_level (history a.coding.search) + 1) (history a.coding.search) tried.1
+
+  begun_taken : (t : S) → IsTaken (turn_of a) t → IsTrue a t
+  begun_taken t (u, represents, truth) = (u, represents, subst (λ (h : List Entry). has (made_true h) (yes u) ≡ true) begun_base truth)
+
+  begun_blamed : (p : Packages N S) (root : Rules) → IsEncoding same p root (turn_of a) → IsBlamed (turn_of a) v r.literals.items r.causes.items
+  begun_blamed p root holds = reason_blames same exact p root (turn_of a) holds v r.literals.items r.causes.items tried.1 tried.0
+
+  -- a conflict without literals
+  unsolvable : StaysEncoding same a (turn_of a) → r.literals.items ≡ [] → Settles same s a (turn_of a) (SoftOutcome.Unsat r)
+  unsolvable stays none = record {
+    keeps = keeps_by a (turn_of a) (prefix_same a.coding.atoms.keys) (prefix_same a.coding.search.clauses) (prefix_same a.coding.kinds.items) refl refl refl;
+    places = refl;
+    lists = refl;
+    outcome = (refused_empty (turn_of a) v r (inr tried) none, none);
+    right = λ p root lawful e.
+        let holds = stays p root lawful e in (
+          holds,
+          λ set keeping. empty_refuses same exact p root (turn_of a) holds same_name names v r.literals.items r.causes.items (begun_blamed p root holds) (ap (λ ls. length ls) none) set keeping,
+        );
+  }
+
+  -- the conflict's clause is added
+  module _ (c : Encoder N S) (clause : ClauseId) (coding : IsCoding (turn_of a).coding) (learnt : GoesOn (turn_of a) c) (adding : AddsDenial r.literals.items r.causes.items clause (turn_of a).coding c.coding) where
+    denied_trail : history c.coding.search ≡ history a.coding.search
+    denied_trail = ap (λ t. reverse t.trail) adding.trail.tracker
+
+    stays_present : (u : VariableId) (t : S) → Represents a.coding.atoms.keys u (Solvable t) → Represents c.coding.atoms.keys u (Solvable t)
+    stays_present u t there = represents_grow (turn_of a).coding c.coding u (Solvable t) learnt.grows there
+
+    denied_reason : (p : Packages N S) (root : Rules) → IsEncoding same p root (turn_of a) → IsReasonOf c.coding (λ t. (t ≡ s) ⊎ IsTrue a t) clause.0
+    denied_reason p root holds =
+        let is : IsLearntAs c.coding r.literals.items clause = added_learnt (turn_of a).coding c.coding r.literals.items r.causes.items clause coding adding in
+        record {
+          later = is.later;
+          held = is.held;
+          present = is.present;
+          learnt = is.learnt;
+          denies = λ l h. elim ((begun_blamed p root holds).blame l (subst (λ (ls : List Signed). has ls l ≡ true) is.is h)) [
+            | inl itself ↦ inl itself
+            | inr (inl soft) ↦ inr (s, v, soft, stays_present v s present, inl refl)
+            | inr (inr (t, u, no_u, there, truth)) ↦ inr (t, u, no_u, stays_present u t there, inr (begun_taken t (u, there, truth)))
+          ];
+        }
+
+    denied_untrue : has (made_true (history a.coding.search)) (no v) ≡ true → IsTrail (count_of a.coding.search) (clauses_of a.coding.search) (history a.coding.search) → IsTrue c s → ⊥
+    denied_untrue denied trail (u, there, known) =
+        let is : u ≡ v = represents_once c.coding u v (Solvable s) learnt.coding there (stays_present v s present) in
+        consistent (count_of a.coding.search) (clauses_of a.coding.search) (history a.coding.search) (yes v) trail
+        (subst (λ (h : List Entry). has (made_true h) (yes v) ≡ true) denied_trail (subst (λ (w : VariableId). has (made_true (history c.coding.search)) (yes w) ≡ true) is known)) denied
+
+    refused : StaysEncoding same a (turn_of a) → StaysEncoding same (turn_of a) c → IsCoding a.coding → has (made_true (history a.coding.search)) (no v) ≡ true → Settles same s a c (SoftOutcome.Refused clause)
+    refused begins stays before denied = record {
+      keeps = keeps_by a c learnt.grows.atoms learnt.grows.clauses learnt.grows.kinds denied_trail learnt.rest.parents learnt.rest.encoded;
+      places = learnt.rest.registry;
+      lists = learnt.rest.lists;
+      outcome = (ap (λ (n : EncodedOnce N S). n.softs.items) learnt.rest.recorded, denied_trail, denied_untrue denied before.ready.state.trail);
+      right = λ p root lawful e.
+          let holds = begins p root lawful e in (
+            stays p root lawful holds,
+            (
+              λ set keeping all held. blame_refuses same exact p root (turn_of a) holds same_name names v s r.literals.items r.causes.items (begun_blamed p root holds) present set keeping (λ t taken. all t (begun_taken t taken)) held,
+              denied_reason p root holds,
+            ),
+          );
+    }
+
+none_left : {X : Type 0} (xs : List X) → length xs ≡ 0 → xs ≡ []
+none_left [] h = refl
+none_left (x ∷ xs) h = absurd (let none : length (x ∷ xs) ≡ 0 = h in omega arith)
+
+-- the same of the encoding at the turn's begin
+module _ {N S : Type 0} (same : S → S → Bool) (exact : IsExact same) (same_name : N → N → Bool) (names : IsExact same_name) (a b : Encoder N S) (s : S) (v : VariableId) (present : Represents a.coding.atoms.keys v (Solvable s)) (r : FinalConflict) (tried : IsTried b v (Some r)) (begun : b ≡ turn_of a) (begins : StaysEncoding same a b) where
+  tried_begun : IsTried (turn_of a) v (Some r)
+  tried_begun = subst (λ (x : Encoder N S). IsTried x v (Some r)) begun tried
+
+  begins_turn : StaysEncoding same a (turn_of a)
+  begins_turn = subst (λ (x : Encoder N S). StaysEncoding same a x) begun begins
+
+  pub unsat_settles : length r.literals.items ≡ 0 → Settles same s a b (SoftOutcome.Unsat r)
+  unsat_settles none = subst (λ (x : Encoder N S). Settles same s a x (SoftOutcome.Unsat r)) (sym begun) (unsolvable same exact same_name names a s v present r tried_begun begins_turn (none_left r.literals.items none))
+
+  pub refused_settles : (c : Encoder N S) (clause : ClauseId) → IsBuilt b → GoesOn b c → AddsDenial r.literals.items r.causes.items clause b.coding c.coding → StaysEncoding same b c → IsCoding a.coding → has (made_true (history a.coding.search)) (no v) ≡ true → Settles same s a c (SoftOutcome.Refused clause)
+  refused_settles c clause built learnt adding stays before denied =
+      refused same exact same_name names a s v present r tried_begun c clause (subst (λ (x : Encoder N S). IsCoding x.coding) begun built.coding) (subst (λ (x : Encoder N S). GoesOn x c) begun learnt)
+      (subst (λ (x : Encoder N S). AddsDenial r.literals.items r.causes.items clause x.coding c.coding) begun adding) begins_turn (subst (λ (x : Encoder N S). StaysEncoding same x c) begun stays) before denied
+
+-- the candidates stay in order
+pub settled_order : {N S : Type 0} (same : S → S → Bool) (a c : Encoder N S) (s : S) (w : SoftOutcome) → Settles same s a c w → (orders : Requirement → List S → Type 0) → AreOrdered orders a → AreOrdered orders c
+settled_order same a c s w settled orders = ordered_stays orders (floored a c.coding.search.base_level) c (record { atoms = settled.keeps.atoms; clauses = settled.keeps.clauses; kinds = settled.keeps.kinds; base_level = refl }) settled.lists
+
+-- ---- it was undecided
+
+-- a solvable without a variable is
+pub unfound_open : {N S : Type 0} (e : Encoder N S) (s : S) → IsFound e.coding.atoms.keys (Solvable s) None → IsOpenSoft e s
+unfound_open e s none u (k, is, at) = absurd (none k at)
+
+-- one whose variable is neither true nor false is
+pub found_open : {N S : Type 0} (e : Encoder N S) (s : S) (v : VariableId) → IsCoding e.coding → Represents e.coding.atoms.keys v (Solvable s) → IsUndecided (made_true (history e.coding.search)) (yes v) → IsOpenSoft e s
+found_open e s v coding present undecided u there = subst (λ (w : VariableId). IsUndecided (made_true (history e.coding.search)) (yes w)) (sym (represents_once e.coding u v (Solvable s) coding there present)) undecided
+
+-- and still is once it is recorded
+pub recorded_undecided : {N S : Type 0} (same : S → S → Bool) (a b : Encoder N S) (one : Offered N S) (many : Bool) (v : VariableId) → RecordsSoft same one many v a b → IsCoding a.coding → IsOpenSoft a one.solvable → IsUndecided (made_true (history b.coding.search)) (yes v)
+recorded_undecided same a b one many v recorded coding undecided = record { not_true = unknown (yes v) refl (λ before. before.not_true); not_false = unknown (no v) refl (λ before. before.not_false) }
+  where
+    before : List Signed
+    before = made_true (history a.coding.search)
+
+    unknown : (l : Signed) → l.variable ≡ v → (IsUndecided before (yes v) → has before l ≡ false) → has (made_true (history b.coding.search)) l ≡ false
+    unknown l is free = elim (cases_Bool (has (made_true (history b.coding.search)) l)) [
+      | inl known ↦
+          let now : has before l ≡ true = subst (λ (h : List Entry). has (made_true h) l ≡ true) (registered_same same a b one many v recorded) known in
+          let there : Represents a.coding.atoms.keys l.variable (Solvable one.solvable) = present_before a b coding recorded.grows.atoms one.solvable l (subst (λ (w : VariableId). Represents b.coding.atoms.keys w (Solvable one.solvable)) (sym is) recorded.present) now in
+          absurd (both_ways _ (free (undecided v (subst (λ (w : VariableId). Represents a.coding.atoms.keys w (Solvable one.solvable)) is there))) now)
+      | inr untrue ↦ untrue
+    ]

@@ -28,12 +28,12 @@ use Rattle.resolvo_encoder.specs.declared.encoder.Encoder.{Encoder}
 use Rattle.resolvo_encoder.specs.Base.{base_of, IsBlamed, IsOpen, IsTaken}
 use Rattle.resolvo_encoder.specs.Encoded.{IsEncoding}
 use Rattle.resolvo_encoder.specs.Steps.{IsBuilt, AddsParent}
-use Rattle.resolvo_encoder.specs.SoftRequirement.{turn_of, IsSoft}
+use Rattle.resolvo_encoder.specs.SoftRequirement.{turn_of, IsSoft, IsTrue}
 use Rattle.resolvo_encoder.proofs.Bases.{turn_begun}
 use Rattle.resolvo_encoder.proofs.BlameLemmas.{blame_refuses, empty_refuses, reason_blames, refusal_blames}
 use Rattle.resolvo_turn.specs.Encoder.{IsInOrder, AddsParents}
 use Rattle.resolvo_turn.specs.Turn.{AreTakenParents, IsRefusedBy}
-use Rattle.resolvo.specs.SoftTurns.{AreTrueParents, IsDenied, IsTrue}
+use Rattle.resolvo.specs.SoftTurns.{AreTrueParents, IsDenied}
 use Rattle.resolvo_encoder.specs.Progress.{GoesOn}
 use Rattle.resolvo_encoder.proofs.PickLemmas.{ordered_stays}
 use Rattle.resolvo_turn.proofs.AddLemmas.{all_then, goes_parents, needs_parents, parents_coding, parents_in_order, parents_needs}
@@ -50,7 +50,7 @@ begun_turn e begun is v built soft unchosen =
     (subst (λ (x : Encoder _ _). IsOpen x v) (sym is) o, ap (λ (x : Encoder _ _). base_of x) is ∙ base)
 
 -- the encoding is still in order once the soft requirement is decided
-pub opened_in_order : {N S : Type 0} (e opened : Encoder N S) → GoesOn (turn_of e) opened → (same : S → S → Bool) (p : Packages N S) (orders : Requirement → List S → Type 0) (root : Rules) → IsEncoding same p root opened → IsInOrder same p orders root e → IsInOrder same p orders root opened
+opened_in_order : {N S : Type 0} (e opened : Encoder N S) → GoesOn (turn_of e) opened → (same : S → S → Bool) (p : Packages N S) (orders : Requirement → List S → Type 0) (root : Rules) → IsEncoding same p root opened → IsInOrder same p orders root e → IsInOrder same p orders root opened
 opened_in_order e opened goes same p orders root holds order = record { encoding = holds; ordered = ordered_stays orders (turn_of e) opened goes.grows goes.rest.lists order.ordered }
 
 module _ {N S : Type 0} (e opened first : Encoder N S) (goes : GoesOn (turn_of e) opened) (added : AddsParent opened first) where
@@ -71,14 +71,18 @@ module _ {N S : Type 0} (e opened first : Encoder N S) (goes : GoesOn (turn_of e
   pub opened_in_turn : (same : S → S → Bool) (p : Packages N S) (orders : Requirement → List S → Type 0) (root : Rules) → IsEncoding same p root opened → IsInOrder same p orders root e → IsInOrder same p orders root first
   opened_in_turn same p orders root holds order = parents_in_order same p orders root opened first (opened_in_order e opened goes same p orders root holds order) added
 
--- the origin of a variable that was true then is the same now
-pub true_before : {N S : Type 0} (a b : Encoder N S) → IsCoding a.coding → IsPrefixOf a.coding.atoms.keys b.coding.atoms.keys → (s : S) (u : VariableId) → Represents b.coding.atoms.keys u (Solvable s) → has (made_true (history a.coding.search)) (yes u) ≡ true → IsTrue a s
-true_before a b coding prefix s u represents known =
-    let range : u.0 < count_of a.coding.search = known_in_range (count_of a.coding.search) (clauses_of a.coding.search) (history a.coding.search) (yes u) coding.ready.state.trail known in
+-- the origin of a variable that had a value then is the same now
+pub present_before : {N S : Type 0} (a b : Encoder N S) → IsCoding a.coding → IsPrefixOf a.coding.atoms.keys b.coding.atoms.keys → (s : S) (l : Signed) → Represents b.coding.atoms.keys l.variable (Solvable s) → has (made_true (history a.coding.search)) l ≡ true → Represents a.coding.atoms.keys l.variable (Solvable s)
+present_before a b coding prefix s l represents known =
+    let u : VariableId = l.variable in
+    let range : u.0 < count_of a.coding.search = known_in_range (count_of a.coding.search) (clauses_of a.coding.search) (history a.coding.search) l coding.ready.state.trail known in
     let count : count_of a.coding.search ≡ suc (length a.coding.atoms.keys) = count_is a.coding coding in
     let (k, x, place, at) = represents_some a.coding.atoms.keys u.0 (represents_other b.coding.atoms.keys u (Solvable s) represents) (omega arith) in
     let is : x ≡ Solvable s = represents_same b.coding.atoms.keys u x (Solvable s) (represents_more a.coding.atoms.keys b.coding.atoms.keys u x prefix (k, place, at)) represents in
-    (u, subst (λ y. Represents a.coding.atoms.keys u y) is (k, place, at), known)
+    subst (λ y. Represents a.coding.atoms.keys u y) is (k, place, at)
+
+pub true_before : {N S : Type 0} (a b : Encoder N S) → IsCoding a.coding → IsPrefixOf a.coding.atoms.keys b.coding.atoms.keys → (s : S) (u : VariableId) → Represents b.coding.atoms.keys u (Solvable s) → has (made_true (history a.coding.search)) (yes u) ≡ true → IsTrue a s
+true_before a b coding prefix s u represents known = (u, present_before a b coding prefix s (yes u) represents known, known)
 
 -- ---- a refused turn
 

@@ -4,13 +4,14 @@ use Rattle.resolvo_pool_core.specs.declared.id.ClauseId.{ClauseId}
 use Rattle.resolvo_pool_core.specs.declared.id.VariableId.{VariableId}
 use Rattle.resolvo_pool_core.specs.declared.solver_id.SolvableIdOrRoot.TheVariants as Place
 use Rattle.resolvo_pool_core.specs.Provider.{listed}
-use Rattle.resolvo_pool_core.specs.RuleKeeping.{Packages, Rules, is_in, IsRuleKeeping}
+use Rattle.resolvo_pool_core.specs.RuleKeeping.{Packages, Rules, IsLawful, is_in, IsRuleKeeping}
 use Rattle.resolvo_store_core.specs.AtMostOne.{IsPrefixOf}
 use Rattle.resolvo_store_core.specs.Clauses.{yes, no, root as root_variable}
 use Rattle.resolvo_store_core.specs.Signed.{Signed, has}
 use Rattle.resolvo_sat.specs.Clauses.{SatClause}
 use Rattle.resolvo_sat.specs.Analysis.{IsRefusal}
 use Rattle.resolvo_sat.specs.Entries.{made_true, EndsWith}
+use Rattle.resolvo_sat.specs.Known.{IsUndecided}
 use Rattle.resolvo_sat.specs.State.{history}
 use Rattle.resolvo_state.specs.declared.atom.ProofAtom.TheVariants.{Solvable}
 use Rattle.resolvo_state.specs.Atoms.{Represents}
@@ -20,6 +21,8 @@ use Rattle.resolvo_state.specs.ClauseKinds.{kind_at}
 use Rattle.resolvo_state.specs.declared.clause_kind.ClauseKind.TheVariants.{Learnt}
 use Rattle.resolvo_sat.specs.declared.analyze.FinalConflict.{FinalConflict}
 use Rattle.resolvo_encoder.specs.Base.{base_of, IsOpen}
+use Rattle.resolvo_encoder.specs.Encoded.{IsEncoding}
+use Rattle.resolvo_encoder.specs.SoftRequirement.{IsTrue}
 use Rattle.resolvo_encoder.specs.declared.encoder.Encoder.{Encoder}
 use Rattle.resolvo.specs.declared.soft_requirements.SoftOutcome.{SoftOutcome}
 use Rattle.resolvo.specs.declared.soft_requirements.SoftOutcome.TheVariants.{AlreadyChosen, Chosen, Refused, Unsat}
@@ -33,10 +36,6 @@ IsCandidate same p s = is_in same p (listed (p.candidates_of (p.package_of s))) 
 -- each of them is one
 abbrev pub AreCandidates : {N S : Type 0} → (S → S → Bool) → Packages N S → List S → Type 0
 AreCandidates {N} {S} same p list = (s : S) → Contains list s → IsCandidate same p s
-
--- the solvable is true on the trail
-abbrev pub IsTrue : {N S : Type 0} → Encoder N S → S → Type 0
-IsTrue e s = (u : VariableId) × Represents e.coding.atoms.keys u (Solvable s) × (has (made_true (history e.coding.search)) (yes u) ≡ true)
 
 -- what is true on the trail is among the parents
 abbrev pub AreTrueParents : {N S : Type 0} → Encoder N S → Type 0
@@ -123,3 +122,21 @@ module _ {N S : Type 0} (same : S → S → Bool) (p : Packages N S) (root : Rul
   IsJustified old new s Chosen = ⊤
   IsJustified old new s (Refused clause) = IsDenied old s × IsReasonOf new.coding (λ t. (t ≡ s) ⊎ IsTrue old t) clause.0
   IsJustified old new s (Unsat r) = IsUnsolvable same p root
+
+-- The soft requirement was true or false before its turn, and this is the outcome. It took no place
+-- of its package.
+pub record Settles {N S : Type 0} (same : S → S → Bool) (soft : S) (old new : Encoder N S) (decided : SoftOutcome) : Type 0 where
+  pub keeps : KeepsTrail old new
+  pub places : new.registry ≡ old.registry
+  pub lists : new.lists ≡ old.lists
+  pub outcome : IsOutcome same soft old new decided
+  pub right : (p : Packages N S) (root : Rules) → IsLawful p → IsEncoding same p root old → IsEncoding same p root new × IsJustified same p root old new soft decided
+
+-- no variable of the solvable has a value
+abbrev pub IsOpenSoft : {N S : Type 0} → Encoder N S → S → Type 0
+IsOpenSoft e s = (v : VariableId) → Represents e.coding.atoms.keys v (Solvable s) → IsUndecided (made_true (history e.coding.search)) (yes v)
+
+-- the same; or it was undecided, and nothing changed
+abbrev pub IsSettled : {N S : Type 0} → (S → S → Bool) → S → Encoder N S → Encoder N S → Option SoftOutcome → Type 0
+IsSettled same soft old new None = (new ≡ old) × IsOpenSoft old soft
+IsSettled same soft old new (Some decided) = Settles same soft old new decided

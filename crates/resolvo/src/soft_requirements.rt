@@ -1,15 +1,19 @@
-//! The turns of soft requirements. Each is recorded and, unless it is true already, assumed at the
-//! first level of its turn, before it is encoded. If it conflicts with the earlier choices, a
-//! learnt clause is the reason, and these choices are kept.
-ghost use Rattle.std.specs.Prelude.{◌≡◌, ◌<◌, false, length, Some, IfOk, IfErr, IfSome, OnOk, IsOkUnless};
+//! The turns of soft requirements. One that is true before its turn is recorded, and one that is
+//! false is refused. Any other is registered, recorded, and assumed at the first level of its turn,
+//! before it is encoded. If it conflicts with the earlier choices, a learnt clause is the reason,
+//! and these choices are kept.
+ghost use Rattle.std.specs.Prelude.{◌≡◌, ◌<◌, true, length, Some, IfOk, IfErr, IfSome, OnOk, IsOkUnless};
 ghost use Rattle.resolvo_pool.specs.Cached.{IsCancelledBy};
 ghost use Rattle.resolvo_pool_core.specs.declared.want.Want.TheVariants.{Memory};
 ghost use Rattle.resolvo_store_core.specs.AtMostOne.{IsPrefixOf};
-ghost use Rattle.resolvo_store_core.specs.Clauses.{yes};
+ghost use Rattle.resolvo_store_core.specs.Clauses.{yes, no};
 ghost use Rattle.resolvo_store_core.specs.Signed.{has};
 ghost use Rattle.resolvo_sat.specs.Entries.{made_true};
+ghost use Rattle.resolvo_sat.specs.Known.{IsUndecided};
 ghost use Rattle.resolvo_sat.specs.State.{history};
-ghost use Rattle.resolvo_encoder.specs.Base.{base_of, IsOpen, IsTried};
+ghost use Rattle.resolvo_state.specs.Atoms.{Represents};
+ghost use Rattle.resolvo_state.specs.declared.atom.ProofAtom.TheVariants.{Solvable};
+ghost use Rattle.resolvo_encoder.specs.Base.{base_of, IsOpen};
 ghost use Rattle.resolvo_encoder.specs.Encoded.{StaysEncoding};
 ghost use Rattle.resolvo_encoder.specs.Progress.{GoesOn};
 ghost use Rattle.resolvo_encoder.specs.Steps.{IsBuilt};
@@ -17,7 +21,7 @@ ghost use Rattle.resolvo_encoder.specs.SoftRequirement.{turn_of, IsSoft};
 ghost use Rattle.resolvo_turn.specs.Encoder.{AddsParents, StaysInOrderOf};
 ghost use Rattle.resolvo_turn.specs.Turn.{IsRooted, IsTurn};
 ghost use Rattle.resolvo.specs.Turns.{AreAt, RecordsOutcome, AreAtOrRefused};
-ghost use Rattle.resolvo.specs.SoftTurns.{AreTrueParents, IsClosed, IsOutcome, IsRefusable, IsRejected, KeepsRest, KeepsTrail};
+ghost use Rattle.resolvo.specs.SoftTurns.{AreTrueParents, IsClosed, IsOpenSoft, IsOutcome, IsRefusable, IsRejected, IsSettled, KeepsRest, KeepsTrail, Settles};
 ghost use Rattle.resolvo.specs.declared.soft_requirements.SoftOutcome.TheVariants.{Refused};
 ghost use Rattle.resolvo.specs.Results.{RunsSoft, RunsSofts};
 
@@ -29,6 +33,7 @@ use resolvo_pool_core::id::{ClauseId, Exact, VariableId};
 use resolvo_pool_core::id_map::ScoreMap;
 use resolvo_pool_core::want::R;
 use resolvo_sat::analyze::FinalConflict;
+use resolvo_state::atom::ProofAtom;
 use resolvo_store_core::literal::Literal;
 use resolvo_turn::turn::run_turn;
 use resolvo_turn::turn_input::TurnInput;
@@ -50,35 +55,30 @@ pub enum SoftOutcome {
     Unsat(FinalConflict),
 }
 
-/// Begins the turn of a recorded soft requirement that isn't true, and decides it. The conflict, if
-/// it is false.
+/// Begins the turn of a recorded soft requirement that is undecided, and decides it.
 fn open_turn<N: Copy + Exact + Hash + Debug, S: Copy + Exact + Hash + Debug>(
-    alloc: Global,
     encoding: &mut Encoder<N, S>,
     variable: VariableId,
-) -> R<Option<FinalConflict>>
+) -> R<()>
     requires built { IsBuilt encoding.old }
     requires soft { IsSoft encoding.old variable }
-    requires open { has (made_true (history encoding.old.coding.search)) (yes variable) ≡ false }
+    requires open { IsUndecided (made_true (history encoding.old.coding.search)) (yes variable) }
     // After an answer.
     ensures stays { OnOk result (StaysEncoding S.eq encoding.old encoding.new) }
     ensures goes_on { OnOk result (GoesOn (turn_of encoding.old) encoding.new) }
     ensures turn { OnOk result
         (IsOpen encoding.new variable
         × (base_of encoding.new ≡ history encoding.old.coding.search)) }
-    ensures tried { IfOk result (IsTried encoding.new variable) }
     ensures built { OnOk result (IsBuilt encoding.new) }
     // After a refusal.
     ensures refusal { IsOkUnless result Memory }
 {
     encoding.begin_turn();
-    // split for the prover: error and answer
-    let refusal = encoding.assume_soft(alloc, variable)?;
-    Ok(refusal)
+    encoding.choose_soft(variable)?;
+    Ok(())
 }
 
-/// The turn of a recorded soft requirement that isn't true. One that is false is refused, and isn't
-/// encoded. Keeps the earlier trail.
+/// The turn of a recorded soft requirement that is undecided. Keeps the earlier trail.
 fn run_open<A: PackageSource, C: ScoreMap<A::NameId>>(
     alloc: Global,
     answers: &mut A,
@@ -91,7 +91,7 @@ fn run_open<A: PackageSource, C: ScoreMap<A::NameId>>(
     requires built { IsBuilt encoding.old }
     requires rooted { IsRooted encoding.old }
     requires soft { IsSoft encoding.old variable }
-    requires open { has (made_true (history encoding.old.coding.search)) (yes variable) ≡ false }
+    requires open { IsUndecided (made_true (history encoding.old.coding.search)) (yes variable) }
     requires taken { AreTrueParents encoding.old }
     // Whatever the answer.
     ensures same { answers.new ≡ answers.old }
@@ -108,9 +108,7 @@ fn run_open<A: PackageSource, C: ScoreMap<A::NameId>>(
     // After a refusal.
     ensures cancelled { IfErr result (IsCancelledBy (A.may_cancel answers.old)) }
 {
-    if let Some(refusal) = open_turn(alloc, encoding, variable)? {
-        return Ok(Some(refusal));
-    }
+    open_turn(encoding, variable)?;
     encoding.add_parent(soft)?;
     // split for the prover: error and answer
     let refusal = run_turn(alloc, answers, encoding, state, input, Some(variable))?;
@@ -164,7 +162,100 @@ fn close_turn<N: Copy + Exact + Hash + Debug, S: Copy + Exact + Hash + Debug>(
     }
 }
 
-/// The turn of a soft requirement.
+/// The outcome of the turn of a soft requirement that is false before it. It is neither recorded
+/// nor encoded. A conflict without literals refutes the whole problem.
+fn refuse_denied<N: Copy + Exact + Hash + Debug, S: Copy + Exact + Hash + Debug>(
+    alloc: Global,
+    encoding: &mut Encoder<N, S>,
+    soft: S,
+    variable: VariableId,
+) -> R<SoftOutcome>
+    requires built { IsBuilt encoding.old }
+    requires present { Represents encoding.old.coding.atoms.keys variable (Solvable soft) }
+    requires denied { has (made_true (history encoding.old.coding.search)) (no variable) ≡ true }
+    // After an answer.
+    ensures settled { IfOk result (Settles S.eq soft encoding.old encoding.new) }
+    ensures built { OnOk result (IsBuilt encoding.new) }
+{
+    let refusal = encoding.refute(alloc, variable)?;
+    if refusal.literals.is_empty() {
+        return Ok(SoftOutcome::Unsat(refusal));
+    }
+    let clause = encoding.learn_refusal(refusal)?;
+    Ok(SoftOutcome::Refused(clause))
+}
+
+/// The outcome of the turn of a soft requirement that is true or false before it. Nothing is asked
+/// for, and no place of its package is taken.
+fn settle<N: Copy + Exact + Hash + Debug, S: Copy + Exact + Hash + Debug>(
+    alloc: Global,
+    encoding: &mut Encoder<N, S>,
+    soft: S,
+) -> R<Option<SoftOutcome>>
+    requires { IsBuilt encoding.old }
+    // After an answer.
+    ensures settled { IfOk result (IsSettled S.eq soft encoding.old encoding.new) }
+    ensures built { OnOk result (IsBuilt encoding.new) }
+{
+    let Some(variable) = encoding.coding.find(ProofAtom::Solvable(soft)) else {
+        return Ok(None);
+    };
+    if encoding
+        .coding
+        .search
+        .is_true(Literal::new(variable, false))
+    {
+        encoding.record_chosen(soft)?;
+        return Ok(Some(SoftOutcome::AlreadyChosen));
+    }
+    if !encoding.coding.search.is_true(Literal::new(variable, true)) {
+        return Ok(None);
+    }
+    let outcome = refuse_denied(alloc, encoding, soft, variable)?;
+    Ok(Some(outcome))
+}
+
+/// The turn of a soft requirement that is undecided.
+fn run_undecided<A: PackageSource, C: ScoreMap<A::NameId>>(
+    alloc: Global,
+    answers: &mut A,
+    encoding: &mut Encoder<A::NameId, A::SolvableId>,
+    state: &mut TurnState<A::NameId, C>,
+    input: &TurnInput<'_>,
+    soft: A::SolvableId,
+) -> Result<SoftOutcome, CacheFault<A::Cancel>>
+    requires built { IsBuilt encoding.old }
+    requires rooted { IsRooted encoding.old }
+    requires open { IsOpenSoft encoding.old soft }
+    requires taken { AreTrueParents encoding.old }
+    // Whatever the answer.
+    ensures same { answers.new ≡ answers.old }
+    // After an answer.
+    ensures stays { IfOk result
+        (RunsSoft A.SolvableId.eq A.PackageSource answers.old
+        input.now soft encoding.old encoding.new) }
+    ensures outcome { IfOk result (IsOutcome A.SolvableId.eq soft encoding.old encoding.new) }
+    ensures keeps { OnOk result (KeepsTrail encoding.old encoding.new) }
+    ensures built { OnOk result (IsBuilt encoding.new) }
+    // After a refusal.
+    ensures cancelled { IfErr result (IsCancelledBy (A.may_cancel answers.old)) }
+{
+    let name = answers.package(soft);
+    // its package's candidates are asked for, for the mark alone
+    let many = answers.is_many(name)?;
+    let offered = Offered {
+        solvable: soft,
+        name,
+    };
+    let variable = encoding.record_soft(offered, many)?;
+    let turn = run_open(alloc, answers, encoding, state, input, soft, variable)?;
+    // `?` converts the error
+    let status = close_turn(encoding, turn)?;
+    Ok(status)
+}
+
+/// The turn of a soft requirement. It begins with a look at its value: where it is decided already,
+/// the turn ends there.
 pub fn run_soft_requirement<A: PackageSource, C: ScoreMap<A::NameId>>(
     alloc: Global,
     answers: &mut A,
@@ -188,25 +279,12 @@ pub fn run_soft_requirement<A: PackageSource, C: ScoreMap<A::NameId>>(
     // After a refusal.
     ensures cancelled { IfErr result (IsCancelledBy (A.may_cancel answers.old)) }
 {
-    let name = answers.package(soft);
-    // its package's candidates are asked for, for the mark alone
-    let many = answers.is_many(name)?;
-    let offered = Offered {
-        solvable: soft,
-        name,
-    };
-    let variable = encoding.record_soft(offered, many)?;
-    if encoding
-        .coding
-        .search
-        .is_true(Literal::new(variable, false))
-    {
-        return Ok(SoftOutcome::AlreadyChosen);
+    if let Some(settled) = settle(alloc, encoding, soft)? {
+        return Ok(settled);
     }
-    let turn = run_open(alloc, answers, encoding, state, input, soft, variable)?;
-    // `?` converts the error
-    let status = close_turn(encoding, turn)?;
-    Ok(status)
+    // split for the prover: settled and undecided
+    let outcome = run_undecided(alloc, answers, encoding, state, input, soft)?;
+    Ok(outcome)
 }
 
 /// Records the outcome of a soft requirement's turn, after its choices. The conflict, if

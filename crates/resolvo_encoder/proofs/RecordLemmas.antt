@@ -5,18 +5,23 @@ use Rattle.std.proofs.lemmas.List.{length_push, same_from_push}
 use Rattle.std.specs.Prelude.{Contains, option_to_list, IsSome}
 use Rattle.resolvo_pool_core.specs.declared.id.VariableId.{VariableId}
 use Rattle.resolvo_pool_core.specs.OnePass.{Literal}
-use Rattle.resolvo_pool_core.specs.RuleKeeping.{Packages, Rules}
+use Rattle.resolvo_pool_core.specs.RuleKeeping.{Packages, Rules, meets}
+use Rattle.resolvo_pool_core.specs.declared.requirement.Requirement.{Requirement}
 use Rattle.resolvo_store_core.specs.Signed.{Signed, has}
 use Rattle.resolvo_store_core.specs.Clauses.{yes}
 use Rattle.resolvo_store_core.specs.declared.decision.Entry.{Entry}
 use Rattle.resolvo_store_core.specs.declared.lists.Candidate.{Candidate}
-use Rattle.resolvo_sat.specs.Entries.{literal_of, made_true, IsOnTrail}
-use Rattle.resolvo_sat.specs.State.{history}
+use Rattle.resolvo_sat.specs.Entries.{literal_of, reason_of, made_true, IsOnTrail, IsReasoned, IsTrail}
+use Rattle.resolvo_sat.specs.Known.{clause_at}
+use Rattle.resolvo_sat.specs.State.{count_of, history, clauses_of}
+use Rattle.resolvo_sat.proofs.Literals.{has-cons}
 use Rattle.resolvo_sat.proofs.Trails.{known_from_level, level_from_entry}
-use Rattle.resolvo_sat.specs.RuleClauses.{IsExact, Atom, plus}
-use Rattle.resolvo_sat.specs.Numbered.{meaning, known_of, AreCalledFor}
+use Rattle.resolvo_sat.specs.RuleClauses.{IsExact, Atom, Rule, plus}
+use Rattle.resolvo_sat.specs.SearchEnd.{HasClause, IsAsked}
+use Rattle.resolvo_sat.specs.Numbered.{meaning, known_of, AreCalledFor, Means}
 use Rattle.resolvo_sat.proofs.Lists.{contains_one, contains_left, contains_parts}
 use Rattle.resolvo_sat.proofs.Members.{in_contained, contained_in}
+use Rattle.resolvo_sat.proofs.Reached.{one_solvable}
 use Rattle.resolvo_packages.specs.declared.package_source.Offered.{Offered}
 use Rattle.resolvo_state.specs.declared.atom.ProofAtom.TheVariants.{Solvable}
 use Rattle.resolvo_state.specs.declared.solver_state.SolverState.{SolverState}
@@ -24,14 +29,15 @@ use Rattle.resolvo_state.specs.SolverState.{Grows, SameTrail}
 use Rattle.resolvo_state.specs.declared.registry.Registry.{Registry}
 use Rattle.resolvo_state.specs.Atoms.{origin, Represents}
 use Rattle.resolvo_state.specs.Registered.{IsTracked, Registers}
-use Rattle.resolvo_state.proofs.Origins.{means_solvable}
+use Rattle.resolvo_state.proofs.Origins.{means_solvable, solvable_means}
 use Rattle.resolvo_encoder.specs.declared.encoder.Encoder.{Encoder}
-use Rattle.resolvo_encoder.specs.Encoded.{IsChosenFor, IsEncoding, Registered}
+use Rattle.resolvo_encoder.specs.Encoded.{rules_of, IsChosenFor, IsEncoding, Registered}
 use Rattle.resolvo_encoder.proofs.CarryLemmas.{registers_none, registers_more}
+use Rattle.resolvo_encoder.proofs.DecideLemmas.{choices_called}
 use Rattle.resolvo_encoder.proofs.EnrollLemmas.{enrolled, enrols}
 use Rattle.resolvo_encoder.proofs.EncodesLemmas.{built_recorded}
 use Rattle.resolvo_encoder.specs.Steps.{IsBuilt, IsAddable, MarksPackage}
-use Rattle.resolvo_encoder.specs.SoftRequirement.{RegistersSoft, RecordsSoft, IsUntaken, TakesBack}
+use Rattle.resolvo_encoder.specs.SoftRequirement.{IsTrue, RecordsChosen, RegistersSoft, RecordsSoft, IsUntaken, TakesBack}
 
 -- the encoding with other soft requirements
 abbrev pub with_softs : {N S : Type 0} → Encoder N S → Vec S Global → Encoder N S
@@ -128,6 +134,50 @@ module _ {N S : Type 0} (same : S → S → Bool) (exact : IsExact same) where
     where
       coding : marked.coding ≡ old.coding
       coding = ap (λ (x : Encoder N S). x.coding) marks.rest
+
+  -- ---- a soft requirement that is true is recorded
+
+  -- what the trail makes true is registered
+  made_registered : (p : Packages N S) (root : Rules) (e : Encoder N S) → IsEncoding same p root e → (l : Signed) (s : S) → Means (origin e.coding.atoms.keys) l (plus (Atom.solvable s))
+      → (h : List Entry) → IsTrail (count_of e.coding.search) (clauses_of e.coding.search) h → ((x : Entry) (older : List Entry) → IsOnTrail h x older → IsOnTrail (history e.coding.search) x older)
+      → has (made_true h) l ≡ true → Registered same p root e s
+  made_registered p root e holds l s means [] t on known = absurd (both_ways false refl known)
+  made_registered p root e holds l s means (x ∷ older) t on known = elim (has-cons (literal_of x) (made_true older) l known) [
+    | inl is ↦ newest is t.0.reasoned
+    | inr later ↦ made_registered p root e holds l s means older t.1 (λ y o at. on y o (inr at)) later
+  ]
+    where
+      rules : Rule N S → Type 0
+      rules = rules_of e
+
+      is_candidate : (r : Requirement) → HasClause same p rules r → meets same p r s ≡ true → Registered same p root e s
+      is_candidate r asked fits = (let (c, there, is) = holds.offered r s (holds.fixed r asked) fits in (c.literal.variable, is.present, is.tracked))
+
+      asked_clause : (known : List (Literal (Atom N S))) (r : Requirement) → IsAsked same p rules known r → HasClause same p rules r
+      asked_clause known r (inl k) = inl (k.parent, k.need, k.case, k.present, k.asks)
+      asked_clause known r (inr k) = inr k.present
+
+      named : literal_of x ≡ l → (t : S) → meaning (origin e.coding.atoms.keys) (literal_of x) ≡ plus (Atom.solvable t) → t ≡ s
+      named is t states = one_solvable same exact p root rules (Registered same p root e) (meaning (origin e.coding.atoms.keys) (literal_of x)) s t (means.1 ∙ ap (meaning (origin e.coding.atoms.keys)) (sym is)) states
+
+      newest : literal_of x ≡ l → IsReasoned (clauses_of e.coding.search) x older → Registered same p root e s
+      newest is (inr forced) = holds.positive (reason_of x) l s (subst (λ (m : Signed). has (clause_at (clauses_of e.coding.search) (reason_of x)) m ≡ true) is forced.forced.present) means
+      newest is (inl choice) = elim (choices_called same p root e exact holds x older (on x older (inl (refl, refl))) choice (subst (λ (m : Signed). 0 < m.variable.0) (sym is) means.0)) [
+        | inl soft ↦ subst (Registered same p root e) (named is soft.solvable soft.is) (holds.wished soft.solvable (in_contained same exact p e.recorded.softs.items soft.solvable soft.wished))
+        | inr pick ↦ is_candidate pick.requirement (asked_clause _ pick.requirement pick.asked) (subst (λ (t : S). meets same p pick.requirement t ≡ true) (named is pick.solvable pick.is) pick.offered)
+      ]
+
+  true_registered : (p : Packages N S) (root : Rules) (e : Encoder N S) → IsEncoding same p root e → (s : S) → IsTrue e s → Registered same p root e s
+  true_registered p root e holds s (u, present, known) =
+      made_registered p root e holds (yes u) s (solvable_means e.coding.atoms.keys (yes u) s refl present) (history e.coding.search) holds.coding.ready.state.trail (λ x older on. on) known
+
+  pub chosen_recorded : (soft : S) (old : Encoder N S) (ws : Vec S Global) → IsBuilt old → IsTrue old soft → ws.items ≡ old.recorded.softs.items ++ soft ∷ [] → RecordsChosen same soft old (with_softs old ws)
+  chosen_recorded soft old ws built chosen more = record {
+    built = built_recorded old (record old.recorded { softs = ws }) built;
+    softs = more;
+    rest = refl;
+    encoding = λ p root lawful e. soft_more p root old ws soft more (true_registered p root old e soft chosen) e;
+  }
 
   -- ---- the last soft requirement is removed
 

@@ -1,5 +1,5 @@
 -- The begin of a soft requirement's turn, and the record of soft requirements.
-use Rattle.std.specs.Prelude.{◌++◌, ◌∷◌, [], List, Bool, ◌≡◌, ◌+◌, false, Contains}
+use Rattle.std.specs.Prelude.{◌++◌, ◌∷◌, [], List, Bool, ◌≡◌, ◌+◌, true, false, Contains}
 use Rattle.resolvo_pool_core.specs.declared.id.VariableId.{VariableId}
 use Rattle.resolvo_pool_core.specs.RuleKeeping.{Packages, Rules, IsLawful, is_many}
 use Rattle.resolvo_store_core.specs.Clauses.{yes}
@@ -48,6 +48,17 @@ pub record RecordsSoft {N S : Type 0} (same : S → S → Bool) (one : Offered N
   pub deferred : new.deferred ≡ old.deferred
   pub fired : new.fired ≡ old.fired
   pub encoding : (p : Packages N S) (root : Rules) → IsLawful p → IsEncoding same p root old → IsListed same p one → many ≡ is_many p one.name → IsEncoding same p root new
+
+-- the solvable is true on the trail
+abbrev pub IsTrue : {N S : Type 0} → Encoder N S → S → Type 0
+IsTrue e s = (u : VariableId) × Represents e.coding.atoms.keys u (Solvable s) × (has (made_true (history e.coding.search)) (yes u) ≡ true)
+
+-- The soft requirement, which is true, is recorded behind the others, and nothing else changed.
+pub record RecordsChosen {N S : Type 0} (same : S → S → Bool) (soft : S) (old new : Encoder N S) : Type 0 where
+  pub built : IsBuilt new
+  pub softs : new.recorded.softs.items ≡ old.recorded.softs.items ++ soft ∷ []
+  pub rest : new ≡ record old { recorded = record old.recorded { softs = new.recorded.softs } }
+  pub encoding : (p : Packages N S) (root : Rules) → IsLawful p → IsEncoding same p root old → IsEncoding same p root new
 
 -- there is a last soft requirement, and it isn't chosen
 abbrev pub IsUntaken : {N S : Type 0} → Encoder N S → Type 0

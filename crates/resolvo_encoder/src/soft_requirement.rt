@@ -1,15 +1,18 @@
 //! The turn of a soft requirement. It is decided at the turn's first level, or a clause denies it
 //! that explains its conflict with earlier turns.
-ghost use Rattle.std.specs.Prelude.{◌≡◌, ◌<◌, length, Some, IfOk, OnOk, IsErrOf, IsOkUnless};
+ghost use Rattle.std.specs.Prelude.{◌≡◌, ◌<◌, true, length, None, Some, IfOk, OnOk, IsErrOf, IsOkUnless};
 ghost use Rattle.resolvo_pool_core.specs.declared.want.Want.TheVariants.{Memory, Ids};
 ghost use Rattle.resolvo_sat.specs.Analysis.{IsDenial};
-ghost use Rattle.resolvo_sat.specs.Entries.{top_level};
+ghost use Rattle.resolvo_store_core.specs.Clauses.{yes, no};
+ghost use Rattle.resolvo_store_core.specs.Signed.{has};
+ghost use Rattle.resolvo_sat.specs.Entries.{made_true, top_level};
+ghost use Rattle.resolvo_sat.specs.Known.{IsUndecided};
 ghost use Rattle.resolvo_sat.specs.State.{history};
 ghost use Rattle.resolvo_state.specs.SolverState.{AddsDenial, LacksNumber};
 ghost use Rattle.resolvo_encoder.specs.Encoded.{StaysEncoding};
 ghost use Rattle.resolvo_encoder.specs.Steps.{IsBuilt};
 ghost use Rattle.resolvo_encoder.specs.Progress.{GoesOn};
-ghost use Rattle.resolvo_encoder.specs.SoftRequirement.{turn_of, RecordsSoft, IsUntaken, TakesBack};
+ghost use Rattle.resolvo_encoder.specs.SoftRequirement.{turn_of, IsTrue, RecordsChosen, RecordsSoft, IsUntaken, TakesBack};
 ghost use Rattle.resolvo_encoder.specs.Base.{HasTurn, IsTried, KeepsTurn, KeepsTurns};
 
 use crate::encoder::Encoder;
@@ -75,8 +78,44 @@ impl<N: Copy + Exact + Hash + Debug + Drop, S: Copy + Exact + Hash + Debug> Enco
         if let Some(refusal) = self.coding.search.analyze_final(alloc, variable)? {
             return Ok(Some(refusal));
         }
-        self.coding.choose(variable, ClauseId(0))?;
+        self.choose_soft(variable)?;
         Ok(None)
+    }
+
+    /// Decides an undecided soft requirement at the first level of its turn.
+    pub fn choose_soft(&mut self, variable: VariableId) -> R<()>
+        requires built { IsBuilt self.old }
+        requires above { top_level (history self.old.coding.search) < self.old.coding.search.base_level }
+        requires turn { HasTurn (Some variable) self.old }
+        requires undecided { IsUndecided (made_true (history self.old.coding.search)) (yes variable) }
+        // After an answer.
+        ensures stays { OnOk result (StaysEncoding S.eq self.old self.new) }
+        ensures goes_on { OnOk result (GoesOn self.old self.new) }
+        ensures built { OnOk result (IsBuilt self.new) }
+        ensures turn { OnOk result (KeepsTurn (Some variable) self.old self.new) }
+        ensures tried { OnOk result (IsTried self.new variable None) }
+        // After a refusal.
+        ensures refusal { IsOkUnless result Memory }
+    {
+        self.coding.choose(variable, ClauseId(0))?;
+        Ok(())
+    }
+
+    /// Begins the turn of a soft requirement that is false, and returns the final conflict.
+    pub fn refute(&mut self, alloc: Global, variable: VariableId) -> R<FinalConflict>
+        requires built { IsBuilt self.old }
+        requires denied { has (made_true (history self.old.coding.search)) (no variable) ≡ true }
+        ensures begun { self.new ≡ turn_of self.old }
+        ensures stays { StaysEncoding S.eq self.old self.new }
+        ensures built { IsBuilt self.new }
+        ensures tried { IfOk result (λ refusal. IsTried self.new variable (Some refusal)) }
+        ensures refusal { IsOkUnless result Memory }
+    {
+        self.begin_turn();
+        match self.coding.search.analyze_final(alloc, variable)? {
+            Some(refusal) => Ok(refusal),
+            None => unreachable!(),
+        }
     }
 
     /// Adds the clause of a final conflict.
@@ -112,6 +151,17 @@ impl<N: Copy + Exact + Hash + Debug + Drop, S: Copy + Exact + Hash + Debug> Enco
         let variable = self.register_soft(soft)?;
         self.recorded.softs.push(soft.solvable)?;
         Ok(variable)
+    }
+
+    /// Records a soft requirement that is true as the last one.
+    pub fn record_chosen(&mut self, soft: S) -> R<()>
+        requires built { IsBuilt self.old }
+        requires chosen { IsTrue self.old soft }
+        ensures recorded { OnOk result (RecordsChosen S.eq soft self.old self.new) }
+        ensures refusal { IsOkUnless result Memory }
+    {
+        self.recorded.softs.push(soft)?;
+        Ok(())
     }
 
     /// Removes the last soft requirement, which isn't chosen.

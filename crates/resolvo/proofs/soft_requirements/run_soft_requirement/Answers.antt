@@ -1,81 +1,61 @@
-use Rattle.std.proofs.Common.{◌≡◌, Bool, true, false, sym, ◌∙◌, subst}
-use Rattle.resolvo_pool_core.specs.Provider.{listed}
-use Rattle.resolvo_pool_core.specs.RuleKeeping.{Packages, is_in}
-use Rattle.resolvo_store_core.specs.Signed.{Signed, has}
-use Rattle.resolvo_sat.specs.Entries.{made_true}
-use Rattle.resolvo_sat.specs.State.{history}
-use Rattle.resolvo_packages.specs.declared.package_source.Offered.{Offered}
-use Rattle.resolvo_sat.specs.RuleClauses.{IsExact}
-use Rattle.resolvo_encoder.specs.Steps.{IsListed}
-use Rattle.resolvo.specs.SoftTurns.{IsCandidate}
-use Rattle.resolvo_turn.specs.Encoder.{StaysInOrderOf}
-use Rattle.resolvo.proofs.Outcomes.{registered_in_order, registered_keeps, registered_true, registered_soft, registered_taken, closed_in_order, closed_keeps, closed_outcome, closed_right, turn_closable}
+use Rattle.std.proofs.Common.{Option, Some, None, sym, subst}
+use Rattle.resolvo_encoder.specs.declared.encoder.Encoder.{Encoder}
+use Rattle.resolvo_encoder.specs.Steps.{IsBuilt}
+use Rattle.resolvo_turn.specs.Turn.{IsRooted}
+use Rattle.resolvo.specs.Results.{RunsSoft}
+use Rattle.resolvo.specs.SoftTurns.{AreTrueParents, IsOpenSoft, IsOutcome, IsSettled, KeepsTrail}
+use Rattle.resolvo.specs.declared.soft_requirements.SoftOutcome.{SoftOutcome}
+use Rattle.resolvo.proofs.Outcomes.{settled_order}
 use Rattle.resolvo.proofs.soft_requirements.run_soft_requirement.Goals as goal
 
--- the offered solvable is a candidate of its package
-candidate_listed : {N S : Type 0} (same : S → S → Bool) (p : Packages N S) (s : S) (name : N) → name ≡ p.package_of s → IsCandidate same p s → IsListed same p (record { solvable = s; name = name })
-candidate_listed {N} same p s name is candidate = (is, subst (λ (n : N). is_in same p (listed (p.candidates_of n)) s ≡ true) (sym is) candidate)
+-- ---- where it is settled
 
-pub returns-then-is_true-clause-stays : goal.returns-then-is_true-clause-stays
-returns-then-is_true-clause-stays g c = λ root is candidate e.
-    let same = g.A.SolvableId.PartialEq.eq in
-    let p = g.A.PackageSource.packages c.args.answers.now in (
-      registered_in_order same c.args.encoding.now c.record_soft.new.self (record { solvable = c.args.soft; name = c.package-name.result }) c.in_ok-many.many c.in_ok-variable.variable c.in_ok-variable.ensures.recorded p (g.A.PackageSource.orders c.args.answers.now) root (g.met.A.PackageSource.lawful c.args.answers.now)
-          (candidate_listed same p c.args.soft c.package-name.result c.package-name.ensures candidate) c.in_ok-many.ensures.mark e,
-      tt,
+pub returns-in-Some-clause-stays : goal.returns-in-Some-clause-stays
+returns-in-Some-clause-stays g c = λ root is candidate e.
+    let settled = subst (λ (o : Option SoftOutcome). IsSettled g.A.SolvableId.PartialEq.eq c.args.soft c.args.encoding.now c.settle.new.encoding o) c.in-Some.is c.in_ok-settled.ensures.settled in
+    let (holds, justified) = settled.right (g.A.PackageSource.packages c.args.answers.now) root (g.met.A.PackageSource.lawful c.args.answers.now) e.encoding in (
+      record { encoding = holds; ordered = settled_order g.A.SolvableId.PartialEq.eq c.args.encoding.now c.settle.new.encoding c.args.soft c.in-Some.settled settled (g.A.PackageSource.orders c.args.answers.now) e.ordered },
+      justified,
     )
 
-pub returns-then-is_true-clause-outcome : goal.returns-then-is_true-clause-outcome
-returns-then-is_true-clause-outcome g c =
-    registered_true g.A.SolvableId.PartialEq.eq c.args.encoding.now c.record_soft.new.self (record { solvable = c.args.soft; name = c.package-name.result }) c.in_ok-many.many c.in_ok-variable.variable c.in_ok-variable.ensures.recorded
-    (subst (λ (l : Signed). has (made_true (history c.record_soft.new.self.coding.search)) l ≡ true) c.new.ensures (sym c.is_true.ensures ∙ c.if-is_true.true))
+pub returns-in-Some-clause-outcome : goal.returns-in-Some-clause-outcome
+returns-in-Some-clause-outcome g c =
+    let settled = subst (λ (o : Option SoftOutcome). IsSettled g.A.SolvableId.PartialEq.eq c.args.soft c.args.encoding.now c.settle.new.encoding o) c.in-Some.is c.in_ok-settled.ensures.settled in
+    settled.outcome
 
-pub returns-then-is_true-clause-keeps : goal.returns-then-is_true-clause-keeps
-returns-then-is_true-clause-keeps g c =
-    registered_keeps g.A.SolvableId.PartialEq.eq c.args.encoding.now c.record_soft.new.self (record { solvable = c.args.soft; name = c.package-name.result }) c.in_ok-many.many c.in_ok-variable.variable c.in_ok-variable.ensures.recorded
+pub returns-in-Some-clause-keeps : goal.returns-in-Some-clause-keeps
+returns-in-Some-clause-keeps g c =
+    let settled = subst (λ (o : Option SoftOutcome). IsSettled g.A.SolvableId.PartialEq.eq c.args.soft c.args.encoding.now c.settle.new.encoding o) c.in-Some.is c.in_ok-settled.ensures.settled in
+    settled.keeps
 
-pub run_open-requires-clause-soft : goal.run_open-requires-clause-soft
-run_open-requires-clause-soft g c = registered_soft g.A.SolvableId.PartialEq.eq c.args.encoding.now c.record_soft.new.self (record { solvable = c.args.soft; name = c.package-name.result }) c.in_ok-many.many c.in_ok-variable.variable c.in_ok-variable.ensures.recorded
+-- ---- where it is undecided
 
-pub run_open-requires-clause-open : goal.run_open-requires-clause-open
-run_open-requires-clause-open g c = subst (λ (l : Signed). has (made_true (history c.record_soft.new.self.coding.search)) l ≡ false) c.new.ensures (sym c.is_true.ensures ∙ c.if-is_true.false)
+pub run_undecided-requires-clause-rooted : goal.run_undecided-requires-clause-rooted
+run_undecided-requires-clause-rooted g c =
+    let undecided = subst (λ (o : Option SoftOutcome). IsSettled g.A.SolvableId.PartialEq.eq c.args.soft c.args.encoding.now c.settle.new.encoding o) c.in_default.is c.in_ok-settled.ensures.settled in
+    subst (λ (x : Encoder _ _). IsRooted x) (sym undecided.0) c.requires.rooted
 
-pub run_open-requires-clause-taken : goal.run_open-requires-clause-taken
-run_open-requires-clause-taken g c =
-    registered_taken g.A.SolvableId.PartialEq.eq c.args.encoding.now c.record_soft.new.self (record { solvable = c.args.soft; name = c.package-name.result }) c.in_ok-many.many c.in_ok-variable.variable c.in_ok-variable.ensures.recorded c.requires.built.coding c.requires.taken
+pub run_undecided-requires-clause-open : goal.run_undecided-requires-clause-open
+run_undecided-requires-clause-open g c =
+    let undecided = subst (λ (o : Option SoftOutcome). IsSettled g.A.SolvableId.PartialEq.eq c.args.soft c.args.encoding.now c.settle.new.encoding o) c.in_default.is c.in_ok-settled.ensures.settled in
+    subst (λ (x : Encoder _ _). IsOpenSoft x c.args.soft) (sym undecided.0) undecided.1
 
-pub close_turn-requires-clause-refused : goal.close_turn-requires-clause-refused
-close_turn-requires-clause-refused g c =
-    let same = g.A.SolvableId.PartialEq.eq in
-    let (o, base) = c.in_ok-turn.ensures.turn in
-    turn_closable same c.args.encoding.now c.record_soft.new.self (record { solvable = c.args.soft; name = c.package-name.result }) c.in_ok-many.many c.in_ok-variable.variable c.in_ok-variable.ensures.recorded c.run_open.new.encoding c.in_ok-turn.ensures.adds o base c.in_ok-turn.turn c.in_ok-turn.ensures.ended
+pub run_undecided-requires-clause-taken : goal.run_undecided-requires-clause-taken
+run_undecided-requires-clause-taken g c =
+    let undecided = subst (λ (o : Option SoftOutcome). IsSettled g.A.SolvableId.PartialEq.eq c.args.soft c.args.encoding.now c.settle.new.encoding o) c.in_default.is c.in_ok-settled.ensures.settled in
+    subst (λ (x : Encoder _ _). AreTrueParents x) (sym undecided.0) c.requires.taken
 
 pub returns-clause-stays : goal.returns-clause-stays
-returns-clause-stays g c = λ root is candidate e.
-    let same = g.A.SolvableId.PartialEq.eq in
-    let exact : IsExact same = record { one = g.met.A.SolvableId.Exact.exact; own = g.met.A.SolvableId.Eq.laws.refl } in
-    let names : IsExact g.A.NameId.PartialEq.eq = record { one = g.met.A.NameId.Exact.exact; own = g.met.A.NameId.Eq.laws.refl } in
-    let p = g.A.PackageSource.packages c.args.answers.now in
-    let orders = g.A.PackageSource.orders c.args.answers.now in
-    let lawful = g.met.A.PackageSource.lawful c.args.answers.now in
-    let offered : Offered g.row.A-NameId.Denot g.row.A-SolvableId.Denot = record { solvable = c.args.soft; name = c.package-name.result } in
-    let (o, base) = c.in_ok-turn.ensures.turn in
-    let stays = subst (λ (a : g.row.A.Denot). StaysInOrderOf same g.A.PackageSource a c.args.input.now.requirements.now c.args.input.now.constraints.now c.record_soft.new.self c.run_open.new.encoding) c.in_ok-many.ensures.same c.in_ok-turn.ensures.stays in
-    let order = stays root is (registered_in_order same c.args.encoding.now c.record_soft.new.self offered c.in_ok-many.many c.in_ok-variable.variable c.in_ok-variable.ensures.recorded p orders root lawful (candidate_listed same p c.args.soft c.package-name.result c.package-name.ensures candidate) c.in_ok-many.ensures.mark e) in (
-      closed_in_order same c.args.encoding.now c.record_soft.new.self offered c.in_ok-many.many c.in_ok-variable.variable c.in_ok-variable.ensures.recorded c.run_open.new.encoding c.in_ok-turn.ensures.adds o base c.close_turn.new.encoding c.in_ok-status.ensures.rest p orders root (c.in_ok-status.ensures.stays p root lawful) order,
-      closed_right same c.args.encoding.now c.record_soft.new.self offered c.in_ok-many.many c.in_ok-variable.variable c.in_ok-variable.ensures.recorded c.run_open.new.encoding c.in_ok-turn.ensures.adds o base c.close_turn.new.encoding c.in_ok-status.ensures.rest c.in_ok-turn.turn c.in_ok-turn.ensures.ended c.requires.built.coding exact g.A.NameId.PartialEq.eq names p root order.encoding
-          c.in_ok-status.status c.in_ok-status.ensures.closed,
-    )
+returns-clause-stays g c =
+    let undecided = subst (λ (o : Option SoftOutcome). IsSettled g.A.SolvableId.PartialEq.eq c.args.soft c.args.encoding.now c.settle.new.encoding o) c.in_default.is c.in_ok-settled.ensures.settled in
+    subst (λ (x : Encoder _ _). RunsSoft g.A.SolvableId.PartialEq.eq g.A.PackageSource c.args.answers.now c.args.input.now c.args.soft x c.run_undecided.new.encoding c.in_ok-outcome.outcome) undecided.0 c.in_ok-outcome.ensures.stays
 
 pub returns-clause-outcome : goal.returns-clause-outcome
 returns-clause-outcome g c =
-    let same = g.A.SolvableId.PartialEq.eq in
-    let (o, base) = c.in_ok-turn.ensures.turn in
-    closed_outcome same c.args.encoding.now c.record_soft.new.self (record { solvable = c.args.soft; name = c.package-name.result }) c.in_ok-many.many c.in_ok-variable.variable c.in_ok-variable.ensures.recorded c.run_open.new.encoding c.in_ok-turn.ensures.adds o base c.close_turn.new.encoding c.in_ok-status.ensures.rest c.in_ok-turn.turn c.in_ok-turn.ensures.ended c.in_ok-status.ensures.built
-    (subst (λ (l : Signed). has (made_true (history c.record_soft.new.self.coding.search)) l ≡ false) c.new.ensures (sym c.is_true.ensures ∙ c.if-is_true.false)) c.in_ok-status.status c.in_ok-status.ensures.closed
+    let undecided = subst (λ (o : Option SoftOutcome). IsSettled g.A.SolvableId.PartialEq.eq c.args.soft c.args.encoding.now c.settle.new.encoding o) c.in_default.is c.in_ok-settled.ensures.settled in
+    subst (λ (x : Encoder _ _). IsOutcome g.A.SolvableId.PartialEq.eq c.args.soft x c.run_undecided.new.encoding c.in_ok-outcome.outcome) undecided.0 c.in_ok-outcome.ensures.outcome
 
 pub returns-clause-keeps : goal.returns-clause-keeps
 returns-clause-keeps g c =
-    let same = g.A.SolvableId.PartialEq.eq in
-    let (o, base) = c.in_ok-turn.ensures.turn in
-    closed_keeps same c.args.encoding.now c.record_soft.new.self (record { solvable = c.args.soft; name = c.package-name.result }) c.in_ok-many.many c.in_ok-variable.variable c.in_ok-variable.ensures.recorded c.run_open.new.encoding c.in_ok-turn.ensures.adds o base c.close_turn.new.encoding c.in_ok-status.ensures.rest c.in_ok-turn.turn c.in_ok-turn.ensures.ended c.in_ok-status.status c.in_ok-status.ensures.closed
+    let undecided = subst (λ (o : Option SoftOutcome). IsSettled g.A.SolvableId.PartialEq.eq c.args.soft c.args.encoding.now c.settle.new.encoding o) c.in_default.is c.in_ok-settled.ensures.settled in
+    subst (λ (x : Encoder _ _). KeepsTrail x c.run_undecided.new.encoding) undecided.0 c.in_ok-outcome.ensures.keeps
