@@ -1,6 +1,7 @@
 -- The turns of soft requirements.
-use Rattle.std.proofs.Common.{◌≡◌, suc, ◌<◌, ◌≤◌, inl, inr, Bool, true, false, List, [], length, Some, HashSet, BuildHasherDefault, FoldHasher, refl, sym, ◌∙◌, ap, subst, arith}
+use Rattle.std.proofs.Common.{◌≡◌, suc, ◌<◌, ◌≤◌, inl, inr, Bool, true, false, List, [], length, Some, HashSet, refl, sym, ◌∙◌, ap, subst, arith}
 use Rattle.std.specs.Prelude.{not, Contains}
+use Rattle.resolvo_pool_core.specs.Ordered.{Ordered}
 use Rattle.resolvo_pool_core.specs.declared.id.VariableId.{VariableId}
 use Rattle.resolvo_pool_core.specs.declared.requirement.Requirement.{Requirement}
 use Rattle.resolvo_pool_core.specs.declared.solver_id.SolvableIdOrRoot.TheVariants as Place
@@ -61,7 +62,7 @@ module _ {N S : Type 0} (e opened first : Encoder N S) (goes : GoesOn (turn_of e
   -- what was true before it is among the parents
   pub opened_taken : AreTrueParents e → base_of first ≡ history e.coding.search → AreTakenParents first
   opened_taken parents base s (u, represents, truth) =
-      let atoms : first.coding.atoms.keys ≡ e.coding.atoms.keys = ap (λ (x : SolverState N S). x.atoms.keys) (parents_coding opened first added) ∙ ap (λ (a : HashSet (ProofAtom N S) (BuildHasherDefault FoldHasher)). a.keys) goes.atoms in
+      let atoms : first.coding.atoms.keys ≡ e.coding.atoms.keys = ap (λ (x : SolverState N S). x.atoms.keys) (parents_coding opened first added) ∙ ap (λ (a : Ordered (ProofAtom N S)). a.keys) goes.atoms in
       let before : Contains e.parents.keys (Place.Solvable s) = parents s (u, subst (λ (xs : List (ProofAtom N S)). Represents xs u (Solvable s)) atoms represents, subst (λ (h : List Entry). has (made_true h) (yes u) ≡ true) base truth) in
       contains_longer opened.parents.keys first.parents.keys (Place.Solvable s) added.prefix (subst (λ (ks : HashSet _ _). Contains ks.keys (Place.Solvable s)) (sym goes.rest.parents) before)
 

@@ -1,5 +1,6 @@
 -- The invariant of the encoding is kept by the search.
-use Rattle.std.proofs.Common.{◌≡◌, ℕ, ◌+◌, ◌*◌, ◌-◌, ◌^◌, ◌<◌, ◌≤◌, inl, inr, Bool, true, List, [], ◌∷◌, ◌++◌, length, Some, None, Vec, Global, HashSet, BuildHasherDefault, FoldHasher, refl, sym, ◌∙◌, ap, subst, arith, reverse}
+use Rattle.std.proofs.Common.{◌≡◌, ℕ, ◌+◌, ◌*◌, ◌-◌, ◌^◌, ◌<◌, ◌≤◌, inl, inr, Bool, true, List, [], ◌∷◌, ◌++◌, length, Some, None, Vec, Global, refl, sym, ◌∙◌, ap, subst, arith, reverse}
+use Rattle.resolvo_pool_core.specs.Ordered.{Ordered}
 use Rattle.resolvo_sat.specs.Analysis.{AreFromClauses}
 use Rattle.std.specs.Prelude.{slice_get, Contains}
 use Rattle.std.proofs.lemmas.List.{length-append}
@@ -104,13 +105,13 @@ module _ {N S : Type 0} (same : S → S → Bool) (exact : IsExact same) (p : Pa
   }
     where
       registered_still : (s : S) → Registered same p root old s → Registered same p root new s
-      registered_still s (v, present, there) = (v, subst (λ (a : HashSet (ProofAtom N S) (BuildHasherDefault FoldHasher)). Represents a.keys v (Solvable s)) (sym goes.atoms) present, subst (λ (t : Registry N). IsTracked t (p.package_of s) v) (sym goes.rest.registry) there)
+      registered_still s (v, present, there) = (v, subst (λ (a : Ordered (ProofAtom N S)). Represents a.keys v (Solvable s)) (sym goes.atoms) present, subst (λ (t : Registry N). IsTracked t (p.package_of s) v) (sym goes.rest.registry) there)
 
       tracked : (m : N) (u : VariableId) → IsTracked old.registry m u → IsTracked new.registry m u
       tracked m u h = subst (λ (t : Registry N). IsTracked t m u) (sym goes.rest.registry) h
 
       registered_back : (n : N) (s : S) → IsRegistered new.registry new.coding n s → IsRegistered old.registry old.coding n s
-      registered_back n s (v, present, there) = (v, subst (λ (a : HashSet (ProofAtom N S) (BuildHasherDefault FoldHasher)). Represents a.keys v (Solvable s)) goes.atoms present, subst (λ (t : Registry N). IsTracked t n v) goes.rest.registry there)
+      registered_back n s (v, present, there) = (v, subst (λ (a : Ordered (ProofAtom N S)). Represents a.keys v (Solvable s)) goes.atoms present, subst (λ (t : Registry N). IsTracked t n v) goes.rest.registry there)
 
       rule_back : (r : Rule N S) → E.rules_of new r → E.rules_of old r
       rule_back r present = elim (rules_split old.coding new.coding e.coding goes.coding goes.grows r present) [
@@ -124,7 +125,7 @@ module _ {N S : Type 0} (same : S → S → Bool) (exact : IsExact same) (p : Pa
 
   -- registered solvables are the same where only learnt clauses were added
   registered_on : (old new : Encoder N S) → GoesOn old new → (s : S) → Registered same p root old s → Registered same p root new s
-  registered_on old new goes s (v, present, there) = (v, subst (λ (a : HashSet (ProofAtom N S) (BuildHasherDefault FoldHasher)). Represents a.keys v (Solvable s)) (sym goes.atoms) present, subst (λ (t : Registry N). IsTracked t (p.package_of s) v) (sym goes.rest.registry) there)
+  registered_on old new goes s (v, present, there) = (v, subst (λ (a : Ordered (ProofAtom N S)). Represents a.keys v (Solvable s)) (sym goes.atoms) present, subst (λ (t : Registry N). IsTracked t (p.package_of s) v) (sym goes.rest.registry) there)
 
   -- so are the solvables of positive literals, where each literal of an added clause is in an
   -- earlier one
@@ -133,7 +134,7 @@ module _ {N S : Type 0} (same : S → S → Bool) (exact : IsExact same) (p : Pa
       → AreRegistered (Registered same p root new) new.coding
   positive_on old new e goes from = registered_grows (Registered same p root old) (Registered same p root new) old.coding new.coding e.coding goes.coding goes.grows (registered_on old new goes) e.positive
       (λ n l s low high h means. (let (k, present) = from n l low high h in
-      registered_on old new goes s (e.positive k l s present (subst (λ (a : HashSet (ProofAtom N S) (BuildHasherDefault FoldHasher)). Means (origin a.keys) l (plus (Atom.solvable s))) goes.atoms means))))
+      registered_on old new goes s (e.positive k l s present (subst (λ (a : Ordered (ProofAtom N S)). Means (origin a.keys) l (plus (Atom.solvable s))) goes.atoms means))))
 
 -- ---- a step of the search
 
@@ -200,7 +201,7 @@ module _ {N S : Type 0} (old : Encoder N S) (c : SolverState N S) where
     atoms = kept.atoms;
     variables = kept.variables;
     grows = record {
-      atoms = prefix_equal old.coding.atoms.keys c.atoms.keys (ap (λ (a : HashSet (ProofAtom N S) (BuildHasherDefault FoldHasher)). a.keys) kept.atoms);
+      atoms = prefix_equal old.coding.atoms.keys c.atoms.keys (ap (λ (a : Ordered (ProofAtom N S)). a.keys) kept.atoms);
       clauses = prefix_equal old.coding.search.clauses c.search.clauses kept.clauses;
       kinds = prefix_equal old.coding.kinds.items c.kinds.items (ap (λ (xs : KindList N S). xs.items) kept.kinds);
       base_level = base_level;

@@ -25,6 +25,7 @@ use indexmap::IndexSet;
 use resolvo_decide::decide_queue::DecideQueue;
 use resolvo_packages::package_source::Offered;
 use resolvo_pool_core::id::{DisjunctionId, Exact, VariableId, VersionSetId};
+use resolvo_pool_core::ordered_set::OrderedSet;
 use resolvo_pool_core::requirement::{ConditionalRequirement, Requirement, RequirementMap};
 use resolvo_pool_core::solver_id::SolvableIdOrRoot;
 use resolvo_pool_core::want::R;
@@ -46,9 +47,9 @@ use std::hash::Hash;
 pub const GATED: usize = 4;
 
 /// The packages, version sets and solvables that are encoded once, as a whole.
-pub struct EncodedOnce<N: Copy + Eq + Hash, S: Copy + Eq + Hash> {
+pub struct EncodedOnce<N: Copy + Exact + Hash, S: Copy + Exact + Hash> {
     /// The packages whose locks and exclusions are encoded.
-    pub packages: IndexSet<N>,
+    pub packages: OrderedSet<N>,
     /// The version sets for which clauses encode which candidates are outside.
     pub version_sets: IndexSet<VersionSetId>,
     /// The version sets for which clauses encode which candidates match. Their packages are marked
@@ -67,7 +68,7 @@ pub struct EncodedOnce<N: Copy + Eq + Hash, S: Copy + Eq + Hash> {
 }
 
 // split for the prover: one drop
-impl<N: Copy + Eq + Hash, S: Copy + Eq + Hash> Drop for EncodedOnce<N, S> {
+impl<N: Copy + Exact + Hash, S: Copy + Exact + Hash> Drop for EncodedOnce<N, S> {
     fn drop(self) {
         let EncodedOnce {
             packages: _,
@@ -90,7 +91,7 @@ pub struct Deferred<S> {
 }
 
 /// The state of the encoder.
-pub struct Encoder<N: Copy + Eq + Hash, S: Copy + Eq + Hash> {
+pub struct Encoder<N: Copy + Exact + Hash, S: Copy + Exact + Hash> {
     pub coding: SolverState<N, S>,
     pub registry: Registry<N>,
     pub lists: FixedLists<N>,
@@ -100,7 +101,7 @@ pub struct Encoder<N: Copy + Eq + Hash, S: Copy + Eq + Hash> {
     /// The packages, version sets and solvables that are encoded once.
     pub recorded: EncodedOnce<N, S>,
     /// The parents whose requirements are to be encoded, in order of arrival.
-    pub parents: IndexSet<SolvableIdOrRoot<S>>,
+    pub parents: OrderedSet<SolvableIdOrRoot<S>>,
     /// The number of encoded parents.
     pub encoded: usize,
     /// The cases of conditional requirements, in the order of their parents.
@@ -112,7 +113,7 @@ pub struct Encoder<N: Copy + Eq + Hash, S: Copy + Eq + Hash> {
 }
 
 // split for the prover: one drop
-impl<N: Copy + Eq + Hash, S: Copy + Eq + Hash> Drop for Encoder<N, S> {
+impl<N: Copy + Exact + Hash, S: Copy + Exact + Hash> Drop for Encoder<N, S> {
     fn drop(self) {
         let Encoder {
             coding: _,
@@ -136,7 +137,7 @@ fn begun<N: Copy + Exact + Hash + Debug, S: Copy + Exact + Hash + Debug>(
     coding: SolverState<N, S>,
     lists: FixedLists<N>,
     gates: RequirementMap<VariableId>,
-    parents: IndexSet<SolvableIdOrRoot<S>>,
+    parents: OrderedSet<SolvableIdOrRoot<S>>,
 ) -> Encoder<N, S>
     requires coding { IsBegun coding }
     requires lists { IsEmpty lists }
@@ -151,7 +152,7 @@ fn begun<N: Copy + Exact + Hash + Debug, S: Copy + Exact + Hash + Debug>(
         queue: DecideQueue::new(alloc),
         gates,
         recorded: EncodedOnce {
-            packages: IndexSet::new(alloc),
+            packages: OrderedSet::new(alloc),
             version_sets: IndexSet::new(alloc),
             matches: IndexSet::new(alloc),
             at_least_one: IndexSet::new(alloc),
@@ -176,8 +177,8 @@ impl<N: Copy + Exact + Hash + Debug + Drop, S: Copy + Exact + Hash + Debug> Enco
         ensures built { IfOk result IsBuilt }
         ensures refusal { IsOkUnless result Memory }
     {
-        let mut parents = IndexSet::new(alloc);
-        parents.insert(SolvableIdOrRoot::Root)?;
+        let mut parents = OrderedSet::new(alloc);
+        parents.push(SolvableIdOrRoot::Root)?;
         let lists = FixedLists::new(alloc)?;
         let gates = RequirementMap::new(alloc)?;
         let coding = SolverState::begin(alloc)?;
@@ -431,7 +432,7 @@ impl<N: Copy + Exact + Hash + Debug + Drop, S: Copy + Exact + Hash + Debug> Enco
         ensures present { OnOk result (Contains self.new.parents.keys (Parent solvable)) }
         ensures refusal { IsOkUnless result Memory }
     {
-        add_key(&mut self.parents, SolvableIdOrRoot::Solvable(solvable))?;
+        add_value(&mut self.parents, SolvableIdOrRoot::Solvable(solvable))?;
         Ok(())
     }
 
@@ -487,6 +488,23 @@ pub(crate) fn push_candidates<N>(candidates: &[Candidate<N>], literals: &mut Vec
     for candidate in candidates {
         literals.push(candidate.literal)?;
     }
+    Ok(())
+}
+
+/// Appends a value, unless it is in the set.
+pub(crate) fn add_value<K: Copy + Exact + Hash + Drop>(keys: &mut OrderedSet<K>, key: K) -> R<()>
+    ensures prefix { OnOk result (IsPrefixOf keys.old.keys keys.new.keys) }
+    ensures present { OnOk result (Contains keys.new.keys key) }
+    ensures only { OnOk result
+        ((other : K)
+        → Contains keys.new.keys other
+        → Contains keys.old.keys other ⊎ (other ≡ key)) }
+    ensures refusal { IsOkUnless result Memory }
+{
+    if keys.contains(key) {
+        return Ok(());
+    }
+    keys.push(key)?;
     Ok(())
 }
 

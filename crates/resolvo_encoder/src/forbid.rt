@@ -16,7 +16,7 @@ ghost use Rattle.resolvo_encoder.specs.Encoded.{rules_of, IsMarkKnown, IsEncodin
 ghost use Rattle.resolvo_encoder.specs.Steps.{IsBuilt, Extends};
 ghost use Rattle.resolvo_encoder.specs.ClauseRules.{IsPair, EncodesPair, EncodesRules, reason_of, forbid_rules, limit_rules, out_rules};
 
-use crate::encoder::{Encoder, GATED, add_key};
+use crate::encoder::{Encoder, GATED, add_key, add_value};
 use resolvo_packages::package_source::{ForbiddenBy, ForbiddenSolvable, Offered};
 use resolvo_pool_core::id::{Exact, StringId, VariableId, VersionSetId};
 use resolvo_pool_core::want::R;
@@ -31,7 +31,7 @@ impl<N: Copy + Exact + Hash + Debug + Drop, S: Copy + Exact + Hash + Debug> Enco
     pub fn is_encoded(&self, name: N) -> bool
         ensures { Decides result (Contains self.now.recorded.packages.keys name) }
     {
-        self.recorded.packages.contains(&name)
+        self.recorded.packages.contains(name)
     }
 
     /// Whether clauses encode which candidates are outside a version set.
@@ -61,7 +61,7 @@ impl<N: Copy + Exact + Hash + Debug + Drop, S: Copy + Exact + Hash + Debug> Enco
         ensures ids { IsErrOf result Ids → LacksNumber self.new.coding }
     {
         self.forbid_each(barred)?;
-        add_key(&mut self.recorded.packages, name)?;
+        add_value(&mut self.recorded.packages, name)?;
         Ok(())
     }
 

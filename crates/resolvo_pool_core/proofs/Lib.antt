@@ -4,3 +4,4 @@ pub mod PassNamed
 pub mod PassSound
 pub mod SlotLemmas
 pub mod Texts
+pub mod OrderedLemmas

@@ -1,7 +1,9 @@
 pub mod ByRequirement
 pub mod Ids
+pub mod Indexes
 pub mod Lends
 pub mod OnePass
+pub mod Ordered
 pub mod Provider
 pub mod RuleKeeping
 pub mod Slots

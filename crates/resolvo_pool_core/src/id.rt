@@ -1,28 +1,56 @@
 //! Ids: dense ones, which are indexes, and sparse ones, which are only names of things.
 //! The model of a dense id is its index; of a sparse id, its raw value. Every map, list and set of
 //! the resolver is keyed by them.
-ghost use Rattle.std.specs.Prelude.{◌≡◌, ◌==◌, ℕ, ◌<◌, ◌≤◌, ◌^◌, ◌↔◌, refl, true, IfOk, IsErr, IsOkUnless};
+ghost use Rattle.std.specs.Prelude.{◌≡◌, ◌==◌, ℕ, ◌<◌, ◌≤◌, ◌^◌, ◌↔◌, refl, true, Option, None, Some, IfOk, IsErr, IsOkUnless};
 ghost use Rattle.resolvo_pool_core.specs.declared.want.Want.TheVariants.{Ids};
 ghost use Rattle.std.proofs.Common.{ap, rules, ◌∙◌, sym};
 ghost use Rattle.std.proofs.lemmas.Bool.{and_parts, eqb-true};
+ghost use Rattle.resolvo_pool_core.specs.Indexes.{no_index, one_index};
 
 use crate::want::{R, Want};
 use std::fmt::Debug;
 use std::hash::{BuildHasherDefault, FoldHasher, Hash};
 use std::marker::PhantomData;
 
-/// Values that are equal only where they are the same.
+/// Values that are equal only where they are the same. Some have an index, by which a table finds
+/// them without a hash.
 pub trait Exact: Eq {
+    /// The index of a value, if it has one.
+    ghost indexed: { Self → Option ℕ };
+
+    /// The index of a value, if it has one. No other value has it.
+    fn index(&self) -> Option<u32>
+        ensures { result ≡ indexed self.now };
+
     /// Equal values are one value.
     ghost exact: { (x y : Self) → Self.eq x y ≡ true → x ≡ y };
+
+    /// Values with one index are one value.
+    ghost alone: { (x y : Self) (i : ℕ) → indexed x ≡ Some i → indexed y ≡ Some i → x ≡ y };
 }
 
 impl Exact for u32 {
+    ghost indexed = { λ x. None };
+
     ghost exact = { λ x y h. eqb-true x y h };
+
+    ghost alone = { λ x y i h k. no_index h };
+
+    fn index(&self) -> Option<u32> {
+        None
+    }
 }
 
 impl Exact for u64 {
+    ghost indexed = { λ x. None };
+
     ghost exact = { λ x y h. eqb-true x y h };
+
+    ghost alone = { λ x y i h k. no_index h };
+
+    fn index(&self) -> Option<u32> {
+        None
+    }
 }
 
 /// A type of ids that are indexes.
@@ -135,6 +163,15 @@ impl<Tag, Repr: DenseIndex + Hash + Debug> DenseIndex for DenseId<Tag, Repr> {
 }
 
 impl<Tag, Repr: DenseIndex + Hash + Debug> Exact for DenseId<Tag, Repr> {
+    ghost indexed = { λ x. Some (Repr.index_of x.raw) };
+
+    ghost alone = { λ x y i h k. ap (λ r. record { raw = r; tag = x.tag })
+        (Repr.distinct x.raw y.raw (one_index (h ∙ sym k))) };
+
+    fn index(&self) -> Option<u32> {
+        Some(self.raw.to_index() as u32)
+    }
+
     ghost exact = { λ x y h. ap (λ r. record { raw = r; tag = x.tag })
         (Repr.distinct x.raw y.raw
         (eqb-true _ _ (sym (Repr.eq_by_index x.raw y.raw) ∙ (and_parts _ _ h).0))) };
@@ -169,6 +206,14 @@ impl<Tag, Repr: Copy, H> SparseId<Tag, Repr, H> {
 }
 
 impl<Tag, Repr: Exact, H> Exact for SparseId<Tag, Repr, H> {
+    ghost indexed = { λ x. None };
+
+    ghost alone = { λ x y i h k. no_index h };
+
+    fn index(&self) -> Option<u32> {
+        None
+    }
+
     ghost exact = { λ x y h. ap
         (λ r. record { raw = r; kind = x.kind }) (Repr.exact x.raw y.raw (and_parts _ _ h).0) };
 }

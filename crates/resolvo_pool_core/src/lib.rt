@@ -10,6 +10,7 @@ pub mod id;
 pub mod id_map;
 pub mod indexed_set;
 pub mod mapping;
+pub mod ordered_set;
 pub mod provider;
 pub mod requirement;
 pub mod solver_id;

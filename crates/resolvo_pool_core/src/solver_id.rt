@@ -1,6 +1,7 @@
 //! Ids that a solver takes, with the collections of each kind, and a solvable or the root. Dense
 //! ids are kept in vectors, sparse ones in hashed maps; both are the same total maps.
-ghost use Rattle.std.specs.Prelude.{◌≡◌, None, Some};
+ghost use Rattle.std.specs.Prelude.{◌≡◌, refl, None, Some};
+ghost use Rattle.resolvo_pool_core.specs.Indexes.{indexed_parent, one_parent, alone_parent};
 ghost use Rattle.resolvo_pool_core.specs.Text.{root_or};
 ghost use Rattle.resolvo_pool_core.specs.declared.solver_id.SolvableIdOrRoot.TheVariants.{Root, Solvable};
 
@@ -49,6 +50,21 @@ impl<Tag, Repr: Copy + Exact + Hash + Debug, H: BuildHasher + Default + Drop> So
 pub enum SolvableIdOrRoot<S> {
     Root,
     Solvable(S),
+}
+
+impl<S: Exact> Exact for SolvableIdOrRoot<S> {
+    ghost indexed = { indexed_parent S.indexed };
+
+    ghost exact = { one_parent Self.eq (λ s t h. S.exact s t h) (λ s. refl) (λ s. refl) };
+
+    ghost alone = { alone_parent S.indexed S.alone };
+
+    fn index(&self) -> Option<u32> {
+        match self {
+            SolvableIdOrRoot::Root => None,
+            SolvableIdOrRoot::Solvable(id) => id.index(),
+        }
+    }
 }
 
 impl<S> SolvableIdOrRoot<S> {

@@ -1,9 +1,10 @@
 -- A clause more.
-use Rattle.std.proofs.Common.{◌≡◌, ℕ, ◌+◌, ◌<◌, ◌⊎◌, inl, inr, true, false, List, [], ◌∷◌, ◌++◌, length, map, Some, Vec, Global, HashSet, BuildHasherDefault, FoldHasher, refl, sym, ◌∙◌, ap, subst, arith}
+use Rattle.std.proofs.Common.{◌≡◌, ℕ, ◌+◌, ◌<◌, ◌⊎◌, inl, inr, true, false, List, [], ◌∷◌, ◌++◌, length, map, Some, Vec, Global, refl, sym, ◌∙◌, ap, subst, arith}
 use Rattle.std.specs.Prelude.{not, slice_get, IsSome}
 use Rattle.std.proofs.lemmas.List.{length-append}
 use Rattle.std.proofs.lemmas.Bool.{both_ways}
 use Rattle.std.proofs.lemmas.Option.{slice_get_within}
+use Rattle.resolvo_pool_core.specs.Ordered.{Ordered}
 use Rattle.resolvo_pool_core.specs.declared.id.ClauseId.{ClauseId}
 use Rattle.resolvo_store_core.specs.Signed.{Signed, negation, has}
 use Rattle.resolvo_sat.specs.Clauses.{SatClause}
@@ -48,13 +49,13 @@ pub one_more : {N S : Type 0} (old new : SolverState N S) (x : ClauseKind N S) (
 one_more {N} {S} old new x clause coding ready covered atoms variables clauses kinds unrooted caused apart from = record {
   ready = ready;
   covered = covered;
-  variable_kinds = ap (λ (variable_kinds : Vec VariableKind Global). variable_kinds.items) variables ∙ coding.variable_kinds ∙ sym (ap (λ (a : HashSet (ProofAtom N S) (BuildHasherDefault FoldHasher)). Kinds.Root ∷ map kind_of a.keys) atoms);
+  variable_kinds = ap (λ (variable_kinds : Vec VariableKind Global). variable_kinds.items) variables ∙ coding.variable_kinds ∙ sym (ap (λ (a : Ordered (ProofAtom N S)). Kinds.Root ∷ map kind_of a.keys) atoms);
   each =
       let a : length new.kinds.items ≡ length old.kinds.items + 1 = ap length kinds ∙ length-append old.kinds.items (x ∷ []) in
       let b : length new.search.clauses ≡ length old.search.clauses + 1 = ap length clauses ∙ length-append old.search.clauses (clause ∷ []) in
       let c : length old.kinds.items ≡ length old.search.clauses = coding.each in
       omega arith;
-  distinct = subst (λ (a : HashSet (ProofAtom N S) (BuildHasherDefault FoldHasher)). AreOnce a.keys) (sym atoms) coding.distinct;
+  distinct = subst (λ (a : Ordered (ProofAtom N S)). AreOnce a.keys) (sym atoms) coding.distinct;
   learnt = λ n held h is. elim (old_or_this n held h is) [ inl (a, at) ↦ coding.learnt n held a at | inr (e, one, place) ↦ subst (λ (d : SatClause). 0 < length d.causes) one (caused e) ];
   apart = λ n held h is. elim (old_or_this n held h is) [ inl (a, at) ↦ coding.apart n held a at | inr (e, one, place) ↦ subst (λ (d : SatClause). AreApart d.literals) one (apart e) ];
   drawn = λ n held h is l a. elim (old_or_this n held h is) [
@@ -114,7 +115,7 @@ adds_rule_is {N} {S} old new x clause id coding rule addition plain atoms kinds 
   number = addition.adds.number;
   added = addition.adds.added;
   kinds = kinds;
-  grows = record { atoms = prefix_equal old.atoms.keys new.atoms.keys (ap (λ (a : HashSet (ProofAtom N S) (BuildHasherDefault FoldHasher)). a.keys) atoms); clauses = (clause ∷ [], addition.adds.added); kinds = (x ∷ [], kinds); base_level = addition.adds.base_level };
+  grows = record { atoms = prefix_equal old.atoms.keys new.atoms.keys (ap (λ (a : Ordered (ProofAtom N S)). a.keys) atoms); clauses = (clause ∷ [], addition.adds.added); kinds = (x ∷ [], kinds); base_level = addition.adds.base_level };
   trail = record { tracker = addition.adds.tracker };
 }
   where
@@ -131,7 +132,7 @@ learnt_is {N} {S} old new id coding improves atoms kinds = record {
   progress = improves;
   atoms = atoms;
   kinds = kinds;
-  grows = record { atoms = prefix_equal old.atoms.keys new.atoms.keys (ap (λ (a : HashSet (ProofAtom N S) (BuildHasherDefault FoldHasher)). a.keys) atoms); clauses = (improves.clause ∷ [], improves.added); kinds = (Learnt ∷ [], kinds); base_level = improves.base_level };
+  grows = record { atoms = prefix_equal old.atoms.keys new.atoms.keys (ap (λ (a : Ordered (ProofAtom N S)). a.keys) atoms); clauses = (improves.clause ∷ [], improves.added); kinds = (Learnt ∷ [], kinds); base_level = improves.base_level };
 }
 
 -- a literal of a clause is of one of the variables
@@ -158,6 +159,6 @@ denial_is {N} {S} old new clause id coding forbid addition atoms kinds = record 
   number = addition.adds.number;
   added = addition.adds.added;
   kinds = kinds;
-  grows = record { atoms = prefix_equal old.atoms.keys new.atoms.keys (ap (λ (a : HashSet (ProofAtom N S) (BuildHasherDefault FoldHasher)). a.keys) atoms); clauses = (clause ∷ [], addition.adds.added); kinds = (Learnt ∷ [], kinds); base_level = addition.adds.base_level };
+  grows = record { atoms = prefix_equal old.atoms.keys new.atoms.keys (ap (λ (a : Ordered (ProofAtom N S)). a.keys) atoms); clauses = (clause ∷ [], addition.adds.added); kinds = (Learnt ∷ [], kinds); base_level = addition.adds.base_level };
   trail = record { tracker = addition.adds.tracker };
 }

@@ -1,8 +1,9 @@
 -- The invariant as variables and clauses are added, and the search continues.
-use Rattle.std.proofs.Common.{◌≡◌, ℕ, suc, ◌<◌, ◌≤◌, ◌⊎◌, inl, inr, Bool, true, ltb, List, ◌∷◌, length, Option, Some, None, reverse, HashSet, BuildHasherDefault, FoldHasher, refl, sym, ◌∙◌, ap, subst, arith}
+use Rattle.std.proofs.Common.{◌≡◌, ℕ, suc, ◌<◌, ◌≤◌, ◌⊎◌, inl, inr, Bool, true, ltb, List, ◌∷◌, length, Option, Some, None, reverse, refl, sym, ◌∙◌, ap, subst, arith}
 use Rattle.std.specs.Prelude.{slice_get, Contains}
 use Rattle.std.proofs.lemmas.Bool.{ltb-true, ltb-false, cases_Bool}
 use Rattle.std.proofs.lemmas.Option.{slice_get_within}
+use Rattle.resolvo_pool_core.specs.Ordered.{Ordered}
 use Rattle.resolvo_pool_core.specs.declared.id.ClauseId.{ClauseId}
 use Rattle.resolvo_pool_core.specs.declared.id.VariableId.{VariableId}
 use Rattle.resolvo_pool_core.specs.OnePass.{Literal}
@@ -157,7 +158,7 @@ module _ {N S : Type 0} (choice wider : List (Literal (Atom N S)) → Literal (A
   -- so does a trail that only lost choices, over the same variables
   called_loses : new.atoms ≡ old.atoms → KeepsChoices (history old.search) (history new.search) → AreCalledFor (origin old.atoms.keys) choice (history old.search) → AreCalledFor (origin new.atoms.keys) wider (history new.search)
   called_loses atoms keeps called =
-      subst (λ (a : HashSet (ProofAtom N S) (BuildHasherDefault FoldHasher)). AreCalledFor (origin a.keys) wider (history new.search)) (sym atoms)
+      subst (λ (a : Ordered (ProofAtom N S)). AreCalledFor (origin a.keys) wider (history new.search)) (sym atoms)
       (called_kept (origin old.atoms.keys) wider (history old.search) (history new.search) keeps (λ e older present is other. more (known_of (origin old.atoms.keys) older) (meaning (origin old.atoms.keys) (literal_of e)) (called e older present is other)))
 
   -- a step of the search leaves the trail's choices called for
@@ -181,7 +182,7 @@ module _ {N S : Type 0} (choice wider : List (Literal (Atom N S)) → Literal (A
   pub called_chooses : (v : VariableId) (clause : ClauseId) → Chooses v clause old.search new.search → KeepsClauses old new
       → choice (known_of (origin old.atoms.keys) (history old.search)) (meaning (origin old.atoms.keys) (yes v)) → AreCalledFor (origin old.atoms.keys) choice (history old.search) → AreCalledFor (origin new.atoms.keys) wider (history new.search)
   called_chooses v clause chooses kept now called =
-      subst (λ (a : HashSet (ProofAtom N S) (BuildHasherDefault FoldHasher)). AreCalledFor (origin a.keys) wider (history new.search)) (sym kept.atoms)
+      subst (λ (a : Ordered (ProofAtom N S)). AreCalledFor (origin a.keys) wider (history new.search)) (sym kept.atoms)
       (subst (λ (h : List Entry). AreCalledFor (origin old.atoms.keys) wider h) (sym pushed)
       (λ e older present is other. more (known_of (origin old.atoms.keys) older) (meaning (origin old.atoms.keys) (literal_of e))
       (called_choice (origin old.atoms.keys) choice (choice_entry v clause (history old.search)) (history old.search) now called e older present is other)))

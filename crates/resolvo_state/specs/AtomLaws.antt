@@ -1,7 +1,8 @@
 -- Equal atoms are one atom, and equal members of a registry one member.
-use Rattle.std.specs.Prelude.{◌≡◌, ℕ, Bool, true, false}
+use Rattle.std.specs.Prelude.{◌≡◌, ℕ, Bool, true, false, Option, None, Some}
 use Rattle.std.proofs.Common.{ap}
 use Rattle.std.proofs.lemmas.Bool.{both_ways}
+use Rattle.resolvo_pool_core.specs.Indexes.{no_index}
 use Rattle.resolvo_pool_core.specs.declared.id.VersionSetId.{VersionSetId}
 use Rattle.resolvo_pool_core.specs.declared.id.VersionSetUnionId.{VersionSetUnionId}
 use Rattle.resolvo_pool_core.specs.declared.requirement.Requirement.{Requirement}
@@ -10,6 +11,30 @@ use Rattle.resolvo_pool_core.specs.declared.id.VariableId.{VariableId}
 use Rattle.resolvo_state.specs.declared.registry.Member.{Member}
 use Rattle.resolvo_state.specs.declared.atom.ProofAtom.{ProofAtom}
 use Rattle.resolvo_state.specs.declared.atom.ProofAtom.TheVariants.{Solvable, AtLeastOne, Gate, Outside, Matches, Bit}
+
+-- the index of an atom is that of its solvable
+abbrev pub indexed_atom : {N S : Type 0} → (S → Option ℕ) → ProofAtom N S → Option ℕ
+indexed_atom indexed (Solvable s) = indexed s
+indexed_atom indexed (AtLeastOne n) = None
+indexed_atom indexed (Gate r) = None
+indexed_atom indexed (Outside v) = None
+indexed_atom indexed (Matches v) = None
+indexed_atom indexed (Bit n bit) = None
+
+-- atoms with one index are one atom
+pub alone_atom : {N S : Type 0} (indexed : S → Option ℕ) → ((s t : S) (i : ℕ) → indexed s ≡ Some i → indexed t ≡ Some i → s ≡ t)
+    → (x y : ProofAtom N S) (i : ℕ) → indexed_atom indexed x ≡ Some i → indexed_atom indexed y ≡ Some i → x ≡ y
+alone_atom indexed one (Solvable s) (Solvable t) i h k = ap Solvable (one s t i h k)
+alone_atom indexed one (Solvable s) (AtLeastOne n) i h k = no_index k
+alone_atom indexed one (Solvable s) (Gate r) i h k = no_index k
+alone_atom indexed one (Solvable s) (Outside v) i h k = no_index k
+alone_atom indexed one (Solvable s) (Matches v) i h k = no_index k
+alone_atom indexed one (Solvable s) (Bit n bit) i h k = no_index k
+alone_atom indexed one (AtLeastOne n) y i h k = no_index h
+alone_atom indexed one (Gate r) y i h k = no_index h
+alone_atom indexed one (Outside v) y i h k = no_index h
+alone_atom indexed one (Matches v) y i h k = no_index h
+alone_atom indexed one (Bit n bit) y i h k = no_index h
 
 -- a test of requirements holds of one requirement alone, by its answer for each kind
 pub one_requirement : (eq : Requirement → Requirement → Bool)

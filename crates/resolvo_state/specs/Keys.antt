@@ -1,11 +1,7 @@
 -- The index of a value in a list without repetition.
-use Rattle.std.specs.Prelude.{◌≡◌, ◌⊎◌, ℕ, List, length, Option, Some, None, Contains, slice_get}
+pub use Rattle.resolvo_pool_core.specs.Ordered.{IsPlace}
+use Rattle.std.specs.Prelude.{◌≡◌, ◌⊎◌, ℕ, List, length, Some, Contains, slice_get}
 use Rattle.resolvo_store_core.specs.AtMostOne.{IsPrefixOf}
-
--- the index of the value, or it is not in the list
-abbrev pub IsPlace : {X : Type 0} → List X → X → Option ℕ → Type 0
-IsPlace xs x None = (k : ℕ) → slice_get xs k ≡ Some x → ⊥
-IsPlace xs x (Some k) = slice_get xs k ≡ Some x
 
 -- no value is there twice
 abbrev pub AreOnce : {X : Type 0} → List X → Type 0

@@ -1,7 +1,7 @@
 //! Atoms: what variables represent.
 ghost use Rattle.std.specs.Prelude.{◌≡◌, refl};
 ghost use Rattle.std.proofs.lemmas.Bool.{and_parts, eqb-true};
-ghost use Rattle.resolvo_state.specs.AtomLaws.{one_atom, one_requirement};
+ghost use Rattle.resolvo_state.specs.AtomLaws.{alone_atom, indexed_atom, one_atom, one_requirement};
 ghost use Rattle.resolvo_state.specs.Atoms.{kind_of};
 ghost use Rattle.resolvo_state.specs.declared.atom.ProofAtom.TheVariants.{Gate};
 
@@ -39,6 +39,17 @@ impl<N: Copy, S: Copy> ProofAtom<N, S> {
 }
 
 impl<N: Exact, S: Exact> Exact for ProofAtom<N, S> {
+    ghost indexed = { indexed_atom S.indexed };
+
+    ghost alone = { alone_atom S.indexed S.alone };
+
+    fn index(&self) -> Option<u32> {
+        match self {
+            ProofAtom::Solvable(solvable) => solvable.index(),
+            _ => None,
+        }
+    }
+
     ghost exact = { one_atom Self.eq
         (λ s t h. S.exact s t h)
         (λ m n h. N.exact m n h)

@@ -6,11 +6,12 @@
 //! solvables may be true side by side.
 ghost use Rattle.std.proofs.lemmas.Bool.{and_parts, eqb-true};
 ghost use Rattle.std.specs.Bool.{Decides};
-ghost use Rattle.std.specs.Prelude.{◌≡◌, ℕ, ◌≤◌, ◌+◌, Bool, Some, min, length, slice_get, is_some, IfOk, OnOk, IsErrOf, IsOkUnless, Contains};
+ghost use Rattle.std.specs.Prelude.{◌≡◌, ℕ, ◌≤◌, ◌+◌, Bool, None, Some, min, length, slice_get, is_some, IfOk, OnOk, IsErrOf, IsOkUnless, Contains};
 ghost use Rattle.resolvo_pool_core.specs.declared.want.Want.TheVariants.{Memory, Ids};
 ghost use Rattle.resolvo_pool_core.specs.declared.id.VariableId.{VariableId};
 ghost use Rattle.resolvo_store_core.specs.AtMostOne.{needs_helper};
 ghost use Rattle.resolvo_state.specs.declared.atom.ProofAtom.TheVariants.{Solvable, Bit};
+ghost use Rattle.resolvo_pool_core.specs.Indexes.{no_index};
 ghost use Rattle.resolvo_state.specs.AtomLaws.{one_member};
 ghost use Rattle.resolvo_state.specs.Atoms.{Represents};
 ghost use Rattle.resolvo_state.specs.SolverState.{IsCoding, LacksNumber};
@@ -19,10 +20,11 @@ ghost use Rattle.resolvo_state.specs.Registered.{same_variable, IsNothing, AreTi
 
 use crate::atom::ProofAtom;
 use crate::clause_kind::ClauseKind;
-use crate::keys::{include, place_in, push_key};
+use crate::keys::include;
 use crate::solver_state::SolverState;
 use indexmap::IndexSet;
 use resolvo_pool_core::id::{Exact, VariableId};
+use resolvo_pool_core::ordered_set::OrderedSet;
 use resolvo_pool_core::want::R;
 use resolvo_store_core::binary_encoding::AtMostOnceTracker;
 use resolvo_store_core::literal::Literal;
@@ -38,13 +40,21 @@ pub struct Member<N> {
 }
 
 impl<N: Exact> Exact for Member<N> {
+    ghost indexed = { λ m. None };
+
+    ghost alone = { λ m n i h k. no_index h };
+
+    fn index(&self) -> Option<u32> {
+        None
+    }
+
     ghost exact = { one_member Self.eq
         (λ m n v w h. (N.exact m n (and_parts _ _ h).0, eqb-true v.0 w.0 (and_parts _ _ h).1)) };
 }
 
 /// The packages with solvables in their trackers, and the registered solvables' variables.
-pub struct Registry<N: Copy + Eq + Hash> {
-    names: IndexSet<N>,
+pub struct Registry<N: Copy + Exact + Hash> {
+    names: OrderedSet<N>,
     trackers: Vec<AtMostOnceTracker<VariableId>>,
     /// The registered variables with their packages, in the order of registration.
     members: IndexSet<Member<N>>,
@@ -55,7 +65,7 @@ pub struct Registry<N: Copy + Eq + Hash> {
 }
 
 // split for the prover: one drop
-impl<N: Copy + Eq + Hash> Drop for Registry<N> {
+impl<N: Copy + Exact + Hash> Drop for Registry<N> {
     fn drop(self) {
         let Registry {
             names: _,
@@ -77,7 +87,7 @@ impl<N: Copy + Exact + Hash + Debug> Registry<N> {
         ensures { IsNothing result }
     {
         Registry {
-            names: IndexSet::new(alloc),
+            names: OrderedSet::new(alloc),
             trackers: Vec::new(alloc),
             members: IndexSet::new(alloc),
             tied: 0,
@@ -166,7 +176,7 @@ impl<N: Copy + Exact + Hash + Debug> Registry<N> {
         ensures tracked { (v : VariableId) → Contains result.now v → IsInTracker self.now name v }
         ensures all { (v : VariableId) → IsInTracker self.now name v → Contains result.now v }
     {
-        match place_in(&self.names, &name) {
+        match self.names.place_of(name) {
             Some(place) => self.trackers[place].variables(),
             None => &[],
         }
@@ -178,12 +188,12 @@ impl<N: Copy + Exact + Hash + Debug> Registry<N> {
         ensures place { IfOk result (λ place. PlacesName name place self.old self.new) }
         ensures refusal { IsOkUnless result Memory }
     {
-        if let Some(place) = place_in(&self.names, &name) {
+        if let Some(place) = self.names.place_of(name) {
             return Ok(place);
         }
         let place = self.trackers.len();
         self.trackers.push(AtMostOnceTracker::new(alloc))?;
-        push_key(&mut self.names, name)?;
+        self.names.push(name)?;
         Ok(place)
     }
 }

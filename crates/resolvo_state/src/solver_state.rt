@@ -10,9 +10,8 @@ ghost use Rattle.resolvo_state.specs.SolverState.{IsCoding, IsBegun, Gives, Lack
 use crate::atom::ProofAtom;
 use crate::clause_kind::ClauseKind;
 use crate::clause_kinds::ClauseKinds;
-use crate::keys::{place_in, push_key};
-use indexmap::IndexSet;
 use resolvo_pool_core::id::{Exact, VariableId};
+use resolvo_pool_core::ordered_set::OrderedSet;
 use resolvo_pool_core::want::R;
 use resolvo_sat::begin::begin;
 use resolvo_sat::state::SatState;
@@ -22,15 +21,15 @@ use std::fmt::Debug;
 use std::hash::Hash;
 
 /// The search, with the atoms of its variables and the rules of its clauses.
-pub struct SolverState<N: Copy + Eq + Hash, S: Copy + Eq + Hash> {
+pub struct SolverState<N: Copy + Exact + Hash, S: Copy + Exact + Hash> {
     pub search: SatState,
     pub watching: WatchLists,
-    pub atoms: IndexSet<ProofAtom<N, S>>,
+    pub atoms: OrderedSet<ProofAtom<N, S>>,
     pub kinds: ClauseKinds<N, S>,
 }
 
 // split for the prover: one drop
-impl<N: Copy + Eq + Hash, S: Copy + Eq + Hash> Drop for SolverState<N, S> {
+impl<N: Copy + Exact + Hash, S: Copy + Exact + Hash> Drop for SolverState<N, S> {
     fn drop(self) {
         let SolverState {
             search: _,
@@ -53,7 +52,7 @@ impl<N: Copy + Exact + Hash + Debug, S: Copy + Exact + Hash + Debug> SolverState
         Ok(SolverState {
             search,
             watching,
-            atoms: IndexSet::new(alloc),
+            atoms: OrderedSet::new(alloc),
             kinds,
         })
     }
@@ -64,7 +63,7 @@ impl<N: Copy + Exact + Hash + Debug, S: Copy + Exact + Hash + Debug> SolverState
         ensures found { IsFound self.now.atoms.keys atom result }
         ensures in_range { IfSome result (λ v. v.0 < count_of self.now.search) }
     {
-        match place_in(&self.atoms, &atom) {
+        match self.atoms.place_of(atom) {
             Some(place) => Some(VariableId((place + 1) as u32)),
             None => None,
         }
@@ -81,7 +80,7 @@ impl<N: Copy + Exact + Hash + Debug, S: Copy + Exact + Hash + Debug> SolverState
             return Ok(variable);
         }
         let variable = self.search.add_variable(atom.kind())?;
-        push_key(&mut self.atoms, atom)?;
+        self.atoms.push(atom)?;
         Ok(variable)
     }
 

@@ -9,4 +9,4 @@ returns-in-Some-clause-place g c = place_found c.args.name c.in-Some.place c.arg
 
 pub returns-clause-place : goal.returns-clause-place
 returns-clause-place g c =
-    place_pushed c.args.name c.len-place.result c.args.self.now _ c.new.result c.requires c.in_default.ensures (c.len-place.ensures ∙ c.args.self.now.trackers.ok.0) c.in_ok-push_key.ensures.pushed c.in_ok-push.ensures.items (ap (λ (t : Tracking VariableId). t.variables) c.new.ensures) (ap (λ (t : Tracking VariableId). t.helpers) c.new.ensures) refl refl refl
+    place_pushed c.args.name c.len-place.result c.args.self.now _ c.new.result c.requires c.in_default.ensures (c.len-place.ensures ∙ c.args.self.now.trackers.ok.0) c.in_ok-push-2.ensures.pushed c.in_ok-push.ensures.items (ap (λ (t : Tracking VariableId). t.variables) c.new.ensures) (ap (λ (t : Tracking VariableId). t.helpers) c.new.ensures) refl refl refl

@@ -5,4 +5,4 @@ use Rattle.resolvo_state.proofs.StartLemmas.{begun_is}
 use Rattle.resolvo_state.proofs.solver_state.SolverState.begin.Goals as goal
 
 pub returns-clause-begun : goal.returns-clause-begun
-returns-clause-begun g c = begun_is _ c.in_ok-search.ensures.begun c.new.ensures.empty (c.in_ok-push.ensures.items ∙ ap (λ (xs : List (ClauseKind g.row.N.Denot g.row.S.Denot)). xs ++ Root ∷ []) c.new-kinds.ensures.items)
+returns-clause-begun g c = begun_is _ c.in_ok-search.ensures.begun c.new.ensures (c.in_ok-push.ensures.items ∙ ap (λ (xs : List (ClauseKind g.row.N.Denot g.row.S.Denot)). xs ++ Root ∷ []) c.new-kinds.ensures.items)

@@ -9,7 +9,7 @@ pub returns-clause-given : goal.returns-clause-given
 returns-clause-given g c =
     gives_added c.args.atom c.in_ok-variable.variable c.args.self.now _ c.requires c.in_default.ensures.found
     (subst (λ (k : VariableKind). AddsVariable k c.in_ok-variable.variable c.args.self.now.search c.add_variable.new.self) c.kind.ensures c.in_ok-variable.ensures.added)
-    refl c.in_ok-push_key.ensures.pushed refl
+    refl c.in_ok-push.ensures.pushed refl
 
 pub returns-in_err-variable-clause-full : goal.returns-in_err-variable-clause-full
 returns-in_err-variable-clause-full g c = search (rules, LacksNumber.variables)
