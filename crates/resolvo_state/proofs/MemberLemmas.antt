@@ -36,6 +36,18 @@ inserted {X} eq x xs ys exact is = elim (cases_Bool (list_any (eq x) xs)) [
   })
 ]
 
+-- a value that is in the list stays
+pub included_known : {X : Type 0} (x : X) (xs : List X) → Contains xs x → Includes xs xs x
+included_known x xs h = record { prefix = prefix_same xs; present = h; only = λ z k. inl k }
+
+-- a value is appended
+pub included_last : {X : Type 0} (x : X) (xs ys : List X) → ys ≡ xs ++ x ∷ [] → Includes xs ys x
+included_last {X} x xs ys is = subst (λ (zs : List X). Includes xs zs x) (sym is) (record {
+  prefix = (x ∷ [], refl);
+  present = contains_right x xs (x ∷ []) (contains_only x);
+  only = λ z k. elim (contains_parts z xs (x ∷ []) k) [ inl j ↦ inl j | inr j ↦ inr (contains_one z x j, get_last xs x) ];
+})
+
 -- one of the prefix is one of the list
 prefix_has : {X : Type 0} (xs ys : List X) (x : X) → IsPrefixOf xs ys → Contains xs x → Contains ys x
 prefix_has {X} xs ys x (more, is) h = subst (λ (zs : List X). Contains zs x) (sym is) (contains_left x xs more h)

@@ -10,6 +10,7 @@ pub mod chosen;
 pub mod clause_kind;
 pub mod clause_kinds;
 mod keys;
+pub mod members;
 pub mod propagate_and_learn;
 pub mod registry;
 pub mod solver_state;

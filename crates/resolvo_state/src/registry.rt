@@ -21,6 +21,7 @@ ghost use Rattle.resolvo_state.specs.Registered.{same_variable, IsNothing, AreTi
 use crate::atom::ProofAtom;
 use crate::clause_kind::ClauseKind;
 use crate::keys::include;
+use crate::members::Members;
 use crate::solver_state::SolverState;
 use indexmap::IndexSet;
 use resolvo_pool_core::id::{Exact, VariableId};
@@ -57,11 +58,13 @@ pub struct Registry<N: Copy + Exact + Hash> {
     names: OrderedSet<N>,
     trackers: Vec<AtMostOnceTracker<VariableId>>,
     /// The registered variables with their packages, in the order of registration.
-    members: IndexSet<Member<N>>,
+    members: Members<N>,
     /// The number of those that don't wait for their digits: the first ones.
     tied: usize,
     /// The packages that are marked `many`: their solvables have no digits.
     many: IndexSet<N>,
+    /// The ties of the solvable that was placed last.
+    ties: Vec<Tie>,
 }
 
 // split for the prover: one drop
@@ -73,6 +76,7 @@ impl<N: Copy + Exact + Hash> Drop for Registry<N> {
             members: _,
             tied: _,
             many: _,
+            ties: _,
         } = self;
     }
 }
@@ -89,9 +93,10 @@ impl<N: Copy + Exact + Hash + Debug> Registry<N> {
         Registry {
             names: OrderedSet::new(alloc),
             trackers: Vec::new(alloc),
-            members: IndexSet::new(alloc),
+            members: Members::new(alloc),
             tied: 0,
             many: IndexSet::new(alloc),
+            ties: Vec::new(alloc),
         }
     }
 
@@ -126,7 +131,7 @@ impl<N: Copy + Exact + Hash + Debug> Registry<N> {
         ensures ids { IsErrOf result Ids → LacksNumber coding.new }
     {
         let variable = coding.variable(ProofAtom::Solvable(solvable))?;
-        include(&mut self.members, Member { name, variable })?;
+        self.members.insert(Member { name, variable })?;
         Ok(variable)
     }
 
@@ -165,7 +170,13 @@ impl<N: Copy + Exact + Hash + Debug> Registry<N> {
         let alloc = *self.trackers.allocator();
         let variable = coding.variable(ProofAtom::Solvable(solvable))?;
         let place = self.place_of(alloc, name)?;
-        track(alloc, &mut self.trackers[place], coding, name, variable)?;
+        track(
+            &mut self.trackers[place],
+            &mut self.ties,
+            coding,
+            name,
+            variable,
+        )?;
         Ok(())
     }
 
@@ -199,10 +210,10 @@ impl<N: Copy + Exact + Hash + Debug> Registry<N> {
 }
 
 /// Tracks the variable of a solvable, unless it is tracked, and adds the clauses that tie it to the
-/// digits of its package.
+/// digits of its package. The list of ties is used anew.
 fn track<N: Copy + Exact + Hash + Debug, S: Copy + Exact + Hash + Debug>(
-    alloc: Global,
     tracker: &mut AtMostOnceTracker<VariableId>,
+    ties: &mut Vec<Tie>,
     coding: &mut SolverState<N, S>,
     name: N,
     variable: VariableId,
@@ -217,8 +228,8 @@ fn track<N: Copy + Exact + Hash + Debug, S: Copy + Exact + Hash + Debug>(
     let digit = next_digit(tracker, coding, name, variable)?;
     let last = tracker.variables().len() as u32;
     let first = first_place(digit, last);
-    let mut ties = Vec::new(alloc);
-    tracker.add(variable, digit, &mut ties)?;
+    ties.clear();
+    tracker.add(variable, digit, ties)?;
     add_ties(coding, name, ties.as_slice(), first, last)?;
     Ok(())
 }

@@ -18,12 +18,12 @@ add_ties-requires g c = record {
   ties =
       new_are_ties c.args.name c.args.variable c.requires.solvable.0 c.args.tracker.now c.in_ok-digit.digit c.args.coding.now c.next_digit.new.coding c.requires.tied c.requires.solvable.1 c.in_ok-digit.ensures.digit c.requires.coding c.as_slice.result.now _ _
       c.in_ok-digit.ensures.needed c.first_place-first.ensures (ap length c.variables.ensures)
-      (c.as_slice.ensures.value ∙ c.in_ok-add.ensures.ties ∙ ap (λ (xs : List (VariableId × VariableId × Bool)). xs ++ new_ties same_variable c.args.tracker.now c.args.variable c.in_ok-digit.digit) c.new-ties.ensures.items);
+      (c.as_slice.ensures.value ∙ c.in_ok-add.ensures.ties ∙ ap (λ (xs : List (VariableId × VariableId × Bool)). xs ++ new_ties same_variable c.args.tracker.now c.args.variable c.in_ok-digit.digit) c.clear.ensures.items);
 }
 
 pub returns-clause-tracked : goal.returns-clause-tracked
 returns-clause-tracked g c =
     track_is c.args.name c.args.variable c.requires.solvable.0 c.args.tracker.now c.in_ok-digit.digit c.args.coding.now c.next_digit.new.coding c.requires.tied c.requires.solvable.1 c.in_ok-digit.ensures.digit c.add.new.self c.as_slice.result.now _ _ c.add_ties.new.coding c.requires.coding
     c.in_ok-digit.ensures.needed c.first_place-first.ensures (ap length c.variables.ensures) c.in_ok-add.ensures.tracker
-    (c.as_slice.ensures.value ∙ c.in_ok-add.ensures.ties ∙ ap (λ (xs : List (VariableId × VariableId × Bool)). xs ++ new_ties same_variable c.args.tracker.now c.args.variable c.in_ok-digit.digit) c.new-ties.ensures.items)
+    (c.as_slice.ensures.value ∙ c.in_ok-add.ensures.ties ∙ ap (λ (xs : List (VariableId × VariableId × Bool)). xs ++ new_ties same_variable c.args.tracker.now c.args.variable c.in_ok-digit.digit) c.clear.ensures.items)
     c.in_ok-add_ties.ensures.encoded
