@@ -1,5 +1,5 @@
 -- Parents are added, and their requirements are encoded in turn.
-use Rattle.std.proofs.Common.{◌≡◌, ℕ, suc, ◌+◌, ◌<◌, ◌≤◌, ◌⊎◌, inl, inr, Bool, true, false, List, [], ◌∷◌, ◌++◌, length, cond, Option, Some, refl, sym, subst, arith, length-append}
+use Rattle.std.proofs.Common.{◌≡◌, ℕ, suc, ◌+◌, ◌<◌, ◌≤◌, ◌⊎◌, inl, inr, Bool, true, false, List, [], ◌∷◌, ◌++◌, length, cond, Option, Some, refl, sym, ap, subst, arith, length-append}
 use Rattle.std.specs.Prelude.{slice_get, Contains}
 use Rattle.std.specs.List.{list_any}
 use Rattle.indexmap.specs.IndexSet.{insert_key}
@@ -53,6 +53,25 @@ inserted_only {X} eq xs x y = go (list_any (eq x) xs)
     go : (b : Bool) → Contains (cond b xs (xs ++ x ∷ [])) y → Contains xs y ⊎ (y ≡ x)
     go true h = inl h
     go false h = elim (contains_parts y xs (x ∷ []) h) [ inl a ↦ inl a | inr a ↦ inr (contains_one y x a) ]
+
+-- a value of the list isn't inserted
+pub insert_known : {X : Type 0} (eq : X → X → Bool) (xs : List X) (x : X) → list_any (eq x) xs ≡ true → xs ≡ insert_key eq xs x
+insert_known eq xs x h = sym (ap (λ b. cond b xs (xs ++ x ∷ [])) h)
+
+-- one that isn't in the list is appended
+pub insert_fresh : {X : Type 0} (eq : X → X → Bool) (xs : List X) (x : X) → ((y : X) → eq x y ≡ true → y ≡ x) → (Contains xs x → ⊥) → xs ++ x ∷ [] ≡ insert_key eq xs x
+insert_fresh {X} eq xs x exact fresh = go (list_any (eq x) xs) refl
+  where
+    go : (b : Bool) → list_any (eq x) xs ≡ b → xs ++ x ∷ [] ≡ cond b xs (xs ++ x ∷ [])
+    go true h = absurd (fresh (any_is_in eq xs x exact h))
+    go false h = refl
+
+-- an appended value is in the list, and no other one is new
+pub pushed_present : {X : Type 0} (xs : List X) (x : X) → Contains (xs ++ x ∷ []) x
+pushed_present xs x = contains_right x xs (x ∷ []) (contains_first x x [] refl)
+
+pub pushed_only : {X : Type 0} (xs : List X) (x y : X) → Contains (xs ++ x ∷ []) y → Contains xs y ⊎ (y ≡ x)
+pushed_only xs x y h = elim (contains_parts y xs (x ∷ []) h) [ inl a ↦ inl a | inr a ↦ inr (contains_one y x a) ]
 
 module _ {N S : Type 0} (same : S → S → Bool) (p : Packages N S) (root : Rules) where
   -- more parents keep the invariant

@@ -10,7 +10,7 @@ ghost use Rattle.resolvo_encoder.specs.ClauseRules.{EncodesRules};
 ghost use Rattle.resolvo_encoder.specs.AtLeastOneClauses.{AreThose, AddsAtLeastOne, TracksAtLeastOne, NamesPackage, CaseLiterals};
 
 use crate::conditions::ConditionSet;
-use crate::encoder::{Encoder, add_key, push_candidates};
+use crate::encoder::{Encoder, add_key, add_value, push_candidates};
 use resolvo_packages::package_source::Offered;
 use resolvo_pool_core::id::{Exact, VariableId};
 use resolvo_pool_core::want::R;
@@ -29,11 +29,11 @@ impl<N: Copy + Exact + Hash + Debug + Drop, S: Copy + Exact + Hash + Debug> Enco
         ensures added { OnOk result (AddsAtLeastOne S.eq (one ∷ []) self.old self.new) }
         ensures ids { IsErrOf result Ids → LacksNumber self.new.coding }
     {
-        if self.recorded.there.contains(&one.solvable) {
+        if self.recorded.there.contains(one.solvable) {
             return Ok(());
         }
         self.encode_at_least_one(one)?;
-        add_key(&mut self.recorded.there, one.solvable)?;
+        add_value(&mut self.recorded.there, one.solvable)?;
         Ok(())
     }
 
@@ -90,12 +90,12 @@ impl<N: Copy + Exact + Hash + Debug + Drop, S: Copy + Exact + Hash + Debug> Enco
         ensures at_least_one { OnOk result (TracksAtLeastOne S.eq name self.old self.new) }
         ensures ids { IsErrOf result Ids → LacksNumber self.new.coding }
     {
-        if self.recorded.at_least_one.contains(&name) {
+        if self.recorded.at_least_one.contains(name) {
             return Ok(());
         }
         let registered = self.registered(alloc, name)?;
         self.add_at_least_ones(registered.as_slice())?;
-        add_key(&mut self.recorded.at_least_one, name)?;
+        add_value(&mut self.recorded.at_least_one, name)?;
         Ok(())
     }
 
@@ -105,7 +105,7 @@ impl<N: Copy + Exact + Hash + Debug + Drop, S: Copy + Exact + Hash + Debug> Enco
         ensures named { OnOk result (NamesPackage S.eq name self.old self.new) }
         ensures refusal { IsOkUnless result Memory }
     {
-        if self.recorded.at_least_one.contains(&name) {
+        if self.recorded.at_least_one.contains(name) {
             return Ok(());
         }
         add_key(&mut self.recorded.queued, name)?;

@@ -57,11 +57,11 @@ pub struct EncodedOnce<N: Copy + Exact + Hash, S: Copy + Exact + Hash> {
     pub matches: IndexSet<VersionSetId>,
     /// The packages of encoded cases: each of their registered solvables has an at-least-one
     /// clause.
-    pub at_least_one: IndexSet<N>,
+    pub at_least_one: OrderedSet<N>,
     /// The packages of newly encoded cases, whose at-least-one clauses wait for the encoding's end.
     pub queued: IndexSet<N>,
     /// The solvables with an at-least-one clause.
-    pub there: IndexSet<S>,
+    pub there: OrderedSet<S>,
     /// The accepted soft requirements, then the one of the current turn. An equal one may occur
     /// twice.
     pub softs: Vec<S>,
@@ -155,9 +155,9 @@ fn begun<N: Copy + Exact + Hash + Debug, S: Copy + Exact + Hash + Debug>(
             packages: OrderedSet::new(alloc),
             version_sets: IndexSet::new(alloc),
             matches: IndexSet::new(alloc),
-            at_least_one: IndexSet::new(alloc),
+            at_least_one: OrderedSet::new(alloc),
             queued: IndexSet::new(alloc),
-            there: IndexSet::new(alloc),
+            there: OrderedSet::new(alloc),
             softs: Vec::new(alloc),
         },
         parents,
@@ -492,7 +492,8 @@ pub(crate) fn push_candidates<N>(candidates: &[Candidate<N>], literals: &mut Vec
 }
 
 /// Appends a value, unless it is in the set.
-pub(crate) fn add_value<K: Copy + Exact + Hash + Drop>(keys: &mut OrderedSet<K>, key: K) -> R<()>
+pub fn add_value<K: Copy + Exact + Hash + Drop>(keys: &mut OrderedSet<K>, key: K) -> R<()>
+    ensures added { OnOk result (keys.new.keys ≡ insert_key K.eq keys.old.keys key) }
     ensures prefix { OnOk result (IsPrefixOf keys.old.keys keys.new.keys) }
     ensures present { OnOk result (Contains keys.new.keys key) }
     ensures only { OnOk result

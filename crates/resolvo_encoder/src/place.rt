@@ -127,7 +127,7 @@ impl<N: Copy + Exact + Hash + Debug + Drop, S: Copy + Exact + Hash + Debug> Enco
         ensures admitted { OnOk result (Admits S.eq (one ∷ []) self.old self.new) }
         ensures ids { IsErrOf result Ids → LacksNumber self.new.coding }
     {
-        if self.recorded.at_least_one.contains(&one.name) {
+        if self.recorded.at_least_one.contains(one.name) {
             self.add_at_least_one(one)?;
         }
         Ok(())
@@ -159,6 +159,9 @@ impl<N: Copy + Exact + Hash + Debug + Drop, S: Copy + Exact + Hash + Debug> Enco
     }
 }
 
+/// So many solvables are compared with one another at most, to see whether they are grouped.
+const FEW: usize = 8;
+
 /// Sorts solvables by package, in the order in which the packages occur. Those of a package keep
 /// their order.
 fn group<N: Copy + Exact + Hash + Debug + Drop, S: Copy + Exact + Hash + Debug>(
@@ -168,20 +171,42 @@ fn group<N: Copy + Exact + Hash + Debug + Drop, S: Copy + Exact + Hash + Debug>(
     ensures grouped { OnOk result (IsPermutation list.old.items list.new.items) }
     ensures refusal { IsOkUnless result Memory }
 {
-    if list.len() < 2 {
+    if list.len() < 2 || are_few_in_groups(list.as_slice()) {
         return Ok(());
     }
     let mut names = IndexSet::with_capacity(alloc, list.len())?;
     let mut is_grouped = true;
     let mut last = list[0].name;
+    names.insert(last)?;
     for one in list.iter() {
-        let is_new = names.insert(one.name)?;
-        is_grouped = is_grouped && (is_new || one.name == last);
-        last = one.name;
+        if one.name != last {
+            let is_new = names.insert(one.name)?;
+            is_grouped = is_grouped && is_new;
+            last = one.name;
+        }
     }
     if is_grouped {
         return Ok(());
     }
     list.sort_by_key(|one| names.get_index_of(&one.name))?;
     Ok(())
+}
+
+/// Whether these are few, and those of a package lie side by side.
+fn are_few_in_groups<N: Copy + Exact, S>(list: &[Offered<N, S>]) -> bool {
+    if list.len() > FEW {
+        return false;
+    }
+    for place in 1..list.len() {
+        let name = list[place].name;
+        if list[place - 1].name != name && is_named(&list[..place], name) {
+            return false;
+        }
+    }
+    true
+}
+
+/// Whether one of these is of a package.
+fn is_named<N: Copy + Exact, S>(list: &[Offered<N, S>], name: N) -> bool {
+    list.iter().any(|one| one.name == name)
 }

@@ -1,14 +1,12 @@
-use Rattle.std.proofs.Common.{refl, sym, ◌∙◌}
+use Rattle.std.proofs.Common.{refl, sym}
 use Rattle.resolvo_sat.specs.RuleClauses.{IsExact}
 use Rattle.resolvo_encoder.proofs.CaseLiterals.{named_known, package_named}
-use Rattle.resolvo_encoder.proofs.Parents.{any_is_in}
 use Rattle.resolvo_encoder.proofs.encoder.Encoder.name_package.Goals as goal
 
 pub returns-then-contains-clause-named : goal.returns-then-contains-clause-named
 returns-then-contains-clause-named g c =
     let exact : IsExact g.S.PartialEq.eq = record { one = g.met.S.Exact.exact; own = g.met.S.Eq.laws.refl } in
-    named_known g.S.PartialEq.eq exact c.args.name c.args.self.now c.requires
-    (any_is_in g.N.PartialEq.eq c.args.self.now.recorded.at_least_one.keys c.args.name (λ y e. sym (g.met.N.Exact.exact c.args.name y e)) (sym c.contains.ensures ∙ c.if-contains.true))
+    named_known g.S.PartialEq.eq exact c.args.name c.args.self.now c.requires (c.contains.ensures.0 c.if-contains.true)
 
 pub returns-clause-named : goal.returns-clause-named
 returns-clause-named g c =
