@@ -3,7 +3,8 @@
 ghost use Rattle.std.specs.Prelude.{IsOkUnless};
 ghost use Rattle.resolvo_pool_core.specs.declared.want.Want.TheVariants.{Memory};
 
-use indexmap::{IndexMap, IndexSet};
+use crate::named_cases::NamedCases;
+use crate::waiting_conditions::WaitingConditions;
 use resolvo_encoder::encoder::Encoder;
 use resolvo_packages::package_source::PackageSource;
 use resolvo_pool_core::id::{ConditionId, Exact};
@@ -14,32 +15,28 @@ use std::hash::Hash;
 use std::ops::Range;
 
 /// How far the trail is scanned, and which deferred cases may hold by the choices since.
-pub struct Scan<N: Copy + Eq + Hash> {
+pub struct Scan<N: Copy + Exact + Hash> {
     /// The number of scanned entries of the trail.
     entries: usize,
     /// The number of clauses before the encoding that is next or under way.
     clauses: usize,
-    /// The packages that the listed cases name.
-    names: IndexSet<N>,
-    /// The places of the listed cases that name each of them.
-    places: Vec<Vec<usize>>,
+    /// The places of the listed cases that name each package.
+    named: NamedCases<N>,
     /// The number of listed cases, of those that are deferred.
     listed: usize,
     /// The places of listed cases that may hold by the choices since their last scan.
     touched: Vec<usize>,
-    /// The conditions of listed cases that wait, with the number of these: in the order in which
-    /// they were first deferred, but the last one takes the place of one that has none left.
-    conditions: IndexMap<ConditionId, usize>,
+    /// The conditions of listed cases that wait.
+    conditions: WaitingConditions,
 }
 
 // split for the prover: one drop
-impl<N: Copy + Eq + Hash> Drop for Scan<N> {
+impl<N: Copy + Exact + Hash> Drop for Scan<N> {
     fn drop(self) {
         let Scan {
             entries: _,
             clauses: _,
-            names: _,
-            places: _,
+            named: _,
             listed: _,
             touched: _,
             conditions: _,
@@ -53,11 +50,10 @@ impl<N: Copy + Exact + Hash + Debug> Scan<N> {
         Scan {
             entries: 0,
             clauses: 0,
-            names: IndexSet::new(alloc),
-            places: Vec::new(alloc),
+            named: NamedCases::new(alloc),
             listed: 0,
             touched: Vec::new(alloc),
-            conditions: IndexMap::new(alloc),
+            conditions: WaitingConditions::new(alloc),
         }
     }
 
@@ -89,7 +85,7 @@ impl<N: Copy + Exact + Hash + Debug> Scan<N> {
     pub(crate) fn end_touched<S: Copy + Exact + Hash + Debug>(&mut self, encoding: &Encoder<N, S>) {
         for place in &self.touched {
             if encoding.fired.contains(place) {
-                end_case(&mut self.conditions, condition_at(encoding, *place));
+                self.conditions.end_case(condition_at(encoding, *place));
             }
         }
         self.touched.clear();
@@ -116,47 +112,19 @@ impl<N: Copy + Exact + Hash + Debug> Scan<N> {
     pub(crate) fn touch(&mut self, name: N) -> R<()>
         ensures { IsOkUnless result Memory }
     {
-        if let Some(index) = self.names.get_index_of(&name) {
-            if let Some(places) = self.places.get(index) {
-                self.touched.extend_from_slice(places.as_slice())?;
-            }
-        }
-        Ok(())
-    }
-
-    /// The place of a condition in the order in which its cases are taken.
-    fn rank(&self, condition: Option<ConditionId>) -> usize {
-        match condition {
-            None => 0,
-            Some(condition) => self.conditions.get_index_of(&condition).unwrap_or(0),
-        }
-    }
-
-    /// Records that the case at this place names a package.
-    fn name(&mut self, alloc: Global, name: N, place: usize) -> R<()>
-        ensures { IsOkUnless result Memory }
-    {
-        let (index, is_new) = self.names.insert_full(name)?;
-        if is_new {
-            self.places.push(Vec::new(alloc))?;
-        }
-        if let Some(places) = self.places.get_mut(index) {
-            places.push(place)?;
-        }
-        Ok(())
+        self.named.push_each(name, &mut self.touched)
     }
 }
 
 /// Marks all entries and all cases as scanned.
 pub(crate) fn mark_all<A: PackageSource>(
-    alloc: Global,
     answers: &A,
     encoding: &Encoder<A::NameId, A::SolvableId>,
     scan: &mut Scan<A::NameId>,
 ) -> R<()>
     ensures { IsOkUnless result Memory }
 {
-    list(alloc, answers, encoding, scan)?;
+    list(answers, encoding, scan)?;
     scan.touched.clear();
     scan.entries = encoding.coding.search.tracker.stack().len();
     Ok(())
@@ -170,38 +138,6 @@ fn condition_at<N: Copy + Exact + Hash + Debug, S: Copy + Exact + Hash + Debug>(
     encoding.deferred.get(place)?.need.condition
 }
 
-/// One more case of this condition waits.
-fn begin_case(
-    conditions: &mut IndexMap<ConditionId, usize>,
-    condition: Option<ConditionId>,
-) -> R<()>
-    ensures { IsOkUnless result Memory }
-{
-    let Some(condition) = condition else {
-        return Ok(());
-    };
-    let waiting = match conditions.get(&condition) {
-        Some(count) => *count,
-        None => 0,
-    };
-    conditions.insert(condition, waiting.saturating_add(1))?;
-    Ok(())
-}
-
-/// One case less of this condition waits. The last condition takes the place of one that has none.
-fn end_case(conditions: &mut IndexMap<ConditionId, usize>, condition: Option<ConditionId>) {
-    let Some(condition) = condition else {
-        return;
-    };
-    let Some(waiting) = conditions.get_mut(&condition) else {
-        return;
-    };
-    *waiting = waiting.saturating_sub(1);
-    if *waiting == 0 {
-        conditions.swap_remove(&condition);
-    }
-}
-
 /// Finds the cases that may hold by the choices since their last scan, and the new ones: by
 /// condition, and of one condition in the order in which they were deferred.
 pub(crate) fn find_touched<A: PackageSource>(
@@ -212,11 +148,16 @@ pub(crate) fn find_touched<A: PackageSource>(
 ) -> R<()>
     ensures { IsOkUnless result Memory }
 {
-    list(alloc, answers, encoding, scan)?;
+    list(answers, encoding, scan)?;
+    if scan.touched.len() < 2 {
+        drop_spent(encoding, &mut scan.touched);
+        return Ok(());
+    }
     let mut ranked = Vec::new(alloc);
     for place in &scan.touched {
         if !encoding.fired.contains(place) {
-            ranked.push((scan.rank(condition_at(encoding, *place)), *place))?;
+            let rank = scan.conditions.rank(condition_at(encoding, *place));
+            ranked.push((rank, *place))?;
         }
     }
     ranked.sort_unstable();
@@ -228,9 +169,20 @@ pub(crate) fn find_touched<A: PackageSource>(
     Ok(())
 }
 
+/// Drops the case that may hold, where it is the only one and is encoded.
+fn drop_spent<N: Copy + Exact + Hash + Debug, S: Copy + Exact + Hash + Debug>(
+    encoding: &Encoder<N, S>,
+    touched: &mut Vec<usize>,
+) {
+    if let Some(place) = touched.first() {
+        if encoding.fired.contains(place) {
+            touched.clear();
+        }
+    }
+}
+
 /// Lists the new cases that wait, which may hold.
 fn list<A: PackageSource>(
-    alloc: Global,
     answers: &A,
     encoding: &Encoder<A::NameId, A::SolvableId>,
     scan: &mut Scan<A::NameId>,
@@ -240,9 +192,10 @@ fn list<A: PackageSource>(
     for place in scan.listed..encoding.deferred.len() {
         if !encoding.fired.contains(&place) {
             for conjunct in &encoding.deferred[place].conjuncts {
-                scan.name(alloc, answers.set_package(conjunct.version_set()), place)?;
+                let name = answers.set_package(conjunct.version_set());
+                scan.named.add(name, place)?;
             }
-            begin_case(&mut scan.conditions, condition_at(encoding, place))?;
+            scan.conditions.begin_case(condition_at(encoding, place))?;
             scan.touched.push(place)?;
         }
     }

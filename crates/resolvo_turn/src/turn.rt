@@ -170,7 +170,7 @@ fn fire<A: PackageSource>(
     if !fire_cases(alloc, answers, encoding)? {
         return Ok(false);
     }
-    mark_all(alloc, answers, encoding, scan)?;
+    mark_all(answers, encoding, scan)?;
     Ok(true)
 }
 

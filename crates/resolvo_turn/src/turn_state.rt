@@ -9,7 +9,7 @@ use std::hash::Hash;
 
 /// The scores of packages, and how far the trail and the deferred cases are scanned.
 #[derive(Drop)]
-pub struct TurnState<N: Copy + Eq + Hash, C: ScoreMap<N>> {
+pub struct TurnState<N: Copy + Exact + Hash, C: ScoreMap<N>> {
     pub scores: Scores<N, C>,
     pub scan: Scan<N>,
 }
