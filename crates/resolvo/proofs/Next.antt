@@ -1,9 +1,10 @@
 -- One more soft requirement: its turn is recorded, and its choices are listed.
-use Rattle.std.proofs.Common.{◌≡◌, ℕ, zero, suc, ◌-◌, ◌<◌, ◌≤◌, ◌⊎◌, cond, inl, inr, Bool, true, false, take, reverse, List, [], ◌∷◌, ◌++◌, length, Option, Some, None, Vec, Global, HashSet, BuildHasherDefault, FoldHasher, refl, sym, ◌∙◌, ap, subst, arith}
+use Rattle.std.proofs.Common.{◌≡◌, ℕ, zero, suc, ◌-◌, ◌<◌, ◌≤◌, ◌⊎◌, cond, inl, inr, Bool, true, false, take, reverse, List, [], ◌∷◌, ◌++◌, length, Option, Some, None, Vec, Global, refl, sym, ◌∙◌, ap, subst, arith}
 use Rattle.std.specs.Prelude.{Contains}
 use Rattle.std.proofs.lemmas.Bool.{both_ways, cases_Bool}
 use Rattle.std.proofs.lemmas.List.{take_all}
 use Rattle.indexmap.specs.IndexSet.{insert_all}
+use Rattle.resolvo_pool_core.specs.Ordered.{Ordered}
 use Rattle.resolvo_pool_core.specs.declared.id.ClauseId.{ClauseId}
 use Rattle.resolvo_pool_core.specs.declared.id.VariableId.{VariableId}
 use Rattle.resolvo_pool_core.specs.declared.requirement.Requirement.{Requirement}
@@ -124,8 +125,8 @@ module _ {N S : Type 0} where
   next_at a b t m u s begin w at are turns pushed softs encoded =
       let all : reverse u.turns.items ≡ pushed.turn ∷ reverse t.turns.items = ap reverse (pushed.turns ∙ ap (λ (ts : Vec (Turn S) Global). ts.items ++ pushed.turn ∷ []) turns) ∙ reverse_push t.turns.items pushed.turn in
       record {
-        chosen = ap (λ (c : HashSet S (BuildHasherDefault FoldHasher)). c.keys) pushed.chosen ∙ are;
-        encoded = subst (λ (c : HashSet S (BuildHasherDefault FoldHasher)). AreAmongEncoded b c.keys) (sym pushed.chosen) encoded;
+        chosen = ap (λ (c : Ordered S). c.keys) pushed.chosen ∙ are;
+        encoded = subst (λ (c : Ordered S). AreAmongEncoded b c.keys) (sym pushed.chosen) encoded;
         softs = softs ∙ accepted_after a.recorded.softs.items s pushed.turn (reverse t.turns.items) (was_accepted w) pushed.fields.accepted pushed.fields.solvable at.softs ∙ ap accepted_of (sym all);
       }
 
@@ -135,7 +136,7 @@ module _ {N S : Type 0} where
         → b.recorded.softs.items ≡ cond (was_accepted w) (a.recorded.softs.items ++ s ∷ []) a.recorded.softs.items → IsAccepted same p root b.recorded.softs.items m.chosen.keys → was_accepted w ≡ is_in same p m.chosen.keys s → (was_accepted w ≡ false → m.chosen.keys ≡ t.chosen.keys)
         → (was_accepted w ≡ false → IsDenied same p root a s) → AreRight same p root first (done ++ s ∷ []) u
     recorded_next a b t m u first done s w at right prefix turns pushed softs accepted is same_keys denied =
-        let keys : u.chosen.keys ≡ m.chosen.keys = ap (λ (c : HashSet S (BuildHasherDefault FoldHasher)). c.keys) pushed.chosen in
+        let keys : u.chosen.keys ≡ m.chosen.keys = ap (λ (c : Ordered S). c.keys) pushed.chosen in
         next_right same p root first done s t u pushed.turn right (subst (λ (xs : List S). IsPrefixOf t.chosen.keys xs) (sym keys) prefix) (pushed.turns ∙ ap (λ (ts : Vec (Turn S) Global). ts.items ++ pushed.turn ∷ []) turns)
         pushed.fields.begin_is (pushed.fields.end_is ∙ ap (λ (xs : List S). length xs) (sym keys)) pushed.fields.solvable
         (subst (λ (xs : List S). IsAccepted same p root (accepted_of (pushed.turn ∷ reverse t.turns.items)) xs) (sym keys)
@@ -164,7 +165,7 @@ module _ {N S : Type 0} where
 
   next_reasons : (a b : Encoder N S) (t m u : Turns S) (s : S) (begin : ℕ) (w : SoftOutcome) → KeepsTrail a b → IsPrefixOf t.chosen.keys m.chosen.keys → m.turns ≡ t.turns → (pushed : Records s begin w m u) → HaveReasons a.coding t → HasReason b.coding u.chosen.keys pushed.turn → HaveReasons b.coding u
   next_reasons a b t m u s begin w keeps prefix turns pushed old new turn h =
-      let keys : m.chosen.keys ≡ u.chosen.keys = sym (ap (λ (c : HashSet S (BuildHasherDefault FoldHasher)). c.keys) pushed.chosen) in
+      let keys : m.chosen.keys ≡ u.chosen.keys = sym (ap (λ (c : Ordered S). c.keys) pushed.chosen) in
       elim (contains_parts turn t.turns.items (pushed.turn ∷ []) (subst (λ (ts : List (Turn S)). Contains ts turn) (pushed.turns ∙ ap (λ (ts : Vec (Turn S) Global). ts.items ++ pushed.turn ∷ []) turns) h)) [
         | inl before ↦ reason_stays a.coding b.coding t.chosen.keys u.chosen.keys keeps.atoms keeps.clauses keeps.kinds (subst (λ (xs : List S). IsPrefixOf t.chosen.keys xs) keys prefix) turn (old turn before)
         | inr now ↦ subst (λ (x : Turn S). HasReason b.coding u.chosen.keys x) (sym (contains_one turn pushed.turn now)) new
@@ -183,7 +184,7 @@ module _ {N S : Type 0} where
   refused_reason a b t u s begin clause pushed at is reason =
       let later : 0 < clause.0 = reason.later in
       let number : clause.0 ≡ suc (clause.0 - 1) = omega arith in
-      let keys : t.chosen.keys ≡ u.chosen.keys = sym (ap (λ (c : HashSet S (BuildHasherDefault FoldHasher)). c.keys) pushed.chosen) in
+      let keys : t.chosen.keys ≡ u.chosen.keys = sym (ap (λ (c : Ordered S). c.keys) pushed.chosen) in
       let whole : take pushed.turn.begin u.chosen.keys ≡ t.chosen.keys = ap (λ (xs : List S). take pushed.turn.begin xs) (sym keys) ∙ take_all pushed.turn.begin t.chosen.keys (let x : pushed.turn.begin ≡ begin = pushed.fields.begin_is in let y : begin ≡ length t.chosen.keys = is in omega arith) in
       record {
         accepted = λ h. absurd (both_ways _ pushed.fields.accepted h);
@@ -280,11 +281,11 @@ module _ {N S : Type 0} where
     outcome_at exact after (Soft.Unsat r) (Some q) is (one, unchanged) = subst (λ (x : FinalConflict). IsRefusal b.coding.search x.literals.items x.causes.items × (x.literals.items ≡ [])) (sym one) is
 
     pub outcome_prefix : (w : SoftOutcome) (o : Option FinalConflict) → RecordsOutcome same s b t u w o → IsPrefixOf t.chosen.keys u.chosen.keys
-    outcome_prefix Soft.AlreadyChosen None pushed = prefix_equal t.chosen.keys u.chosen.keys (ap (λ (c : HashSet S (BuildHasherDefault FoldHasher)). c.keys) pushed.chosen)
+    outcome_prefix Soft.AlreadyChosen None pushed = prefix_equal t.chosen.keys u.chosen.keys (ap (λ (c : Ordered S). c.keys) pushed.chosen)
     outcome_prefix Soft.AlreadyChosen (Some q) none = absurd none
-    outcome_prefix Soft.Chosen None (m, lists, in_order, turns, pushed) = subst (λ (c : HashSet S (BuildHasherDefault FoldHasher)). IsPrefixOf t.chosen.keys c.keys) (sym pushed.chosen) lists
+    outcome_prefix Soft.Chosen None (m, lists, in_order, turns, pushed) = subst (λ (c : Ordered S). IsPrefixOf t.chosen.keys c.keys) (sym pushed.chosen) lists
     outcome_prefix Soft.Chosen (Some q) none = absurd none
-    outcome_prefix (Soft.Refused clause) None pushed = prefix_equal t.chosen.keys u.chosen.keys (ap (λ (c : HashSet S (BuildHasherDefault FoldHasher)). c.keys) pushed.chosen)
+    outcome_prefix (Soft.Refused clause) None pushed = prefix_equal t.chosen.keys u.chosen.keys (ap (λ (c : Ordered S). c.keys) pushed.chosen)
     outcome_prefix (Soft.Refused clause) (Some q) none = absurd none
     outcome_prefix (Soft.Unsat r) None none = absurd none
     outcome_prefix (Soft.Unsat r) (Some q) (one, unchanged) = prefix_equal t.chosen.keys u.chosen.keys (ap (λ (x : Turns S). x.chosen.keys) unchanged)

@@ -1,5 +1,5 @@
 -- The turns of soft requirements.
-use Rattle.std.proofs.Common.{◌≡◌, suc, ◌<◌, ◌≤◌, inl, inr, Bool, true, false, List, [], length, Some, HashSet, refl, sym, ◌∙◌, ap, subst, arith}
+use Rattle.std.proofs.Common.{◌≡◌, suc, ◌<◌, ◌≤◌, inl, inr, Bool, true, false, List, [], length, Some, refl, sym, ◌∙◌, ap, subst, arith}
 use Rattle.std.specs.Prelude.{not, Contains}
 use Rattle.resolvo_pool_core.specs.Ordered.{Ordered}
 use Rattle.resolvo_pool_core.specs.declared.id.VariableId.{VariableId}
@@ -64,7 +64,7 @@ module _ {N S : Type 0} (e opened first : Encoder N S) (goes : GoesOn (turn_of e
   opened_taken parents base s (u, represents, truth) =
       let atoms : first.coding.atoms.keys ≡ e.coding.atoms.keys = ap (λ (x : SolverState N S). x.atoms.keys) (parents_coding opened first added) ∙ ap (λ (a : Ordered (ProofAtom N S)). a.keys) goes.atoms in
       let before : Contains e.parents.keys (Place.Solvable s) = parents s (u, subst (λ (xs : List (ProofAtom N S)). Represents xs u (Solvable s)) atoms represents, subst (λ (h : List Entry). has (made_true h) (yes u) ≡ true) base truth) in
-      contains_longer opened.parents.keys first.parents.keys (Place.Solvable s) added.prefix (subst (λ (ks : HashSet _ _). Contains ks.keys (Place.Solvable s)) (sym goes.rest.parents) before)
+      contains_longer opened.parents.keys first.parents.keys (Place.Solvable s) added.prefix (subst (λ (ks : Ordered _). Contains ks.keys (Place.Solvable s)) (sym goes.rest.parents) before)
 
   pub opened_adds : (last : Encoder N S) → AddsParents first last → AddsParents (turn_of e) last
   opened_adds last adds = all_then (turn_of e) first last (all_then (turn_of e) opened first (goes_parents (turn_of e) opened goes) (needs_parents opened first (parents_needs opened first added))) adds

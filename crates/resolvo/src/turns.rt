@@ -8,9 +8,9 @@ ghost use Rattle.resolvo_turn.specs.Turn.{in_turn};
 ghost use Rattle.resolvo.specs.Turns.{AreAccepted, Records, IsTurnRecord};
 
 use crate::soft_requirements::SoftOutcome;
-use indexmap::IndexSet;
-use resolvo_encoder::encoder::{Encoder, add_key};
+use resolvo_encoder::encoder::{Encoder, add_value};
 use resolvo_pool_core::id::Exact;
+use resolvo_pool_core::ordered_set::OrderedSet;
 use resolvo_pool_core::want::R;
 use resolvo_turn::chosen::chosen_in_turn;
 use std::alloc::Global;
@@ -34,8 +34,8 @@ pub struct Turn<S> {
 /// The chosen solvables so far, in the order of the trail, and the turns of the soft requirements
 /// so far.
 #[derive(Drop)]
-pub struct Turns<S: Eq + Hash> {
-    pub chosen: IndexSet<S>,
+pub struct Turns<S: Copy + Exact + Hash> {
+    pub chosen: OrderedSet<S>,
     pub turns: Vec<Turn<S>>,
 }
 
@@ -46,7 +46,7 @@ impl<S: Copy + Exact + Hash + Debug> Turns<S> {
         ensures turns { result.turns.items ≡ [] }
     {
         Turns {
-            chosen: IndexSet::new(alloc),
+            chosen: OrderedSet::new(alloc),
             turns: Vec::new(alloc),
         }
     }
@@ -110,12 +110,12 @@ pub(crate) fn are_accepted<S>(turns: &[Turn<S>]) -> bool
 }
 
 /// Lists these after the others, in their order and each once.
-fn list_each<S: Copy + Exact + Hash + Debug>(listed: &mut IndexSet<S>, chosen: &[S]) -> R<()>
+fn list_each<S: Copy + Exact + Hash + Debug>(listed: &mut OrderedSet<S>, chosen: &[S]) -> R<()>
     ensures adds { OnOk result (IsPrefixOf listed.old.keys listed.new.keys) }
     ensures in_order { OnOk result (listed.new.keys ≡ insert_all S.eq listed.old.keys chosen.now) }
 {
     for solvable in chosen {
-        add_key(listed, *solvable)?;
+        add_value(listed, *solvable)?;
     }
     Ok(())
 }

@@ -17,8 +17,8 @@ loop-solvable-preserved g c =
     let item = c.solvable-item.result in
     let more : take (i + 1) xs ≡ take i xs ++ item ∷ [] = take_more xs i item c.loop-solvable-test.true ∙ ap (λ x. take i xs ++ x ∷ []) (sym c.solvable-item.is) in
     record {
-      adds = prefix_then old c.loop-solvable.listed.keys c.add_key.new.keys.keys c.loop-solvable.invariant.adds c.in_ok-add_key.ensures.prefix;
-      in_order = inserted_more same old (take i xs) (take (i + 1) xs) c.loop-solvable.listed.keys c.add_key.new.keys.keys item more c.loop-solvable.invariant.in_order c.in_ok-add_key.ensures.added;
+      adds = prefix_then old c.loop-solvable.listed.keys c.add_value.new.keys.keys c.loop-solvable.invariant.adds c.in_ok-add_value.ensures.prefix;
+      in_order = inserted_more same old (take i xs) (take (i + 1) xs) c.loop-solvable.listed.keys c.add_value.new.keys.keys item more c.loop-solvable.invariant.in_order c.in_ok-add_value.ensures.added;
     }
 
 pub returns-clause-adds : goal.returns-clause-adds
