@@ -26,7 +26,7 @@ use Rattle.resolvo_state.specs.declared.atom.ProofAtom.TheVariants.{Solvable}
 use Rattle.resolvo_state.specs.Chosen.{AreChosen}
 use Rattle.resolvo_state.specs.SolverState.{IsCoding}
 use Rattle.resolvo_state.specs.declared.solver_state.SolverState.{SolverState}
-use Rattle.resolvo_state.specs.declared.clause_kind.ClauseKind.TheVariants.{Learnt}
+use Rattle.resolvo_state.specs.Kinds.{Learnt}
 use Rattle.resolvo_state.proofs.Origins.{means_solvable, solvable_means, represents_more}
 use Rattle.resolvo_encoder.specs.declared.encoder.Encoder.{Encoder}
 use Rattle.resolvo_encoder.specs.Base.{base_of}

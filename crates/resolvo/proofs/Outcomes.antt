@@ -30,8 +30,8 @@ use Rattle.resolvo_state.specs.declared.solver_state.SolverState.{SolverState}
 use Rattle.resolvo_state.specs.Atoms.{IsFound, Represents}
 use Rattle.resolvo_state.specs.SolverState.{AddsDenial, Grows, IsCoding}
 use Rattle.resolvo_state.specs.ClauseKinds.{kind_at}
-use Rattle.resolvo_state.specs.declared.clause_kind.ClauseKind.{ClauseKind}
-use Rattle.resolvo_state.specs.declared.clause_kind.ClauseKind.TheVariants.{Learnt, Root}
+use Rattle.resolvo_state.specs.Kinds.{Kind}
+use Rattle.resolvo_state.specs.Kinds.{Learnt, Root}
 use Rattle.resolvo_state.proofs.Growth.{grows_same, grows_then, represents_grow, represents_once}
 use Rattle.resolvo_state.proofs.Origins.{represents_more}
 use Rattle.resolvo_state.proofs.Positions.{prefix_equal, prefix_same, prefix_then, get_last}
@@ -73,7 +73,7 @@ added_learnt {N} {S} a b literals causes clause coding adding =
       later = omega arith;
       held = adding.clause;
       present = subst (λ (n : ℕ). slice_get b.search.clauses n ≡ Some adding.clause) (sym number) (subst (λ (cs : List SatClause). slice_get cs (length a.search.clauses) ≡ Some adding.clause) (sym adding.added) (get_last a.search.clauses adding.clause));
-      learnt = subst (λ (n : ℕ). kind_at b.kinds.items n ≡ Some Learnt) (each ∙ sym number) (subst (λ (xs : List (ClauseKind N S)). kind_at xs (length a.kinds.items) ≡ Some Learnt) (sym adding.kinds) (get_last a.kinds.items Learnt));
+      learnt = subst (λ (n : ℕ). kind_at b.kinds.items n ≡ Some Learnt) (each ∙ sym number) (subst (λ (xs : List (Kind N S)). kind_at xs (length a.kinds.items) ≡ Some Learnt) (sym adding.kinds) (get_last a.kinds.items Learnt));
       is = adding.literals;
     }
 

@@ -11,8 +11,7 @@ use Rattle.resolvo_sat.proofs.Lists.{contains_map}
 use Rattle.resolvo_sat.proofs.Meanings.{meaning_from}
 use Rattle.resolvo_state.specs.declared.atom.ProofAtom.TheVariants.{Solvable}
 use Rattle.resolvo_state.specs.declared.solver_state.SolverState.{SolverState}
-use Rattle.resolvo_state.specs.declared.clause_kind.ClauseKind.{ClauseKind}
-use Rattle.resolvo_state.specs.declared.clause_kind.ClauseKind.TheVariants as Kind
+use Rattle.resolvo_state.specs.Kinds.{Kind}
 use Rattle.resolvo_state.specs.Atoms.{origin}
 use Rattle.resolvo_state.proofs.Origins.{atom_of_one, origin_represents}
 use Rattle.resolvo_state.proofs.Positions.{get_below}
@@ -48,8 +47,8 @@ module _ {N S : Type 0} (c : SolverState N S) (steps : List (ProofStep N S)) (ar
   }
 
   -- a learnt clause encodes no rule
-  learnt_step : (x : ClauseKind N S) (held : SatClause) (step : ProofStep N S) → x ≡ Kind.Learnt → IsStepOf c.atoms.keys x held step → IsDerivation c.atoms.keys held.literals held.causes step
-  learnt_step x held step is (inl (r, rule, encodes)) = absurd (let none : Some r ≡ None = subst (λ (y : ClauseKind N S). IsRuleOf y (Some r)) is encodes in cc)
+  learnt_step : (x : Kind N S) (held : SatClause) (step : ProofStep N S) → x ≡ Kind.Learnt → IsStepOf c.atoms.keys x held step → IsDerivation c.atoms.keys held.literals held.causes step
+  learnt_step x held step is (inl (r, rule, encodes)) = absurd (let none : Some r ≡ None = subst (λ (y : Kind N S). IsRuleOf y (Some r)) is encodes in cc)
   learnt_step x held step is (inr (learnt, derivation)) = derivation
 
   -- the step of a reason denies what it denies

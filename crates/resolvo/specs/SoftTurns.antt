@@ -18,7 +18,7 @@ use Rattle.resolvo_state.specs.Atoms.{Represents}
 use Rattle.resolvo_state.specs.SolverState.{Grows}
 use Rattle.resolvo_state.specs.declared.solver_state.SolverState.{SolverState}
 use Rattle.resolvo_state.specs.ClauseKinds.{kind_at}
-use Rattle.resolvo_state.specs.declared.clause_kind.ClauseKind.TheVariants.{Learnt}
+use Rattle.resolvo_state.specs.Kinds.{Learnt}
 use Rattle.resolvo_sat.specs.declared.analyze.FinalConflict.{FinalConflict}
 use Rattle.resolvo_encoder.specs.Base.{base_of, IsOpen}
 use Rattle.resolvo_encoder.specs.Encoded.{IsEncoding}

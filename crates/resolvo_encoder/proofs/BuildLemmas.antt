@@ -32,8 +32,8 @@ use Rattle.resolvo_sat.proofs.Literals.{has-cons, has-append}
 use Rattle.resolvo_state.specs.declared.atom.ProofAtom.{ProofAtom}
 use Rattle.resolvo_state.specs.declared.atom.ProofAtom.TheVariants.{Solvable, Gate}
 use Rattle.resolvo_state.specs.declared.registry.Registry.{Registry}
-use Rattle.resolvo_state.specs.declared.clause_kind.ClauseKind.{ClauseKind}
-use Rattle.resolvo_state.specs.declared.clause_kind.ClauseKind.TheVariants.{Digit}
+use Rattle.resolvo_state.specs.Kinds.{Kind}
+use Rattle.resolvo_state.specs.Kinds.{Digit}
 use Rattle.resolvo_state.specs.Atoms.{Represents}
 use Rattle.resolvo_state.specs.declared.solver_state.SolverState.{SolverState}
 use Rattle.resolvo_state.specs.SolverState.{IsCoding, Grows, SameTrail, Gives}
@@ -86,7 +86,7 @@ built_rest old new b coding grows digits rest queue on = built_grows old new b c
     (subst (λ (q : DecideQueue). IsSeenOf new.coding.search.tracker q.undecided.seen.items) (sym queue) (on old.queue.undecided.seen.items b.seen))
 
 -- the clause of the new need is the last one
-clauses_end : {N S : Type 0} (x : ClauseKind N S) (v : VariableId) (condition : Option (DenseId DisjunctionTag ℕ)) (r : Requirement) (old new : Encoder N S) → IsBuilt old → EncodesNeed x v condition r old new → (q : NeedClause) → Contains (needs_of new.queue) q → HasNeedLiterals old.lists new.coding.search.clauses q
+clauses_end : {N S : Type 0} (x : Kind N S) (v : VariableId) (condition : Option (DenseId DisjunctionTag ℕ)) (r : Requirement) (old new : Encoder N S) → IsBuilt old → EncodesNeed x v condition r old new → (q : NeedClause) → Contains (needs_of new.queue) q → HasNeedLiterals old.lists new.coding.search.clauses q
 clauses_end {N} {S} x v condition r old new b s q a = elim (contains_parts q (needs_of old.queue) (here ∷ []) (subst (λ (qs : List NeedClause). Contains qs q) s.queue a)) [
   | inl before ↦ literals_grow old.lists old.coding.search.clauses new.coding.search.clauses q s.states.grows.clauses (b.clauses q before)
   | inr last ↦ subst (λ (y : NeedClause). HasNeedLiterals old.lists new.coding.search.clauses y) (sym (contains_one q here last)) (record { in_range = below; each = λ l h. subst (λ (c : List Signed). has c l ≡ true) is h })
@@ -106,7 +106,7 @@ clauses_end {N} {S} x v condition r old new b s q a = elim (contains_parts q (ne
         ∙ clause_at_end (lists old.coding.search.clauses) s.states.clause.literals
         ∙ s.states.literals
 
-pub built_encodes : {N S : Type 0} (x : ClauseKind N S) (v : VariableId) (condition : Option (DenseId DisjunctionTag ℕ)) (r : Requirement) (old new : Encoder N S) → IsBuilt old → ((name : N) (s : S) (place bit : ℕ) → x ≡ Digit name s place bit → ⊥) → EncodesNeed x v condition r old new → IsBuilt new
+pub built_encodes : {N S : Type 0} (x : Kind N S) (v : VariableId) (condition : Option (DenseId DisjunctionTag ℕ)) (r : Requirement) (old new : Encoder N S) → IsBuilt old → ((name : N) (s : S) (place bit : ℕ) → x ≡ Digit name s place bit → ⊥) → EncodesNeed x v condition r old new → IsBuilt new
 built_encodes x v condition r old new b other s = built_grows old new b s.states.coding s.states.grows s.registry s.lists s.gates s.parents s.encoded (digits_more x old.coding new.coding s.states.kinds other) (clauses_end x v condition r old new b s)
     (s.sound (literals_in old.lists) b.queue) (seen_same old new b s.states.trail s.seen)
 

@@ -20,8 +20,7 @@ use Rattle.resolvo_sat.proofs.Lists.{contains_left, contains_right, contains_par
 use Rattle.resolvo_sat.proofs.GrowLemmas.{spells_agree}
 use Rattle.resolvo_state.specs.declared.atom.ProofAtom.TheVariants.{Solvable, Gate}
 use Rattle.resolvo_state.specs.declared.solver_state.SolverState.{SolverState}
-use Rattle.resolvo_state.specs.declared.clause_kind.ClauseKind.{ClauseKind}
-use Rattle.resolvo_state.specs.declared.clause_kind.ClauseKind.TheVariants as Kind
+use Rattle.resolvo_state.specs.Kinds.{Kind}
 use Rattle.resolvo_state.specs.Atoms.{origin}
 use Rattle.resolvo_state.specs.SolverState.{Grows}
 use Rattle.resolvo_state.proofs.Growth.{represents_grow}
@@ -53,7 +52,7 @@ module _ {N S : Type 0} (same : S → S → Bool) (p : Packages N S) (lists more
       literals = condition_stays lists more c prefix h.there
 
   -- the clause has the same decision where variables and lists are added
-  pub queued_grows : (x : Option (ClauseKind N S)) (q : NeedClause) → IsQueuedFor same p lists old.atoms.keys x q → IsQueuedFor same p more new.atoms.keys x q
+  pub queued_grows : (x : Option (Kind N S)) (q : NeedClause) → IsQueuedFor same p lists old.atoms.keys x q → IsQueuedFor same p more new.atoms.keys x q
   queued_grows None q h = h
   queued_grows (Some Kind.Root) q h = h
   queued_grows (Some (Kind.Needs None need case)) q (a, b, c) = (a, condition_grows q.condition case b, c)

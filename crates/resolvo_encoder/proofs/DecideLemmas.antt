@@ -37,8 +37,7 @@ use Rattle.resolvo_sat.proofs.Lists.{contains_none, contains_first, contains_lat
 use Rattle.resolvo_sat.proofs.Meanings.{meaning_in}
 use Rattle.resolvo_state.specs.declared.atom.ProofAtom.{ProofAtom}
 use Rattle.resolvo_state.specs.declared.atom.ProofAtom.TheVariants.{Solvable, Gate}
-use Rattle.resolvo_state.specs.declared.clause_kind.ClauseKind.{ClauseKind}
-use Rattle.resolvo_state.specs.declared.clause_kind.ClauseKind.TheVariants as Kind
+use Rattle.resolvo_state.specs.Kinds.{Kind}
 use Rattle.resolvo_state.specs.Atoms.{atom_of, origin, Represents}
 use Rattle.resolvo_state.specs.ClauseKinds.{kind_at}
 use Rattle.resolvo_state.proofs.Rules.{rule_at_kind}
@@ -293,7 +292,7 @@ module _ {N S : Type 0} (same : S → S → Bool) (p : Packages N S) (root : Rul
 
   -- A clause of the queue encodes a requirement of a chosen parent, where its parent is true and
   -- its condition's literals are false.
-  queue_asks : (q : NeedClause) (x : Option (ClauseKind N S)) → kind_at e.coding.kinds.items q.clause.0 ≡ x → IsQueuedFor same p e.lists e.coding.atoms.keys x q → has (made_true (history e.coding.search)) (yes q.parent) ≡ true
+  queue_asks : (q : NeedClause) (x : Option (Kind N S)) → kind_at e.coding.kinds.items q.clause.0 ≡ x → IsQueuedFor same p e.lists e.coding.atoms.keys x q → has (made_true (history e.coding.search)) (yes q.parent) ≡ true
       → ((l : Signed) → has (condition_in e.lists q.condition) l ≡ true → has (made_true (history e.coding.search)) (negation l) ≡ true)
       → IsAsked same p (E.rules_of e) (known_of (origin e.coding.atoms.keys) (history e.coding.search)) q.requirement
   queue_asks q (Some (Kind.Needs parent need case)) at (is, conditioned, present) t fell = inl (record {

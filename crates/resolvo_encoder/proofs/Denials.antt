@@ -12,8 +12,7 @@ use Rattle.resolvo_sat.specs.RuleClauses.{Atom, Rule, plus, literals_of}
 use Rattle.resolvo_sat.specs.Numbered.{meaning, Means, Spells}
 use Rattle.resolvo_sat.proofs.Lists.{contains_none, contains_first, contains_left, contains_right, contains_one, contains_parts, contained_any}
 use Rattle.resolvo_store_core.specs.AtMostOne.{digit}
-use Rattle.resolvo_state.specs.declared.clause_kind.ClauseKind.{ClauseKind}
-use Rattle.resolvo_state.specs.declared.clause_kind.ClauseKind.TheVariants as Kind
+use Rattle.resolvo_state.specs.Kinds.{Kind}
 use Rattle.resolvo_state.specs.ClauseKinds.{rule_of}
 use Rattle.resolvo_encoder.specs.Encoded.{IsRequiresRule}
 use Rattle.resolvo_encoder.proofs.RequireLemmas.{some_one}
@@ -64,9 +63,9 @@ module _ {N S : Type 0} where
       none (Rule.matches v s) d = refl
 
   -- its kind has no digit
-  pub not_digit : (x : ClauseKind N S) (r : Rule N S) → rule_of x ≡ Some r → IsRestraint r → (m : N) (t : S) (at bit : ℕ) → x ≡ Kind.Digit m t at bit → ⊥
+  pub not_digit : (x : Kind N S) (r : Rule N S) → rule_of x ≡ Some r → IsRestraint r → (m : N) (t : S) (at bit : ℕ) → x ≡ Kind.Digit m t at bit → ⊥
   not_digit x r states d m t at bit is =
-      let one : Rule.has_digit t bit (digit at bit) ≡ r = some_one (Rule.has_digit t bit (digit at bit)) r (sym (ap (λ (y : ClauseKind N S). rule_of y) is) ∙ states) in
+      let one : Rule.has_digit t bit (digit at bit) ≡ r = some_one (Rule.has_digit t bit (digit at bit)) r (sym (ap (λ (y : Kind N S). rule_of y) is) ∙ states) in
       subst IsRestraint (sym one) d
 
 -- ---- clauses of two literals

@@ -4,7 +4,7 @@ use Rattle.std.proofs.lemmas.Bool.{cases_Bool, and_from, and_parts}
 use Rattle.resolvo_pool_core.specs.RuleKeeping.{Packages, Rules}
 use Rattle.resolvo_store_core.specs.AtMostOne.{digit}
 use Rattle.resolvo_sat.specs.RuleClauses.{IsExact, Rule, AgreeWith}
-use Rattle.resolvo_state.specs.declared.clause_kind.ClauseKind.{ClauseKind}
+use Rattle.resolvo_state.specs.Kinds.{Kind}
 use Rattle.resolvo_state.specs.ClauseKinds.{rule_of, rule_at, rules_in}
 use Rattle.resolvo_state.specs.Registered.{IsPlaced}
 use Rattle.resolvo_state.proofs.Rules.{digit_kind}
@@ -27,7 +27,7 @@ digit_in same (Some (Rule.is_there n t)) s bit = None
 digit_in same (Some (Rule.matches w t)) s bit = None
 
 -- the digit of the solvable's place by the first clause that encodes it; false where none does
-abbrev pub digit_found : {N S : Type 0} → (S → S → Bool) → List (ClauseKind N S) → S → ℕ → Bool
+abbrev pub digit_found : {N S : Type 0} → (S → S → Bool) → List (Kind N S) → S → ℕ → Bool
 digit_found same [] s bit = false
 digit_found same (x ∷ kinds) s bit = unwrap_or (digit_in same (rule_of x) s bit) (digit_found same kinds s bit)
 
@@ -48,7 +48,7 @@ has_one_digit {N} {S} same p root e holds s bit b c (n, h) (k, j) =
 
 module _ {N S : Type 0} (same : S → S → Bool) (exact : IsExact same) where
   -- where clauses encode a digit, some clause encodes the one that is found
-  found_encoded : (kinds : List (ClauseKind N S)) (n : ℕ) (s : S) (bit : ℕ) (b : Bool) → rule_at kinds n ≡ Some (Rule.has_digit s bit b) → rules_in kinds (Rule.has_digit s bit (digit_found same kinds s bit))
+  found_encoded : (kinds : List (Kind N S)) (n : ℕ) (s : S) (bit : ℕ) (b : Bool) → rule_at kinds n ≡ Some (Rule.has_digit s bit b) → rules_in kinds (Rule.has_digit s bit (digit_found same kinds s bit))
   found_encoded [] n s bit b h = absurd cc
   found_encoded (x ∷ kinds) zero s bit b h =
       let is_digit : digit_found same (x ∷ kinds) s bit ≡ b = ap (λ (o : Option (Rule N S)). unwrap_or (digit_in same o s bit) (digit_found same kinds s bit)) h

@@ -28,8 +28,7 @@ use Rattle.resolvo_sat.proofs.Members.{in_contained, contained_in}
 use Rattle.resolvo_state.specs.declared.atom.ProofAtom.{ProofAtom}
 use Rattle.resolvo_state.specs.declared.atom.ProofAtom.TheVariants.{Solvable, AtLeastOne, Outside, Matches}
 use Rattle.resolvo_state.specs.declared.solver_state.SolverState.{SolverState}
-use Rattle.resolvo_state.specs.declared.clause_kind.ClauseKind.{ClauseKind}
-use Rattle.resolvo_state.specs.declared.clause_kind.ClauseKind.TheVariants as Kind
+use Rattle.resolvo_state.specs.Kinds.{Kind}
 use Rattle.resolvo_state.specs.Atoms.{origin, Represents}
 use Rattle.resolvo_state.specs.SolverState.{Gives}
 use Rattle.resolvo_state.specs.Registered.{IsRegistered}
@@ -119,7 +118,7 @@ module _ {N S : Type 0} (same : S → S → Bool) (exact : IsExact same) where
   }
 
   -- a clause of two literals was added, which are the rule's
-  pub pair_encodes : (x : ClauseKind N S) (rule : Rule N S) (a b : Signed) (old new : Encoder N S) → IsBuilt old → rule_of x ≡ Some rule → IsRestraint rule
+  pub pair_encodes : (x : Kind N S) (rule : Rule N S) (a b : Signed) (old new : Encoder N S) → IsBuilt old → rule_of x ≡ Some rule → IsRestraint rule
       → ((p : Packages N S) (literals : List Signed) → IsPair a b literals → Spells (origin old.coding.atoms.keys) literals (literals_of same p rule)) → EncodesPair x a b old new → EncodesRules same (rule ∷ []) old new
   pair_encodes x rule a b old new built is denial spells new_clause = record {
     built = built_rest old new built new_clause.states.coding new_clause.states.grows (digits_more x old.coding new.coding new_clause.states.kinds (not_digit x rule is denial)) new_clause.rest new_clause.same_queue (trail_on old.coding new.coding new_clause.states.trail);
@@ -168,7 +167,7 @@ module _ {N S : Type 0} (same : S → S → Bool) (exact : IsExact same) where
       (inr (minus (Atom.solvable s), refl, means_atom old.coding.atoms.keys (no first) (Solvable s) is)) (inr (plus (Atom.matches v), refl, means_atom old.coding.atoms.keys (yes second) (Matches v) present)))
 
   -- a solvable is forbidden, beside the root or alone
-  pub forbid_encodes : (x : ClauseKind N S) (w : ForbidReason S) (s : S) (first v : VariableId) (old new : Encoder N S) → IsBuilt old → rule_of x ≡ Some (Rule.forbids w s) → (first ≡ v) ⊎ (first ≡ root_variable) → Represents old.coding.atoms.keys v (Solvable s)
+  pub forbid_encodes : (x : Kind N S) (w : ForbidReason S) (s : S) (first v : VariableId) (old new : Encoder N S) → IsBuilt old → rule_of x ≡ Some (Rule.forbids w s) → (first ≡ v) ⊎ (first ≡ root_variable) → Represents old.coding.atoms.keys v (Solvable s)
       → EncodesPair x (no first) (no v) old new → EncodesRules same (Rule.forbids w s ∷ []) old new
   forbid_encodes x w s first v old new built is (inl one) present pair = pair_encodes x (Rule.forbids w s) (no v) (no v) old new built is tt
       (λ p literals both. one_spells (origin old.coding.atoms.keys) (no v) literals (minus (Atom.solvable s)) both (means_atom old.coding.atoms.keys (no v) (Solvable s) present))

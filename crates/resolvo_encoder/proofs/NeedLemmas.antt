@@ -3,6 +3,7 @@ use Rattle.std.proofs.Common.{◌≡◌, ℕ, zero, suc, ◌+◌, ◌<◌, ◌�
 use Rattle.std.specs.Prelude.{Contains, slice_get}
 use Rattle.std.proofs.lemmas.Bool.{both_ways}
 use Rattle.resolvo_pool_core.specs.declared.id.ClauseId.{ClauseId}
+use Rattle.resolvo_pool_core.specs.declared.id.ConditionId.{ConditionId}
 use Rattle.resolvo_pool_core.specs.declared.id.DenseId.{DenseId}
 use Rattle.resolvo_pool_core.specs.declared.id.DisjunctionTag.{DisjunctionTag}
 use Rattle.resolvo_pool_core.specs.declared.id.VariableId.{VariableId}
@@ -36,8 +37,7 @@ use Rattle.resolvo_sat.proofs.Lists.{contains_none, contains_cases, contains_fir
 use Rattle.resolvo_sat.proofs.Members.{in_case, candidate_in, candidate_from, same_requirement-self, IsSetLiteral}
 use Rattle.resolvo_state.specs.declared.atom.ProofAtom.{ProofAtom}
 use Rattle.resolvo_state.specs.declared.atom.ProofAtom.TheVariants.{Solvable, Gate}
-use Rattle.resolvo_state.specs.declared.clause_kind.ClauseKind.{ClauseKind}
-use Rattle.resolvo_state.specs.declared.clause_kind.ClauseKind.TheVariants as Kind
+use Rattle.resolvo_state.specs.Kinds.{Kind}
 use Rattle.resolvo_state.specs.declared.solver_state.SolverState.{SolverState}
 use Rattle.resolvo_state.specs.declared.registry.Registry.{Registry}
 use Rattle.resolvo_state.specs.Atoms.{origin, Represents}
@@ -143,7 +143,7 @@ module _ {N S : Type 0} (same : S → S → Bool) (exact : IsExact same) (p : Pa
   need_literals e v condition r = no v ∷ (condition_in e.lists condition ++ literals_in (candidates_in e.lists r))
 
   -- a requires clause encodes a rule, with its literals
-  need_rule : (e : Encoder N S) → IsEncoding same p root e → (x : ClauseKind N S) (v : VariableId) (condition : Option (DenseId DisjunctionTag ℕ)) (r : Requirement) → has_candidates e.lists r ≡ true → IsNeed same p root e.lists e.coding.atoms.keys x v condition r → (q : Rule N S) → rule_of x ≡ Some q
+  need_rule : (e : Encoder N S) → IsEncoding same p root e → (x : Kind N S) (v : VariableId) (condition : Option (DenseId DisjunctionTag ℕ)) (r : Requirement) → has_candidates e.lists r ≡ true → IsNeed same p root e.lists e.coding.atoms.keys x v condition r → (q : Rule N S) → rule_of x ≡ Some q
       → IsRule same p root q × Spells (origin e.coding.atoms.keys) (need_literals e v condition r) (literals_of same p q)
   need_rule e holds (Kind.Needs parent need case) v condition r has_list (is, present, conditioned, listed, cased, matched) q one =
       let rule : Rule.needs parent need case ≡ q = some_one (Rule.needs parent need case) q one in
@@ -176,7 +176,7 @@ module _ {N S : Type 0} (same : S → S → Bool) (exact : IsExact same) (p : Pa
   need_rule e holds Kind.Learnt v condition r has_list h q one = absurd h
 
   -- the entry of the decision queue for a requires clause
-  need_queued : (ls : FixedLists N) (atoms : List (ProofAtom N S)) (x : ClauseKind N S) (v : VariableId) (condition : Option (DenseId DisjunctionTag ℕ)) (r : Requirement) (number : ClauseId) → IsNeed same p root ls atoms x v condition r → IsQueuedFor same p ls atoms (Some x) (record { parent = v; requirement = r; condition = condition; clause = number })
+  need_queued : (ls : FixedLists N) (atoms : List (ProofAtom N S)) (x : Kind N S) (v : VariableId) (condition : Option (DenseId DisjunctionTag ℕ)) (r : Requirement) (number : ClauseId) → IsNeed same p root ls atoms x v condition r → IsQueuedFor same p ls atoms (Some x) (record { parent = v; requirement = r; condition = condition; clause = number })
   need_queued ls atoms (Kind.Needs parent need case) v condition r number (is, present, conditioned, listed, cased, matched) = (sym is, conditioned, present)
   need_queued ls atoms (Kind.Shared w) v condition r number (is, free, present, asked) = (sym is, free, present)
   need_queued ls atoms Kind.Root v condition r number h = absurd h
@@ -198,7 +198,7 @@ module _ {N S : Type 0} (same : S → S → Bool) (exact : IsExact same) (p : Pa
   outside_set atoms w l s (inr (free, inr (t, one, out))) m = (free, subst (λ y. is_outside same p w y ≡ true) (one_solvable t s (ap (λ (y : Literal (Atom N S)). y.atom) (sym one ∙ sym m.1))) out)
 
   -- a positive literal of a condition is that of a solvable outside a version set of the case
-  need_condition : (ls : FixedLists N) (atoms : List (ProofAtom N S)) (x : ClauseKind N S) (v : VariableId) (condition : Option (DenseId DisjunctionTag ℕ)) (r : Requirement) → IsNeed same p root ls atoms x v condition r
+  need_condition : (ls : FixedLists N) (atoms : List (ProofAtom N S)) (x : Kind N S) (v : VariableId) (condition : Option (DenseId DisjunctionTag ℕ)) (r : Requirement) → IsNeed same p root ls atoms x v condition r
       → (l : Signed) (s : S) → has (condition_in ls condition) l ≡ true → Means (origin atoms) l (plus (Atom.solvable s))
       → (parent : Option S) × (need : ConditionalRequirement) × (case : List VersionSetId) × (w : VersionSetId) × (rule_of x ≡ Some (Rule.needs parent need case)) × Contains case w × (is_many p (p.set_package w) ≡ false) × (is_outside same p w s ≡ true)
   need_condition ls atoms (Kind.Needs parent need case) v condition r (is, present, conditioned, listed, cased, matched) l s h m = elim (conditioned.spells.only l h) [
@@ -222,7 +222,7 @@ module _ {N S : Type 0} (same : S → S → Bool) (exact : IsExact same) (p : Pa
   need_condition ls atoms Kind.Learnt v condition r need l s h m = absurd need
 
   -- the requirement of a need's rule
-  asks_need : (ls : FixedLists N) (atoms : List (ProofAtom N S)) (x : ClauseKind N S) (v : VariableId) (condition : Option (DenseId DisjunctionTag ℕ)) (r : Requirement) → IsNeed same p root ls atoms x v condition r → (q : Requirement) → HasClause same p (λ rule. rule_of x ≡ Some rule) q → q ≡ r
+  asks_need : (ls : FixedLists N) (atoms : List (ProofAtom N S)) (x : Kind N S) (v : VariableId) (condition : Option (DenseId DisjunctionTag ℕ)) (r : Requirement) → IsNeed same p root ls atoms x v condition r → (q : Requirement) → HasClause same p (λ rule. rule_of x ≡ Some rule) q → q ≡ r
   asks_need ls atoms (Kind.Needs parent need case) v condition r (is, present, conditioned, listed, cased, matched) q (inl (other, wanted, vs, e, f)) = f ∙ sym (ap (requirement_in r) (some_one (Rule.needs parent need case) (Rule.needs other wanted vs) e)) ∙ is
   asks_need ls atoms (Kind.Needs parent need case) v condition r h q (inr e) = absurd cc
   asks_need ls atoms (Kind.Shared w) v condition r h q (inl (other, wanted, vs, e, f)) = absurd cc
@@ -240,7 +240,7 @@ module _ {N S : Type 0} (same : S → S → Bool) (exact : IsExact same) (p : Pa
   asks_need ls atoms Kind.Learnt v condition r h q a = absurd h
 
   -- the place, the literals and the kind of an added clause
-  module _ (x : ClauseKind N S) (literals : List Signed) (id : ClauseId) (old new : SolverState N S) (before : IsCoding old) (states : AddsRule x literals id old new) where
+  module _ (x : Kind N S) (literals : List Signed) (id : ClauseId) (old new : SolverState N S) (before : IsCoding old) (states : AddsRule x literals id old new) where
     pub added_at : (n : ℕ) → length old.search.clauses ≤ n → n < length new.search.clauses → n ≡ length old.search.clauses
     added_at n low high =
         let long : length new.search.clauses ≡ length old.search.clauses + 1 = ap length states.added ∙ length-append old.search.clauses (states.clause ∷ []) in
@@ -254,10 +254,10 @@ module _ {N S : Type 0} (same : S → S → Bool) (exact : IsExact same) (p : Pa
     pub added_kind : kind_at new.kinds.items (length old.search.clauses) ≡ Some x
     added_kind =
         subst (λ n. slice_get new.kinds.items n ≡ Some x) before.each
-        (subst (λ (xs : List (ClauseKind N S)). slice_get xs (length old.kinds.items) ≡ Some x) (sym states.kinds) (get_last old.kinds.items x))
+        (subst (λ (xs : List (Kind N S)). slice_get xs (length old.kinds.items) ≡ Some x) (sym states.kinds) (get_last old.kinds.items x))
 
   -- the precondition of a case's clause: its version sets are encoded
-  abbrev pub IsReady : Encoder N S → ClauseKind N S → Type 0
+  abbrev pub IsReady : Encoder N S → Kind N S → Type 0
   IsReady e x = (parent : Option S) (need : ConditionalRequirement) (case : List VersionSetId) (w : VersionSetId) → rule_of x ≡ Some (Rule.needs parent need case) → Contains case w
       → E.IsSetEncoded same p e w
 
@@ -267,7 +267,7 @@ module _ {N S : Type 0} (same : S → S → Bool) (exact : IsExact same) (p : Pa
   set_outside e w free (inr (marked, held)) s o = absurd (both_ways _ free marked)
 
   -- The clause of a requirement, or of a gate, was added.
-  pub need_keeps : (x : ClauseKind N S) (v : VariableId) (condition : Option (DenseId DisjunctionTag ℕ)) (r : Requirement) (old new : Encoder N S) → IsEncoding same p root old → has_candidates old.lists r ≡ true
+  pub need_keeps : (x : Kind N S) (v : VariableId) (condition : Option (DenseId DisjunctionTag ℕ)) (r : Requirement) (old new : Encoder N S) → IsEncoding same p root old → has_candidates old.lists r ≡ true
       → IsNeed same p root old.lists old.coding.atoms.keys x v condition r → IsReady old x → EncodesNeed x v condition r old new → IsEncoding same p root new × ((q : Rule N S) → rule_of x ≡ Some q → E.rules_of new q)
   need_keeps x v condition r old new e has_list need ready new_clause = (carried same exact p root old new e carries, λ q is. (length old.coding.search.clauses, rule_at_kind new.coding.kinds.items (length old.coding.search.clauses) x kind_here ∙ is))
     where
@@ -351,7 +351,7 @@ module _ {N S : Type 0} (same : S → S → Bool) (exact : IsExact same) (p : Pa
       queued q h = elim (contains_parts q (needs_of old.queue) (next ∷ []) (subst (λ qs. Contains qs q) new_clause.queue h)) [
         | inl a ↦ queued_keeps same exact p root lawful old new e new_clause.states.grows lists_prefix q a
         | inr a ↦ subst (λ y. IsQueuedFor same p new.lists new.coding.atoms.keys (kind_at new.coding.kinds.items y.clause.0) y) (sym (contains_one q next a))
-            (subst (λ (o : Option (ClauseKind N S)). IsQueuedFor same p new.lists new.coding.atoms.keys o next) (sym (ap (λ n. kind_at new.coding.kinds.items n) number ∙ kind_here)) next_queued)
+            (subst (λ (o : Option (Kind N S)). IsQueuedFor same p new.lists new.coding.atoms.keys o next) (sym (ap (λ n. kind_at new.coding.kinds.items n) number ∙ kind_here)) next_queued)
       ]
 
       cased : (parent : Option S) (wanted : ConditionalRequirement) (case : List VersionSetId) (w : VersionSetId) → E.rules_of new (Rule.needs parent wanted case) → Contains case w
@@ -363,7 +363,7 @@ module _ {N S : Type 0} (same : S → S → Bool) (exact : IsExact same) (p : Pa
       ]
 
       no_digit : (m : N) (t : S) (at bit : ℕ) → x ≡ Kind.Digit m t at bit → ⊥
-      no_digit m t at bit is = subst (λ (y : ClauseKind N S). IsNeed same p root old.lists old.coding.atoms.keys y v condition r) is need
+      no_digit m t at bit is = subst (λ (y : Kind N S). IsNeed same p root old.lists old.coding.atoms.keys y v condition r) is need
 
       carries : Carries same exact p root old new
       carries = record {
@@ -411,11 +411,14 @@ module _ {N S : Type 0} (same : S → S → Bool) (exact : IsExact same) (p : Pa
 
   -- the clause of a parent's requirement without condition was added
   pub needed_keeps : (parent : Option S) (need : ConditionalRequirement) (v : VariableId) (old new : Encoder N S) → IsEncoding same p root old → has_candidates old.lists need.requirement ≡ true
-      → IsParentVariable old.coding.atoms.keys parent v → Needs same p root parent need → NeedsDirectly parent need v old new → IsEncoding same p root new × E.rules_of new (Rule.needs parent need [])
+      → IsParentVariable old.coding.atoms.keys parent v → Needs same p root parent need → NeedsDirectly parent need.requirement v old new → IsEncoding same p root new × E.rules_of new (Rule.needs parent need [])
   needed_keeps parent need v old new e has_list present needs new_clause =
-      let (keeps, rules) = need_keeps (Kind.Needs parent need []) v None need.requirement old new e has_list (plain_need old parent need v needs present) ready new_clause in
+      let (keeps, rules) = need_keeps (Kind.Needs parent need []) v None need.requirement old new e has_list (plain_need old parent need v needs present) ready free_clause in
       (keeps, rules (Rule.needs parent need []) refl)
     where
+      free_clause : EncodesNeed (Kind.Needs parent need []) v None need.requirement old new
+      free_clause = subst (λ (c : Option ConditionId). EncodesNeed (Kind.Needs parent (record { condition = c; requirement = need.requirement }) []) v None need.requirement old new) (sym needs.free) new_clause
+
       ready : IsReady old (Kind.Needs parent need [])
       ready who wanted vs w states h = let which : [] ≡ vs = cc in absurd (contains_none w (subst (λ xs. Contains xs w) (sym which) h))
 
@@ -425,7 +428,7 @@ module _ {N S : Type 0} (same : S → S → Bool) (exact : IsExact same) (p : Pa
 
   -- A clause that encodes a rule was added, with the rule's literals. None of these is a positive
   -- literal of a solvable, and the rule isn't one of a requires clause or a digit.
-  pub clause_keeps : (x : ClauseKind N S) (rule : Rule N S) (literals : List Signed) (id : ClauseId) (old new : Encoder N S) → IsEncoding same p root old → rule_of x ≡ Some rule → IsRestraint rule → IsRule same p root rule
+  pub clause_keeps : (x : Kind N S) (rule : Rule N S) (literals : List Signed) (id : ClauseId) (old new : Encoder N S) → IsEncoding same p root old → rule_of x ≡ Some rule → IsRestraint rule → IsRule same p root rule
       → Spells (origin old.coding.atoms.keys) literals (literals_of same p rule) → AddsRule x literals id old.coding new.coding → SameButCoding old new → IsEncoding same p root new × E.rules_of new rule
   clause_keeps x rule literals id old new e encodes_rule denial is_rule spells states rest = (carried same exact p root old new e carries, (length old.coding.search.clauses, rule_here))
     where
@@ -576,7 +579,7 @@ module _ {N S : Type 0} (same : S → S → Bool) (exact : IsExact same) (p : Pa
       no_deferred i d at = contains_none d (subst (λ (ds : List (Deferred S)). Contains ds d) b.deferred (get_contains e.deferred.items i d at))
 
       no_rule : (n : ℕ) (r : Rule N S) → rule_at e.coding.kinds.items n ≡ Some r → ⊥
-      no_rule n r h = go n (subst (λ (xs : List (ClauseKind N S)). rule_at xs n ≡ Some r) b.coding.kinds h)
+      no_rule n r h = go n (subst (λ (xs : List (Kind N S)). rule_at xs n ≡ Some r) b.coding.kinds h)
         where
           go : (k : ℕ) → rule_at (Kind.Root ∷ []) k ≡ Some r → ⊥
           go zero f = absurd cc
@@ -604,5 +607,5 @@ module _ {N S : Type 0} (same : S → S → Bool) (exact : IsExact same) (p : Pa
           go (inl (is, rest)) = let z : x.decision.variable.0 ≡ 0 = ap (λ (y : Entry). y.decision.variable.0) (sym is) in omega arith
           go (inr f) = f
 
-pub need_extends : {N S : Type 0} (x : ClauseKind N S) (v : VariableId) (condition : Option (DenseId DisjunctionTag ℕ)) (r : Requirement) (old new : Encoder N S) → EncodesNeed x v condition r old new → Extends old new
+pub need_extends : {N S : Type 0} (x : Kind N S) (v : VariableId) (condition : Option (DenseId DisjunctionTag ℕ)) (r : Requirement) (old new : Encoder N S) → EncodesNeed x v condition r old new → Extends old new
 need_extends {N = N} {S = S} x v condition r old new s = record { grows = s.states.grows; trail = s.states.trail; softs = ap (λ (x : EncodedOnce N S). x.softs.items) s.recorded; parents = s.parents; encoded = s.encoded; deferred = s.deferred; fired = s.fired }

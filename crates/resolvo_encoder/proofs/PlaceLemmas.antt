@@ -18,7 +18,7 @@ use Rattle.resolvo_state.specs.declared.atom.ProofAtom.TheVariants.{Solvable, Ga
 use Rattle.resolvo_state.specs.declared.solver_state.SolverState.{SolverState}
 use Rattle.resolvo_state.specs.declared.registry.Registry.{Registry}
 use Rattle.resolvo_state.specs.declared.registry.Member.{Member}
-use Rattle.resolvo_state.specs.declared.clause_kind.ClauseKind.TheVariants as Kind
+use Rattle.resolvo_state.specs.Kinds.{Kind}
 use Rattle.resolvo_state.specs.Atoms.{Represents, solvable_of}
 use Rattle.resolvo_state.specs.Registered.{AreTied, IsInTracker, IsTracked, IsQueued, IsRegistered, member, Places, IsMany}
 use Rattle.resolvo_state.proofs.Growth.{grows_same, trail_same, represents_grow, represents_once, rules_grow}

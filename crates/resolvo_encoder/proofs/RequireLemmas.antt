@@ -33,8 +33,7 @@ use Rattle.resolvo_sat.proofs.Lists.{any_contained}
 use Rattle.resolvo_packages.specs.declared.package_source.Offered.{Offered}
 use Rattle.resolvo_packages.specs.PackageSource.{offered_solvables, AreOffered}
 use Rattle.resolvo_state.specs.declared.atom.ProofAtom.TheVariants.{Solvable, Gate}
-use Rattle.resolvo_state.specs.declared.clause_kind.ClauseKind.{ClauseKind}
-use Rattle.resolvo_state.specs.declared.clause_kind.ClauseKind.TheVariants as Kind
+use Rattle.resolvo_state.specs.Kinds.{Kind}
 use Rattle.resolvo_state.specs.declared.solver_state.SolverState.{SolverState}
 use Rattle.resolvo_state.specs.declared.registry.Registry.{Registry}
 use Rattle.resolvo_state.specs.Atoms.{origin, Represents}
@@ -59,7 +58,7 @@ use Rattle.resolvo_state.proofs.Growth.{grows_same, grows_then, represents_grow,
 module _ {N S : Type 0} (same : S → S → Bool) (exact : IsExact same) (p : Packages N S) (root : Rules) where
   -- the added clause of this number is right
   pub record AddedClause (new : Encoder N S) (n : ℕ) : Type 0 where
-    pub kinds : ClauseKind N S
+    pub kinds : Kind N S
     pub at : kind_at new.coding.kinds.items n ≡ Some kinds
     pub rule : (r : Rule N S) → rule_of kinds ≡ Some r → IsRule same p root r × Spells (origin new.coding.atoms.keys) (clause_at (clauses_of new.coding.search) n) (literals_of same p r)
     pub positive : (l : Signed) (s : S) → has (clause_at (clauses_of new.coding.search) n) l ≡ true → Means (origin new.coding.atoms.keys) l (plus (Atom.solvable s)) → Registered same p root new s
@@ -276,7 +275,7 @@ module _ {N S : Type 0} (same : S → S → Bool) (exact : IsExact same) (p : Pa
   pub queued_keeps : (old new : Encoder N S) → IsEncoding same p root old → Grows old.coding new.coding → IsPrefixOf old.lists.disjunctions new.lists.disjunctions → (q : NeedClause) → Contains (needs_of old.queue) q → IsQueuedFor same p new.lists new.coding.atoms.keys (kind_at new.coding.kinds.items q.clause.0) q
   queued_keeps old new e grows prefix q c = go (kind_at old.coding.kinds.items q.clause.0) refl (e.queued q c)
     where
-      go : (x : Option (ClauseKind N S)) → kind_at old.coding.kinds.items q.clause.0 ≡ x → IsQueuedFor same p old.lists old.coding.atoms.keys (kind_at old.coding.kinds.items q.clause.0) q → IsQueuedFor same p new.lists new.coding.atoms.keys (kind_at new.coding.kinds.items q.clause.0) q
+      go : (x : Option (Kind N S)) → kind_at old.coding.kinds.items q.clause.0 ≡ x → IsQueuedFor same p old.lists old.coding.atoms.keys (kind_at old.coding.kinds.items q.clause.0) q → IsQueuedFor same p new.lists new.coding.atoms.keys (kind_at new.coding.kinds.items q.clause.0) q
       go None at h = absurd (subst (λ y. IsQueuedFor same p old.lists old.coding.atoms.keys y q) at h)
       go (Some y) at h = subst (λ z. IsQueuedFor same p new.lists new.coding.atoms.keys z q) (sym (kind_grows old.coding new.coding grows q.clause.0 y at))
           (queued_grows same p old.lists new.lists old.coding new.coding prefix grows (Some y) q (subst (λ z. IsQueuedFor same p old.lists old.coding.atoms.keys z q) at h))

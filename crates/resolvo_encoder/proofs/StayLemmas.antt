@@ -35,8 +35,7 @@ use Rattle.resolvo_state.specs.declared.atom.ProofAtom.{ProofAtom}
 use Rattle.resolvo_state.specs.declared.atom.ProofAtom.TheVariants.{Solvable}
 use Rattle.resolvo_state.specs.declared.solver_state.SolverState.{SolverState}
 use Rattle.resolvo_state.specs.declared.registry.Registry.{Registry}
-use Rattle.resolvo_state.specs.declared.clause_kind.ClauseKind.{ClauseKind}
-use Rattle.resolvo_state.specs.declared.clause_kind.ClauseKind.TheVariants as Kind
+use Rattle.resolvo_state.specs.Kinds.{Kind}
 use Rattle.resolvo_state.specs.Atoms.{origin, Represents}
 use Rattle.resolvo_state.specs.SolverState.{IsCoding, Advances, KeepsClauses, learnt_by, AddsDenial}
 use Rattle.resolvo_state.specs.Registered.{AreTied, IsTracked, IsRegistered}
@@ -167,7 +166,7 @@ module _ {N S : Type 0} (old : Encoder N S) (c : SolverState N S) where
           let long : length c.search.clauses ≡ length old.coding.search.clauses + 1 = ap (λ (cs : List SatClause). length cs) h.added ∙ length-append old.coding.search.clauses (h.clause ∷ []) in
           let each : length old.coding.kinds.items ≡ length old.coding.search.clauses = before.each in
           let place : length old.coding.kinds.items ≡ n = omega arith in
-          subst (λ (k : ℕ). slice_get c.kinds.items k ≡ Some Kind.Learnt) place (subst (λ (xs : List (ClauseKind N S)). slice_get xs (length old.coding.kinds.items) ≡ Some Kind.Learnt) (sym e) (get_last old.coding.kinds.items Kind.Learnt))
+          subst (λ (k : ℕ). slice_get c.kinds.items k ≡ Some Kind.Learnt) place (subst (λ (xs : List (Kind N S)). slice_get xs (length old.coding.kinds.items) ≡ Some Kind.Learnt) (sym e) (get_last old.coding.kinds.items Kind.Learnt))
 
   pub step_goes : (q : StepResult) → IsCoding old.coding → Advances old.coding c q → GoesOn old went
   step_goes q before step = record {
@@ -223,7 +222,7 @@ module _ {N S : Type 0} (old : Encoder N S) (c : SolverState N S) where
         let long : length c.search.clauses ≡ length old.coding.search.clauses + 1 = ap (λ (cs : List SatClause). length cs) forbids.added ∙ length-append old.coding.search.clauses (forbids.clause ∷ []) in
         let each : length old.coding.kinds.items ≡ length old.coding.search.clauses = before.each in
         let place : length old.coding.kinds.items ≡ n = omega arith in
-        subst (λ (k : ℕ). slice_get c.kinds.items k ≡ Some Kind.Learnt) place (subst (λ (xs : List (ClauseKind N S)). slice_get xs (length old.coding.kinds.items) ≡ Some Kind.Learnt) (sym forbids.kinds) (get_last old.coding.kinds.items Kind.Learnt));
+        subst (λ (k : ℕ). slice_get c.kinds.items k ≡ Some Kind.Learnt) place (subst (λ (xs : List (Kind N S)). slice_get xs (length old.coding.kinds.items) ≡ Some Kind.Learnt) (sym forbids.kinds) (get_last old.coding.kinds.items Kind.Learnt));
   }
 
   -- each of its literals is in an earlier clause

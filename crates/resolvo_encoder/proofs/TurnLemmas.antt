@@ -38,8 +38,7 @@ use Rattle.resolvo_sat.proofs.Turns.{turn_accepted, turn_keeps_rules, turn_prefe
 use Rattle.resolvo_sat.proofs.Members.{candidate_from, in_contained, contained_in}
 use Rattle.resolvo_state.specs.declared.atom.ProofAtom.{ProofAtom}
 use Rattle.resolvo_state.specs.declared.atom.ProofAtom.TheVariants.{Solvable, Gate}
-use Rattle.resolvo_state.specs.declared.clause_kind.ClauseKind.{ClauseKind}
-use Rattle.resolvo_state.specs.declared.clause_kind.ClauseKind.TheVariants as Kind
+use Rattle.resolvo_state.specs.Kinds.{Kind}
 use Rattle.resolvo_state.specs.Atoms.{atom_of, origin, Represents}
 use Rattle.resolvo_state.specs.ClauseKinds.{rule_of, rule_at, kind_at}
 use Rattle.resolvo_state.specs.SolverState.{IsCoding}
@@ -211,7 +210,7 @@ module _ {N S : Type 0} (same : S → S → Bool) (exact : IsExact same) (p : Pa
     condition : (l : Signed) → has (condition_in e.lists q.condition) l ≡ true → has (made_true (history e.coding.search)) (negation l) ≡ true
     parent : has (made_true (history e.coding.search)) (yes q.parent) ≡ true
 
-  queue_fits : IsEncoding same p root e → (r : Requirement) (k : Ending.IsAsked same p (E.rules_of e) (known_of (origin e.coding.atoms.keys) (history e.coding.search)) r) (q : NeedClause) (x : ClauseKind N S) → IsQueuedFor same p e.lists e.coding.atoms.keys (Some x) q
+  queue_fits : IsEncoding same p root e → (r : Requirement) (k : Ending.IsAsked same p (E.rules_of e) (known_of (origin e.coding.atoms.keys) (history e.coding.search)) r) (q : NeedClause) (x : Kind N S) → IsQueuedFor same p e.lists e.coding.atoms.keys (Some x) q
       → rule_of x ≡ Some (Ending.asking same p (E.rules_of e) (known_of (origin e.coding.atoms.keys) (history e.coding.search)) r k) → IsAsking r q
   queue_fits holds r (inl k) q (Kind.Needs parent need case) (is, conditioned, present) kind_is =
       let wanted : need ≡ k.need = cc in

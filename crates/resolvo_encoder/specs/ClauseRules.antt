@@ -9,7 +9,7 @@ use Rattle.resolvo_packages.specs.declared.package_source.ForbiddenBy.TheVariant
 use Rattle.resolvo_pool_core.specs.RuleKeeping.{Packages, Rules, IsLawful}
 use Rattle.resolvo_store_core.specs.Signed.{Signed}
 use Rattle.resolvo_sat.specs.RuleClauses.{Rule, ForbidReason, IsRule}
-use Rattle.resolvo_state.specs.declared.clause_kind.ClauseKind.{ClauseKind}
+use Rattle.resolvo_state.specs.Kinds.{Kind}
 use Rattle.resolvo_state.specs.SolverState.{AddsRule}
 use Rattle.resolvo_encoder.specs.declared.encoder.Encoder.{Encoder}
 use Rattle.resolvo_encoder.specs.Encoded.{rules_of, IsEncoding}
@@ -33,7 +33,7 @@ abbrev pub IsPair : Signed → Signed → List Signed → Type 0
 IsPair a b literals = (literals ≡ a ∷ b ∷ []) ⊎ ((a ≡ b) × (literals ≡ a ∷ []))
 
 -- a clause of these two literals was added
-pub record EncodesPair {N S : Type 0} (x : ClauseKind N S) (a b : Signed) (old new : Encoder N S) : Type 0 where
+pub record EncodesPair {N S : Type 0} (x : Kind N S) (a b : Signed) (old new : Encoder N S) : Type 0 where
   pub number : ClauseId
   pub literals : List Signed
   pub pair : IsPair a b literals

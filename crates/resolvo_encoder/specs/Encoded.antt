@@ -27,8 +27,7 @@ use Rattle.resolvo_sat.specs.First.{IsFirstPick}
 use Rattle.resolvo_sat.specs.Numbered.{Spells, AreCalledFor}
 use Rattle.resolvo_state.specs.declared.atom.ProofAtom.{ProofAtom}
 use Rattle.resolvo_state.specs.declared.atom.ProofAtom.TheVariants.{Solvable, Gate}
-use Rattle.resolvo_state.specs.declared.clause_kind.ClauseKind.{ClauseKind}
-use Rattle.resolvo_state.specs.declared.clause_kind.ClauseKind.TheVariants as Kind
+use Rattle.resolvo_state.specs.Kinds.{Kind}
 use Rattle.resolvo_state.specs.Atoms.{origin, Represents}
 use Rattle.resolvo_state.specs.ClauseKinds.{kind_at, rule_at, rules_in}
 use Rattle.resolvo_state.specs.SolverState.{IsCoding}
@@ -99,7 +98,7 @@ module _ {N S : Type 0} (same : S → S → Bool) (p : Packages N S) (lists : Fi
     pub spells : Spells (origin atoms) (condition_in lists condition) (case_literals same p case)
 
   -- the clause of this kind is in the decision queue: that of a requirement, or of a gate
-  abbrev pub IsQueuedFor : List (ProofAtom N S) → Option (ClauseKind N S) → NeedClause → Type 0
+  abbrev pub IsQueuedFor : List (ProofAtom N S) → Option (Kind N S) → NeedClause → Type 0
   IsQueuedFor atoms None q = ⊥
   IsQueuedFor atoms (Some Kind.Root) q = ⊥
   IsQueuedFor atoms (Some (Kind.Needs parent need case)) q = (q.requirement ≡ need.requirement) × IsCondition atoms q.condition case × IsParentVariable atoms parent q.parent

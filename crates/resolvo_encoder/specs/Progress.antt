@@ -11,7 +11,7 @@ use Rattle.resolvo_sat.specs.Entries.{made_true}
 use Rattle.resolvo_sat.specs.Known.{clause_at}
 use Rattle.resolvo_sat.specs.Propagation.{IsQuiet}
 use Rattle.resolvo_sat.specs.State.{history, clauses_of}
-use Rattle.resolvo_state.specs.declared.clause_kind.ClauseKind.TheVariants.{Learnt}
+use Rattle.resolvo_state.specs.Kinds.{Learnt}
 use Rattle.resolvo_state.specs.SolverState.{IsCoding, Grows}
 use Rattle.resolvo_state.specs.ClauseKinds.{kind_at}
 use Rattle.resolvo_encoder.specs.Steps.{SameButCoding}

@@ -29,13 +29,12 @@ use Rattle.resolvo_sat.specs.State.{lists}
 use Rattle.resolvo_sat.specs.Clauses.{SatClause}
 use Rattle.resolvo_state.specs.declared.atom.ProofAtom.{ProofAtom}
 use Rattle.resolvo_state.specs.declared.atom.ProofAtom.TheVariants.{Solvable, Gate}
-use Rattle.resolvo_state.specs.declared.clause_kind.ClauseKind.TheVariants as Kind
 use Rattle.resolvo_pool_core.specs.Text.{solvable_of}
 use Rattle.resolvo_pool_core.specs.declared.solver_id.SolvableIdOrRoot.{SolvableIdOrRoot}
 use Rattle.resolvo_store_core.specs.AtMostOne.{IsPrefixOf}
 use Rattle.resolvo_sat.specs.SearchEnd.{IsNeedEncoded}
 use Rattle.resolvo_encoder.specs.Encoded.{rules_of, IsParentVariable, IsCondition, IsParentEncoded, IsMarkKnown, IsGuarded, IsEncoding, AreCandidates}
-use Rattle.resolvo_state.specs.declared.clause_kind.ClauseKind.{ClauseKind}
+use Rattle.resolvo_state.specs.Kinds.{Kind}
 use Rattle.resolvo_state.specs.declared.solver_state.SolverState.{SolverState}
 use Rattle.resolvo_state.specs.declared.registry.Registry.{Registry}
 use Rattle.resolvo_state.specs.Atoms.{Represents}
@@ -147,7 +146,7 @@ pub record Fixes {N S : Type 0} (same : S → S → Bool) (r : Requirement) (off
 
 -- A requires clause of this kind was added: the variable is false, a literal of the condition is
 -- true, or a candidate is chosen. It is in the decision queue.
-pub record EncodesNeed {N S : Type 0} (kinds : ClauseKind N S) (v : VariableId) (condition : Option (DenseId DisjunctionTag ℕ)) (r : Requirement) (old new : Encoder N S) : Type 0 where
+pub record EncodesNeed {N S : Type 0} (kinds : Kind N S) (v : VariableId) (condition : Option (DenseId DisjunctionTag ℕ)) (r : Requirement) (old new : Encoder N S) : Type 0 where
   pub number : ClauseId
   pub states : AddsRule kinds (no v ∷ (condition_in old.lists condition ++ candidate_literals (candidates_in old.lists r))) number old.coding new.coding
   pub queue : needs_of new.queue ≡ needs_of old.queue ++ (let q : NeedClause = record { parent = v; requirement = r; condition = condition; clause = number } in q) ∷ []
@@ -164,7 +163,7 @@ pub record EncodesNeed {N S : Type 0} (kinds : ClauseKind N S) (v : VariableId) 
 
 -- The kind is a case of a parent's requirement, or the gate of a requirement that some solvable
 -- has. The variable is the parent's or the gate's, the condition's literals are the case's.
-abbrev pub IsNeed : {N S : Type 0} → (S → S → Bool) → Packages N S → Rules → FixedLists N → List (ProofAtom N S) → ClauseKind N S → VariableId → Option (DenseId DisjunctionTag ℕ) → Requirement → Type 0
+abbrev pub IsNeed : {N S : Type 0} → (S → S → Bool) → Packages N S → Rules → FixedLists N → List (ProofAtom N S) → Kind N S → VariableId → Option (DenseId DisjunctionTag ℕ) → Requirement → Type 0
 IsNeed same p root lists atoms Kind.Root v condition r = ⊥
 IsNeed same p root lists atoms (Kind.Needs parent need case) v condition r = (need.requirement ≡ r) × IsParentVariable atoms parent v × IsCondition same p lists atoms condition case × Contains (rules_for same p root parent).requirements need × Contains (cases_for same p need) case × AreMatched same p case
 IsNeed same p root lists atoms (Kind.Gated s w) v condition r = ⊥
@@ -216,9 +215,13 @@ pub record UsesGate {N S : Type 0} (parent : Option S) (r : Requirement) (old ne
   pub root : parent ≡ None → new.gates ≡ old.gates
   pub few : is_gated old.lists r ≡ false → new.gates ≡ old.gates
 
--- the clause of the parent's requirement was added
-abbrev pub NeedsDirectly : {N S : Type 0} → Option S → ConditionalRequirement → VariableId → Encoder N S → Encoder N S → Type 0
-NeedsDirectly parent need v old new = EncodesNeed (Kind.Needs parent need []) v None need.requirement old new
+-- the requirement without condition
+abbrev pub unconditional : Requirement → ConditionalRequirement
+unconditional r = record { condition = None; requirement = r }
+
+-- the clause of the parent's requirement, which has no condition, was added
+abbrev pub NeedsDirectly : {N S : Type 0} → Option S → Requirement → VariableId → Encoder N S → Encoder N S → Type 0
+NeedsDirectly parent r v old new = EncodesNeed (Kind.Needs parent (unconditional r) []) v None r old new
 
 -- the clause from the solvable to the gate was added
 pub record Opens {N S : Type 0} (s : S) (v gate : VariableId) (r : Requirement) (old new : Encoder N S) : Type 0 where

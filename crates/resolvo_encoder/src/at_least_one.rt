@@ -47,7 +47,7 @@ impl<N: Copy + Exact + Hash + Debug + Drop, S: Copy + Exact + Hash + Debug> Enco
     {
         let first = self.give(ProofAtom::Solvable(one.solvable))?;
         let second = self.give(ProofAtom::AtLeastOne(one.name))?;
-        let kind = ClauseKind::IsThere {
+        let kind = ClauseKind::AnyOf {
             name: one.name,
             solvable: one.solvable,
         };

@@ -21,7 +21,7 @@ use resolvo_pool_core::requirement::ConditionalRequirement;
 use resolvo_pool_core::want::R;
 use resolvo_state::atom::ProofAtom;
 use resolvo_state::case::Case;
-use resolvo_state::clause_kind::ClauseKind;
+use resolvo_state::clause_kind::Need;
 use resolvo_store_core::conditions::DeferredConjunct;
 use resolvo_store_core::lists::Disjunction;
 use resolvo_store_core::literal::Literal;
@@ -191,12 +191,12 @@ impl<N: Copy + Exact + Hash + Debug + Drop, S: Copy + Exact + Hash + Debug> Enco
         let literals = self.add_each_at_least_one(alloc, sets)?;
         let condition = self.lists.fix_disjunction(Disjunction { literals })?;
         let case = names_of(alloc, sets)?;
-        let kind = ClauseKind::Needs {
+        let need = Need {
             parent,
             need,
             case: Case::of(case),
         };
-        self.encode_need(kind, variable, Some(condition), need.requirement)?;
+        self.encode_case(need, variable, condition)?;
         Ok(())
     }
 

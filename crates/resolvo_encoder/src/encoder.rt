@@ -18,6 +18,8 @@ ghost use Rattle.resolvo_state.specs.declared.atom.ProofAtom.TheVariants.{Gate};
 ghost use Rattle.resolvo_state.specs.Atoms.{Represents};
 ghost use Rattle.resolvo_encoder.specs.Encoded.{rules_of, IsPrepared, IsEncoding};
 ghost use Rattle.resolvo_state.specs.ClauseKinds.{rule_of};
+ghost use Rattle.resolvo_state.specs.StoredKinds.{plain_kind, IsPlain};
+ghost use Rattle.resolvo_state.specs.Kinds.{Kind};
 ghost use Rattle.resolvo_state.specs.SolverState.{IsBegun, IsCoding, LacksNumber};
 ghost use Rattle.resolvo_encoder.specs.Steps.{Fixes, EncodesNeed, IsBuilt, Needs, Extends, NeedsDirectly, RequiresAgain, UsesGate, is_gated, Opens, AddsCandidates, IsBegunEncoding, AddsParent, IsNextEncoded, LacksNumberFor};
 
@@ -30,8 +32,7 @@ use resolvo_pool_core::requirement::{ConditionalRequirement, Requirement, Requir
 use resolvo_pool_core::solver_id::SolvableIdOrRoot;
 use resolvo_pool_core::want::R;
 use resolvo_state::atom::ProofAtom;
-use resolvo_state::case::Case;
-use resolvo_state::clause_kind::ClauseKind;
+use resolvo_state::clause_kind::{ClauseKind, Need};
 use resolvo_state::registry::Registry;
 use resolvo_state::solver_state::SolverState;
 use resolvo_store_core::conditions::DeferredConjunct;
@@ -212,7 +213,7 @@ impl<N: Copy + Exact + Hash + Debug + Drop, S: Copy + Exact + Hash + Debug> Enco
         ensures ids { IsErrOf result Ids → LacksNumberFor need.requirement self.new }
     {
         self.fix_candidates(alloc, need.requirement, offered)?;
-        self.require_again(alloc, parent, need)?;
+        self.require_again(parent, need)?;
         Ok(())
     }
 
@@ -225,12 +226,7 @@ impl<N: Copy + Exact + Hash + Debug + Drop, S: Copy + Exact + Hash + Debug> Enco
 
     /// Encodes a parent's unconditional requirement, which has its candidates. Where they are many,
     /// and the parent isn't the root, it uses a gate.
-    pub fn require_again(
-        &mut self,
-        alloc: Global,
-        parent: Option<S>,
-        need: ConditionalRequirement,
-    ) -> R<()>
+    pub fn require_again(&mut self, parent: Option<S>, need: ConditionalRequirement) -> R<()>
         requires { IsBuilt self.old }
         // After an answer.
         ensures encoded { OnOk result (RequiresAgain S.eq parent need self.old self.new) }
@@ -243,11 +239,11 @@ impl<N: Copy + Exact + Hash + Debug + Drop, S: Copy + Exact + Hash + Debug> Enco
     {
         match parent {
             None => {
-                self.need_directly(alloc, VariableId::root(), None, need)?;
+                self.need_directly(VariableId::root(), None, need.requirement)?;
                 Ok(())
             }
             Some(solvable) => {
-                self.require_of(alloc, solvable, need)?;
+                self.require_of(solvable, need)?;
                 Ok(())
             }
         }
@@ -265,7 +261,7 @@ impl<N: Copy + Exact + Hash + Debug + Drop, S: Copy + Exact + Hash + Debug> Enco
 
     /// Encodes a solvable's requirement, which has its candidates. Where they are many, it uses a
     /// gate.
-    fn require_of(&mut self, alloc: Global, solvable: S, need: ConditionalRequirement) -> R<()>
+    fn require_of(&mut self, solvable: S, need: ConditionalRequirement) -> R<()>
         requires { IsBuilt self.old }
         // After an answer.
         ensures encoded { OnOk result (RequiresAgain S.eq (Some solvable) need self.old self.new) }
@@ -278,7 +274,7 @@ impl<N: Copy + Exact + Hash + Debug + Drop, S: Copy + Exact + Hash + Debug> Enco
     {
         let variable = self.coding.variable(ProofAtom::Solvable(solvable))?;
         if !self.is_gated(need.requirement) {
-            self.need_directly(alloc, variable, Some(solvable), need)?;
+            self.need_directly(variable, Some(solvable), need.requirement)?;
             return Ok(());
         }
         let gate = self.gate(need.requirement)?;
@@ -308,43 +304,72 @@ impl<N: Copy + Exact + Hash + Debug + Drop, S: Copy + Exact + Hash + Debug> Enco
     /// Encodes a requirement without a gate.
     fn need_directly(
         &mut self,
-        alloc: Global,
         variable: VariableId,
         parent: Option<S>,
-        need: ConditionalRequirement,
+        requirement: Requirement,
     ) -> R<()>
         requires built { IsBuilt self.old }
         requires in_range { variable.0 < count_of self.old.coding.search }
-        ensures needed { OnOk result (NeedsDirectly parent need variable self.old self.new) }
+        ensures needed { OnOk result
+            (NeedsDirectly parent requirement variable self.old self.new) }
         ensures ids { IsErrOf result Ids → LacksNumber self.new.coding }
     {
-        let kind = ClauseKind::Needs {
+        let kind = ClauseKind::Requires {
             parent,
-            need,
-            case: Case::empty(alloc),
+            requirement,
         };
-        self.encode_need(kind, variable, None, need.requirement)?;
+        self.encode_need(kind, variable, requirement)?;
         Ok(())
     }
 
-    /// Adds a requires clause, and puts it into the decision queue: a variable is false, or a
-    /// literal of the condition is true, or a candidate is chosen.
-    pub(crate) fn encode_need(
+    /// Adds a requires clause without a condition, and puts it into the decision queue: a variable
+    /// is false, or a candidate is chosen.
+    fn encode_need(
         &mut self,
         kind: ClauseKind<N, S>,
         variable: VariableId,
-        condition: Option<DisjunctionId>,
         requirement: Requirement,
     ) -> R<()>
         requires coding { IsCoding self.old.coding }
-        requires rule { IsSome (rule_of kind) }
+        requires plain { IsPlain kind }
+        requires rule { IsSome (rule_of (plain_kind kind)) }
         requires in_range { AreInRange (count_of self.old.coding.search)
-            (no variable
-            ∷ (condition_in self.old.lists condition ++ candidate_literals
-            (candidates_in self.old.lists requirement))) }
-        ensures kind { OnOk result (EncodesNeed kind variable condition requirement self.old self.new) }
+            (no variable ∷ candidate_literals (candidates_in self.old.lists requirement)) }
+        ensures kind { OnOk result
+            (EncodesNeed (plain_kind kind) variable None requirement self.old self.new) }
         ensures ids { IsErrOf result Ids → LacksNumber self.new.coding }
     {
+        put_literals(&self.lists, variable, None, requirement, &mut self.literals)?;
+        let clause = self.coding.add_clause(kind, self.literals.as_slice())?;
+        self.queue.register_clause(NeedClause {
+            parent: variable,
+            requirement,
+            condition: None,
+            clause,
+        })?;
+        Ok(())
+    }
+
+    /// Adds a requires clause for a case of a condition, and puts it into the decision queue: a
+    /// variable is false, or a literal of the case is true, or a candidate is chosen.
+    pub(crate) fn encode_case(
+        &mut self,
+        need: Need<S>,
+        variable: VariableId,
+        condition: DisjunctionId,
+    ) -> R<()>
+        requires coding { IsCoding self.old.coding }
+        requires in_range { AreInRange (count_of self.old.coding.search)
+            (no variable
+            ∷ (condition_in self.old.lists (Some condition) ++ candidate_literals
+            (candidates_in self.old.lists need.need.requirement))) }
+        ensures kind { OnOk result
+            (EncodesNeed (Kind.Needs need.parent need.need need.case) variable (Some condition)
+            need.need.requirement self.old self.new) }
+        ensures ids { IsErrOf result Ids → LacksNumber self.new.coding }
+    {
+        let condition = Some(condition);
+        let requirement = need.need.requirement;
         put_literals(
             &self.lists,
             variable,
@@ -352,7 +377,7 @@ impl<N: Copy + Exact + Hash + Debug + Drop, S: Copy + Exact + Hash + Debug> Enco
             requirement,
             &mut self.literals,
         )?;
-        let clause = self.coding.add_clause(kind, self.literals.as_slice())?;
+        let clause = self.coding.add_case(need, self.literals.as_slice())?;
         self.queue.register_clause(NeedClause {
             parent: variable,
             requirement,
@@ -385,7 +410,8 @@ impl<N: Copy + Exact + Hash + Debug + Drop, S: Copy + Exact + Hash + Debug> Enco
             return Ok(*gate);
         }
         let gate = self.coding.variable(ProofAtom::Gate(requirement))?;
-        self.encode_need(ClauseKind::Shared { requirement }, gate, None, requirement)?;
+        let kind = ClauseKind::GateRequires { requirement };
+        self.encode_need(kind, gate, requirement)?;
         self.gates.insert(requirement, gate)?;
         Ok(gate)
     }
@@ -405,7 +431,7 @@ impl<N: Copy + Exact + Hash + Debug + Drop, S: Copy + Exact + Hash + Debug> Enco
         ensures ids { IsErrOf result Ids → LacksNumber self.new.coding }
     {
         let literals = [Literal::new(variable, true), Literal::new(gate, false)];
-        let kind = ClauseKind::Gated {
+        let kind = ClauseKind::RequiresGate {
             solvable,
             requirement,
         };

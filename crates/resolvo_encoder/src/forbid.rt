@@ -12,6 +12,7 @@ ghost use Rattle.resolvo_sat.specs.RuleClauses.{Rule, ForbidReason, IsForbiddenI
 ghost use Rattle.resolvo_state.specs.Atoms.{Represents};
 ghost use Rattle.resolvo_state.specs.SolverState.{IsCoding, LacksNumber};
 ghost use Rattle.resolvo_state.specs.ClauseKinds.{rule_of};
+ghost use Rattle.resolvo_state.specs.StoredKinds.{plain_kind, IsPlain};
 ghost use Rattle.resolvo_encoder.specs.Encoded.{rules_of, IsMarkKnown, IsEncoding, IsParentVariable, IsLimitEncoded};
 ghost use Rattle.resolvo_encoder.specs.Steps.{IsBuilt, Extends};
 ghost use Rattle.resolvo_encoder.specs.ClauseRules.{IsPair, EncodesPair, EncodesRules, reason_of, forbid_rules, limit_rules, out_rules};
@@ -187,10 +188,11 @@ impl<N: Copy + Exact + Hash + Debug + Drop, S: Copy + Exact + Hash + Debug> Enco
     /// Forbids a solvable: by a unit clause, or beside the root where another one is locked.
     fn deny(&mut self, solvable: S, kind: ClauseKind<N, S>) -> R<()>
         requires built { IsBuilt self.old }
-        requires rule { IsSome (rule_of kind) }
+        requires plain { IsPlain kind }
+        requires rule { IsSome (rule_of (plain_kind kind)) }
         ensures encodes { OnOk result
             ((w : ForbidReason S)
-            → rule_of kind ≡ Some (Rule.forbids w solvable)
+            → rule_of (plain_kind kind) ≡ Some (Rule.forbids w solvable)
             → EncodesRules S.eq (Rule.forbids w solvable ∷ []) self.old self.new) }
         ensures ids { IsErrOf result Ids → LacksNumber self.new.coding }
     {
@@ -210,10 +212,10 @@ impl<N: Copy + Exact + Hash + Debug + Drop, S: Copy + Exact + Hash + Debug> Enco
     {
         let first = self.parent_variable(parent)?;
         let second = self.give(ProofAtom::Solvable(barred))?;
-        let kind = ClauseKind::Limits {
+        let kind = ClauseKind::Constrains {
             parent,
             version_set,
-            barred,
+            excluded: barred,
         };
         self.encode_pair(kind, first, Literal::new(second, true))?;
         Ok(())
@@ -240,7 +242,7 @@ impl<N: Copy + Exact + Hash + Debug + Drop, S: Copy + Exact + Hash + Debug> Enco
     {
         let first = self.parent_variable(parent)?;
         let second = self.give(ProofAtom::Outside(version_set))?;
-        let kind = ClauseKind::LimitsOutside {
+        let kind = ClauseKind::ConstrainsParent {
             parent,
             version_set,
         };
@@ -258,9 +260,9 @@ impl<N: Copy + Exact + Hash + Debug + Drop, S: Copy + Exact + Hash + Debug> Enco
     {
         let first = self.give(ProofAtom::Solvable(solvable))?;
         let second = self.give(ProofAtom::Outside(version_set))?;
-        let kind = ClauseKind::IsOut {
+        let kind = ClauseKind::ConstrainsExcluded {
             version_set,
-            solvable,
+            excluded: solvable,
         };
         self.encode_pair(kind, first, Literal::new(second, false))?;
         Ok(())
@@ -304,11 +306,13 @@ impl<N: Copy + Exact + Hash + Debug + Drop, S: Copy + Exact + Hash + Debug> Enco
         second: Literal,
     ) -> R<()>
         requires coding { IsCoding self.old.coding }
-        requires rule { IsSome (rule_of kind) }
+        requires plain { IsPlain kind }
+        requires rule { IsSome (rule_of (plain_kind kind)) }
         requires first { first.0 < count_of self.old.coding.search }
         requires second { second.variable.0 < count_of self.old.coding.search }
         // After an answer.
-        ensures kind { OnOk result (EncodesPair kind (no first) second self.old self.new) }
+        ensures kind { OnOk result
+            (EncodesPair (plain_kind kind) (no first) second self.old self.new) }
         // After a refusal.
         ensures ids { IsErrOf result Ids → LacksNumber self.new.coding }
     {
@@ -334,19 +338,21 @@ fn beside<N, S>(kind: &ClauseKind<N, S>, variable: VariableId) -> VariableId
     ensures { (result ≡ variable) ⊎ (result ≡ root_variable) }
 {
     match kind {
-        ClauseKind::Locked { .. } => VariableId::root(),
+        ClauseKind::Lock { .. } => VariableId::root(),
         _ => variable,
     }
 }
 
 /// The kind of the clause that forbids a solvable for this reason.
 fn forbid_kind<N, S: Copy>(barred: ForbiddenSolvable<S>) -> ClauseKind<N, S>
-    ensures { rule_of result ≡ Some (Rule.forbids (reason_of barred.why) barred.solvable) }
+    ensures plain { IsPlain result }
+    ensures rule { rule_of (plain_kind result)
+        ≡ Some (Rule.forbids (reason_of barred.why) barred.solvable) }
 {
     match barred.why {
-        ForbiddenBy::Locked { locked } => ClauseKind::Locked {
+        ForbiddenBy::Locked { locked } => ClauseKind::Lock {
             locked,
-            barred: barred.solvable,
+            other: barred.solvable,
         },
         ForbiddenBy::Excluded { reason } => ClauseKind::Excluded {
             solvable: barred.solvable,

@@ -93,7 +93,7 @@ impl<N: Copy + Exact + Hash + Debug + Drop, S: Copy + Exact + Hash + Debug> Enco
     {
         let first = self.give(ProofAtom::Solvable(solvable))?;
         let second = self.give(ProofAtom::Matches(version_set))?;
-        let kind = ClauseKind::Matches {
+        let kind = ClauseKind::AnyMatch {
             version_set,
             solvable,
         };

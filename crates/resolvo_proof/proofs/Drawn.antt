@@ -18,7 +18,7 @@ use Rattle.resolvo_sat.specs.Numbered.{meaning, meanings, IsOnce}
 use Rattle.resolvo_sat.proofs.Lists.{contains_none, contains_map}
 use Rattle.resolvo_sat.proofs.Meanings.{meaning_from, clause_in_range as place_in_range}
 use Rattle.resolvo_state.specs.declared.solver_state.SolverState.{SolverState}
-use Rattle.resolvo_state.specs.declared.clause_kind.ClauseKind.TheVariants as Kind
+use Rattle.resolvo_state.specs.Kinds.{Kind}
 use Rattle.resolvo_state.specs.Atoms.{origin}
 use Rattle.resolvo_state.specs.SolverState.{IsCoding}
 use Rattle.resolvo_state.specs.Spelled.{Spelled}

@@ -8,8 +8,7 @@ use Rattle.resolvo_store_core.specs.AtMostOne.{Tracking}
 use Rattle.resolvo_state.specs.declared.atom.ProofAtom.TheVariants.{Solvable}
 use Rattle.resolvo_state.specs.declared.solver_state.SolverState.{SolverState}
 use Rattle.resolvo_state.specs.declared.registry.Registry.{Registry}
-use Rattle.resolvo_state.specs.declared.clause_kind.ClauseKind.{ClauseKind}
-use Rattle.resolvo_state.specs.declared.clause_kind.ClauseKind.TheVariants as Kind
+use Rattle.resolvo_state.specs.Kinds.{Kind}
 use Rattle.resolvo_state.specs.SolverState.{IsCoding}
 use Rattle.resolvo_state.specs.Registered.{IsPlaced, AreTied, IsTied, IsRegistered}
 use Rattle.resolvo_state.proofs.Growth.{represents_once}
@@ -26,7 +25,7 @@ use Rattle.resolvo_proof.proofs.NumberLemmas.{one_place}
 use Rattle.resolvo_proof.proofs.Shortened.{was_at}
 
 -- the clause of a step of a digit encodes it
-digit_kind : {N S : Type 0} (x : ClauseKind N S) (s : S) (k bit : ℕ) → IsRuleOf x (Some (Digit s k bit)) → (name : N) × (x ≡ Kind.Digit name s k bit)
+digit_kind : {N S : Type 0} (x : Kind N S) (s : S) (k bit : ℕ) → IsRuleOf x (Some (Digit s k bit)) → (name : N) × (x ≡ Kind.Digit name s k bit)
 digit_kind Kind.Root s k bit h = absurd cc
 digit_kind (Kind.Needs parent need case) s k bit (copy, t, same) = absurd cc
 digit_kind (Kind.Gated t r) s k bit h = absurd cc

@@ -16,8 +16,7 @@ use Rattle.resolvo_sat.specs.RuleClauses.{Atom}
 use Rattle.resolvo_sat.specs.Numbered.{meaning, meanings}
 use Rattle.resolvo_state.specs.declared.atom.ProofAtom.{ProofAtom}
 use Rattle.resolvo_state.specs.declared.solver_state.SolverState.{SolverState}
-use Rattle.resolvo_state.specs.declared.clause_kind.ClauseKind.{ClauseKind}
-use Rattle.resolvo_state.specs.declared.clause_kind.ClauseKind.TheVariants as Kind
+use Rattle.resolvo_state.specs.Kinds.{Kind}
 use Rattle.resolvo_state.specs.ClauseKinds.{kind_at}
 use Rattle.resolvo_state.specs.Atoms.{atom_of, origin}
 use Rattle.resolvo_state.specs.SolverState.{IsCoding}
@@ -104,15 +103,15 @@ causes_are (d ∷ cs) zero clause at = let same : d ≡ clause = cc in ap (λ (x
 causes_are (d ∷ cs) (suc n) clause at = causes_are cs n clause at
 
 -- the step of a clause that encodes a rule
-pub rule_step : {N S : Type 0} (c : SolverState N S) (n : ℕ) (x : ClauseKind N S) (r : ProofRule N S) → n < length c.search.clauses → kind_at c.kinds.items n ≡ Some x → IsRuleOf x (Some r) → IsStepAt c n (Rule r)
+pub rule_step : {N S : Type 0} (c : SolverState N S) (n : ℕ) (x : Kind N S) (r : ProofRule N S) → n < length c.search.clauses → kind_at c.kinds.items n ≡ Some x → IsRuleOf x (Some r) → IsStepAt c n (Rule r)
 rule_step c n x r below kind_is encoded = let (clause, at) = get_below c.search.clauses n below in record { kinds = x; clause = clause; kind_is = kind_is; present = at; writes = inl (r, refl, encoded) }
 
 -- the step of a clause after the root's that encodes none
-pub learnt_step : {N S : Type 0} (c : SolverState N S) → IsCoding c → (n : ℕ) (x : ClauseKind N S) (clause : SatClause) (step : ProofStep N S) → 0 < n → kind_at c.kinds.items n ≡ Some x → slice_get c.search.clauses n ≡ Some clause → IsRuleOf x None
+pub learnt_step : {N S : Type 0} (c : SolverState N S) → IsCoding c → (n : ℕ) (x : Kind N S) (clause : SatClause) (step : ProofStep N S) → 0 < n → kind_at c.kinds.items n ≡ Some x → slice_get c.search.clauses n ≡ Some clause → IsRuleOf x None
     → IsDerivation c.atoms.keys clause.literals clause.causes step → IsStepAt c n step
 learnt_step {N} {S} c coding n x clause step behind kind_is at encoded d = record { kinds = x; clause = clause; kind_is = kind_is; present = at; writes = inr (go x kind_is encoded, d) }
   where
-    go : (y : ClauseKind N S) → kind_at c.kinds.items n ≡ Some y → IsRuleOf y None → y ≡ Kind.Learnt
+    go : (y : Kind N S) → kind_at c.kinds.items n ≡ Some y → IsRuleOf y None → y ≡ Kind.Learnt
     go Kind.Root e t = (let first : n ≡ 0 = coding.rooted n e in absurd (omega arith))
     go (Kind.Needs parent need case) e (copy, t, same) = absurd cc
     go (Kind.Gated s r) e t = absurd cc

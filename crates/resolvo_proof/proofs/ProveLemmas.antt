@@ -26,8 +26,7 @@ use Rattle.resolvo_sat.specs.RuleClauses.{Atom, IsExact, IsRule, literals_of}
 use Rattle.resolvo_sat.specs.Numbered.{meaning, meanings, Spells}
 use Rattle.resolvo_sat.proofs.Meanings.{meaning_in, meaning_from, root_or_other}
 use Rattle.resolvo_state.specs.declared.solver_state.SolverState.{SolverState}
-use Rattle.resolvo_state.specs.declared.clause_kind.ClauseKind.{ClauseKind}
-use Rattle.resolvo_state.specs.declared.clause_kind.ClauseKind.TheVariants as Kind
+use Rattle.resolvo_state.specs.Kinds.{Kind}
 use Rattle.resolvo_state.specs.Atoms.{origin}
 use Rattle.resolvo_state.specs.SolverState.{IsCoding}
 use Rattle.resolvo_state.specs.Spelled.{Spelled}
@@ -117,7 +116,7 @@ map_none f [] h = refl
 map_none f (x ∷ xs) h = absurd cc
 
 -- the rule of a step is the clause's, under some condition
-rule_of_step : {N S : Type 0} (x : ClauseKind N S) (r : ProofRule N S) → IsRuleOf x (Some r) → (condition : Option ConditionId) × (rule_of x ≡ Some (rule_under condition r))
+rule_of_step : {N S : Type 0} (x : Kind N S) (r : ProofRule N S) → IsRuleOf x (Some r) → (condition : Option ConditionId) × (rule_of x ≡ Some (rule_under condition r))
 rule_of_step Kind.Root r h = absurd cc
 rule_of_step (Kind.Needs parent need case) r (copy, e, same) = (need.condition, ap (λ vs. Some (Encoder.Rule.needs parent need vs)) (sym same) ∙ sym (ap (λ y. Some (rule_under need.condition y)) (some_is r (Needs parent need.requirement copy) e)))
 rule_of_step (Kind.Gated s q) r h = (None, sym (ap (λ y. Some (rule_under None y)) (some_is r (GateOf s q) h)))

@@ -8,8 +8,7 @@ use Rattle.resolvo_sat.specs.Clauses.{SatClause}
 use Rattle.resolvo_sat.specs.Numbered.{meanings}
 use Rattle.resolvo_state.specs.declared.atom.ProofAtom.{ProofAtom}
 use Rattle.resolvo_state.specs.declared.solver_state.SolverState.{SolverState}
-use Rattle.resolvo_state.specs.declared.clause_kind.ClauseKind.{ClauseKind}
-use Rattle.resolvo_state.specs.declared.clause_kind.ClauseKind.TheVariants as Kind
+use Rattle.resolvo_state.specs.Kinds.{Kind}
 use Rattle.resolvo_state.specs.Atoms.{origin}
 use Rattle.resolvo_state.specs.ClauseKinds.{kind_at}
 use Rattle.resolvo_proof.specs.declared.step.ProofRule.{ProofRule}
@@ -35,7 +34,7 @@ places [] = []
 places (c ∷ cs) = with_place c.0 (places cs)
 
 -- the rule by which a clause of this kind forbids a solvable, or whatever is outside a version set
-abbrev pub forbid_rule : {N S : Type 0} → ClauseKind N S → Option (ProofRule N S)
+abbrev pub forbid_rule : {N S : Type 0} → Kind N S → Option (ProofRule N S)
 forbid_rule Kind.Root = None
 forbid_rule (Kind.Needs parent need case) = None
 forbid_rule (Kind.Gated s r) = None
@@ -51,7 +50,7 @@ forbid_rule (Kind.Matches v s) = None
 forbid_rule Kind.Learnt = None
 
 -- the rule of a clause of this kind that defines an atom
-abbrev pub definition_rule : {N S : Type 0} → ClauseKind N S → Option (ProofRule N S)
+abbrev pub definition_rule : {N S : Type 0} → Kind N S → Option (ProofRule N S)
 definition_rule Kind.Root = None
 definition_rule (Kind.Needs parent need case) = None
 definition_rule (Kind.Gated s r) = None
@@ -67,7 +66,7 @@ definition_rule (Kind.Matches v s) = Some (Matches v s)
 definition_rule Kind.Learnt = None
 
 -- the rule that is written for a kind; the root's clause and a learnt one have none
-abbrev pub IsRuleOf : {N S : Type 0} → ClauseKind N S → Option (ProofRule N S) → Type 0
+abbrev pub IsRuleOf : {N S : Type 0} → Kind N S → Option (ProofRule N S) → Type 0
 IsRuleOf Kind.Root encoded = encoded ≡ None
 IsRuleOf (Kind.Needs parent need case) encoded = (copy : Vec VersionSetId Global) × (encoded ≡ Some (Needs parent need.requirement copy)) × (copy.items ≡ case)
 IsRuleOf (Kind.Gated s r) encoded = encoded ≡ Some (GateOf s r)
@@ -91,12 +90,12 @@ pub record IsDerivation {N S : Type 0} (atoms : List (ProofAtom N S)) (spelled :
   pub read : causes.items ≡ places from
 
 -- the step is the rule that the clause encodes, or is derived as the clause was
-abbrev pub IsStepOf : {N S : Type 0} → List (ProofAtom N S) → ClauseKind N S → SatClause → ProofStep N S → Type 0
+abbrev pub IsStepOf : {N S : Type 0} → List (ProofAtom N S) → Kind N S → SatClause → ProofStep N S → Type 0
 IsStepOf {N} {S} atoms kinds clause step = ((r : ProofRule N S) × (step ≡ Rule r) × IsRuleOf kinds (Some r)) ⊎ ((kinds ≡ Kind.Learnt) × IsDerivation atoms clause.literals clause.causes step)
 
 -- the step of the clause of this number
 pub record IsStepAt {N S : Type 0} (c : SolverState N S) (n : ℕ) (step : ProofStep N S) : Type 0 where
-  pub kinds : ClauseKind N S
+  pub kinds : Kind N S
   pub clause : SatClause
   pub kind_is : kind_at c.kinds.items n ≡ Some kinds
   pub present : slice_get c.search.clauses n ≡ Some clause

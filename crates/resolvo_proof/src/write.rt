@@ -7,6 +7,8 @@ ghost use Rattle.resolvo_sat.specs.Steps.{AreInRange};
 ghost use Rattle.resolvo_sat.specs.Numbered.{meanings};
 ghost use Rattle.resolvo_state.specs.Atoms.{origin};
 ghost use Rattle.resolvo_state.specs.SolverState.{IsCoding};
+ghost use Rattle.resolvo_state.specs.Kinds.{Needs};
+ghost use Rattle.resolvo_state.specs.StoredKinds.{kind_in, plain_kind, IsWithin};
 ghost use Rattle.resolvo_proof.specs.Steps.{literal_in};
 ghost use Rattle.resolvo_proof.specs.Written.{places, atoms_of, forbid_rule, definition_rule, IsRuleOf, IsDerivation, IsStepAt};
 
@@ -14,7 +16,8 @@ use crate::step::{ProofLiteral, ProofRule, ProofStep};
 use resolvo_pool_core::id::{ClauseId, Exact, VariableId};
 use resolvo_pool_core::want::R;
 use resolvo_state::atom::ProofAtom;
-use resolvo_state::clause_kind::ClauseKind;
+use resolvo_state::clause_kind::{ClauseKind, Need};
+use resolvo_state::clause_kinds::ClauseKinds;
 use resolvo_state::solver_state::SolverState;
 use resolvo_store_core::literal::Literal;
 use std::alloc::Global;
@@ -33,8 +36,8 @@ pub(crate) fn write_step<N: Copy + Exact + Hash + Debug, S: Copy + Exact + Hash 
     ensures step { IfOk result (IsStepAt coding.now number) }
     ensures refusal { IsOkUnless result Memory }
 {
-    let kind = coding.kinds.get(number)?;
-    match write_rule(&kind)? {
+    let kind = coding.kinds.get(number);
+    match write_rule(&coding.kinds, kind, alloc)? {
         Some(rule) => Ok(ProofStep::Rule(rule)),
         None => {
             let literals = coding.search.clauses.literals(number);
@@ -115,70 +118,82 @@ fn write_causes(alloc: Global, causes: &[ClauseId]) -> R<Vec<usize>>
 
 /// The rule that a clause encodes. The root's clause and a learnt one encode none.
 fn write_rule<N: Copy + Exact + Hash + Debug, S: Copy + Exact + Hash + Debug>(
-    kind: &ClauseKind<N, S>,
+    kinds: &ClauseKinds<N, S>,
+    kind: ClauseKind<N, S>,
+    alloc: Global,
 ) -> R<Option<ProofRule<N, S>>>
-    ensures encoded { IfOk result (IsRuleOf kind.now) }
+    requires within { IsWithin (length kinds.now.needs) kind }
+    ensures encoded { IfOk result (IsRuleOf (kind_in kinds.now.needs kind)) }
     ensures refusal { IsOkUnless result Memory }
 {
     match kind {
-        ClauseKind::Root | ClauseKind::Learnt => Ok(None),
-        ClauseKind::Needs { parent, need, case } => Ok(Some(ProofRule::Needs {
-            parent: *parent,
-            requirement: need.requirement,
-            case: case.version_sets()?,
+        ClauseKind::InstallRoot | ClauseKind::Learnt => Ok(None),
+        ClauseKind::Requires {
+            parent,
+            requirement,
+        } => Ok(Some(ProofRule::Needs {
+            parent,
+            requirement,
+            case: Vec::new(alloc),
         })),
-        ClauseKind::Gated {
+        ClauseKind::RequiresIf { need } => write_need(kinds.need(need)),
+        ClauseKind::RequiresGate {
             solvable,
             requirement,
         } => Ok(Some(ProofRule::GateOf {
-            parent: *solvable,
-            requirement: *requirement,
+            parent: solvable,
+            requirement,
         })),
-        ClauseKind::Limits { .. }
-        | ClauseKind::LimitsOutside { .. }
-        | ClauseKind::Locked { .. }
+        ClauseKind::Constrains { .. }
+        | ClauseKind::ConstrainsParent { .. }
+        | ClauseKind::Lock { .. }
         | ClauseKind::Excluded { .. } => Ok(forbid_rule(kind)),
         kind => Ok(definition_rule(kind)),
     }
 }
 
+/// The rule of a need under a condition.
+fn write_need<N, S: Copy>(need: &Need<S>) -> R<Option<ProofRule<N, S>>>
+    ensures encoded { IfOk result (IsRuleOf (Needs need.now.parent need.now.need need.now.case)) }
+    ensures refusal { IsOkUnless result Memory }
+{
+    Ok(Some(ProofRule::Needs {
+        parent: need.parent,
+        requirement: need.need.requirement,
+        case: need.case.version_sets()?,
+    }))
+}
+
 /// The rule of a clause that defines an atom. Other clauses have none.
-fn definition_rule<N: Copy + Exact + Hash + Debug, S: Copy + Exact + Hash + Debug>(
-    kind: &ClauseKind<N, S>,
-) -> Option<ProofRule<N, S>>
-    ensures { result ≡ definition_rule kind.now }
+fn definition_rule<N: Copy, S: Copy>(kind: ClauseKind<N, S>) -> Option<ProofRule<N, S>>
+    ensures { result ≡ definition_rule (plain_kind kind) }
 {
     match kind {
-        ClauseKind::Shared { requirement } => Some(ProofRule::Shared {
-            requirement: *requirement,
-        }),
-        ClauseKind::IsOut {
+        ClauseKind::GateRequires { requirement } => Some(ProofRule::Shared { requirement }),
+        ClauseKind::ConstrainsExcluded {
             version_set,
-            solvable,
+            excluded,
         } => Some(ProofRule::Outside {
-            version_set: *version_set,
-            solvable: *solvable,
+            version_set,
+            solvable: excluded,
         }),
-        ClauseKind::Digit {
+        ClauseKind::ForbidMultipleInstances {
             solvable,
             place,
             bit,
             ..
         } => Some(ProofRule::Digit {
-            solvable: *solvable,
-            place: *place,
-            bit: *bit,
+            solvable,
+            place,
+            bit,
         }),
-        ClauseKind::IsThere { name, solvable } => Some(ProofRule::AtLeastOne {
-            name: *name,
-            solvable: *solvable,
-        }),
-        ClauseKind::Matches {
+        ClauseKind::AnyOf { name, solvable } => Some(ProofRule::AtLeastOne { name, solvable }),
+        ClauseKind::AnyMatch {
             version_set,
             solvable,
         } => Some(ProofRule::Matches {
-            version_set: *version_set,
-            solvable: *solvable,
+            version_set,
+            solvable,
         }),
         _ => None,
     }
@@ -186,37 +201,32 @@ fn definition_rule<N: Copy + Exact + Hash + Debug, S: Copy + Exact + Hash + Debu
 
 /// The rule by which a clause forbids a solvable, or whatever is outside a version set. Other
 /// clauses have none.
-fn forbid_rule<N: Copy + Exact + Hash + Debug, S: Copy + Exact + Hash + Debug>(
-    kind: &ClauseKind<N, S>,
-) -> Option<ProofRule<N, S>>
-    ensures { result ≡ forbid_rule kind.now }
+fn forbid_rule<N: Copy, S: Copy>(kind: ClauseKind<N, S>) -> Option<ProofRule<N, S>>
+    ensures { result ≡ forbid_rule (plain_kind kind) }
 {
     match kind {
-        ClauseKind::Limits {
+        ClauseKind::Constrains {
             parent,
             version_set,
-            barred,
+            excluded,
         } => Some(ProofRule::Limit {
-            parent: *parent,
-            version_set: *version_set,
-            barred: Some(*barred),
+            parent,
+            version_set,
+            barred: Some(excluded),
         }),
-        ClauseKind::LimitsOutside {
+        ClauseKind::ConstrainsParent {
             parent,
             version_set,
         } => Some(ProofRule::Limit {
-            parent: *parent,
-            version_set: *version_set,
+            parent,
+            version_set,
             barred: None,
         }),
-        ClauseKind::Locked { locked, barred } => Some(ProofRule::Locked {
-            locked: *locked,
-            barred: *barred,
+        ClauseKind::Lock { locked, other } => Some(ProofRule::Locked {
+            locked,
+            barred: other,
         }),
-        ClauseKind::Excluded { solvable, reason } => Some(ProofRule::Excluded {
-            solvable: *solvable,
-            reason: *reason,
-        }),
+        ClauseKind::Excluded { solvable, reason } => Some(ProofRule::Excluded { solvable, reason }),
         _ => None,
     }
 }

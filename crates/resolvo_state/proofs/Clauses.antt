@@ -25,8 +25,8 @@ use Rattle.resolvo_sat.proofs.Clauses.{length-lists}
 use Rattle.resolvo_sat.proofs.StepLemmas.{lists-append}
 use Rattle.resolvo_sat.proofs.GrowLemmas.{clause_stays}
 use Rattle.resolvo_sat.proofs.Meanings.{clause_in_range}
-use Rattle.resolvo_state.specs.declared.clause_kind.ClauseKind.{ClauseKind}
-use Rattle.resolvo_state.specs.declared.clause_kind.ClauseKind.TheVariants.{Root, Learnt}
+use Rattle.resolvo_state.specs.Kinds.{Kind}
+use Rattle.resolvo_state.specs.Kinds.{Root, Learnt}
 use Rattle.resolvo_state.specs.declared.solver_state.SolverState.{SolverState}
 use Rattle.resolvo_state.specs.declared.atom.ProofAtom.{ProofAtom}
 use Rattle.resolvo_state.specs.Atoms.{kind_of}
@@ -43,7 +43,7 @@ has_before old more m l h =
 
 -- A clause and its kind were appended: neither is the root's, and a learnt one has causes, no literal beside
 -- its negation, and none but those of the others.
-pub one_more : {N S : Type 0} (old new : SolverState N S) (x : ClauseKind N S) (clause : SatClause) → IsCoding old → IsReady new.search new.watching → AreCovered new.search new.watching
+pub one_more : {N S : Type 0} (old new : SolverState N S) (x : Kind N S) (clause : SatClause) → IsCoding old → IsReady new.search new.watching → AreCovered new.search new.watching
     → new.atoms ≡ old.atoms → new.search.variables ≡ old.search.variables → new.search.clauses ≡ old.search.clauses ++ clause ∷ [] → new.kinds.items ≡ old.kinds.items ++ x ∷ []
     → (x ≡ Root → ⊥) → (x ≡ Learnt → 0 < length clause.causes) → (x ≡ Learnt → AreApart clause.literals) → (x ≡ Learnt → AreFromClauses old.search clause.literals) → IsCoding new
 one_more {N} {S} old new x clause coding ready covered atoms variables clauses kinds unrooted caused apart from = record {
@@ -66,13 +66,13 @@ one_more {N} {S} old new x clause coding ready covered atoms variables clauses k
         let long : length (lists old.search.clauses) ≡ length old.search.clauses = length-lists old.search.clauses in
         (m, omega arith, stays m l there)
   ];
-  first = subst (λ (xs : List (ClauseKind N S)). kind_at xs 0 ≡ Some Root) (sym kinds) (get_in_prefix old.kinds.items (x ∷ []) 0 Root coding.first);
+  first = subst (λ (xs : List (Kind N S)). kind_at xs 0 ≡ Some Root) (sym kinds) (get_in_prefix old.kinds.items (x ∷ []) 0 Root coding.first);
   rooted = λ n h. elim (get_push old.kinds.items x Root n (kind_is n Root h)) [ inl a ↦ coding.rooted n a | inr (e, same) ↦ absurd (unrooted (sym same)) ];
   alone = λ l a. coding.alone l (subst (λ (ls : List Signed). has ls l ≡ true) first_stays a);
 }
   where
-    kind_is : (n : ℕ) (y : ClauseKind N S) → kind_at new.kinds.items n ≡ Some y → slice_get (old.kinds.items ++ x ∷ []) n ≡ Some y
-    kind_is n y h = subst (λ (xs : List (ClauseKind N S)). slice_get xs n ≡ Some y) kinds h
+    kind_is : (n : ℕ) (y : Kind N S) → kind_at new.kinds.items n ≡ Some y → slice_get (old.kinds.items ++ x ∷ []) n ≡ Some y
+    kind_is n y h = subst (λ (xs : List (Kind N S)). slice_get xs n ≡ Some y) kinds h
 
     holds : (n : ℕ) (held : SatClause) → slice_get new.search.clauses n ≡ Some held → slice_get (old.search.clauses ++ clause ∷ []) n ≡ Some held
     holds n held is = subst (λ (cs : List SatClause). slice_get cs n ≡ Some held) clauses is
@@ -104,7 +104,7 @@ one_more {N} {S} old new x clause coding ready covered atoms variables clauses k
           inr (sym same, one, e ∙ coding.each)
     ]
 
-pub adds_rule_is : {N S : Type 0} (old new : SolverState N S) (x : ClauseKind N S) (clause : SatClause) (id : ClauseId) → IsCoding old → IsSome (rule_of x) → AddsPending clause id old.search old.watching new.search new.watching
+pub adds_rule_is : {N S : Type 0} (old new : SolverState N S) (x : Kind N S) (clause : SatClause) (id : ClauseId) → IsCoding old → IsSome (rule_of x) → AddsPending clause id old.search old.watching new.search new.watching
     → clause.causes ≡ [] → new.atoms ≡ old.atoms → new.kinds.items ≡ old.kinds.items ++ x ∷ [] → AddsRule x clause.literals id old new
 adds_rule_is {N} {S} old new x clause id coding rule addition plain atoms kinds = record {
   coding = one_more old new x clause coding addition.ready addition.covered atoms addition.adds.variables addition.adds.added kinds (unrooted x rule) (λ e. absurd (unlearnt x rule e)) (λ e. absurd (unlearnt x rule e)) (λ e. absurd (unlearnt x rule e));
@@ -119,11 +119,11 @@ adds_rule_is {N} {S} old new x clause id coding rule addition plain atoms kinds 
   trail = record { tracker = addition.adds.tracker };
 }
   where
-    unrooted : (y : ClauseKind N S) → IsSome (rule_of y) → y ≡ Root → ⊥
-    unrooted y h e = both_ways false refl (subst (λ (z : ClauseKind N S). IsSome (rule_of z)) e h)
+    unrooted : (y : Kind N S) → IsSome (rule_of y) → y ≡ Root → ⊥
+    unrooted y h e = both_ways false refl (subst (λ (z : Kind N S). IsSome (rule_of z)) e h)
 
-    unlearnt : (y : ClauseKind N S) → IsSome (rule_of y) → y ≡ Learnt → ⊥
-    unlearnt y h e = both_ways false refl (subst (λ (z : ClauseKind N S). IsSome (rule_of z)) e h)
+    unlearnt : (y : Kind N S) → IsSome (rule_of y) → y ≡ Learnt → ⊥
+    unlearnt y h e = both_ways false refl (subst (λ (z : Kind N S). IsSome (rule_of z)) e h)
 
 -- a learnt clause was added
 pub learnt_is : {N S : Type 0} (old new : SolverState N S) (id : ClauseId) → IsCoding old → (improves : Improves id old.search new.search new.watching) → new.atoms ≡ old.atoms → new.kinds.items ≡ old.kinds.items ++ Learnt ∷ [] → Advances old new (StepResult.Learnt id)

@@ -28,8 +28,8 @@ use Rattle.resolvo_sat.specs.Numbered.{meaning, Means, known_of, Spells, AreCall
 use Rattle.resolvo_sat.proofs.GrowLemmas.{clause_stays, called_kept, called_choice, called_grows, spells_agree}
 use Rattle.resolvo_sat.proofs.Meanings.{clause_in_range}
 use Rattle.resolvo_state.specs.declared.atom.ProofAtom.{ProofAtom}
-use Rattle.resolvo_state.specs.declared.clause_kind.ClauseKind.{ClauseKind}
-use Rattle.resolvo_state.specs.declared.clause_kind.ClauseKind.TheVariants.{Root, Needs, Gated, Shared, Limits, LimitsOutside, IsOut, Locked, Excluded, Digit, IsThere, Matches, Learnt}
+use Rattle.resolvo_state.specs.Kinds.{Kind}
+use Rattle.resolvo_state.specs.Kinds.{Root, Needs, Gated, Shared, Limits, LimitsOutside, IsOut, Locked, Excluded, Digit, IsThere, Matches, Learnt}
 use Rattle.resolvo_state.specs.declared.solver_state.SolverState.{SolverState}
 use Rattle.resolvo_state.specs.Atoms.{origin, Represents}
 use Rattle.resolvo_state.specs.ClauseKinds.{rule_of, kind_at, rule_at, rules_in}
@@ -72,7 +72,7 @@ rules_grow old new grows r h = rules_prefix old.kinds.items new.kinds.items r gr
 pub forbid_grows : {N S : Type 0} (old new : SolverState N S) → Grows old new → (s : S) → IsForbidden (rules_in old.kinds.items) s → IsForbidden (rules_in new.kinds.items) s
 forbid_grows old new grows s (w, h) = (w, rules_grow old new grows (Rule.forbids w s) h)
 
-pub kind_grows : {N S : Type 0} (old new : SolverState N S) → Grows old new → (n : ℕ) (x : ClauseKind N S) → kind_at old.kinds.items n ≡ Some x → kind_at new.kinds.items n ≡ Some x
+pub kind_grows : {N S : Type 0} (old new : SolverState N S) → Grows old new → (n : ℕ) (x : Kind N S) → kind_at old.kinds.items n ≡ Some x → kind_at new.kinds.items n ≡ Some x
 kind_grows old new grows n x h = prefix_get old.kinds.items new.kinds.items n x grows.kinds h
 
 -- the number is below the other, or it is not
@@ -80,10 +80,10 @@ pub below_or_not : (n k : ℕ) → (n < k) ⊎ (k ≤ n)
 below_or_not n k = elim (cases_Bool (ltb n k)) [ inl e ↦ inl (ltb-true n k e) | inr e ↦ let h = ltb-false n k e in inr (omega (arith, h)) ]
 
 -- a kind is of an old clause or of a new one
-pub kind_split : {N S : Type 0} (old new : SolverState N S) → IsCoding old → IsCoding new → Grows old new → (n : ℕ) (x : ClauseKind N S) → kind_at new.kinds.items n ≡ Some x
+pub kind_split : {N S : Type 0} (old new : SolverState N S) → IsCoding old → IsCoding new → Grows old new → (n : ℕ) (x : Kind N S) → kind_at new.kinds.items n ≡ Some x
     → (kind_at old.kinds.items n ≡ Some x) ⊎ ((length old.search.clauses ≤ n) × (n < length new.search.clauses))
 kind_split {N} {S} old new before after grows n x h = elim (below_or_not n (length old.kinds.items)) [
-  | inl below ↦ let (more, e) = grows.kinds in inl (get_old old.kinds.items more n x below (subst (λ (xs : List (ClauseKind N S)). slice_get xs n ≡ Some x) e h))
+  | inl below ↦ let (more, e) = grows.kinds in inl (get_old old.kinds.items more n x below (subst (λ (xs : List (Kind N S)). slice_get xs n ≡ Some x) e h))
   | inr past ↦
       let within : n < length new.kinds.items = slice_get_within new.kinds.items n x h in
       let a : length old.kinds.items ≡ length old.search.clauses = before.each in
@@ -191,7 +191,7 @@ module _ {N S : Type 0} (choice wider : List (Literal (Atom N S)) → Literal (A
       pushed = ap reverse chooses.pushed ∙ reverse_push old.search.tracker.trail (choice_entry v clause (history old.search))
 
 -- a clause that encodes no rule is the root's or a learnt one
-no_rule : {N S : Type 0} (x : ClauseKind N S) → rule_of x ≡ None → (x ≡ Root) ⊎ (x ≡ Learnt)
+no_rule : {N S : Type 0} (x : Kind N S) → rule_of x ≡ None → (x ≡ Root) ⊎ (x ≡ Learnt)
 no_rule Root h = inl refl
 no_rule (Needs parent need case) h = absurd cc
 no_rule (Gated s r) h = absurd cc
@@ -219,7 +219,7 @@ coding_coded {N} {S} same p registered c coding spelled positive = record {
   positive = positive;
 }
   where
-    account : (clause : SatClause) (n : ℕ) → slice_get c.search.clauses n ≡ Some clause → (x : ClauseKind N S) → kind_at c.kinds.items n ≡ Some x → (o : Option (Rule N S)) → rule_of x ≡ o → IsAccounted (origin c.atoms.keys) same p (rules_in c.kinds.items) clause
+    account : (clause : SatClause) (n : ℕ) → slice_get c.search.clauses n ≡ Some clause → (x : Kind N S) → kind_at c.kinds.items n ≡ Some x → (o : Option (Rule N S)) → rule_of x ≡ o → IsAccounted (origin c.atoms.keys) same p (rules_in c.kinds.items) clause
     account clause n at x kind_is (Some r) is =
         let added_rule : rule_at c.kinds.items n ≡ Some r = rule_at_kind c.kinds.items n x kind_is ∙ is in
         inr (inr (r, (n, added_rule), subst (λ (literals : List Signed). Spells (origin c.atoms.keys) literals (literals_of same p r)) (literals_at c.search.clauses n clause at) (spelled n r added_rule)))

@@ -19,8 +19,8 @@ use Rattle.resolvo_sat.proofs.Lists.{contains_none, contains_one, contains_cases
 use Rattle.resolvo_sat.proofs.Places.{differ_in_digit}
 use Rattle.resolvo_sat.proofs.Members.{twice}
 use Rattle.resolvo_state.specs.declared.atom.ProofAtom.TheVariants.{Solvable, Bit}
-use Rattle.resolvo_state.specs.declared.clause_kind.ClauseKind.{ClauseKind}
-use Rattle.resolvo_state.specs.declared.clause_kind.ClauseKind.TheVariants.{Root, Digit}
+use Rattle.resolvo_state.specs.Kinds.{Kind}
+use Rattle.resolvo_state.specs.Kinds.{Root, Digit}
 use Rattle.resolvo_state.specs.declared.solver_state.SolverState.{SolverState}
 use Rattle.resolvo_state.specs.declared.registry.Registry.{Registry}
 use Rattle.resolvo_state.specs.declared.registry.Member.{Member}
@@ -73,8 +73,8 @@ KeepsDigits {N} {S} a c = (n : ℕ) (name : N) (s : S) (place bit : ℕ) → kin
 pub digits_same : {N S : Type 0} (a c : SolverState N S) → c.kinds ≡ a.kinds → KeepsDigits a c
 digits_same {N} {S} a c e n name s place bit h = subst (λ (xs : KindList N S). kind_at xs.items n ≡ Some (Digit name s place bit)) e h
 
-pub digits_more : {N S : Type 0} (x : ClauseKind N S) (a c : SolverState N S) → c.kinds.items ≡ a.kinds.items ++ x ∷ [] → ((name : N) (s : S) (place bit : ℕ) → x ≡ Digit name s place bit → ⊥) → KeepsDigits a c
-digits_more {N} {S} x a c e other n name s place bit h = elim (get_push a.kinds.items x (Digit name s place bit) n (subst (λ (xs : List (ClauseKind N S)). slice_get xs n ≡ Some (Digit name s place bit)) e h)) [
+pub digits_more : {N S : Type 0} (x : Kind N S) (a c : SolverState N S) → c.kinds.items ≡ a.kinds.items ++ x ∷ [] → ((name : N) (s : S) (place bit : ℕ) → x ≡ Digit name s place bit → ⊥) → KeepsDigits a c
+digits_more {N} {S} x a c e other n name s place bit h = elim (get_push a.kinds.items x (Digit name s place bit) n (subst (λ (xs : List (Kind N S)). slice_get xs n ≡ Some (Digit name s place bit)) e h)) [
   | inl old ↦ old
   | inr (last, is) ↦ absurd (other name s place bit (sym is))
 ]
@@ -113,7 +113,7 @@ nothing_tied {N} {S} r c none kinds = record {
   each = ap length none.names ∙ sym (ap length none.trackers);
   once = λ i j x a b. absurd (nothing i x (subst (λ (xs : List N). slice_get xs i ≡ Some x) none.names a));
   tied = λ k name t n h. absurd (nothing k name (subst (λ (xs : List N). slice_get xs k ≡ Some name) none.names n));
-  placed = λ n name s place bit h. absurd (no_digit n name s place bit (subst (λ (xs : List (ClauseKind N S)). slice_get xs n ≡ Some (Digit name s place bit)) kinds h));
+  placed = λ n name s place bit h. absurd (no_digit n name s place bit (subst (λ (xs : List (Kind N S)). slice_get xs n ≡ Some (Digit name s place bit)) kinds h));
   within = (let start : r.tied ≡ 0 = none.tied in omega arith);
   solvables = λ name v h. absurd (contains_none (member name v) (subst (λ (xs : List (Member N)). Contains xs (member name v)) none.members h));
   registered = λ name v h. absurd (nothing h.place name (subst (λ (xs : List N). slice_get xs h.place ≡ Some name) none.names h.named));

@@ -16,8 +16,8 @@ use Rattle.resolvo_sat.specs.Begin.{Begun, IsRootClause, AddsVariable}
 use Rattle.resolvo_sat.proofs.Literals.{has-cons}
 use Rattle.resolvo_sat.proofs.Readiness.{ready_same, covered_same}
 use Rattle.resolvo_state.specs.declared.atom.ProofAtom.{ProofAtom}
-use Rattle.resolvo_state.specs.declared.clause_kind.ClauseKind.{ClauseKind}
-use Rattle.resolvo_state.specs.declared.clause_kind.ClauseKind.TheVariants.{Root, Learnt}
+use Rattle.resolvo_state.specs.Kinds.{Kind}
+use Rattle.resolvo_state.specs.Kinds.{Root, Learnt}
 use Rattle.resolvo_state.specs.declared.solver_state.SolverState.{SolverState}
 use Rattle.resolvo_state.specs.Atoms.{kind_of, Represents}
 use Rattle.resolvo_state.specs.Keys.{IsPlace, AreOnce}
@@ -39,10 +39,10 @@ root_only (c ∷ []) (is, none) l a = elim (has-cons (yes root_variable) [] l (s
 root_only (c ∷ d ∷ cs) h l a = absurd h
 
 -- the root's clause has the only kind in the list
-root_alone : {N S : Type 0} (kinds : List (ClauseKind N S)) (n : ℕ) (x : ClauseKind N S) → kinds ≡ Root ∷ [] → kind_at kinds n ≡ Some x → (n ≡ 0) × (x ≡ Root)
-root_alone {N} {S} kinds n x e h = go n (subst (λ (xs : List (ClauseKind N S)). kind_at xs n ≡ Some x) e h)
+root_alone : {N S : Type 0} (kinds : List (Kind N S)) (n : ℕ) (x : Kind N S) → kinds ≡ Root ∷ [] → kind_at kinds n ≡ Some x → (n ≡ 0) × (x ≡ Root)
+root_alone {N} {S} kinds n x e h = go n (subst (λ (xs : List (Kind N S)). kind_at xs n ≡ Some x) e h)
   where
-    alone : List (ClauseKind N S)
+    alone : List (Kind N S)
     alone = Root ∷ []
 
     go : (k : ℕ) → kind_at (Root ∷ []) k ≡ Some x → (k ≡ 0) × (x ≡ Root)
@@ -60,7 +60,7 @@ begun_is {N} {S} c begun none alone = record {
     learnt = λ n clause h is. (let (z, e) = root_alone c.kinds.items n Learnt alone h in absurd cc);
     apart = λ n clause h is. (let (z, e) = root_alone c.kinds.items n Learnt alone h in absurd cc);
     drawn = λ n clause h is l a. (let (z, e) = root_alone c.kinds.items n Learnt alone h in absurd cc);
-    first = ap (λ (xs : List (ClauseKind N S)). kind_at xs 0) alone;
+    first = ap (λ (xs : List (Kind N S)). kind_at xs 0) alone;
     rooted = λ n h. (root_alone c.kinds.items n Root alone h).0;
     alone = root_only c.search.clauses begun.clause;
   };
@@ -108,7 +108,7 @@ gives_added {N} {S} a v old new coding fresh adds watching pushed kinds = record
   kinds = kinds;
 }
   where
-    same : (n : ℕ) (x : ClauseKind N S) → kind_at new.kinds.items n ≡ Some x → kind_at old.kinds.items n ≡ Some x
+    same : (n : ℕ) (x : Kind N S) → kind_at new.kinds.items n ≡ Some x → kind_at old.kinds.items n ≡ Some x
     same n x h = ap (λ (xs : KindList N S). kind_at xs.items n) (sym kinds) ∙ h
 
     place : v.0 ≡ suc (length old.atoms.keys)

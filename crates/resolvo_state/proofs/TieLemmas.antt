@@ -17,8 +17,8 @@ use Rattle.resolvo_sat.proofs.Clauses.{length-lists}
 use Rattle.resolvo_sat.proofs.StepLemmas.{lists-append, clause_at_end}
 use Rattle.resolvo_sat.specs.RuleClauses.{Rule}
 use Rattle.resolvo_state.specs.declared.atom.ProofAtom.TheVariants.{Solvable, Bit}
-use Rattle.resolvo_state.specs.declared.clause_kind.ClauseKind.{ClauseKind}
-use Rattle.resolvo_state.specs.declared.clause_kind.ClauseKind.TheVariants.{Digit}
+use Rattle.resolvo_state.specs.Kinds.{Kind}
+use Rattle.resolvo_state.specs.Kinds.{Digit}
 use Rattle.resolvo_state.specs.declared.solver_state.SolverState.{SolverState}
 use Rattle.resolvo_state.specs.Atoms.{Represents, solvable_of, bit_of}
 use Rattle.resolvo_state.specs.ClauseKinds.{kind_at, rules_in}
@@ -77,7 +77,7 @@ tie_added {N} {S} name place tie old new s bit id literals coding is solvable kn
     }
 
     kind_is : kind_at new.kinds.items (length old.search.clauses) ≡ Some (Digit name s place bit)
-    kind_is = subst (λ k. kind_at new.kinds.items k ≡ Some (Digit name s place bit)) coding.each (subst (λ (xs : List (ClauseKind N S)). kind_at xs (length old.kinds.items) ≡ Some (Digit name s place bit)) (sym added_rule.kinds) (get_last old.kinds.items (Digit name s place bit)))
+    kind_is = subst (λ k. kind_at new.kinds.items k ≡ Some (Digit name s place bit)) coding.each (subst (λ (xs : List (Kind N S)). kind_at xs (length old.kinds.items) ≡ Some (Digit name s place bit)) (sym added_rule.kinds) (get_last old.kinds.items (Digit name s place bit)))
 
     clause : clause_at (clauses_of new.search) (length old.search.clauses) ≡ tie_literals tie.0 tie.1 tie.2
     clause =

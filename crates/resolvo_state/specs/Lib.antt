@@ -1,6 +1,7 @@
 pub mod AtomLaws
 pub mod Atoms
 pub mod Keys
+pub mod Kinds
 pub mod ClauseKinds
 pub mod StoredKinds
 pub mod SolverState

@@ -11,7 +11,7 @@ use Rattle.resolvo_sat.specs.RuleClauses.{Atom, Rule, minus}
 use Rattle.resolvo_sat.specs.Numbered.{Spells}
 use Rattle.resolvo_state.specs.declared.atom.ProofAtom.{ProofAtom}
 use Rattle.resolvo_state.specs.declared.atom.ProofAtom.TheVariants.{Solvable, Bit}
-use Rattle.resolvo_state.specs.declared.clause_kind.ClauseKind.TheVariants.{Digit}
+use Rattle.resolvo_state.specs.Kinds.{Digit}
 use Rattle.resolvo_state.specs.declared.solver_state.SolverState.{SolverState}
 use Rattle.resolvo_state.specs.declared.registry.Registry.{Registry}
 use Rattle.resolvo_state.specs.declared.registry.Member.{Member}

@@ -14,8 +14,8 @@ use Rattle.resolvo_sat.specs.Propagation.{IsReady, AreCovered}
 use Rattle.resolvo_sat.specs.Begin.{IsRootClause, root_entry}
 use Rattle.resolvo_sat.specs.PropagateAndLearn.{IsProgress}
 use Rattle.resolvo_state.specs.declared.atom.ProofAtom.{ProofAtom}
-use Rattle.resolvo_state.specs.declared.clause_kind.ClauseKind.{ClauseKind}
-use Rattle.resolvo_state.specs.declared.clause_kind.ClauseKind.TheVariants.{Root, Learnt}
+use Rattle.resolvo_state.specs.Kinds.{Kind}
+use Rattle.resolvo_state.specs.Kinds.{Root, Learnt}
 use Rattle.resolvo_state.specs.declared.solver_state.SolverState.{SolverState}
 use Rattle.resolvo_state.specs.Atoms.{kind_of, Represents}
 use Rattle.resolvo_state.specs.Keys.{AreOnce}
@@ -74,7 +74,7 @@ pub record Gives {N S : Type 0} (atom : ProofAtom N S) (v : VariableId) (old new
   pub kinds : new.kinds ≡ old.kinds
 
 -- A clause of these literals, which has no causes, was appended.
-pub record AddsRule {N S : Type 0} (x : ClauseKind N S) (spelled : List Signed) (id : ClauseId) (old new : SolverState N S) : Type 0 where
+pub record AddsRule {N S : Type 0} (x : Kind N S) (spelled : List Signed) (id : ClauseId) (old new : SolverState N S) : Type 0 where
   pub coding : IsCoding new
   pub atoms : new.atoms ≡ old.atoms
   pub clause : SatClause
@@ -101,7 +101,7 @@ pub record AddsDenial {N S : Type 0} (denies : List Signed) (by : List ClauseId)
   pub trail : SameTrail old new
 
 -- the kinds that a step adds
-abbrev pub learnt_by : {N S : Type 0} → StepResult → List (ClauseKind N S)
+abbrev pub learnt_by : {N S : Type 0} → StepResult → List (Kind N S)
 learnt_by StepResult.Complete = []
 learnt_by (StepResult.Learnt id) = Learnt ∷ []
 learnt_by (StepResult.Refused r) = []

@@ -5,9 +5,11 @@ ghost use Rattle.resolvo_sat.specs.State.{count_of};
 ghost use Rattle.resolvo_sat.specs.Steps.{AreInRange};
 ghost use Rattle.resolvo_sat.specs.Analysis.{IsDenial};
 ghost use Rattle.resolvo_state.specs.ClauseKinds.{rule_of};
+ghost use Rattle.resolvo_state.specs.StoredKinds.{plain_kind, IsPlain};
+ghost use Rattle.resolvo_state.specs.Kinds.{Needs};
 ghost use Rattle.resolvo_state.specs.SolverState.{IsCoding, AddsRule, AddsDenial, LacksNumber};
 
-use crate::clause_kind::ClauseKind;
+use crate::clause_kind::{ClauseKind, Need};
 use crate::solver_state::SolverState;
 use resolvo_pool_core::id::{ClauseId, Exact};
 use resolvo_pool_core::want::R;
@@ -20,17 +22,36 @@ impl<N: Copy + Exact + Hash + Debug, S: Copy + Exact + Hash + Debug> SolverState
     /// Adds a clause that encodes a rule.
     pub fn add_clause(&mut self, kind: ClauseKind<N, S>, literals: &[Literal]) -> R<ClauseId>
         requires coding { IsCoding self.old }
-        requires rule { IsSome (rule_of kind) }
+        requires plain { IsPlain kind }
+        requires rule { IsSome (rule_of (plain_kind kind)) }
         requires some { 0 < length literals.now }
         requires in_range { AreInRange (count_of self.old.search) literals.now }
         // After an answer.
-        ensures added_rule { IfOk result (λ id. AddsRule kind literals.now id self.old self.new) }
+        ensures added_rule { IfOk result
+            (λ id. AddsRule (plain_kind kind) literals.now id self.old self.new) }
         // After a refusal.
         ensures ids { IsErrOf result Ids → length self.old.search.clauses ≡ 4294967295 }
         ensures full { IsErrOf result Ids → LacksNumber self.new }
     {
         let clause = self.search.add_clause(&mut self.watching, literals, &[])?;
         self.kinds.push(kind)?;
+        Ok(clause)
+    }
+
+    /// Adds a clause that encodes a need under a condition.
+    pub fn add_case(&mut self, need: Need<S>, literals: &[Literal]) -> R<ClauseId>
+        requires coding { IsCoding self.old }
+        requires some { 0 < length literals.now }
+        requires in_range { AreInRange (count_of self.old.search) literals.now }
+        // After an answer.
+        ensures added_rule { IfOk result
+            (λ id. AddsRule (Needs need.parent need.need need.case) literals.now id self.old self.new) }
+        // After a refusal.
+        ensures ids { IsErrOf result Ids → length self.old.search.clauses ≡ 4294967295 }
+        ensures full { IsErrOf result Ids → LacksNumber self.new }
+    {
+        let clause = self.search.add_clause(&mut self.watching, literals, &[])?;
+        self.kinds.push_need(need)?;
         Ok(clause)
     }
 

@@ -1,8 +1,8 @@
 //! A case of the condition of a requirement. Its model is the list of its version sets.
-ghost use Rattle.std.specs.Prelude.{◌≡◌, ◌==◌, [], length, IfOk};
+ghost use Rattle.std.specs.Prelude.{◌≡◌, IfOk};
 
 use resolvo_pool_core::id::VersionSetId;
-use std::alloc::{AllocError, Global};
+use std::alloc::AllocError;
 use std::marker::Model;
 
 /// The version sets of a case, of which each has a chosen match where it holds.
@@ -21,27 +21,11 @@ impl Model for Case {
 }
 
 impl Case {
-    /// The case of a requirement without a condition.
-    pub fn empty(alloc: Global) -> Case
-        ensures { result ≡ [] }
-    {
-        Case {
-            version_sets: Vec::new(alloc),
-        }
-    }
-
     /// The case of these version sets.
     pub fn of(version_sets: Vec<VersionSetId>) -> Case
         ensures { result ≡ version_sets.items }
     {
         Case { version_sets }
-    }
-
-    /// Whether it has no version sets.
-    pub fn is_empty(&self) -> bool
-        ensures { result ≡ (length self.now == 0) }
-    {
-        self.version_sets.is_empty()
     }
 
     /// A copy of its version sets.

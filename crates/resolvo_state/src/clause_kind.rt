@@ -4,46 +4,58 @@ use crate::case::Case;
 use resolvo_pool_core::id::{StringId, VersionSetId};
 use resolvo_pool_core::requirement::{ConditionalRequirement, Requirement};
 
-/// The rule that a clause encodes.
+/// A requirement of a parent, for a case of its condition.
 #[derive(Debug, Drop)]
+pub struct Need<S> {
+    pub parent: Option<S>,
+    pub need: ConditionalRequirement,
+    pub case: Case,
+}
+
+/// The rule that a clause encodes. There may be many digits, so each kind is small, and a need under
+/// a condition is named by its index.
+#[derive(Clone, Copy, Debug)]
 pub enum ClauseKind<N, S> {
     /// The root is true.
-    Root,
-    /// For this case of its condition, the parent's requirement has a chosen match.
-    Needs {
+    InstallRoot,
+    /// The parent's requirement, which has no condition, has a chosen match.
+    Requires {
         parent: Option<S>,
-        need: ConditionalRequirement,
-        case: Case,
+        requirement: Requirement,
+    },
+    /// In a case of its condition, the parent's requirement has a chosen match.
+    RequiresIf {
+        need: u32,
     },
     /// The solvable opens the gate of its requirement, which has no condition.
-    Gated {
+    RequiresGate {
         solvable: S,
         requirement: Requirement,
     },
     /// An open gate's requirement has a chosen match.
-    Shared {
+    GateRequires {
         requirement: Requirement,
     },
     /// The parent's version set forbids the solvable.
-    Limits {
+    Constrains {
         parent: Option<S>,
         version_set: VersionSetId,
-        barred: S,
+        excluded: S,
     },
     /// The parent's version set forbids whatever is outside it.
-    LimitsOutside {
+    ConstrainsParent {
         parent: Option<S>,
         version_set: VersionSetId,
     },
     /// The solvable is outside the version set.
-    IsOut {
+    ConstrainsExcluded {
         version_set: VersionSetId,
-        solvable: S,
+        excluded: S,
     },
     /// Another solvable is locked, which forbids this one.
-    Locked {
+    Lock {
         locked: S,
-        barred: S,
+        other: S,
     },
     /// An exclusion, or unknown dependencies, forbid the solvable.
     Excluded {
@@ -51,19 +63,19 @@ pub enum ClauseKind<N, S> {
         reason: StringId,
     },
     /// The digit of the solvable's place among those of its package, both counted from 0.
-    Digit {
+    ForbidMultipleInstances {
         name: N,
         solvable: S,
         place: u32,
         bit: u32,
     },
     /// The solvable is a candidate of the package.
-    IsThere {
+    AnyOf {
         name: N,
         solvable: S,
     },
     /// The solvable matches the version set, whose package is marked `many`.
-    Matches {
+    AnyMatch {
         version_set: VersionSetId,
         solvable: S,
     },

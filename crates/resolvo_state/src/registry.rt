@@ -318,7 +318,7 @@ fn add_tie<N: Copy + Exact + Hash + Debug, S: Copy + Exact + Hash + Debug>(
     let (Some(solvable), Some(bit)) = (coding.solvable(variable), coding.bit(digit)) else {
         unreachable!()
     };
-    let kind = ClauseKind::Digit {
+    let kind = ClauseKind::ForbidMultipleInstances {
         name,
         solvable,
         place,

@@ -48,7 +48,7 @@ impl<N: Copy + Exact + Hash + Debug, S: Copy + Exact + Hash + Debug> SolverState
     {
         let (search, watching) = begin(alloc)?;
         let mut kinds = ClauseKinds::new(alloc);
-        kinds.push(ClauseKind::Root)?;
+        kinds.push(ClauseKind::InstallRoot)?;
         Ok(SolverState {
             search,
             watching,

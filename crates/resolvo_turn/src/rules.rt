@@ -91,7 +91,7 @@ fn encode_plain_need<A: PackageSource>(
         → StopsNeed A.SolvableId.eq A.PackageSource answers.old parent need encoding.new }
 {
     if encoding.is_fixed(need.requirement) {
-        encoding.require_again(alloc, parent, need)?;
+        encoding.require_again(parent, need)?;
         return Ok(());
     }
     guard(answers, encoding, need.requirement)?;

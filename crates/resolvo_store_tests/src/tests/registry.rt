@@ -4,10 +4,7 @@ ghost use Rattle.resolvo_sat.specs.State.{count_of};
 ghost use Rattle.resolvo_state.specs.SolverState.{IsCoding, Grows};
 ghost use Rattle.resolvo_state.specs.Registered.{AreTied};
 
-use resolvo_pool::{
-    ConditionalRequirement, NameId, R, SolvableId, StringId, VariableId, VersionSetId,
-};
-use resolvo_state::case::Case;
+use resolvo_pool::{NameId, R, Requirement, SolvableId, StringId, VariableId, VersionSetId};
 use resolvo_state::clause_kind::ClauseKind;
 use resolvo_state::registry::Registry;
 use resolvo_state::solver_state::SolverState;
@@ -52,7 +49,8 @@ fn places(alloc: Global, count: u32) -> R<Vec<(u32, u32)>> {
     let coding = registered(alloc, count)?;
     let mut places = Vec::new(alloc);
     for number in 0..coding.kinds.len() {
-        if let ClauseKind::Digit { place, bit, .. } = coding.kinds.get(number)? {
+        let kind = coding.kinds.get(number);
+        if let ClauseKind::ForbidMultipleInstances { place, bit, .. } = kind {
             places.push((place, bit))?;
         }
     }
@@ -116,15 +114,14 @@ fn choose_one(
     registry.place(coding, name, excluded)?;
     let second = registry.register(coding, name, other)?;
     registry.place(coding, name, other)?;
-    need_one(alloc, coding, first, second)?;
-    exclude(alloc, coding, excluded, first)?;
+    need_one(coding, first, second)?;
+    exclude(coding, excluded, first)?;
     coding.propagate_and_learn(alloc)?;
     coding.chosen(alloc)
 }
 
 /// Adds that one of two solvables is needed.
 fn need_one(
-    alloc: Global,
     coding: &mut SolverState<NameId, SolvableId>,
     first: VariableId,
     second: VariableId,
@@ -136,19 +133,16 @@ fn need_one(
     ensures grows { OnOk result (Grows coding.old coding.new) }
 {
     let literals = [Literal::new(first, false), Literal::new(second, false)];
-    let need = ConditionalRequirement::from(VersionSetId(0));
-    let kinds = ClauseKind::Needs {
+    let kind = ClauseKind::Requires {
         parent: None,
-        need,
-        case: Case::empty(alloc),
+        requirement: Requirement::Single(VersionSetId(0)),
     };
-    coding.add_clause(kinds, &literals)?;
+    coding.add_clause(kind, &literals)?;
     Ok(())
 }
 
 /// Adds that a solvable is excluded.
 fn exclude(
-    alloc: Global,
     coding: &mut SolverState<NameId, SolvableId>,
     solvable: SolvableId,
     variable: VariableId,
@@ -158,11 +152,11 @@ fn exclude(
     ensures coding { OnOk result (IsCoding coding.new) }
 {
     let literals = [Literal::new(variable, true)];
-    let kinds = ClauseKind::Excluded {
+    let kind = ClauseKind::Excluded {
         solvable,
         reason: StringId(0),
     };
-    coding.add_clause(kinds, &literals)?;
+    coding.add_clause(kind, &literals)?;
     Ok(())
 }
 

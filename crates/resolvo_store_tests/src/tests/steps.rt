@@ -4,17 +4,16 @@ ghost use Rattle.resolvo_sat.specs.State.{count_of};
 ghost use Rattle.resolvo_sat.specs.Steps.{AreInRange};
 ghost use Rattle.resolvo_state.specs.SolverState.{IsCoding};
 ghost use Rattle.resolvo_state.specs.ClauseKinds.{rule_of};
+ghost use Rattle.resolvo_state.specs.StoredKinds.{plain_kind, IsPlain};
 
 use resolvo_pool::{
-    ClauseId, ConditionalRequirement, NameId, R, Requirement, SolvableId, StringId, VariableId,
-    VersionSetId,
+    ClauseId, NameId, R, Requirement, SolvableId, StringId, VariableId, VersionSetId,
 };
 use resolvo_proof::proof::proof_of;
 use resolvo_proof::step::{ProofLiteral, ProofRule, ProofStep};
 use resolvo_sat::propagate_and_learn::StepResult;
 use resolvo_sat::state::SatState;
 use resolvo_state::atom::ProofAtom;
-use resolvo_state::case::Case;
 use resolvo_state::clause_kind::ClauseKind;
 use resolvo_state::solver_state::SolverState;
 use resolvo_store::Literal;
@@ -47,7 +46,8 @@ fn state(
     signs: &[(u32, bool)],
 ) -> R<()>
     requires coding { IsCoding coding.old }
-    requires rule { IsSome (rule_of kind) }
+    requires plain { IsPlain kind }
+    requires rule { IsSome (rule_of (plain_kind kind)) }
     ensures { OnOk result (IsCoding coding.new) }
 {
     let literals = literals_of(alloc, &coding.search, signs)?;
@@ -73,10 +73,9 @@ fn solvables(alloc: Global, count: u32) -> R<TestCoding>
 fn refuse(alloc: Global, coding: &mut TestCoding) -> R<Vec<TestStep>>
     requires { IsCoding coding.old }
 {
-    let needs = ClauseKind::Needs {
+    let needs = ClauseKind::Requires {
         parent: None,
-        need: ConditionalRequirement::from(VersionSetId(3)),
-        case: Case::empty(alloc),
+        requirement: Requirement::Single(VersionSetId(3)),
     };
     state(alloc, coding, needs, &[(0, false), (1, true), (2, true)])?;
     exclude(alloc, coding, 0)?;
@@ -114,14 +113,14 @@ fn steps_of_next(alloc: Global, coding: &mut TestCoding) -> R<Vec<TestStep>>
 fn learn(alloc: Global, coding: &mut TestCoding) -> R<Vec<TestStep>>
     requires { IsCoding coding.old }
 {
-    let shared = ClauseKind::Shared {
+    let shared = ClauseKind::GateRequires {
         requirement: Requirement::Single(VersionSetId(3)),
     };
     state(alloc, coding, shared, &[(1, false), (2, true)])?;
-    let limits = ClauseKind::Limits {
+    let limits = ClauseKind::Constrains {
         parent: Some(SolvableId::from_raw(0)),
         version_set: VersionSetId(4),
-        barred: SolvableId::from_raw(1),
+        excluded: SolvableId::from_raw(1),
     };
     state(alloc, coding, limits, &[(1, false), (2, false)])?;
     coding.propagate_and_learn(alloc)?;

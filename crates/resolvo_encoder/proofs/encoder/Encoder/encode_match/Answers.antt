@@ -1,7 +1,7 @@
 use Rattle.std.proofs.Common.{[], ◌∷◌, subst}
 use Rattle.resolvo_store_core.specs.Signed.{Signed}
 use Rattle.resolvo_store_core.specs.Clauses.{no}
-use Rattle.resolvo_state.specs.declared.clause_kind.ClauseKind.TheVariants as Kind
+use Rattle.resolvo_state.specs.Kinds.{Kind}
 use Rattle.resolvo_sat.specs.RuleClauses.{IsExact, Rule}
 use Rattle.resolvo_state.specs.declared.atom.ProofAtom.TheVariants.{Solvable}
 use Rattle.resolvo_state.proofs.Growth.{represents_grow}

@@ -3,7 +3,7 @@ use Rattle.resolvo_sat.specs.State.{count_of}
 use Rattle.std.specs.Prelude.{option_copied}
 use Rattle.resolvo_sat.specs.RuleClauses.{IsExact, Rule}
 use Rattle.resolvo_state.specs.declared.atom.ProofAtom.TheVariants.{Gate}
-use Rattle.resolvo_state.specs.declared.clause_kind.ClauseKind.TheVariants as Kind
+use Rattle.resolvo_state.specs.Kinds.{Kind}
 use Rattle.resolvo_encoder.specs.declared.encoder.Encoder.{Encoder}
 use Rattle.resolvo_encoder.specs.Steps.{SameButCoding, LacksNumberFor}
 use Rattle.resolvo_state.proofs.Growth.{represents_grow, represents_in_range}

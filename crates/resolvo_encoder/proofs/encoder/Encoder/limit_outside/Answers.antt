@@ -2,7 +2,7 @@ use Rattle.std.proofs.Common.{[], ◌∷◌, inr, sym, subst}
 use Rattle.std.specs.Prelude.{Contains}
 use Rattle.resolvo_store_core.specs.Signed.{Signed}
 use Rattle.resolvo_store_core.specs.Clauses.{no}
-use Rattle.resolvo_state.specs.declared.clause_kind.ClauseKind.TheVariants as Kind
+use Rattle.resolvo_state.specs.Kinds.{Kind}
 use Rattle.resolvo_sat.specs.RuleClauses.{IsExact, Rule, IsRule}
 use Rattle.resolvo_sat.proofs.Lists.{contains_one, contains_only}
 use Rattle.resolvo_encoder.specs.declared.encoder.EncodedOnce.{EncodedOnce}

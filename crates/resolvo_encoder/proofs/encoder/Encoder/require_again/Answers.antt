@@ -1,11 +1,11 @@
 use Rattle.std.proofs.Common.{◌≡◌, inl, Option, Some, None, [], sym, ap, subst, rules}
 use Rattle.resolvo_pool_core.specs.declared.id.VariableId.{VariableId}
 use Rattle.resolvo_sat.specs.RuleClauses.{IsExact}
-use Rattle.resolvo_state.specs.declared.clause_kind.ClauseKind.TheVariants as Kind
+use Rattle.resolvo_state.specs.Kinds.{Kind}
 use Rattle.resolvo_encoder.specs.Encoded.{rules_of}
 use Rattle.resolvo_store_core.specs.Clauses.{root as root_variable}
 use Rattle.resolvo_sat.specs.SearchEnd.{IsNeedEncoded}
-use Rattle.resolvo_encoder.specs.Steps.{Needs, LacksNumberFor, UsesGate}
+use Rattle.resolvo_encoder.specs.Steps.{Needs, LacksNumberFor, UsesGate, unconditional}
 use Rattle.std.specs.Option.{is_some}
 use Rattle.std.proofs.lemmas.Bool.{both_ways}
 use Rattle.resolvo_encoder.proofs.NeedLemmas.{needed_keeps, need_extends}
@@ -23,12 +23,12 @@ returns-in_ok-need_directly-in-None-clause-encoded g c = λ p root lawful e has 
 pub returns-in_ok-need_directly-in-None-clause-kept : goal.returns-in_ok-need_directly-in-None-clause-kept
 returns-in_ok-need_directly-in-None-clause-kept g c =
     let needed = c.in_ok-need_directly-in-None.ensures.needed in
-    need_extends (Kind.Needs None c.args.need []) c.root.result None c.args.need.requirement c.args.self.now c.need_directly.new.self needed
+    need_extends (Kind.Needs None (unconditional c.args.need.requirement) []) c.root.result None c.args.need.requirement c.args.self.now c.need_directly.new.self needed
 
 pub returns-in_ok-need_directly-in-None-clause-built : goal.returns-in_ok-need_directly-in-None-clause-built
 returns-in_ok-need_directly-in-None-clause-built g c =
     let needed = c.in_ok-need_directly-in-None.ensures.needed in
-    built_encodes (Kind.Needs None c.args.need []) c.root.result None c.args.need.requirement c.args.self.now c.need_directly.new.self c.requires (λ name s place bit h. absurd cc) needed
+    built_encodes (Kind.Needs None (unconditional c.args.need.requirement) []) c.root.result None c.args.need.requirement c.args.self.now c.need_directly.new.self c.requires (λ name s place bit h. absurd cc) needed
 
 pub returns-in_ok-require_of-in-Some-clause-encoded : goal.returns-in_ok-require_of-in-Some-clause-encoded
 returns-in_ok-require_of-in-Some-clause-encoded g c = λ p root lawful e has needs.

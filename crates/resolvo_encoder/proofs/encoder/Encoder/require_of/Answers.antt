@@ -5,9 +5,9 @@ use Rattle.resolvo_pool_core.specs.ByRequirement.{slot_of}
 use Rattle.resolvo_encoder.specs.declared.encoder.EncodedOnce.{EncodedOnce}
 use Rattle.resolvo_sat.specs.RuleClauses.{IsExact, Rule}
 use Rattle.resolvo_state.specs.declared.atom.ProofAtom.TheVariants.{Solvable, Gate}
-use Rattle.resolvo_state.specs.declared.clause_kind.ClauseKind.TheVariants as Kind
+use Rattle.resolvo_state.specs.Kinds.{Kind}
 use Rattle.resolvo_encoder.specs.declared.encoder.Encoder.{Encoder}
-use Rattle.resolvo_encoder.specs.Steps.{SameButCoding, Extends, LacksNumberFor}
+use Rattle.resolvo_encoder.specs.Steps.{SameButCoding, Extends, LacksNumberFor, unconditional}
 use Rattle.resolvo_state.proofs.Growth.{represents_grow, rules_grow, represents_in_range}
 use Rattle.resolvo_state.proofs.RegisterLemmas.{digits_more}
 use Rattle.resolvo_encoder.proofs.RequireLemmas.{extends_then}
@@ -37,7 +37,7 @@ returns-then-not-is_gated-clause-kept g c =
     let middle : Encoder _ _ = record c.args.self.now { coding = c.variable.new.self } in
     let first : Extends c.args.self.now middle = record { grows = c.in_ok-variable.ensures.given.grows; trail = c.in_ok-variable.ensures.given.trail; softs = refl; parents = refl; encoded = refl; deferred = refl; fired = refl } in
     let needed = c.in_ok-need_directly.ensures.needed in
-    extends_then c.args.self.now middle c.need_directly.new.self first (need_extends (Kind.Needs (Some c.args.solvable) c.args.need []) c.in_ok-variable.variable None c.args.need.requirement middle c.need_directly.new.self needed)
+    extends_then c.args.self.now middle c.need_directly.new.self first (need_extends (Kind.Needs (Some c.args.solvable) (unconditional c.args.need.requirement) []) c.in_ok-variable.variable None c.args.need.requirement middle c.need_directly.new.self needed)
 
 pub gate-requires : goal.gate-requires
 gate-requires g c =
@@ -84,7 +84,7 @@ pub returns-then-not-is_gated-clause-built : goal.returns-then-not-is_gated-clau
 returns-then-not-is_gated-clause-built g c =
     let middle : Encoder _ _ = record c.args.self.now { coding = c.variable.new.self } in
     let needed = c.in_ok-need_directly.ensures.needed in
-    built_encodes (Kind.Needs (Some c.args.solvable) c.args.need []) c.in_ok-variable.variable None c.args.need.requirement middle c.need_directly.new.self
+    built_encodes (Kind.Needs (Some c.args.solvable) (unconditional c.args.need.requirement) []) c.in_ok-variable.variable None c.args.need.requirement middle c.need_directly.new.self
     (built_gives (Solvable c.args.solvable) c.in_ok-variable.variable c.args.self.now c.variable.new.self c.requires c.in_ok-variable.ensures.given) (λ name s place bit h. absurd cc) needed
 
 pub returns-in_err-variable-clause-ids : goal.returns-in_err-variable-clause-ids
