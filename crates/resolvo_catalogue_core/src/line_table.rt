@@ -7,10 +7,10 @@ ghost use Rattle.resolvo_catalogue_core.specs.LineKind as kind;
 ghost use Rattle.resolvo_catalogue_core.specs.declared.kept_rule.KeptRule.TheVariants as kept;
 
 use crate::kept_rule::KeptRule;
-use crate::lines_by_version::place_of;
 use crate::rule::VersionNo;
 use resolvo_pool_core::id::{VersionSetId, VersionSetUnionId};
 use resolvo_pool_core::requirement::{ConditionalRequirement, Requirement};
+use resolvo_terms::place_of;
 use std::alloc::{AllocError, Global};
 
 /// The stored form of a line. A need without condition and a limit are stored whole; of another rule

@@ -2,11 +2,12 @@
 //! version that was listed before it. The model is a list of lines for each version. Used by
 //! `table`.
 
-ghost use Rattle.std.specs.Prelude.{◌≡◌, ℕ, ◌+◌, ◌≤◌, [], ◌∷◌, ◌++◌, ◌==◌, if◌then◌else◌, length, IfOk, OnOk};
+ghost use Rattle.std.specs.Prelude.{◌≡◌, ℕ, ◌+◌, ◌≤◌, [], ◌∷◌, ◌++◌, ◌==◌, if◌then◌else◌, length, OnOk};
 ghost use Rattle.std.specs.List.{slice_range};
 ghost use Rattle.resolvo_catalogue_core.specs.LinesByVersion.{begin_of, kept_of, lists_from, AreEnds};
 
 use crate::rule::VersionNo;
+use resolvo_terms::place_of;
 use std::alloc::{AllocError, Global};
 use std::marker::Model;
 
@@ -15,17 +16,6 @@ pub struct LinesByVersion {
     lines: Vec<u32>,
     /// Where the lines of each version end. They begin where those of the version before end.
     ends: Vec<u32>,
-}
-
-/// A count as a place. A table has fewer than 2^32 lines, and refuses one more as it does for want of
-/// memory.
-pub(crate) fn place_of(count: usize) -> Result<u32, AllocError>
-    ensures { IfOk result (λ place. place ≡ count) }
-{
-    if count >= 4_294_967_296 {
-        return Err(AllocError);
-    }
-    Ok(count as u32)
 }
 
 /// Where the lines of a version begin.

@@ -7,6 +7,7 @@ mod hash;
 mod key_index;
 mod names;
 mod numbered;
+mod place;
 mod read;
 mod read_condition;
 mod set_lists;
@@ -16,4 +17,5 @@ mod text_ids;
 mod text_list;
 mod unions;
 
+pub use place::place_of;
 pub use terms::{Numbers, Terms};

@@ -4,6 +4,7 @@
 ghost use Rattle.std.specs.Prelude.{◌≡◌, ◌<◌, ◌-◌, ◌∷◌, ◌++◌, [], IfOk, OnOk, OnErr, length, slice_get, take, Some};
 ghost use Rattle.std.specs.Option.{option_map};
 
+use crate::place::place_of;
 use resolvo_pool_core::id::VersionSetId;
 use std::alloc::{AllocError, Global};
 use std::marker::Model;
@@ -11,8 +12,8 @@ use std::marker::Model;
 /// Where a list lies among the members of all.
 #[derive(Clone, Copy, Debug)]
 pub struct Part {
-    begin: usize,
-    end: usize,
+    begin: u32,
+    end: u32,
 }
 
 pub struct SetLists {
@@ -74,7 +75,7 @@ impl SetLists {
         ensures { slice_get self.now number ≡ Some result.now }
     {
         let part = self.parts[number];
-        &self.members[part.begin..part.end]
+        &self.members[part.begin as usize..part.end as usize]
     }
 
     /// A list, if there is one of this number.
@@ -94,10 +95,13 @@ impl SetLists {
         ensures same { OnErr result (self.new ≡ self.old) }
     {
         let begin = self.members.len();
+        let end = place_of(begin + list.len())?;
         self.parts.reserve(1)?;
         self.members.extend_from_slice(list)?;
-        let end = self.members.len();
-        self.parts.push_reserved(Part { begin, end });
+        self.parts.push_reserved(Part {
+            begin: begin as u32,
+            end,
+        });
         Ok(())
     }
 

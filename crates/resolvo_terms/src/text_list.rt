@@ -5,14 +5,15 @@ ghost use Rattle.std.specs.Prelude.{◌≡◌, ◌<◌, ◌-◌, ◌∷◌, ◌+
 ghost use Rattle.std.specs.Option.{option_map};
 ghost use Rattle.std.specs.Str.{IsUtf8};
 
+use crate::place::place_of;
 use std::alloc::{AllocError, Global};
 use std::marker::Model;
 
 /// Where a text lies among the bytes.
 #[derive(Clone, Copy, Debug)]
 pub struct Bounds {
-    begin: usize,
-    end: usize,
+    begin: u32,
+    end: u32,
 }
 
 pub struct TextList {
@@ -74,7 +75,7 @@ impl TextList {
         ensures utf8 { IsUtf8 result.now }
     {
         let bounds = self.bounds[number];
-        &self.bytes[bounds.begin..bounds.end]
+        &self.bytes[bounds.begin as usize..bounds.end as usize]
     }
 
     /// A text as bytes, if there is one of this number.
@@ -105,10 +106,13 @@ impl TextList {
         ensures same { OnErr result (self.new ≡ self.old) }
     {
         let begin = self.bytes.len();
+        let end = place_of(begin + text.len())?;
         self.bounds.reserve(1)?;
         self.bytes.extend_from_slice(text.as_bytes())?;
-        let end = self.bytes.len();
-        self.bounds.push_reserved(Bounds { begin, end });
+        self.bounds.push_reserved(Bounds {
+            begin: begin as u32,
+            end,
+        });
         Ok(())
     }
 

@@ -7,9 +7,9 @@ use Rattle.resolvo_terms.proofs.text_list.TextList.push.Goals as goal
 
 pub invariant_of-self-2 : goal.invariant_of-self-2
 invariant_of-self-2 c =
-    let b : Bounds = record { begin = c.len-begin.result; end = c.len-end.result } in
+    let b : Bounds = record { begin = c.len-begin.result; end = c.in_ok-end.end } in
     let begin : c.len-begin.result ≡ length c.self.inside.bytes.items = omega (arith, c.self.inside.bytes.ok, c.len-begin.ensures) in
-    let end : c.len-end.result ≡ length c.self.inside.bytes.items + length c.args.text.now = omega (arith, c.self.inside.bytes.ok, c.len-end.ensures, c.in_ok-extend_from_slice.ensures.len, c.as_bytes.ensures.len) in
+    let end : c.in_ok-end.end ≡ length c.self.inside.bytes.items + length c.args.text.now = omega (arith, c.self.inside.bytes.ok, c.len-begin.ensures, c.in_ok-end.ensures) in
     let all : c.extend_from_slice.new.self.items ≡ c.self.inside.bytes.items ++ c.args.text.now = c.in_ok-extend_from_slice.ensures.items ∙ ap (λ (t : List ℕ). c.self.inside.bytes.items ++ t) c.as_bytes.ensures.value in
     let bounds : c.push_reserved.new.self.items ≡ c.self.inside.bounds.items ++ b ∷ [] = c.push_reserved.ensures.items ∙ ap (λ (xs : List Bounds). xs ++ b ∷ []) c.in_ok-reserve.ensures.items in
     subst (λ (xs : List ℕ). AreTexts xs c.push_reserved.new.self.items) (sym all)
@@ -18,9 +18,9 @@ invariant_of-self-2 c =
 
 pub returns-clause-added : goal.returns-clause-added
 returns-clause-added c =
-    let b : Bounds = record { begin = c.len-begin.result; end = c.len-end.result } in
+    let b : Bounds = record { begin = c.len-begin.result; end = c.in_ok-end.end } in
     let begin : c.len-begin.result ≡ length c.self.inside.bytes.items = omega (arith, c.self.inside.bytes.ok, c.len-begin.ensures) in
-    let end : c.len-end.result ≡ length c.self.inside.bytes.items + length c.args.text.now = omega (arith, c.self.inside.bytes.ok, c.len-end.ensures, c.in_ok-extend_from_slice.ensures.len, c.as_bytes.ensures.len) in
+    let end : c.in_ok-end.end ≡ length c.self.inside.bytes.items + length c.args.text.now = omega (arith, c.self.inside.bytes.ok, c.len-begin.ensures, c.in_ok-end.ensures) in
     let all : c.extend_from_slice.new.self.items ≡ c.self.inside.bytes.items ++ c.args.text.now = c.in_ok-extend_from_slice.ensures.items ∙ ap (λ (t : List ℕ). c.self.inside.bytes.items ++ t) c.as_bytes.ensures.value in
     let bounds : c.push_reserved.new.self.items ≡ c.self.inside.bounds.items ++ b ∷ [] = c.push_reserved.ensures.items ∙ ap (λ (xs : List Bounds). xs ++ b ∷ []) c.in_ok-reserve.ensures.items in
     ap (λ (xs : List ℕ). map (text_between xs) c.push_reserved.new.self.items) all
