@@ -11,3 +11,4 @@ pub mod ReadLemmas
 pub mod PartLemmas
 pub mod NameLemmas
 pub mod CompareLemmas
+pub mod WholeLemmas

@@ -158,3 +158,7 @@ pub record AreKept (ss : List (NameId × Numbers)) (si : KeyIndex) (us : List (L
   pub conditions : AreKeyed (map condition_key cs) ci
   pub below : AreBelow cs
   pub several : AreSeveral us
+
+-- Each of these numbers, but the last that there is, is that of the version set of all versions of the package at its place.
+abbrev pub AreWholes : List ℕ → List (NameId × Numbers) → Type 0
+AreWholes numbers sets = (n k : ℕ) → slice_get numbers n ≡ Some k → k < 4294967295 → slice_get sets k ≡ Some (record { raw = n; tag = record {} }, record { 0 = Any })

@@ -161,7 +161,8 @@ impl Names {
 
     /// The number of a name, if it has one.
     pub fn number(&self, name: &str) -> Option<u32>
-        ensures { result ≡ place_of self.now name.now }
+        ensures found { IfSome result (λ i. slice_get self.now i ≡ Some name.now) }
+        ensures place { result ≡ place_of self.now name.now }
     {
         self.texts.number(name.as_bytes())
     }

@@ -101,8 +101,8 @@ impl Terms {
         Ok((Requirement::Union(union), rest))
     }
 
-    /// The version set of a need, if its words are one name that is known, and any version of the
-    /// package was asked for last. Most needs are such: their words are not told apart.
+    /// The version set of a need, if its words are one name that is known, and all versions of the
+    /// package were asked for before. Most needs are such: their words are not told apart.
     pub fn plain_need_in(&self, words: &[u8]) -> Option<VersionSetId>
         ensures { IfSome result
             (λ v.
@@ -112,7 +112,7 @@ impl Terms {
     {
         let parts = words.split_first()?;
         let package = self.known_package(parts.1)?;
-        self.recent_set(package, Span::Any)
+        self.known_whole(package)
     }
 
     /// The need of the words after `needs`, part by part.

@@ -2,12 +2,13 @@
 //! The model is one list of each, in the order of first naming; `specs/Terms.antt` has the text of
 //! each number. No choice of names makes it slow to find a number: hashes that collide are sorted.
 
-ghost use Rattle.std.specs.Prelude.{◌≡◌, ◌<◌, ◌≤◌, ◌+◌, ◌*◌, ◌++◌, ◌∷◌, [], if◌then◌else◌, ℕ, List, bytes_eq, IfOk, IfSome, IsTrue, IsErrOf, OnOk, OnErr, length, map, slice_get, Some, None, true};
+ghost use Rattle.std.specs.Prelude.{◌≡◌, ◌<◌, ◌≤◌, ◌+◌, ◌*◌, ◌++◌, ◌∷◌, [], if◌then◌else◌, ℕ, List, bytes_eq, IfOk, IfSome, IsErrOf, OnOk, OnErr, length, map, slice_get, Some, None, true};
 ghost use Rattle.std.specs.Bool.{Decides};
 ghost use Rattle.std.specs.Option.{option_copied, option_map};
 ghost use Rattle.std.specs.String.{string_bytes};
 ghost use Rattle.resolvo_text.specs.View.{spec_of, specs_of, cond_of, condition_of};
 ghost use Rattle.resolvo_text.specs.Line.{Is};
+ghost use Rattle.resolvo_text.specs.declared.spec.Span.TheVariants.{Any};
 ghost use Rattle.resolvo_text.specs.Parse.{name_in};
 ghost use Rattle.resolvo_text.specs.Spelling.{is_name};
 ghost use Rattle.resolvo_pool_core.specs.declared.condition.Condition.TheVariants.{Binary};
@@ -66,6 +67,9 @@ impl HasKey for Condition {
     }
 }
 
+/// Stands where a package has no version set of all its versions.
+const NO_SET: u32 = u32::MAX;
+
 /// The numbered values.
 pub struct Terms {
     names: Names,
@@ -73,9 +77,8 @@ pub struct Terms {
     version_sets: Numbered<(NameId, Numbers)>,
     unions: Unions,
     conditions: Numbered<Condition>,
-    /// For each package the number of the version set that was asked for last, or any number. A guess:
-    /// who uses it looks at the version set.
-    recent: Vec<u32>,
+    /// For each package the number of the version set of all its versions, or `NO_SET`.
+    wholes: Vec<u32>,
     pub(crate) alloc: Global,
 }
 
@@ -88,7 +91,7 @@ impl Drop for Terms {
             version_sets: _,
             unions: _,
             conditions: _,
-            recent: _,
+            wholes: _,
             alloc: _,
         } = self;
     }
@@ -96,7 +99,7 @@ impl Drop for Terms {
 
 impl Model for Terms {
     ghost use Rattle.resolvo_terms.specs.Terms.{Terms};
-    ghost use Rattle.resolvo_terms.specs.Found.{AreKept};
+    ghost use Rattle.resolvo_terms.specs.Found.{AreKept, AreWholes};
 
     ghost Value = { Terms };
 
@@ -111,7 +114,8 @@ impl Model for Terms {
 
     ghost invariant = { λ t.
         AreKept t.version_sets.values.items t.version_sets.index
-        t.unions t.conditions.values.items t.conditions.index };
+        t.unions t.conditions.values.items t.conditions.index
+        × AreWholes t.wholes.items t.version_sets.values.items };
 }
 
 impl Terms {
@@ -127,7 +131,7 @@ impl Terms {
             version_sets: Numbered::new(alloc)?,
             unions: Unions::new(alloc)?,
             conditions: Numbered::new(alloc)?,
-            recent: Vec::new(alloc),
+            wholes: Vec::new(alloc),
             alloc,
         })
     }
@@ -142,7 +146,7 @@ impl Terms {
             version_sets: self.version_sets.copy(alloc)?,
             unions: self.unions.copy(alloc)?,
             conditions: self.conditions.copy(alloc)?,
-            recent: Vec::new(alloc),
+            wholes: Vec::new(alloc),
             alloc,
         })
     }
@@ -214,39 +218,54 @@ impl Terms {
         ensures few { term_count self.new ≤ term_count self.old + 1 }
         ensures ids { IsErrOf result Ids → LacksNumber self.new }
     {
-        if let Some(id) = self.recent_set(name, span) {
+        match span {
+            Span::Any => self.whole_set(name),
+            _ => self.keyed_set(name, span),
+        }
+    }
+
+    /// The id of all versions of a package.
+    #[tactic(auto, using(crate::proofs::GrowLemmas::grows_own))]
+    fn whole_set(&mut self, name: NameId) -> R<VersionSetId>
+        ensures version_set { IfOk result
+            (λ v. slice_get self.new.version_sets v.0 ≡ Some (name, record { 0 = Any })) }
+        ensures grows { Grows self.old self.new }
+        ensures few { term_count self.new ≤ term_count self.old + 1 }
+        ensures ids { IsErrOf result Ids → LacksNumber self.new }
+    {
+        if let Some(id) = self.known_whole(name) {
             return Ok(id);
         }
-        let id = self.keyed_set(name, span)?;
+        let id = self.keyed_set(name, Span::Any)?;
         self.remember(name, id)?;
         Ok(id)
     }
 
-    /// The version set that was asked for last of its package, if it has this span.
-    pub(crate) fn recent_set(&self, name: NameId, span: Span) -> Option<VersionSetId>
+    /// The id of all versions of a package, if it was asked for.
+    pub(crate) fn known_whole(&self, name: NameId) -> Option<VersionSetId>
         ensures { IfSome result
-            (λ v. slice_get self.now.version_sets v.0 ≡ Some (name, record { 0 = span })) }
+            (λ v. slice_get self.now.version_sets v.0 ≡ Some (name, record { 0 = Any })) }
     {
-        let number = *self.recent.get(name.to_index())?;
-        let set = *self.version_sets.values.get(number as usize)?;
-        if is_set(set, name, span) {
+        let number = *self.wholes.get(name.to_index())?;
+        if number < NO_SET {
             Some(VersionSetId(number))
         } else {
             None
         }
     }
 
-    /// The version set was asked for last of its package.
+    /// Keeps the id of all versions of a package.
     fn remember(&mut self, name: NameId, set: VersionSetId) -> Result<(), AllocError>
+        requires { slice_get self.old.version_sets set.0 ≡ Some (name, record { 0 = Any }) }
         ensures { self.new ≡ self.old }
     {
         let at = name.to_index();
         if at >= self.names.len() {
             return Ok(());
         }
-        lengthen(&mut self.recent, at + 1)?;
-        if let Some(recent) = self.recent.get_mut(at) {
-            *recent = set.0;
+        lengthen(&mut self.wholes, at + 1)?;
+        if let Some(number) = self.wholes.get_mut(at) {
+            *number = set.0;
         }
         Ok(())
     }
@@ -426,6 +445,48 @@ impl Terms {
         }
     }
 
+    /// The id of a span of a package, if it has one.
+    #[tactic(auto, using(crate::proofs::FoundLemmas::sets_exact))]
+    fn find_set(&self, name: NameId, span: Span) -> Option<VersionSetId>
+        ensures { IfSome result
+            (λ v. slice_get self.now.version_sets v.0 ≡ Some (name, record { 0 = span })) }
+    {
+        let set = (name, Numbers(span));
+        let number = self.version_sets.find(set, &set.key())?;
+        Some(VersionSetId(number))
+    }
+
+    /// The id of a SPEC, if it has one.
+    pub fn find_spec(&self, spec: &Spec) -> Option<VersionSetId>
+        ensures { IfSome result (λ v. IsSpec self.now v (spec_of spec.now)) }
+    {
+        let number = self.names.number(spec.name.as_str())?;
+        self.find_set(NameId::from_raw(number), spec.span)
+    }
+
+    /// The requirement of a need of one SPEC without a condition, if the SPEC has an id.
+    pub fn find_need(
+        &self,
+        alternatives: &[Spec],
+        condition: Option<&Box<Cond>>,
+    ) -> Option<ConditionalRequirement>
+        ensures { IfSome result
+            (λ r.
+            IsNeed self.now r
+            (specs_of alternatives.now, condition_of (option_copied condition.entry))) }
+    {
+        match (alternatives, condition) {
+            ([only], None) => {
+                let set = self.find_spec(only)?;
+                Some(ConditionalRequirement {
+                    condition: None,
+                    requirement: Requirement::Single(set),
+                })
+            }
+            _ => None,
+        }
+    }
+
     /// The name of a number as bytes.
     pub(crate) fn name_bytes(&self, name: NameId) -> &[u8]
         ensures { result.now ≡ name_text self.now name }
@@ -502,19 +563,17 @@ fn condition_at(conditions: &[Condition], place: usize) -> Option<Condition>
     conditions.get(place).copied()
 }
 
-/// Makes a list this long, where it is shorter.
-fn lengthen(numbers: &mut Vec<u32>, count: usize) -> Result<(), AllocError> {
+/// Makes a list this long, where it is shorter. The new places have no number.
+fn lengthen(numbers: &mut Vec<u32>, count: usize) -> Result<(), AllocError>
+    ensures { (n k : ℕ)
+        → slice_get numbers.new.items n ≡ Some k
+        → k < 4294967295
+        → slice_get numbers.old.items n ≡ Some k }
+{
     for _ in numbers.len()..count {
-        numbers.push(0)?;
+        numbers.push(NO_SET)?;
     }
     Ok(())
-}
-
-/// Whether a version set is of this package and span.
-fn is_set(set: (NameId, Numbers), name: NameId, span: Span) -> bool
-    ensures { IsTrue result → set ≡ (name, record { 0 = span }) }
-{
-    set.0.into_raw() == name.into_raw() && is_span(set.1.0, span)
 }
 
 /// Whether two spans are one.

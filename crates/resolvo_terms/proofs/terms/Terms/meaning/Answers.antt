@@ -11,7 +11,7 @@ pub returns-in-Some : goal.returns-in-Some
 returns-in-Some c =
     let at : slice_get c.self.inside.conditions.values.items c.args.condition.0 ≡ Some c.in-Some.meaning =
     ap (λ (xs : List Condition). slice_get xs c.args.condition.0) (sym c.deref.ensures.value) ∙ (ap (λ (n : ℕ). slice_get c.deref.result.now n) (sym c.to_index.ensures.index) ∙ sym c.in-Some.ensures) in
-    subst (λ (t : Terms). c.in-Some.meaning ≡ condition_at t c.args.condition) c.self.view_is (sound_there c.self.inside.conditions.values.items c.self.invariant.below c.args.condition c.in-Some.meaning at)
+    subst (λ (t : Terms). c.in-Some.meaning ≡ condition_at t c.args.condition) c.self.view_is (sound_there c.self.inside.conditions.values.items c.self.invariant.0.below c.args.condition c.in-Some.meaning at)
 
 pub returns-in-None : goal.returns-in-None
 returns-in-None c =
