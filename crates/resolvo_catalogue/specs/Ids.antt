@@ -1,5 +1,5 @@
 -- The ids of packages, versions, SPECs, lists of alternatives, conditions and words, and the text of each id.
-use Rattle.std.specs.Prelude.{◌≡◌, ◌≤◌, ℕ, ◌==◌, length, List, map, Option}
+use Rattle.std.specs.Prelude.{◌≡◌, ◌≤◌, ℕ, ◌==◌, length, List, map, Option, Some, None}
 use Rattle.resolvo_text.specs.Line.{Version, Spec, Cond}
 use Rattle.resolvo_pool_core.specs.declared.id.DenseId.{DenseId}
 use Rattle.resolvo_pool_core.specs.declared.id.SolvableTag.{SolvableTag}
@@ -34,6 +34,11 @@ pub record Ids : Type 0 where
 -- those without the solvables
 abbrev pub terms_of : Ids → Terms
 terms_of ids = record { names = ids.names; words = ids.words; version_sets = ids.version_sets; unions = ids.unions; conditions = ids.conditions }
+
+-- the terms of a request, where it has some of its own, else the catalogue's
+abbrev pub own_or : Option Terms → Terms → Terms
+own_or None lent = lent
+own_or (Some own) lent = own
 
 -- ---- the text of an id
 

@@ -12,6 +12,7 @@ ghost use Rattle.resolvo_terms.specs.TermCounts.{ids_for_need};
 ghost use Rattle.resolvo_catalogue.specs.Ids.{terms_of, Interns, AreSound, LacksNumber, IsSpec, IsNeed, solvable_by};
 ghost use Rattle.resolvo_catalogue.specs.IdCounts.{id_count};
 
+use crate::request_terms::RequestTerms;
 use resolvo_catalogue_core::{Cond, KeptLines, KeptVersion, Span, Spec};
 use resolvo_pool_core::condition::Condition;
 use resolvo_pool_core::id::{
@@ -19,13 +20,12 @@ use resolvo_pool_core::id::{
 };
 use resolvo_pool_core::requirement::ConditionalRequirement;
 use resolvo_pool_core::want::R;
-use resolvo_terms::Terms;
-use std::alloc::{AllocError, Global};
+use std::alloc::Global;
 use std::marker::Model;
 
 /// The interned values.
 pub struct IdTable<'a> {
-    terms: Terms,
+    terms: RequestTerms<'a>,
     /// The versions of the catalogue in line order. A solvable's id is the place of its version.
     versions: &'a [KeptVersion],
 }
@@ -59,15 +59,14 @@ impl<'a> Model for IdTable<'a> {
 
 impl<'a> IdTable<'a> {
     /// The terms and the versions of a catalogue.
-    pub fn over(alloc: Global, kept: &KeptLines<'a>) -> Result<IdTable<'a>, AllocError>
-        ensures terms { IfOk result (λ t. terms_of t ≡ kept.now.terms) }
-        ensures solvables { IfOk result (λ t. t.solvables ≡ map solvable_by kept.now.versions) }
+    pub fn over(alloc: Global, kept: &KeptLines<'a>) -> IdTable<'a>
+        ensures terms { terms_of result ≡ kept.now.terms }
+        ensures solvables { result.solvables ≡ map solvable_by kept.now.versions }
     {
-        let terms = kept.terms();
-        Ok(IdTable {
-            terms: terms.copy(alloc)?,
+        IdTable {
+            terms: RequestTerms::over(alloc, kept.terms()),
             versions: kept.versions(),
-        })
+        }
     }
 
     /// The id of a SPEC.
@@ -129,48 +128,48 @@ impl<'a> IdTable<'a> {
     pub fn name(&self, name: NameId) -> &str
         ensures { result.now ≡ name_text self.now name }
     {
-        self.terms.name(name)
+        self.terms.all().name(name)
     }
 
     /// The word of an id.
     pub fn text(&self, word: StringId) -> &str
         ensures { result.now ≡ word_text self.now word }
     {
-        self.terms.text(word)
+        self.terms.all().text(word)
     }
 
     /// The package of a version set.
     pub fn set_package(&self, version_set: VersionSetId) -> NameId
         ensures { result ≡ (set_at self.now version_set).0 }
     {
-        self.terms.set_package(version_set)
+        self.terms.all().set_package(version_set)
     }
 
     /// The numbers that a version set holds.
     pub fn span(&self, version_set: VersionSetId) -> Span
         ensures { result ≡ (set_at self.now version_set).1.0 }
     {
-        self.terms.span(version_set)
+        self.terms.all().span(version_set)
     }
 
     /// The version sets of a union.
     pub fn members(&self, union: VersionSetUnionId) -> &[VersionSetId]
         ensures { result.now ≡ members_of self.now union }
     {
-        self.terms.members(union)
+        self.terms.all().members(union)
     }
 
     /// The condition of an id.
     pub fn meaning(&self, condition: ConditionId) -> Condition
         ensures { result ≡ condition_at self.now condition }
     {
-        self.terms.meaning(condition)
+        self.terms.all().meaning(condition)
     }
 
     /// A law of every table: no value has two ids. It does nothing.
     pub fn ids_are_once(&self)
         ensures { AreSound self.now }
     {
-        self.terms.ids_are_once();
+        self.terms.all().ids_are_once();
     }
 }

@@ -6,6 +6,7 @@ mod dependencies;
 pub mod dependency_provider;
 mod id_table;
 pub mod provider;
+mod request_terms;
 
 pub use dependency_provider::GivenUp;
 pub use provider::{CatalogueProvider, Hint, RequestIds};

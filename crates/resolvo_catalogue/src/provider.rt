@@ -106,7 +106,7 @@ impl<'a> CatalogueProvider<'a> {
         let kept = catalogue.kept();
         kept.lines_are_kept();
         catalogue.lines_are_in_place();
-        let ids = IdTable::over(alloc, &kept)?;
+        let ids = IdTable::over(alloc, &kept);
         ids.ids_are_once();
         let marks = marks_of(alloc, &kept, catalogue)?;
         let many = many_of(alloc, &kept, catalogue)?;

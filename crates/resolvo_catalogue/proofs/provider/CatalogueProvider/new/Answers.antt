@@ -11,12 +11,12 @@ use Rattle.resolvo_catalogue.proofs.provider.CatalogueProvider.new.Goals as goal
 
 pub returns-clause-over : goal.returns-clause-over
 returns-clause-over c =
-    let ids = c.in_ok-ids.ids in
+    let ids = c.over-ids.result in
     let k = c.kept-kept.result in
-    let terms = c.in_ok-ids.ensures.terms in
+    let terms = c.over-ids.ensures.terms in
     let same = c.kept-kept.ensures in
     record {
-      versions = subst (λ (ls : List Line). AreVersions ids (listed ls)) same (versions_are ids k c.lines_are_kept.ensures terms c.in_ok-ids.ensures.solvables);
+      versions = subst (λ (ls : List Line). AreVersions ids (listed ls)) same (versions_are ids k c.lines_are_kept.ensures terms c.over-ids.ensures.solvables);
       deps = subst (λ (ls : List Line). AreDependencies ids ls (deps_in k)) same (deps_are ids k c.lines_are_kept.ensures terms);
       marks = c.in_ok-marks.ensures.marked ids terms;
       many = c.in_ok-many.ensures.many;
@@ -27,6 +27,6 @@ returns-clause-over c =
 
 pub returns-clause-few : goal.returns-clause-few
 returns-clause-few c =
-    let ids = c.in_ok-ids.ids in
+    let ids = c.over-ids.result in
     let k = c.kept-kept.result in
-    count_over ids k c.args.catalogue.now c.lines_are_kept.ensures c.in_ok-ids.ensures.terms (versions_are ids k c.lines_are_kept.ensures c.in_ok-ids.ensures.terms c.in_ok-ids.ensures.solvables) c.kept-kept.ensures
+    count_over ids k c.args.catalogue.now c.lines_are_kept.ensures c.over-ids.ensures.terms (versions_are ids k c.lines_are_kept.ensures c.over-ids.ensures.terms c.over-ids.ensures.solvables) c.kept-kept.ensures
