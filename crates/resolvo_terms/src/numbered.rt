@@ -81,6 +81,7 @@ impl<T: HasKey> Numbered<T> {
     }
 
     /// The number of a value, if it has one.
+    #[inline(always)]
     pub fn find(&self, value: T, key: &Key) -> Option<u32>
         requires keyed { AreKeyed (map T.key_of self.now.values.items) self.now.index }
         requires exact { (x y : T) → T.key_of x ≡ T.key_of y → x ≡ y }
