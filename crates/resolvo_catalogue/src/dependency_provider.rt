@@ -159,9 +159,11 @@ impl<'a> DependencyProvider for CatalogueProvider<'a> {
         version_set: VersionSetId,
         inverse: bool,
     ) -> R<Vec<SolvableId>> {
+        let name = self.ids.set_package(version_set);
+        let span = self.ids.span(version_set);
         let mut found = Vec::new(alloc);
         for candidate in candidates {
-            if self.matches(version_set, *candidate) != inverse {
+            if self.is_in(name, span, *candidate) != inverse {
                 found.push(*candidate)?;
             }
         }
@@ -226,12 +228,14 @@ impl<'a> DependencyProvider for CatalogueProvider<'a> {
 }
 
 impl<'a> CatalogueProvider<'a> {
-    /// Whether the solvable is of the version set's package, and its number lies in the span.
-    fn matches(&self, version_set: VersionSetId, solvable: SolvableId) -> bool
-        ensures { result ≡ matches self.now version_set solvable }
+    /// Whether the solvable is of the package, and its number lies in the span.
+    fn is_in(&self, name: NameId, span: Span, solvable: SolvableId) -> bool
+        ensures { (v : VersionSetId)
+            → name ≡ (set_at self.now.ids v).0
+            → span ≡ (set_at self.now.ids v).1.0
+            → result ≡ matches self.now v solvable }
     {
-        self.ids.package_of(solvable) == self.ids.set_package(version_set)
-            && is_in_span(self.ids.span(version_set), self.ids.number_of(solvable))
+        self.ids.package_of(solvable) == name && is_in_span(span, self.ids.number_of(solvable))
     }
 
     /// The versions of a package, in the order of their lines.

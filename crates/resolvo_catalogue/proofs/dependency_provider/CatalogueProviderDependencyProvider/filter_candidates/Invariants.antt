@@ -6,4 +6,4 @@ use Rattle.resolvo_catalogue.proofs.dependency_provider.CatalogueProviderDepende
 -- the matches found, with those of the remaining candidates, are those of all candidates
 abbrev pub invariant-loop-candidate : goal.invariant-loop-candidate
 invariant-loop-candidate l =
-    l.found.items ++ kept (matches l.self l.version_set) l.inverse (drop l.candidate-index l.candidates) ≡ kept (matches l.self l.version_set) l.inverse l.candidates
+    l.found.items ++ kept (matches l.self l.fn.version_set) l.inverse (drop l.candidate-index l.candidates) ≡ kept (matches l.self l.fn.version_set) l.inverse l.candidates
