@@ -1,36 +1,62 @@
-//! The texts of answer lines, byte by byte behind those of a buffer. An install report has many of
-//! them. The writer of reports lends the buffer.
+//! The texts of answer lines and steps, byte by byte behind those of a buffer. An install report has
+//! many lines. The writer of reports lends the buffer, and so does the caller who has no `Report`.
 
 ghost use Rattle.std.specs.Prelude.{◌≡◌, ◌++◌, OnOk};
 ghost use Rattle.std.specs.Fmt.{decimal};
 ghost use Rattle.resolvo_text.specs.View.{version_of};
 ghost use Rattle.resolvo_report.specs.Value as model;
-ghost use Rattle.resolvo_report.specs.View.{place_of, answer_line_of};
-ghost use Rattle.resolvo_report.specs.Text.{version_text, place_text, line_text};
+ghost use Rattle.resolvo_report.specs.View.{place_of, answer_line_of, steps_of};
+ghost use Rattle.resolvo_report.specs.Text.{version_text, place_text, line_text, lines_text, numbered};
 
 use crate::report::AnswerLine;
-use crate::step::Place;
+use crate::step::{Place, Step};
 use resolvo_text::Version;
-use std::alloc::AllocError;
+use std::alloc::{AllocError, Global};
+
+/// Appends the digits of a number of several.
+fn push_digits(out: &mut Vec<u8>, number: u32) -> Result<(), AllocError>
+    ensures { OnOk result (out.new.items ≡ out.old.items ++ decimal number) }
+{
+    let mut digits = [0u8; 10];
+    let mut first = 9;
+    let mut rest = number;
+    while rest >= 10 {
+        digits[first] = b'0' + (rest % 10) as u8;
+        first -= 1;
+        rest /= 10;
+    }
+    digits[first] = b'0' + rest as u8;
+    out.extend_from_slice(&digits[first..])?;
+    Ok(())
+}
 
 /// Appends the digits of a number.
-fn push_number(out: &mut Vec<u8>, number: u32) -> Result<(), AllocError>
+pub fn push_number(out: &mut Vec<u8>, number: u32) -> Result<(), AllocError>
     ensures { OnOk result (out.new.items ≡ out.old.items ++ decimal number) }
 {
     if number >= 10 {
-        push_number(out, number / 10)?;
+        return push_digits(out, number);
     }
-    out.push(b'0' + (number % 10) as u8)?;
+    out.push(b'0' + number as u8)?;
     Ok(())
+}
+
+/// Appends the version of this name and number, as one word.
+pub fn push_named(out: &mut Vec<u8>, name: &[u8], number: u32) -> Result<(), AllocError>
+    ensures { OnOk result
+        (out.new.items
+        ≡ out.old.items ++ version_text (record { name = name.now; number = number })) }
+{
+    out.extend_from_slice(name)?;
+    out.push(b'=')?;
+    push_number(out, number)
 }
 
 /// Appends a version, as one word.
 fn push_version(out: &mut Vec<u8>, version: &Version) -> Result<(), AllocError>
     ensures { OnOk result (out.new.items ≡ out.old.items ++ version_text (version_of version.now)) }
 {
-    out.extend_from_slice(version.name.as_bytes())?;
-    out.push(b'=')?;
-    push_number(out, version.number)
+    push_named(out, version.name.as_bytes(), version.number)
 }
 
 /// Appends a place, as one word.
@@ -115,4 +141,18 @@ pub(crate) fn push_answer(out: &mut Vec<u8>, answer: &AnswerLine) -> Result<(), 
             step,
         } => push_left_out(out, version, *line, *step),
     }
+}
+
+/// Appends the lines of steps, which are numbered from 1.
+pub fn push_steps(alloc: Global, out: &mut Vec<u8>, steps: &[Step]) -> Result<(), AllocError>
+    ensures { OnOk result
+        (out.new.items ≡ out.old.items ++ lines_text (numbered 1 (steps_of steps.now))) }
+{
+    for i in 0..steps.len() {
+        let number = i + 1;
+        let step = &steps[i];
+        let text = format!(in alloc; "step {number} {step}\n")?;
+        out.extend_from_slice(text.as_bytes())?;
+    }
+    Ok(())
 }

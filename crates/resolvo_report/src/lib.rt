@@ -15,6 +15,7 @@ mod step;
 mod text;
 mod write;
 
+pub use answer_text::{push_named, push_number, push_steps};
 pub use laws::{reports_are_read, text_is_one_report};
 pub use place::Part;
 pub use reader::{ReportFault, ReportReader};
