@@ -124,7 +124,11 @@ fn put_package(packages: &mut Vec<u32>, version: VersionNo, package: u32) -> Res
         → slice_get packages.new.items k ≡ Some p) }
 {
     let place = version.0 as usize;
-    if place >= packages.len() {
+    if place == packages.len() {
+        packages.push(package)?;
+        return Ok(());
+    }
+    if place > packages.len() {
         packages.resize(place + 1, 0)?;
     }
     packages[place] = package;

@@ -45,7 +45,11 @@ fn put_place(places: &mut Vec<u32>, key: u32, number: u32) -> Result<(), AllocEr
     ensures err { OnErr result (places.new.items ≡ places.old.items) }
 {
     let place = key as usize;
-    if place >= places.len() {
+    if place == places.len() {
+        places.push(number)?;
+        return Ok(());
+    }
+    if place > places.len() {
         places.resize(place + 1, 0)?;
     }
     places[place] = number;

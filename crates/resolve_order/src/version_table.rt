@@ -47,7 +47,11 @@ fn put_single(
         ≡ (if number == k then Some version else single_at single.old.items k)) }
 {
     let place = number as usize;
-    if place >= single.len() {
+    if place == single.len() {
+        single.push(Some(version))?;
+        return Ok(());
+    }
+    if place > single.len() {
         single.resize(place + 1, None)?;
     }
     single[place] = Some(version);
