@@ -51,4 +51,14 @@ impl<'a> Versions<'a> {
             None => None,
         }
     }
+
+    /// The same, with the name as bytes: they aren't looked at.
+    pub fn get_bytes(&self, number: VersionNo) -> Option<(&'a [u8], u32)>
+        ensures { option_map (λ v. version_by v.0.now v.1) result ≡ slice_get self.now number.0 }
+    {
+        match self.kept.get(number.0 as usize) {
+            Some(version) => Some((self.terms.name_bytes(version.package), version.number)),
+            None => None,
+        }
+    }
 }

@@ -488,7 +488,7 @@ impl Terms {
     }
 
     /// The name of a number as bytes.
-    pub(crate) fn name_bytes(&self, name: NameId) -> &[u8]
+    pub fn name_bytes(&self, name: NameId) -> &[u8]
         ensures { result.now ≡ name_text self.now name }
     {
         match self.names.bytes_of(name.into_raw()) {
