@@ -9,3 +9,4 @@ pub mod Reported
 pub mod Message
 pub mod Verdict
 pub mod Stops
+pub mod Answer

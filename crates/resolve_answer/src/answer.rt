@@ -1,21 +1,22 @@
-//! The report of the solver's answer: the install report of its turns, or the refused report of its proof.
+//! The report of the solver's answer: the text of the install report of its turns, or the refused
+//! report of its proof.
 
 ghost use Rattle.std.specs.Prelude.{◌≡◌, true, ℕ, Option, IfOk, IfErr, IsSome};
 ghost use Rattle.resolvo_catalogue_core.specs.Grammar.{AreRequestLines};
 ghost use Rattle.resolvo_catalogue.specs.KeptSets.{root_of as asked_of};
 ghost use Rattle.resolvo_catalogue.specs.Over.{IsOver, AreAsked};
-ghost use Rattle.resolvo_report.specs.View.{report_of};
 ghost use Rattle.resolvo.specs.Solver.{HoldsConflict, root_of};
 ghost use Rattle.resolve_answer.specs.Wishes.{AreWishesAt, GivesAll};
 ghost use Rattle.resolve_answer.specs.Solved.{IsInstalledOver, IsRefutedOver};
-ghost use Rattle.resolve_answer.specs.Reported.{HaveLongReport, IsReportOf};
+ghost use Rattle.resolve_answer.specs.Reported.{HaveLongReport};
+ghost use Rattle.resolve_answer.specs.Answer.{IsAnswerOf};
 ghost use Rattle.resolve_answer.specs.Stops.{IsStopOf};
 
 use crate::message::message_of;
 use crate::stop::Stop;
 use crate::turns::{Outcome, report_turns, wanted_steps};
 use crate::wishes::{Wish, free_wishes, wishes_of};
-use resolve_install::{install_report, numbers_of};
+use resolve_install::{install_text, numbers_of};
 use resolve_refusal::{install_steps, refusal_of};
 use resolvo::conflict::Conflict;
 use resolvo::problem::Problem;
@@ -34,6 +35,14 @@ use std::alloc::Global;
 use std::marker::PhantomData;
 use std::vec::IntoIter;
 
+/// The report of a search. That of an installation is known by its text alone: it may have many
+/// lines, and each is written once.
+#[derive(Debug, Drop)]
+pub enum Answer {
+    Installed { text: Vec<u8> },
+    Refused { report: Report },
+}
+
 /// What a search chose, turn by turn.
 #[derive(Clone, Copy)]
 struct Found<'a> {
@@ -50,13 +59,13 @@ fn installed_over(
     wishes: Vec<Wish>,
     found: Found<'_>,
     proof: Vec<ProofStep<NameId, SolvableId>>,
-) -> R<Report>
+) -> R<Answer>
     ensures { IfOk result
         (λ r.
         AreRequestLines catalogue.now request.now.lines
         → IsInstalledOver catalogue.now request.now provider.now wishes.items
         found.entry.solvables.now found.entry.turns.now proof.items
-        → IsReportOf catalogue.now request.now.lines (report_of r)) }
+        → IsAnswerOf catalogue.now request.now.lines r) }
 {
     let Found { solvables, turns } = found;
     let wanted = wanted_steps(alloc, turns)?;
@@ -69,7 +78,14 @@ fn installed_over(
         places: numbers.as_slice(),
     };
     let matched = report_turns(alloc, outcome, wishes, &mut written)?;
-    Ok(install_report(alloc, catalogue, request, matched.as_slice(), written)?)
+    let text = install_text(
+        alloc,
+        catalogue,
+        request,
+        matched.as_slice(),
+        written.as_slice(),
+    )?;
+    Ok(Answer::Installed { text })
 }
 
 /// The install report of the solver's choices. It takes the proof from the solver.
@@ -80,13 +96,13 @@ fn installed(
     solver: &mut Solver<CatalogueProvider<'_>>,
     wishes: Vec<Wish>,
     chosen: &[SolvableId],
-) -> R<Report>
+) -> R<Answer>
     ensures { IfOk result
         (λ r.
         AreRequestLines catalogue.now request.now.lines
         → IsInstalledOver catalogue.now request.now solver.old.provider wishes.items chosen.now
         solver.old.turns solver.old.proof
-        → IsReportOf catalogue.now request.now.lines (report_of r)) }
+        → IsAnswerOf catalogue.now request.now.lines r) }
 {
     let proof = solver.take_proof();
     let found = Found {
@@ -112,13 +128,13 @@ fn refused(
     request: &Request,
     solver: &mut Solver<CatalogueProvider<'_>>,
     conflict: &Conflict,
-) -> Result<Report, Stop>
+) -> Result<Answer, Stop>
     requires { HoldsConflict solver.old conflict.now.clauses.items }
     ensures report { IfOk result
         (λ r.
         AreRequestLines catalogue.now request.now.lines
         → IsRefutedOver ⟦<SolvableId as PartialEq>⟧.eq catalogue.now request.now solver.old
-        → IsReportOf catalogue.now request.now.lines (report_of r)) }
+        → IsAnswerOf catalogue.now request.now.lines r) }
     ensures stop { IfErr result (IsStopOf ⊥
         (AreRequestLines catalogue.now request.now.lines
         → IsRefutedOver ⟦<SolvableId as PartialEq>⟧.eq catalogue.now request.now solver.old
@@ -134,7 +150,9 @@ fn refused(
         steps.as_slice(),
     )?;
     match lines {
-        Some(lines) => Ok(refusal.with_message(lines)),
+        Some(lines) => Ok(Answer::Refused {
+            report: refusal.with_message(lines),
+        }),
         None => Err(Stop::TooLong),
     }
 }
@@ -166,14 +184,14 @@ fn answered(
     request: &Request,
     solver: &mut Solver<CatalogueProvider<'_>>,
     asked: RequestIds,
-) -> Result<Report, Stop>
+) -> Result<Answer, Stop>
     ensures report { IfOk result
         (λ r.
         AreRequestLines catalogue.now request.now.lines
         → AreWishesAt catalogue.now request.now
         → IsOver catalogue.now solver.old.provider
         → AreAsked solver.old.provider.ids request.now asked
-        → IsReportOf catalogue.now request.now.lines (report_of r)) }
+        → IsAnswerOf catalogue.now request.now.lines r) }
     ensures stop { IfErr result (IsStopOf (solver.old.provider.has_budget ≡ true)
         (AreRequestLines catalogue.now request.now.lines
         → AreWishesAt catalogue.now request.now
@@ -202,14 +220,14 @@ fn answered_by(
     provider: CatalogueProvider<'_>,
     asked: RequestIds,
     release: Release,
-) -> Result<Report, Stop>
+) -> Result<Answer, Stop>
     ensures report { IfOk result
         (λ r.
         AreRequestLines catalogue.now request.now.lines
         → AreWishesAt catalogue.now request.now
         → IsOver catalogue.now provider.entry
         → AreAsked provider.entry.ids request.now asked
-        → IsReportOf catalogue.now request.now.lines (report_of r)) }
+        → IsAnswerOf catalogue.now request.now.lines r) }
     ensures stop { IfErr result (IsStopOf (provider.entry.has_budget ≡ true)
         (AreRequestLines catalogue.now request.now.lines
         → AreWishesAt catalogue.now request.now
@@ -249,12 +267,12 @@ pub fn report_for(
     request: &Request,
     budget: Option<u64>,
     release: Release,
-) -> Result<Report, Stop>
+) -> Result<Answer, Stop>
     ensures report { IfOk result
         (λ r.
         AreRequestLines catalogue.now request.now.lines
         → AreWishesAt catalogue.now request.now
-        → IsReportOf catalogue.now request.now.lines (report_of r)) }
+        → IsAnswerOf catalogue.now request.now.lines r) }
     ensures stop { IfErr result (IsStopOf (IsSome budget)
         (AreRequestLines catalogue.now request.now.lines
         → AreWishesAt catalogue.now request.now

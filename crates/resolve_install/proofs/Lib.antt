@@ -4,3 +4,4 @@ pub mod ReachLemmas
 pub mod FitLemmas
 pub mod AcceptLemmas
 pub mod InstallLemmas
+pub mod LineLemmas

@@ -1,4 +1,4 @@
--- The install report of the turns of a search.
+-- The install report of the turns of a search, and its text.
 use Rattle.std.specs.Prelude.{◌≡◌, ◌↔◌, ◌<◌, ℕ, suc, IsTrue, List, [], ◌∷◌, Option, None, Some, Contains, map, length, take, slice_get}
 use Rattle.std.specs.List.{AllByRecursion}
 use Rattle.resolvo_text.specs.Line.{Version, Line}
@@ -16,7 +16,7 @@ use Rattle.resolve_order.specs.declared.entry.Turn.{Turn}
 use Rattle.resolve_order.specs.declared.entry.Turn.TheVariants.{Chose, LeftOut}
 use Rattle.resolvo_report.specs.Value.{AnswerLine, Step, Report, Install}
 use Rattle.resolvo_report.specs.Value as value
-use Rattle.resolvo_report.specs.Text.{report_lines, IsStep}
+use Rattle.resolvo_report.specs.Text.{report_lines, report_text, IsStep}
 use Rattle.resolvo_report.specs.Grammar.{IsReport}
 use Rattle.resolvo_checker.specs.Proof.{every_line, IsProof}
 use Rattle.resolvo_judge.specs.Judgement.{IsClaimTrue}
@@ -91,3 +91,9 @@ pub record IsInstallOf (catalogue request : List Line) (turns : List Turn) (step
   -- its lines are in listing order, and its entries are the chosen versions
   pub order : AreTurns catalogue request [] [] (turns_of (listed catalogue) turns) (map answer_of lines)
   pub entries : (v : Version) → Contains (all_chosen catalogue turns) v ↔ Contains (entries_of (map answer_of lines)) v
+
+-- The text is that of an install report with these steps. Where the turns serve the request, the
+-- report is one of them.
+abbrev pub IsInstallText : List Line → List Line → List Turn → List Step → List ℕ → Type 0
+IsInstallText catalogue request turns steps text = (lines : List AnswerLine) × (text ≡ report_text (Install lines steps))
+    × (Serve catalogue request turns steps → IsInstallOf catalogue request turns steps (Install lines steps))

@@ -1,137 +1,199 @@
-//! The install report of the turns of a search: chosen versions with the lines that asked for them,
-//! and wishes that are left out.
+//! The text of the install report of the turns of a search: chosen versions with the lines that
+//! asked for them, and wishes that are left out.
 //!
 //! `list` of the crate below decides the order and the lines; here its answers become the lines of
-//! a report. The program calls it with the turns of the solver over a catalogue's provider.
+//! a report, written at once. The program calls it with the turns of the solver over a catalogue's
+//! provider.
 
-ghost use Rattle.std.specs.Prelude.{◌≡◌, map, IfOk};
+ghost use Rattle.std.specs.Prelude.{◌≡◌, ◌++◌, map, IfOk, OnOk, codes};
 ghost use Rattle.std.specs.List.{AllByRecursion};
 ghost use Rattle.resolvo_text.specs.Spelling.{IsNumber};
-ghost use Rattle.resolvo_text.specs.View.{version_of};
 ghost use Rattle.resolvo_catalogue_core.specs.Listed.{listed};
 ghost use Rattle.resolvo_catalogue_core.specs.Kept.{nth};
 ghost use Rattle.resolve_order.specs.declared.entry.Answer.TheVariants as answer;
-ghost use Rattle.resolve_order.specs.View as view;
-ghost use Rattle.resolvo_report.specs.View.{answer_line_of, answer_lines_of, steps_of, report_of};
-ghost use Rattle.resolvo_judge.specs.Refusal.{answer_of};
-ghost use Rattle.resolve_install.specs.Install.{Serve, line_of, IsInstallOf};
+ghost use Rattle.resolvo_report.specs.Value as value;
+ghost use Rattle.resolvo_report.specs.View.{steps_of};
+ghost use Rattle.resolvo_report.specs.Text.{line_text, lines_text, version_text};
+ghost use Rattle.resolve_install.specs.Install.{line_of, IsInstallText};
+ghost use Rattle.resolve_install.specs.Lines.{line_for, lines_for};
 
 use resolve_order::{Answer, Entry, Reason, Turn, list};
-use resolvo_catalogue_core::{Catalogue, Request, Version, VersionNo};
-use resolvo_report::{AnswerLine, Place, Report, Step};
+use resolvo_catalogue_core::{Catalogue, Request, VersionNo};
+use resolvo_report::{Step, push_named, push_number, push_steps};
 use std::alloc::{AllocError, Global};
 
-/// The version of this number; one without a name where there is none.
-fn version_at(
-    alloc: Global,
+/// Appends the version of this number, as one word; one without a name where there is none.
+fn push_version(
+    out: &mut Vec<u8>,
     catalogue: &Catalogue,
     version: VersionNo,
-) -> Result<Version, AllocError>
-    ensures { IfOk result (λ v. version_of v ≡ nth (listed catalogue.now) version) }
+) -> Result<(), AllocError>
+    ensures { OnOk result
+        (out.new.items
+        ≡ out.old.items ++ version_text (nth (listed catalogue.now) version)) }
 {
-    match catalogue.versions().get(version) {
-        Some((name, number)) => Ok(Version {
-            name: String::from_str(alloc, name)?,
-            number,
-        }),
-        None => Ok(Version {
-            name: String::new(alloc),
-            number: 0,
-        }),
+    match catalogue.versions().get_bytes(version) {
+        Some((name, number)) => push_named(out, name, number),
+        None => push_named(out, b"", 0),
     }
 }
 
-/// The report line of an entry.
-fn entry_line(alloc: Global, catalogue: &Catalogue, entry: Entry) -> Result<AnswerLine, AllocError>
-    ensures written { IfOk result
-        (λ line.
-        answer_of (answer_line_of line)
-        ≡ view.answer_of (listed catalogue.now) (answer.Entry entry)) }
-    ensures numbered { IfOk result (λ line. IsNumber (line_of (answer_line_of line))) }
+/// Appends the version of this number with a line of the request that needs it.
+fn push_requested(
+    out: &mut Vec<u8>,
+    catalogue: &Catalogue,
+    version: VersionNo,
+    line: u32,
+) -> Result<(), AllocError>
+    ensures { OnOk result
+        (out.new.items
+        ≡ out.old.items ++ line_text
+        (value.Answer (value.Entry (nth (listed catalogue.now) version) value.OfRequest line))) }
 {
-    let version = version_at(alloc, catalogue, entry.version)?;
-    match entry.reason {
-        Reason::ForRequest { line } => Ok(AnswerLine::Entry {
-            version,
-            place: Place::Request,
-            line,
-        }),
+    push_version(out, catalogue, version)?;
+    out.extend_from_slice(b" for request line ")?;
+    push_number(out, line)?;
+    Ok(())
+}
+
+/// Appends the version of this number with a line of its owner that needs it.
+fn push_needed(
+    out: &mut Vec<u8>,
+    catalogue: &Catalogue,
+    version: VersionNo,
+    owner: VersionNo,
+    line: u32,
+) -> Result<(), AllocError>
+    ensures { OnOk result
+        (out.new.items
+        ≡ out.old.items ++ line_text
+        (value.Answer (value.Entry (nth (listed catalogue.now) version)
+        (value.OfVersion (nth (listed catalogue.now) owner)) line))) }
+{
+    push_version(out, catalogue, version)?;
+    out.extend_from_slice(b" for ")?;
+    push_version(out, catalogue, owner)?;
+    out.extend_from_slice(b" line ")?;
+    push_number(out, line)?;
+    Ok(())
+}
+
+/// Appends the version of this number with a line of the request that wishes it.
+fn push_wished(
+    out: &mut Vec<u8>,
+    catalogue: &Catalogue,
+    version: VersionNo,
+    line: u32,
+) -> Result<(), AllocError>
+    ensures { OnOk result
+        (out.new.items
+        ≡ out.old.items ++ line_text
+        (value.Answer (value.Wished (nth (listed catalogue.now) version) line))) }
+{
+    push_version(out, catalogue, version)?;
+    out.extend_from_slice(b" wished line ")?;
+    push_number(out, line)?;
+    Ok(())
+}
+
+/// Appends the line of a wish that is left out.
+fn push_left_out(
+    out: &mut Vec<u8>,
+    catalogue: &Catalogue,
+    version: VersionNo,
+    line: u32,
+    step: u32,
+) -> Result<(), AllocError>
+    ensures { OnOk result
+        (out.new.items
+        ≡ out.old.items ++ line_text
+        (value.Answer (value.LeftOut (nth (listed catalogue.now) version) line step))) }
+{
+    out.extend_from_slice(b"left out ")?;
+    push_version(out, catalogue, version)?;
+    out.extend_from_slice(b" line ")?;
+    push_number(out, line)?;
+    out.extend_from_slice(b" by ")?;
+    push_number(out, step)?;
+    Ok(())
+}
+
+/// Appends the report line of an entry.
+fn push_entry(out: &mut Vec<u8>, catalogue: &Catalogue, entry: Entry) -> Result<(), AllocError>
+    ensures written { OnOk result
+        (out.new.items
+        ≡ out.old.items ++ line_text
+        (value.Answer (line_for (listed catalogue.now) (answer.Entry entry)))) }
+    ensures numbered { OnOk result
+        (IsNumber (line_of (line_for (listed catalogue.now) (answer.Entry entry)))) }
+{
+    let Entry { version, reason } = entry;
+    match reason {
+        Reason::ForRequest { line } => push_requested(out, catalogue, version, line),
         Reason::ForVersion {
             version: owner,
             line,
-        } => Ok(AnswerLine::Entry {
-            version,
-            place: Place::Version(version_at(alloc, catalogue, owner)?),
-            line,
-        }),
-        Reason::Wished { line } => Ok(AnswerLine::Wished { version, line }),
+        } => push_needed(out, catalogue, version, owner, line),
+        Reason::Wished { line } => push_wished(out, catalogue, version, line),
     }
 }
 
-/// The report line of an entry, or of a wish that is left out.
-fn answer_line(
-    alloc: Global,
-    catalogue: &Catalogue,
-    answer: Answer,
-) -> Result<AnswerLine, AllocError>
-    ensures written { IfOk result
-        (λ line. answer_of (answer_line_of line) ≡ view.answer_of (listed catalogue.now) answer) }
-    ensures numbered { IfOk result (λ line. IsNumber (line_of (answer_line_of line))) }
+/// Appends the report line of an entry, or of a wish that is left out, without its newline.
+fn push_answer(out: &mut Vec<u8>, catalogue: &Catalogue, answer: Answer) -> Result<(), AllocError>
+    ensures written { OnOk result
+        (out.new.items
+        ≡ out.old.items ++ line_text (value.Answer (line_for (listed catalogue.now) answer))) }
+    ensures numbered { OnOk result (IsNumber (line_of (line_for (listed catalogue.now) answer))) }
 {
     match answer {
-        Answer::Entry(entry) => entry_line(alloc, catalogue, entry),
+        Answer::Entry(entry) => push_entry(out, catalogue, entry),
         Answer::LeftOut {
             version,
             line,
             step,
-        } => Ok(AnswerLine::LeftOut {
-            version: version_at(alloc, catalogue, version)?,
-            line,
-            step,
-        }),
+        } => push_left_out(out, catalogue, version, line, step),
     }
 }
 
-/// The report lines of answers.
-fn answer_lines(
-    alloc: Global,
+/// Appends the report lines of answers.
+fn push_answers(
+    out: &mut Vec<u8>,
     catalogue: &Catalogue,
     answers: &[Answer],
-) -> Result<Vec<AnswerLine>, AllocError>
-    ensures all_written { IfOk result
-        (λ lines.
-        map answer_of (answer_lines_of lines.items)
-        ≡ view.answers_of (listed catalogue.now) answers.now) }
-    ensures numbered { IfOk result
-        (λ lines. AllByRecursion (λ l. IsNumber (line_of l)) (answer_lines_of lines.items)) }
+) -> Result<(), AllocError>
+    ensures written { OnOk result
+        (out.new.items
+        ≡ out.old.items ++ lines_text
+        (map value.Answer (lines_for (listed catalogue.now) answers.now))) }
+    ensures numbered { OnOk result
+        (AllByRecursion (λ l. IsNumber (line_of l))
+        (lines_for (listed catalogue.now) answers.now)) }
 {
-    let mut lines = Vec::with_capacity(alloc, answers.len())?;
     for answer in answers {
-        lines.push(answer_line(alloc, catalogue, *answer)?)?;
+        push_answer(out, catalogue, *answer)?;
+        out.push(b'\n')?;
     }
-    Ok(lines)
+    Ok(())
 }
 
-/// The install report of the turns of a search. It lists each chosen version with the line that
-/// asked for it, in listing order. Each wish that is left out has its step. Where the turns serve
-/// the request, it is the install report that a judge accepts.
-pub fn install_report(
+/// The text of the install report of the turns of a search. It lists each chosen version with the
+/// line that asked for it, in listing order. Each wish that is left out has its step. Where the
+/// turns serve the request, it is the install report that a judge accepts.
+pub fn install_text(
     alloc: Global,
     catalogue: &Catalogue,
     request: &Request,
     turns: &[Turn<'_>],
-    steps: Vec<Step>,
-) -> Result<Report, AllocError>
+    steps: &[Step],
+) -> Result<Vec<u8>, AllocError>
     ensures { IfOk result
-        (λ report.
-        Serve catalogue.now request.now.lines turns.now (steps_of steps.items)
-        → IsInstallOf catalogue.now request.now.lines turns.now (steps_of steps.items)
-        (report_of report)) }
+        (λ text.
+        IsInstallText catalogue.now request.now.lines turns.now (steps_of steps.now) text.items) }
 {
     catalogue.lines_are_in_place();
     let answers = list(alloc, catalogue, request, turns)?;
-    Ok(Report::Install {
-        lines: answer_lines(alloc, catalogue, &answers)?,
-        steps,
-    })
+    let mut text = Vec::from_slice(alloc, b"install\n")?;
+    push_answers(&mut text, catalogue, &answers)?;
+    push_steps(alloc, &mut text, steps)?;
+    Ok(text)
 }

@@ -1,22 +1,26 @@
 //! Turns the bytes of a catalogue and a request into those of a report. `main` and the tests call
 //! `run`.
 
-ghost use Rattle.std.specs.Prelude.{◌≡◌, ◌≤◌, length, IfOk, IfErr};
+ghost use Rattle.std.specs.Prelude.{◌≡◌, ◌<◌, ◌≤◌, List, length, IfOk, IfErr};
+ghost use Rattle.resolvo_text.specs.Line.{Line};
 ghost use Rattle.resolvo_catalogue_core.specs.Grammar.{AreRequestLines};
 ghost use Rattle.resolvo_report.specs.Grammar.{most_bytes};
 ghost use Rattle.resolvo_report.specs.Text.{report_text};
 ghost use Rattle.resolvo_report.specs.View.{report_of};
+ghost use Rattle.resolve_answer.specs.Answer.{IsAnswerOf};
 ghost use Rattle.resolve_answer.specs.Wishes.{AreWishesAt};
 ghost use Rattle.resolve_run.specs.Answer.{IsAnswerOfLines};
+ghost use Rattle.resolve_check.specs.declared.outcome.Outcome.TheVariants.{Installed};
+ghost use Rattle.resolve_check.specs.declared.outcome.RunFault.TheVariants.{TooLong};
 ghost use Rattle.resolve_check.specs.Devices.{reader_at, writer_at};
 ghost use Rattle.resolve_run.specs.Headline.{IsRun, outcome_of};
-ghost use Rattle.resolve_run.specs.Run.{AnswersTexts, IsWriteLack, LeavesRequest, StopsRun, Writes};
+ghost use Rattle.resolve_run.specs.Run.{AnswersTexts, IsLack, IsWriteLack, LeavesRequest, StopsRun, Writes};
 ghost use Rattle.resolve_run.specs.Within.{within, IsLackWithin, StopsBeforeWithin, StopsWithin};
 
 use crate::report::report_text;
 use crate::stop::RunStop;
 use resolve_answer::Release;
-use resolve_answer::answer::report_for;
+use resolve_answer::answer::{Answer, report_for};
 use resolve_answer::stop::MOST_BYTES;
 use resolve_check::length::report_length;
 use resolve_check::outcome::{Outcome, RunFault};
@@ -35,8 +39,24 @@ fn outcome_of(report: &Report) -> Outcome
     }
 }
 
+/// The text of an installation. It is refused where it is too long for a report.
+fn installed(text: Vec<u8>) -> Result<Written, RunFault>
+    ensures ok { IfOk result
+        (λ answer.
+        (answer.outcome ≡ Installed) × (answer.text ≡ text) × (length text.items ≤ most_bytes)) }
+    ensures err { IfErr result (λ e. (e ≡ TooLong) × (most_bytes < length text.items)) }
+{
+    if text.len() as u64 > MOST_BYTES {
+        return Err(RunFault::TooLong);
+    }
+    Ok(Written {
+        outcome: Outcome::Installed,
+        text,
+    })
+}
+
 /// The text of a report. One that is too long is refused before its text is made.
-fn written(alloc: Global, report: &Report) -> Result<Written, RunFault>
+fn reported(alloc: Global, report: &Report) -> Result<Written, RunFault>
     ensures ok { IfOk result
         (λ answer.
         (answer.outcome ≡ outcome_of (report_of report.now))
@@ -52,6 +72,29 @@ fn written(alloc: Global, report: &Report) -> Result<Written, RunFault>
         outcome: outcome_of(report),
         text: report_text(alloc, report)?,
     })
+}
+
+/// The text of an answer.
+fn written(alloc: Global, answer: Answer, release: Release) -> Result<Written, RunFault>
+    ensures ok { IfOk result
+        (λ written.
+        (catalogue request : List Line)
+        → IsAnswerOf catalogue request answer
+        → IsAnswerOfLines catalogue request written.outcome written.text.items) }
+    ensures err { IfErr result
+        (λ e.
+        (catalogue request : List Line)
+        → IsAnswerOf catalogue request answer
+        → IsLack e catalogue request) }
+{
+    match answer {
+        Answer::Installed { text } => installed(text),
+        Answer::Refused { report } => {
+            let ended = reported(alloc, &report);
+            release.done_with(report);
+            ended
+        }
+    }
 }
 
 /// The same result, of a run that may have a budget.
@@ -83,10 +126,8 @@ fn report(
         → AreWishesAt catalogue.now request.now
         → IsLackWithin budget e catalogue.now request.now.lines) }
 {
-    let report = report_for(alloc, catalogue, request, budget, release)?;
-    let ended = within(written(alloc, &report));
-    release.done_with(report);
-    ended
+    let answer = report_for(alloc, catalogue, request, budget, release)?;
+    within(written(alloc, answer, release))
 }
 
 /// The outcome and the text for two texts. The catalogue is read to its end first; where it is

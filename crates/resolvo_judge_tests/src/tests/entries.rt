@@ -1,12 +1,10 @@
 //! The report of turns that are chosen here, and not by the solver: the order of the lines, and
 //! that of the steps.
 
-use resolve_install::{install_report, numbers_of};
+use resolve_install::{install_text, numbers_of};
 use resolve_order::Turn;
-use resolvo_catalogue::{
-    Catalogue, MemorySink, MemorySource, ReadFault, Request, Version, VersionNo,
-};
-use resolvo_judge::{Report, Step, Verdict, judge};
+use resolvo_catalogue::{Catalogue, MemorySource, ReadFault, Request, Version, VersionNo};
+use resolvo_judge::{Step, Verdict, judge};
 use resolvo_pool::SolvableId;
 use std::alloc::{AllocError, Global};
 use std::test::Fail;
@@ -158,41 +156,29 @@ fn request_of(alloc: Global, text: &str, catalogue: &Catalogue) -> Result<Reques
     )
 }
 
-/// The report of a row, whose turns chose these versions.
-fn report_with(
+/// The text of a row's report, whose turns chose these versions.
+fn text_with(
     alloc: Global,
     catalogue: &Catalogue,
     request: &Request,
     row: &Row,
     chosen: &[Vec<VersionNo>],
-) -> Result<Report, AllocError> {
+) -> Result<Vec<u8>, AllocError> {
     let mut turns = Vec::new(alloc);
     add_turns(&mut turns, request, row.turns, chosen)?;
-    install_report(
-        alloc,
-        catalogue,
-        request,
-        &turns,
-        steps_of(alloc, row.steps)?,
-    )
+    let steps = steps_of(alloc, row.steps)?;
+    install_text(alloc, catalogue, request, &turns, &steps)
 }
 
-/// The report of a row.
-fn report_of(
+/// The text of a row's report.
+fn text_of(
     alloc: Global,
     catalogue: &Catalogue,
     request: &Request,
     row: &Row,
-) -> Result<Report, Fail> {
+) -> Result<Vec<u8>, Fail> {
     let chosen = chosen_of(alloc, row.turns)?;
-    Ok(report_with(alloc, catalogue, request, row, &chosen)?)
-}
-
-/// A report as it is written.
-fn written(alloc: Global, report: &Report, room: usize) -> Result<MemorySink, Fail> {
-    let mut sink = MemorySink::new(alloc, room, 4096)?;
-    report.write(alloc, &mut sink)?;
-    Ok(sink)
+    Ok(text_with(alloc, catalogue, request, row, &chosen)?)
 }
 
 /// Whether the report has the row's text, and the judge's verdict on it.
@@ -202,11 +188,10 @@ fn outcome_over(
     request: &Request,
     row: &Row,
 ) -> Result<(bool, Verdict), Fail> {
-    let report = report_of(alloc, catalogue, request, row)?;
-    let sink = written(alloc, &report, row.report.len())?;
-    let mut source = MemorySource::new(sink.bytes(), 4096);
+    let text = text_of(alloc, catalogue, request, row)?;
+    let mut source = MemorySource::new(&text, 4096);
     let verdict = judge(alloc, catalogue, request, &mut source)?;
-    Ok((sink.bytes() == row.report.as_bytes(), verdict))
+    Ok((text.as_slice() == row.report.as_bytes(), verdict))
 }
 
 fn outcome_of(alloc: Global, catalogue: &Catalogue, row: &Row) -> Result<(bool, Verdict), Fail> {
