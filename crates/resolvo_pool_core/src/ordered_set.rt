@@ -168,7 +168,11 @@ fn set_number_at(places: &mut Vec<u32>, index: u32, place: u32) -> R<()>
     ensures refusal { IsOkUnless result Memory }
 {
     let index = index as usize;
-    if index >= places.len() {
+    if index == places.len() {
+        places.push(place + 1)?;
+        return Ok(());
+    }
+    if index > places.len() {
         places.resize(index + 1, 0)?;
     }
     places[index] = place + 1;
