@@ -1,5 +1,5 @@
 -- The report's lines of answers, whose versions are known by their numbers.
-use Rattle.std.proofs.Common.{◌≡◌, List, [], ◌∷◌, map, Option, Some, None, refl, ap, ◌∙◌}
+use Rattle.std.proofs.Common.{◌≡◌, List, [], ◌∷◌, map, Option, None, refl, ap, ◌∙◌}
 use Rattle.std.specs.Prelude.{slice_get, unwrap_or}
 use Rattle.std.proofs.lemmas.Option.{unwrap_or-slice_get}
 use Rattle.resolvo_text.specs.Line.{Version}
@@ -14,10 +14,7 @@ use Rattle.resolvo_catalogue_core.specs.Answers as answers
 use Rattle.resolvo_judge.specs.Refusal.{answer_of}
 use Rattle.resolve_install.specs.Lines.{entry_for, line_for, lines_for}
 
--- the version of this number, and none
-pub version_there : (all : List Version) (n : VersionNo) (v : Version) → Some v ≡ slice_get all n.0 → v ≡ nth all n
-version_there all n v at = ap (λ (o : Option Version). unwrap_or o nowhere) at ∙ unwrap_or-slice_get all n.0 nowhere
-
+-- a number that no version has is that of the version without a name
 pub version_nowhere : (all : List Version) (n : VersionNo) → None ≡ slice_get all n.0 → nowhere ≡ nth all n
 version_nowhere all n none = ap (λ (o : Option Version). unwrap_or o nowhere) none ∙ unwrap_or-slice_get all n.0 nowhere
 

@@ -12,110 +12,29 @@ ghost use Rattle.resolvo_catalogue_core.specs.Listed.{listed};
 ghost use Rattle.resolvo_catalogue_core.specs.Kept.{nth};
 ghost use Rattle.resolve_order.specs.declared.entry.Answer.TheVariants as answer;
 ghost use Rattle.resolvo_report.specs.Value as value;
-ghost use Rattle.resolvo_report.specs.View.{steps_of};
-ghost use Rattle.resolvo_report.specs.Text.{line_text, lines_text, version_text};
+ghost use Rattle.resolvo_report.specs.View.{steps_of, version_by_ref};
+ghost use Rattle.resolvo_report.specs.Text.{line_text, lines_text};
 ghost use Rattle.resolve_install.specs.Install.{line_of, IsInstallText};
 ghost use Rattle.resolve_install.specs.Lines.{line_for, lines_for};
 
 use resolve_order::{Answer, Entry, Reason, Turn, list};
 use resolvo_catalogue_core::{Catalogue, Request, VersionNo};
-use resolvo_report::{Step, push_named, push_number, push_steps};
+use resolvo_report::{
+    Step, VersionRef, push_left_out, push_needed, push_requested, push_steps, push_wished,
+};
 use std::alloc::{AllocError, Global};
 
-/// Appends the version of this number, as one word; one without a name where there is none.
-fn push_version(
-    out: &mut Vec<u8>,
-    catalogue: &Catalogue,
-    version: VersionNo,
-) -> Result<(), AllocError>
-    ensures { OnOk result
-        (out.new.items
-        ≡ out.old.items ++ version_text (nth (listed catalogue.now) version)) }
+/// The version of this number; one without a name where there is none.
+fn version_at(catalogue: &Catalogue, version: VersionNo) -> VersionRef<'_>
+    ensures { version_by_ref result ≡ nth (listed catalogue.now) version }
 {
     match catalogue.versions().get_bytes(version) {
-        Some((name, number)) => push_named(out, name, number),
-        None => push_named(out, b"", 0),
+        Some((name, number)) => VersionRef { name, number },
+        None => VersionRef {
+            name: b"",
+            number: 0,
+        },
     }
-}
-
-/// Appends the version of this number with a line of the request that needs it.
-fn push_requested(
-    out: &mut Vec<u8>,
-    catalogue: &Catalogue,
-    version: VersionNo,
-    line: u32,
-) -> Result<(), AllocError>
-    ensures { OnOk result
-        (out.new.items
-        ≡ out.old.items ++ line_text
-        (value.Answer (value.Entry (nth (listed catalogue.now) version) value.OfRequest line))) }
-{
-    push_version(out, catalogue, version)?;
-    out.extend_from_slice(b" for request line ")?;
-    push_number(out, line)?;
-    Ok(())
-}
-
-/// Appends the version of this number with a line of its owner that needs it.
-fn push_needed(
-    out: &mut Vec<u8>,
-    catalogue: &Catalogue,
-    version: VersionNo,
-    owner: VersionNo,
-    line: u32,
-) -> Result<(), AllocError>
-    ensures { OnOk result
-        (out.new.items
-        ≡ out.old.items ++ line_text
-        (value.Answer (value.Entry (nth (listed catalogue.now) version)
-        (value.OfVersion (nth (listed catalogue.now) owner)) line))) }
-{
-    push_version(out, catalogue, version)?;
-    out.extend_from_slice(b" for ")?;
-    push_version(out, catalogue, owner)?;
-    out.extend_from_slice(b" line ")?;
-    push_number(out, line)?;
-    Ok(())
-}
-
-/// Appends the version of this number with a line of the request that wishes it.
-fn push_wished(
-    out: &mut Vec<u8>,
-    catalogue: &Catalogue,
-    version: VersionNo,
-    line: u32,
-) -> Result<(), AllocError>
-    ensures { OnOk result
-        (out.new.items
-        ≡ out.old.items ++ line_text
-        (value.Answer (value.Wished (nth (listed catalogue.now) version) line))) }
-{
-    push_version(out, catalogue, version)?;
-    out.extend_from_slice(b" wished line ")?;
-    push_number(out, line)?;
-    Ok(())
-}
-
-/// Appends the line of a wish that is left out.
-fn push_left_out(
-    out: &mut Vec<u8>,
-    catalogue: &Catalogue,
-    version: VersionNo,
-    line: u32,
-    step: u32,
-) -> Result<(), AllocError>
-    ensures { OnOk result
-        (out.new.items
-        ≡ out.old.items ++ line_text
-        (value.Answer (value.LeftOut (nth (listed catalogue.now) version) line step))) }
-{
-    out.extend_from_slice(b"left out ")?;
-    push_version(out, catalogue, version)?;
-    out.extend_from_slice(b" line ")?;
-    push_number(out, line)?;
-    out.extend_from_slice(b" by ")?;
-    push_number(out, step)?;
-    Ok(())
 }
 
 /// Appends the report line of an entry.
@@ -127,14 +46,14 @@ fn push_entry(out: &mut Vec<u8>, catalogue: &Catalogue, entry: Entry) -> Result<
     ensures numbered { OnOk result
         (IsNumber (line_of (line_for (listed catalogue.now) (answer.Entry entry)))) }
 {
-    let Entry { version, reason } = entry;
-    match reason {
-        Reason::ForRequest { line } => push_requested(out, catalogue, version, line),
+    let version = version_at(catalogue, entry.version);
+    match entry.reason {
+        Reason::ForRequest { line } => push_requested(out, version, line),
         Reason::ForVersion {
             version: owner,
             line,
-        } => push_needed(out, catalogue, version, owner, line),
-        Reason::Wished { line } => push_wished(out, catalogue, version, line),
+        } => push_needed(out, version, version_at(catalogue, owner), line),
+        Reason::Wished { line } => push_wished(out, version, line),
     }
 }
 
@@ -151,7 +70,7 @@ fn push_answer(out: &mut Vec<u8>, catalogue: &Catalogue, answer: Answer) -> Resu
             version,
             line,
             step,
-        } => push_left_out(out, catalogue, version, line, step),
+        } => push_left_out(out, version_at(catalogue, version), line, step),
     }
 }
 

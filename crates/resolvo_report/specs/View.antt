@@ -2,8 +2,10 @@
 use Rattle.std.specs.Prelude.{ℕ, List, map}
 use Rattle.std.specs.String.{string_bytes}
 use Rattle.std.specs.Global.{Vec}
+use Rattle.resolvo_text.specs.Line.{Version}
 use Rattle.resolvo_text.specs.View.{version_of, spec_of, specs_of}
 use Rattle.resolvo_report.specs.Value as model
+use Rattle.resolvo_report.specs.declared.answer_text.VersionRef.{VersionRef}
 use Rattle.resolvo_report.specs.declared.step.Place.{Place}
 use Rattle.resolvo_report.specs.declared.step.Place.TheVariants as place
 use Rattle.resolvo_report.specs.declared.step.Atom.{Atom}
@@ -17,6 +19,10 @@ use Rattle.resolvo_report.specs.declared.report.Report.{Report}
 use Rattle.resolvo_report.specs.declared.report.Report.TheVariants as report
 use Rattle.resolvo_report.specs.declared.report.ReportLine.{ReportLine}
 use Rattle.resolvo_report.specs.declared.report.ReportLine.TheVariants as line
+
+-- a version with a borrowed name
+abbrev pub version_by_ref : VersionRef → Version
+version_by_ref v = record { name = v.name.now; number = v.number }
 
 abbrev pub place_of : Place → model.Place
 place_of place.Request = model.OfRequest

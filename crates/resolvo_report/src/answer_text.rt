@@ -1,12 +1,13 @@
 //! The texts of answer lines and steps, byte by byte behind those of a buffer. An install report has
-//! many lines. The writer of reports lends the buffer, and so does the caller who has no `Report`.
+//! many lines. The writer of reports lends the buffer, and so does the caller who has no `Report`, for
+//! whom versions have borrowed names.
 
 ghost use Rattle.std.specs.Prelude.{◌≡◌, ◌++◌, OnOk};
 ghost use Rattle.std.specs.Fmt.{decimal};
 ghost use Rattle.resolvo_text.specs.View.{version_of};
 ghost use Rattle.resolvo_report.specs.Value as model;
-ghost use Rattle.resolvo_report.specs.View.{place_of, answer_line_of, steps_of};
-ghost use Rattle.resolvo_report.specs.Text.{version_text, place_text, line_text, lines_text, numbered};
+ghost use Rattle.resolvo_report.specs.View.{version_by_ref, answer_line_of, steps_of};
+ghost use Rattle.resolvo_report.specs.Text.{version_text, line_text, lines_text, numbered};
 
 use crate::report::AnswerLine;
 use crate::step::{Place, Step};
@@ -31,7 +32,7 @@ fn push_digits(out: &mut Vec<u8>, number: u32) -> Result<(), AllocError>
 }
 
 /// Appends the digits of a number.
-pub fn push_number(out: &mut Vec<u8>, number: u32) -> Result<(), AllocError>
+fn push_number(out: &mut Vec<u8>, number: u32) -> Result<(), AllocError>
     ensures { OnOk result (out.new.items ≡ out.old.items ++ decimal number) }
 {
     if number >= 10 {
@@ -41,60 +42,75 @@ pub fn push_number(out: &mut Vec<u8>, number: u32) -> Result<(), AllocError>
     Ok(())
 }
 
-/// Appends the version of this name and number, as one word.
-pub fn push_named(out: &mut Vec<u8>, name: &[u8], number: u32) -> Result<(), AllocError>
-    ensures { OnOk result
-        (out.new.items
-        ≡ out.old.items ++ version_text (record { name = name.now; number = number })) }
-{
-    out.extend_from_slice(name)?;
-    out.push(b'=')?;
-    push_number(out, number)
+/// A version, whose name somebody else owns.
+#[derive(Clone, Copy, Debug)]
+pub struct VersionRef<'a> {
+    pub name: &'a [u8],
+    pub number: u32,
 }
 
-/// Appends a version, as one word.
-fn push_version(out: &mut Vec<u8>, version: &Version) -> Result<(), AllocError>
-    ensures { OnOk result (out.new.items ≡ out.old.items ++ version_text (version_of version.now)) }
+/// The same version, with a borrowed name.
+fn borrowed(version: &Version) -> VersionRef<'_>
+    ensures { version_by_ref result ≡ version_of version.now }
 {
-    push_named(out, version.name.as_bytes(), version.number)
-}
-
-/// Appends a place, as one word.
-fn push_place(out: &mut Vec<u8>, place: &Place) -> Result<(), AllocError>
-    ensures { OnOk result (out.new.items ≡ out.old.items ++ place_text (place_of place.now)) }
-{
-    match place {
-        Place::Request => {
-            out.extend_from_slice(b"request")?;
-            Ok(())
-        }
-        Place::Version(version) => push_version(out, version),
+    VersionRef {
+        name: version.name.as_bytes(),
+        number: version.number,
     }
 }
 
-fn push_entry(
+/// Appends a version, as one word.
+fn push_version(out: &mut Vec<u8>, version: VersionRef<'_>) -> Result<(), AllocError>
+    ensures { OnOk result (out.new.items ≡ out.old.items ++ version_text (version_by_ref version.entry)) }
+{
+    out.extend_from_slice(version.name)?;
+    out.push(b'=')?;
+    push_number(out, version.number)
+}
+
+/// Appends the line of a version that a line of the request asks for.
+pub fn push_requested(
     out: &mut Vec<u8>,
-    version: &Version,
-    place: &Place,
+    version: VersionRef<'_>,
     line: u32,
 ) -> Result<(), AllocError>
     ensures { OnOk result
         (out.new.items
         ≡ out.old.items ++ line_text
-        (model.Answer (model.Entry (version_of version.now) (place_of place.now) line))) }
+        (model.Answer (model.Entry (version_by_ref version.entry) model.OfRequest line))) }
+{
+    push_version(out, version)?;
+    out.extend_from_slice(b" for request line ")?;
+    push_number(out, line)?;
+    Ok(())
+}
+
+/// Appends the line of a version that a line of its owner asks for.
+pub fn push_needed(
+    out: &mut Vec<u8>,
+    version: VersionRef<'_>,
+    owner: VersionRef<'_>,
+    line: u32,
+) -> Result<(), AllocError>
+    ensures { OnOk result
+        (out.new.items
+        ≡ out.old.items ++ line_text
+        (model.Answer (model.Entry (version_by_ref version.entry)
+        (model.OfVersion (version_by_ref owner.entry)) line))) }
 {
     push_version(out, version)?;
     out.extend_from_slice(b" for ")?;
-    push_place(out, place)?;
+    push_version(out, owner)?;
     out.extend_from_slice(b" line ")?;
     push_number(out, line)?;
     Ok(())
 }
 
-fn push_wished(out: &mut Vec<u8>, version: &Version, line: u32) -> Result<(), AllocError>
+/// Appends the line of a version that a line of the request wishes.
+pub fn push_wished(out: &mut Vec<u8>, version: VersionRef<'_>, line: u32) -> Result<(), AllocError>
     ensures { OnOk result
         (out.new.items
-        ≡ out.old.items ++ line_text (model.Answer (model.Wished (version_of version.now) line))) }
+        ≡ out.old.items ++ line_text (model.Answer (model.Wished (version_by_ref version.entry) line))) }
 {
     push_version(out, version)?;
     out.extend_from_slice(b" wished line ")?;
@@ -102,16 +118,17 @@ fn push_wished(out: &mut Vec<u8>, version: &Version, line: u32) -> Result<(), Al
     Ok(())
 }
 
-fn push_left_out(
+/// Appends the line of a wish that is left out.
+pub fn push_left_out(
     out: &mut Vec<u8>,
-    version: &Version,
+    version: VersionRef<'_>,
     line: u32,
     step: u32,
 ) -> Result<(), AllocError>
     ensures { OnOk result
         (out.new.items
         ≡ out.old.items ++ line_text
-        (model.Answer (model.LeftOut (version_of version.now) line step))) }
+        (model.Answer (model.LeftOut (version_by_ref version.entry) line step))) }
 {
     out.extend_from_slice(b"left out ")?;
     push_version(out, version)?;
@@ -131,15 +148,20 @@ pub(crate) fn push_answer(out: &mut Vec<u8>, answer: &AnswerLine) -> Result<(), 
     match answer {
         AnswerLine::Entry {
             version,
-            place,
+            place: Place::Request,
             line,
-        } => push_entry(out, version, place, *line),
-        AnswerLine::Wished { version, line } => push_wished(out, version, *line),
+        } => push_requested(out, borrowed(version), *line),
+        AnswerLine::Entry {
+            version,
+            place: Place::Version(owner),
+            line,
+        } => push_needed(out, borrowed(version), borrowed(owner), *line),
+        AnswerLine::Wished { version, line } => push_wished(out, borrowed(version), *line),
         AnswerLine::LeftOut {
             version,
             line,
             step,
-        } => push_left_out(out, version, *line, *step),
+        } => push_left_out(out, borrowed(version), *line, *step),
     }
 }
 

@@ -15,7 +15,9 @@ mod step;
 mod text;
 mod write;
 
-pub use answer_text::{push_named, push_number, push_steps};
+pub use answer_text::{
+    VersionRef, push_left_out, push_needed, push_requested, push_steps, push_wished,
+};
 pub use laws::{reports_are_read, text_is_one_report};
 pub use place::Part;
 pub use reader::{ReportFault, ReportReader};

@@ -67,7 +67,7 @@ impl HasKey for Condition {
     }
 }
 
-/// Stands where a package has no version set of all its versions.
+/// For a package whose set of all versions has no number yet.
 const NO_SET: u32 = u32::MAX;
 
 /// The numbered values.

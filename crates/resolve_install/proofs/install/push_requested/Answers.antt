@@ -1,5 +1,0 @@
-use Rattle.resolvo_report.proofs.PushLemmas.{pushed3}
-use Rattle.resolve_install.proofs.install.push_requested.Goals as goal
-
-pub returns : goal.returns
-returns c = pushed3 _ _ _ _ _ _ _ c.in_ok-push_version.ensures c.in_ok-extend_from_slice.ensures.items c.in_ok-push_number.ensures
