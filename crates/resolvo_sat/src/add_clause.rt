@@ -9,7 +9,7 @@ ghost use Rattle.resolvo_sat.specs.Propagation.{IsReady, AreCovered};
 ghost use Rattle.resolvo_sat.specs.AddClause.{HasAnother, with_last, Begins, AddsPending};
 
 use crate::state::SatState;
-use crate::watch_lists::{UnitClause, WatchLists};
+use crate::watch_lists::{Start, UnitClause, WatchLists};
 use resolvo_pool_core::id::ClauseId;
 use resolvo_pool_core::want::R;
 use resolvo_store_core::literal::Literal;
@@ -48,28 +48,31 @@ impl SatState {
         Ok(clause)
     }
 
-    /// The literals that a new clause is to watch: its first one, and beside it the first that is
-    /// not false, or else the next one. A learnt clause is to watch its first and its last literal.
-    fn first_watches(&self, literals: &[Literal], is_rule: bool) -> WatchedLiterals
-        requires state { IsState self.now }
-        requires some { 0 < length literals.now }
+    /// The literals that a new clause of more than two is to watch: its first one, and beside it the
+    /// first that is not false, or else the next one. A learnt clause is to watch its first and its
+    /// last literal.
+    fn first_watches(&self, literals: &[Literal], is_rule: bool) -> Option<WatchedLiterals>
+        requires { IsState self.now }
     {
+        if literals.len() < 3 {
+            return None;
+        }
         let first = literals[0];
         let mut second = first;
         for literal in literals {
             if *literal != first {
                 if is_rule && !self.is_false(*literal) {
-                    return WatchedLiterals {
+                    return Some(WatchedLiterals {
                         first,
                         second: *literal,
-                    };
+                    });
                 }
                 if second == first || !is_rule {
                     second = *literal;
                 }
             }
         }
-        WatchedLiterals { first, second }
+        Some(WatchedLiterals { first, second })
     }
 }
 
@@ -78,6 +81,9 @@ fn has_another(literals: &[Literal], first: Literal) -> bool
     requires { has literals.now first ≡ true }
     ensures { HasAnother literals.now first result }
 {
+    if let [one, other] = literals {
+        return *one != *other;
+    }
     for literal in literals {
         if *literal != first {
             return true;
@@ -91,7 +97,7 @@ impl WatchLists {
     fn begin(
         &mut self,
         unit: UnitClause,
-        start: WatchedLiterals,
+        start: Option<WatchedLiterals>,
         is_long: bool,
         is_rule: bool,
     ) -> R<()>
@@ -100,7 +106,10 @@ impl WatchLists {
     {
         if is_long {
             self.pending.push(unit.clause)?;
-            self.starts.push(start)?;
+            if let Some(watched) = start {
+                let clause = unit.clause;
+                self.starts.push(Start { clause, watched })?;
+            }
         } else {
             self.add_unit(unit, is_rule)?;
         }

@@ -1,6 +1,6 @@
 //! Pending clauses begin to watch, in the order of addition. They were visited before
 //! (`visit_pending`), so each may watch the literals that it is to watch.
-ghost use Rattle.std.specs.Prelude.{◌≡◌, ◌-◌, ◌<◌, length, reverse, slice_get, true, false, IfOk, IsOkUnless};
+ghost use Rattle.std.specs.Prelude.{◌≡◌, ◌-◌, ◌<◌, length, reverse, slice_get, true, false, IfOk, IfSome, IsOkUnless};
 ghost use Rattle.resolvo_pool_core.specs.declared.want.Want.TheVariants.{Memory};
 ghost use Rattle.resolvo_store_core.specs.Signed.{same_literal, has};
 ghost use Rattle.resolvo_sat.specs.Known.{clause_at};
@@ -10,7 +10,7 @@ ghost use Rattle.resolvo_sat.specs.Propagation.{HasTwo, IsReady};
 ghost use Rattle.resolvo_sat.specs.Attach.{IsBestBeside, IsEither, IsBestPair, IsFirstSet, IsLast, Starts, AreOwn, IsAhead, MayWatch, GuardsBy, IsStart, IsAttachment, IsPendingEnd};
 
 use crate::state::SatState;
-use crate::watch_lists::WatchLists;
+use crate::watch_lists::{Start, WatchLists};
 use resolvo_pool_core::id::{ClauseId, DenseIndex, VariableId};
 use resolvo_pool_core::want::R;
 use resolvo_store_core::literal::Literal;
@@ -90,11 +90,8 @@ impl SatState {
         requires in_range { clause.0 < length self.old.clauses }
         ensures { IsStart clause.0 self.old self.new result }
     {
-        let start = watching.last_start()?;
+        let start = self.own_start(watching, clause)?;
         let WatchedLiterals { first, second } = start;
-        if !self.are_own(clause, first, second) {
-            return None;
-        }
         if !self.is_false(first) && !self.is_false(second) {
             return Some(start);
         }
@@ -109,13 +106,22 @@ impl SatState {
         Some(start)
     }
 
-    /// Whether these are two literals of the clause.
-    fn are_own(&self, clause: ClauseId, first: Literal, second: Literal) -> bool
+    /// The literals that the last pending clause is to watch, if they are two of its own: those of a
+    /// clause of two, or what was noted.
+    fn own_start(&self, watching: &WatchLists, clause: ClauseId) -> Option<WatchedLiterals>
         requires in_range { clause.0 < length self.now.clauses }
-        ensures { result ≡ true → AreOwn (clause_at (clauses_of self.now) clause.0) first second }
+        ensures { IfSome result
+            (λ w. AreOwn (clause_at (clauses_of self.now) clause.0) w.first w.second) }
     {
         let literals = self.literals(clause);
-        first != second && is_among(literals, first) && is_among(literals, second)
+        if let [first, second] = literals {
+            return two(*first, *second);
+        }
+        let WatchedLiterals { first, second } = watching.last_start(clause)?;
+        if !is_among(literals, first) || !is_among(literals, second) {
+            return None;
+        }
+        two(first, second)
     }
 
     /// Whether a clause may watch a literal beside another one. It isn't false, or the other one is
@@ -263,9 +269,14 @@ impl WatchLists {
         self.starts.as_mut_slice().reverse();
     }
 
-    /// The literals that the last pending clause is to watch.
-    fn last_start(&self) -> Option<WatchedLiterals> {
-        self.starts.as_slice().last().copied()
+    /// What is noted of the literals that the last pending clause is to watch.
+    fn last_start(&self, clause: ClauseId) -> Option<WatchedLiterals> {
+        let start = self.starts.as_slice().last()?;
+        if start.clause == clause {
+            Some(start.watched)
+        } else {
+            None
+        }
     }
 
     /// The place on the trail at which a variable was last seen.
@@ -298,8 +309,29 @@ impl WatchLists {
             .start_watching(WatchedLiterals { first, second }, clause)?;
         self.watched[clause.to_index()] = Some(WatchedLiterals { first, second });
         self.pending.pop();
-        self.starts.pop();
+        drop_start(&mut self.starts, clause);
         Ok(())
+    }
+}
+
+/// Drops what is noted last, where it is of this clause.
+fn drop_start(starts: &mut Vec<Start>, clause: ClauseId) {
+    if let Some(start) = starts.as_slice().last().copied() {
+        if start.clause == clause {
+            starts.pop();
+        }
+    }
+}
+
+/// Both literals, unless they are equal.
+fn two(first: Literal, second: Literal) -> Option<WatchedLiterals>
+    ensures { IfSome result
+        (λ w. (w.first ≡ first) × (w.second ≡ second) × (same_literal first second ≡ false)) }
+{
+    if first == second {
+        None
+    } else {
+        Some(WatchedLiterals { first, second })
     }
 }
 

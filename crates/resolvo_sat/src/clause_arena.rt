@@ -99,7 +99,7 @@ impl ClauseArena {
     }
 }
 
-/// Appends items. Most clauses have no causes, so none is the short way.
+/// Appends items. Most clauses have no causes and two literals, so these are the short ways.
 fn append<T: Copy>(items: &mut Vec<T>, more: &[T]) -> Result<(), AllocError>
     ensures items { items.new.items
         ≡ (if is_ok result then items.old.items ++ more.now else items.old.items) }
@@ -107,7 +107,25 @@ fn append<T: Copy>(items: &mut Vec<T>, more: &[T]) -> Result<(), AllocError>
     if more.is_empty() {
         return Ok(());
     }
+    if let [first, second] = more {
+        return append_two(items, *first, *second);
+    }
     items.extend_from_slice(more)
+}
+
+/// Appends two items, or none.
+fn append_two<T: Copy>(items: &mut Vec<T>, first: T, second: T) -> Result<(), AllocError>
+    ensures items { items.new.items
+        ≡ (if is_ok result then items.old.items ++ first ∷ second ∷ [] else items.old.items) }
+{
+    items.push(first)?;
+    match items.push(second) {
+        Ok(()) => Ok(()),
+        Err(error) => {
+            items.pop();
+            Err(error.into())
+        }
+    }
 }
 
 /// Where the literals and the causes of the clause of a number begin.

@@ -26,6 +26,8 @@ struct Visit {
     /// How many pending clauses there are from this one on.
     from_end: usize,
     is_second: bool,
+    /// Where it is noted what the clause is to watch, if it has more than two literals.
+    start: usize,
 }
 
 /// The outcome of a visit.
@@ -77,44 +79,91 @@ impl SatState {
 
     /// The visits that are due, in order.
     fn visits(&self, watching: &WatchLists) -> R<Vec<Visit>>
-        requires state { IsState self.now }
+        requires { IsReady self.now watching.now }
         ensures refusal { IsOkUnless result Memory }
     {
         let mut visits = Vec::new(*watching.pending.allocator());
-        let mut from_end = watching.starts.len();
-        for start in &watching.starts {
-            self.push_visit(watching, &mut visits, start.first, from_end, false)?;
-            self.push_visit(watching, &mut visits, start.second, from_end, true)?;
-            from_end = from_end.saturating_sub(1);
+        let count = watching.pending.len();
+        let mut start = 0;
+        for index in 0..count {
+            let Some(clause) = watching.pending_at(index) else {
+                break;
+            };
+            if let Some(pair) = self.start_at(watching, clause, start) {
+                let visit = Visit {
+                    place: 0,
+                    from_end: count - index,
+                    is_second: false,
+                    start,
+                };
+                self.push_visits(watching, &mut visits, pair, visit)?;
+            }
+            if self.literals(clause).len() != 2 {
+                start = start.saturating_add(1);
+            }
         }
         visits.sort()?;
         Ok(visits)
     }
 
-    /// Adds the visit at a literal, where it became false before the propagation head.
+    /// Adds the visits of a clause that are due.
+    fn push_visits(
+        &self,
+        watching: &WatchLists,
+        visits: &mut Vec<Visit>,
+        pair: WatchedLiterals,
+        visit: Visit,
+    ) -> R<()>
+        requires state { IsState self.now }
+        ensures refusal { IsOkUnless result Memory }
+    {
+        if self.is_false(pair.first) {
+            self.push_visit(watching, visits, pair.first, visit)?;
+        }
+        if self.is_false(pair.second) {
+            let visit = Visit {
+                is_second: true,
+                ..visit
+            };
+            self.push_visit(watching, visits, pair.second, visit)?;
+        }
+        Ok(())
+    }
+
+    /// Adds the visit at a false literal, where it became so before the propagation head.
     fn push_visit(
         &self,
         watching: &WatchLists,
         visits: &mut Vec<Visit>,
         literal: Literal,
-        from_end: usize,
-        is_second: bool,
+        visit: Visit,
     ) -> R<()>
-        requires state { IsState self.now }
         ensures refusal { IsOkUnless result Memory }
     {
-        if !self.is_false(literal) {
-            return Ok(());
-        }
         let place = watching.place_of(literal.variable());
         if place < self.qhead {
-            visits.push(Visit {
-                place,
-                from_end,
-                is_second,
-            })?;
+            visits.push(Visit { place, ..visit })?;
         }
         Ok(())
+    }
+
+    /// The literals that a pending clause is to watch, where it has two, or where it is noted here.
+    fn start_at(
+        &self,
+        watching: &WatchLists,
+        clause: ClauseId,
+        start: usize,
+    ) -> Option<WatchedLiterals>
+        requires in_range { clause.0 < length self.now.clauses }
+    {
+        if let [first, second] = self.literals(clause) {
+            return Some(WatchedLiterals {
+                first: *first,
+                second: *second,
+            });
+        }
+        let start = watching.starts.get(start)?;
+        Some(start.watched)
     }
 
     /// Visits a pending clause; returns it where it is falsified.
@@ -123,8 +172,11 @@ impl SatState {
         ensures visited { IfOk result (IsPendingVisit self.old self.new watching.old watching.new) }
         ensures refusal { IsOkUnless result Memory }
     {
-        let index = watching.starts.len().saturating_sub(visit.from_end);
-        let Some((clause, start)) = watching.start_at(index) else {
+        let index = watching.pending.len().saturating_sub(visit.from_end);
+        let Some(clause) = watching.pending_at(index) else {
+            return Ok(None);
+        };
+        let Some(start) = self.start_at(watching, clause, visit.start) else {
             return Ok(None);
         };
         let fallen = if visit.is_second {
@@ -135,7 +187,7 @@ impl SatState {
         match self.visit_start(clause, &start, fallen)? {
             StartVisit::Kept => Ok(None),
             StartVisit::Moved(to) => {
-                watching.move_start(index, start.moved(fallen, to));
+                watching.move_start(visit.start, start.moved(fallen, to));
                 Ok(None)
             }
             StartVisit::Falsified => Ok(Some(clause)),
@@ -221,21 +273,19 @@ impl WatchLists {
         Ok(())
     }
 
-    /// The pending clause of this index, with the literals that it is to watch.
-    fn start_at(&self, index: usize) -> Option<(ClauseId, WatchedLiterals)>
-        ensures { IfSome result (λ s. slice_get self.now.pending.items index ≡ Some s.0) }
+    /// The pending clause of this index.
+    fn pending_at(&self, index: usize) -> Option<ClauseId>
+        ensures { IfSome result (λ c. slice_get self.now.pending.items index ≡ Some c) }
     {
-        let clause = self.pending.get(index)?;
-        let start = self.starts.get(index)?;
-        Some((*clause, *start))
+        self.pending.get(index).copied()
     }
 
-    /// Lets the pending clause of this index be to watch these literals.
-    fn move_start(&mut self, index: usize, start: WatchedLiterals)
+    /// Lets the clause that this is noted of be to watch these literals.
+    fn move_start(&mut self, start: usize, watched: WatchedLiterals)
         ensures { KeepsLists self.old self.new }
     {
-        if index < self.starts.len() {
-            self.starts[index] = start;
+        if start < self.starts.len() {
+            self.starts[start].watched = watched;
         }
     }
 }

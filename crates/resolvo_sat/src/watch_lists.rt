@@ -18,6 +18,13 @@ pub struct UnitClause {
     pub literal: Literal,
 }
 
+/// The literals that a pending clause is to watch.
+#[derive(Clone, Copy, Debug)]
+pub struct Start {
+    pub clause: ClauseId,
+    pub watched: WatchedLiterals,
+}
+
 /// Notes that the trail's first entries make the first unit clauses of both lists true.
 #[derive(Clone, Copy, Debug)]
 pub struct UnitsDone {
@@ -40,8 +47,9 @@ pub struct WatchLists {
     /// The unit clauses that need no visit, newest note last.
     pub units_done: Vec<UnitsDone>,
     pub pending: Vec<ClauseId>,
-    /// The literals that each pending clause is to watch. No proof rests on them: they are tested.
-    pub starts: Vec<WatchedLiterals>,
+    /// What the pending clauses of more than two literals are to watch, in the order of `pending`. No
+    /// proof rests on it: it is tested.
+    pub starts: Vec<Start>,
     /// The place on the trail at which each variable was last seen. No proof rests on it either.
     pub places: Vec<u32>,
     /// How many of each clause's first literals are false at the first level, as far as it is known.

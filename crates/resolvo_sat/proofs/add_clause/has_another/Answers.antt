@@ -12,7 +12,7 @@ returns-then-ne c = (
   c.literal-item.result,
   c.requires,
   has_contained c.args.literals.now c.literal-item.result (c.loop-literal.literal-index, c.loop-literal-test.true, sym c.literal-item.is),
-  differs_sym c.literal-item.result c.args.first (not-true (same_literal c.literal-item.result c.args.first) (sym c.ne.ensures ∙ c.if-ne.true)),
+  differs_sym c.literal-item.result c.args.first (not-true (same_literal c.literal-item.result c.args.first) (sym c.ne-in-loop-literal.ensures ∙ c.if-ne.true)),
 )
 
 pub returns : goal.returns

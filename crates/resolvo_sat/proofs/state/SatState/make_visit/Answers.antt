@@ -5,6 +5,9 @@ use Rattle.resolvo_sat.proofs.ExtendLemmas.{extends_nothing}
 use Rattle.resolvo_sat.proofs.StartLemmas.{pending_at, attaches_kept, kept_nothing, visit_falsified}
 use Rattle.resolvo_sat.proofs.state.SatState.make_visit.Goals as goal
 
+pub start_at-requires : goal.start_at-requires
+start_at-requires c = record { in_range = pending_at c.args.self.now c.args.watching.now c.saturating_sub-index.result c.in-Some.clause c.requires.ready c.in-Some.ensures }
+
 pub visit_start-requires-clause-in_range : goal.visit_start-requires-clause-in_range
 visit_start-requires-clause-in_range c = pending_at c.args.self.now c.args.watching.now c.saturating_sub-index.result c.in-Some.clause c.requires.ready c.in-Some.ensures
 
