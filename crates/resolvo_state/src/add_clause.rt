@@ -6,7 +6,7 @@ ghost use Rattle.resolvo_sat.specs.Steps.{AreInRange};
 ghost use Rattle.resolvo_sat.specs.Analysis.{IsDenial};
 ghost use Rattle.resolvo_state.specs.ClauseKinds.{rule_of};
 ghost use Rattle.resolvo_state.specs.StoredKinds.{plain_kind, IsPlain};
-ghost use Rattle.resolvo_state.specs.Kinds.{Needs};
+ghost use Rattle.resolvo_state.specs.Kinds.{Needs, Digit};
 ghost use Rattle.resolvo_state.specs.SolverState.{IsCoding, AddsRule, AddsDenial, LacksNumber};
 
 use crate::clause_kind::{ClauseKind, Need};
@@ -35,6 +35,30 @@ impl<N: Copy + Exact + Hash + Debug, S: Copy + Exact + Hash + Debug> SolverState
     {
         let clause = self.search.add_clause(&mut self.watching, literals, &[])?;
         self.kinds.push(kind)?;
+        Ok(clause)
+    }
+
+    /// Adds a clause that encodes a digit of a solvable's place.
+    pub fn add_digit(
+        &mut self,
+        name: N,
+        solvable: S,
+        place: u32,
+        bit: u32,
+        literals: &[Literal],
+    ) -> R<ClauseId>
+        requires coding { IsCoding self.old }
+        requires some { 0 < length literals.now }
+        requires in_range { AreInRange (count_of self.old.search) literals.now }
+        // After an answer.
+        ensures added_rule { IfOk result
+            (λ id. AddsRule (Digit name solvable place bit) literals.now id self.old self.new) }
+        // After a refusal.
+        ensures ids { IsErrOf result Ids → length self.old.search.clauses ≡ 4294967295 }
+        ensures full { IsErrOf result Ids → LacksNumber self.new }
+    {
+        let clause = self.search.add_clause(&mut self.watching, literals, &[])?;
+        self.kinds.push_digit(name, solvable, place, bit)?;
         Ok(clause)
     }
 

@@ -1,33 +1,38 @@
 //! The kind of each clause, by the clause's number. The model is the list of kinds, and the needs
-//! that some of them name.
-ghost use Rattle.std.specs.Prelude.{◌≡◌, ◌<◌, [], ◌∷◌, ◌++◌, Some, length, slice_get, IfOk, OnOk};
-ghost use Rattle.resolvo_state.specs.StoredKinds.{kind_in, plain_kind, IsPlain, IsWithin};
-ghost use Rattle.resolvo_state.specs.Kinds.{Needs};
+//! that some of them name. Digits of one place that follow each other share an entry.
+ghost use Rattle.std.specs.Prelude.{◌≡◌, ℕ, ◌<◌, [], ◌∷◌, ◌++◌, Some, true, length, slice_get, IfOk, IfSome, OnOk, OnErr};
+ghost use Rattle.resolvo_state.specs.StoredKinds.{bit_at, kind_at_number, kind_in, plain_kind, IsPlain, IsWithin};
+ghost use Rattle.resolvo_state.specs.Kinds.{Needs, Digit};
+ghost use Rattle.resolvo_state.specs.declared.clause_kind.ClauseKind.TheVariants.{ForbidMultipleInstances};
 
 use crate::clause_kind::{ClauseKind, Need};
+use resolvo_pool_core::id::Exact;
 use std::alloc::{AllocError, Global};
 use std::marker::Model;
 
 /// The kinds of clauses, in the order of the clauses' numbers.
 #[derive(Drop)]
 pub struct ClauseKinds<N, S> {
-    stored: Vec<ClauseKind<N, S>>,
+    /// Where the entry of each clause is.
+    places: Vec<u32>,
+    /// Kinds. The bit of a digit is counted from clause 0: a clause's own number is added to it.
+    entries: Vec<ClauseKind<N, S>>,
     needs: Vec<Need<S>>,
 }
 
 impl<N, S> Model for ClauseKinds<N, S> {
     ghost use Rattle.std.specs.Prelude.{length};
-    ghost use Rattle.resolvo_state.specs.StoredKinds.{KindList, kinds_in, AreWithin};
+    ghost use Rattle.resolvo_state.specs.StoredKinds.{KindList, kinds_in, AreStored};
 
     ghost Value = { KindList N S };
 
     ghost view = { λ k.
         record {
-          items = kinds_in k.needs.items k.stored.items;
+          items = kinds_in k.needs.items k.entries.items k.places.items;
           needs = k.needs.items;
         } };
 
-    ghost invariant = { λ k. AreWithin (length k.needs.items) k.stored.items };
+    ghost invariant = { λ k. AreStored (length k.needs.items) k.entries.items k.places.items };
 }
 
 impl<N: Copy, S: Copy> ClauseKinds<N, S> {
@@ -36,7 +41,8 @@ impl<N: Copy, S: Copy> ClauseKinds<N, S> {
         ensures items { result.items ≡ [] }
     {
         ClauseKinds {
-            stored: Vec::new(alloc),
+            places: Vec::new(alloc),
+            entries: Vec::new(alloc),
             needs: Vec::new(alloc),
         }
     }
@@ -45,7 +51,7 @@ impl<N: Copy, S: Copy> ClauseKinds<N, S> {
     pub fn len(&self) -> usize
         ensures { result ≡ length self.now.items }
     {
-        self.stored.len()
+        self.places.len()
     }
 
     /// Adds the kind of the next clause, which names no need.
@@ -53,7 +59,8 @@ impl<N: Copy, S: Copy> ClauseKinds<N, S> {
         requires { IsPlain kind }
         ensures items { OnOk result (self.new.items ≡ self.old.items ++ plain_kind kind ∷ []) }
     {
-        self.stored.push(kind)?;
+        let entry = entry_of(kind, self.places.len());
+        push_entry(&mut self.places, &mut self.entries, entry)?;
         Ok(())
     }
 
@@ -64,7 +71,8 @@ impl<N: Copy, S: Copy> ClauseKinds<N, S> {
     {
         let index = index_after(self.needs.len())?;
         self.needs.push(need)?;
-        self.stored.push(ClauseKind::RequiresIf { need: index })?;
+        let entry = ClauseKind::RequiresIf { need: index };
+        push_entry(&mut self.places, &mut self.entries, entry)?;
         Ok(())
     }
 
@@ -74,7 +82,8 @@ impl<N: Copy, S: Copy> ClauseKinds<N, S> {
         ensures kind { slice_get self.now.items number ≡ Some (kind_in self.now.needs result) }
         ensures within { IsWithin (length self.now.needs) result }
     {
-        self.stored[number]
+        let place = self.places[number] as usize;
+        kind_of(self.entries[place], number)
     }
 
     /// A need that a kind names, by its index.
@@ -86,7 +95,162 @@ impl<N: Copy, S: Copy> ClauseKinds<N, S> {
     }
 }
 
-/// The index after so many needs.
+impl<N: Copy + Exact, S: Copy + Exact> ClauseKinds<N, S> {
+    /// Adds the kind of the next clause, which encodes a digit. The last entry may serve.
+    pub fn push_digit(
+        &mut self,
+        name: N,
+        solvable: S,
+        place: u32,
+        bit: u32,
+    ) -> Result<(), AllocError>
+        ensures items { OnOk result (self.new.items
+            ≡ self.old.items ++ Digit name solvable place bit ∷ []) }
+    {
+        let bit = bit_back(bit, self.places.len());
+        if let Some(last) = last_digit(self.entries.as_slice(), name, solvable, place, bit) {
+            self.places.push(last)?;
+            return Ok(());
+        }
+        let entry = ClauseKind::ForbidMultipleInstances {
+            name,
+            solvable,
+            place,
+            bit,
+        };
+        push_entry(&mut self.places, &mut self.entries, entry)?;
+        Ok(())
+    }
+}
+
+/// Adds an entry, and its place for the next clause.
+fn push_entry<N: Copy, S: Copy>(
+    places: &mut Vec<u32>,
+    entries: &mut Vec<ClauseKind<N, S>>,
+    entry: ClauseKind<N, S>,
+) -> Result<(), AllocError>
+    ensures entries { OnOk result (entries.new.items ≡ entries.old.items ++ entry ∷ []) }
+    ensures places { OnOk result (places.new.items
+        ≡ places.old.items ++ length entries.old.items ∷ []) }
+    ensures err_entries { OnErr result (entries.new.items ≡ entries.old.items) }
+    ensures err_places { OnErr result (places.new.items ≡ places.old.items) }
+{
+    let place = index_after(entries.len())?;
+    places.push(place)?;
+    match entries.push(entry) {
+        Ok(()) => Ok(()),
+        Err(error) => {
+            places.pop();
+            Err(error.into())
+        }
+    }
+}
+
+/// The place of the last entry, where it is that of this digit.
+fn last_digit<N: Copy + Exact, S: Copy + Exact>(
+    entries: &[ClauseKind<N, S>],
+    name: N,
+    solvable: S,
+    place: u32,
+    bit: u32,
+) -> Option<u32>
+    ensures { IfSome result (λ last. slice_get entries.now last
+        ≡ Some (ForbidMultipleInstances name solvable place bit)) }
+{
+    let count = entries.len();
+    if count == 0 || count > 4_294_967_296 {
+        return None;
+    }
+    let last = count - 1;
+    if is_digit(entries[last], name, solvable, place, bit) {
+        Some(last as u32)
+    } else {
+        None
+    }
+}
+
+/// Whether an entry is that of this digit.
+fn is_digit<N: Copy + Exact, S: Copy + Exact>(
+    entry: ClauseKind<N, S>,
+    name: N,
+    solvable: S,
+    place: u32,
+    bit: u32,
+) -> bool
+    ensures { result ≡ true → entry ≡ ForbidMultipleInstances name solvable place bit }
+{
+    match entry {
+        ClauseKind::ForbidMultipleInstances {
+            name: of,
+            solvable: one,
+            place: at,
+            bit: from,
+        } => {
+            if from != bit || at != place {
+                return false;
+            }
+            are_same(one, solvable) && are_same(of, name)
+        }
+        _ => false,
+    }
+}
+
+/// Whether two values are one value.
+fn are_same<K: Copy + Exact>(one: K, other: K) -> bool
+    ensures { result ≡ true → one ≡ other }
+{
+    one == other
+}
+
+/// The entry of a kind, where it is that of the clause of this number.
+fn entry_of<N: Copy, S: Copy>(kind: ClauseKind<N, S>, number: usize) -> ClauseKind<N, S>
+    ensures kind { kind_at_number number result ≡ kind }
+    ensures within { (count : ℕ) → IsWithin count kind → IsWithin count result }
+{
+    match kind {
+        ClauseKind::ForbidMultipleInstances {
+            name,
+            solvable,
+            place,
+            bit,
+        } => ClauseKind::ForbidMultipleInstances {
+            name,
+            solvable,
+            place,
+            bit: bit_back(bit, number),
+        },
+        other => other,
+    }
+}
+
+/// The kind of the clause of this number, where this is its entry.
+fn kind_of<N: Copy, S: Copy>(entry: ClauseKind<N, S>, number: usize) -> ClauseKind<N, S>
+    ensures { result ≡ kind_at_number number entry }
+{
+    match entry {
+        ClauseKind::ForbidMultipleInstances {
+            name,
+            solvable,
+            place,
+            bit,
+        } => ClauseKind::ForbidMultipleInstances {
+            name,
+            solvable,
+            place,
+            bit: bit.wrapping_add((number % 4_294_967_296) as u32),
+        },
+        other => other,
+    }
+}
+
+/// A bit as it is counted from clause 0, where it is that of the clause of this number.
+fn bit_back(bit: u32, number: usize) -> u32
+    ensures { bit_at number result ≡ bit }
+{
+    bit.wrapping_sub((number % 4_294_967_296) as u32)
+}
+
+/// The index after so many.
 fn index_after(count: usize) -> Result<u32, AllocError>
     ensures { IfOk result (λ index. index ≡ count) }
 {

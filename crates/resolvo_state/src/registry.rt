@@ -19,7 +19,6 @@ ghost use Rattle.resolvo_state.specs.Keys.{AreOnce};
 ghost use Rattle.resolvo_state.specs.Registered.{same_variable, IsNothing, AreTied, IsInTracker, IsTracked, IsQueued, IsRegistered, member, IsMany, MarksMany, Registers, Places, PlacesName, IsTied, Tracks, GivesDigit, IsTie, first_of, place_from, AddsTie, AddsTies};
 
 use crate::atom::ProofAtom;
-use crate::clause_kind::ClauseKind;
 use crate::keys::include;
 use crate::members::Members;
 use crate::solver_state::SolverState;
@@ -318,12 +317,6 @@ fn add_tie<N: Copy + Exact + Hash + Debug, S: Copy + Exact + Hash + Debug>(
     let (Some(solvable), Some(bit)) = (coding.solvable(variable), coding.bit(digit)) else {
         unreachable!()
     };
-    let kind = ClauseKind::ForbidMultipleInstances {
-        name,
-        solvable,
-        place,
-        bit,
-    };
-    coding.add_clause(kind, &literals)?;
+    coding.add_digit(name, solvable, place, bit, &literals)?;
     Ok(())
 }

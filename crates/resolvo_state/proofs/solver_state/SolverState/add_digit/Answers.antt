@@ -1,0 +1,7 @@
+use Rattle.std.proofs.Common.{refl}
+use Rattle.resolvo_state.specs.Kinds.{Digit}
+use Rattle.resolvo_state.proofs.Clauses.{adds_rule_is}
+use Rattle.resolvo_state.proofs.solver_state.SolverState.add_digit.Goals as goal
+
+pub returns-clause-added_rule : goal.returns-clause-added_rule
+returns-clause-added_rule g c = adds_rule_is c.args.self.now _ (Digit c.args.name c.args.solvable c.args.place c.args.bit) _ c.in_ok-clause.clause c.requires.coding refl c.in_ok-clause.ensures.added refl refl c.in_ok-push_digit.ensures.items
