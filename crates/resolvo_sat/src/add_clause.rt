@@ -77,6 +77,7 @@ impl SatState {
 }
 
 /// Whether a clause has a literal other than this one of its literals.
+#[inline(always)]
 fn has_another(literals: &[Literal], first: Literal) -> bool
     requires { has literals.now first ≡ true }
     ensures { HasAnother literals.now first result }
@@ -94,6 +95,7 @@ fn has_another(literals: &[Literal], first: Literal) -> bool
 
 impl WatchLists {
     /// Lists a new clause: as pending, or as the unit clause of this literal.
+    #[inline(always)]
     fn begin(
         &mut self,
         unit: UnitClause,

@@ -110,6 +110,7 @@ impl SatState {
     }
 
     /// Adds a clause: a rule, or one that follows from its antecedents.
+    #[inline(always)]
     pub fn push_clause(&mut self, literals: &[Literal], causes: &[ClauseId]) -> R<ClauseId>
         requires state { IsState self.old }
         requires follows { 0 < length causes.now

@@ -60,6 +60,7 @@ impl ClauseArena {
     }
 
     /// Adds a clause under a new number.
+    #[inline(always)]
     pub fn push(&mut self, literals: &[Literal], causes: &[ClauseId]) -> R<ClauseId>
         ensures id { IfOk result (λ id. id.0 ≡ length self.old) }
         ensures put { OnOk result (self.new ≡ self.old ++ sat_clause literals.now causes.now ∷ []) }
@@ -100,6 +101,7 @@ impl ClauseArena {
 }
 
 /// Appends items. Most clauses have no causes and two literals, so these are the short ways.
+#[inline(always)]
 fn append<T: Copy>(items: &mut Vec<T>, more: &[T]) -> Result<(), AllocError>
     ensures items { items.new.items
         ≡ (if is_ok result then items.old.items ++ more.now else items.old.items) }
@@ -114,6 +116,7 @@ fn append<T: Copy>(items: &mut Vec<T>, more: &[T]) -> Result<(), AllocError>
 }
 
 /// Appends two items, or none.
+#[inline(always)]
 fn append_two<T: Copy>(items: &mut Vec<T>, first: T, second: T) -> Result<(), AllocError>
     ensures items { items.new.items
         ≡ (if is_ok result then items.old.items ++ first ∷ second ∷ [] else items.old.items) }
