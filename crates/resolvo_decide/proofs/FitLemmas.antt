@@ -285,15 +285,12 @@ module _ {N : Type 0} (lists : FixedLists N) (values : ℕ → Option Bool) (sco
   pick_beaten best (x ∷ qs) zero h same = ap (λ b. pick_after lists values score b qs) (same x refl)
   pick_beaten best (x ∷ qs) (suc i) h same = let more : suc i + 1 ≡ suc (i + 1) = omega arith in rw more (pick_beaten best qs i (omega arith) same)
 
-  pick_passed : (best : Option NextDecision) (qs : List NeedClause) (i : ℕ) → i < length qs → ((q : NeedClause) → slice_get qs i ≡ Some q → offer lists values score q ≡ None) → pick_after lists values score best (drop i qs) ≡ pick_after lists values score best (drop (i + 1) qs)
-  pick_passed best qs i h none = pick_beaten best qs i h (λ q at. ap (later best) (none q at) ∙ later_none best)
-
-  -- and after clauses that offer no decision
-  pub pick_behind : (best : Option NextDecision) (qs : List NeedClause) (n from to : ℕ) → to ≡ from + n → ((i : ℕ) → from ≤ i → i < to → (q : NeedClause) → slice_get qs i ≡ Some q → offer lists values score q ≡ None)
+  -- and after several of these
+  pub pick_behind : (best : Option NextDecision) (qs : List NeedClause) (n from to : ℕ) → to ≡ from + n → ((i : ℕ) → from ≤ i → i < to → (q : NeedClause) → slice_get qs i ≡ Some q → later best (offer lists values score q) ≡ best)
       → pick_after lists values score best (drop from qs) ≡ pick_after lists values score best (drop to qs)
   pick_behind best qs zero from to is none = (let same : to ≡ from = omega arith in ap (λ i. pick_after lists values score best (drop i qs)) (sym same))
   pick_behind best qs (suc n) from to is none = elim (cases_lt from (length qs)) [
-    | inl low ↦ pick_passed best qs from low (none from (omega arith) (omega arith)) ∙ pick_behind best qs n (from + 1) to (omega arith) (λ i above below. none i (omega arith) below)
+    | inl low ↦ pick_beaten best qs from low (none from (omega arith) (omega arith)) ∙ pick_behind best qs n (from + 1) to (omega arith) (λ i above below. none i (omega arith) below)
     | inr high ↦ ap (pick_after lists values score best) (drop_all from qs high ∙ sym (drop_all to qs (omega arith)))
   ]
 
@@ -335,7 +332,7 @@ module _ {N : Type 0} (lists : FixedLists N) (values : ℕ → Option Bool) (sco
 -- the pick continues after clauses that aren't open
 pub pick_closed : {N : Type 0} (lists : FixedLists N) (values : ℕ → Option Bool) (score : N → ℕ) (needs : UndecidedClauses) (queue : List NeedClause) → Fits (literals_in lists) needs queue → ((v : ℕ) → values v ≡ value_in needs.seen.items v) → (best : Option NextDecision) (from to : ℕ) → from ≤ to
     → ((i : ℕ) → from ≤ i → i < to → is_open_state (state_at needs.states i) ≡ false) → pick_after lists values score best (drop from queue) ≡ pick_after lists values score best (drop to queue)
-pick_closed lists values score needs queue f agree best from to order closed = pick_behind lists values score best queue (to - from) from to (omega arith) (λ i above below q at. sound_nothing lists values needs.seen.items agree q (state_at needs.states i) (f.each i q at) (closed i above below) score)
+pick_closed lists values score needs queue f agree best from to order closed = pick_behind lists values score best queue (to - from) from to (omega arith) (λ i above below q at. ap (later best) (sound_nothing lists values needs.seen.items agree q (state_at needs.states i) (f.each i q at) (closed i above below) score) ∙ later_none best)
 
 -- the fit depends on the states, not on their marks
 pub fits_same : (literals : Requirement → List Signed) (needs : UndecidedClauses) (queue : List NeedClause) (states : List ClauseState) → states ≡ needs.states → Fits literals needs queue → Fits literals (record needs { states = states }) queue

@@ -3,7 +3,7 @@ use Rattle.std.proofs.Common.{◌≡◌, ℕ, zero, suc, ◌+◌, ◌-◌, ◌*�
 use Rattle.std.specs.Prelude.{slice_set, slice_index_or, bit_and, bit_or}
 use Rattle.std.specs.Int.{bit_at, bit_not, trailing_zeros}
 use Rattle.std.proofs.lemmas.Bool.{cases_lt, cases_eq}
-use Rattle.std.proofs.lemmas.Nat.Bits.{bit_at-zero, bit_at-trailing_zeros, bit_at_above, bit_at_ones, bit_at_set_same, bit_at_set_other, bit_at_clear_other}
+use Rattle.std.proofs.lemmas.Nat.Bits.{bit_at-zero, bit_at_and, bit_at-trailing_zeros, bit_at_above, bit_at_ones, bit_at_set_same, bit_at_set_other, bit_at_clear_other}
 use Rattle.resolvo_decide.specs.declared.clause_states.ClauseState.{ClauseState}
 use Rattle.resolvo_decide.specs.States.{state_at, is_open_state, word_at, bit_of, AreMarked}
 use Rattle.resolvo_decide.proofs.Positions.{state_set, state_set_other}
@@ -135,6 +135,25 @@ in_word ms k lo hi i none small above below =
 pub in_words : (ms : List ℕ) (from to i : ℕ) → ((k : ℕ) → from ≤ k → k < to → word_at ms k ≡ 0) → from * 64 ≤ i → i < to * 64 → bit_of ms i ≡ 0
 unfolding bit_of
 in_words ms from to i none above below = ap (λ w. bit_at w (i % 64)) (none (i / 64) (omega arith) (omega arith)) ∙ bit_at-zero (i % 64)
+
+-- ---- bits that are set in two words
+
+and_none : (a b i : ℕ) → bit_at (bit_and a b) i ≡ 0 → (bit_at a i ≡ 0) ⊎ (bit_at b i ≡ 0)
+and_none a b i none =
+    let both = bit_at_and a b i in
+    elim (cases_eq (bit_at a i) 0) [ inl is ↦ inl is | inr some ↦ elim (cases_eq (bit_at b i) 0) [ inl is ↦ inr is | inr more ↦ absurd (omega (arith, both, none, some, more)) ] ]
+
+-- within one word
+pub in_both : (ms ws : List ℕ) (k lo hi i : ℕ) → ((j : ℕ) → lo ≤ j → j < hi → bit_at (bit_and (word_at ms k) (word_at ws k)) j ≡ 0) → hi ≤ 64 → k * 64 + lo ≤ i → i < k * 64 + hi → (bit_of ms i ≡ 0) ⊎ (bit_of ws i ≡ 0)
+unfolding bit_of
+in_both ms ws k lo hi i none small above below =
+    let at : i / 64 ≡ k = omega arith in
+    and_none (word_at ms (i / 64)) (word_at ws (i / 64)) (i % 64) (ap (λ b. bit_at (bit_and (word_at ms b) (word_at ws b)) (i % 64)) at ∙ none (i % 64) (omega arith) (omega arith))
+
+-- over words without such a bit
+pub in_both_words : (ms ws : List ℕ) (from to i : ℕ) → ((k : ℕ) → from ≤ k → k < to → bit_and (word_at ms k) (word_at ws k) ≡ 0) → from * 64 ≤ i → i < to * 64 → (bit_of ms i ≡ 0) ⊎ (bit_of ws i ≡ 0)
+unfolding bit_of
+in_both_words ms ws from to i none above below = and_none (word_at ms (i / 64)) (word_at ws (i / 64)) (i % 64) (ap (λ w. bit_at w (i % 64)) (none (i / 64) (omega arith) (omega arith)) ∙ bit_at-zero (i % 64))
 
 -- ---- the states of marked clauses
 

@@ -3,7 +3,7 @@
 //! and the positions before the first that may be open. Bounds
 //! show how long a prefix of the trail satisfies the clauses of a block. A backjump skips a block
 //! whose bound it keeps.
-ghost use Rattle.std.specs.Prelude.{◌≡◌, ℕ, ◌<◌, ◌≤◌, ◌/◌, ◌++◌, ◌∷◌, ◌⊎◌, [], List, Bool, map, max, length, false, true, slice_set, OnOk, OnErr, IsOkUnless};
+ghost use Rattle.std.specs.Prelude.{◌≡◌, ℕ, ◌<◌, ◌≤◌, ◌/◌, ◌++◌, ◌∷◌, ◌⊎◌, [], List, Bool, map, max, length, false, true, bit_and, slice_set, OnOk, OnErr, IsOkUnless};
 ghost use Rattle.resolvo_pool_core.specs.declared.want.Want.TheVariants.{Memory};
 ghost use Rattle.resolvo_decide.specs.declared.clause_states.ClauseState.TheVariants.{Open};
 ghost use Rattle.std.specs.Int.{bit_at};
@@ -130,6 +130,40 @@ impl ClauseStates {
             self.opening = position;
         }
         position
+    }
+
+    /// The first position from this one on whose clause is open and may be warm, or at least the
+    /// number of clauses.
+    pub(crate) fn next_warm(&mut self, from: usize, warm: &[u64]) -> usize
+        ensures behind { from ≤ result }
+        ensures passed { (i : ℕ)
+            → from ≤ i
+            → i < result
+            → (is_open_state (state_at self.old i) ≡ false) ⊎ (bit_of warm.now i ≡ 0) }
+        ensures same { self.new ≡ self.old }
+    {
+        let mut position = self.warm_from(from, warm);
+        while !self.state(position).is_open() {
+            clear_bit(&mut self.marks, position);
+            position = self.warm_from(position + 1, warm);
+        }
+        position
+    }
+
+    /// The first position from this one on that is marked and may be warm, or at least the number of
+    /// clauses.
+    fn warm_from(&self, from: usize, warm: &[u64]) -> usize
+        ensures behind { from ≤ result }
+        ensures passed { (i : ℕ)
+            → from ≤ i
+            → i < result
+            → (is_open_state (state_at self.now i) ≡ false) ⊎ (bit_of warm.now i ≡ 0) }
+    {
+        if from < self.len() {
+            first_warm(&self.marks, warm, from, self.len())
+        } else {
+            from
+        }
     }
 
     /// The same, over the marks alone.
@@ -327,6 +361,15 @@ fn clear_bit(marks: &mut [u64], position: usize)
     }
 }
 
+/// Unmarks the clause at a position, if it has a word.
+pub(crate) fn unmark(marks: &mut Vec<u64>, position: usize)
+    ensures { (i : ℕ)
+        → bit_of marks.new.items i ≡ 0
+        → (bit_of marks.old.items i ≡ 0) ⊎ (i ≡ position) }
+{
+    clear_bit(marks, position);
+}
+
 /// Marks that the clause at a position may be open, also where it is the next one.
 fn mark(marks: &mut Vec<u64>, position: usize) -> R<()>
     ensures marked { OnOk result (bit_of marks.new.items position ≡ 1) }
@@ -349,6 +392,17 @@ fn add_word(marks: &mut Vec<u64>, block: usize) -> R<()>
     Ok(())
 }
 
+/// Adds words until each of so many clauses has a bit.
+pub(crate) fn add_words(marks: &mut Vec<u64>, count: usize) -> R<()>
+    ensures kept { (i : ℕ) → bit_of marks.new.items i ≡ bit_of marks.old.items i }
+    ensures refusal { IsOkUnless result Memory }
+{
+    while marks.len() < count / BLOCK + 1 {
+        marks.push(u64::MAX)?;
+    }
+    Ok(())
+}
+
 /// The first marked position in a range, or its end.
 fn first_marked(marks: &[u64], from: usize, end: usize) -> usize
     requires { from ≤ end }
@@ -366,6 +420,53 @@ fn first_marked(marks: &[u64], from: usize, end: usize) -> usize
     let found = first_word(marks, block + 1, last);
     let start = found * BLOCK;
     start + first_bit(word_of(marks, found), 0).min(end - start)
+}
+
+/// The first position in a range that is marked and may be warm, or its end.
+fn first_warm(marks: &[u64], warm: &[u64], from: usize, end: usize) -> usize
+    requires { from ≤ end }
+    ensures behind { from ≤ result }
+    ensures within { result ≤ end }
+    ensures passed { (i : ℕ)
+        → from ≤ i
+        → i < result
+        → (bit_of marks.now i ≡ 0) ⊎ (bit_of warm.now i ≡ 0) }
+{
+    let block = from / BLOCK;
+    let first = block * BLOCK;
+    let place = first_bit(warm_word(marks, warm, block), from % BLOCK);
+    let last = end / BLOCK;
+    if place < BLOCK || last <= block {
+        return first + place.min(end - first);
+    }
+    let found = first_warm_word(marks, warm, block + 1, last);
+    let start = found * BLOCK;
+    start + first_bit(warm_word(marks, warm, found), 0).min(end - start)
+}
+
+/// The word of the clauses of a block that are marked and may be warm.
+fn warm_word(marks: &[u64], warm: &[u64], block: usize) -> u64
+    ensures { result ≡ bit_and (word_at marks.now block) (word_at warm.now block) }
+{
+    word_of(marks, block) & word_of(warm, block)
+}
+
+/// The first block from this one on with a clause that is marked and may be warm, or the last one.
+fn first_warm_word(marks: &[u64], warm: &[u64], from: usize, last: usize) -> usize
+    requires { from ≤ last }
+    ensures behind { from ≤ result }
+    ensures within { result ≤ last }
+    ensures passed { (k : ℕ)
+        → from ≤ k
+        → k < result
+        → bit_and (word_at marks.now k) (word_at warm.now k) ≡ 0 }
+{
+    for block in from..last {
+        if warm_word(marks, warm, block) != 0 {
+            return block;
+        }
+    }
+    last
 }
 
 /// The first block from this one on with a marked clause, or the last one.

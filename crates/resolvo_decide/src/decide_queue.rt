@@ -6,12 +6,13 @@ ghost use Rattle.resolvo_pool_core.specs.declared.want.Want.TheVariants.{Memory}
 ghost use Rattle.resolvo_store_core.specs.Pick.{first_broken};
 ghost use Rattle.resolvo_store_core.specs.Trail.{IsSeenOf};
 ghost use Rattle.resolvo_store_core.specs.Values.{value_at};
-ghost use Rattle.resolvo_decide.specs.Needs.{literals_in, LeavesUndecided, IsPick};
+ghost use Rattle.resolvo_decide.specs.Needs.{LeavesUndecided, IsPick};
 ghost use Rattle.resolvo_decide.specs.Queue.{needs_of, IsNew, IsSound, IsSynced, IsHotBound, KeepsSound};
 
+use crate::cold_clauses::ColdClauses;
 use crate::offer::is_falsified;
-use crate::undecided_clauses::UndecidedClauses;
-use resolvo_pool_core::id::ClauseId;
+use crate::undecided_clauses::{Ends, UndecidedClauses};
+use resolvo_pool_core::id::{ClauseId, Exact};
 use resolvo_pool_core::id_map::ScoreMap;
 use resolvo_pool_core::want::R;
 use resolvo_store_core::decision_map::DecisionMap;
@@ -22,26 +23,29 @@ use std::alloc::Global;
 
 /// The registered need clauses, with what is known of them.
 #[derive(Drop)]
-pub struct DecideQueue {
+pub struct DecideQueue<N> {
     /// The clauses, by position.
     registered: Vec<NeedClause>,
     /// What is known of them, under the trail that was seen.
     undecided: UndecidedClauses,
     /// The upper bound of the hot packages' scores. Only these have a score above 0.
     most: u64,
+    /// The hot packages, and the clauses without a candidate of theirs.
+    cold: ColdClauses<N>,
     /// Whether the pick may end by this bound.
     is_standard: bool,
 }
 
-impl DecideQueue {
+impl<N: Copy + Exact> DecideQueue<N> {
     /// An empty queue, which saw nothing of the trail. No package is hot.
-    pub fn new(alloc: Global) -> DecideQueue
+    pub fn new(alloc: Global) -> DecideQueue<N>
         ensures { IsNew result }
     {
         DecideQueue {
             registered: Vec::new(alloc),
             undecided: UndecidedClauses::new(alloc),
             most: 0,
+            cold: ColdClauses::new(alloc),
             is_standard: true,
         }
     }
@@ -65,6 +69,7 @@ impl DecideQueue {
         ensures sound { KeepsSound self.old self.new }
         ensures seen { self.new.undecided.seen ≡ self.old.undecided.seen }
         ensures most { self.new.most ≡ self.old.most }
+        ensures cold { self.new.cold ≡ self.old.cold }
     {
         self.registered.reserve(1)?;
         self.undecided.add(need.parent)?;
@@ -79,11 +84,21 @@ impl DecideQueue {
         self.most = self.most.max(score);
     }
 
-    /// Sets the upper bound of the hot packages' scores.
-    pub fn set_hot_bound(&mut self, most: u64)
-        ensures { self.new ≡ record self.old { most = most } }
+    /// Sets the packages with a score above 0, and the upper bound of the scores.
+    pub fn set_hot(&mut self, hot: &[N], most: u64) -> R<()>
+    where
+        N: Drop,
+        ensures hot { OnOk result (self.new.cold.hot.items ≡ hot.now) }
+        ensures most { self.new.most ≡ most }
+        // Whatever the answer.
+        ensures sound { KeepsSound self.old self.new }
+        ensures rest { self.new ≡ record self.old { most = self.new.most; cold = self.new.cold } }
+        // After a refusal.
+        ensures refusal { IsOkUnless result Memory }
     {
         self.most = most;
+        self.cold.set_hot(hot, self.registered.len())?;
+        Ok(())
     }
 
     /// Sets whether scores are bumped as usual. If not, no pick ends early by their bound. The
@@ -119,7 +134,7 @@ impl DecideQueue {
     /// The queue is up to date with the trail, and no score is above the bound of the hot ones. No
     /// clause offers a decision with fewer than `fewest` undecided candidates: 0 always holds, and 2
     /// after propagation.
-    pub fn next_decision<N: Copy + Eq, C: ScoreMap<N>>(
+    pub fn next_decision<C: ScoreMap<N>>(
         &mut self,
         lists: &FixedLists<N>,
         trail: &DecisionTracker,
@@ -128,7 +143,7 @@ impl DecideQueue {
     ) -> R<Option<NextDecision>>
     where
         N: Drop,
-        requires sound { IsSound (literals_in lists.now) self.old }
+        requires sound { IsSound lists.now self.old }
         requires synced { IsSynced self.old trail.now.trail }
         requires hot { IsHotBound (C.score_of scores.now) self.old }
         requires fewest { LeavesUndecided lists.now trail.now.trail (needs_of self.old) fewest }
@@ -138,16 +153,22 @@ impl DecideQueue {
         // After a refusal.
         ensures refusal { IsOkUnless result Memory }
         // Whatever the answer.
-        ensures sound { IsSound (literals_in lists.now) self.new }
+        ensures sound { IsSound lists.now self.new }
         ensures synced { IsSynced self.new trail.now.trail }
-        ensures rest { self.new ≡ record self.old { undecided = self.new.undecided } }
+        ensures rest { self.new ≡ record self.old {
+          undecided = self.new.undecided;
+          cold = self.new.cold;
+        } }
+        ensures known { self.new.cold.is_known ≡ self.old.cold.is_known }
+        ensures hot { self.new.cold.hot ≡ self.old.cold.hot }
     {
         let most = self.bound();
+        let ends = Ends { most, fewest };
         let needs = self.registered.as_slice();
         let values = trail.map();
         let next = self
             .undecided
-            .pick(needs, lists, values, scores, most, fewest);
+            .pick(needs, lists, values, scores, &mut self.cold, ends);
         self.undecided.note_count(needs, lists, values)?;
         Ok(next)
     }
@@ -161,11 +182,7 @@ impl DecideQueue {
     }
 
     /// The first clause whose literals are all false.
-    pub fn falsified<N: Copy>(
-        &self,
-        lists: &FixedLists<N>,
-        values: &DecisionMap,
-    ) -> Option<ClauseId>
+    pub fn falsified(&self, lists: &FixedLists<N>, values: &DecisionMap) -> Option<ClauseId>
     where
         N: Drop,
         ensures { result ≡ first_broken lists.now (value_at values.now) (needs_of self.now) }

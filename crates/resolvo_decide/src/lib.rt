@@ -7,6 +7,7 @@ pub mod candidate_count;
 pub mod candidate_counts;
 pub mod clause_states;
 pub mod clauses_by_parent;
+pub mod cold_clauses;
 pub mod decide_queue;
 mod lists_by_index;
 mod offer;

@@ -13,7 +13,8 @@ ghost use Rattle.resolvo_store_core.specs.Trail.{EachOnce, assigned, value_in};
 ghost use Rattle.resolvo_store_core.specs.Pick.{pick, offer, later};
 ghost use Rattle.resolvo_store_core.specs.declared.pick.NeedClause.{NeedClause};
 ghost use Rattle.resolvo_decide.specs.declared.clause_states.ClauseState.TheVariants.{Open};
-ghost use Rattle.resolvo_decide.specs.States.{state_at};
+ghost use Rattle.resolvo_decide.specs.States.{state_at, is_open_state};
+ghost use Rattle.resolvo_decide.specs.Cold.{IsKnownHot, HasColdBits, KeepsColdAt, CanSkip};
 ghost use Rattle.resolvo_decide.specs.CandidateCounts.{has_true_in, HasNoCount};
 ghost use Rattle.resolvo_decide.specs.Needs.{literals_in, IsClauseOf, IsMetNow, IsSoundState, Fits, KeepsFits, KeepsFitsAt, KeepsCounts, IsRightCountAt, OffersAtLeast, AddsNeed};
 
@@ -21,8 +22,9 @@ use crate::candidate_count::CandidateCount;
 use crate::candidate_counts::CandidateCounts;
 use crate::clause_states::{ClauseState, ClauseStates};
 use crate::clauses_by_parent::ClausesByParent;
+use crate::cold_clauses::ColdClauses;
 use crate::offer::{behind_passed, counted_offer, offered};
-use resolvo_pool_core::id::VariableId;
+use resolvo_pool_core::id::{Exact, VariableId};
 use resolvo_pool_core::id_map::ScoreMap;
 use resolvo_pool_core::want::R;
 use resolvo_store_core::decision::Entry;
@@ -30,6 +32,13 @@ use resolvo_store_core::decision_map::DecisionMap;
 use resolvo_store_core::lists::{Candidate, FixedLists};
 use resolvo_store_core::pick::{NeedClause, NextDecision, or_later};
 use std::alloc::Global;
+
+/// By what a pick may end: the highest score, and the fewest undecided candidates of an offer.
+#[derive(Clone, Copy)]
+pub(crate) struct Ends {
+    pub(crate) most: u64,
+    pub(crate) fewest: usize,
+}
 
 /// The states of the need clauses of a queue.
 #[derive(Drop)]
@@ -200,29 +209,33 @@ impl UndecidedClauses {
         }
     }
 
-    /// The pick under the seen trail, where no score is above `most`, and no clause offers a
-    /// decision with fewer than `fewest` undecided candidates.
-    pub(crate) fn pick<N: Copy + Eq, C: ScoreMap<N>>(
+    /// The pick under the seen trail, where no score is above that of `ends`, and no clause offers a
+    /// decision with fewer undecided candidates. Skips the cold clauses, once there is a decision.
+    pub(crate) fn pick<N: Copy + Exact, C: ScoreMap<N>>(
         &mut self,
         queue: &[NeedClause],
         lists: &FixedLists<N>,
         values: &DecisionMap,
         scores: &C,
-        most: u64,
-        fewest: usize,
+        cold: &mut ColdClauses<N>,
+        ends: Ends,
     ) -> Option<NextDecision>
     where
         N: Drop,
         requires fits { Fits (literals_in lists.now) self.old queue.now }
         requires values { (v : ℕ) → value_at values.now v ≡ value_in self.old.seen.items v }
-        requires bounded { (name : N) → C.score_of scores.now name ≤ most }
-        requires fewest { OffersAtLeast lists.now (value_at values.now) queue.now fewest }
+        requires bounded { (name : N) → C.score_of scores.now name ≤ ends.most }
+        requires fewest { OffersAtLeast lists.now (value_at values.now) queue.now ends.fewest }
+        requires hot { IsKnownHot (C.score_of scores.now) cold.old }
+        requires cold { HasColdBits lists.now cold.old queue.now }
         // After an answer.
         ensures picked { result
             ≡ pick lists.now (value_at values.now) (C.score_of scores.now) queue.now }
         // Whatever the answer.
         ensures fits { Fits (literals_in lists.now) self.new queue.now }
         ensures seen { self.new.seen ≡ self.old.seen }
+        ensures cold { HasColdBits lists.now cold.new queue.now }
+        ensures rest { cold.new ≡ record cold.old { warm = cold.new.warm } }
     {
         let mut best = None;
         let mut position = self.states.next_open(0);
@@ -230,13 +243,59 @@ impl UndecidedClauses {
             if self.may_beat(best, position, queue, lists, values, scores) {
                 let next = self.take_offer(position, &queue[position], lists, values, scores);
                 best = or_later(best, next);
-                if is_final(best, most, fewest) {
+                if is_final(best, ends.most, ends.fewest) {
                     return best;
                 }
+            } else {
+                self.note_cold(position, &queue[position], lists, scores, cold);
             }
-            position = self.states.next_open(position + 1);
+            position = self.next_after(best, position + 1, cold);
         }
         best
+    }
+
+    /// Notes that the clause at a position is cold, if it is open and all its candidates are of
+    /// packages with score 0.
+    fn note_cold<N: Copy + Exact, C: ScoreMap<N>>(
+        &self,
+        position: usize,
+        need: &NeedClause,
+        lists: &FixedLists<N>,
+        scores: &C,
+        cold: &mut ColdClauses<N>,
+    )
+    where
+        N: Drop,
+        requires { IsKnownHot (C.score_of scores.now) cold.old }
+        ensures kept { KeepsColdAt lists.now position need.now cold.old cold.new }
+        ensures rest { cold.new ≡ record cold.old { warm = cold.new.warm } }
+    {
+        if self.states.state(position).is_open() {
+            if let Some(candidates) = lists.candidates(need.requirement) {
+                cold.note(position, candidates, scores);
+            }
+        }
+    }
+
+    /// The next position whose clause may beat the decision so far.
+    fn next_after<N: Copy + Exact>(
+        &mut self,
+        best: Option<NextDecision>,
+        from: usize,
+        cold: &ColdClauses<N>,
+    ) -> usize
+        ensures behind { from ≤ result }
+        ensures passed { (i : ℕ)
+            → from ≤ i
+            → i < result
+            → (is_open_state (state_at self.old.states i) ≡ false) ⊎ CanSkip best cold.now i }
+        ensures same { self.new.states ≡ self.old.states }
+        ensures rest { self.new ≡ record self.old { states = self.new.states } }
+    {
+        match best {
+            Some(_) => self.states.next_warm(from, cold.warm()),
+            None => self.states.next_open(from),
+        }
     }
 
     /// The decision that the clause at this position offers. Stores that the clause is satisfied,

@@ -19,10 +19,9 @@ use Rattle.resolvo_store_core.specs.declared.lists.FixedLists.{FixedLists}
 use Rattle.resolvo_store_core.specs.Pick.{pick_by}
 use Rattle.resolvo_store_core.specs.declared.pick.NextDecision.{NextDecision}
 use Rattle.resolvo_store_core.specs.declared.decision.Entry.{Entry}
-use Rattle.resolvo_decide.specs.Needs.{literals_in, Fits}
 use Rattle.resolvo_decide.specs.Queue.{needs_of, IsSound}
 use Rattle.resolvo_decide.specs.declared.decide_queue.DecideQueue.{DecideQueue}
-use Rattle.resolvo_decide.proofs.FitLemmas.{fits_more, fits_none}
+use Rattle.resolvo_decide.proofs.SoundLemmas.{sound_more, sound_new}
 use Rattle.resolvo_store_core.specs.declared.pick.NeedClause.{NeedClause}
 use Rattle.resolvo_sat.specs.Entries.{made_true}
 use Rattle.resolvo_sat.specs.Known.{IsUndecided, clause_at}
@@ -68,7 +67,7 @@ clauses_grow old new b grows queue q a = literals_grow old.lists old.coding.sear
 -- where only clauses, variables and the queue change
 pub built_grows : {N S : Type 0} (old new : Encoder N S) → IsBuilt old → IsCoding new.coding → Grows old.coding new.coding → new.registry ≡ old.registry → new.lists ≡ old.lists → new.gates ≡ old.gates
     → new.parents ≡ old.parents → new.encoded ≡ old.encoded → KeepsDigits old.coding new.coding
-    → ((q : NeedClause) → Contains (needs_of new.queue) q → HasNeedLiterals old.lists new.coding.search.clauses q) → IsSound (literals_in old.lists) new.queue → IsSeenOf new.coding.search.tracker new.queue.undecided.seen.items → IsBuilt new
+    → ((q : NeedClause) → Contains (needs_of new.queue) q → HasNeedLiterals old.lists new.coding.search.clauses q) → IsSound old.lists new.queue → IsSeenOf new.coding.search.tracker new.queue.undecided.seen.items → IsBuilt new
 built_grows {N} {S} old new b coding grows registry lists gates parents encoded digits clauses sound seen = record {
   coding = coding;
   tied = subst (λ (t : Registry N). AreTied t new.coding) (sym registry) (ties_grow old.registry old.coding new.coding grows digits b.tied);
@@ -76,14 +75,14 @@ built_grows {N} {S} old new b coding grows registry lists gates parents encoded 
   gates = λ r v at. represents_grow old.coding new.coding v (Gate r) grows (b.gates r v (sym (ap (λ gs. slot_of gs r) gates) ∙ at));
   within = subst (λ n. n ≤ length new.parents.keys) (sym encoded) (subst (λ ps. old.encoded ≤ length ps.keys) (sym parents) b.within);
   clauses = λ q a. subst (λ (ls : FixedLists N). HasNeedLiterals ls new.coding.search.clauses q) (sym lists) (clauses q a);
-  queue = subst (λ ls. IsSound (literals_in ls) new.queue) (sym lists) sound;
+  queue = subst (λ ls. IsSound ls new.queue) (sym lists) sound;
   seen = seen;
 }
 
 pub built_rest : {N S : Type 0} (old new : Encoder N S) → IsBuilt old → IsCoding new.coding → Grows old.coding new.coding → KeepsDigits old.coding new.coding → SameButCoding old new → new.queue ≡ old.queue → KeepsSeen old.coding.search.tracker new.coding.search.tracker → IsBuilt new
-built_rest old new b coding grows digits rest queue on = built_grows old new b coding grows rest.registry rest.lists rest.gates rest.parents rest.encoded digits (clauses_grow old new b grows rest.queue)
-    (subst (λ (q : DecideQueue). IsSound (literals_in old.lists) q) (sym queue) b.queue)
-    (subst (λ (q : DecideQueue). IsSeenOf new.coding.search.tracker q.undecided.seen.items) (sym queue) (on old.queue.undecided.seen.items b.seen))
+built_rest {N} old new b coding grows digits rest queue on = built_grows old new b coding grows rest.registry rest.lists rest.gates rest.parents rest.encoded digits (clauses_grow old new b grows rest.queue)
+    (subst (λ (q : DecideQueue N). IsSound old.lists q) (sym queue) b.queue)
+    (subst (λ (q : DecideQueue N). IsSeenOf new.coding.search.tracker q.undecided.seen.items) (sym queue) (on old.queue.undecided.seen.items b.seen))
 
 -- the clause of the new need is the last one
 clauses_end : {N S : Type 0} (x : Kind N S) (v : VariableId) (condition : Option (DenseId DisjunctionTag ℕ)) (r : Requirement) (old new : Encoder N S) → IsBuilt old → EncodesNeed x v condition r old new → (q : NeedClause) → Contains (needs_of new.queue) q → HasNeedLiterals old.lists new.coding.search.clauses q
@@ -108,7 +107,7 @@ clauses_end {N} {S} x v condition r old new b s q a = elim (contains_parts q (ne
 
 pub built_encodes : {N S : Type 0} (x : Kind N S) (v : VariableId) (condition : Option (DenseId DisjunctionTag ℕ)) (r : Requirement) (old new : Encoder N S) → IsBuilt old → ((name : N) (s : S) (place bit : ℕ) → x ≡ Digit name s place bit → ⊥) → EncodesNeed x v condition r old new → IsBuilt new
 built_encodes x v condition r old new b other s = built_grows old new b s.states.coding s.states.grows s.registry s.lists s.gates s.parents s.encoded (digits_more x old.coding new.coding s.states.kinds other) (clauses_end x v condition r old new b s)
-    (s.sound (literals_in old.lists) b.queue) (seen_same old new b s.states.trail s.seen)
+    (s.sound old.lists b.queue) (seen_same old new b s.states.trail s.seen)
 
 -- where a variable was added, or nothing
 pub built_gives : {N S : Type 0} (atom : ProofAtom N S) (v : VariableId) (old : Encoder N S) (c : SolverState N S) → IsBuilt old → Gives atom v old.coding c → IsBuilt (record old { coding = c })
@@ -125,7 +124,7 @@ built_disjunction number given old ls b f = record {
   gates = b.gates;
   within = b.within;
   clauses = λ q a. literals_widen old.lists ls old.coding.search.clauses q (condition_widens old.lists ls (given ∷ [], f.put) q.condition) (λ l h. subst (λ cs. has (candidate_literals (items_or_none (slot_of cs q.requirement))) l ≡ true) (sym f.candidates) h) (b.clauses q a);
-  queue = fits_more (literals_in old.lists) (literals_in ls) old.queue.undecided (needs_of old.queue) (λ r some. ap (λ cs. candidate_literals (items_or_none (slot_of cs r))) f.candidates) b.queue;
+  queue = sound_more old.lists ls old.queue (λ r some. ap (λ cs. items_or_none (slot_of cs r)) f.candidates) b.queue;
   seen = b.seen;
 }
 
@@ -179,24 +178,24 @@ built_begun {N} {S} e begun = record {
   gates = λ r v at. (let none : None ≡ Some v = sym (begun.gates r) ∙ at in absurd cc);
   within = (let none : e.encoded ≡ 0 = begun.encoded in omega arith);
   clauses = λ q a. absurd (contains_none q (subst (λ (qs : List NeedClause). Contains qs q) begun.queue.registered a));
-  queue = subst (λ qs. Fits (literals_in e.lists) e.queue.undecided qs) (sym begun.queue.registered) (fits_none (literals_in e.lists) e.queue.undecided begun.queue.states begun.queue.counts);
+  queue = sound_new e.lists e.queue begun.queue;
   seen = subst (λ es. IsSeenOf e.coding.search.tracker es) (sym begun.queue.seen) (seen_prefix e.coding.search.tracker [] (e.coding.search.tracker.trail, refl));
 }
 
 -- where the queue was brought up to date with the trail, whose least length was taken
-abbrev pub synced : {N S : Type 0} → Encoder N S → DecideQueue → ℕ → Encoder N S
+abbrev pub synced : {N S : Type 0} → Encoder N S → DecideQueue N → ℕ → Encoder N S
 synced e q floor = record e { queue = q; coding = record e.coding { search = record e.coding.search { tracker = record e.coding.search.tracker { floor = floor } } } }
 
-pub synced_grows : {N S : Type 0} (e : Encoder N S) (q : DecideQueue) (floor : ℕ) → Grows e.coding (synced e q floor).coding
+pub synced_grows : {N S : Type 0} (e : Encoder N S) (q : DecideQueue N) (floor : ℕ) → Grows e.coding (synced e q floor).coding
 synced_grows e q floor = let same = grows_same e.coding in record { atoms = same.atoms; clauses = same.clauses; kinds = same.kinds; base_level = refl }
 
-pub built_synced : {N S : Type 0} (e : Encoder N S) (q : DecideQueue) (floor : ℕ) → IsBuilt e → needs_of q ≡ needs_of e.queue → IsSound (literals_in e.lists) q → IsSeenOf (synced e q floor).coding.search.tracker q.undecided.seen.items → IsBuilt (synced e q floor)
+pub built_synced : {N S : Type 0} (e : Encoder N S) (q : DecideQueue N) (floor : ℕ) → IsBuilt e → needs_of q ≡ needs_of e.queue → IsSound e.lists q → IsSeenOf (synced e q floor).coding.search.tracker q.undecided.seen.items → IsBuilt (synced e q floor)
 built_synced e q floor b needs sound seen =
     let new = synced e q floor in
     built_grows e new b (floored_kept e.coding floor b.coding).coding (synced_grows e q floor) refl refl refl refl refl (digits_same e.coding new.coding refl) (clauses_grow e new b (synced_grows e q floor) needs) sound seen
 
 -- where the queue alone changed, but for its clauses
-pub built_queue : {N S : Type 0} (e : Encoder N S) (q : DecideQueue) → IsBuilt e → needs_of q ≡ needs_of e.queue → IsSound (literals_in e.lists) q → IsSeenOf e.coding.search.tracker q.undecided.seen.items → IsBuilt (record e { queue = q })
+pub built_queue : {N S : Type 0} (e : Encoder N S) (q : DecideQueue N) → IsBuilt e → needs_of q ≡ needs_of e.queue → IsSound e.lists q → IsSeenOf e.coding.search.tracker q.undecided.seen.items → IsBuilt (record e { queue = q })
 built_queue {N} {S} e q b needs sound seen =
     let new : Encoder N S = record e { queue = q } in
     built_grows e new b b.coding (grows_same e.coding) refl refl refl refl refl (digits_same e.coding e.coding refl) (clauses_grow e new b (grows_same e.coding) needs) sound seen

@@ -13,10 +13,9 @@ use Rattle.resolvo_store_core.specs.declared.lists.Candidate.{Candidate}
 use Rattle.resolvo_store_core.specs.declared.lists.Disjunction.{Disjunction}
 use Rattle.resolvo_store_core.specs.declared.lists.FixedLists.{FixedLists}
 use Rattle.resolvo_decide.specs.Needs.{literals_in}
-use Rattle.resolvo_decide.proofs.FitLemmas.{fits_more}
+use Rattle.resolvo_decide.proofs.SoundLemmas.{sound_more}
 use Rattle.resolvo_store_core.specs.Signed.{Signed, has}
 use Rattle.resolvo_store_core.specs.Clauses.{candidate_literals}
-use Rattle.resolvo_decide.specs.Queue.{needs_of}
 use Rattle.resolvo_sat.specs.RuleClauses.{IsExact, Rule}
 use Rattle.resolvo_packages.specs.declared.package_source.Offered.{Offered}
 use Rattle.resolvo_packages.specs.PackageSource.{offered_solvables, AreOffered}
@@ -292,7 +291,7 @@ module _ {N S : Type 0} (same : S → S → Bool) where
       within = enrols.built.within;
       clauses = λ q a. literals_widen middle.lists new.lists middle.coding.search.clauses q (condition_widens middle.lists new.lists (prefix_equal middle.lists.disjunctions new.lists.disjunctions fixes.disjunctions) q.condition)
           (λ l. still_has (λ literals. has literals l) refl middle given fixes (ap (λ ls. has_candidates ls r) enrols.lists ∙ fresh) q.requirement) (enrols.built.clauses q a);
-      queue = fits_more (literals_in middle.lists) (literals_in new.lists) middle.queue.undecided (needs_of middle.queue) (still_same middle given fixes (ap (λ ls. has_candidates ls r) enrols.lists ∙ fresh)) enrols.built.queue;
+      queue = sound_more middle.lists new.lists middle.queue (still_same middle given fixes (ap (λ ls. has_candidates ls r) enrols.lists ∙ fresh)) enrols.built.queue;
       seen = enrols.built.seen;
     })
   ]
@@ -305,10 +304,10 @@ module _ {N S : Type 0} (same : S → S → Bool) where
       ]
 
       -- what has candidates keeps them
-      still_same : (middle : Encoder N S) (given : Vec (Candidate N) Global) → FixesCandidates r given middle.lists new.lists → has_candidates middle.lists r ≡ false → (q : Requirement) → 0 < length (literals_in middle.lists q) → literals_in new.lists q ≡ literals_in middle.lists q
+      still_same : (middle : Encoder N S) (given : Vec (Candidate N) Global) → FixesCandidates r given middle.lists new.lists → has_candidates middle.lists r ≡ false → (q : Requirement) → 0 < length (candidates_in middle.lists q) → candidates_in new.lists q ≡ candidates_in middle.lists q
       still_same middle given fixes fresh q some = elim (fix_other r q given middle.lists new.lists fixes) [
-        | inl is ↦ (let none : length (literals_in middle.lists q) ≡ 0 = ap (λ x. length (candidate_literals (items_or_none x))) (ap (slot_of middle.lists.candidates) is ∙ no_slot (slot_of middle.lists.candidates r) fresh) in absurd (omega (arith, some, none)))
-        | inr is ↦ ap (λ x. candidate_literals (items_or_none x)) is
+        | inl is ↦ (let none : length (candidates_in middle.lists q) ≡ 0 = ap (λ x. length (items_or_none x)) (ap (slot_of middle.lists.candidates) is ∙ no_slot (slot_of middle.lists.candidates r) fresh) in absurd (omega (arith, some, none)))
+        | inr is ↦ ap items_or_none is
       ]
 
       candidates_new : (middle : Encoder N S) (given : Vec (Candidate N) Global) → IsBuilt middle → FixesCandidates r given middle.lists new.lists → ((c : Candidate N) → Contains given.items c → (o : Offered N S) × Contains offered o × IsOfferedAs middle.registry middle.coding o c)

@@ -288,7 +288,7 @@ module _ {N S : Type 0} (old : Encoder N S) (c : SolverState N S) where
 
 -- ---- the queue is brought up to date with the trail
 
-module _ {N S : Type 0} (e : Encoder N S) (q : DecideQueue) (floor : ℕ) (needs : needs_of q ≡ needs_of e.queue) where
+module _ {N S : Type 0} (e : Encoder N S) (q : DecideQueue N) (floor : ℕ) (needs : needs_of q ≡ needs_of e.queue) where
   sync_goes : IsCoding e.coding → GoesOn e (synced e q floor)
   sync_goes coding = record {
     rest = record { registry = refl; lists = refl; queue = needs; gates = refl; recorded = refl; parents = refl; encoded = refl; deferred = refl; fired = refl };

@@ -21,7 +21,6 @@ use Rattle.resolvo_pool_core.specs.RuleKeeping.{Packages, Rules, IsLawful, is_in
 use Rattle.resolvo_pool_core.specs.declared.id.VersionSetId.{VersionSetId}
 use Rattle.resolvo_pool_core.specs.declared.requirement.ConditionalRequirement.{ConditionalRequirement}
 use Rattle.resolvo_store_core.specs.Trail.{IsSeenOf}
-use Rattle.resolvo_decide.specs.Needs.{literals_in}
 use Rattle.resolvo_decide.specs.Queue.{needs_of, IsNew, IsSound, KeepsSound}
 use Rattle.resolvo_sat.specs.RuleClauses.{Rule, cases_for, AreMatched, IsRule}
 use Rattle.resolvo_sat.specs.Known.{clause_at}
@@ -59,7 +58,7 @@ pub record IsBuilt {N S : Type 0} (e : Encoder N S) : Type 0 where
   pub gates : (r : Requirement) (v : VariableId) → slot_of e.gates r ≡ Some v → Represents e.coding.atoms.keys v (Gate r)
   pub within : e.encoded ≤ length e.parents.keys
   pub clauses : (q : NeedClause) → Contains (needs_of e.queue) q → HasNeedLiterals e.lists e.coding.search.clauses q
-  pub queue : IsSound (literals_in e.lists) e.queue
+  pub queue : IsSound e.lists e.queue
   pub seen : IsSeenOf e.coding.search.tracker e.queue.undecided.seen.items
 
 -- No number is left for a variable, clause or disjunction that a call adds for a requirement. Or

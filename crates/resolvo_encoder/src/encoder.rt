@@ -96,7 +96,7 @@ pub struct Encoder<N: Copy + Exact + Hash, S: Copy + Exact + Hash> {
     pub coding: SolverState<N, S>,
     pub registry: Registry<N>,
     pub lists: FixedLists<N>,
-    pub queue: DecideQueue,
+    pub queue: DecideQueue<N>,
     /// The gate of each requirement that has one.
     pub gates: RequirementMap<VariableId>,
     /// The packages, version sets and solvables that are encoded once.

@@ -71,7 +71,7 @@ impl<N: Copy + Exact + Hash + Debug + Drop, S: Copy + Exact + Hash + Debug> Enco
         ensures refusal { IsOkUnless result Memory }
     {
         self.queue.sync(&mut self.coding.search.tracker)?;
-        self.queue.set_hot_bound(scores.most());
+        self.queue.set_hot(scores.hot(), scores.most())?;
         Ok(())
     }
 

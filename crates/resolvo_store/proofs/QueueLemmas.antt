@@ -13,8 +13,7 @@ use Rattle.resolvo_pool_core.specs.declared.requirement.Requirement.TheVariants.
 use Rattle.resolvo_pool_core.specs.Slots.{at}
 use Rattle.resolvo_pool_core.specs.ByRequirement.{slot_of, PutsAt}
 use Rattle.resolvo_store_core.specs.AddPairs.{with_entry}
-use Rattle.resolvo_store_core.specs.Clauses.{candidate_literals}
-use Rattle.resolvo_store_core.specs.Lists.{items_or_none, has_candidates, FixesCandidates, FixesDisjunction, FixesLearnt}
+use Rattle.resolvo_store_core.specs.Lists.{items_or_none, candidates_in, has_candidates, FixesCandidates, FixesDisjunction, FixesLearnt}
 use Rattle.resolvo_store_core.specs.Trail.{Tracked, IsSeenOf, KeepsSeen}
 use Rattle.resolvo_store_core.specs.declared.decision.Entry.{Entry}
 use Rattle.resolvo_store_core.specs.declared.decision_tracker.Set.{Set}
@@ -24,26 +23,27 @@ use Rattle.resolvo_store_core.specs.declared.lists.Candidate.{Candidate}
 use Rattle.resolvo_store_core.specs.declared.lists.Disjunction.{Disjunction}
 use Rattle.resolvo_store_core.specs.declared.lists.FixedLists.{FixedLists}
 use Rattle.resolvo_store_core.proofs.Trails.{seen_prefix, seen_pushed}
-use Rattle.resolvo_decide.specs.Needs.{literals_in, Fits}
-use Rattle.resolvo_decide.specs.Queue.{needs_of, IsNew, IsSound, IsSynced, KeepsSound}
+use Rattle.resolvo_decide.specs.Queue.{IsNew, IsSound, IsSynced, KeepsSound}
 use Rattle.resolvo_decide.specs.declared.decide_queue.DecideQueue.{DecideQueue}
-use Rattle.resolvo_decide.proofs.FitLemmas.{fits_more, fits_none}
+use Rattle.resolvo_decide.specs.declared.cold_clauses.ColdClauses.{ColdClauses}
+use Rattle.resolvo_decide.proofs.SoundLemmas.{sound_more, sound_new}
 use Rattle.resolvo_store.specs.Stored.{Kept, plain, IsQueueOf}
 use Rattle.resolvo_store.specs.Calls.{can_fix, can_decay}
 
 -- a new queue
-pub queue_new : {N : Type 0} (lists : FixedLists N) (t : Tracked) (score : N → ℕ) (q : DecideQueue) → IsNew q → ((n : N) → score n ≡ 0) → IsQueueOf lists t score q
+pub queue_new : {N : Type 0} (lists : FixedLists N) (t : Tracked) (score : N → ℕ) (q : DecideQueue N) → IsNew q → ((n : N) → score n ≡ 0) → IsQueueOf lists t score q
 queue_new lists t score q new none = record {
-  sound = subst (λ qs. Fits (literals_in lists) q.undecided qs) (sym new.registered) (fits_none (literals_in lists) q.undecided new.states new.counts);
+  sound = sound_new lists q new;
   seen = subst (λ es. IsSeenOf t es) (sym new.seen) (seen_prefix t [] (t.trail, refl));
   hot = λ n. (let zero : score n ≡ 0 = none n in omega arith);
+  unknown = new.known;
 }
 
 -- ---- lists
 
 -- where the candidates are the same
-pub sound_same : {N : Type 0} (old new : FixedLists N) (q : DecideQueue) → new.candidates ≡ old.candidates → IsSound (literals_in old) q → IsSound (literals_in new) q
-sound_same old new q same = fits_more (literals_in old) (literals_in new) q.undecided (needs_of q) (λ r some. ap (λ cs. candidate_literals (items_or_none (slot_of cs r))) same)
+pub sound_same : {N : Type 0} (old new : FixedLists N) (q : DecideQueue N) → new.candidates ≡ old.candidates → IsSound old q → IsSound new q
+sound_same old new q same = sound_more old new q (λ r some. ap (λ cs. items_or_none (slot_of cs r)) same)
 
 -- another requirement keeps its candidates
 put_other : {V : Type 0} (m n : List (Option V) × List (Option V)) (r q : Requirement) (x : V) → PutsAt m n r x → (q ≡ r) ⊎ (slot_of n q ≡ slot_of m q)
@@ -63,27 +63,27 @@ no_slot None h = refl
 no_slot (Some x) h = absurd (both_ways true h refl)
 
 -- where a requirement without candidates got some
-pub sound_fixed : {N : Type 0} (r : Requirement) (given : Vec (Candidate N) Global) (old new : FixedLists N) (q : DecideQueue) → has_candidates old r ≡ false → FixesCandidates r given old new → IsSound (literals_in old) q → IsSound (literals_in new) q
-sound_fixed {N} r given old new q fresh fixes = fits_more (literals_in old) (literals_in new) q.undecided (needs_of q) same
+pub sound_fixed : {N : Type 0} (r : Requirement) (given : Vec (Candidate N) Global) (old new : FixedLists N) (q : DecideQueue N) → has_candidates old r ≡ false → FixesCandidates r given old new → IsSound old q → IsSound new q
+sound_fixed {N} r given old new q fresh fixes = sound_more old new q same
   where
-    same : (p : Requirement) → 0 < length (literals_in old p) → literals_in new p ≡ literals_in old p
+    same : (p : Requirement) → 0 < length (candidates_in old p) → candidates_in new p ≡ candidates_in old p
     same p some = elim (put_other old.candidates new.candidates r p given fixes.put) [
-      | inl is ↦ (let none : length (literals_in old p) ≡ 0 = ap (λ x. length (candidate_literals (items_or_none x))) (ap (slot_of old.candidates) is ∙ no_slot (slot_of old.candidates r) fresh) in absurd (omega (arith, some, none)))
-      | inr is ↦ ap (λ x. candidate_literals (items_or_none x)) is
+      | inl is ↦ (let none : length (candidates_in old p) ≡ 0 = ap (λ x. length (items_or_none x)) (ap (slot_of old.candidates) is ∙ no_slot (slot_of old.candidates r) fresh) in absurd (omega (arith, some, none)))
+      | inr is ↦ ap items_or_none is
     ]
 
 -- so it is where the lists were changed, or the change was refused
-pub sound_tried : {N E : Type 0} (res : Result Unit E) (r : Requirement) (given : Vec (Candidate N) Global) (old new : FixedLists N) (q : DecideQueue) → has_candidates old r ≡ false → OnOk res (FixesCandidates r given old new) → OnErr res (new ≡ old) → IsSound (literals_in old) q → IsSound (literals_in new) q
+pub sound_tried : {N E : Type 0} (res : Result Unit E) (r : Requirement) (given : Vec (Candidate N) Global) (old new : FixedLists N) (q : DecideQueue N) → has_candidates old r ≡ false → OnOk res (FixesCandidates r given old new) → OnErr res (new ≡ old) → IsSound old q → IsSound new q
 sound_tried (Ok u) r given old new q fresh ok err h = sound_fixed r given old new q fresh ok h
-sound_tried {N} (Err w) r given old new q fresh ok err h = subst (λ (ls : FixedLists N). IsSound (literals_in ls) q) (sym err) h
+sound_tried {N} (Err w) r given old new q fresh ok err h = subst (λ (ls : FixedLists N). IsSound ls q) (sym err) h
 
-pub sound_disjunction : {N E : Type 0} (res : Result (DenseId DisjunctionTag ℕ) E) (given : Disjunction) (old new : FixedLists N) (q : DecideQueue) → IfOk res (λ id. FixesDisjunction id.raw given old new) → OnErr res (new ≡ old) → IsSound (literals_in old) q → IsSound (literals_in new) q
+pub sound_disjunction : {N E : Type 0} (res : Result (DenseId DisjunctionTag ℕ) E) (given : Disjunction) (old new : FixedLists N) (q : DecideQueue N) → IfOk res (λ id. FixesDisjunction id.raw given old new) → OnErr res (new ≡ old) → IsSound old q → IsSound new q
 sound_disjunction (Ok id) given old new q ok err h = sound_same old new q ok.candidates h
-sound_disjunction {N} (Err w) given old new q ok err h = subst (λ (ls : FixedLists N). IsSound (literals_in ls) q) (sym err) h
+sound_disjunction {N} (Err w) given old new q ok err h = subst (λ (ls : FixedLists N). IsSound ls q) (sym err) h
 
-pub sound_learnt : {N E : Type 0} (res : Result (DenseId LearntClauseTag ℕ) E) (given : Vec Signed Global) (old new : FixedLists N) (q : DecideQueue) → IfOk res (λ id. FixesLearnt id.raw given old new) → OnErr res (new ≡ old) → IsSound (literals_in old) q → IsSound (literals_in new) q
+pub sound_learnt : {N E : Type 0} (res : Result (DenseId LearntClauseTag ℕ) E) (given : Vec Signed Global) (old new : FixedLists N) (q : DecideQueue N) → IfOk res (λ id. FixesLearnt id.raw given old new) → OnErr res (new ≡ old) → IsSound old q → IsSound new q
 sound_learnt (Ok id) given old new q ok err h = sound_same old new q ok.candidates h
-sound_learnt {N} (Err w) given old new q ok err h = subst (λ (ls : FixedLists N). IsSound (literals_in ls) q) (sym err) h
+sound_learnt {N} (Err w) given old new q ok err h = subst (λ (ls : FixedLists N). IsSound ls q) (sym err) h
 
 -- a requirement that may get candidates has none
 pub can_fix_fresh : {N S : Type 0} (score : S → N → ℕ) (k : Kept N S) (r : Requirement) (groups : List (N × Vec VariableId Global)) → can_fix (plain score k) r groups ≡ true → has_candidates k.lists r ≡ false
@@ -140,33 +140,36 @@ not_above p h = go (nat_lt 1000000 p) refl h
 -- ---- the queue itself
 
 -- a clause was registered, or refused
-pub queue_registered : {N : Type 0} (lists : FixedLists N) (t : Tracked) (score : N → ℕ) (old new : DecideQueue) → KeepsSound old new → new.undecided.seen ≡ old.undecided.seen → new.most ≡ old.most → IsQueueOf lists t score old → IsQueueOf lists t score new
-queue_registered lists t score old new sound seen most h = record {
-  sound = sound (literals_in lists) h.sound;
+pub queue_registered : {N : Type 0} (lists : FixedLists N) (t : Tracked) (score : N → ℕ) (old new : DecideQueue N) → KeepsSound old new → new.undecided.seen ≡ old.undecided.seen → new.most ≡ old.most → new.cold ≡ old.cold → IsQueueOf lists t score old → IsQueueOf lists t score new
+queue_registered {N} lists t score old new sound seen most cold h = record {
+  sound = sound lists h.sound;
   seen = subst (λ (es : Vec Entry Global). IsSeenOf t es.items) (sym seen) h.seen;
   hot = λ n. subst (λ (m : ℕ). score n ≤ m) (sym most) (h.hot n);
+  unknown = ap (λ (c : ColdClauses N). c.is_known) cold ∙ h.unknown;
 }
 
 -- the trail was seen, or a part of it
-pub queue_synced : {N : Type 0} (lists : FixedLists N) (before after : Tracked) (score : N → ℕ) (old new : DecideQueue) → KeepsSound old new → IsSeenOf after new.undecided.seen.items → new ≡ record old { undecided = new.undecided } → IsQueueOf lists before score old → IsQueueOf lists after score new
-queue_synced lists before after score old new sound seen rest h = record {
-  sound = sound (literals_in lists) h.sound;
+pub queue_synced : {N : Type 0} (lists : FixedLists N) (before after : Tracked) (score : N → ℕ) (old new : DecideQueue N) → KeepsSound old new → IsSeenOf after new.undecided.seen.items → new ≡ record old { undecided = new.undecided } → IsQueueOf lists before score old → IsQueueOf lists after score new
+queue_synced {N} lists before after score old new sound seen rest h = record {
+  sound = sound lists h.sound;
   seen = seen;
-  hot = λ n. subst (λ (q : DecideQueue). score n ≤ q.most) (sym rest) (h.hot n);
+  hot = λ n. subst (λ (q : DecideQueue N). score n ≤ q.most) (sym rest) (h.hot n);
+  unknown = ap (λ (q : DecideQueue N). q.cold.is_known) rest ∙ h.unknown;
 }
 
 -- a decision was picked, or refused
-pub queue_picked : {N : Type 0} (lists : FixedLists N) (t : Tracked) (score : N → ℕ) (old new : DecideQueue) → IsSound (literals_in lists) new → IsSynced new t.trail → new ≡ record old { undecided = new.undecided } → IsQueueOf lists t score old → IsQueueOf lists t score new
-queue_picked lists t score old new sound synced rest h = record {
+pub queue_picked : {N : Type 0} (lists : FixedLists N) (t : Tracked) (score : N → ℕ) (old new : DecideQueue N) → IsSound lists new → IsSynced new t.trail → new ≡ record old { undecided = new.undecided; cold = new.cold } → new.cold.is_known ≡ old.cold.is_known → IsQueueOf lists t score old → IsQueueOf lists t score new
+queue_picked {N} lists t score old new sound synced rest known h = record {
   sound = sound;
   seen = seen_prefix t new.undecided.seen.items ([], sym synced.seen ∙ sym (append-nil new.undecided.seen.items));
-  hot = λ n. subst (λ (q : DecideQueue). score n ≤ q.most) (sym rest) (h.hot n);
+  hot = λ n. subst (λ (q : DecideQueue N). score n ≤ q.most) (sym rest) (h.hot n);
+  unknown = known ∙ h.unknown;
 }
 
 -- a package was marked as hot, and its score raised
-pub queue_hot : {N : Type 0} (lists : FixedLists N) (t : Tracked) (before after : N → ℕ) (old new : DecideQueue) (most : ℕ) → new ≡ record old { most = most } → ((n : N) → after n ≤ most) → IsQueueOf lists t before old → IsQueueOf lists t after new
-queue_hot {N} lists t before after old new most is below h = subst (λ (q : DecideQueue). IsQueueOf lists t after q) (sym is) (record { sound = h.sound; seen = h.seen; hot = below })
+pub queue_hot : {N : Type 0} (lists : FixedLists N) (t : Tracked) (before after : N → ℕ) (old new : DecideQueue N) (most : ℕ) → new ≡ record old { most = most } → ((n : N) → after n ≤ most) → IsQueueOf lists t before old → IsQueueOf lists t after new
+queue_hot {N} lists t before after old new most is below h = subst (λ (q : DecideQueue N). IsQueueOf lists t after q) (sym is) (record { sound = record { fits = h.sound.fits; cold = h.sound.cold }; seen = h.seen; hot = below; unknown = h.unknown })
 
 -- it was set whether scores are bumped as usual
-pub queue_standard : {N : Type 0} (lists : FixedLists N) (t : Tracked) (score : N → ℕ) (old new : DecideQueue) (is_standard : Bool) → new ≡ record old { is_standard = is_standard } → IsQueueOf lists t score old → IsQueueOf lists t score new
-queue_standard lists t score old new is_standard is h = subst (λ (q : DecideQueue). IsQueueOf lists t score q) (sym is) (record { sound = h.sound; seen = h.seen; hot = h.hot })
+pub queue_standard : {N : Type 0} (lists : FixedLists N) (t : Tracked) (score : N → ℕ) (old new : DecideQueue N) (is_standard : Bool) → new ≡ record old { is_standard = is_standard } → IsQueueOf lists t score old → IsQueueOf lists t score new
+queue_standard {N} lists t score old new is_standard is h = subst (λ (q : DecideQueue N). IsQueueOf lists t score q) (sym is) (record { sound = record { fits = h.sound.fits; cold = h.sound.cold }; seen = h.seen; hot = h.hot; unknown = h.unknown })

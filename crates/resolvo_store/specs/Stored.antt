@@ -1,5 +1,5 @@
 -- A clause store as plain lists and functions.
-use Rattle.std.specs.Prelude.{◌≡◌, ℕ, List, [], ◌∷◌, map, Option, Some, None, slice_get}
+use Rattle.std.specs.Prelude.{◌≡◌, ℕ, ◌≤◌, false, List, [], ◌∷◌, map, Option, Some, None, slice_get}
 use Rattle.std.specs.Option.{option_map, unwrap_or}
 use Rattle.resolvo_pool_core.specs.declared.id.ClauseId.{ClauseId}
 use Rattle.resolvo_pool_core.specs.declared.id.DenseId.{DenseId}
@@ -19,8 +19,7 @@ use Rattle.resolvo_store_core.specs.declared.watch_map.WatchMap.{WatchMap}
 use Rattle.resolvo_store_core.specs.Watches.{watchers}
 use Rattle.resolvo_store_core.specs.Trail.{Tracked, IsSeenOf}
 use Rattle.resolvo_decide.specs.declared.decide_queue.DecideQueue.{DecideQueue}
-use Rattle.resolvo_decide.specs.Needs.{literals_in}
-use Rattle.resolvo_decide.specs.Queue.{IsSound, IsHotBound}
+use Rattle.resolvo_decide.specs.Queue.{IsSound}
 
 -- the lists that clauses name; clauses, watched literals, watch lists, trail, need clauses, scores
 pub record Stored (N : Type 0) : Type 0 where
@@ -97,11 +96,12 @@ plain score_of k = record {
   score = score_of k.scores;
 }
 
--- what the store's queue knows of its clauses and of the trail is so, and no score is above the bound of the hot packages
-pub record IsQueueOf {N : Type 0} (lists : FixedLists N) (t : Tracked) (score : N → ℕ) (q : DecideQueue) : Type 0 where
-  pub sound : IsSound (literals_in lists) q
+-- what the store's queue knows of its clauses and of the trail is so, and no score is above the bound. It doesn't know the hot packages
+pub record IsQueueOf {N : Type 0} (lists : FixedLists N) (t : Tracked) (score : N → ℕ) (q : DecideQueue N) : Type 0 where
+  pub sound : IsSound lists q
   pub seen : IsSeenOf t q.undecided.seen.items
-  pub hot : IsHotBound score q
+  pub hot : (name : N) → score name ≤ q.most
+  pub unknown : q.cold.is_known ≡ false
 
 -- the store is the old one after this change
 abbrev pub Becomes : {N S : Type 0} → (S → N → ℕ) → (Stored N → Stored N) → Kept N S → Kept N S → Type 0

@@ -43,7 +43,7 @@ pub struct ClauseStore<N: SolverId> {
     watched: Vec<Option<WatchedLiterals>>,
     watches: WatchMap,
     tracker: DecisionTracker,
-    queue: DecideQueue,
+    queue: DecideQueue<N>,
     scores: N::Scores,
     alloc: Global,
 }

@@ -24,4 +24,4 @@ invariant_of-self g c =
     let in_it = c.self.inside in
     let k : Kept _ _ = record { lists = in_it.lists; clauses = in_it.clauses.items; watched = in_it.watched.items; watches = in_it.watches; trail = in_it.tracker.trail; needs = in_it.queue.registered.items; scores = in_it.scores } in
     let fresh = can_fix_fresh score k c.args.requirement c.args.groups.now (subst (λ o. can_fix (plain score o) c.args.requirement c.args.groups.now ≡ true) (sym c.self.view_is) c.requires) in
-    (inv.0, inv.1, inv.2, record { sound = sound_tried c.fix_candidates.result c.args.requirement c.in_ok-candidates.candidates in_it.lists c.fix_candidates.new.self in_it.queue fresh c.fix_candidates.ensures.fixed c.fix_candidates.ensures.err inv.3.sound; seen = inv.3.seen; hot = inv.3.hot })
+    (inv.0, inv.1, inv.2, record { sound = sound_tried c.fix_candidates.result c.args.requirement c.in_ok-candidates.candidates in_it.lists c.fix_candidates.new.self in_it.queue fresh c.fix_candidates.ensures.fixed c.fix_candidates.ensures.err inv.3.sound; seen = inv.3.seen; hot = inv.3.hot; unknown = inv.3.unknown })

@@ -33,4 +33,4 @@ returns-then-is_empty-clause-store g c =
 pub invariant_of-self : goal.invariant_of-self
 invariant_of-self g c =
     let inv = c.self.invariant in
-    (inv.0, inv.1, inv.2, record { sound = inv.3.sound; seen = seen_popped c.self.inside.tracker c.undo_last.new.self c.undo_last.result.0 c.undo_last.ensures.popped c.self.inside.queue.undecided.seen.items inv.3.seen; hot = inv.3.hot })
+    (inv.0, inv.1, inv.2, record { sound = inv.3.sound; seen = seen_popped c.self.inside.tracker c.undo_last.new.self c.undo_last.result.0 c.undo_last.ensures.popped c.self.inside.queue.undecided.seen.items inv.3.seen; hot = inv.3.hot; unknown = inv.3.unknown })

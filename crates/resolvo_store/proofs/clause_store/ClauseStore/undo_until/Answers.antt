@@ -18,4 +18,4 @@ returns g c =
 pub invariant_of-self : goal.invariant_of-self
 invariant_of-self g c =
     let inv = c.self.invariant in
-    (inv.0, inv.1, inv.2, record { sound = inv.3.sound; seen = seen_undone c.args.level c.self.inside.tracker c.undo_until.new.self c.undo_until.ensures.0 c.self.inside.queue.undecided.seen.items inv.3.seen; hot = inv.3.hot })
+    (inv.0, inv.1, inv.2, record { sound = inv.3.sound; seen = seen_undone c.args.level c.self.inside.tracker c.undo_until.new.self c.undo_until.ensures.0 c.self.inside.queue.undecided.seen.items inv.3.seen; hot = inv.3.hot; unknown = inv.3.unknown })
