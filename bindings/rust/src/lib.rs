@@ -140,7 +140,7 @@ fn answer_of(ending: u32, text: Vec<u8>) -> Answer {
     }
 }
 
-/// The line that is told by `no line N`.
+/// The line that `no line N` names.
 fn line_in(text: &[u8]) -> u32 {
     text.iter().filter(|byte| byte.is_ascii_digit()).fold(0, |number, digit| 10 * number + u32::from(digit - b'0'))
 }
