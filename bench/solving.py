@@ -56,7 +56,7 @@ class Row:
     answers: dict
 
     def ratio(self, peer):
-        """How many times as long as a peer, where both answered and it can be told."""
+        """How many times as long as a peer, where both answered and it is known."""
         own, other = self.runs["resolve"], self.runs.get(peer)
         if other is None or self.answers[peer] not in ANSWERED or max(own.seconds, other.seconds) < 0.003:
             return None

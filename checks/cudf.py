@@ -6,8 +6,8 @@ Needs Debian's aspcud and cudf-tools (ASPCUD=PATH and CUDF_CHECK=PATH name them 
 comments, escaped names, provides with and without versions, negations, `true!` and `false!`, all kinds of `keep`, installs, removals and
 upgrades. In a third of them every package conflicts with itself, in a third some do, in a third none. The report of each run is judged
 right by `resolve judge`.
-aspcud gets the document without folded lines, which its reader doesn't take around comments. `keep: feature` stands with names of
-features alone: of a package's own name aspcud thinks otherwise than libcudf. Where the verdicts differ `cudf-check` decides, and such
+aspcud gets the document without folded lines, which its reader doesn't take around comments. `keep: feature` is written of names
+of features alone: for a package's own name aspcud answers otherwise than libcudf. Where the verdicts differ `cudf-check` decides, and such
 documents are counted apart; it stops the check where aspcud's answer is right and we give up.
 With the word `size` for COUNT two documents of 60,000 packages are solved, and the seconds of processor are printed: one in which every
 package conflicts with itself, as Debian's do, and one of the general form, in which none does.

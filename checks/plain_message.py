@@ -169,7 +169,7 @@ def other_halves(rules: list[Rule], rule: Union[Limit, Outside], solver: Solver)
     return [each for each in rules if is_half(each)] or [each for each in reasons if is_half(each)]
 
 
-# ---- what can be installed, what is missing, what is told as one
+# ---- what can be installed, what is missing, what is merged
 
 
 Run = tuple[Alternatives, list[int]]
@@ -313,7 +313,7 @@ class Tree:
         return kept
 
     def tell_version(self, node: int, place: Place) -> None:
-        """The line of a version, unless it was told as part of a merged one, or stands below itself."""
+        """The line of a version, unless it was written as part of a merged one, or is below itself."""
         if node in self.told or node in place.above:
             return
         self.told.update(self.merged.get(node, ()))

@@ -212,7 +212,7 @@ def libs(names):
             for at, crate in enumerate(ready):
                 if idle <= 0:
                     break
-                # the longest chain goes first: what stands on it waits for it
+                # the longest chain goes first: what rests on it waits for it
                 jobs = max(1, min(3, idle) if at == 0 else idle // (len(ready) - at))
                 left.remove(crate)
                 running[pool.submit(one, crate, jobs)] = crate, jobs

@@ -38,7 +38,7 @@ def no(variable):
 
 
 class SlowStore:
-    """What a store is told, as plain lists. A literal is twice its variable, and one more if it says that the variable is false."""
+    """The calls of a store over plain lists. A literal is twice its variable, and one more if it says that the variable is false."""
 
     def __init__(self):
         self.fixed = []  # requirements with their candidates, each a variable and its package

@@ -73,7 +73,7 @@ def version_of(listed: Listed) -> Version:
 
 
 def importance(listed: Listed) -> tuple[bool, int, bool, str]:
-    """Where an installed package stands: what is held first, then by priority, what was asked for before the rest."""
+    """The rank of an installed package: what is held first, then by priority, what was asked for before the rest."""
     fields = listed.fields
     rank = PRIORITIES.get(fields.get("priority", "extra"), 5)
     return not fields.flag("hold"), rank, fields.flag("apt-automatic"), listed.name

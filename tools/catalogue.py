@@ -24,7 +24,7 @@ class SkippedLine:
 
 @dataclass(frozen=True, slots=True)
 class ManyLine:
-    """`many NAME`: versions of the package may stand side by side."""
+    """`many NAME`: versions of the package may be installed together."""
 
     package: str
 
@@ -123,7 +123,7 @@ class Catalogue:
 
     @cached_property
     def many(self) -> frozenset[str]:
-        """The packages of which versions may stand side by side."""
+        """The packages of which versions may be installed together."""
         return frozenset(line.package for line in self.lines if isinstance(line, ManyLine))
 
     @cached_property

@@ -1,9 +1,9 @@
 """CUDF 2.0: a document as a catalogue and a request, and the report as a CUDF solution (docs/MAPPING.md).
 
-In CUDF two versions of a package may stand side by side, unless they conflict. A package of which all versions that can be
+In CUDF two versions of a package may be installed together, unless they conflict. A package of which all versions that can be
 reached conflict with each other is one package here, as all are in Debian's and opam's documents. Of any other package each
-version becomes a package of its own, `NAME:VERSION`, so nothing is lost and a refusal stays a proof. Should `resolve` get
-lines that mark a package whose versions may stand together, `Universe.settle` and `Universe.place` are what changes.
+version becomes a package of its own, `NAME:VERSION`, so nothing is lost and a refusal stays a proof. Lines `many`
+aren't used; with them `Universe.settle` and `Universe.place` would change.
 """
 from __future__ import annotations
 
@@ -105,7 +105,7 @@ class Universe:
         return Version(escape(self.real_name(package)), self.numbers[package])
 
     def rank(self, package: Package) -> tuple[bool, bool, bool]:
-        """Where it stands among alternatives: what is there comes first, what is to be avoided last."""
+        """Its rank among alternatives: what is there comes first, what is to be avoided last."""
         is_kept = package.installed and not self.prefers_newest
         return package.name not in self.installed_names, package.is_avoided and not is_kept, not is_kept
 
@@ -353,7 +353,7 @@ class Plan:
         self.gone: set[str] = set()
 
     def wishes(self) -> list[Package]:
-        """A version of each installed package: that which is there, or the newest; then others, of what went."""
+        """A version of each installed package: the one that is there, or the newest; then others, of what went."""
         asked = self.document.request
         removed = {each for atom in asked.get("remove", ()) for each in self.universe.matches(atom)}
         upgraded = {atom.name for atom in asked.get("upgrade", ())}

@@ -131,7 +131,7 @@ def read_provided(text: str) -> Atoms:
 
 
 def read_formula(text: str) -> Formula:
-    """Alternatives parted by `|`, and parts parted by commas; `true!` and `false!` stand alone."""
+    """Alternatives parted by `|`, and parts parted by commas; `true!` and `false!` are alone."""
     alone = text.strip(" \t")
     if alone in ("true!", "false!"):
         return () if alone == "true!" else ((),)
@@ -263,7 +263,7 @@ def read_properties(text: str) -> dict[str, Declared]:
 
 
 def read_default(read: Reader, text: str) -> None:
-    """A default is of its type; texts stand in quotes."""
+    """A default is of its type; texts are in quotes."""
     if read is str:
         if not TEXT.match(text):
             raise Bad(f"{quoted(text)} isn't a text in quotes")

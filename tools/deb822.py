@@ -121,7 +121,7 @@ def read_list(text: str, what: str) -> Iterator[tuple[str, Relation]]:
 
 @dataclass(slots=True)
 class Record:
-    """One stanza as bytes, and where it begins: its first line, or what tells that."""
+    """One stanza as bytes, and where it begins: its first line, or a call that counts it."""
 
     raw: bytes
     path: str
@@ -137,7 +137,7 @@ class Record:
         raise Failure(shown_path(self.path), self.line + offset, reason)
 
     def place(self, title: bytes) -> Optional[tuple[int, int]]:
-        """From where to below where the first line of a field stands; None where it isn't there, spelled so."""
+        """From where to below where the first line of a field is; None where it isn't there, spelled so."""
         raw, mark = self.raw, title + b": "
         if raw.startswith(mark):
             start = len(mark)

@@ -47,7 +47,7 @@ class Listed:
 
     @property
     def rank(self) -> tuple[int, int]:
-        """Where it stands among the providers of a package: the least is tried first. What has no priority is before all that has."""
+        """Its rank among the providers of a package: the least is tried first, and one without a priority before all others."""
         return 0 if is_essential(self.fields) else 1, PRIORITIES.get(self.fields.get("priority", ""), 5)
 
 

@@ -262,7 +262,7 @@ def read_matchspec(text: str) -> MatchSpec:
 
 
 def version_and_build(text: str) -> tuple[str, str]:
-    """What stands behind the name; `=1.2` is `1.2*`."""
+    """What follows the name; `=1.2` is `1.2*`."""
     if not text:
         return "*", "*"
     text = re.sub(r"\s*([,|])\s*", r"\1", re.sub(r"([<>=!~])\s+", r"\1", text))

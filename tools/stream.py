@@ -31,7 +31,7 @@ class JsonStream:
         self.file.close()
 
     def fail(self, reason: str, line: int | None = None) -> Failure:
-        """An error at a line, or at that which is read."""
+        """An error at a line, or at the one that is read."""
         return Failure(shown_path(self.path), line or self.line, reason)
 
     def fill(self) -> None:
