@@ -82,7 +82,7 @@ def edits_listed():
     """A line for each edit of the gate: its wrong body, as docs/EDITS.md describes it."""
     bodies = edits_told()
     lines = ["| Edit | Wrong body |", "|---|---|"]
-    return lines + [f"| `{edit}` | {bodies.get(edit, 'not told in docs/EDITS.md')} |" for edit in gate_edits()]
+    return lines + [f"| `{edit}` | {bodies.get(edit, 'not listed in docs/EDITS.md')} |" for edit in gate_edits()]
 
 
 def generated():
@@ -103,7 +103,7 @@ def faults():
     told = edits_told()
     for edit in gate_edits():
         if edit not in told:
-            found.append(f"docs/EDITS.md: {edit} isn't told")
+            found.append(f"docs/EDITS.md: {edit} isn't listed")
     for edit in told:
         crate, name = edit.split("/")
         if not any(os.path.exists(os.path.join(TOP, folder, name + ".edit")) for folder in (f"crates/{crate}/must-fail", f"checks/edits/{crate}")):

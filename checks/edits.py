@@ -54,7 +54,7 @@ def fault_of(crate: str, edit: pathlib.Path) -> str | None:
             if file not in texts:
                 texts[file] = (TOP / "crates" / crate / file).read_text(encoding="utf-8")
             if texts[file].count(old) != 1:
-                return f"its old text stands {texts[file].count(old)} times in {file}: {old}"
+                return f"its old text is there {texts[file].count(old)} times in {file}: {old}"
             texts[file] = texts[file].replace(old, new)
     except (OSError, ValueError) as fault:
         return str(fault)

@@ -170,7 +170,7 @@ def check_wishes(lines, sets):
             above.append(v)
         else:
             holding = next((s for s in sets if v in s and all(w in s for w in above)), None)
-            assert holding is None, f"{v} is left out, and {holding} holds it with what stands above"
+            assert holding is None, f"{v} is left out, and {holding} holds it with what is above"
 
 
 def check(catalogue_text, request_text, status, report):

@@ -166,7 +166,7 @@ class Fit:
         if isinstance(step, texts.DeriveStep):
             for cause in step.causes:
                 if not 1 <= cause < number:
-                    raise Bad(f"no step {cause} stands above it")
+                    raise Bad(f"there is no step {cause} above it")
 
 
 def check_fit(catalogue: Catalogue, request: Request, report: Report) -> None:

@@ -217,7 +217,7 @@ class CargoIndex:
         """Each line of each crate with all its features."""
         for path in index_files(self.path) if self.is_folder else ():
             if os.path.join(self.path, index_place(os.path.basename(path))) != path:
-                raise Failure(path, None, "doesn't stand where an index has it")
+                raise Failure(path, None, "isn't where an index has it")
             for _, value in json_entries(path):
                 self.crate(field(value, "name", str, ..., (path, 1)))
         for name, crate in list(self.crates.items()):

@@ -294,7 +294,7 @@ class CatalogueReader:
             self.once(line, line.package, f"{line.package} has a `many` line already")
         elif isinstance(line, (NeedsLine, LimitsLine, UnknownLine)):
             if self.owner is None:
-                raise Bad("no `version` line stands above it")
+                raise Bad("there is no `version` line above it")
             if isinstance(line, UnknownLine):
                 self.once(line, self.owner, f"{self.owner} is marked unknown already")
         elif not isinstance(line, SkippedLine):

@@ -112,7 +112,7 @@ def read_list(text: str, what: str) -> Iterator[tuple[str, Relation]]:
     """The parts of a field that has no alternatives; raises Bad."""
     for words, group in read_groups(text):
         if len(group) != 1:
-            raise Bad(f"{what} has no alternatives, and {quoted(words)} stands there")
+            raise Bad(f"{what} has no alternatives, but {quoted(words)} is there")
         yield words, group[0]
 
 

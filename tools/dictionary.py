@@ -72,7 +72,7 @@ def check_word(word: str, what: str, forbidden: str = "") -> None:
     if not word or not word.isprintable() or " " in word:
         raise Bad(f"{what} {quoted(word)} isn't one word of printable signs")
     if word.startswith("#") or word in SIGNS or any(sign in word for sign in forbidden):
-        raise Bad(f"{what} {quoted(word)} can't be told from a sign of the texts")
+        raise Bad(f"{what} {quoted(word)} can't be distinguished from a sign of the texts")
 
 
 class DictionaryReader:
@@ -127,7 +127,7 @@ class DictionaryReader:
     def version(self, text: str) -> None:
         """`#v TEXT`."""
         if self.above is None:
-            raise Bad("no `version` line stands above `#v`")
+            raise Bad("there is no `version` line above `#v`")
         check_word(text, "the version")
         if self.above in self.found.versions:
             raise Bad(f"{self.above} has a text already")

@@ -123,7 +123,7 @@ def add_lock(commands: argparse._SubParsersAction) -> None:
     lines.add_argument("--whole", action="store_true", help=whole)
     lines.add_argument("--request", help="with --wish: what it wishes for already is passed over")
     plan = action(actions, "plan", lock_plan, "what changes from one lock to another", "old", "new")
-    plan.add_argument("catalogue", nargs="?", help="tells upgrades from downgrades by its order of versions")
+    plan.add_argument("catalogue", nargs="?", help="distinguishes upgrades from downgrades by its order of versions")
     about = "whether a lock is that of a report, and the report is right"
     check = action(actions, "check", lock_check, about, "lock", "catalogue", "request", "report")
     check.add_argument("--resolve", metavar="PATH", help="the program `resolve`")

@@ -110,7 +110,7 @@ def cudf_criteria(args: argparse.Namespace) -> str:
     """What is to be preferred; an option isn't that."""
     late = [word for word in args.criteria if word.startswith("--") and word != "--"]
     if late:
-        raise Failure(f"cudf {args.action}", None, f"{late[0]} stands behind IN; options come first")
+        raise Failure(f"cudf {args.action}", None, f"{late[0]} is behind IN; options come first")
     return " ".join(args.criteria)
 
 

@@ -212,7 +212,7 @@ def mark_lines(versions: list[Version], file: CatalogueFile, kind: type, lock_pa
             lines.append(line_text(kind(version)))
         elif mark.line.version != version:
             more = "; --whole puts a comment in its place" if kind is texts.FavourLine else ""
-            reason = f"`{line_text(mark.line)}` stands there, and {lock_path} has {version}{more}"
+            reason = f"`{line_text(mark.line)}` is there, but {lock_path} has {version}{more}"
             raise Failure(file.path, mark.number, reason, 1)
     return lines
 

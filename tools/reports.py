@@ -360,9 +360,9 @@ def read_derive(text: str, spelling: Spelling) -> DeriveStep:
     literals = tuple(read_literal(piece, spelling) for piece in inside.split("; ")) if inside else ()
     texts = [encoded(literal_text(literal)) for literal in literals]
     if any(first >= second for first, second in zip(texts, texts[1:])):
-        raise Bad("the literals of `derive` stand in byte order, each once")
+        raise Bad("the literals of `derive` are in byte order, each once")
     if len({literal.atom for literal in literals}) < len(literals):
-        raise Bad("an atom stands twice in `derive`")
+        raise Bad("an atom occurs twice in `derive`")
     return DeriveStep(literals, tuple(number_of(word) for word in behind.split(" ")))
 
 
@@ -523,7 +523,7 @@ class ReportReader:
     def read_message(self, raw: str) -> str:
         """A line of the message."""
         if not raw.startswith("| "):
-            raise Bad("a line of the message begins with `| `, and no other line stands below one")
+            raise Bad("a line of the message begins with `| `, and no other line is below one")
         self.part = "message"
         self.message.append(raw[2:])
         return self.message[-1]
@@ -542,7 +542,7 @@ class ReportReader:
         """A named line; those of the catalogue are first, and both rise."""
         kind, number = read_named(raw)
         if kind == "catalogue" and self.part == "request":
-            raise Bad("lines of the catalogue stand above those of the request")
+            raise Bad("lines of the catalogue are above those of the request")
         if self.named[kind] and self.named[kind][-1] >= number:
             raise Bad("the numbers of named lines rise")
         self.part = kind

@@ -203,7 +203,7 @@ class Words:
     def __init__(self, text: str, spelling: Spelling = PLAIN) -> None:
         self.words, self.at, self.spelling = text.split(" "), 0, spelling
         if "" in self.words:
-            raise Bad("words are parted by exactly one space, and no space stands at an end of the line")
+            raise Bad("words are parted by exactly one space, and no space is at an end of the line")
         self.specs = 0
 
     def peek(self) -> Optional[str]:
@@ -326,7 +326,7 @@ class Words:
         """A SPEC, or a condition in parentheses."""
         if self.peek() == "(":
             if depth == DEEPEST:
-                raise Bad(f"parentheses stand at most {DEEPEST} deep")
+                raise Bad(f"parentheses are at most {DEEPEST} deep")
             self.at += 1
             tree = self.condition(depth + 1)
             self.expect(")")

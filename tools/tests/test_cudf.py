@@ -228,7 +228,7 @@ class Errors(FolderCase):
     def test_files(self):
         missing = self.path("missing")
         self.assert_fault(f"{missing}: can't be read: No such file or directory", "cudf", "solve", missing, self.path("out"))
-        self.assert_fault("cudf solve: --keep stands behind IN; options come first", "cudf", "solve", missing, self.path("out"), "--keep", "x")
+        self.assert_fault("cudf solve: --keep is behind IN; options come first", "cudf", "solve", missing, self.path("out"), "--keep", "x")
         good = self.write("in", stanza("a", 1) + "request: \ninstall: a\n")
         status, out, error = run("cudf", "solve", "--resolve", "/bin/false", good, self.path("out"))
         self.assertEqual((status, out, os.listdir(self.folder)), (2, b"", ["in"]))

@@ -169,7 +169,7 @@ class Errors(FolderCase):
         self.assert_bad(3, "`1_0` isn't a version", stanza("a", "1_0"))
         self.assert_bad(4, "`1_0` isn't a version", stanza("a", "1", "Depends: b (>= 1_0)"))
         self.assert_bad(4, "`b c` isn't a relation", stanza("a", "1", "Depends: b c"))
-        self.assert_bad(4, "Conflicts has no alternatives, and `b | c` stands there", stanza("a", "1", "Conflicts: b | c"))
+        self.assert_bad(4, "Conflicts has no alternatives, but `b | c` is there", stanza("a", "1", "Conflicts: b | c"))
         self.assert_bad(4, "`v` is provided with `>=`; only `=` can be", stanza("a", "1", "Provides: v (>= 1)"))
         self.assert_bad(5, "`` isn't a relation", stanza("a", "1", "Section: x", "Breaks: b,,c"))
 

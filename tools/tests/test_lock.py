@@ -125,9 +125,9 @@ class Locks(FolderCase):
 
     def test_marks_that_stand_there(self):
         marked = self.write("marked.catalogue", data_bytes("debian.catalogue") + b"favour app 1\nfavour libc6 2\nlock libc6 2\nlock app 1\n")
-        wanted = f"{marked}: line 27: `favour app 1` stands there, and {self.lock} has app=2; --whole puts a comment in its place"
+        wanted = f"{marked}: line 27: `favour app 1` is there, but {self.lock} has app=2; --whole puts a comment in its place"
         self.assert_fault(wanted, "lock", "lines", "--keep", marked, self.lock, status=1)
-        self.assert_fault(f"{marked}: line 30: `lock app 1` stands there, and {self.lock} has app=2", "lock", "lines", "--frozen", marked, self.lock, status=1)
+        self.assert_fault(f"{marked}: line 30: `lock app 1` is there, but {self.lock} has app=2", "lock", "lines", "--frozen", marked, self.lock, status=1)
         whole = run("lock", "lines", "--keep", "--whole", marked, self.lock)[1].decode().splitlines()
         self.assertEqual(whole[26:], ["# favour app 1, but for the lock file", "favour libc6 2", "lock libc6 2", "lock app 1", "favour app 2", "favour libstdc_p_p6 3"])
 

@@ -322,7 +322,7 @@ class Front(FolderCase):
             ("install\napp=2 for request line 9\n", 2, "the request has no line 9"),
             ("refused\ncatalogue line 1\nstep 1 any app=1\n", 2, "line 1 of the catalogue says something else: `# A small app and its libraries.`"),
             ("install\napp=2 for request line 1\nstep 1 any app=3\n", 3, "the catalogue doesn't list app=3"),
-            ("refused\nstep 1 derive [] by 1\n", 2, "no step 1 stands above it"), ("refused\nstep 1 any app=1\nstep 2 derive [http=9] by 1\n", 3, "the catalogue doesn't list http=9"),
+            ("refused\nstep 1 derive [] by 1\n", 2, "there is no step 1 above it"), ("refused\nstep 1 any app=1\nstep 2 derive [http=9] by 1\n", 3, "the catalogue doesn't list http=9"),
         ]:
             path = self.write("x.report", report)
             self.assert_fault(f"{path}: line {line}: {reason}", "view", "html", *other[:2], path)
