@@ -41,8 +41,8 @@ resolve_told resolve_solve(const uint8_t *catalogue, size_t catalogue_length,
 			   uint8_t *out, size_t room);
 
 /* The same with a budget, or it gives up: `length` is then 0, and `out` as it was. The solver asks whether to stop before each
-   propagation, and before each question of which versions a package has or what a version needs. So many times it goes on, and at
-   the next it gives up. The same texts need the same budget on every machine. */
+   step of its search, and before each new query for a package's versions or a version's needs. It goes on that many times, and
+   gives up at the next one. The same texts need the same budget on every machine. */
 resolve_told resolve_solve_within(const uint8_t *catalogue, size_t catalogue_length,
 				  const uint8_t *request, size_t request_length,
 				  uint64_t budget, uint8_t *out, size_t room);

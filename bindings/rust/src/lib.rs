@@ -122,8 +122,8 @@ pub fn solve_in(room: usize, catalogue: &[u8], request: &[u8]) -> Result<Answer,
     Ok(answer_of(ending, text))
 }
 
-/// As `solve`, or it gives up: the solver asks whether to stop before each propagation, and before each question of which versions a
-/// package has or what a version needs. So many times it goes on, and at the next it gives up.
+/// As `solve`, or it gives up: the solver asks whether to stop before each step of its search, and before each new query for a
+/// package's versions or a version's needs. It goes on `budget` times, and gives up at the next one.
 pub fn solve_within(budget: u64, catalogue: &[u8], request: &[u8]) -> Result<Answer, Lack> {
     // SAFETY: each pointer is valid for its length, `out` is no other text's, and the call keeps none of them.
     let (ending, text) = whole(ROOM, |out, room| unsafe {
