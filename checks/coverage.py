@@ -67,7 +67,7 @@ def gate_edits():
     return sorted(f"{path.split(os.sep)[-3]}/{os.path.basename(path).removesuffix('.edit')}" for path in paths)
 
 
-def edits_told():
+def edits_described():
     """The wrong body of each edit, from the table of docs/EDITS.md."""
     bodies = {}
     for line in content(EDITS).splitlines():
@@ -80,7 +80,7 @@ def edits_told():
 
 def edits_listed():
     """A line for each edit of the gate: its wrong body, as docs/EDITS.md describes it."""
-    bodies = edits_told()
+    bodies = edits_described()
     lines = ["| Edit | Wrong body |", "|---|---|"]
     return lines + [f"| `{edit}` | {bodies.get(edit, 'not listed in docs/EDITS.md')} |" for edit in gate_edits()]
 
@@ -100,11 +100,11 @@ def faults():
     for path in re.findall(r"`((?:crates|checks|docs|tools|bench|examples)/[\w./*-]+)`", above):
         if not glob.glob(os.path.join(TOP, path)):
             found.append(f"docs/COVERAGE.md: {path} isn't there")
-    told = edits_told()
+    described = edits_described()
     for edit in gate_edits():
-        if edit not in told:
+        if edit not in described:
             found.append(f"docs/EDITS.md: {edit} isn't listed")
-    for edit in told:
+    for edit in described:
         crate, name = edit.split("/")
         if not any(os.path.exists(os.path.join(TOP, folder, name + ".edit")) for folder in (f"crates/{crate}/must-fail", f"checks/edits/{crate}")):
             found.append(f"docs/EDITS.md: {edit} isn't there")

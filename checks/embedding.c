@@ -26,7 +26,7 @@ struct record {
 	int texts;
 	uint8_t *text[3];
 	size_t length[3];
-	resolve_told told;
+	resolve_result result;
 	uint8_t *answer;
 };
 
@@ -112,7 +112,7 @@ static void read_records(void)
 	}
 }
 
-static resolve_told call(const struct record *r, uint8_t *out, size_t room)
+static resolve_result call(const struct record *r, uint8_t *out, size_t room)
 {
 #ifdef JUDGE_ALONE
 	if (r->texts == 2)
@@ -127,17 +127,17 @@ static resolve_told call(const struct record *r, uint8_t *out, size_t room)
 /* The answer that is there after a first call without room. */
 static void answer(struct record *r)
 {
-	r->told = call(r, NULL, 0);
-	r->answer = room_for(r->told.length);
-	resolve_told again = call(r, r->answer, r->told.length);
-	if (again.ending != r->told.ending || again.length != r->told.length)
+	r->result = call(r, NULL, 0);
+	r->answer = room_for(r->result.length);
+	resolve_result again = call(r, r->answer, r->result.length);
+	if (again.ending != r->result.ending || again.length != r->result.length)
 		fail("two calls differ", (size_t)(r - records));
 }
 
-static void compare(const struct record *r, resolve_told told, const uint8_t *out, size_t room)
+static void compare(const struct record *r, resolve_result result, const uint8_t *out, size_t room)
 {
-	size_t shown = told.length < room ? told.length : room;
-	if (told.ending != r->told.ending || told.length != r->told.length)
+	size_t shown = result.length < room ? result.length : room;
+	if (result.ending != r->result.ending || result.length != r->result.length)
 		fail("another ending or length", (size_t)(r - records));
 	if (memcmp(out, r->answer, shown) != 0)
 		fail("other bytes", (size_t)(r - records));
@@ -157,10 +157,10 @@ static void call_with_room(const struct record *r, size_t room)
 static void rooms(size_t most)
 {
 	for (struct record *r = records; r < records + record_count; r++) {
-		for (size_t room = 0; room < r->told.length && room <= most; room++)
+		for (size_t room = 0; room < r->result.length && room <= most; room++)
 			call_with_room(r, room);
-		call_with_room(r, r->told.length);
-		call_with_room(r, r->told.length + 9);
+		call_with_room(r, r->result.length);
+		call_with_room(r, r->result.length + 9);
 	}
 }
 
@@ -179,18 +179,18 @@ static void refused(void)
 		for (long number = 1;; number++) {
 			memset(out, MARK, room);
 			asked = 0, held = 0, refuse_at = number, counting = 1;
-			resolve_told told = call(r, out, room);
+			resolve_result result = call(r, out, room);
 			counting = 0;
 			if (held != 0)
 				fail("memory was lost", (size_t)(r - records));
 			if (asked < number)
 				break;
 			refusals += 1;
-			if (told.ending == RESOLVE_NO_MEMORY && told.length == 0)
+			if (result.ending == RESOLVE_NO_MEMORY && result.length == 0)
 				is_unwritten(r, out, room);
 			else
 				/* a growth that the call can do without changes nothing */
-				compare(r, told, out, room);
+				compare(r, result, out, room);
 		}
 		memset(out, MARK, room);
 		compare(r, call(r, out, room), out, room);
@@ -200,7 +200,7 @@ static void refused(void)
 }
 
 #ifndef JUDGE_ALONE
-static resolve_told call_within(const struct record *r, uint64_t budget, uint8_t *out, size_t room)
+static resolve_result call_within(const struct record *r, uint64_t budget, uint8_t *out, size_t room)
 {
 	memset(out, MARK, room);
 	return resolve_solve_within(r->text[0], r->length[0], r->text[1], r->length[1], budget, out, room);
@@ -209,14 +209,14 @@ static resolve_told call_within(const struct record *r, uint64_t budget, uint8_t
 static void budgets(void)
 {
 	for (struct record *r = records; r < records + record_count; r++) {
-		size_t room = r->told.length + 9;
+		size_t room = r->result.length + 9;
 		uint8_t *out = room_for(room);
 		uint64_t budget = 0;
 		for (;; budget++) {
-			resolve_told told = call_within(r, budget, out, room);
-			if (told.ending != RESOLVE_GIVEN_UP)
+			resolve_result result = call_within(r, budget, out, room);
+			if (result.ending != RESOLVE_GIVEN_UP)
 				break;
-			if (told.length != 0)
+			if (result.length != 0)
 				fail("given up with a length", (size_t)(r - records));
 			is_unwritten(r, out, room);
 		}
@@ -232,7 +232,7 @@ static void budgets(void)
 static void *answer_all(void *unused)
 {
 	for (struct record *r = records; r < records + record_count; r++)
-		call_with_room(r, r->told.length + 1);
+		call_with_room(r, r->result.length + 1);
 	return unused;
 }
 
@@ -250,10 +250,10 @@ static void times(long calls)
 {
 	struct timespec from, to;
 	struct record *r = records;
-	uint8_t *out = room_for(r->told.length);
+	uint8_t *out = room_for(r->result.length);
 	clock_gettime(CLOCK_PROCESS_CPUTIME_ID, &from);
 	for (long i = 0; i < calls; i++)
-		call(r, out, r->told.length);
+		call(r, out, r->result.length);
 	clock_gettime(CLOCK_PROCESS_CPUTIME_ID, &to);
 	free(out);
 	printf("%.9f\n", (double)(to.tv_sec - from.tv_sec) + 1e-9 * (double)(to.tv_nsec - from.tv_nsec));
@@ -269,8 +269,8 @@ int main(int count, char **words)
 		answer(r);
 	if (strcmp(words[1], "answers") == 0)
 		for (struct record *r = records; r < records + record_count; r++) {
-			printf("%u %zu\n", r->told.ending, (size_t)r->told.length);
-			fwrite(r->answer, 1, r->told.length, stdout);
+			printf("%u %zu\n", r->result.ending, (size_t)r->result.length);
+			fwrite(r->answer, 1, r->result.length, stdout);
 		}
 	else if (strcmp(words[1], "rooms") == 0)
 		rooms((size_t)number);
@@ -282,7 +282,7 @@ int main(int count, char **words)
 		refused();
 	else if (strcmp(words[1], "again") == 0)
 		for (long i = 0; i < number; i++)
-			call_with_room(records + (size_t)i % record_count, records[(size_t)i % record_count].told.length);
+			call_with_room(records + (size_t)i % record_count, records[(size_t)i % record_count].result.length);
 	else if (strcmp(words[1], "threads") == 0)
 		threads((int)number);
 	else if (strcmp(words[1], "times") == 0)

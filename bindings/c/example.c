@@ -43,28 +43,28 @@ int main(int count, char **words)
 	}
 	struct text catalogue = read_file(words[1]), request = read_file(words[2]), report = {NULL, 0};
 	size_t room = 0;
-	resolve_told told = resolve_solve(catalogue.bytes, catalogue.length, request.bytes, request.length, NULL, 0);
-	while (told.length > room) {
-		room = told.length;
+	resolve_result result = resolve_solve(catalogue.bytes, catalogue.length, request.bytes, request.length, NULL, 0);
+	while (result.length > room) {
+		room = result.length;
 		report.bytes = realloc(report.bytes, room);
 		if (report.bytes == NULL)
 			abort();
-		told = resolve_solve(catalogue.bytes, catalogue.length, request.bytes, request.length, report.bytes, room);
+		result = resolve_solve(catalogue.bytes, catalogue.length, request.bytes, request.length, report.bytes, room);
 	}
-	report.length = told.length;
-	if (told.ending > RESOLVE_FAULTY) {
-		fprintf(stderr, "resolve ended with %u\n", told.ending);
+	report.length = result.length;
+	if (result.ending > RESOLVE_FAULTY) {
+		fprintf(stderr, "resolve ended with %u\n", result.ending);
 		return 2;
 	}
 	fwrite(report.bytes, 1, report.length, stdout);
-	if (told.ending == RESOLVE_FAULTY)
+	if (result.ending == RESOLVE_FAULTY)
 		return 2;
 	uint8_t verdict[64];
-	resolve_told judged = resolve_judge(catalogue.bytes, catalogue.length, request.bytes, request.length,
+	resolve_result judged = resolve_judge(catalogue.bytes, catalogue.length, request.bytes, request.length,
 					    report.bytes, report.length, verdict, sizeof verdict);
 	fprintf(stderr, "the judge says %.*s", (int)judged.length, (const char *)verdict);
 	free(catalogue.bytes);
 	free(request.bytes);
 	free(report.bytes);
-	return (int)told.ending;
+	return (int)result.ending;
 }

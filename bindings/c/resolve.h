@@ -29,29 +29,29 @@ enum resolve_ending {
 
 /* The first min(length, room) bytes of the text are in `out`; the bytes of the room behind them are as they were.
    Where `length` is more than `room`, take more room and call again. Without a text `length` is 0. */
-typedef struct resolve_told {
+typedef struct resolve_result {
 	uint32_t ending;
 	uint64_t length;
-} resolve_told;
+} resolve_result;
 
 /* What `resolve solve` prints for the texts of a catalogue and a request. A text of no bytes may be NULL, and so may `out`
    where `room` is 0. `out` may not overlap a text. */
-resolve_told resolve_solve(const uint8_t *catalogue, size_t catalogue_length,
-			   const uint8_t *request, size_t request_length,
-			   uint8_t *out, size_t room);
+resolve_result resolve_solve(const uint8_t *catalogue, size_t catalogue_length,
+			     const uint8_t *request, size_t request_length,
+			     uint8_t *out, size_t room);
 
 /* The same with a budget, or it gives up: `length` is then 0, and `out` as it was. The solver asks whether to stop before each
    step of its search, and before each new query for a package's versions or a version's needs. It goes on that many times, and
    gives up at the next one. The same texts need the same budget on every machine. */
-resolve_told resolve_solve_within(const uint8_t *catalogue, size_t catalogue_length,
-				  const uint8_t *request, size_t request_length,
-				  uint64_t budget, uint8_t *out, size_t room);
+resolve_result resolve_solve_within(const uint8_t *catalogue, size_t catalogue_length,
+				    const uint8_t *request, size_t request_length,
+				    uint64_t budget, uint8_t *out, size_t room);
 
 /* What `resolve judge` prints for these texts and a report, whoever wrote it. 64 bytes are room enough. */
-resolve_told resolve_judge(const uint8_t *catalogue, size_t catalogue_length,
-			   const uint8_t *request, size_t request_length,
-			   const uint8_t *report, size_t report_length,
-			   uint8_t *out, size_t room);
+resolve_result resolve_judge(const uint8_t *catalogue, size_t catalogue_length,
+			     const uint8_t *request, size_t request_length,
+			     const uint8_t *report, size_t report_length,
+			     uint8_t *out, size_t room);
 
 #ifdef __cplusplus
 }

@@ -108,11 +108,11 @@ def left_out_in(line: str) -> LeftOut:
 def installed_in(text: bytes) -> Installed:
     lines = text.decode("ascii").splitlines()[1:]
     steps = tuple(line for line in lines if line.startswith("step "))
-    told = lines[:len(lines) - len(steps)]
+    answers = lines[:len(lines) - len(steps)]
     return Installed(
         text,
-        tuple(entry_in(line) for line in told if not line.startswith("left out ")),
-        tuple(left_out_in(line) for line in told if line.startswith("left out ")),
+        tuple(entry_in(line) for line in answers if not line.startswith("left out ")),
+        tuple(left_out_in(line) for line in answers if line.startswith("left out ")),
         steps,
     )
 

@@ -60,7 +60,7 @@ def lack(ending: int) -> Exception:
 # ---- the shared object
 
 
-class Told(ctypes.Structure):
+class CallResult(ctypes.Structure):
     _fields_ = [("ending", ctypes.c_uint32), ("length", ctypes.c_uint64)]
 
 
@@ -76,27 +76,27 @@ class Library:
         out = [ctypes.c_char_p, ctypes.c_size_t]
         self._judge = loaded.resolve_judge
         self._judge.argtypes = text * 3 + out
-        self._judge.restype = Told
+        self._judge.restype = CallResult
         # an archive of the judge alone has no solver
         self._solve = getattr(loaded, "resolve_solve", None)
         if self._solve is not None:
             self._solve.argtypes = text * 2 + out
-            self._solve.restype = Told
+            self._solve.restype = CallResult
             self._solve_within = loaded.resolve_solve_within
             self._solve_within.argtypes = text * 2 + [ctypes.c_uint64] + out
-            self._solve_within.restype = Told
+            self._solve_within.restype = CallResult
 
     def _call(self, function, texts: Sequence[Bytes], *more: int) -> tuple[int, bytes]:
         arguments = [part for text in map(bytes, texts) for part in (text, len(text))] + list(more)
         room = self.room
         while True:
             out = ctypes.create_string_buffer(room) if room else None
-            told = function(*arguments, out, room)
-            if told.ending > 2:
-                raise lack(told.ending)
-            if told.length <= room:
-                return told.ending, b"" if out is None else ctypes.string_at(out, told.length)
-            room = told.length
+            result = function(*arguments, out, room)
+            if result.ending > 2:
+                raise lack(result.ending)
+            if result.length <= room:
+                return result.ending, b"" if out is None else ctypes.string_at(out, result.length)
+            room = result.length
 
     def solve(self, catalogue: Bytes, request: Bytes, budget: Optional[int] = None) -> tuple[int, bytes]:
         if self._solve is None:

@@ -15,15 +15,15 @@ use std::fmt;
 mod c {
     #[repr(C)]
     #[derive(Clone, Copy)]
-    pub struct Told {
+    pub struct CallResult {
         pub ending: u32,
         pub length: u64,
     }
 
     extern "C" {
-        pub fn resolve_solve(catalogue: *const u8, catalogue_length: usize, request: *const u8, request_length: usize, out: *mut u8, room: usize) -> Told;
-        pub fn resolve_solve_within(catalogue: *const u8, catalogue_length: usize, request: *const u8, request_length: usize, budget: u64, out: *mut u8, room: usize) -> Told;
-        pub fn resolve_judge(catalogue: *const u8, catalogue_length: usize, request: *const u8, request_length: usize, report: *const u8, report_length: usize, out: *mut u8, room: usize) -> Told;
+        pub fn resolve_solve(catalogue: *const u8, catalogue_length: usize, request: *const u8, request_length: usize, out: *mut u8, room: usize) -> CallResult;
+        pub fn resolve_solve_within(catalogue: *const u8, catalogue_length: usize, request: *const u8, request_length: usize, budget: u64, out: *mut u8, room: usize) -> CallResult;
+        pub fn resolve_judge(catalogue: *const u8, catalogue_length: usize, request: *const u8, request_length: usize, report: *const u8, report_length: usize, out: *mut u8, room: usize) -> CallResult;
     }
 }
 
@@ -87,11 +87,11 @@ impl fmt::Display for Lack {
 impl std::error::Error for Lack {}
 
 /// The ending 0, 1 or 2 and the whole text of a call that is given a room.
-fn whole(mut room: usize, call: impl Fn(*mut u8, usize) -> c::Told) -> Result<(u32, Vec<u8>), Lack> {
+fn whole(mut room: usize, call: impl Fn(*mut u8, usize) -> c::CallResult) -> Result<(u32, Vec<u8>), Lack> {
     loop {
         let mut text = vec![0; room];
-        let told = call(text.as_mut_ptr(), room);
-        match told.ending {
+        let result = call(text.as_mut_ptr(), room);
+        match result.ending {
             0..=2 => {}
             4 => return Err(Lack::TooLong),
             5 => return Err(Lack::Memory),
@@ -99,10 +99,10 @@ fn whole(mut room: usize, call: impl Fn(*mut u8, usize) -> c::Told) -> Result<(u
             8 => return Err(Lack::GivenUp),
             other => unreachable!("resolve ended with {}", other),
         }
-        let length = usize::try_from(told.length).map_err(|_| Lack::Memory)?;
+        let length = usize::try_from(result.length).map_err(|_| Lack::Memory)?;
         if length <= room {
             text.truncate(length);
-            return Ok((told.ending, text));
+            return Ok((result.ending, text));
         }
         room = length;
     }

@@ -2,7 +2,7 @@
 
 ghost use Rattle.resolve_c.specs.CallResult.{Leaves};
 
-/// How a call ended, and how long its text is. C knows it as `resolve_told`.
+/// How a call ended, and how long its text is. C knows it as `resolve_result`.
 #[repr(C)]
 #[derive(Clone, Copy)]
 pub struct CallResult {
