@@ -12,6 +12,7 @@ pub mod Values
 pub mod StepLemmas
 pub mod ExtendLemmas
 pub mod Guards
+pub mod MetLemmas
 pub mod DoneLemmas
 pub mod Readiness
 pub mod VisitLemmas

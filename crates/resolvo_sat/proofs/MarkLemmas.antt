@@ -1,5 +1,5 @@
 -- What the marked entries of a trail deny.
-use Rattle.std.proofs.Common.{◌≡◌, ℕ, ◌+◌, ◌-◌, ◌<◌, ◌≤◌, ◌⊎◌, inl, inr, Bool, true, false, not, if◌then◌else◌, cond, List, [], ◌∷◌, take, length, get_or, refl, sym, ◌∙◌, ap, subst, arith, ◌==◌, eqb-true, eq-eqb}
+use Rattle.std.proofs.Common.{◌≡◌, ℕ, zero, suc, ◌+◌, ◌-◌, ◌<◌, ◌≤◌, ◌⊎◌, inl, inr, Bool, true, false, not, if◌then◌else◌, cond, List, [], ◌∷◌, take, length, get_or, refl, sym, ◌∙◌, ap, subst, arith, ◌==◌, eqb-true, eq-eqb}
 use Rattle.std.specs.Prelude.{slice_index_or, min}
 use Rattle.std.proofs.lemmas.Bool.{both_ways}
 use Rattle.std.proofs.lemmas.List.{length-reverse, length-take-le}
@@ -9,9 +9,9 @@ use Rattle.resolvo_pool_core.specs.declared.id.VariableId.{VariableId}
 use Rattle.resolvo_sat.specs.Known.{IsUndecided}
 use Rattle.resolvo_sat.specs.Entries.{literal_of, made_true, before, top_level, IsTrail, IsTrueAt}
 use Rattle.resolvo_sat.specs.Marks.{AreNone}
-use Rattle.resolvo_sat.specs.Analysis.{is_seen, denied, Seen, MarksAtMost, IsMarkedLevel}
+use Rattle.resolvo_sat.specs.Analysis.{is_seen, denied, Seen, MarksAtMost, AreDeniedBelow}
 use Rattle.resolvo_sat.proofs.Literals.{negation-negation, has-cons, has_here, has_later, has_more, more_has_old, more_has_new}
-use Rattle.resolvo_sat.proofs.Trails.{level_le_last, level_steps, same_or_negated}
+use Rattle.resolvo_sat.proofs.Trails.{level_le_last, same_or_negated}
 
 -- a denied literal is of the newest entry, which is marked, or of an older one
 pub denied_cases : (seen : List Bool) (e : Entry) (older : List Entry) (l : Signed) → has (denied seen (e ∷ older)) l ≡ true → ((is_seen seen e ≡ true) × (l ≡ negation (literal_of e))) ⊎ (has (denied seen older) l ≡ true)
@@ -69,30 +69,23 @@ denied_marked seen (e ∷ older) l h = elim (denied_cases seen e older l h) [
   | inr i ↦ denied_marked seen older l i
 ]
 
-pub level_found : (count : ℕ) (cs : List (List Signed)) (seen : List Bool) (e : Entry) (older h : List Entry) → IsTrail count cs h → h ≡ e ∷ older → IsMarkedLevel seen h e.level
-level_found count cs seen e older h t same =
-    let top : top_level h ≡ e.level = ap top_level same in
-    record {
-      bounds = λ l d.
-          let (k, s) = denied_level seen h l d in
-          let a : k ≤ top_level h = level_le_last count cs h (negation l) k t s in
-          (k, omega arith, s);
-      low = omega arith;
-    }
+-- where a trail ends below the level, each of its entries is below it
+pub below_top : (count : ℕ) (cs : List (List Signed)) (seen : List Bool) (h : List Entry) (level : ℕ) → IsTrail count cs h → top_level h < level → AreDeniedBelow seen h level
+below_top count cs seen h level t low l d =
+    let (k, s) = denied_level seen h l d in
+    let a : k ≤ top_level h = level_le_last count cs h (negation l) k t s in
+    (k, omega arith, s)
 
-pub level_passes : (count : ℕ) (cs : List (List Signed)) (seen : List Bool) (e : Entry) (older h : List Entry) (level : ℕ) → IsTrail count cs h → h ≡ e ∷ older → is_seen seen e ≡ false → IsMarkedLevel seen older level → IsMarkedLevel seen h level
-level_passes count cs seen e older h level t same unmarked m =
-    let t' : IsTrail count cs (e ∷ older) = subst (IsTrail count cs) same t in
-    let steps = level_steps count cs e older t'.0 in
-    let a : top_level older ≤ e.level = steps.0 in
-    let b : level ≤ top_level older = m.low in
-    subst (λ (x : List Entry). IsMarkedLevel seen x level) (sym same) (record {
-      bounds = λ l d. elim (denied_cases seen e older l d) [
-        | inl i ↦ absurd (both_ways (is_seen seen e) unmarked i.0)
-        | inr i ↦ let (k, le, s) = m.bounds l i in (k, le, inr s)
-      ];
-      low = omega arith;
-    })
+pub below_passes : (seen : List Bool) (e : Entry) (older h : List Entry) (level : ℕ) → h ≡ e ∷ older → is_seen seen e ≡ false → AreDeniedBelow seen older level → AreDeniedBelow seen h level
+below_passes seen e older h level same unmarked m = subst (λ (x : List Entry). AreDeniedBelow seen x level) (sym same) (λ l d. elim (denied_cases seen e older l d) [
+  | inl i ↦ absurd (both_ways (is_seen seen e) unmarked i.0)
+  | inr i ↦ let (k, le, s) = m l i in (k, le, inr s)
+])
+
+-- no entry is before the first place
+pub below_first : (xs : List Entry) (p : ℕ) (seen : List Bool) (level : ℕ) → p ≤ 0 → AreDeniedBelow seen (before xs p) level
+below_first xs zero seen level le l d = absurd (both_ways false refl d)
+below_first xs (suc p) seen level le l d = absurd (omega arith)
 
 -- no literal so far
 pub marks_none : (seen : List Bool) → Seen [] seen seen
@@ -268,11 +261,3 @@ few_resolved n more sum last count cs old new xs p t low within few is counted =
     let c : length (before xs p) ≡ length (take p xs) = length-reverse (take p xs) in
     let d : length (take p xs) ≡ p = length-take-le p xs within in
     omega (arith, counted, is, low)
-
--- where none is marked, the level 0 bounds them
-pub level_none : (seen : List Bool) (h : List Entry) (n : ℕ) → length (denied seen h) ≤ n → n ≡ 0 → IsMarkedLevel seen h 0
-level_none seen h n few zero = record { bounds = λ l d. absurd (go l (denied seen h) (omega (arith, few, zero)) d); low = omega arith }
-  where
-    go : (l : Signed) (ls : List Signed) → length ls ≤ 0 → has ls l ≡ true → ⊥
-    go l [] none d = both_ways false refl d
-    go l (x ∷ ls) none d = omega (arith, none)

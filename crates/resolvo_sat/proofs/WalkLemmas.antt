@@ -1,6 +1,6 @@
 -- The walk back along the trail from a broken clause.
-use Rattle.std.proofs.Common.{◌≡◌, ℕ, zero, suc, ◌+◌, ◌-◌, ◌<◌, ◌≤◌, ◌⊎◌, inl, inr, Bool, true, false, cond, List, [], ◌∷◌, ◌++◌, reverse, drop, length, refl, sym, ◌∙◌, ap, subst, arith, append_assoc}
-use Rattle.std.specs.Prelude.{slice_index_or, nat_eq, nat_lt, max, IfOk, Result, Ok, Err}
+use Rattle.std.proofs.Common.{◌≡◌, ℕ, zero, suc, ◌+◌, ◌-◌, ◌<◌, ◌≤◌, ◌⊎◌, inl, inr, Bool, true, false, cond, List, [], ◌∷◌, ◌++◌, reverse, drop, length, refl, sym, ◌∙◌, ap, subst, arith}
+use Rattle.std.specs.Prelude.{slice_index_or, nat_eq, nat_lt, IfOk, Result, Ok, Err}
 use Rattle.std.proofs.lemmas.Bool.{both_ways, cases_Bool}
 use Rattle.std.proofs.lemmas.Bool.Decides.{nat_tests}
 use Rattle.std.proofs.lemmas.List.{reverse-append, length-reverse}
@@ -10,13 +10,11 @@ use Rattle.resolvo_store_core.specs.Signed.{Signed, negation, has}
 use Rattle.resolvo_store_core.specs.Clauses.{yes, no, root}
 use Rattle.resolvo_store_core.specs.declared.decision.Entry.{Entry}
 use Rattle.resolvo_sat.specs.declared.state.SatState.{SatState}
-use Rattle.resolvo_sat.specs.declared.analyze.Analysis.{Analysis}
-use Rattle.resolvo_sat.specs.declared.analyze.Learnt.{Learnt}
 use Rattle.resolvo_sat.specs.Known.{IsFalseUnder, IsUndecided, IsForced, clause_at}
 use Rattle.resolvo_sat.specs.Entries.{literal_of, reason_of, made_true, before, top_level, IsChoice, IsPropagated, IsReasoned, Follows, IsTrail, IsTrueAt, IsOnTrail, IsRooted}
 use Rattle.resolvo_sat.specs.State.{count_of, history, clauses_of, named, IsDerived, IsState}
 use Rattle.resolvo_sat.specs.Marks.{AreNone}
-use Rattle.resolvo_sat.specs.Analysis.{is_seen, denied, Seen, IsMarkedLevel, IsSolvable, IsAssumption, IsDecisionOrForced, AreFromClauses, IsLearnt, IsLearntOf, IsAnalysis, IsRefusal, IsReason, DenyAssumptions, DenyAssumptionsBut, Walks}
+use Rattle.resolvo_sat.specs.Analysis.{is_seen, denied, Seen, IsSolvable, IsAssumption, IsDecisionOrForced, AreFromClauses, IsRefusal, IsReason, DenyAssumptions, DenyAssumptionsBut, Walks}
 use Rattle.resolvo_sat.proofs.Literals.{negation-negation, has-cons, has_here, has_later, has-append, has_left, has_right}
 use Rattle.resolvo_sat.proofs.Refutations.{exact, own, refutes_more, refutes_falsified, refutes_step}
 use Rattle.resolvo_sat.proofs.Trails.{before_all, whole_trail, trail_before, consistent, same_or_negated, known_from_level, level_le_last, level_from_entry, root_known, rooted_rest}
@@ -70,7 +68,7 @@ pub came : (xs : List Entry) (n : ℕ) (d : Entry) → 0 < n → before xs (n - 
 came xs n d some next = let same : n ≡ n - 1 + 1 = omega arith in ap (before xs) same ∙ next
 
 -- the denied literals before the place, with the newest entry apart
-denied_next : (s : SatState) (p : ℕ) (d : Entry) (seen : List Bool) → Meets s p d → denied seen (before s.tracker.trail (p + 1)) ≡ denied seen (d ∷ before s.tracker.trail p)
+pub denied_next : (s : SatState) (p : ℕ) (d : Entry) (seen : List Bool) → Meets s p d → denied seen (before s.tracker.trail (p + 1)) ≡ denied seen (d ∷ before s.tracker.trail p)
 denied_next s p d seen m = ap (denied seen) m.next
 
 pub walk_skips : (s : SatState) (begun : List Signed) (p : ℕ) (d : Entry) (seen : List Bool) (kept : List Signed) (causes : List ClauseId) → Meets s p d → is_seen seen d ≡ false → Walks s begun (p + 1) seen kept causes → Walks s begun p seen kept causes
@@ -88,10 +86,10 @@ walk_skips s begun p d seen kept causes m unmarked w =
     }
 
 -- the literals with the root's before them
-with_root : (xs ys : List Signed) (l : Signed) → ((m : Signed) → has xs m ≡ true → has ys m ≡ true) → has (no root ∷ xs) l ≡ true → has (no root ∷ ys) l ≡ true
+pub with_root : (xs ys : List Signed) (l : Signed) → ((m : Signed) → has xs m ≡ true → has ys m ≡ true) → has (no root ∷ xs) l ≡ true → has (no root ∷ ys) l ≡ true
 with_root xs ys l more h = elim (has-cons (no root) xs l h) [ inl e ↦ has_here (no root) ys l e | inr e ↦ has_later (no root) ys l (more l e) ]
 
-kept_moved : (seen : List Bool) (d : Entry) (older : List Entry) (kept : List Signed) (l : Signed) → has (denied seen (d ∷ older) ++ kept) l ≡ true → has (denied seen older ++ (kept ++ negation (literal_of d) ∷ [])) l ≡ true
+pub kept_moved : (seen : List Bool) (d : Entry) (older : List Entry) (kept : List Signed) (l : Signed) → has (denied seen (d ∷ older) ++ kept) l ≡ true → has (denied seen older ++ (kept ++ negation (literal_of d) ∷ [])) l ≡ true
 kept_moved seen d older kept l h = elim (has-append (denied seen (d ∷ older)) kept l h) [
   | inl a ↦ elim (denied_cases seen d older l a) [
     | inl i ↦ has_right (denied seen older) (kept ++ negation (literal_of d) ∷ []) l (has_right kept (negation (literal_of d) ∷ []) l (has_here (negation (literal_of d)) [] l (sym i.1)))
@@ -103,7 +101,7 @@ kept_moved seen d older kept l h = elim (has-append (denied seen (d ∷ older)) 
 denied_first : (seen : List Bool) (d : Entry) (older : List Entry) → is_seen seen d ≡ true → denied seen (d ∷ older) ≡ negation (literal_of d) ∷ denied seen older
 denied_first seen d older m = ap (λ b. cond b (negation (literal_of d) ∷ denied seen older) (denied seen older)) m
 
-kept_back : (seen : List Bool) (d : Entry) (older : List Entry) (kept : List Signed) (l : Signed) → is_seen seen d ≡ true → has (denied seen older ++ (kept ++ negation (literal_of d) ∷ [])) l ≡ true → has (denied seen (d ∷ older) ++ kept) l ≡ true
+pub kept_back : (seen : List Bool) (d : Entry) (older : List Entry) (kept : List Signed) (l : Signed) → is_seen seen d ≡ true → has (denied seen older ++ (kept ++ negation (literal_of d) ∷ [])) l ≡ true → has (denied seen (d ∷ older) ++ kept) l ≡ true
 kept_back seen d older kept l m h = elim (has-append (denied seen older) (kept ++ negation (literal_of d) ∷ []) l h) [
   | inl a ↦ has_left (denied seen (d ∷ older)) kept l (denied_later seen d older l a)
   | inr a ↦ elim (has-append kept (negation (literal_of d) ∷ []) l a) [
@@ -288,44 +286,8 @@ walk_starts s falsified none seen state bound falls empty marked =
         ]
 
 -- a walk from a broken clause keeps nothing but choices
-kept_alone : (s : SatState) (kept : List Signed) → DenyAssumptionsBut s [] kept → DenyAssumptions s kept
+pub kept_alone : (s : SatState) (kept : List Signed) → DenyAssumptionsBut s [] kept → DenyAssumptions s kept
 kept_alone s kept denies l h = elim (denies l h) [ inl e ↦ absurd (both_ways false refl e) | inr k ↦ k ]
-
-pub walk_learns : (s : SatState) (p : ℕ) (d : Entry) (seen : List Bool) (kept : List Signed) (causes : List ClauseId) (below : ℕ) (x : Learnt) → Meets s p d → is_seen seen d ≡ true → IsMarkedLevel seen (before s.tracker.trail p) below
-    → x.level < d.level → below ≤ x.level → s.base_level ≤ x.level → x.literals.items ≡ (denied seen (before s.tracker.trail p) ++ kept) ++ negation (literal_of d) ∷ [] → x.causes.items ≡ reverse causes → x.asserting ≡ negation (literal_of d)
-    → Walks s [] (p + 1) seen kept causes → IsLearnt s x
-walk_learns s p d seen kept causes below x m marked level above low base_level is_literals is_causes is_asserted w =
-    let older : List Entry = before s.tracker.trail p in
-    let derived' : IsDerived (clauses_of s) (denied seen (d ∷ older) ++ kept) (reverse causes) = subst (λ (ls : List Signed). IsDerived (clauses_of s) (ls ++ kept) (reverse causes)) (denied_next s p d seen m) w.derived in
-    let from' : AreFromClauses s (denied seen (d ∷ older) ++ kept) = subst (λ (ls : List Signed). AreFromClauses s (ls ++ kept)) (denied_next s p d seen m) w.from in
-    let assoc : (denied seen older ++ kept) ++ negation (literal_of d) ∷ [] ≡ denied seen older ++ (kept ++ negation (literal_of d) ∷ []) = append_assoc (denied seen older) kept (negation (literal_of d) ∷ []) in
-    let literals : x.literals.items ≡ denied seen older ++ (kept ++ negation (literal_of d) ∷ []) = is_literals ∙ assoc in
-    record {
-      derived = subst (λ (cs : List ClauseId). IsDerived (clauses_of s) x.literals.items cs) (sym is_causes) (subst (λ (ls : List Signed). IsDerived (clauses_of s) ls (reverse causes)) (sym literals) (record {
-        in_range = derived'.in_range;
-        refuted = refutes_more (no root ∷ (denied seen (d ∷ older) ++ kept)) (no root ∷ (denied seen older ++ (kept ++ negation (literal_of d) ∷ []))) (named (clauses_of s) (reverse causes))
-            (λ l h. with_root (denied seen (d ∷ older) ++ kept) (denied seen older ++ (kept ++ negation (literal_of d) ∷ [])) l (λ y i. kept_moved seen d older kept y i) h)
-            derived'.refuted;
-      }));
-      caused = subst (λ (cs : List ClauseId). 0 < length cs) (sym is_causes) (let same : length (reverse causes) ≡ length causes = length-reverse causes in let some : 0 < length causes = w.caused in omega arith);
-      from = λ l h. from' l (kept_back seen d older kept l marked (subst (λ (ls : List Signed). has ls l ≡ true) literals h));
-      present = subst (λ (l : Signed). has x.literals.items l ≡ true) (sym is_asserted) (subst (λ (ls : List Signed). has ls (negation (literal_of d)) ≡ true) (sym is_literals) (has_right (denied seen older ++ kept) (negation (literal_of d) ∷ []) (negation (literal_of d)) (has_here (negation (literal_of d)) [] (negation (literal_of d)) refl)));
-      others = λ l h. elim (has-append (denied seen older) (kept ++ negation (literal_of d) ∷ []) l (subst (λ (ls : List Signed). has ls l ≡ true) literals h)) [
-        | inl a ↦ let (k, le, present) = level.bounds l a in inr (k, omega arith, inside s.tracker.trail p (negation l) k present)
-        | inr a ↦ elim (has-append kept (negation (literal_of d) ∷ []) l a) [
-          | inl b ↦
-              let (e, before_e, on, is, kept_e) = kept_alone s kept w.denies l b in
-              let under : e.level ≤ s.base_level = kept_e.low in
-              inr (e.level, omega arith, subst (λ (y : Signed). IsTrueAt (history s) y e.level) is (level_from_entry (history s) e before_e on))
-          | inr b ↦ elim (has-cons (negation (literal_of d)) [] l b) [
-            | inl e ↦ inl (sym e ∙ sym is_asserted)
-            | inr e ↦ absurd (both_ways false refl e)
-          ]
-        ]
-      ];
-      fell = (d.level, above, inside s.tracker.trail (p + 1) (negation x.asserting) d.level (subst (λ (h : List Entry). IsTrueAt h (negation x.asserting) d.level) (sym m.next) (inl (sym (ap negation is_asserted ∙ negation-negation (literal_of d)), refl))));
-      low = base_level;
-    }
 
 -- no literal is denied where none is counted
 none_denied : (seen : List Bool) (h : List Entry) → length (denied seen h) ≤ 0 → denied seen h ≡ []
@@ -464,14 +426,6 @@ below_turn s p d state m above =
     let present : IsOnTrail (history s) d (before s.tracker.trail p) = inside_on s.tracker.trail (p + 1) d (before s.tracker.trail p) (subst (λ (x : List Entry). IsOnTrail x d (before s.tracker.trail p)) (sym m.next) (inl (refl, refl))) in
     let low : d.level ≤ top_level (history s) = level_le_last (count_of s) (clauses_of s) (history s) (literal_of d) d.level state.trail (level_from_entry (history s) d (before s.tracker.trail p) present) in
     omega arith
-
--- the learnt clause of an entry that is the last of its level, as an analysis
-pub learnt_analysis : (s : SatState) (p : ℕ) (d : Entry) (seen : List Bool) (kept : List Signed) (causes : List ClauseId) (below : ℕ) (literals : List Signed) (x : Analysis) → Meets s p d → is_seen seen d ≡ true → IsMarkedLevel seen (before s.tracker.trail p) below
-    → s.base_level < d.level → below < d.level → literals ≡ denied seen (before s.tracker.trail p) → Walks s [] (p + 1) seen kept causes → IsLearntOf literals kept causes d (max s.base_level below) x → IsAnalysis s x
-learnt_analysis s p d seen kept causes below literals (Analysis.Refused x) m marked level above under same w of = absurd of
-learnt_analysis s p d seen kept causes below literals (Analysis.Learnt x) m marked level above under same w of =
-    let is_level : x.level ≡ max s.base_level below = of.3 in
-    walk_learns s p d seen kept causes below x m marked level (omega arith) (omega arith) (omega arith) (of.0 ∙ ap (λ (ls : List Signed). (ls ++ kept) ++ negation (literal_of d) ∷ []) same) of.1 of.2 w
 
 pub if_ok_more : {A E : Type 0} {P Q : A → Type 0} (r : Result A E) → ((a : A) → P a → Q a) → IfOk r P → IfOk r Q
 if_ok_more (Ok a) f h = f a h

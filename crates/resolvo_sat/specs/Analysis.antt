@@ -4,13 +4,14 @@ use Rattle.resolvo_pool_core.specs.declared.id.ClauseId.{ClauseId}
 use Rattle.resolvo_pool_core.specs.declared.id.VariableId.{VariableId}
 use Rattle.resolvo_store_core.specs.Signed.{Signed, negation, has}
 use Rattle.resolvo_store_core.specs.Clauses.{no}
+use Rattle.resolvo_store_core.specs.Trail.{assigned, level_or}
 use Rattle.resolvo_store_core.specs.declared.decision.Entry.{Entry}
 use Rattle.resolvo_sat.specs.declared.state.VariableKind.TheVariants.{Solvable}
 use Rattle.resolvo_sat.specs.declared.state.SatState.{SatState}
 use Rattle.resolvo_sat.specs.declared.analyze.Analysis.{Analysis}
 use Rattle.resolvo_sat.specs.declared.analyze.Learnt.{Learnt}
 use Rattle.resolvo_sat.specs.declared.analyze.FinalConflict.{FinalConflict}
-use Rattle.resolvo_sat.specs.Known.{clause_at}
+use Rattle.resolvo_sat.specs.Known.{IsFalseUnder, clause_at}
 use Rattle.resolvo_sat.specs.Entries.{literal_of, made_true, before, top_level, IsChoice, IsPropagated, IsTrail, IsTrueAt, IsOnTrail}
 use Rattle.resolvo_sat.specs.State.{history, clauses_of, IsDerived}
 
@@ -33,15 +34,29 @@ pub record Seen (literals : List Signed) (old new : List Bool) : Type 0 where
 abbrev pub MarksAtMost : ℕ → List Bool → List Bool → Type 0
 MarksAtMost n old new = (count : ℕ) (cs : List (List Signed)) (h : List Entry) → IsTrail count cs h → length (denied new h) ≤ length (denied old h) + n
 
--- no marked entry is above the level, which is not above the last entry's
-pub record IsMarkedLevel (seen : List Bool) (h : List Entry) (level : ℕ) : Type 0 where
-  pub bounds : (l : Signed) → has (denied seen h) l ≡ true → (k : ℕ) × (k ≤ level) × IsTrueAt h (negation l) k
-  pub low : level ≤ top_level h
+-- the literal was appended, where it is new
+abbrev pub IsAppended : Signed → Bool → List Signed → List Signed → Type 0
+IsAppended l false old new = new ≡ old
+IsAppended l true old new = new ≡ old ++ l ∷ []
 
--- the entry is the last marked one of its level, above the turn's first one, and the marked ones before it bound this level; or no choice is there above that one
-abbrev pub IsAssertion : SatState → List Bool → Entry → List Entry → Option ℕ → Type 0
-IsAssertion s seen e older None = s.base_level < e.level → top_level older < e.level → ⊥
-IsAssertion s seen e older (Some below) = (s.base_level < e.level) × (below < e.level) × IsMarkedLevel seen older below
+-- the literal was appended, or nothing changed
+abbrev pub MayBeAppended : Signed → List Signed → List Signed → Type 0
+MayBeAppended l old new = (new ≡ old) ⊎ (new ≡ old ++ l ∷ [])
+
+-- a literal of each newly marked variable was met; only literals of the root and of these were
+pub record Collects (literals : List Signed) (old : List Bool) (earlier : List Signed) (new : List Bool) (met : List Signed) : Type 0 where
+  pub keeps : (l : Signed) → has earlier l ≡ true → has met l ≡ true
+  pub covers : (v : ℕ) → slice_index_or new v false ≡ true → (slice_index_or old v false ≡ true) ⊎ ((l : Signed) × (has met l ≡ true) × (l.variable.0 ≡ v))
+  pub only : (l : Signed) → has met l ≡ true → (has earlier l ≡ true) ⊎ ((has literals l ≡ true) × ((l.variable.0 ≡ 0) ⊎ (slice_index_or old l.variable.0 false ≡ false)))
+
+-- each marked entry is below the level
+abbrev pub AreDeniedBelow : List Bool → List Entry → ℕ → Type 0
+AreDeniedBelow seen h level = (l : Signed) → has (denied seen h) l ≡ true → (k : ℕ) × (k < level) × IsTrueAt h (negation l) k
+
+-- the entry is the last marked one of its level, above the turn's first one; or no choice is there above that one
+abbrev pub IsAsserting : SatState → List Bool → Entry → List Entry → Bool → Type 0
+IsAsserting s seen e older false = s.base_level < e.level → top_level older < e.level → ⊥
+IsAsserting s seen e older true = (s.base_level < e.level) × AreDeniedBelow seen older e.level
 
 -- the variable represents a solvable
 abbrev pub IsSolvable : SatState → ℕ → Type 0
@@ -69,6 +84,18 @@ DenyAssumptionsBut s these literals = (l : Signed) → has literals l ≡ true �
 -- each literal is in some clause
 abbrev pub AreFromClauses : SatState → List Signed → Type 0
 AreFromClauses s literals = (l : Signed) → has literals l ≡ true → (n : ℕ) × (has (clause_at (clauses_of s) n) l ≡ true)
+
+-- a literal of each marked variable was met; what was met is false, and is in some clause
+pub record IsMet (s : SatState) (seen : List Bool) (met : List Signed) : Type 0 where
+  pub covers : (v : ℕ) → slice_index_or seen v false ≡ true → (l : Signed) × (has met l ≡ true) × (l.variable.0 ≡ v)
+  pub falls : IsFalseUnder (made_true (history s)) met
+  pub from : AreFromClauses s met
+
+-- these are the literals that were met below the level, and none is above the highest one
+pub record IsBelow (s : SatState) (met : List Signed) (level : ℕ) (literals : List Signed) (highest : ℕ) : Type 0 where
+  pub only : (l : Signed) → has literals l ≡ true → (has met l ≡ true) × (level_or (assigned s.tracker.trail l.variable.0) ≤ highest)
+  pub takes : (l : Signed) → has met l ≡ true → level_or (assigned s.tracker.trail l.variable.0) < level → has literals l ≡ true
+  pub low : highest < level
 
 -- each literal but this one is false at the level or below
 abbrev pub IsBoundedBut : Signed → List Entry → List Signed → ℕ → Type 0

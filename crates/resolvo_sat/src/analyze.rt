@@ -1,11 +1,12 @@
 //! Conflict analysis: what is learnt from a falsified clause, by a walk back along the trail.
-ghost use Rattle.std.specs.Prelude.{◌≡◌, ◌≤◌, ◌<◌, ◌+◌, ◌-◌, ◌∷◌, if◌then◌else◌, length, max, min, IfOk, IsOkUnless};
+ghost use Rattle.std.specs.Prelude.{◌≡◌, ◌≤◌, ◌<◌, ◌+◌, ◌-◌, ◌∷◌, true, false, not, if◌then◌else◌, length, max, min, slice_index_or, IfOk, OnOk, IsOkUnless};
+ghost use Rattle.std.specs.List.Sorted.{IsPermutation};
 ghost use Rattle.resolvo_pool_core.specs.declared.want.Want.TheVariants.{Memory};
-ghost use Rattle.resolvo_store_core.specs.Signed.{has};
 ghost use Rattle.resolvo_sat.specs.Known.{IsFalseUnder, clause_at};
 ghost use Rattle.resolvo_sat.specs.Entries.{made_true, before, literal_of};
 ghost use Rattle.resolvo_sat.specs.State.{IsState, history, clauses_of};
-ghost use Rattle.resolvo_sat.specs.Analysis.{Seen, MarksAtMost, denied, IsMarkedLevel, IsAssertion, IsAnalysis, IsLearntOf, IsDecisionOrForced};
+ghost use Rattle.resolvo_sat.specs.Marks.{IsMarked};
+ghost use Rattle.resolvo_sat.specs.Analysis.{Seen, Collects, IsAppended, MayBeAppended, MarksAtMost, AreDeniedBelow, IsAsserting, IsAnalysis, IsBelow, IsLearntOf, IsDecisionOrForced};
 
 use crate::marks::Marks;
 use crate::state::SatState;
@@ -25,8 +26,8 @@ pub enum Analysis {
     Learnt(Learnt),
 }
 
-/// A clause that denies choices which contradict each other, with its antecedents in the order of a
-/// RUP check.
+/// A clause that denies choices which contradict each other, that of the turn itself last. Its
+/// antecedents are in the order of a RUP check.
 #[derive(Debug, Drop)]
 pub struct FinalConflict {
     pub literals: Vec<Literal>,
@@ -50,15 +51,26 @@ pub(crate) struct Marked {
     pub of_level: usize,
 }
 
-/// Marks the variables of the literals, except the root's. Returns how many weren't marked before,
-/// and how many of these are of this level.
+/// What a learnt clause has beside its asserting literal, and the highest level of it.
+#[derive(Debug, Drop)]
+struct Others {
+    literals: Vec<Literal>,
+    level: u32,
+}
+
+/// Marks the variables of the literals, except the root's. Each literal that is met for the first
+/// time is appended to those that were met before, the root's too. Returns how many variables weren't
+/// marked before, and how many of these are of this level.
 pub(crate) fn mark_seen(
     seen: &mut Marks,
+    met: &mut Vec<Literal>,
     literals: &[Literal],
     values: &DecisionMap,
     level: u32,
 ) -> R<Marked>
     ensures marked { IfOk result (λ _. Seen literals.now seen.old seen.new) }
+    ensures collected { IfOk result
+        (λ _. Collects literals.now seen.old met.old.items seen.new met.new.items) }
     ensures few { IfOk result (λ m. MarksAtMost m.all seen.old seen.new) }
     ensures refusal { IsOkUnless result Memory }
 {
@@ -68,12 +80,41 @@ pub(crate) fn mark_seen(
     };
     for literal in literals {
         let variable = literal.variable();
-        if !variable.is_root() {
-            let is_new = seen.insert(variable)?;
+        if variable.is_root() {
+            meet_root(seen, met, *literal)?;
+        } else {
+            let is_new = meet(seen, met, *literal)?;
             count = count.with(is_new, values.level(variable) == level);
         }
     }
     Ok(count)
+}
+
+/// Marks the variable of a literal, and appends the literal where it wasn't marked.
+fn meet(seen: &mut Marks, met: &mut Vec<Literal>, literal: Literal) -> R<bool>
+    ensures added { IfOk result (λ new. new ≡ not (slice_index_or seen.old literal.variable.0 false)) }
+    ensures put { OnOk result (IsMarked literal.variable.0 seen.old seen.new) }
+    ensures appended { IfOk result
+        (λ new. IsAppended literal new met.old.items met.new.items) }
+    ensures refusal { IsOkUnless result Memory }
+{
+    let is_new = seen.insert(literal.variable())?;
+    if is_new {
+        met.push(literal)?;
+    }
+    Ok(is_new)
+}
+
+/// Appends a literal of the root where the walk meets the root for the first time.
+fn meet_root(seen: &mut Marks, met: &mut Vec<Literal>, literal: Literal) -> R<()>
+    ensures same { OnOk result (seen.new ≡ seen.old) }
+    ensures appended { OnOk result (MayBeAppended literal met.old.items met.new.items) }
+    ensures refusal { IsOkUnless result Memory }
+{
+    if seen.meet_root() {
+        met.push(literal)?;
+    }
+    Ok(())
 }
 
 impl Marked {
@@ -113,9 +154,9 @@ impl Marked {
 
 impl SatState {
     /// Walks back along the trail from a falsified clause. Each marked entry of the turn is
-    /// resolved with its reason, until only one is left of its level. The clause that denies the
-    /// marked entries is then learnt. Where no marked entry is left, only choices were kept, which
-    /// contradict each other.
+    /// resolved with its reason, until only one is left of its level. The clause that denies it and
+    /// what was met below its level is then learnt. Where no marked entry is left, only choices were
+    /// kept, which contradict each other.
     pub fn analyze(&self, alloc: Global, seen: &mut Marks, falsified: ClauseId) -> R<Analysis>
         requires state { IsState self.now }
         requires in_range { falsified.0 < length self.now.clauses }
@@ -126,7 +167,8 @@ impl SatState {
         seen.begin();
         let values = self.tracker.map();
         let level = self.top_level();
-        let mut marked = mark_seen(seen, self.literals(falsified), values, level)?;
+        let mut met = Vec::new(alloc);
+        let mut marked = mark_seen(seen, &mut met, self.literals(falsified), values, level)?;
         let mut causes = Vec::new(alloc);
         causes.push(falsified)?;
         let mut kept = Vec::new(alloc);
@@ -136,72 +178,111 @@ impl SatState {
             let entry = self.entry(place);
             if seen.contains(entry.decision.variable) {
                 marked = marked.passed();
-                if let Some(below) = self.assertion_level(place, entry, marked, seen) {
-                    let literals = self.denied(alloc, place, marked.all, seen)?;
-                    return self.learnt(literals, kept, causes, entry, below);
+                if self.is_asserting(place, entry, marked, seen) {
+                    let others = self.below(alloc, met.as_slice(), entry.level)?;
+                    return self.learnt(others, kept, causes, entry);
                 }
                 if self.is_decision(place, entry) {
                     kept.push(literal_made_true(entry).negate())?;
                 } else {
                     causes.push(entry.decision.derived_from)?;
                     let reason = self.literals(entry.decision.derived_from);
-                    let more = mark_seen(seen, reason, values, level)?;
+                    let more = mark_seen(seen, &mut met, reason, values, level)?;
                     marked = marked.plus(more);
                 }
             }
         }
         causes.reverse();
         Ok(Analysis::Refused(FinalConflict {
-            literals: kept,
+            literals: self.with_own_last(kept)?,
             causes,
         }))
     }
 
-    /// The level of the last marked entry before a place. There is one where the entry at the place
-    /// is the last marked one of its level, above the turn's first level. `marked` is how many
-    /// entries before it are marked: while some are of the conflict's level, none is searched for.
-    fn assertion_level(
-        &self,
-        place: usize,
-        entry: Entry,
-        marked: Marked,
-        seen: &Marks,
-    ) -> Option<u32>
+    /// Whether an entry is the last marked one of its level, above the turn's first level. While some
+    /// before it are counted of the conflict's level, none is searched for.
+    fn is_asserting(&self, place: usize, entry: Entry, marked: Marked, seen: &Marks) -> bool
         requires state { IsState self.now }
         requires in_range { place ≤ length self.now.tracker.trail }
-        requires marked { length (denied seen.now (before self.now.tracker.trail place)) ≤ marked.all }
-        ensures { IsAssertion self.now seen.now entry (before self.now.tracker.trail place) result }
+        ensures { IsAsserting self.now seen.now entry (before self.now.tracker.trail place) result }
     {
         if entry.level <= self.base_level {
-            return None;
+            return false;
         }
-        if marked.of_level > 0 && entry.level <= self.level_before(place) {
-            return None;
+        if entry.level > self.level_before(place) {
+            return true;
         }
-        let below = self.backjump_level(place, marked.all, seen);
-        if entry.level <= below {
-            return None;
+        if marked.of_level > 0 {
+            return false;
         }
-        Some(below)
+        self.are_below(place, entry.level, seen)
+    }
+
+    /// Whether each marked entry among the first `place` is below a level. The walk ends at the first
+    /// entry below it.
+    fn are_below(&self, place: usize, level: u32, seen: &Marks) -> bool
+        requires state { IsState self.now }
+        requires in_range { place ≤ length self.now.tracker.trail }
+        ensures { result ≡ true → AreDeniedBelow seen.now (before self.now.tracker.trail place) level }
+    {
+        let mut place = place;
+        while place > 0 {
+            place -= 1;
+            let entry = self.entry(place);
+            if entry.level < level {
+                return true;
+            }
+            if seen.contains(entry.decision.variable) {
+                return false;
+            }
+        }
+        true
+    }
+
+    /// The literals that were met below a level, in this order. The first one and the first one of
+    /// the highest level change places, so that the clause watches one of that level.
+    fn below(&self, alloc: Global, met: &[Literal], level: u32) -> R<Others>
+        requires above { 0 < level }
+        ensures below { IfOk result
+            (λ others. IsBelow self.now met.now level others.literals.items others.level) }
+        ensures refusal { IsOkUnless result Memory }
+    {
+        let mut literals = Vec::new(alloc);
+        let mut highest = 0;
+        let mut place = 0;
+        for literal in met {
+            let at = self.tracker.level(literal.variable());
+            if at < level {
+                if at > highest {
+                    place = literals.len();
+                }
+                highest = highest.max(at);
+                literals.push(*literal)?;
+            }
+        }
+        move_first(&mut literals, place);
+        Ok(Others {
+            literals,
+            level: highest,
+        })
     }
 
     /// The learnt clause, which asserts the negation of an entry, the last marked one of its level.
     fn learnt(
         &self,
-        literals: Vec<Literal>,
+        others: Others,
         kept: Vec<Literal>,
         causes: Vec<ClauseId>,
         entry: Entry,
-        below: u32,
     ) -> R<Analysis>
         requires { entry.decision.variable.0 < 2147483648 }
         ensures learnt { IfOk result
-            (IsLearntOf literals.items kept.items causes.items entry
-            (max self.now.base_level below)) }
+            (IsLearntOf others.literals.items kept.items causes.items entry
+            (max self.now.base_level others.level)) }
         ensures refusal { IsOkUnless result Memory }
     {
         let asserting = literal_made_true(entry).negate();
-        let mut literals = literals;
+        let mut literals = others.literals;
         literals.extend_from_slice(kept.as_slice())?;
         literals.push(asserting)?;
         let mut causes = causes;
@@ -210,7 +291,7 @@ impl SatState {
             literals,
             causes,
             asserting,
-            level: self.base_level.max(below),
+            level: self.base_level.max(others.level),
         }))
     }
 
@@ -229,48 +310,42 @@ impl SatState {
         self.level_before(place) < entry.level
     }
 
-    /// The negated literals of the marked entries among the first `place`, from the newest on.
-    /// The walk ends behind the last one: not more than `marked` of them are marked.
-    fn denied(&self, alloc: Global, place: usize, marked: usize, seen: &Marks) -> R<Vec<Literal>>
-        requires state { IsState self.now }
-        requires in_range { place ≤ length self.now.tracker.trail }
-        requires marked { length (denied seen.now (before self.now.tracker.trail place)) ≤ marked }
-        // What the call promises.
-        ensures literals { IfOk result (λ v. v.items ≡ denied seen.now (before self.now.tracker.trail place)) }
+    /// The kept literals, with that of the turn's own choice last. It was met first.
+    fn with_own_last(&self, kept: Vec<Literal>) -> R<Vec<Literal>>
+        ensures same { IfOk result (λ literals. IsPermutation kept.items literals.items) }
         ensures refusal { IsOkUnless result Memory }
     {
-        let mut literals = Vec::new(alloc);
-        let mut place = place;
-        while place > 0 && literals.len() < marked {
-            place -= 1;
-            let entry = self.entry(place);
-            if seen.contains(entry.decision.variable) {
-                literals.push(literal_made_true(entry).negate())?;
-            }
+        let is_own = match kept.first() {
+            Some(first) => self.tracker.level(first.variable()) == self.base_level,
+            None => false,
+        };
+        if is_own {
+            with_first_last(kept)
+        } else {
+            Ok(kept)
         }
-        Ok(literals)
     }
+}
 
-    /// The highest level of the marked entries among the first `place`, or 0. Not more than
-    /// `marked` of them are marked.
-    fn backjump_level(&self, place: usize, marked: usize, seen: &Marks) -> u32
-        requires state { IsState self.now }
-        requires in_range { place ≤ length self.now.tracker.trail }
-        requires marked { length (denied seen.now (before self.now.tracker.trail place)) ≤ marked }
-        ensures { IsMarkedLevel seen.now (before self.now.tracker.trail place) result }
-    {
-        if marked == 0 {
-            return 0;
-        }
-        let mut place = place;
-        while place > 0 {
-            place -= 1;
-            let entry = self.entry(place);
-            if seen.contains(entry.decision.variable) {
-                return entry.level;
-            }
-        }
-        0
+/// The literals with the first one last.
+pub(crate) fn with_first_last(literals: Vec<Literal>) -> R<Vec<Literal>>
+    ensures same { IfOk result (λ moved. IsPermutation literals.items moved.items) }
+    ensures refusal { IsOkUnless result Memory }
+{
+    let mut literals = literals;
+    if !literals.is_empty() {
+        let first = literals.remove(0);
+        literals.push(first)?;
+    }
+    Ok(literals)
+}
+
+/// Swaps the first literal with the one at a place, if there is one.
+fn move_first(literals: &mut Vec<Literal>, place: usize)
+    ensures { IsPermutation literals.old.items literals.new.items }
+{
+    if place < literals.len() {
+        literals.swap(0, place);
     }
 }
 

@@ -8,7 +8,7 @@ ghost use Rattle.resolvo_sat.specs.Entries.{before, literal_of, made_true, top_l
 ghost use Rattle.resolvo_sat.specs.State.{IsState, history};
 ghost use Rattle.resolvo_sat.specs.Analysis.{IsReason, IsRefuted};
 
-use crate::analyze::{FinalConflict, literal_made_true, mark_seen};
+use crate::analyze::{FinalConflict, literal_made_true, mark_seen, with_first_last};
 use crate::marks::Marks;
 use crate::state::SatState;
 use resolvo_pool_core::id::VariableId;
@@ -53,7 +53,7 @@ impl SatState {
     }
 
     /// Walks back along the trail from the reason of an entry. Each marked entry is resolved with
-    /// its reason, except choices, which the clause denies.
+    /// its reason, except choices, which the clause denies. The entry's own literal comes last.
     fn reason(&self, alloc: Global, place: usize, entry: Entry) -> R<FinalConflict>
         requires state { IsState self.now }
         requires above { top_level (history self.now) < self.now.base_level }
@@ -66,10 +66,11 @@ impl SatState {
         ensures refusal { IsOkUnless result Memory }
     {
         let mut seen = Marks::new(alloc);
+        let mut met = Vec::new(alloc);
         let values = self.tracker.map();
         let reason = self.literals(entry.decision.derived_from);
         // The entry's own variable is among those of its reason.
-        let first = mark_seen(&mut seen, reason, values, 0)?;
+        let first = mark_seen(&mut seen, &mut met, reason, values, 0)?;
         let begun = first.passed();
         let mut marked = begun;
         let mut causes = Vec::new(alloc);
@@ -87,14 +88,14 @@ impl SatState {
                 } else {
                     causes.push(earlier.decision.derived_from)?;
                     let reason = self.literals(earlier.decision.derived_from);
-                    let more = mark_seen(&mut seen, reason, values, 0)?;
+                    let more = mark_seen(&mut seen, &mut met, reason, values, 0)?;
                     marked = marked.plus(more);
                 }
             }
         }
         causes.reverse();
         Ok(FinalConflict {
-            literals: kept,
+            literals: with_first_last(kept)?,
             causes,
         })
     }

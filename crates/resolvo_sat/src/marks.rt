@@ -16,6 +16,8 @@ pub struct Marks {
     walks: Vec<u64>,
     /// The number of the present walk.
     walk: u64,
+    /// The number of the last walk that met the root, which isn't marked; 0 where none did.
+    root_walk: u64,
 }
 
 impl Model for Marks {
@@ -37,6 +39,7 @@ impl Marks {
         Marks {
             walks: Vec::new(alloc),
             walk: 1,
+            root_walk: 0,
         }
     }
 
@@ -47,6 +50,7 @@ impl Marks {
         if self.walk == u64::MAX {
             self.walks.clear();
             self.walk = 1;
+            self.root_walk = 0;
         } else {
             self.walk += 1;
         }
@@ -71,6 +75,15 @@ impl Marks {
         let is_new = !self.contains(variable);
         self.mark(index);
         Ok(is_new)
+    }
+
+    /// Notes that the walk meets the root; true where it hadn't. The root isn't marked.
+    pub(crate) fn meet_root(&mut self) -> bool
+        ensures { self.new ≡ self.old }
+    {
+        let is_new = self.root_walk != self.walk;
+        self.root_walk = self.walk;
+        is_new
     }
 
     /// Makes room for the variable of this index.

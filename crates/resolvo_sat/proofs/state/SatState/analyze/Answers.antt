@@ -7,11 +7,12 @@ use Rattle.resolvo_sat.specs.declared.state.SatState.{SatState}
 use Rattle.resolvo_sat.specs.Entries.{before, top_level, IsPropagated, reason_of}
 use Rattle.resolvo_sat.specs.State.{count_of, clauses_of}
 use Rattle.resolvo_sat.specs.Known.{clause_at}
-use Rattle.resolvo_sat.specs.Analysis.{Walks, Seen, IsDecisionOrForced, IsRefusal, is_seen, denied}
+use Rattle.resolvo_sat.specs.Analysis.{Walks, Seen, Collects, IsBelow, IsAsserting, IsDecisionOrForced, IsRefusal, is_seen, denied}
 use Rattle.resolvo_sat.proofs.Clauses.{length-lists}
 use Rattle.resolvo_sat.proofs.MarkLemmas.{few_begun, few_passed, few_resolved}
 use Rattle.resolvo_sat.proofs.Trails.{trail_before}
-use Rattle.resolvo_sat.proofs.WalkLemmas.{Meets, came, meets, walk_starts, walk_keeps, walk_resolves, walk_at, rooted_before, kept_low, in_range_from, learnt_analysis, if_ok_more, none_first, walk_ends}
+use Rattle.resolvo_sat.proofs.WalkLemmas.{Meets, came, meets, walk_starts, walk_keeps, walk_resolves, walk_at, rooted_before, kept_low, in_range_from, if_ok_more, none_first, walk_ends}
+use Rattle.resolvo_sat.proofs.MetLemmas.{met_starts, met_resolves, learnt_analysis, refusal_moved}
 use Rattle.resolvo_sat.proofs.state.SatState.analyze.Goals.{then-loop-place-test+else-marked-gt0, else-loop-place-test}
 use Rattle.resolvo_sat.proofs.state.SatState.analyze.Goals as goal
 
@@ -23,7 +24,10 @@ loop-place-init c =
     let whole : length c.stack-place.result.now ≡ length s.tracker.trail = ap length c.stack-place.ensures.trail in
     let bound : c.args.falsified.0 < length (clauses_of s) = omega (arith, length-lists s.clauses, c.requires.in_range) in
     let marked : Seen (clause_at (clauses_of s) c.args.falsified.0) c.begin.new.self c.mark_seen.new.seen = subst (λ (l : List Signed). Seen l c.begin.new.self c.mark_seen.new.seen) c.literals.ensures c.in_ok-marked.ensures.marked in
+    let collected : Collects (clause_at (clauses_of s) c.args.falsified.0) c.begin.new.self [] c.mark_seen.new.seen c.mark_seen.new.met.items = subst (λ (l : List Signed). Collects l c.begin.new.self [] c.mark_seen.new.seen c.mark_seen.new.met.items) c.literals.ensures
+    (subst (λ (e : List Signed). Collects c.literals.result.now c.begin.new.self e c.mark_seen.new.seen c.mark_seen.new.met.items) c.new-met.ensures.items c.in_ok-marked.ensures.collected) in
     record {
+      met = met_starts s c.args.falsified c.begin.new.self c.mark_seen.new.seen c.mark_seen.new.met.items c.requires.falls c.begin.ensures collected;
       few = few_begun c.in_ok-marked.marked.all (count_of s) (clauses_of s) c.begin.new.self c.mark_seen.new.seen (before s.tracker.trail (length c.stack-place.result.now)) (trail_before (count_of s) (clauses_of s) s.tracker.trail (length c.stack-place.result.now) c.requires.state.trail) c.begin.ensures c.in_ok-marked.ensures.few;
       walks = subst (λ (n : ℕ). Walks s [] n c.mark_seen.new.seen c.new-kept.result.items c.push.new.self.items) (sym whole)
           (subst (λ (k : List Signed). Walks s [] (length s.tracker.trail) c.mark_seen.new.seen k c.push.new.self.items) (sym c.new-kept.ensures.items)
@@ -31,8 +35,8 @@ loop-place-init c =
           (walk_starts s c.args.falsified c.begin.new.self c.mark_seen.new.seen c.requires.state bound c.requires.falls c.begin.ensures marked)));
     }
 
-pub returns-in-Some-clause-analysis : goal.returns-in-Some-clause-analysis
-returns-in-Some-clause-analysis c =
+pub returns-then-is_asserting-clause-analysis : goal.returns-then-is_asserting-clause-analysis
+returns-then-is_asserting-clause-analysis c =
     let s : SatState = c.args.self.now in
     let p : ℕ = c.loop-place.place - 1 in
     let d : Entry = c.entry-entry.result in
@@ -40,13 +44,15 @@ returns-in-Some-clause-analysis c =
     let within : p < length s.tracker.trail = omega arith in
     let m : Meets s p d = meets s p d c.requires.state within c.entry-entry.ensures.next in
     let marked : is_seen c.loop-place.seen d ≡ true = sym c.contains.ensures ∙ c.if-contains.true in
+    let asserts : IsAsserting s c.loop-place.seen d (before s.tracker.trail p) true = subst (IsAsserting s c.loop-place.seen d (before s.tracker.trail p)) c.if-is_asserting.true c.is_asserting.ensures in
     if_ok_more c.learnt.result
-    (λ x of. learnt_analysis s p d c.loop-place.seen c.loop-place.kept.items c.loop-place.causes.items c.in-Some.below c.in_ok-literals.literals.items x m marked c.in-Some.ensures.2 c.in-Some.ensures.0 c.in-Some.ensures.1 c.in_ok-literals.ensures.literals
+    (λ x of. learnt_analysis s p d c.loop-place.seen c.loop-place.kept.items c.loop-place.met.items c.in_ok-others.others.literals.items c.loop-place.causes.items c.in_ok-others.others.level x c.requires.state m marked asserts.1 asserts.0 c.loop-place.invariant.met
+    (subst (λ (ls : List Signed). IsBelow s ls d.level c.in_ok-others.others.literals.items c.in_ok-others.others.level) c.as_slice.ensures.value c.in_ok-others.ensures.below)
     (walk_at s [] c.loop-place.place c.loop-place.seen c.loop-place.kept.items c.loop-place.causes.items c.loop-place-test.true c.loop-place.invariant.walks) of)
     c.learnt.ensures.learnt
 
-pub loop-place-preserved-in-Continue-branch-4 : goal.loop-place-preserved-in-Continue-branch-4
-loop-place-preserved-in-Continue-branch-4 c =
+pub loop-place-preserved-in_ok-push-2 : goal.loop-place-preserved-in_ok-push-2
+loop-place-preserved-in_ok-push-2 c =
     let s : SatState = c.args.self.now in
     let p : ℕ = c.loop-place.place - 1 in
     let d : Entry = c.entry-entry.result in
@@ -56,9 +62,10 @@ loop-place-preserved-in-Continue-branch-4 c =
     let marked : is_seen c.loop-place.seen d ≡ true = sym c.contains.ensures ∙ c.if-contains.true in
     let pushed = chosen _ _ _ _ c.push-then-is_decision.ensures.items (ap is_ok c.in_ok-push-2.was) ∙ ap (λ (l : Signed). c.loop-place.kept.items ++ l ∷ []) (c.negate.ensures ∙ ap Rattle.resolvo_store_core.specs.Signed.negation c.literal_made_true.ensures) in
     record {
+      met = c.loop-place.invariant.met;
       few = few_passed c.loop-place.seen (before s.tracker.trail c.loop-place.place) d (before s.tracker.trail p) c.loop-place.marked.all c.passed-marked.result.all (came s.tracker.trail c.loop-place.place d (omega arith) c.entry-entry.ensures.next) marked c.loop-place.invariant.few c.passed-marked.ensures;
       walks = walk_keeps s [] p d c.loop-place.seen c.loop-place.kept.items c.push-then-is_decision.new.self.items c.loop-place.causes.items m marked
-          (kept_low s p d (top_level (before s.tracker.trail p)) (omega arith) c.in_default.ensures
+          (kept_low s p d (top_level (before s.tracker.trail p)) (omega arith) (subst (IsAsserting s c.loop-place.seen d (before s.tracker.trail p)) c.if-is_asserting.false c.is_asserting.ensures)
           (subst (IsDecisionOrForced s d (before s.tracker.trail p)) c.if-is_decision.true c.is_decision.ensures))
           pushed (walk_at s [] c.loop-place.place c.loop-place.seen c.loop-place.kept.items c.loop-place.causes.items c.loop-place-test.true c.loop-place.invariant.walks);
     }
@@ -84,20 +91,15 @@ loop-place-preserved-else-is_decision c =
     let marked : Seen (clause_at (clauses_of s) (reason_of d)) c.loop-place.seen c.mark_seen-else-is_decision.new.seen = subst (λ (l : List Signed). Seen l c.loop-place.seen c.mark_seen-else-is_decision.new.seen) c.literals-reason.ensures c.in_ok-more.ensures.marked in
     let pushed = chosen _ _ _ _ c.push-else-is_decision.ensures.items (ap is_ok c.in_ok-push-3.was) in
     let passed : length (denied c.loop-place.seen (before s.tracker.trail p)) ≤ c.passed-marked.result.all = few_passed c.loop-place.seen (before s.tracker.trail c.loop-place.place) d (before s.tracker.trail p) c.loop-place.marked.all c.passed-marked.result.all (came s.tracker.trail c.loop-place.place d (omega arith) c.entry-entry.ensures.next) is_marked_d c.loop-place.invariant.few c.passed-marked.ensures in
+    let collected : Collects (clause_at (clauses_of s) (reason_of d)) c.loop-place.seen c.loop-place.met.items c.mark_seen-else-is_decision.new.seen c.mark_seen-else-is_decision.new.met.items =
+    subst (λ (l : List Signed). Collects l c.loop-place.seen c.loop-place.met.items c.mark_seen-else-is_decision.new.seen c.mark_seen-else-is_decision.new.met.items) c.literals-reason.ensures c.in_ok-more.ensures.collected in
     record {
+      met = met_resolves s p d c.loop-place.seen c.mark_seen-else-is_decision.new.seen c.loop-place.met.items c.mark_seen-else-is_decision.new.met.items m c.loop-place.invariant.walks.rootless is_marked_d forced collected c.loop-place.invariant.met;
       few = few_resolved c.passed-marked.result.all c.in_ok-more.more.all c.plus-marked.result.all _ (count_of s) (clauses_of s) c.loop-place.seen c.mark_seen-else-is_decision.new.seen s.tracker.trail p m.trail (omega arith) (omega arith) c.in_ok-more.ensures.few c.plus-marked.ensures passed;
       walks = walk_resolves s [] p d c.loop-place.seen c.mark_seen-else-is_decision.new.seen c.loop-place.kept.items c.loop-place.causes.items c.push-else-is_decision.new.self.items m
           (rooted_before s p d c.loop-place.seen c.requires.state m c.loop-place.invariant.walks.rootless is_marked_d) forced marked pushed
           (walk_at s [] c.loop-place.place c.loop-place.seen c.loop-place.kept.items c.loop-place.causes.items c.loop-place-test.true c.loop-place.invariant.walks);
     }
-
-pub assertion_level-requires-clause-marked : goal.assertion_level-requires-clause-marked
-assertion_level-requires-clause-marked c =
-    let s : SatState = c.args.self.now in
-    let p : ℕ = c.loop-place.place - 1 in
-    let d : Entry = c.entry-entry.result in
-    let marked : is_seen c.loop-place.seen d ≡ true = sym c.contains.ensures ∙ c.if-contains.true in
-    few_passed c.loop-place.seen (before s.tracker.trail c.loop-place.place) d (before s.tracker.trail p) c.loop-place.marked.all c.passed-marked.result.all (came s.tracker.trail c.loop-place.place d (omega arith) c.entry-entry.ensures.next) marked c.loop-place.invariant.few c.passed-marked.ensures
 
 pub returns-clause-analysis : goal.returns-clause-analysis
 returns-clause-analysis c =
@@ -106,4 +108,5 @@ returns-clause-analysis c =
       | then-loop-place-test+else-marked-gt0 w ↦ omega (arith, c.loop-place.invariant.few, w.if-marked-gt0.false)
       | else-loop-place-test w ↦ none_first s.tracker.trail c.loop-place.place c.loop-place.seen w.loop-place-test.false
     ] in
-    subst (λ (causes : List ClauseId). IsRefusal s c.loop-place.kept.items causes) (sym c.reverse.ensures.items) (walk_ends s c.loop-place.place c.loop-place.seen c.loop-place.kept.items c.loop-place.causes.items none c.loop-place.invariant.walks)
+    refusal_moved s c.loop-place.kept.items c.in_ok-with_own_last.field-0.items c.reverse.new.self.items c.in_ok-with_own_last.ensures.same
+    (subst (λ (causes : List ClauseId). IsRefusal s c.loop-place.kept.items causes) (sym c.reverse.ensures.items) (walk_ends s c.loop-place.place c.loop-place.seen c.loop-place.kept.items c.loop-place.causes.items none c.loop-place.invariant.walks))

@@ -13,6 +13,7 @@ use Rattle.resolvo_store_core.specs.Clauses.{yes, root}
 use Rattle.resolvo_sat.proofs.MarkLemmas.{few_begun, few_passed, few_resolved, unmade}
 use Rattle.resolvo_sat.proofs.Trails.{trail_before}
 use Rattle.resolvo_sat.proofs.WalkLemmas.{Meets, came, meets, none_first, walk_explains, walk_begins, walk_keeps, walk_resolves, walk_at, rooted_before, rooted_before_false, false_forced, below_turn, kept_low, in_range_from}
+use Rattle.resolvo_sat.proofs.MetLemmas.{reason_moved}
 use Rattle.resolvo_sat.proofs.state.SatState.reason.Goals.{then-loop-at-test+else-marked-gt0, else-loop-at-test}
 use Rattle.resolvo_sat.proofs.state.SatState.reason.Goals as goal
 
@@ -55,8 +56,8 @@ loop-at-init c =
       few = few_passed c.mark_seen.new.seen (before s.tracker.trail (c.args.place + 1)) d (before s.tracker.trail c.args.place) c.in_ok-first.first.all c.passed-begun.result.all c.requires.next own all c.passed-begun.ensures;
     }
 
-pub loop-at-preserved-in-Continue-branch-4 : goal.loop-at-preserved-in-Continue-branch-4
-loop-at-preserved-in-Continue-branch-4 c =
+pub loop-at-preserved-in_ok-push-3 : goal.loop-at-preserved-in_ok-push-3
+loop-at-preserved-in_ok-push-3 c =
     let s : SatState = c.args.self.now in
     let p : ℕ = c.loop-at.at - 1 in
     let d : Entry = c.entry-earlier.result in
@@ -109,4 +110,5 @@ returns-clause-reason c =
       | then-loop-at-test+else-marked-gt0 w ↦ omega (arith, c.loop-at.invariant.few, w.if-marked-gt0.false)
       | else-loop-at-test w ↦ none_first s.tracker.trail c.loop-at.at c.loop-at.seen w.loop-at-test.false
     ] in
-    subst (λ (causes : List ClauseId). IsReason s (literal_of c.args.entry) c.loop-at.kept.items causes) (sym c.reverse.ensures.items) (walk_explains s (literal_of c.args.entry) c.loop-at.at c.loop-at.seen c.loop-at.kept.items c.loop-at.causes.items none c.loop-at.invariant.walks)
+    reason_moved s (literal_of c.args.entry) c.loop-at.kept.items c.in_ok-with_first_last.field-0.items c.reverse.new.self.items c.in_ok-with_first_last.ensures.same
+    (subst (λ (causes : List ClauseId). IsReason s (literal_of c.args.entry) c.loop-at.kept.items causes) (sym c.reverse.ensures.items) (walk_explains s (literal_of c.args.entry) c.loop-at.at c.loop-at.seen c.loop-at.kept.items c.loop-at.causes.items none c.loop-at.invariant.walks))
