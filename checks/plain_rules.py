@@ -55,7 +55,6 @@ class Options:
 
 PROGRAM = Options(
     exclusions_by_version=True, set_at_once=False,
-    root_in_learnt=False, as_met=False,
 )
 
 
