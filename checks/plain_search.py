@@ -363,8 +363,8 @@ class Encoder:
             self.settle(self.solver.add_clause(There(version), [no(version), yes(AnyAtom(version.package))]))
 
     def add_matches(self, spec: Spec) -> None:
-        """For each match: not the version, or `matches` of the SPEC."""
-        for version in self.facts.matching(spec):
+        """For each match, in the order in which they are tried: not the version, or `matches` of the SPEC."""
+        for version in self.facts.sorted((spec,)):
             self.settle(self.solver.add_clause(Matches(spec, version), [no(version), yes(MatchesAtom(spec))]))
 
 
