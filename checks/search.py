@@ -118,13 +118,38 @@ def coloured_texts(rng: random.Random) -> Pair:
     return "\n".join(lines) + "\n", "\n".join(request) + "\n"
 
 
+def marked_texts(rng: random.Random) -> Pair:
+    """Some packages are marked `many`. Versions that wishes bring about make several cases of a need hold at once."""
+    packages = "abcd"[: rng.randint(2, 4)]
+    listed = [(package, number) for package in packages for number in range(1, rng.randint(2, 4))]
+
+    def spec() -> str:
+        return rng.choice(packages) + (f" {rng.randint(1, 3)}" if rng.random() < 0.4 else "")
+
+    def condition() -> str:
+        return " or ".join(spec() + (f" and {spec()}" if rng.random() < 0.2 else "") for _ in range(rng.choice([1, 2, 2, 3])))
+
+    lines = [f"many {package}" for package in packages if rng.random() < 0.5]
+    for package, number in listed:
+        lines.append(f"version {package} {number}")
+        for _ in range(rng.choice([0, 1, 1, 2])):
+            need = f"needs {rng.choice(packages)} {rng.randint(1, 4)}"
+            lines.append(need + (f" if {condition()}" if rng.random() < 0.8 else ""))
+    request = [f"needs {spec()}"] * rng.randint(0, 1) + [f"needs {spec()} if {condition()}"] * rng.randint(0, 1)
+    request += [f"wish {package} {number}" for package, number in rng.sample(listed, rng.randint(1, len(listed)))]
+    return "\n".join(lines) + "\n", "\n".join(request) + "\n"
+
+
 def pairs_of(seed: int, count: int) -> Iterator[tuple[str, Pair]]:
-    """Pairs in turn: small, dense, and of colours."""
-    rng = random.Random(seed)
+    """Pairs in turn: small, dense, and of colours. Each tenth one has marks."""
+    rng, marks = random.Random(seed), random.Random(f"marks {seed}")
     for number in range(count):
-        if number % 5 in (0, 1):
+        turn = (number - number // 10) % 5
+        if number % 10 == 9:
+            yield "marked", marked_texts(marks)
+        elif turn in (0, 1):
             yield "small", generated_texts(rng)
-        elif number % 5 in (2, 3):
+        elif turn in (2, 3):
             yield "dense", Dense(rng).texts()
         else:
             yield "coloured", coloured_texts(rng)
