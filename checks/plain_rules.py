@@ -36,7 +36,6 @@ class Options:
     flat_cases: bool = False  # deferred cases are taken in the order of their parents, not by condition
     parent_by_parent: bool = False  # a parent is encoded to its end, with the cases that hold, before the next is begun
     root_stays: bool = False  # the root's turn is begun again without undoing what level 1 has
-    # What the program does against the rules.
     exclusions_by_version: bool = False  # a package's exclusions come in the order of its versions
     # Where the rules are silent.
     set_at_once: bool = True  # a new gate, helper, digit or any clause sets at once what it says
@@ -53,9 +52,7 @@ class Options:
     decay: int = 950_000  # how many millionths of each score are left after a learnt clause
 
 
-PROGRAM = Options(
-    exclusions_by_version=True, set_at_once=False,
-)
+PROGRAM = Options(set_at_once=False)
 
 
 # ---- what a clause states

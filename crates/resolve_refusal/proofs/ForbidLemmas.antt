@@ -22,7 +22,7 @@ use Rattle.resolvo_catalogue.specs.Ids.{SolvableId, IsPackage, IsWord, solvable_
 use Rattle.resolvo_catalogue.specs.Known.{name_of, word_text}
 use Rattle.resolvo_catalogue.specs.Dependencies.{IsReason, VersionDependencies, reason_in, lines_at, no_lines}
 use Rattle.resolvo_catalogue.specs.Marked.{IsExclusion, IsMarked}
-use Rattle.resolvo_catalogue.specs.Provider.{Provider, packages_of, listing_if_any, exclusion_of, marks_at, deps_at, no_marks, needs_of}
+use Rattle.resolvo_catalogue.specs.Provider.{Provider, packages_of, listing_if_any, exclusions_of, marks_at, deps_at, no_marks, needs_of}
 use Rattle.resolvo_catalogue.specs.Over.{IsOver}
 use Rattle.resolvo_catalogue.specs.KeptSets.{DistinguishesIds}
 use Rattle.resolvo_catalogue.proofs.Alike.{is_package, in_from, candidate, listed_is}
@@ -30,7 +30,7 @@ use Rattle.resolvo_catalogue.proofs.KeptAlike.{deps_of_it, its_version}
 use Rattle.resolvo_catalogue.proofs.MarkLemmas.{one_some}
 use Rattle.resolvo_catalogue.proofs.PassLemmas.{any_from}
 use Rattle.resolvo_catalogue.proofs.Elements.{flat_from, reason_from, from_lines}
-use Rattle.resolvo_catalogue.proofs.RulesKept.{found_in, listing_is, locked_by, excluded_by, exclusion_word}
+use Rattle.resolvo_catalogue.proofs.RulesKept.{found_in, listing_is, locked_by, excluded_by, exclusion_from, exclusion_word}
 use Rattle.std.proofs.lemmas.Option.{slice_get-get_or, slice_get_within, get_or_from_slice_get, unwrap_or-slice_get}
 use Rattle.resolvo_report.specs.Value as in_report
 use Rattle.resolvo_checker.specs.StepClauses as judge
@@ -141,8 +141,8 @@ module _ (catalogue : List Line) (p : Provider) (over : IsOver catalogue p) (sam
       let ss = solvables_of p.ids n.raw in
       let named : IsPackage p.ids n v.name = is_package p (listed catalogue) over.versions over.once same apart s v e in
       let among : Contains ss s = subst (λ (xs : List SolvableId). Contains xs s) (listed_is p ss) (in_from p (listed catalogue) over.versions over.once same apart _ s (candidate p (listed catalogue) over.versions over.once same apart n s v e ∙ eq-eqb n.raw n.raw refl)) in
-      let here : (locks_out same (find (λ (t : SolvableId). (marks_at p t).locked) ss) s || list_any (λ (x : SolvableId × StringId). same x.0 s) (flat_map (exclusion_of p) ss)) ≡ true = rw (listing_is p ss s among) at h in
-      elim (or_cases (locks_out same (find (λ (t : SolvableId). (marks_at p t).locked) ss) s) (list_any (λ (x : SolvableId × StringId). same x.0 s) (flat_map (exclusion_of p) ss)) here) [
+      let here : (locks_out same (find (λ (t : SolvableId). (marks_at p t).locked) ss) s || list_any (λ (x : SolvableId × StringId). same x.0 s) (exclusions_of p ss)) ≡ true = rw (listing_is p ss s among) at h in
+      elim (or_cases (locks_out same (find (λ (t : SolvableId). (marks_at p t).locked) ss) s) (list_any (λ (x : SolvableId × StringId). same x.0 s) (exclusions_of p ss)) here) [
         | inl out ↦
             let l = locked_by same (find (λ (t : SolvableId). (marks_at p t).locked) ss) s out in
             let f = found_in (λ (t : SolvableId). (marks_at p t).locked) ss l.0 l.1 in
@@ -150,8 +150,8 @@ module _ (catalogue : List Line) (p : Provider) (over : IsOver catalogue p) (sam
             let lock = (marks_of l.0 w.0 w.1).locked.0 f.1 in
             inl (w.0, lock, one_some (sym named ∙ w.2), λ is. l.2 ((apart l.0 s).1 (ap (λ (k : ℕ). solvable_id k) (over.distinct v l.0.raw s.raw (w.1 ∙ ap (λ (x : Version). Some x) (sym is)) e))))
         | inr excluded ↦
-            let x = any_from (λ (x : SolvableId × StringId). same x.0 s) (flat_map (exclusion_of p) ss) excluded in
-            let f = flat_from (exclusion_of p) ss x.0 x.1 in
+            let x = any_from (λ (x : SolvableId × StringId). same x.0 s) (exclusions_of p ss) excluded in
+            let f = exclusion_from p ss x.0 x.1 in
             let by = excluded_by f.0 (marks_at p f.0).excluded x.0 f.2 in
             let is : f.0 ≡ s = by.1 ∙ (apart x.0.0 s).0 x.2 in
             inr (exclusion_word p.ids catalogue v (marks_at p s).excluded x.0.1 (marks_of s v e).excluded (subst (λ (t : SolvableId). (marks_at p t).excluded ≡ Some x.0.1) is by.0))
@@ -198,7 +198,7 @@ module _ (catalogue : List Line) (p : Provider) (over : IsOver catalogue p) (sam
   excluded_in : (ss : List SolvableId) (e : SolvableId × StringId) → Contains (pool.listing_or_empty (listing_if_any p ss)).excluded e → Contains ss e.0
   excluded_in [] e h = absurd (contains_none e h)
   excluded_in (x ∷ xs) e h =
-      let f = flat_from (exclusion_of p) (x ∷ xs) e h in
+      let f = exclusion_from p (x ∷ xs) e h in
       subst (λ (y : SolvableId). Contains (x ∷ xs) y) (excluded_by f.0 (marks_at p f.0).excluded e f.2).1 f.1
 
   pub forbidden_version : (s : SolvableId) (w : ForbidReason SolvableId) → KeepsOut same (packages_of p) w s → (v : Version) × (slice_get (listed catalogue) s.raw ≡ Some v)
@@ -250,8 +250,8 @@ module _ (catalogue : List Line) (p : Provider) (over : IsOver catalogue p) (sam
   -- a solvable forbidden with a reason has a line with the reason's word
   pub word_there : (why : StringId) (s : SolvableId) (v : Version) → slice_get (listed catalogue) s.raw ≡ Some v → KeepsOut same (packages_of p) (ForbidReason.word why) s → (n : ℕ) × ForbidsAs catalogue v (word_text p.ids why) n
   word_there why s v e (inl c) =
-      let there : Contains (flat_map (exclusion_of p) (beside s)) (s, why) = subst (λ (x : pool.Listing SolvableId). Contains x.excluded (s, why)) (listing_is p (beside s) s (among_them s v e)) c in
-      let f = flat_from (exclusion_of p) (beside s) (s, why) there in
+      let there : Contains (exclusions_of p (beside s)) (s, why) = subst (λ (x : pool.Listing SolvableId). Contains x.excluded (s, why)) (listing_is p (beside s) s (among_them s v e)) c in
+      let f = exclusion_from p (beside s) (s, why) there in
       let by = excluded_by f.0 (marks_at p f.0).excluded (s, why) f.2 in
       let of : (marks_at p s).excluded ≡ Some why = subst (λ (t : SolvableId). (marks_at p t).excluded ≡ Some why) by.1 by.0 in
       let (word, has, is) = exclusion_line_of (marks_at p s).excluded v why (marks_of s v e).excluded of in

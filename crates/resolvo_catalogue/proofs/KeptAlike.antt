@@ -30,7 +30,7 @@ use Rattle.resolvo_catalogue.specs.Ids.{SolvableId, solvable_id, solvables_of, I
 use Rattle.resolvo_catalogue.specs.Known.{name_of}
 use Rattle.resolvo_catalogue.specs.Dependencies.{need_in, limit_in, reason_in, lines_at, no_lines}
 use Rattle.resolvo_catalogue.specs.Marked.{IsMarked}
-use Rattle.resolvo_catalogue.specs.Provider.{Provider, candidates_of, listing_of, exclusion_of, marks_at, many_at, are_many, deps_at, dependencies_of, no_marks, packages_of}
+use Rattle.resolvo_catalogue.specs.Provider.{Provider, candidates_of, listing_of, exclusions_of, marks_at, many_at, are_many, deps_at, dependencies_of, no_marks, packages_of}
 use Rattle.resolvo_catalogue.specs.Over.{IsOver, AreDependenciesAt}
 use Rattle.resolvo_catalogue.specs.KeptSets.{Represents, DistinguishesIds, KeepsAlike, KeepsAlikeExempt}
 use Rattle.resolvo_catalogue.proofs.MarkLemmas.{one_some, marked_stays}
@@ -39,7 +39,7 @@ use Rattle.resolvo_catalogue.proofs.Elements.{flat_from, flat_to, option_to, eac
 use Rattle.resolvo_catalogue.proofs.Alike.{listed_is, member_place, is_package, in_from, in_to, candidate, outside_same, need_binds, meets_same}
 use Rattle.resolvo_catalogue.proofs.ListLemmas.{versions_stay}
 use Rattle.resolvo_catalogue.proofs.CoverLemmas.{deps_stay}
-use Rattle.resolvo_catalogue.proofs.RulesKept.{bound, binding, bound_by, binding_by, not_true, not_false, is_not, member_from, member_to, met_member, member_met, within_from, within_to, found_in, find_some, one_lock, owner_there, owner_there_limit, owner_there_unknown, lock_listed, req_from, con_from, req_to, con_to, unknown_from, unknown_to, listing_is, locked_by, excluded_by, exclusion_word, exclusion_there}
+use Rattle.resolvo_catalogue.proofs.RulesKept.{bound, binding, bound_by, binding_by, not_true, not_false, is_not, member_from, member_to, met_member, member_met, within_from, within_to, found_in, find_some, one_lock, owner_there, owner_there_limit, owner_there_unknown, lock_listed, req_from, con_from, req_to, con_to, unknown_from, unknown_to, listing_is, locked_by, excluded_by, exclusion_from, exclusion_to, exclusion_word, exclusion_there}
 
 module _ (p : Provider) (catalogue : List Line) (over : IsOver catalogue p) (same : SolvableId → SolvableId → Bool) (apart : DistinguishesIds same) where
   -- ---- a version's solvable
@@ -108,8 +108,8 @@ module _ (p : Provider) (catalogue : List Line) (over : IsOver catalogue p) (sam
   forbidden_from s v e h =
       let n = name_of p.ids s in
       let ss = solvables_of p.ids n.raw in
-      let here : (locks_out same (find (λ (t : SolvableId). (marks_at p t).locked) ss) s || list_any (λ (x : SolvableId × StringId). same x.0 s) (flat_map (exclusion_of p) ss)) ≡ true = rw (own_listing s v e) at h in
-      elim (or_cases (locks_out same (find (λ (t : SolvableId). (marks_at p t).locked) ss) s) (list_any (λ (x : SolvableId × StringId). same x.0 s) (flat_map (exclusion_of p) ss)) here) [
+      let here : (locks_out same (find (λ (t : SolvableId). (marks_at p t).locked) ss) s || list_any (λ (x : SolvableId × StringId). same x.0 s) (exclusions_of p ss)) ≡ true = rw (own_listing s v e) at h in
+      elim (or_cases (locks_out same (find (λ (t : SolvableId). (marks_at p t).locked) ss) s) (list_any (λ (x : SolvableId × StringId). same x.0 s) (exclusions_of p ss)) here) [
         | inl out ↦
             let l = locked_by same (find (λ (t : SolvableId). (marks_at p t).locked) ss) s out in
             let f = found_in (λ (t : SolvableId). (marks_at p t).locked) ss l.0 l.1 in
@@ -117,8 +117,8 @@ module _ (p : Provider) (catalogue : List Line) (over : IsOver catalogue p) (sam
             let lock = (marks_of_it l.0 w.0 w.1).locked.0 f.1 in
             inl (w.0, lock, one_some (sym (named s v e) ∙ w.2), λ is. l.2 ((apart l.0 s).1 (ap (λ (k : ℕ). solvable_id k) (over.distinct v l.0.raw s.raw (w.1 ∙ ap (λ (x : Version). Some x) (sym is)) e))))
         | inr excluded ↦
-            let x = any_from (λ (x : SolvableId × StringId). same x.0 s) (flat_map (exclusion_of p) ss) excluded in
-            let f = flat_from (exclusion_of p) ss x.0 x.1 in
+            let x = any_from (λ (x : SolvableId × StringId). same x.0 s) (exclusions_of p ss) excluded in
+            let f = exclusion_from p ss x.0 x.1 in
             let by = excluded_by f.0 (marks_at p f.0).excluded x.0 f.2 in
             let is : f.0 ≡ s = by.1 ∙ (apart x.0.0 s).0 x.2 in
             inr (exclusion_word p.ids catalogue v (marks_at p s).excluded x.0.1 (marks_of_it s v e).excluded (subst (λ (t : SolvableId). (marks_at p t).excluded ≡ Some x.0.1) is by.0))
@@ -128,8 +128,8 @@ module _ (p : Provider) (catalogue : List Line) (over : IsOver catalogue p) (sam
   lock_forbids s v w e lock k at e_name h =
       let n = name_of p.ids s in
       let ss = solvables_of p.ids n.raw in
-      let here : (locks_out same (find (λ (t : SolvableId). (marks_at p t).locked) ss) s || list_any (λ (x : SolvableId × StringId). same x.0 s) (flat_map (exclusion_of p) ss)) ≡ false = rw (own_listing s v e) at h in
-      let free = (or_parts (locks_out same (find (λ (t : SolvableId). (marks_at p t).locked) ss) s) (list_any (λ (x : SolvableId × StringId). same x.0 s) (flat_map (exclusion_of p) ss)) here).0 in
+      let here : (locks_out same (find (λ (t : SolvableId). (marks_at p t).locked) ss) s || list_any (λ (x : SolvableId × StringId). same x.0 s) (exclusions_of p ss)) ≡ false = rw (own_listing s v e) at h in
+      let free = (or_parts (locks_out same (find (λ (t : SolvableId). (marks_at p t).locked) ss) s) (list_any (λ (x : SolvableId × StringId). same x.0 s) (exclusions_of p ss)) here).0 in
       let own : name_of p.ids (solvable_id k) ≡ n = one_name n w v (solvable_id k) at (named s v e) (sym e_name) in
       let y = find_some (λ (t : SolvableId). (marks_at p t).locked) ss (solvable_id k) (in_package n (solvable_id k) w at own) ((marks_of_it (solvable_id k) w at).locked.1 lock) in
       let f = found_in (λ (t : SolvableId). (marks_at p t).locked) ss y.0 y.1 in
@@ -146,12 +146,12 @@ module _ (p : Provider) (catalogue : List Line) (over : IsOver catalogue p) (sam
   exclusion_forbids s v e word out h =
       let n = name_of p.ids s in
       let ss = solvables_of p.ids n.raw in
-      let here : (locks_out same (find (λ (t : SolvableId). (marks_at p t).locked) ss) s || list_any (λ (x : SolvableId × StringId). same x.0 s) (flat_map (exclusion_of p) ss)) ≡ false = rw (own_listing s v e) at h in
-      let free = (or_parts (locks_out same (find (λ (t : SolvableId). (marks_at p t).locked) ss) s) (list_any (λ (x : SolvableId × StringId). same x.0 s) (flat_map (exclusion_of p) ss)) here).1 in
+      let here : (locks_out same (find (λ (t : SolvableId). (marks_at p t).locked) ss) s || list_any (λ (x : SolvableId × StringId). same x.0 s) (exclusions_of p ss)) ≡ false = rw (own_listing s v e) at h in
+      let free = (or_parts (locks_out same (find (λ (t : SolvableId). (marks_at p t).locked) ss) s) (list_any (λ (x : SolvableId × StringId). same x.0 s) (exclusions_of p ss)) here).1 in
       let w = exclusion_there p.ids catalogue v (marks_at p s).excluded word (marks_of_it s v e).excluded out in
       let pair : SolvableId × StringId = (s, w.0) in
-      let among = flat_to (exclusion_of p) ss s pair (in_package n s v e refl) (option_to (option_map (λ (x : StringId). let q : SolvableId × StringId = (s, x) in q) (marks_at p s).excluded) pair (ap (λ (o : Option StringId). option_map (λ (x : StringId). let q : SolvableId × StringId = (s, x) in q) o) w.1)) in
-      false≢true (sym free ∙ any_to (λ (x : SolvableId × StringId). same x.0 s) (flat_map (exclusion_of p) ss) pair among ((apart s s).1 refl))
+      let among = exclusion_to p ss s pair (in_package n s v e refl) (option_to (option_map (λ (x : StringId). let q : SolvableId × StringId = (s, x) in q) (marks_at p s).excluded) pair (ap (λ (o : Option StringId). option_map (λ (x : StringId). let q : SolvableId × StringId = (s, x) in q) o) w.1)) in
+      false≢true (sym free ∙ any_to (λ (x : SolvableId × StringId). same x.0 s) (exclusions_of p ss) pair among ((apart s s).1 refl))
 
   module _ (request : List Line) (asks : AreRequestLines catalogue request) (root : Rules) (needs_are : AreEach (IsNeed p.ids) root.requirements (flat_map need_in request)) (limits_are : AreEach (IsSpec p.ids) root.constraints (flat_map limit_in request)) (chosen : List SolvableId) (set : Set) (represents : Represents (listed catalogue) chosen set) where
     need_holds : (need : ConditionalRequirement) (written : List Spec × Option Cond) → IsNeed p.ids need written → binds same (packages_of p) chosen need ≡ lines.condition_holds written.1 set

@@ -9,5 +9,6 @@ pub mod Elements
 pub mod Alike
 pub mod RulesKept
 pub mod KeptAlike
+pub mod SortLemmas
 pub mod TryLemmas
 pub mod CountLemmas

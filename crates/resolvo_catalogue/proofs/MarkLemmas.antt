@@ -1,11 +1,11 @@
 -- The marks of versions, line by line.
-use Rattle.std.proofs.Common.{◌≡◌, inl, inr, ℕ, zero, suc, ◌<◌, ◌≤◌, ◌==◌, true, false, List, [], ◌∷◌, ◌++◌, ◌+◌, take, get_or, length, Option, Some, None, refl, sym, ap, subst, ◌∙◌, arith}
+use Rattle.std.proofs.Common.{◌≡◌, inl, inr, ℕ, zero, suc, ◌<◌, ◌≤◌, ◌==◌, true, false, List, [], ◌∷◌, ◌++◌, ◌+◌, take, get_or, length, Option, Some, None, refl, sym, ap, subst, ◌∙◌, add-one, arith}
 use Rattle.std.specs.Prelude.{Contains, slice_get, option_to_list, map}
 use Rattle.std.specs.List.{slice_set, flat_map}
 use Rattle.std.proofs.lemmas.Bool.{cases_Bool, false≢true}
 use Rattle.std.proofs.lemmas.Bool.Decides.{Decides-eqb}
 use Rattle.std.proofs.lemmas.Option.{slice_get_within}
-use Rattle.std.proofs.lemmas.List.{append-nil, take_more}
+use Rattle.std.proofs.lemmas.List.{append-nil, take_more, length-take}
 use Rattle.resolvo_catalogue.proofs.DependencyLemmas.{last_piece}
 use Rattle.resolvo_catalogue_core.specs.declared.rule.VersionNo.{VersionNo}
 use Rattle.resolvo_catalogue_core.specs.Questions.{is_rule, AreAll, LineIs, IsFavour, FavoursAt}
@@ -16,10 +16,11 @@ use Rattle.resolvo_pool_core.specs.declared.id.StringId.{StringId}
 use Rattle.resolvo_catalogue.specs.Ids.{Ids, IsWord, Grows}
 use Rattle.resolvo_catalogue.specs.Marked.{IsExclusion, IsMarked, AreMarked, HaveNoMarks}
 use Rattle.resolvo_catalogue.specs.declared.candidate_flags.CandidateFlags.{CandidateFlags}
-use Rattle.resolvo_terms.proofs.Places.{set_at, set_others, set_length, no_element, first_element, later_element, element_cases, at_from_contains}
+use Rattle.resolvo_terms.proofs.Places.{get_new, set_at, set_others, set_length, no_element, first_element, later_element, element_cases, at_from_contains}
 use Rattle.std.proofs.lemmas.List.Concat.{flat_map-cons}
 use Rattle.resolvo_catalogue_core.specs.Grammar.{line_at}
 use Rattle.resolvo_catalogue_core.proofs.PlaceLemmas.{contains_from_line}
+use Rattle.resolvo_catalogue_core.proofs.Pushed.{at_kept}
 
 pub one_some : {X : Type 0} {a b : X} → Some a ≡ Some b → a ≡ b
 one_some e = cc
@@ -34,6 +35,13 @@ exclusion_same : (ids : Ids) (lines : List Line) (line : Line) (v : Version) →
 exclusion_same ids lines line v other None h = λ word has. elim (Contains-push_cases lines line (Exclude v word) has) [ inl old ↦ h word old | inr e ↦ other word e ]
 exclusion_same ids lines line v other (Some w) h = (h.0, Contains-append_left lines (line ∷ []) _ h.1, h.2)
 
+-- the line that excludes a version is there, one more below it or not
+line_stays : (lines : List Line) (line : Line) (v : Version) (n : ℕ) → (word : List ℕ) × (line_at lines n ≡ Some (Exclude v word)) → (word : List ℕ) × (line_at (lines ++ line ∷ []) n ≡ Some (Exclude v word))
+line_stays lines line v n (word, at) = (word, at_kept lines line n (Exclude v word) at)
+
+last_line : (lines : List Line) (line : Line) (n : ℕ) → n ≡ length lines + 1 → line_at (lines ++ line ∷ []) n ≡ Some line
+last_line lines line n e = rw (e, add-one) (get_new lines line)
+
 module _ (ids : Ids) (lines favours : List Line) (v : Version) (m : CandidateFlags) (h : IsMarked ids lines favours v m) where
   -- a line that names another version, or none
   pub mark_same : (line : Line) → (line ≡ Lock v → ⊥) → ((word : List ℕ) → line ≡ Exclude v word → ⊥) → IsMarked ids (lines ++ line ∷ []) favours v m
@@ -41,6 +49,7 @@ module _ (ids : Ids) (lines favours : List Line) (v : Version) (m : CandidateFla
     locked = (λ e. Contains-append_left lines (line ∷ []) _ (h.locked.0 e), λ has. elim (Contains-push_cases lines line (Lock v) has) [ inl old ↦ h.locked.1 old | inr e ↦ absurd (not_lock e) ]);
     favored = h.favored;
     excluded = exclusion_same ids lines line v not_exclude m.excluded h.excluded;
+    line = λ w e. line_stays lines line v m.line (h.line w e);
   }
 
   mark_locked : IsMarked ids (lines ++ Lock v ∷ []) favours v (record m { locked = true })
@@ -48,13 +57,15 @@ module _ (ids : Ids) (lines favours : List Line) (v : Version) (m : CandidateFla
     locked = (λ e. Contains-push lines (Lock v), λ has. refl);
     favored = h.favored;
     excluded = exclusion_same ids lines (Lock v) v (λ word e. cc) m.excluded h.excluded;
+    line = λ w e. line_stays lines (Lock v) v m.line (h.line w e);
   }
 
-  mark_excluded : (word : List ℕ) (w : StringId) → IsWord ids w word → IsMarked ids (lines ++ Exclude v word ∷ []) favours v (record m { excluded = Some w })
-  mark_excluded word w is = record {
+  mark_excluded : (word : List ℕ) (w : StringId) (n : ℕ) → n ≡ length lines + 1 → IsWord ids w word → IsMarked ids (lines ++ Exclude v word ∷ []) favours v (record m { excluded = Some w; line = n })
+  mark_excluded word w n next is = record {
     locked = (λ e. Contains-append_left lines (Exclude v word ∷ []) _ (h.locked.0 e), λ has. elim (Contains-push_cases lines (Exclude v word) (Lock v) has) [ inl old ↦ h.locked.1 old | inr e ↦ absurd cc ]);
     favored = h.favored;
     excluded = (word, Contains-push lines (Exclude v word), is);
+    line = λ u e. (word, last_line lines (Exclude v word) n next);
   }
 
 -- ---- all versions
@@ -62,7 +73,7 @@ module _ (ids : Ids) (lines favours : List Line) (v : Version) (m : CandidateFla
 pub marked_stays : (a b : Ids) → Grows a b → (lines favours : List Line) (versions : List Version) (marks : List CandidateFlags) → AreMarked a lines favours versions marks → AreMarked b lines favours versions marks
 marked_stays a b grows lines favours versions marks h = record {
   as_many = h.as_many;
-  each = λ k m v e f. let own = h.each k m v e f in record { locked = own.locked; favored = own.favored; excluded = exclusion_stays a b grows lines v m.excluded own.excluded };
+  each = λ k m v e f. let own = h.each k m v e f in record { locked = own.locked; favored = own.favored; excluded = exclusion_stays a b grows lines v m.excluded own.excluded; line = own.line };
 }
 
 module _ (ids : Ids) (lines favours : List Line) (versions : List Version) (marks : List CandidateFlags) (distinct : AreDistinct versions) (h : AreMarked ids lines favours versions marks) where
@@ -93,9 +104,9 @@ module _ (ids : Ids) (lines favours : List Line) (versions : List Version) (mark
   pub marked_lock : (line : Line) (k : ℕ) (m : CandidateFlags) (v : Version) → line ≡ Lock v → slice_get marks k ≡ Some m → slice_get versions k ≡ Some v → AreMarked ids (lines ++ line ∷ []) favours versions (slice_set marks k (record m { locked = true }))
   marked_lock line k m v line_is at there = rw line_is (one_marked (Lock v) k m _ v at there (mark_locked ids lines favours v m (h.each k m v at there)) (λ w e. cc) (λ w word e. absurd cc))
 
-  pub marked_exclude : (line : Line) (k : ℕ) (m : CandidateFlags) (v : Version) (word : List ℕ) (w : StringId) → line ≡ Exclude v word → IsWord ids w word → slice_get marks k ≡ Some m → slice_get versions k ≡ Some v
-      → AreMarked ids (lines ++ line ∷ []) favours versions (slice_set marks k (record m { excluded = Some w }))
-  marked_exclude line k m v word w line_is is at there = rw line_is (one_marked (Exclude v word) k m _ v at there (mark_excluded ids lines favours v m (h.each k m v at there) word w is) (λ u e. absurd cc) (λ u other e. cc))
+  pub marked_exclude : (line : Line) (k : ℕ) (m : CandidateFlags) (v : Version) (word : List ℕ) (w : StringId) (n : ℕ) → n ≡ length lines + 1 → line ≡ Exclude v word → IsWord ids w word → slice_get marks k ≡ Some m → slice_get versions k ≡ Some v
+      → AreMarked ids (lines ++ line ∷ []) favours versions (slice_set marks k (record m { excluded = Some w; line = n }))
+  marked_exclude line k m v word w n next line_is is at there = rw line_is (one_marked (Exclude v word) k m _ v at there (mark_excluded ids lines favours v m (h.each k m v at there) word w n next is) (λ u e. absurd cc) (λ u other e. cc))
 
   -- a listed version has its marks
   pub not_past : {P : Type 0} (k : ℕ) (v : Version) → slice_get versions k ≡ Some v → length marks ≤ k → P
@@ -115,13 +126,14 @@ mark_other_favour ids lines favours v w m other h = record {
   locked = h.locked;
   favored = (λ e. Contains-append_left favours (Favour w ∷ []) _ (h.favored.0 e), λ has. elim (Contains-push_cases favours (Favour w) (Favour v) has) [ inl old ↦ h.favored.1 old | inr e ↦ absurd (other cc) ]);
   excluded = h.excluded;
+  line = h.line;
 }
 
 pub marked_favour : (ids : Ids) (lines favours : List Line) (versions : List Version) (marks : List CandidateFlags) → AreDistinct versions → AreMarked ids lines favours versions marks → (k : ℕ) (m : CandidateFlags) (v : Version) → slice_get marks k ≡ Some m → slice_get versions k ≡ Some v
     → AreMarked ids lines (favours ++ Favour v ∷ []) versions (slice_set marks k (record m { favored = true }))
 marked_favour ids lines favours versions marks distinct h k m v at there =
     let x : CandidateFlags = record m { favored = true } in
-    let own : IsMarked ids lines (favours ++ Favour v ∷ []) v x = (let old = h.each k m v at there in record { locked = old.locked; favored = (λ e. Contains-push favours (Favour v), λ has. refl); excluded = old.excluded }) in
+    let own : IsMarked ids lines (favours ++ Favour v ∷ []) v x = (let old = h.each k m v at there in record { locked = old.locked; favored = (λ e. Contains-push favours (Favour v), λ has. refl); excluded = old.excluded; line = old.line }) in
     record {
       as_many = set_length marks k x ∙ h.as_many;
       each = λ j n w e f. elim (cases_Bool (k == j)) [
@@ -173,8 +185,13 @@ all_favours ids lines versions marks fs all are h = record {
       λ has. let at = at_from_contains lines (Favour v) has in own.favored.1 (in_favours lines versions fs (suc at.0) v are ((all.all (suc at.0)).1 (Favour v, at.1, tt)) at.1),
     );
     excluded = own.excluded;
+    line = own.line;
   };
 }
+
+-- the number of the line below some
+pub next_number : (n : ℕ) (lines : List Line) → n ≤ length lines → n + 1 ≡ length (take n lines) + 1
+next_number n lines within = omega (arith, length-take n lines)
 
 -- the lines that favour, one more
 pub favours_next : (versions : List Version) (fs : List (ℕ × VersionNo)) (i : ℕ) (d : ℕ × VersionNo) (v : Version) → i < length fs → slice_get versions (get_or fs i d).1.0 ≡ Some v
@@ -206,13 +223,14 @@ marked_none ids lines before favours versions marks n distinct h none = go (line
     go (Some l) none = let named = names_none l (none l refl) in marked_other ids before favours versions marks distinct h l named.0 named.1
 
 -- no line marks a version that has no mark
-pub unmarked_each : (ids : Ids) (versions : List Version) (marks : List CandidateFlags) → length marks ≡ length versions → ((k : ℕ) (m : CandidateFlags) → slice_get marks k ≡ Some m → m ≡ record { locked = false; favored = false; excluded = None }) → AreMarked ids [] [] versions marks
+pub unmarked_each : (ids : Ids) (versions : List Version) (marks : List CandidateFlags) → length marks ≡ length versions → ((k : ℕ) (m : CandidateFlags) → slice_get marks k ≡ Some m → m ≡ record { locked = false; favored = false; excluded = None; line = 0 }) → AreMarked ids [] [] versions marks
 unmarked_each ids versions marks long none = record {
   as_many = long;
   each = λ k m v e f. rw (none k m e) (record {
     locked = (λ is. absurd (false≢true is), λ has. absurd (no_element _ has));
     favored = (λ is. absurd (false≢true is), λ has. absurd (no_element _ has));
     excluded = λ word has. no_element _ has;
+    line = λ w is. absurd cc;
   });
 }
 
@@ -234,9 +252,14 @@ marked_by_none ids n lines favours versions marks none h = record {
         locked = (λ is. absurd (unmarked.0 (contained n lines (Lock v) (own.locked.0 is))), λ has. absurd (unmarked.0 has));
         favored = own.favored;
         excluded = go v m.excluded unmarked.1 own.excluded;
+        line = λ w is. absurd (excluded_by_none v m.excluded w unmarked.1 own.excluded is);
       };
 }
   where
+    excluded_by_none : (v : Version) (o : Option StringId) (w : StringId) → ((word : List ℕ) → Contains lines (Exclude v word) → ⊥) → IsExclusion ids (take n lines) v o → o ≡ Some w → ⊥
+    excluded_by_none v None w unmarked h e = cc
+    excluded_by_none v (Some u) w unmarked h e = unmarked h.0 (contained n lines (Exclude v h.0) h.1)
+
     go : (v : Version) (o : Option StringId) → ((word : List ℕ) → Contains lines (Exclude v word) → ⊥) → IsExclusion ids (take n lines) v o → IsExclusion ids lines v o
     go v None unmarked h = λ word has. unmarked word has
     go v (Some w) unmarked h = absurd (unmarked h.0 (contained n lines (Exclude v h.0) h.1))

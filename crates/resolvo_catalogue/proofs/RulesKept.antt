@@ -1,7 +1,7 @@
 -- A set of solvables keeps the provider's rules exactly if the same versions keep the lines.
 use Rattle.std.proofs.Common.{◌≡◌, inl, inr, ℕ, zero, suc, ◌<◌, Bool, true, false, List, [], ◌∷◌, take, Option, Some, None, refl, sym, ap, subst, ◌∙◌, arith}
 use Rattle.std.specs.Prelude.{◌&&◌, ◌||◌, not, Contains, slice_get, bytes_eq, option_map, option_to_list}
-use Rattle.std.specs.List.{list_any, find}
+use Rattle.std.specs.List.{list_any, find, flat_map}
 use Rattle.std.proofs.lemmas.Bool.{cases_Bool, false≢true, cases_lt}
 use Rattle.resolvo_text.specs.Line.{Version, Spec, Cond, Line, Listed, Needs, Limits, Unknown, Lock, Exclude}
 use Rattle.resolvo_text.specs.Matches as lines
@@ -19,9 +19,11 @@ use Rattle.resolvo_pool_core.specs.RuleKeeping.{rules_of, is_unknown, locks_out}
 use Rattle.resolvo_catalogue.specs.Ids.{Ids, SolvableId}
 use Rattle.resolvo_catalogue.specs.Dependencies.{VersionDependencies, IsReason}
 use Rattle.resolvo_catalogue.specs.Marked.{IsExclusion}
-use Rattle.resolvo_catalogue.specs.Provider.{Provider, listing_if_any, listing_of, needs_of}
+use Rattle.resolvo_catalogue.specs.Provider.{Provider, listing_if_any, listing_of, exclusion_of, line_of_exclusion, exclusions_of, needs_of}
 use Rattle.resolvo_catalogue.proofs.MarkLemmas.{one_some}
 use Rattle.resolvo_catalogue.proofs.PassLemmas.{any_from, any_to}
+use Rattle.resolvo_catalogue.proofs.Elements.{flat_from, flat_to}
+use Rattle.resolvo_catalogue.proofs.SortLemmas.{sorted_from, sorted_to}
 
 -- ---- obeyed lines, as implications
 
@@ -203,6 +205,13 @@ excluded_by s (Some w) e h = elim (element_cases (s, w) [] e h) [
   | inl same ↦ (ap (λ (x : SolvableId × StringId). Some x.1) same, ap (λ (x : SolvableId × StringId). x.0) same)
   | inr more ↦ absurd (no_element e more)
 ]
+
+-- an exclusion in the order of the lines is one of a solvable
+pub exclusion_from : (p : Provider) (ss : List SolvableId) (e : SolvableId × StringId) → Contains (exclusions_of p ss) e → (s : SolvableId) × Contains ss s × Contains (exclusion_of p s) e
+exclusion_from p ss e h = flat_from (exclusion_of p) ss e (sorted_from (line_of_exclusion p) (flat_map (exclusion_of p) ss) e h)
+
+pub exclusion_to : (p : Provider) (ss : List SolvableId) (s : SolvableId) (e : SolvableId × StringId) → Contains ss s → Contains (exclusion_of p s) e → Contains (exclusions_of p ss) e
+exclusion_to p ss s e there h = sorted_to (line_of_exclusion p) (flat_map (exclusion_of p) ss) e (flat_to (exclusion_of p) ss s e there h)
 
 pub exclusion_word : (ids : Ids) (ls : List Line) (v : Version) (o : Option StringId) (w : StringId) → IsExclusion ids ls v o → o ≡ Some w → (word : List ℕ) × Contains ls (Exclude v word)
 exclusion_word ids ls v None w h e = absurd cc

@@ -1,14 +1,13 @@
 -- The candidates of a SPEC are tried in one order: the favoured match first, then newest first.
-use Rattle.std.proofs.Common.{◌≡◌, ◌⊎◌, inl, inr, ℕ, zero, suc, ◌-◌, ◌<◌, ◌≤◌, ◌==◌, ◌^◌, ltb, Bool, true, false, cond, List, [], ◌∷◌, ◌++◌, map, length, get_or, Option, Some, None, refl, sym, ap, subst, ◌∙◌, arith}
-use Rattle.std.specs.Prelude.{⊤, nat_lt, All, Contains, slice_get, filter}
+use Rattle.std.proofs.Common.{◌≡◌, ◌⊎◌, inl, inr, ℕ, suc, ◌-◌, ◌<◌, ◌≤◌, ◌==◌, ◌^◌, ltb, Bool, true, false, cond, List, [], ◌∷◌, ◌++◌, map, Option, Some, None, refl, sym, ap, subst, ◌∙◌, arith}
+use Rattle.std.specs.Prelude.{⊤, All, Contains, slice_get, filter}
 use Rattle.std.specs.List.{list_any, flat_map, AllByRecursion, IsDistinct}
-use Rattle.std.specs.List.Sorted.{IsPermutation, IsNonDecreasingBy}
+use Rattle.std.specs.List.Sorted.{IsPermutation}
 use Rattle.std.specs.Set.{remove_key}
 use Rattle.std.proofs.lemmas.Bool.{and_parts, both_ways, cases_Bool, eqb-true, ltb-true, ltb-false}
-use Rattle.std.proofs.lemmas.List.Elements.{Contains-append_cases, Contains-append_right, Contains-get_or}
-use Rattle.std.proofs.lemmas.List.Sorted.{Contains-permutation, IsPermutation-refl, IsPermutation-cons, IsPermutation-trans, IsPermutation-swap, IsPermutation-sym}
+use Rattle.std.proofs.lemmas.List.Elements.{Contains-append_cases, Contains-append_right}
+use Rattle.std.proofs.lemmas.List.Sorted.{Contains-permutation, IsPermutation-sym}
 use Rattle.std.proofs.lemmas.Map.Keys.{IsDistinct-IsPermutation}
-use Rattle.std.proofs.lemmas.Option.{slice_get_within, get_or_from_slice_get}
 use Rattle.resolvo_text.specs.Line.{Version, Spec, Line, Listed}
 use Rattle.resolvo_text.specs.Matches as texts
 use Rattle.resolvo_catalogue_core.specs.Listed.{listed}
@@ -24,23 +23,14 @@ use Rattle.resolvo_catalogue.specs.Known.{solvable_at, set_at}
 use Rattle.resolvo_catalogue.specs.Provider.{Provider, candidates_of, matches, age_of, IsSorted}
 use Rattle.resolvo_catalogue.specs.KeptSets.{DistinguishesIds}
 use Rattle.resolvo_catalogue.specs.Over.{IsOver}
-use Rattle.resolvo_catalogue.specs.CandidateOrder.{matching, IsOrder, placed, sorted_by, order_of}
+use Rattle.resolvo_catalogue.specs.CandidateOrder.{matching, IsOrder, order_of}
+use Rattle.resolvo_catalogue.specs.Sorted.{sorted_by}
+use Rattle.resolvo_catalogue.proofs.SortLemmas.{filter_from, same_tail, Rises, rises, falls, sorted_permutes, sorted_rises}
 use Rattle.resolvo_catalogue.proofs.Alike.{member_place, listed_is, at_version, admits}
 use Rattle.resolvo_catalogue.proofs.MarkLemmas.{one_some}
 use Rattle.resolvo_catalogue.proofs.PassLemmas.{any_from, same_bool}
 
 -- ---- parts of lists
-
-filter_from : {X : Type 0} (t : X → Bool) (xs : List X) (x : X) → Contains (filter t xs) x → Contains xs x × (t x ≡ true)
-filter_from t [] x h = absurd (no_element x h)
-filter_from {X} t (y ∷ ys) x h = go (t y) refl h (filter_from t ys x)
-  where
-    go : (b : Bool) → t y ≡ b → Contains (cond b (y ∷ filter t ys) (filter t ys)) x → (Contains (filter t ys) x → Contains ys x × (t x ≡ true)) → Contains (y ∷ ys) x × (t x ≡ true)
-    go true e c rest = elim (element_cases y (filter t ys) x c) [
-      | inl is ↦ (subst (λ z. Contains (y ∷ ys) z) is (first_element y ys), sym (ap t is) ∙ e)
-      | inr m ↦ let r = rest m in (later_element y ys x r.0, r.1)
-    ]
-    go false e c rest = let r = rest c in (later_element y ys x r.0, r.1)
 
 remove_from : {X : Type 0} (t : X → Bool) (xs : List X) (x : X) → Contains (remove_key t xs) x → Contains xs x
 remove_from t [] x h = h
@@ -63,22 +53,6 @@ of_every P (y ∷ ys) h = (h y (first_element y ys), of_every P ys (λ x c. h x 
 
 -- ---- lists in order
 
--- no element is less than those before it
-abbrev Rises : {X : Type 0} → (X → ℕ) → List X → Type 0
-Rises age [] = ⊤
-Rises {X} age (y ∷ ys) = ((z : X) → Contains ys z → age y ≤ age z) × Rises age ys
-
-rises : {X : Type 0} (age : X → ℕ) (xs : List X) → IsNonDecreasingBy age xs → Rises age xs
-rises age [] h = tt
-rises {X} age (y ∷ ys) h = (
-  λ z c.
-      let (k, at) = at_from_contains ys z c in
-      let below : k < length ys = slice_get_within ys k z at in
-      let up : age y ≤ age (get_or ys k y) = h 0 (suc k) y (omega arith) (omega arith) in
-      subst (λ x. age y ≤ age x) (get_or_from_slice_get ys k z y at) up,
-  rises age ys (λ i j d le lt. h (suc i) (suc j) d (omega arith) (omega arith)),
-)
-
 rises_remove : {X : Type 0} (age : X → ℕ) (t : X → Bool) (xs : List X) → Rises age xs → Rises age (remove_key t xs)
 rises_remove age t [] h = tt
 rises_remove age t (y ∷ ys) h = go (t y) (rises_remove age t ys h.1)
@@ -97,9 +71,6 @@ behind before after s f differs unless c = elim (Contains-append_cases before (s
   | inl m ↦ absurd (unless m)
   | inr m ↦ elim (element_cases s after f m) [ inl is ↦ absurd (differs is) | inr n ↦ n ]
 ]
-
-same_tail : {X : Type 0} (x y : X) (xs ys : List X) → x ∷ xs ≡ y ∷ ys → (x ≡ y) × (xs ≡ ys)
-same_tail x y xs ys e = (cc, cc)
 
 -- With a favoured one first, each one before another is that one, or no greater than it.
 sooner : {X : Type 0} (same : X → X → Bool) (age : X → ℕ) (favoured : Option X) (ys list before after : List X) (s f : X) → Rises age ys → list ≡ favoured_first same favoured ys
@@ -164,52 +135,6 @@ once_filter t (y ∷ ys) h = go (t y) (once_filter t ys h.1)
     go : (b : Bool) → Once (filter t ys) → Once (cond b (y ∷ filter t ys) (filter t ys))
     go true rest = (λ c. h.0 (filter_from t ys y c).0, rest)
     go false rest = rest
-
--- ---- sorting
-
-falls : {X : Type 0} (age : X → ℕ) (xs : List X) → Rises age xs → IsNonDecreasingBy age xs
-falls age [] h i j d le lt = absurd (omega arith)
-falls age (x ∷ xs) h zero zero d le lt = omega arith
-falls age (x ∷ xs) h zero (suc j) d le lt = h.0 (get_or xs j d) (Contains-get_or xs j d (omega arith))
-falls age (x ∷ xs) h (suc i) zero d le lt = absurd (omega arith)
-falls age (x ∷ xs) h (suc i) (suc j) d le lt = falls age xs h.1 i j d (omega arith) (omega arith)
-
-placed_permutes : {X : Type 0} (age : X → ℕ) (x : X) (ys : List X) → IsPermutation (x ∷ ys) (placed age x ys)
-placed_permutes age x [] = IsPermutation-refl (x ∷ [])
-placed_permutes {X} age x (y ∷ ys) = go (nat_lt (age y) (age x)) (placed_permutes age x ys)
-  where
-    go : (b : Bool) → IsPermutation (x ∷ ys) (placed age x ys) → IsPermutation (x ∷ y ∷ ys) (cond b (y ∷ placed age x ys) (x ∷ y ∷ ys))
-    go true rest = IsPermutation-trans (x ∷ y ∷ ys) (y ∷ x ∷ ys) (y ∷ placed age x ys) (IsPermutation-swap (x ∷ y ∷ ys) (y ∷ x ∷ ys) 0 1 (omega arith) (omega arith) refl) (IsPermutation-cons y (x ∷ ys) (placed age x ys) rest)
-    go false rest = IsPermutation-refl (x ∷ y ∷ ys)
-
-sorted_permutes : {X : Type 0} (age : X → ℕ) (xs : List X) → IsPermutation xs (sorted_by age xs)
-sorted_permutes age [] = IsPermutation-refl []
-sorted_permutes age (x ∷ xs) = IsPermutation-trans (x ∷ xs) (x ∷ sorted_by age xs) (placed age x (sorted_by age xs)) (IsPermutation-cons x xs (sorted_by age xs) (sorted_permutes age xs)) (placed_permutes age x (sorted_by age xs))
-
-placed_rises : {X : Type 0} (age : X → ℕ) (x : X) (ys : List X) → Rises age ys → Rises age (placed age x ys)
-placed_rises age x [] h = ((λ z c. absurd (no_element z c)), tt)
-placed_rises {X} age x (y ∷ ys) h = go (nat_lt (age y) (age x)) refl (placed_rises age x ys h.1)
-  where
-    go : (b : Bool) → nat_lt (age y) (age x) ≡ b → Rises age (placed age x ys) → Rises age (cond b (y ∷ placed age x ys) (x ∷ y ∷ ys))
-    go true e rest = (
-      λ z c. elim (element_cases x ys z (Contains-permutation (placed age x ys) (x ∷ ys) z (IsPermutation-sym (x ∷ ys) (placed age x ys) (placed_permutes age x ys)) c)) [
-        | inl is ↦ (let low : age y < age x = ltb-true (age y) (age x) e in subst (λ w. age y ≤ age w) is (omega arith))
-        | inr m ↦ h.0 z m
-      ],
-      rest,
-    )
-    go false e rest =
-        let high = ltb-false (age y) (age x) e in (
-          λ z c. elim (element_cases y ys z c) [
-            | inl is ↦ subst (λ w. age x ≤ age w) is (omega (arith, high))
-            | inr m ↦ (let up : age y ≤ age z = h.0 z m in omega (arith, high))
-          ],
-          h,
-        )
-
-sorted_rises : {X : Type 0} (age : X → ℕ) (xs : List X) → Rises age (sorted_by age xs)
-sorted_rises age [] = tt
-sorted_rises age (x ∷ xs) = placed_rises age x (sorted_by age xs) (sorted_rises age xs)
 
 -- the order that there is
 pub order_is : (p : Provider) (same : SolvableId → SolvableId → Bool) (w : VersionSetId) → IsOrder p same w (order_of p same w)

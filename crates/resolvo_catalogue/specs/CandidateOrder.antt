@@ -1,9 +1,10 @@
 -- In which order the candidates of a version set are tried.
-use Rattle.std.specs.Prelude.{ℕ, nat_lt, Bool, false, cond, List, [], ◌∷◌}
+use Rattle.std.specs.Prelude.{Bool, false, List}
 use Rattle.resolvo_pool_core.specs.declared.id.VersionSetId.{VersionSetId}
 use Rattle.resolvo_pool_core.specs.Provider.{matching_in, tried_first, favoured_first, IsTried}
 use Rattle.resolvo_catalogue.specs.Ids.{SolvableId}
 use Rattle.resolvo_catalogue.specs.Known.{set_at}
+use Rattle.resolvo_catalogue.specs.Sorted.{sorted_by}
 use Rattle.resolvo_catalogue.specs.Provider.{Provider, candidates_of, matches, age_of, IsSorted}
 
 -- the version set's matches, in some order
@@ -13,16 +14,6 @@ matching p w = matching_in (λ v. (set_at p.ids v).0) (candidates_of p) (matches
 -- they are tried in this order: sorted by the provider, and then the favoured one first
 abbrev pub IsOrder : Provider → (SolvableId → SolvableId → Bool) → VersionSetId → List SolvableId → Type 0
 IsOrder p same w list = IsTried (IsSorted p) same (tried_first (λ v. (set_at p.ids v).0) (candidates_of p) w) (matching p w) list
-
--- an element among others that are sorted by a number, before those that have no smaller one
-abbrev pub placed : {X : Type 0} → (X → ℕ) → X → List X → List X
-placed age x [] = x ∷ []
-placed age x (y ∷ ys) = cond (nat_lt (age y) (age x)) (y ∷ placed age x ys) (x ∷ y ∷ ys)
-
--- elements sorted by a number
-abbrev pub sorted_by : {X : Type 0} → (X → ℕ) → List X → List X
-sorted_by age [] = []
-sorted_by age (x ∷ xs) = placed age x (sorted_by age xs)
 
 -- the favoured match, and then the others, newest first
 abbrev pub order_of : Provider → (SolvableId → SolvableId → Bool) → VersionSetId → List SolvableId

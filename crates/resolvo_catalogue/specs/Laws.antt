@@ -1,6 +1,6 @@
 -- The laws of a provider hold of one over a catalogue.
 use Rattle.std.proofs.Common.{◌≡◌, ◌==◌, ◌&&◌, ◌+◌, ℕ, suc, Bool, true, false, List, [], ◌∷◌, ◌++◌, map, Option, Some, None, refl, ap, subst, ◌∙◌, arith}
-use Rattle.std.specs.Prelude.{⊤, All, slice_get, option_map, option_to_list, nat_lt, if◌then◌else◌}
+use Rattle.std.specs.Prelude.{⊤, All, slice_get, option_map, option_to_list, nat_lt, cond, if◌then◌else◌}
 use Rattle.std.specs.List.{find, flat_map}
 use Rattle.std.specs.Option.{option_map_or}
 use Rattle.std.proofs.lemmas.List.Elements.{All-cons, All-nil}
@@ -18,7 +18,8 @@ use Rattle.resolvo_catalogue_core.specs.Kept.{places_from}
 use Rattle.resolvo_terms.specs.Terms.{NameId}
 use Rattle.resolvo_catalogue.specs.Known.{name_of, solvable_at, condition_at}
 use Rattle.resolvo_terms.specs.Known.{name_id, sound}
-use Rattle.resolvo_catalogue.specs.Provider.{Provider, candidates_of, listing_if_any, marks_at}
+use Rattle.resolvo_catalogue.specs.Sorted.{placed, sorted_by}
+use Rattle.resolvo_catalogue.specs.Provider.{Provider, candidates_of, listing_if_any, marks_at, line_of_exclusion}
 
 -- ---- conditions
 
@@ -71,6 +72,18 @@ each_pair {S} P reason (x ∷ xs) h = go (reason x) (each_pair P reason xs h.1)
     go None rest = rest
     go (Some w) rest = (h.0, rest)
 
+each_placed : {X : Type 0} (P : X → Type 0) (age : X → ℕ) (x : X) (ys : List X) → P x → Each P ys → Each P (placed age x ys)
+each_placed P age x [] h hs = (h, tt)
+each_placed {X} P age x (y ∷ ys) h hs = go (nat_lt (age y) (age x)) (each_placed P age x ys h hs.1)
+  where
+    go : (b : Bool) → Each P (placed age x ys) → Each P (cond b (y ∷ placed age x ys) (x ∷ y ∷ ys))
+    go true rest = (hs.0, rest)
+    go false rest = (h, hs)
+
+each_sorted : {X : Type 0} (P : X → Type 0) (age : X → ℕ) (xs : List X) → Each P xs → Each P (sorted_by age xs)
+each_sorted P age [] hs = tt
+each_sorted P age (x ∷ xs) hs = each_placed P age x (sorted_by age xs) hs.0 (each_sorted P age xs hs.1)
+
 solvables_named : (ids : Ids) (n : NameId) → Each (λ s. name_of ids s ≡ n) (solvables_of ids n.raw)
 solvables_named ids n = each_place (λ x. x.name.raw == n.raw) (λ k. name_of ids (solvable_id k) ≡ n) 0 ids.solvables (λ i x e t.
     let at : solvable_at ids (solvable_id (0 + i)) ≡ x = ap (λ (k : ℕ). solvable_at ids (solvable_id k)) (let e : 0 + i ≡ i = omega arith in e) ∙ get_or_from_slice_get ids.solvables i x _ e in
@@ -84,5 +97,5 @@ candidates_named p n = go (solvables_of p.ids n.raw) (solvables_named p.ids n)
     go (s ∷ ss) h = record {
       candidates = each_all (λ t. name_of p.ids t ≡ n) (s ∷ ss) h;
       locked = each_find (name_of p.ids) n (λ t. (marks_at p t).locked) (s ∷ ss) h;
-      excluded = each_all (λ e. name_of p.ids e.0 ≡ n) _ (each_pair (λ t. name_of p.ids t ≡ n) (λ t. (marks_at p t).excluded) (s ∷ ss) h);
+      excluded = each_all (λ e. name_of p.ids e.0 ≡ n) _ (each_sorted (λ e. name_of p.ids e.0 ≡ n) (line_of_exclusion p) _ (each_pair (λ t. name_of p.ids t ≡ n) (λ t. (marks_at p t).excluded) (s ∷ ss) h));
     }

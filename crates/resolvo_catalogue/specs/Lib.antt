@@ -4,6 +4,7 @@ pub mod Dependencies
 pub mod Tabled
 pub mod Marked
 pub mod Known
+pub mod Sorted
 pub mod Provider
 pub mod Laws
 pub mod Over

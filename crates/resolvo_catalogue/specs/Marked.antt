@@ -2,6 +2,7 @@
 use Rattle.std.specs.Prelude.{◌≡◌, ℕ, Bool, List, Option, Some, None, Contains, map, slice_get, length}
 use Rattle.std.specs.Bool.{Decides}
 use Rattle.resolvo_text.specs.Line.{Version, Line, Lock, Favour, Exclude}
+use Rattle.resolvo_catalogue_core.specs.Grammar.{line_at}
 use Rattle.resolvo_catalogue_core.specs.Listed.{listed}
 use Rattle.resolvo_catalogue_core.specs.Sets.{is_many}
 use Rattle.resolvo_pool_core.specs.declared.id.StringId.{StringId}
@@ -18,6 +19,8 @@ pub record IsMarked (ids : Ids) (lines favours : List Line) (v : Version) (m : C
   pub locked : Decides m.locked (Contains lines (Lock v))
   pub favored : Decides m.favored (Contains favours (Favour v))
   pub excluded : IsExclusion ids lines v m.excluded
+  -- the line that excludes it
+  pub line : (w : StringId) → m.excluded ≡ Some w → (word : List ℕ) × (line_at lines m.line ≡ Some (Exclude v word))
 
 -- Of each listed version, whether its package is marked `many`.
 abbrev pub AreMany : List Line → List Bool → Type 0

@@ -10,6 +10,7 @@ use Rattle.resolvo_pool_core.specs.RuleKeeping.{Packages}
 use Rattle.resolvo_catalogue.specs.Ids.{Ids, SolvableId, solvables_of}
 use Rattle.resolvo_terms.specs.Terms.{NameId}
 use Rattle.resolvo_catalogue.specs.Known.{solvable_at, name_of, set_at, members_of, condition_at}
+use Rattle.resolvo_catalogue.specs.Sorted.{sorted_by}
 use Rattle.resolvo_catalogue.specs.Dependencies.{VersionDependencies, no_lines}
 use Rattle.resolvo_catalogue.specs.declared.candidate_flags.CandidateFlags.{CandidateFlags}
 use Rattle.resolvo_catalogue.specs.declared.provider.Hint as hints
@@ -35,7 +36,7 @@ matches p v s = (name_of p.ids s).raw == (set_at p.ids v).0.raw && is_in_span (s
 -- ---- candidates
 
 abbrev pub no_marks : CandidateFlags
-no_marks = record { locked = false; favored = false; excluded = None }
+no_marks = record { locked = false; favored = false; excluded = None; line = 0 }
 
 abbrev pub marks_at : Provider → SolvableId → CandidateFlags
 marks_at p s = slice_index_or p.marks s.raw no_marks
@@ -56,13 +57,21 @@ hint_of hint.All = all
 abbrev pub exclusion_of : Provider → SolvableId → List (SolvableId × StringId)
 exclusion_of p s = option_to_list (option_map (λ w. (s, w)) (marks_at p s).excluded)
 
+-- the line that excludes it
+abbrev pub line_of_exclusion : Provider → SolvableId × StringId → ℕ
+line_of_exclusion p e = (marks_at p e.0).line
+
+-- those that are excluded, each with its reason, in the order of the lines
+abbrev pub exclusions_of : Provider → List SolvableId → List (SolvableId × StringId)
+exclusions_of p candidates = sorted_by (line_of_exclusion p) (flat_map (exclusion_of p) candidates)
+
 abbrev pub listing_of : Provider → List SolvableId → Listing SolvableId
 listing_of p candidates = record {
   candidates = candidates;
   favored = find (λ s. (marks_at p s).favored) candidates;
   locked = find (λ s. (marks_at p s).locked) candidates;
   hint = hint_of p.hint;
-  excluded = flat_map (exclusion_of p) candidates;
+  excluded = exclusions_of p candidates;
   many = are_many p candidates;
 }
 

@@ -23,12 +23,15 @@ pub struct CandidateFlags {
     pub favored: bool,
     /// The reason why it is excluded.
     pub excluded: Option<StringId>,
+    /// The line that excludes it, or 0.
+    pub line: u32,
 }
 
 const NO_FLAGS: CandidateFlags = CandidateFlags {
     locked: false,
     favored: false,
     excluded: None,
+    line: 0,
 };
 
 /// The marks of each version, by its number.
@@ -48,7 +51,7 @@ pub fn marks_of(
     let mut marks = unmarked(alloc, catalogue.versions().len())?;
     for line in 0..lines_to_mark(kept) {
         if let Some(rule) = kept.rule(line + 1) {
-            mark(&mut marks, rule);
+            mark(&mut marks, rule, line + 1);
         }
     }
     for (_, version) in catalogue.favours() {
@@ -107,10 +110,11 @@ fn unmarked(alloc: Global, count: usize) -> R<Vec<CandidateFlags>>
     Ok(marks)
 }
 
-/// Adds the mark of a rule. A need, a limit and an unknown mark add none.
-fn mark(marks: &mut Vec<CandidateFlags>, rule: KeptRule)
+/// Adds the mark of the rule of a line. A need, a limit and an unknown mark add none.
+fn mark(marks: &mut Vec<CandidateFlags>, rule: KeptRule, number: u32)
     ensures { (ids : Ids) (versions : List Version) (owner : Option Version) (line : Line)
         (lines favours : List Line)
+        → number ≡ length lines + 1
         → AreDistinct versions
         → IsKeptLine (terms_of ids) versions rule owner line
         → AreMarked ids lines favours versions marks.old.items
@@ -125,6 +129,7 @@ fn mark(marks: &mut Vec<CandidateFlags>, rule: KeptRule)
         KeptRule::Exclude { version, word } => {
             if let Some(found) = marks.get_mut(version.0 as usize) {
                 found.excluded = Some(word);
+                found.line = number;
             }
         }
         KeptRule::Needs { .. } => {}

@@ -6,7 +6,7 @@ ghost use Rattle.std.specs.List.{find, flat_map};
 ghost use Rattle.resolvo_catalogue.specs.Laws.{operands_below, candidates_named};
 ghost use Rattle.resolvo_catalogue.specs.Ids.{solvables_of};
 ghost use Rattle.resolvo_catalogue.specs.Dependencies.{deps_of};
-ghost use Rattle.resolvo_catalogue.specs.Provider.{matches, marks_at, many_at, are_many, deps_at, exclusion_of};
+ghost use Rattle.resolvo_catalogue.specs.Provider.{matches, marks_at, many_at, are_many, deps_at, exclusion_of, exclusions_of};
 ghost use Rattle.resolvo_catalogue.specs.Known.{solvable_at, name_of, set_at, members_of, condition_at, name_text, solvable_text, merged_text, span_text, word_text};
 
 use crate::dependencies::VersionDependencies;
@@ -331,8 +331,22 @@ impl<'a> CatalogueProvider<'a> {
         }
     }
 
+    /// The line that excludes a solvable, or 0.
+    fn exclusion_line(&self, solvable: SolvableId) -> u32
+        ensures { result ≡ (marks_at self.now solvable).line }
+    {
+        match self.marks.get(solvable.to_index()) {
+            Some(marks) => marks.line,
+            None => 0,
+        }
+    }
+
     /// Those that are excluded, each with the reason.
-    fn excluded_of(&self, alloc: Global, versions: &[SolvableId]) -> R<Vec<(SolvableId, StringId)>>
+    fn exclusions_among(
+        &self,
+        alloc: Global,
+        versions: &[SolvableId],
+    ) -> R<Vec<(SolvableId, StringId)>>
         ensures excluded { IfOk result (λ v. v.items ≡ flat_map (exclusion_of self.now) versions.now) }
         ensures refusal { IsOkUnless result Memory }
     {
@@ -342,6 +356,16 @@ impl<'a> CatalogueProvider<'a> {
                 excluded.push((*version, why))?;
             }
         }
+        Ok(excluded)
+    }
+
+    /// The same, in the order of the lines that exclude them.
+    fn excluded_of(&self, alloc: Global, versions: &[SolvableId]) -> R<Vec<(SolvableId, StringId)>>
+        ensures excluded { IfOk result (λ v. v.items ≡ exclusions_of self.now versions.now) }
+        ensures refusal { IsOkUnless result Memory }
+    {
+        let mut excluded = self.exclusions_among(alloc, versions)?;
+        excluded.sort_by_key(|one| self.exclusion_line(one.0))?;
         Ok(excluded)
     }
 }

@@ -1,9 +1,9 @@
-use Rattle.std.proofs.Common.{inl, inr, [], sym, ap, ◌∙◌, length, arith}
+use Rattle.std.proofs.Common.{inl, inr, ◌≤◌, [], sym, ap, ◌∙◌, take, length, arith}
 use Rattle.std.proofs.lemmas.List.{take_all}
 use Rattle.std.proofs.lemmas.Option.{slice_get-get_or}
 use Rattle.resolvo_catalogue_core.specs.Listed.{listed}
 use Rattle.resolvo_catalogue.proofs.DependencyLemmas.{text_next, text_step}
-use Rattle.resolvo_catalogue.proofs.MarkLemmas.{marked_none, marked_by_none, favours_next, all_favours}
+use Rattle.resolvo_catalogue.proofs.MarkLemmas.{next_number, marked_none, marked_by_none, favours_next, all_favours}
 use Rattle.resolvo_catalogue.proofs.candidate_flags.marks_of.Goals as goal
 use Rattle.resolvo_catalogue.proofs.candidate_flags.marks_of.Goals.{in-Some, in_default}
 
@@ -13,8 +13,13 @@ loop-line-init c = λ ids same. c.in_ok-marks.ensures.marked ids (listed c.args.
 pub loop-line-preserved : goal.loop-line-preserved
 loop-line-preserved c = elim c.match-rule.branch [
   | in-Some w ↦ λ ids same.
+      let lines = c.args.catalogue.now in
+      let within : c.loop-line.line ≤ length lines = elim c.lines_to_mark-line-end.ensures [
+        | inl all ↦ omega (arith, c.loop-line-test.true, all, ap length c.requires)
+        | inr none ↦ absurd (omega (arith, c.loop-line-test.true, none.0))
+      ] in
       let of_line = rw (w.in-Some.is, c.requires, sym same) at c.rule.ensures.of_line in
-      rw (w.marks-is, text_step c.args.catalogue.now c.loop-line.line of_line.0 of_line.1) (w.mark.ensures ids _ _ of_line.0 _ [] c.versions.ensures.distinct of_line.2 (c.loop-line.invariant ids same))
+      rw (w.marks-is, text_step c.args.catalogue.now c.loop-line.line of_line.0 of_line.1) (w.mark.ensures ids _ _ of_line.0 (take c.loop-line.line lines) [] (next_number c.loop-line.line lines within) c.versions.ensures.distinct of_line.2 (c.loop-line.invariant ids same))
   | in_default w ↦ λ ids same.
       let none = rw (w.in_default.is, c.requires) at c.rule.ensures.none in
       rw (w.marks-is, text_next c.args.catalogue.now c.loop-line.line) (marked_none ids c.args.catalogue.now _ [] (listed c.args.catalogue.now) c.loop-line.marks.items _ c.versions.ensures.distinct (c.loop-line.invariant ids same) none)
