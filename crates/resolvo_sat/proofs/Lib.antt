@@ -20,6 +20,7 @@ pub mod AttachLemmas
 pub mod StartLemmas
 pub mod FreeLemmas
 pub mod CompleteLemmas
+pub mod SetLemmas
 pub mod PendingLemmas
 pub mod JumpLemmas
 pub mod Variables

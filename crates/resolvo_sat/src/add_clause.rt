@@ -42,7 +42,7 @@ impl SatState {
         let literal = literals[0];
         let is_long = has_another(literals, literal);
         let is_rule = causes.is_empty();
-        let start = self.first_watches(literals, is_rule);
+        let start = self.first_watches(watching, literals, is_rule);
         let clause = self.push_clause(literals, causes)?;
         watching.begin(UnitClause { clause, literal }, start, is_long, is_rule)?;
         Ok(clause)
@@ -51,7 +51,12 @@ impl SatState {
     /// The literals that a new clause of more than two is to watch: its first one, and beside it the
     /// first that is not false, or else the next one. A learnt clause is to watch its first and its
     /// last literal.
-    fn first_watches(&self, literals: &[Literal], is_rule: bool) -> Option<WatchedLiterals>
+    fn first_watches(
+        &self,
+        watching: &WatchLists,
+        literals: &[Literal],
+        is_rule: bool,
+    ) -> Option<WatchedLiterals>
         requires { IsState self.now }
     {
         if literals.len() < 3 {
@@ -61,7 +66,7 @@ impl SatState {
         let mut second = first;
         for literal in literals {
             if *literal != first {
-                if is_rule && !self.is_false(*literal) {
+                if is_rule && !self.is_false_with_new(watching, *literal) {
                     return Some(WatchedLiterals {
                         first,
                         second: *literal,

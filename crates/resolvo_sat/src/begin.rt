@@ -57,6 +57,8 @@ pub fn begin(alloc: Global) -> R<(SatState, WatchLists)>
         starts: Vec::new(alloc),
         places: Vec::new(alloc),
         passed: Vec::new(alloc),
+        at_once: Vec::new(alloc),
+        is_broken: false,
         seen: Marks::new(alloc),
     };
     Ok((state, watching))

@@ -15,6 +15,7 @@ pub mod guard;
 pub mod marks;
 pub mod propagate;
 pub mod propagate_and_learn;
+pub mod set_at_once;
 pub mod state;
 mod units_done;
 pub mod visit_pending;

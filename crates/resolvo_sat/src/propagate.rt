@@ -256,13 +256,35 @@ impl SatState {
         ensures refusal { IsOkUnless result Memory }
     {
         let done = watching.last_done(self.qhead);
-        match self.propagate_from(watching, done)? {
+        match self.set_and_propagate(watching, done)? {
             Some(clause) => Ok(Some(clause)),
             None => {
                 watching.note_done(self.qhead, done)?;
                 Ok(None)
             }
         }
+    }
+
+    /// Sets what new clauses set at once. Then assigns what the clauses force, where the first unit
+    /// clauses are true already.
+    fn set_and_propagate(
+        &mut self,
+        watching: &mut WatchLists,
+        done: UnitsDone,
+    ) -> R<Option<ClauseId>>
+        requires ready { IsReady self.old watching.old }
+        requires covered { AreCovered self.old watching.old }
+        requires within { AreWithin self.old.qhead watching.old }
+        requires done { HasDone self.old watching.old done }
+        // After an answer.
+        ensures run { IfOk result (IsRun self.old self.new watching.old watching.new) }
+        // After a refusal.
+        ensures refusal { IsOkUnless result Memory }
+    {
+        self.set_at_once(watching)?;
+        // split for the prover: error and answer
+        let falsified = self.propagate_from(watching, done)?;
+        Ok(falsified)
     }
 
     /// Assigns what the clauses force, where the first unit clauses are true already.

@@ -195,7 +195,7 @@ impl SatState {
     }
 
     /// Visits a clause that is to watch two literals, one of which became false.
-    fn visit_start(
+    pub(crate) fn visit_start(
         &mut self,
         clause: ClauseId,
         start: &WatchedLiterals,
@@ -258,7 +258,8 @@ impl SatState {
 
 impl WatchLists {
     /// Notes the place on the trail of a variable.
-    fn set_place(&mut self, variable: VariableId, place: usize) -> R<()>
+    #[inline(always)]
+    pub(crate) fn set_place(&mut self, variable: VariableId, place: usize) -> R<()>
         ensures kept { KeepsLists self.old self.new }
         ensures refusal { IsOkUnless result Memory }
     {

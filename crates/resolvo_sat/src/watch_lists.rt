@@ -50,11 +50,18 @@ pub struct WatchLists {
     /// What the pending clauses of more than two literals are to watch, in the order of `pending`. No
     /// proof rests on it: it is tested.
     pub starts: Vec<Start>,
-    /// The place on the trail at which each variable was last seen. No proof rests on it either.
+    /// The place on the trail at which each variable was last seen, or is to be. No proof rests on it
+    /// either.
     pub places: Vec<u32>,
     /// How many of each clause's first literals are false at the first level, as far as it is known.
     /// A search for a free literal skips them. No proof rests on it either.
     pub passed: Vec<u32>,
+    /// What new clauses set at once, in their order: the literal, and beside it another one. No proof
+    /// rests on it: it is tested.
+    pub at_once: Vec<Start>,
+    /// Whether a clause was falsified as it was added, since the last propagation. No proof rests on
+    /// it.
+    pub is_broken: bool,
     /// The variables that the present analysis marked. No proof rests on those of earlier ones.
     pub seen: Marks,
 }
@@ -93,7 +100,7 @@ impl WatchLists {
     }
 
     /// Drops what is known of the clauses' first literals: entries of the first level are undone.
-    pub fn drop_passed(&mut self)
+    pub(crate) fn drop_passed(&mut self)
         ensures { KeepsLists self.old self.new }
     {
         self.passed.clear();

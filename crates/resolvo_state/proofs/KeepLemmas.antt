@@ -1,5 +1,5 @@
 -- A choice keeps the code, and so does taking entries away.
-use Rattle.std.proofs.Common.{◌≡◌, ℕ, ◌<◌, inl, inr, true, List, length, Option, Some, None, Vec, Global, refl, sym, ◌∙◌, ap, subst}
+use Rattle.std.proofs.Common.{◌≡◌, ℕ, ◌<◌, true, List, length, Option, Some, None, Vec, Global, refl, sym, ◌∙◌, ap, subst}
 use Rattle.std.specs.Prelude.{slice_get, IfSome}
 use Rattle.resolvo_pool_core.specs.declared.id.ClauseId.{ClauseId}
 use Rattle.resolvo_pool_core.specs.declared.id.VariableId.{VariableId}
@@ -12,10 +12,10 @@ use Rattle.resolvo_sat.specs.State.{lists}
 use Rattle.resolvo_sat.specs.Attach.{KeepsLists}
 use Rattle.resolvo_sat.specs.Steps.{Chooses, Undoes}
 use Rattle.resolvo_sat.specs.declared.watch_lists.WatchLists.{WatchLists}
-use Rattle.resolvo_sat.specs.declared.watch_lists.UnitClause.{UnitClause}
-use Rattle.resolvo_sat.specs.Propagation.{IsReady, AreCovered, AreUnits, HasUnit, SameWatching, Extends, IsPropagation}
+use Rattle.resolvo_sat.specs.Propagation.{IsReady, AreCovered, SameWatching, Extends, IsPropagation}
 use Rattle.resolvo_sat.proofs.Readiness.{ready_undone, ready_floored, covered_same}
 use Rattle.resolvo_sat.proofs.StartLemmas.{kept_ready, kept_watching}
+use Rattle.resolvo_sat.proofs.SetLemmas.{covered_watching}
 use Rattle.resolvo_sat.proofs.ChooseLemmas.{choice_ready}
 use Rattle.resolvo_state.specs.declared.solver_state.SolverState.{SolverState}
 use Rattle.resolvo_state.specs.SolverState.{IsCoding, KeepsClauses}
@@ -56,20 +56,6 @@ pub floored_kept : {N S : Type 0} (c : SolverState N S) (floor : ℕ) → IsCodi
 floored_kept c floor coding = code_kept c _ coding (ready_floored c.search c.watching floor coding.ready) refl refl
 
 -- ---- propagation
-
--- the same unit clauses, and clauses that watch or are pending
-covered_watching : (s : SatState) (v w : WatchLists) → AreCovered s v → SameWatching v w → AreCovered s w
-covered_watching s v w covers same = record {
-  assertions = subst (λ (us : Vec UnitClause Global). AreUnits (lists s.clauses) us.items) (sym same.assertions) covers.assertions;
-  learnt = subst (λ (us : Vec UnitClause Global). AreUnits (lists s.clauses) us.items) (sym same.learnt) covers.learnt;
-  covered = λ n below none. elim (covers.covered n below (same.pairs n none)) [
-    | inl first ↦ inl first
-    | inr (inl (x, is, inl there)) ↦ inr (inl (x, is, inl (subst (λ (us : Vec UnitClause Global). HasUnit us.items x) (sym same.assertions) there)))
-    | inr (inl (x, is, inr there)) ↦ inr (inl (x, is, inr (subst (λ (us : Vec UnitClause Global). HasUnit us.items x) (sym same.learnt) there)))
-    | inr (inr waits) ↦ inr (inr (same.stays_pending n waits none))
-  ];
-  first = covers.first;
-}
 
 -- entries were taken away, and the watches are the same but for what no proof rests on
 pub undo_kept : {N S : Type 0} (c : SolverState N S) (s : SatState) (w : WatchLists) (level : ℕ) → IsCoding c → Undoes level c.search s → KeepsLists c.watching w → KeepsClauses c (record c { search = s; watching = w })

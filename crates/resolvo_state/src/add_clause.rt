@@ -34,6 +34,8 @@ impl<N: Copy + Exact + Hash + Debug, S: Copy + Exact + Hash + Debug> SolverState
         ensures full { IsErrOf result Ids → LacksNumber self.new }
     {
         let clause = self.search.add_clause(&mut self.watching, literals, &[])?;
+        self.search
+            .note_rule(&mut self.watching, clause, literals, kind.sets_at_once())?;
         self.kinds.push(kind)?;
         Ok(clause)
     }
@@ -58,6 +60,8 @@ impl<N: Copy + Exact + Hash + Debug, S: Copy + Exact + Hash + Debug> SolverState
         ensures full { IsErrOf result Ids → LacksNumber self.new }
     {
         let clause = self.search.add_clause(&mut self.watching, literals, &[])?;
+        self.search
+            .note_rule(&mut self.watching, clause, literals, true)?;
         self.kinds.push_digit(name, solvable, place, bit)?;
         Ok(clause)
     }
@@ -75,6 +79,8 @@ impl<N: Copy + Exact + Hash + Debug, S: Copy + Exact + Hash + Debug> SolverState
         ensures full { IsErrOf result Ids → LacksNumber self.new }
     {
         let clause = self.search.add_clause(&mut self.watching, literals, &[])?;
+        self.search
+            .note_rule(&mut self.watching, clause, literals, false)?;
         self.kinds.push_need(need)?;
         Ok(clause)
     }

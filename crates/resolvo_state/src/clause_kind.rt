@@ -82,3 +82,19 @@ pub enum ClauseKind<N, S> {
     /// No rule: the clause follows from its antecedents.
     Learnt,
 }
+
+impl<N, S> ClauseKind<N, S> {
+    /// Whether a new clause of this kind sets its last literal at once: the others are false, and
+    /// this one has no value.
+    pub fn sets_at_once(&self) -> bool {
+        match self {
+            ClauseKind::RequiresGate { .. }
+            | ClauseKind::GateRequires { .. }
+            | ClauseKind::ConstrainsExcluded { .. }
+            | ClauseKind::ForbidMultipleInstances { .. }
+            | ClauseKind::AnyOf { .. }
+            | ClauseKind::AnyMatch { .. } => true,
+            _ => false,
+        }
+    }
+}

@@ -74,10 +74,9 @@ impl<N: Copy + Exact + Hash + Debug, S: Copy + Exact + Hash + Debug> SolverState
         ensures undone { Undoes level self.old.search self.new.search }
         ensures kept { KeepsClauses self.old self.new }
     {
+        let top = self.search.top_level();
         self.search.undo_until(level);
-        if level == 0 {
-            self.watching.drop_passed();
-        }
+        self.watching.forget_above(level, top);
     }
 
     /// Begins a turn at a level: no jump goes below it.

@@ -18,8 +18,6 @@ use std::ops::Range;
 pub struct Scan<N: Copy + Exact + Hash> {
     /// The number of scanned entries of the trail.
     entries: usize,
-    /// The number of clauses before the encoding that is next or under way.
-    clauses: usize,
     /// The places of the listed cases that name each package.
     named: NamedCases<N>,
     /// The number of listed cases, of those that are deferred.
@@ -35,7 +33,6 @@ impl<N: Copy + Exact + Hash> Drop for Scan<N> {
     fn drop(self) {
         let Scan {
             entries: _,
-            clauses: _,
             named: _,
             listed: _,
             touched: _,
@@ -49,7 +46,6 @@ impl<N: Copy + Exact + Hash + Debug> Scan<N> {
     pub(crate) fn new(alloc: Global) -> Scan<N> {
         Scan {
             entries: 0,
-            clauses: 0,
             named: NamedCases::new(alloc),
             listed: 0,
             touched: Vec::new(alloc),
@@ -60,20 +56,6 @@ impl<N: Copy + Exact + Hash + Debug> Scan<N> {
     /// A turn begins: the entries of the trail are of earlier ones.
     pub(crate) fn begin_turn<S: Copy + Exact + Hash + Debug>(&mut self, encoding: &Encoder<N, S>) {
         self.entries = encoding.coding.search.tracker.stack().len();
-        self.begin_encoding(encoding);
-    }
-
-    /// The number of the first clause of the encoding that is under way.
-    pub(crate) fn first_clause(&self) -> usize {
-        self.clauses
-    }
-
-    /// The next clause is the first one of an encoding.
-    pub(crate) fn begin_encoding<S: Copy + Exact + Hash + Debug>(
-        &mut self,
-        encoding: &Encoder<N, S>,
-    ) {
-        self.clauses = encoding.coding.search.clauses.len();
     }
 
     /// The places of the cases that may hold, each once and by condition after `find_touched`.

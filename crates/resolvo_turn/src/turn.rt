@@ -28,7 +28,6 @@ use resolvo_pool_core::id::{Exact, VariableId};
 use resolvo_pool_core::id_map::ScoreMap;
 use resolvo_pool_core::want::R;
 use resolvo_sat::analyze::FinalConflict;
-use resolvo_sat::state::SatState;
 use std::alloc::Global;
 use std::fmt::Debug;
 use std::hash::Hash;
@@ -51,22 +50,7 @@ fn add_chosen<N: Copy + Exact + Hash + Debug, S: Copy + Exact + Hash + Debug>(
     Ok(())
 }
 
-/// Whether some clause from this number on is falsified.
-fn is_any_broken(search: &SatState, from: usize) -> bool {
-    let values = search.tracker.map();
-    for number in from..search.clauses.len() {
-        let literals = search.clauses.literals(number);
-        if literals
-            .iter()
-            .all(|literal| literal.eval(values) == Some(false))
-        {
-            return true;
-        }
-    }
-    false
-}
-
-/// Undoes the turn's decisions if a clause of the last encoding is falsified.
+/// Undoes the turn's decisions if a clause of the last encoding was falsified as it was added.
 fn undo_broken<N: Copy + Exact + Hash + Debug, S: Copy + Exact + Hash + Debug>(
     encoding: &mut Encoder<N, S>,
     scan: &mut Scan<N>,
@@ -77,7 +61,7 @@ fn undo_broken<N: Copy + Exact + Hash + Debug, S: Copy + Exact + Hash + Debug>(
     ensures turn { KeepsTurns encoding.old encoding.new }
     ensures built { IsBuilt encoding.new }
 {
-    if is_any_broken(&encoding.coding.search, scan.first_clause()) {
+    if encoding.coding.watching.is_broken {
         encoding.undo_turn();
         scan.go_back(encoding);
     }
@@ -377,7 +361,6 @@ fn scan_new<A: PackageSource>(
     ensures ids { IsErrOf result Ids
         → StopsInOrder A.SolvableId.eq A.PackageSource answers.old encoding.old encoding.new }
 {
-    scan.begin_encoding(encoding);
     add_new_chosen(answers, encoding, scan)?;
     find_touched(alloc, answers, encoding, scan)?;
     if encoding.next_parent().is_some() {

@@ -1,0 +1,184 @@
+//! What new clauses set at once. As a clause of some kinds is added, all its literals may be false
+//! but one without value. It is then set by the clause, at the trail's end and the top level. Such
+//! entries are noted, and made as the next propagation begins. Until then no other entry is made.
+//! By the rules a new clause is added where the noted ones are made, so values are read with them.
+ghost use Rattle.std.specs.Prelude.{◌≡◌, ◌<◌, length, IfOk, IfSome, IsOkUnless};
+ghost use Rattle.resolvo_pool_core.specs.declared.want.Want.TheVariants.{Memory};
+ghost use Rattle.resolvo_sat.specs.State.{IsState};
+ghost use Rattle.resolvo_sat.specs.Propagation.{IsReady, Extends};
+ghost use Rattle.resolvo_sat.specs.Attach.{Attaches, KeepsLists};
+
+use crate::state::SatState;
+use crate::watch_lists::{Start, WatchLists};
+use resolvo_pool_core::id::{ClauseId, DenseIndex, VariableId};
+use resolvo_pool_core::want::R;
+use resolvo_store_core::literal::Literal;
+use resolvo_store_core::watched_literals::WatchedLiterals;
+
+impl SatState {
+    /// Notes where a new rule is falsified as it is added. Or where it sets a literal, if its kind
+    /// does so.
+    #[inline(always)]
+    pub fn note_rule(
+        &self,
+        watching: &mut WatchLists,
+        clause: ClauseId,
+        literals: &[Literal],
+        sets_at_once: bool,
+    ) -> R<()>
+        requires { IsState self.now }
+        ensures kept { KeepsLists watching.old watching.new }
+        ensures refusal { IsOkUnless result Memory }
+    {
+        if watching.at_once.is_empty() && self.are_two_open(literals) {
+            return Ok(());
+        }
+        self.note_closed(watching, clause, literals, sets_at_once)
+    }
+
+    /// Whether neither of the first two literals is false. Such a clause sets nothing.
+    #[inline(always)]
+    fn are_two_open(&self, literals: &[Literal]) -> bool
+        requires { IsState self.now }
+    {
+        literals.len() > 1 && !self.is_false(literals[0]) && !self.is_false(literals[1])
+    }
+
+    /// The same of a rule that may be falsified, or set a literal.
+    fn note_closed(
+        &self,
+        watching: &mut WatchLists,
+        clause: ClauseId,
+        literals: &[Literal],
+        sets_at_once: bool,
+    ) -> R<()>
+        requires { IsState self.now }
+        ensures kept { KeepsLists watching.old watching.new }
+        ensures refusal { IsOkUnless result Memory }
+    {
+        let Some(place) = self.open_place(watching, literals, 0) else {
+            watching.is_broken = true;
+            return Ok(());
+        };
+        if !sets_at_once || self.open_place(watching, literals, place + 1).is_some() {
+            return Ok(());
+        }
+        let first = literals[place];
+        let beside = if place == 0 { literals.len() - 1 } else { 0 };
+        let second = literals[beside];
+        self.note_set(watching, clause, WatchedLiterals { first, second })
+    }
+
+    /// The place of the first literal from this one on that isn't false.
+    fn open_place(&self, watching: &WatchLists, literals: &[Literal], from: usize) -> Option<usize>
+        requires { IsState self.now }
+        ensures { IfSome result (λ place. place < length literals.now) }
+    {
+        for place in from..literals.len() {
+            if !self.is_false_with_new(watching, literals[place]) {
+                return Some(place);
+            }
+        }
+        None
+    }
+
+    /// Whether a literal is false, by the trail or by what is noted.
+    pub(crate) fn is_false_with_new(&self, watching: &WatchLists, literal: Literal) -> bool
+        requires { IsState self.now }
+    {
+        if self.is_false(literal) {
+            return true;
+        }
+        match watching.noted(self.tracker.stack().len(), literal.variable()) {
+            Some(set) => set != literal,
+            None => false,
+        }
+    }
+
+    /// Notes that a clause sets the first of two literals, the other one of which is false; unless
+    /// the first one is true.
+    fn note_set(
+        &self,
+        watching: &mut WatchLists,
+        clause: ClauseId,
+        watched: WatchedLiterals,
+    ) -> R<()>
+        requires { IsState self.now }
+        ensures kept { KeepsLists watching.old watching.new }
+        ensures refusal { IsOkUnless result Memory }
+    {
+        let literal = watched.first;
+        let end = self.tracker.stack().len();
+        if self.is_true(literal) || watching.noted(end, literal.variable()).is_some() {
+            return Ok(());
+        }
+        let place = end.saturating_add(watching.at_once.len());
+        watching.set_place(literal.variable(), place)?;
+        watching.at_once.push(Start { clause, watched })?;
+        Ok(())
+    }
+
+    /// Sets what is noted that new clauses set at once, in their order.
+    pub(crate) fn set_at_once(&mut self, watching: &mut WatchLists) -> R<()>
+        requires { IsReady self.old watching.old }
+        ensures attaches { IfOk result (λ _. Attaches self.old self.new watching.old watching.new) }
+        ensures refusal { IsOkUnless result Memory }
+    {
+        for start in &watching.at_once {
+            self.set_noted(*start)?;
+        }
+        watching.drop_new();
+        Ok(())
+    }
+
+    /// Sets the first of a clause's two noted literals, where all others are false.
+    fn set_noted(&mut self, start: Start) -> R<()>
+        requires { IsState self.old }
+        ensures extends { IfOk result (λ _. Extends self.old self.new) }
+        ensures qhead { IfOk result (λ _. self.new.qhead ≡ self.old.qhead) }
+        ensures refusal { IsOkUnless result Memory }
+    {
+        if start.clause.to_index() >= self.clauses.len() {
+            return Ok(());
+        }
+        self.visit_start(start.clause, &start.watched, start.watched.second)?;
+        Ok(())
+    }
+}
+
+impl WatchLists {
+    /// The literal of a variable that a new clause sets, on a trail of so many entries.
+    fn noted(&self, end: usize, variable: VariableId) -> Option<Literal> {
+        if self.at_once.is_empty() {
+            return None;
+        }
+        let index = self.place_of(variable).checked_sub(end)?;
+        let literal = self.at_once.get(index)?.watched.first;
+        if literal.variable() == variable {
+            Some(literal)
+        } else {
+            None
+        }
+    }
+
+    /// Forgets what new clauses set, and whether one was falsified.
+    fn drop_new(&mut self)
+        ensures { KeepsLists self.old self.new }
+    {
+        self.at_once.clear();
+        self.is_broken = false;
+    }
+
+    /// Forgets what is known by the trail's entries above a level, which are undone. The top level
+    /// was this: that of what new clauses set.
+    pub fn forget_above(&mut self, level: u32, top: u32)
+        ensures { KeepsLists self.old self.new }
+    {
+        if level < top {
+            self.drop_new();
+        }
+        if level == 0 {
+            self.drop_passed();
+        }
+    }
+}
