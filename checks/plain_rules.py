@@ -52,7 +52,7 @@ class Options:
     decay: int = 950_000  # how many millionths of each score are left after a learnt clause
 
 
-PROGRAM = Options(set_at_once=False)
+PROGRAM = Options()
 
 
 # ---- what a clause states
