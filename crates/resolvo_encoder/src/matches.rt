@@ -56,7 +56,7 @@ impl<N: Copy + Exact + Hash + Debug + Drop, S: Copy + Exact + Hash + Debug> Enco
     }
 
     /// Encodes which candidates match a version set, once for all cases.
-    fn hold_matches(&mut self, version_set: VersionSetId, matching: &[Offered<N, S>]) -> R<()>
+    pub fn hold_matches(&mut self, version_set: VersionSetId, matching: &[Offered<N, S>]) -> R<()>
         requires { IsBuilt self.old }
         ensures held { OnOk result (HoldsMatches S.eq version_set matching.now self.old self.new) }
         ensures ids { IsErrOf result Ids → LacksNumber self.new.coding }

@@ -29,6 +29,13 @@ module _ {N S : Type 0} (same : S → S → Bool) (p : Packages N S) (orders : R
       let of = order.encoding.cases.waiting index d is.at in
       subst (λ x. Contains (rules_for same p root x).requirements w.need) (sym is.parent) (subst (λ (n : ConditionalRequirement). Contains (rules_for same p root d.parent).requirements n) (sym is.need) of.listed)
 
+  -- and it is one of the requirement's cases
+  pub waiting_among : IsWaiting e index w → IsInOrder same p orders root e → Contains (cases_for same p w.need) w.case.items
+  waiting_among is order =
+      let d = is.deferred in
+      let of = order.encoding.cases.waiting index d is.at in
+      subst (λ (n : ConditionalRequirement). Contains (cases_for same p n) w.case.items) (sym is.need) (subst (λ (xs : List VersionSetId). Contains (cases_for same p d.need) xs) (sym is.case) of.case)
+
 module _ {N S : Type 0} (same : S → S → Bool) (exact : IsExact same) (p : Packages N S) (orders : Requirement → List S → Type 0) (root : Rules) (index : ℕ) (old middle new : Encoder N S) (w : DeferredRequirement S) where
   -- each version set of a case has a match, where one of its candidates is chosen
   met_matched : IsWaiting old index w → IsMetNow old index → IsInOrder same p orders root old → AreMatched same p w.case.items
@@ -47,10 +54,8 @@ module _ {N S : Type 0} (same : S → S → Bool) (exact : IsExact same) (p : Pa
       → IsInOrder same p orders root new
   encoded_in_order is met e prefix encodes fires keeps =
       let d = is.deferred in
-      let of = e.encoding.cases.waiting index d is.at in
       let listed = waiting_listed same p orders root index old w is e in
-      let among : Contains (cases_for same p w.need) w.case.items =
-      subst (λ (n : ConditionalRequirement). Contains (cases_for same p n) w.case.items) (sym is.need) (subst (λ (xs : List VersionSetId). Contains (cases_for same p d.need) xs) (sym is.case) of.case) in
+      let among = waiting_among same p orders root index old w is e in
       let (order, is_encoded) = encodes listed among (met_matched is met e) in
       let own : IsNeedEncoded same p (rules_of middle) d.parent d.need (case_of d.conjuncts.items) =
       subst (λ x. IsNeedEncoded same p (rules_of middle) x d.need (case_of d.conjuncts.items)) is.parent (subst (λ (n : ConditionalRequirement). IsNeedEncoded same p (rules_of middle) w.parent n (case_of d.conjuncts.items)) is.need

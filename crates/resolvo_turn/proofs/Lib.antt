@@ -5,3 +5,4 @@ pub mod PassLemmas
 pub mod TakenLemmas
 pub mod StopLemmas
 pub mod TaskLemmas
+pub mod MatchSets

@@ -3,3 +3,4 @@ pub mod Effects
 pub mod Tasks
 pub mod Turn
 pub mod LacksIds
+pub mod Matches

@@ -10,13 +10,14 @@ use Rattle.resolvo_encoder.specs.declared.encoder.Encoder.{Encoder}
 use Rattle.resolvo_encoder.specs.Encoded.{IsEncoding, rules_of}
 use Rattle.resolvo_turn.specs.Encoder.{IsInOrderBy}
 use Rattle.resolvo_turn.specs.declared.tasks.Task.{Task}
-use Rattle.resolvo_turn.specs.declared.tasks.Task.TheVariants.{Dependencies, Rules, Case}
+use Rattle.resolvo_turn.specs.declared.tasks.Task.TheVariants.{Dependencies, Rules, Matches, Case}
 use Rattle.resolvo_turn.specs.declared.tasks.Tasks.{Tasks}
 
 -- the rules of a parent end a run of tasks, any other task costs one
 unfoldable pub cost : {S : Type 0} → Task S → ℕ
 cost (Dependencies parent) = 1
 cost Rules = 0
+cost (Matches place) = 1
 cost (Case place) = 1
 
 unfoldable pub work : {S : Type 0} → List (Task S) → ℕ

@@ -16,7 +16,7 @@ ghost use Rattle.resolvo_turn.specs.Effects.{EncodesSolvable, EncodesParent};
 ghost use Rattle.resolvo_turn.specs.LacksIds.{StopsAnyhow, StopsInOrder, StopsInOrderOf};
 ghost use Rattle.resolvo_turn.specs.Tasks.{bound, cost, Excludes, KeepsExcluded};
 
-use crate::fire_conditions::fire_if_due;
+use crate::fire_conditions::{fire_if_due, match_case};
 use crate::rules::encode_rules;
 use crate::tasks::{Task, Tasks};
 use crate::turn_input::TurnInput;
@@ -162,6 +162,10 @@ fn ask_or_fire<A: PackageSource>(
             Ok(false)
         }
         Task::Rules => Ok(true),
+        Task::Matches(place) => {
+            match_case(alloc, answers, encoding, place)?;
+            Ok(false)
+        }
         Task::Case(place) => {
             fire_if_due(alloc, answers, encoding, place)?;
             tasks.push_parents(encoding.parents.as_slice())?;

@@ -1,15 +1,18 @@
 //! Cases of conditions that hold become clauses. Each was deferred until all its version sets had a
 //! chosen match.
-ghost use Rattle.std.specs.Prelude.{◌≡◌, ◌<◌, true, false, length, IfOk, IfErr, OnOk, IsErrOf, Contains};
+ghost use Rattle.std.specs.Prelude.{◌≡◌, ◌<◌, ◌∷◌, [], true, false, length, IfOk, IfErr, OnOk, IsErrOf, Contains};
 ghost use Rattle.resolvo_pool.specs.Cached.{IsCancelledBy};
 ghost use Rattle.resolvo_pool.specs.declared.cache.CacheFault.TheVariants.{Ids};
+ghost use Rattle.resolvo_pool_core.specs.declared.want.Want.TheVariants.{Ids as WantIds};
+ghost use Rattle.resolvo_state.specs.SolverState.{LacksNumber};
 ghost use Rattle.resolvo_encoder.specs.Conditions.{IsSet, AreSets, sets_case};
 ghost use Rattle.resolvo_encoder.specs.Conditions.{IsMetNow, IsSpent, AreSpent};
 ghost use Rattle.resolvo_encoder.specs.Steps.{IsBuilt};
 ghost use Rattle.resolvo_turn.specs.Encoder.{AddsNeeds, StaysInOrder};
 ghost use Rattle.resolvo_turn.specs.Turn.{FiresMore};
 ghost use Rattle.resolvo_turn.specs.Effects.{RequiresGuardedCase, RequiresCase};
-ghost use Rattle.resolvo_turn.specs.LacksIds.{StopsInOrder, StopsNeed};
+ghost use Rattle.resolvo_turn.specs.Matches.{MatchesSets, MatchesCase};
+ghost use Rattle.resolvo_turn.specs.LacksIds.{StopsAnyhow, StopsInOrder, StopsNeed};
 
 use crate::guards::guard;
 use crate::rules::add_available;
@@ -17,9 +20,12 @@ use resolvo_encoder::conditions::{ConditionSet, DeferredRequirement, keeps_out};
 use resolvo_encoder::encoder::Encoder;
 use resolvo_packages::package_source::PackageSource;
 use resolvo_pool::cache::CacheFault;
-use resolvo_pool_core::id::VersionSetId;
+use resolvo_pool_core::id::{Exact, VersionSetId};
 use resolvo_pool_core::requirement::{ConditionalRequirement, Requirement};
+use resolvo_pool_core::want::R;
 use std::alloc::Global;
+use std::fmt::Debug;
+use std::hash::Hash;
 
 /// A version set of a case, with its package and the candidates that don't match it. Where the
 /// package is marked `many`, with those that match.
@@ -138,6 +144,121 @@ fn encode_case<A: PackageSource>(
     }
     guard(answers, encoding, need.requirement)?;
     add_case(alloc, answers, encoding, parent, need, sets.as_slice())?;
+    Ok(())
+}
+
+/// Whether a case names a package that is marked `many`.
+fn names_many<A: PackageSource>(
+    answers: &mut A,
+    case: &[VersionSetId],
+) -> Result<bool, CacheFault<A::Cancel>>
+    ensures same { answers.new ≡ answers.old }
+    ensures cancelled { IfErr result (IsCancelledBy (A.may_cancel answers.old)) }
+    ensures ids { IsErrOf result Ids → A.may_lack_ids answers.old }
+{
+    for version_set in case {
+        let name = answers.set_package(*version_set);
+        if answers.is_many(name)? {
+            return Ok(true);
+        }
+    }
+    Ok(false)
+}
+
+/// Encodes the matches of a version set of a case, if its package is marked `many`.
+fn match_set<N: Copy + Exact + Hash + Debug + Drop, S: Copy + Exact + Hash + Debug>(
+    encoding: &mut Encoder<N, S>,
+    set: &ConditionSet<N, S>,
+) -> R<()>
+    requires { IsBuilt encoding.old }
+    ensures matches { OnOk result
+        (MatchesSets S.eq (set.now ∷ []) encoding.old encoding.new) }
+    ensures ids { IsErrOf result WantIds → LacksNumber encoding.new.coding }
+{
+    if !set.many {
+        return Ok(());
+    }
+    encoding.hold_matches(set.version_set, set.matching.as_slice())?;
+    Ok(())
+}
+
+/// The same for each version set of a case.
+fn match_sets<N: Copy + Exact + Hash + Debug + Drop, S: Copy + Exact + Hash + Debug>(
+    encoding: &mut Encoder<N, S>,
+    sets: &[ConditionSet<N, S>],
+) -> R<()>
+    requires { IsBuilt encoding.old }
+    ensures matches { OnOk result (MatchesSets S.eq sets.now encoding.old encoding.new) }
+    ensures ids { IsErrOf result WantIds → LacksNumber encoding.new.coding }
+{
+    for set in sets {
+        match_set(encoding, set)?;
+    }
+    Ok(())
+}
+
+/// Encodes the matches of a case of a parent's requirement, and the locks and exclusions of the
+/// candidates. One that can't hold beside its parent adds nothing.
+fn encode_matches<A: PackageSource>(
+    alloc: Global,
+    answers: &mut A,
+    encoding: &mut Encoder<A::NameId, A::SolvableId>,
+    parent: Option<A::SolvableId>,
+    need: ConditionalRequirement,
+    case: &[VersionSetId],
+) -> Result<(), CacheFault<A::Cancel>>
+    requires { IsBuilt encoding.old }
+    // Whatever the answer.
+    ensures same { answers.new ≡ answers.old }
+    // After an answer.
+    ensures encoded { OnOk result
+        (MatchesCase A.SolvableId.eq A.PackageSource answers.old
+        parent need case.now encoding.old encoding.new) }
+    ensures kept { OnOk result (AddsNeeds encoding.old encoding.new) }
+    ensures built { OnOk result (IsBuilt encoding.new) }
+    // After a refusal.
+    ensures cancelled { IfErr result (IsCancelledBy (A.may_cancel answers.old)) }
+    ensures ids { IsErrOf result Ids
+        → StopsAnyhow A.SolvableId.eq A.PackageSource answers.old encoding.new }
+{
+    let sets = sets_of(alloc, answers, case)?;
+    if keeps_out(sets.as_slice(), parent) {
+        return Ok(());
+    }
+    guard(answers, encoding, need.requirement)?;
+    match_sets(encoding, sets.as_slice())?;
+    Ok(())
+}
+
+/// Encodes the matches of the deferred case at this place, if it names a package that is marked
+/// `many`.
+pub(crate) fn match_case<A: PackageSource>(
+    alloc: Global,
+    answers: &mut A,
+    encoding: &mut Encoder<A::NameId, A::SolvableId>,
+    index: usize,
+) -> Result<(), CacheFault<A::Cancel>>
+    requires { IsBuilt encoding.old }
+    // Whatever the answer.
+    ensures same { answers.new ≡ answers.old }
+    // After an answer.
+    ensures stays { OnOk result
+        (StaysInOrder A.SolvableId.eq A.PackageSource answers.old encoding.old encoding.new) }
+    ensures kept { OnOk result (AddsNeeds encoding.old encoding.new) }
+    ensures built { OnOk result (IsBuilt encoding.new) }
+    // After a refusal.
+    ensures cancelled { IfErr result (IsCancelledBy (A.may_cancel answers.old)) }
+    ensures ids { IsErrOf result Ids
+        → StopsAnyhow A.SolvableId.eq A.PackageSource answers.old encoding.new }
+{
+    if index >= encoding.deferred.len() {
+        return Ok(());
+    }
+    let DeferredRequirement { parent, need, case } = encoding.waiting(alloc, index)?;
+    if !names_many(answers, case.as_slice())? {
+        return Ok(());
+    }
+    encode_matches(alloc, answers, encoding, parent, need, case.as_slice())?;
     Ok(())
 }
 

@@ -132,7 +132,7 @@ fn encode_need<A: PackageSource>(
         Some(condition) => {
             let first = encoding.deferred.len();
             defer_need(alloc, answers, encoding, parent, need, condition)?;
-            tasks.push_from(encoding, first)?;
+            tasks.push_from(alloc, encoding, first)?;
             Ok(())
         }
     }

@@ -21,6 +21,9 @@ pub enum Task<S> {
     Dependencies(SolvableIdOrRoot<S>),
     /// The rules of the next parent are encoded. The parents have the same order.
     Rules,
+    /// The matches of the deferred case at this place are encoded, before the clauses of several
+    /// cases of one need.
+    Matches(usize),
     /// The deferred case at this place is encoded.
     Case(usize),
 }
@@ -113,10 +116,27 @@ impl<S: Copy + Exact + Hash + Debug> Tasks<S> {
         Ok(())
     }
 
+    /// The cases at these places are encoded, in this order. Where there are several, the matches
+    /// of all come before the clauses.
+    fn push_cases(&mut self, places: &[usize]) -> R<()>
+        ensures { IsOkUnless result Memory }
+    {
+        if places.len() > 1 {
+            for place in places {
+                self.push(Task::Matches(*place))?;
+            }
+        }
+        for place in places {
+            self.push(Task::Case(*place))?;
+        }
+        Ok(())
+    }
+
     /// The deferred cases from this place on that hold are encoded, in their order. Parents that
     /// came before go first.
     pub(crate) fn push_from<N: Copy + Exact + Hash + Debug + Drop>(
         &mut self,
+        alloc: Global,
         encoding: &Encoder<N, S>,
         first: usize,
     ) -> R<()>
@@ -124,9 +144,26 @@ impl<S: Copy + Exact + Hash + Debug> Tasks<S> {
         ensures { IsOkUnless result Memory }
     {
         self.push_parents(encoding.parents.as_slice())?;
-        for place in first..encoding.deferred.len() {
-            self.push_if_due(encoding, place)?;
-        }
+        let due = due_from(alloc, encoding, first)?;
+        self.push_cases(due.as_slice())?;
         Ok(())
     }
+}
+
+/// The places of the deferred cases from this one on that hold.
+fn due_from<N: Copy + Exact + Hash + Debug + Drop, S: Copy + Exact + Hash + Debug>(
+    alloc: Global,
+    encoding: &Encoder<N, S>,
+    first: usize,
+) -> R<Vec<usize>>
+    requires { IsBuilt encoding.now }
+    ensures { IsOkUnless result Memory }
+{
+    let mut due = Vec::new(alloc);
+    for place in first..encoding.deferred.len() {
+        if encoding.is_due(place) {
+            due.push(place)?;
+        }
+    }
+    Ok(due)
 }
